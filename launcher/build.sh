@@ -122,7 +122,7 @@ since() {
     if [ "$1" -lt 60 ]; then echo "$1 s"; else echo "$(($1 / 60)) min"; fi
 }
 
-# How far the build is, in one line: 24 of 29 crates, btr_row since 3 min
+# How far the build is, in one line: 24 of 29 crates, btr_scrub_row since 3 min
 progress() {
     all=$(needed_crates | wc -l)
     line="$(grep -c '^== btr_' "$log") of $((all)) crates"

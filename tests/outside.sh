@@ -2,7 +2,7 @@
 # Runs the built program where standard descriptors are closed, and on images that are no files. With two folders it
 # also restores into places that fail:
 #
-#     mkdir /tmp/w5 /tmp/made && cd crates/btr_volumes && rt run -- W5 /tmp/w5 && rt run -- 30 /tmp/made
+#     mkdir /tmp/w5 /tmp/made && cd crates/btr_test_volumes && rt run -- W5 /tmp/w5 && rt run -- 30 /tmp/made
 #     tests/outside.sh /tmp/w5 /tmp/made
 #
 # into full file systems (as root, for they are mounted), with calls of the system that fail or are interrupted (by

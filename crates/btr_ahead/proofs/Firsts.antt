@@ -1,5 +1,6 @@
 -- The candidate that is sought first.
-use Rattle.std.proofs.Common.{◌≡◌, ◌⊎◌, ℕ, zero, suc, ◌+◌, ◌<◌, ◌≤◌, true, cond, List, [], ◌∷◌, map, length, Some, None, Ok, IfOk, refl, sym, ap, subst, ◌∙◌, slice_get, inl, inr, arith}
+use Rattle.std.proofs.Common.{◌≡◌, ◌⊎◌, ℕ, zero, suc, ◌+◌, ◌<◌, ◌≤◌, true, cond, List, [], ◌∷◌, map, length, Some, None, Ok, IfOk, refl, sym, ap, subst, ◌∙◌}
+use Rattle.std.proofs.Common.{slice_get, inl, inr, arith}
 use Rattle.std.proofs.lemmas.Bool.{eqb-true, le-leb}
 use Rattle.std.proofs.lemmas.Option.{same_Some}
 use Rattle.std.specs.List.{filter, filter_map}
@@ -31,7 +32,8 @@ use Rattle.btr_read.proofs.Order.{copy_in_order}
 use Rattle.btr_ahead.specs.Ahead.{first_part, part_read}
 
 -- what is said of a sector that is sought, by its chunk and its position
-pub at_target : (layout : Layout) (addr : ℕ) (chunk : Chunk) (at : Elements) (way : ℕ) → chunk_at layout.chunks addr ≡ Some chunk → elements_of chunk addr 4096 ≡ Ok at
+pub at_target : (layout : Layout) (addr : ℕ) (chunk : Chunk) (at : Elements) (way : ℕ) → chunk_at layout.chunks addr ≡ Some chunk
+    → elements_of chunk addr 4096 ≡ Ok at
     → IfOk (sought layout (Plain addr)) (IsWayAt 0 way) → IsWayAt 0 way (target layout (Plain addr) chunk at)
 at_target layout addr chunk at way there placed h =
     let is : sought layout (Plain addr) ≡ Ok (target layout (Plain addr) chunk at) = ap (sought_in layout (Plain addr)) there ∙ ap (sought_at layout (Plain addr) chunk) placed in
@@ -104,7 +106,8 @@ begins (ByQ ∷ cs) part e = cc
 begins (ByBoth j ∷ cs) part e = cc
 
 module _ (layout : Layout) (addr : ℕ) (chunk : Chunk) (at : Elements) (part : Part) (device : Device) (there : chunk_at layout.chunks addr ≡ Some chunk)
-    (placed : elements_of chunk addr 4096 ≡ Ok at) (part_is : first_part (target layout (Plain addr) chunk at) ≡ Some part) (given : device_in layout.devices (place_at chunk part at).devid ≡ Some device)
+    (placed : elements_of chunk addr 4096 ≡ Ok at) (part_is : first_part (target layout (Plain addr) chunk at) ≡ Some part)
+    (given : device_in layout.devices (place_at chunk part at).devid ≡ Some device)
     (inside : (place_at chunk part at).offset + 4096 ≤ device.len) (images : List (List ℕ)) (sum : Sum) where
   abbrev off : ℕ
   off = (place_at chunk part at).offset

@@ -21,7 +21,8 @@ range-front xs n a b le most =
     ap (take (b - a)) (ap (λ m. drop a (take m xs)) (sym long) ∙ drop-take a (n - a) xs) ∙ take-take (b - a) (n - a) (drop a xs) (omega (arith, le, most))
 
 -- a piece of what is kept has the bytes of its place
-piece_bytes : (images : List (List ℕ)) (kept : KeptBytes) (place : Place) → take kept.place.len kept.bytes ≡ bytes_of images kept.place.slot kept.place.off kept.place.len → LiesIn place kept.place
+piece_bytes : (images : List (List ℕ)) (kept : KeptBytes) (place : Place) → take kept.place.len kept.bytes
+    ≡ bytes_of images kept.place.slot kept.place.off kept.place.len → LiesIn place kept.place
     → bytes_of images place.slot place.off place.len ≡ piece_of kept place
 piece_bytes images kept place is lies =
     let from = place.off - kept.place.off in
@@ -35,13 +36,16 @@ piece_bytes images kept place is lies =
     ∙ range-front kept.bytes kept.place.len from (from + place.len) (omega arith) inner
 
 -- a piece of what is kept has the bytes that were read at its place, where the images are told
-pub piece_read : (held : Option (List (List ℕ))) (kept : KeptBytes) (place : Place) → AreRead held kept → LiesIn place kept.place → AreBytesOf held place.slot place.off place.len (piece_of kept place)
+pub piece_read : (held : Option (List (List ℕ))) (kept : KeptBytes) (place : Place) → AreRead held kept → LiesIn place kept.place
+    → AreBytesOf held place.slot place.off place.len (piece_of kept place)
 piece_read None kept place read lies = tt
 piece_read (Some images) kept place read lies = sym (piece_bytes images kept place read lies)
 
 -- a sector whose piece passes comes to bytes
-pub piece_comes : (held : Option (List (List ℕ))) (layout : Layout) (kept : KeptBytes) (place : Place) (addr : ℕ) (sum : Sum) (want : Want) → want ≡ Sector addr sum
-    → AreRead held kept → IsFirstPlace layout addr place → LiesIn place kept.place → passes layout.setting want (piece_of kept place) ≡ true → Comes held layout want
+pub piece_comes : (held : Option (List (List ℕ))) (layout : Layout) (kept : KeptBytes) (place : Place) (addr : ℕ) (sum : Sum) (want : Want) → want
+    ≡ Sector addr sum
+    → AreRead held kept → IsFirstPlace layout addr place → LiesIn place kept.place → passes layout.setting want (piece_of kept place) ≡ true
+    → Comes held layout want
 piece_comes None layout kept place addr sum want is read first lies pass = tt
 piece_comes (Some images) layout kept place addr sum want is read first lies pass =
     let bytes = piece_bytes images kept place read lies in
@@ -50,8 +54,10 @@ piece_comes (Some images) layout kept place addr sum want is read first lies pas
     ap (λ w. is_ok (fate images layout w)) is ∙ ap is_ok (first images sum test)
 
 -- whether its piece passes is what is asked of a sector
-pub piece_says : (held : Option (List (List ℕ))) (layout : Layout) (kept : KeptBytes) (place : Place) (addr : ℕ) (sum : Sum) (want : Want) (answer : Bool) → want ≡ Sector addr sum
-    → AreRead held kept → Some place ≡ first_place layout addr → LiesIn place kept.place → answer ≡ passes layout.setting want (piece_of kept place) → SaysFirst held layout want answer
+pub piece_says : (held : Option (List (List ℕ))) (layout : Layout) (kept : KeptBytes) (place : Place) (addr : ℕ) (sum : Sum) (want : Want)
+    (answer : Bool) → want ≡ Sector addr sum
+    → AreRead held kept → Some place ≡ first_place layout addr → LiesIn place kept.place → answer ≡ passes layout.setting want (piece_of kept place)
+    → SaysFirst held layout want answer
 piece_says None layout kept place addr sum want answer is read given lies e = tt
 piece_says (Some images) layout kept place addr sum want answer is read given lies e =
     let bytes = piece_bytes images kept place read lies in

@@ -59,7 +59,8 @@ moved_by (suc a) n u front back =
 gathered-xor : (es : List ℕ) (u v : ℕ → ℕ) (j : ℕ) → gathered es (λ i. bit_xor (u i) (v i)) j ≡ bit_xor (gathered es u j) (gathered es v j)
 unfolding gathered
 gathered-xor [] u v j = refl
-gathered-xor (e ∷ es) u v j = ap (bit_xor (bit_xor (u (j + e)) (v (j + e)))) (gathered-xor es u v j) ∙ exchange (u (j + e)) (v (j + e)) (gathered es u j) (gathered es v j)
+gathered-xor (e ∷ es) u v j = ap (bit_xor (bit_xor (u (j + e)) (v (j + e)))) (gathered-xor es u v j)
+    ∙ exchange (u (j + e)) (v (j + e)) (gathered es u j) (gathered es v j)
 
 pub gathered-moved : (es : List ℕ) (u : ℕ → ℕ) (m j : ℕ) → gathered es u (j + m) ≡ gathered es (λ i. u (i + m)) j
 unfolding gathered
@@ -72,7 +73,8 @@ AreWithin d [] = Unit {0}
 AreWithin d (e ∷ es) = (e ≤ d) × AreWithin d es
 
 -- what is gathered depends on the places from j to j + d
-pub gathered-same : (d : ℕ) (es : List ℕ) (u v : ℕ → ℕ) (j k : ℕ) → AreWithin d es → ((a : ℕ) → a ≤ d → u (j + a) ≡ v (k + a)) → gathered es u j ≡ gathered es v k
+pub gathered-same : (d : ℕ) (es : List ℕ) (u v : ℕ → ℕ) (j k : ℕ) → AreWithin d es → ((a : ℕ) → a ≤ d → u (j + a) ≡ v (k + a)) → gathered es u j
+    ≡ gathered es v k
 unfolding gathered
 gathered-same d [] u v j k within same = refl
 gathered-same d (e ∷ es) u v j k within same = λ i. bit_xor (same e within.0 i) (gathered-same d es u v j k within.1 same i)
@@ -179,4 +181,5 @@ dropped d es byte u m k within multiple wide fits end step =
     xor_assoc (byte j) (gathered all (front d u) j) (sent j)
     ∙ ap (bit_xor (byte j)) (sym (gathered-xor all (front d u) behind j) ∙ (λ i. gathered all (λ t. parted d u t i) j)))
     ∙ skipped m k left (λ j lt. ap (λ x. bit_xor (byte j) (bit_xor x (gathered es u j))) (step j lt) ∙ twice (byte j) (gathered es u j))
-    ∙ after-same 0 k (λ j. left (j + m)) (λ j. bit_xor (byte (j + m)) (gathered all (λ i. u (i + m)) j)) (λ j lt. ap (bit_xor (byte (j + m))) (gathered-moved all u m j))
+    ∙ after-same 0 k (λ j. left (j + m)) (λ j. bit_xor (byte (j + m)) (gathered all (λ i. u (i + m)) j))
+    (λ j lt. ap (bit_xor (byte (j + m))) (gathered-moved all u m j))

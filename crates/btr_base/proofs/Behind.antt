@@ -1,5 +1,6 @@
 -- A piece whose first bytes are dropped, as lists.
-use Rattle.std.proofs.Common.{◌≡◌, ℕ, ◌+◌, ◌-◌, ◌/◌, ◌%◌, ◌^◌, ◌<◌, ◌≤◌, inl, inr, List, [], ◌∷◌, length, get_or, take, drop, replicate, sym, ap, subst, ◌∙◌, arith, length-drop}
+use Rattle.std.proofs.Common.{◌≡◌, ℕ, ◌+◌, ◌-◌, ◌/◌, ◌%◌, ◌^◌, ◌<◌, ◌≤◌, inl, inr, List, [], ◌∷◌, length, get_or, take, drop, replicate, sym, ap, subst, ◌∙◌}
+use Rattle.std.proofs.Common.{arith, length-drop}
 use Rattle.std.specs.Int.Bits.{bit_xor, xor_zero_l, xor_zero_r}
 use lib.Lanes.{put_chunk}
 use Rattle.std.proofs.lemmas.Bool.{cases_lt}
@@ -10,7 +11,8 @@ use Rattle.btr_base.specs.Crc.{register}
 use Rattle.btr_base.specs.Fold.{after, far, near, gathered, sent, received, register_behind}
 use Rattle.btr_base.proofs.Multiple.{far_is_multiple, near_is_multiple}
 use Rattle.btr_base.proofs.Words.{register_bytes, after_start}
-use Rattle.btr_base.proofs.Ahead.{AreWithin, after-same, after-more, gathered-same, gathered-moved, gathered_none, front, front_in, front_past, front_fits, dropped}
+use Rattle.btr_base.proofs.Ahead.{AreWithin, after-same, after-more, gathered-same, gathered-moved, gathered_none, front, front_in, front_past, front_fits}
+use Rattle.btr_base.proofs.Ahead.{dropped}
 
 -- the number at a place of a list, and 0 past its end
 abbrev pub at : List ℕ → ℕ → ℕ
@@ -66,14 +68,20 @@ kept_fits xs ys bytes j k fits nearer_fits are_bytes =
     xor_lt 8 (received xs bytes j) (sent near ys k) (received_fits xs bytes j fits are_bytes) (gathered_fits near (at ys) k nearer_fits)
 
 -- a list of bytes with a block of bytes
-pub block_fits : (n m : ℕ) (lane : ℕ → ℕ) (xs block : List ℕ) → length block ≡ n → m + n ≤ length xs → ((i : ℕ) → i < n → at block i ≡ lane i) → ((i : ℕ) → lane i < 2 ^ 8)
+pub block_fits : (n m : ℕ) (lane : ℕ → ℕ) (xs block : List ℕ) → length block ≡ n → m + n ≤ length xs → ((i : ℕ) → i < n → at block i ≡ lane i)
+    → ((i : ℕ) → lane i < 2 ^ 8)
     → ((i : ℕ) → at xs i < 2 ^ 8) → (i : ℕ) → at (put_chunk m xs block) i < 2 ^ 8
 block_fits n m lane xs block long room is lanes fits i = elim (cases_lt i m) [
   | inl below ↦ omega (arith, get_or-put_chunk_below m xs block i 0 below, fits i)
   | inr from ↦ elim (cases_lt (i - m) n) [
     | inl within ↦
         let place : m + (i - m) ≡ i = omega arith in
-        omega (arith, ap (at (put_chunk m xs block)) (sym place) ∙ get_or-put_chunk_at m xs block (i - m) 0 (omega (arith, long)) (omega (arith, long)) ∙ is (i - m) within, lanes (i - m))
+        omega (
+          arith,
+          ap (at (put_chunk m xs block)) (sym place)
+              ∙ get_or-put_chunk_at m xs block (i - m) 0 (omega (arith, long)) (omega (arith, long)) ∙ is (i - m) within,
+          lanes (i - m),
+        )
     | inr past ↦ omega (arith, get_or-put_chunk_above m xs block i 0 (omega (arith, long)), fits i)
   ]
 ]
@@ -87,7 +95,8 @@ block_front d m xs block =
     get_or-take d (put_chunk (d + m) xs block) i 0 small ∙ get_or-put_chunk_below (d + m) xs block i 0 (omega arith) ∙ sym (get_or-take d xs i 0 small))
 
 -- the first numbers of a list, which stand n places on in another one
-pub moved_front : (xs ys : List ℕ) (n : ℕ) → length xs ≡ 4972 → length ys ≡ 4972 → n ≤ 4096 → ((i : ℕ) → i < 561 → at xs i ≡ at ys (n + i)) → take 561 xs ≡ take 561 (drop n ys)
+pub moved_front : (xs ys : List ℕ) (n : ℕ) → length xs ≡ 4972 → length ys ≡ 4972 → n ≤ 4096 → ((i : ℕ) → i < 561 → at xs i ≡ at ys (n + i))
+    → take 561 xs ≡ take 561 (drop n ys)
 moved_front xs ys n long_x long_y le same =
     ext_get_or 0 (take 561 xs) (take 561 (drop n ys)) (omega (arith, length-take 561 xs, length-take 561 (drop n ys), length-drop n ys))
     (λ i lt. let small : i < 561 = omega (arith, length-take 561 xs) in
@@ -121,7 +130,8 @@ added : (x y w : ℕ) → x ≡ 0 → bit_xor w (bit_xor x y) ≡ bit_xor w y
 added x y w none = ap (λ z. bit_xor w (bit_xor z y)) none ∙ ap (bit_xor w) (xor_zero_l y)
 
 -- what the first n bytes have sent is left, where they are dropped
-left : (xs bytes : List ℕ) (n : ℕ) → ((i : ℕ) → i < n + 561 → at xs i < 2 ^ 32) → n + 561 ≤ length bytes → ((j : ℕ) → j < n → at xs (j + 561) ≡ received xs bytes j)
+left : (xs bytes : List ℕ) (n : ℕ) → ((i : ℕ) → i < n + 561 → at xs i < 2 ^ 32) → n + 561 ≤ length bytes
+    → ((j : ℕ) → j < n → at xs (j + 561) ≡ received xs bytes j)
     → register_behind (take 561 xs) bytes ≡ after 8 0 (length bytes - n) (λ j. bit_xor (at bytes (j + n)) (gathered far (behind xs n) j))
 unfolding register_behind gathered
 left xs bytes n fits wide sent =
@@ -141,7 +151,8 @@ left xs bytes n fits wide sent =
     (λ j lt. added (behind xs n (j + 561)) (gathered far (behind xs n) j) (at bytes (j + n)) (behind_past xs n (j + 561) (omega arith)))
 
 -- the last of the dropped bytes stand at the front
-pub folded : (xs bytes : List ℕ) (n : ℕ) → ((i : ℕ) → i < n + 561 → at xs i < 2 ^ 32) → n + 561 ≤ length bytes → ((j : ℕ) → j < n → at xs (j + 561) ≡ received xs bytes j)
+pub folded : (xs bytes : List ℕ) (n : ℕ) → ((i : ℕ) → i < n + 561 → at xs i < 2 ^ 32) → n + 561 ≤ length bytes
+    → ((j : ℕ) → j < n → at xs (j + 561) ≡ received xs bytes j)
     → register_behind (take 561 xs) bytes ≡ register_behind (take 561 (drop n xs)) (drop n bytes)
 unfolding register_behind
 folded xs bytes n fits wide sent =
@@ -149,7 +160,8 @@ folded xs bytes n fits wide sent =
     let kept = take 561 (drop n xs) in
     left xs bytes n fits wide sent
     ∙ after-same 0 (length bytes - n) (λ j. bit_xor (at bytes (j + n)) (gathered far (behind xs n) j)) (received kept rest) (λ j lt.
-    λ i. bit_xor ((ap (at bytes) (turn j) ∙ sym (get_or-drop n bytes j 0)) i) (gathered-same 300 far (behind xs n) (at kept) j j far_within (λ a le. moved (j + a)) i))
+    λ i. bit_xor ((ap (at bytes) (turn j) ∙ sym (get_or-drop n bytes j 0)) i)
+    (gathered-same 300 far (behind xs n) (at kept) j j far_within (λ a le. moved (j + a)) i))
     ∙ ap (λ m. after 8 0 m (received kept rest)) (sym (length-drop n bytes))
   where
     turn : (j : ℕ) → j + n ≡ n + j

@@ -12,7 +12,8 @@ later f g same a zero = refl
 later f g same a (suc n) = λ i. same a i ∷ later f g same (a + 1) n i
 
 -- the first number, and those behind the first step
-numbers_more : (step off : ℕ) (bytes : List ℕ) → length bytes / step ≡ suc (length (drop step bytes) / step) → numbers_every step off bytes ≡ number_at 8 off bytes ∷ numbers_every step off (drop step bytes)
+numbers_more : (step off : ℕ) (bytes : List ℕ) → length bytes / step ≡ suc (length (drop step bytes) / step) → numbers_every step off bytes
+    ≡ number_at 8 off bytes ∷ numbers_every step off (drop step bytes)
 unfolding numbers_every
 numbers_more step off bytes steps =
     let at : ℕ → ℕ = λ t. number_at 8 (step * t + off) bytes in

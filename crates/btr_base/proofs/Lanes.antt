@@ -54,7 +54,8 @@ far_block n j xs a b c d e room la lb lc ld le =
     let four : ℕ → ℕ = λ i. bit_xor (three i) (at 214 i) in
     relaned n (λ i. bit_xor (four i) (at 300 i)) (λ i. sent far xs (j + i)) (zip2 bit_xor (zip2 bit_xor (zip2 bit_xor (zip2 bit_xor a b) c) d) e)
     (λ i. five (none i) (at 154 i) (at 198 i) (at 214 i) (at 300 i)
-    ∙ (λ t. bit_xor (first i t) (bit_xor (placed xs j 154 i t) (bit_xor (placed xs j 198 i t) (bit_xor (placed xs j 214 i t) (bit_xor (placed xs j 300 i t) 0))))))
+    ∙ (λ t. bit_xor (first i t) (bit_xor (placed xs j 154 i t)
+    (bit_xor (placed xs j 198 i t) (bit_xor (placed xs j 214 i t) (bit_xor (placed xs j 300 i t) 0))))))
     (summed n four (at 300) (zip2 bit_xor (zip2 bit_xor (zip2 bit_xor a b) c) d) e
     (summed n three (at 214) (zip2 bit_xor (zip2 bit_xor a b) c) d
     (summed n two (at 198) (zip2 bit_xor a b) c

@@ -10,7 +10,8 @@ use Rattle.btr_base.proofs.Shifts.{low_xor}
 -- (p ^ a) ^ (p ^ b) is a ^ b
 twice : (p a b : ℕ) → bit_xor (bit_xor p a) (bit_xor p b) ≡ bit_xor a b
 twice p a b =
-    ap (λ x. bit_xor x (bit_xor p b)) (xor_comm p a) ∙ xor_assoc a p (bit_xor p b) ∙ ap (bit_xor a) (sym (xor_assoc p p b) ∙ ap (λ x. bit_xor x b) (xor_self p) ∙ xor_zero_l b)
+    ap (λ x. bit_xor x (bit_xor p b)) (xor_comm p a) ∙ xor_assoc a p (bit_xor p b)
+    ∙ ap (bit_xor a) (sym (xor_assoc p p b) ∙ ap (λ x. bit_xor x b) (xor_self p) ∙ xor_zero_l b)
 
 left : (p a b : ℕ) → bit_xor p (bit_xor a b) ≡ bit_xor (bit_xor p a) b
 left p a b = sym (xor_assoc p a b)

@@ -1,5 +1,6 @@
 -- A register that is shifted, and the remainder.
-use Rattle.std.proofs.Common.{◌≡◌, ℕ, zero, suc, ◌+◌, ◌*◌, ◌/◌, ◌%◌, ◌^◌, ◌≤◌, ◌<◌, Bool, true, false, cond, eqb, List, [], ◌∷◌, ◌++◌, length, refl, sym, ◌∙◌, ap, subst, arith, length-append, bit_xor}
+use Rattle.std.proofs.Common.{◌≡◌, ℕ, zero, suc, ◌+◌, ◌*◌, ◌/◌, ◌%◌, ◌^◌, ◌≤◌, ◌<◌, Bool, true, false, cond, eqb, List, [], ◌∷◌, ◌++◌, length, refl, sym, ◌∙◌}
+use Rattle.std.proofs.Common.{ap, subst, arith, length-append, bit_xor}
 use Rattle.std.proofs.lemmas.List.{length-replicate, append_assoc}
 use Rattle.std.proofs.lemmas.Nat.{xor_shr, xor_mod, xor_lt}
 use Rattle.std.proofs.Math.Nat.{pow-suc}
@@ -111,7 +112,8 @@ module _ (k poly : ℕ) (fits : poly < 2 ^ suc k) where
       ∙ divided_many j n (shift reg) rest (shift_lt reg lt) wide
 
 -- the next j bits of the message are taken into the register
-absorbed : (j i reg b : ℕ) (rest : List Bool) → b < 2 ^ j → i ≤ length rest → plus (bits (j + i) reg) (bits j b ++ rest) ≡ plus (bits (j + i) (bit_xor reg b)) (zeros j ++ rest)
+absorbed : (j i reg b : ℕ) (rest : List Bool) → b < 2 ^ j → i ≤ length rest → plus (bits (j + i) reg) (bits j b ++ rest)
+    ≡ plus (bits (j + i) (bit_xor reg b)) (zeros j ++ rest)
 absorbed j i reg b rest lt wide = sym (
     ap (λ (l : List Bool). plus l (zeros j ++ rest)) (bits-xor (j + i) reg b)
     ∙ plus_assoc (bits (j + i) reg) (bits (j + i) b) (zeros j ++ rest)
@@ -161,7 +163,9 @@ register-cons reg b bytes lt byte =
     let wide : 32 ≤ length rest = omega (arith, length-append (message bytes) (zeros 32), length-replicate 32 false) in
     let fewer : 8 * length (b ∷ bytes) ≡ 8 + 8 * length bytes = omega arith in
     ap number (
-    ap (λ (l : List Bool). remainder (8 * length (b ∷ bytes)) l generator) (dividend_is reg (b ∷ bytes) ∙ ap (plus (bits 32 reg)) (append_assoc (bits 8 b) (message bytes) (zeros 32)) ∙ absorbed 8 24 reg b rest byte (omega arith))
+    ap (λ (l : List Bool). remainder (8 * length (b ∷ bytes)) l generator)
+    (dividend_is reg (b ∷ bytes) ∙ ap (plus (bits 32 reg)) (append_assoc (bits 8 b) (message bytes) (zeros 32))
+    ∙ absorbed 8 24 reg b rest byte (omega arith))
     ∙ ap (λ n. remainder n (plus (bits 32 (bit_xor reg b)) (zeros 8 ++ rest)) generator) fewer
     ∙ divided_many 31 0x82F63B78 fits 8 (8 * length bytes) (bit_xor reg b) rest (xor_lt 32 reg b lt (omega arith)) wide
     ∙ ap (λ (l : List Bool). remainder (8 * length bytes) l generator) (sym (dividend_is (shifts_of 8 (bit_xor reg b)) bytes))
@@ -188,7 +192,8 @@ length-dividend : (reg : ℕ) (bytes : List ℕ) → length (dividend reg bytes)
 unfolding generator
 length-dividend reg bytes =
     ap length (dividend_is reg bytes)
-    ∙ length-plus (bits 32 reg) (message bytes ++ zeros 32) (omega (arith, length-bits 32 reg, length-append (message bytes) (zeros 32), length-replicate 32 false))
+    ∙ length-plus (bits 32 reg) (message bytes ++ zeros 32) (omega
+    (arith, length-bits 32 reg, length-append (message bytes) (zeros 32), length-replicate 32 false))
     ∙ omega (arith, length-append (message bytes) (zeros 32), length-message bytes, length-replicate 32 false, length-bits 32 0x82F63B78)
 
 -- the register is the remainder of the dividend
@@ -197,7 +202,8 @@ unfolding register generator
 register_is_remainder reg bytes =
     let is = divided (8 * length bytes) (dividend reg bytes) generator (length-dividend reg bytes) in
     let wide : length (remainder (8 * length bytes) (dividend reg bytes) generator) ≡ 32 = is.degree ∙ length-bits 32 0x82F63B78 in
-    subst (IsRemainder (dividend reg bytes) generator) (sym (ap (λ k. bits k (register reg bytes)) (sym wide) ∙ bits-number (remainder (8 * length bytes) (dividend reg bytes) generator))) is
+    subst (IsRemainder (dividend reg bytes) generator) (sym (ap (λ k. bits k (register reg bytes)) (sym wide)
+    ∙ bits-number (remainder (8 * length bytes) (dividend reg bytes) generator))) is
 
 -- what equals the register is the remainder
 pub is_remainder : (reg : ℕ) (bytes : List ℕ) (r : ℕ) → r ≡ register reg bytes → IsRemainder (dividend reg bytes) generator (bits 32 r)

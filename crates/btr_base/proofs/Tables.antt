@@ -1,5 +1,6 @@
 -- Tables of registers after zeros.
-use Rattle.std.proofs.Common.{◌≡◌, ℕ, zero, suc, ◌+◌, ◌*◌, ◌/◌, ◌%◌, ◌^◌, ◌<◌, Bool, true, false, cond, eqb, List, [], ◌∷◌, length, get_or, refl, sym, ap, ◌∙◌, arith}
+use Rattle.std.proofs.Common.{◌≡◌, ℕ, zero, suc, ◌+◌, ◌*◌, ◌/◌, ◌%◌, ◌^◌, ◌<◌, Bool, true, false, cond, eqb, List, [], ◌∷◌, length, get_or, refl, sym, ap, ◌∙◌}
+use Rattle.std.proofs.Common.{arith}
 use Rattle.std.specs.Int.Bits.{bit_xor, xor_assoc, xor_zero_r}
 use Rattle.std.proofs.lemmas.Bool.Decides.{Decides-eqb}
 use Rattle.std.proofs.lemmas.Nat.{pow-add, xor_comm}
@@ -20,14 +21,16 @@ both false c d e = absurd (cc (e))
 pub entry_from : (f : ℕ → ℕ) (k : ℕ) (xs : List ℕ) (i : ℕ) → fits_from f k xs ≡ true → i < length xs → get_or xs i 0 ≡ f (k + i)
 entry_from f k [] i fits lt = absurd (omega arith)
 entry_from f k (x ∷ xs) zero fits lt = (both (eqb x (f k)) (fits_from f (k + 1) xs) (Decides-eqb x (f k)) fits).0 ∙ ap f (omega arith)
-entry_from f k (x ∷ xs) (suc i) fits lt = entry_from f (k + 1) xs i (both (eqb x (f k)) (fits_from f (k + 1) xs) (Decides-eqb x (f k)) fits).1 (omega arith) ∙ ap f (omega arith)
+entry_from f k (x ∷ xs) (suc i) fits lt = entry_from f (k + 1) xs i (both (eqb x (f k)) (fits_from f (k + 1) xs) (Decides-eqb x (f k)) fits).1
+    (omega arith) ∙ ap f (omega arith)
 
 -- each table from a number on has 256 entries, the registers after that many bytes of zeros and one more
 abbrev pub tables_from : ℕ → List (List ℕ) → Bool
 tables_from n [] = true
 tables_from n (t ∷ ts) = cond (eqb (length t) 256) (cond (fits_from (shifted_by (8 * (n + 1))) 0 t) (tables_from (n + 1) ts) false) false
 
-pub table_from : (n : ℕ) (ts : List (List ℕ)) (k i : ℕ) → tables_from n ts ≡ true → k < length ts → i < 256 → get_or (get_or ts k []) i 0 ≡ shifted_by (8 * (n + k + 1)) i
+pub table_from : (n : ℕ) (ts : List (List ℕ)) (k i : ℕ) → tables_from n ts ≡ true → k < length ts → i < 256 → get_or (get_or ts k []) i 0
+    ≡ shifted_by (8 * (n + k + 1)) i
 table_from n [] k i fits lt small = absurd (omega arith)
 table_from n (t ∷ ts) zero i fits lt small =
     let sized = both (eqb (length t) 256) (cond (fits_from (shifted_by (8 * (n + 1))) 0 t) (tables_from (n + 1) ts) false) (Decides-eqb (length t) 256) fits in

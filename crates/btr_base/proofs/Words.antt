@@ -1,5 +1,6 @@
 -- The register, by bytes and by words of 32 bits.
-use Rattle.std.proofs.Common.{◌≡◌, ℕ, zero, suc, ◌+◌, ◌*◌, ◌/◌, ◌%◌, ◌^◌, ◌<◌, ◌≤◌, ◌-◌, List, [], ◌∷◌, length, get_or, take, drop, refl, sym, ap, ◌∙◌, subst, arith, length-drop}
+use Rattle.std.proofs.Common.{◌≡◌, ℕ, zero, suc, ◌+◌, ◌*◌, ◌/◌, ◌%◌, ◌^◌, ◌<◌, ◌≤◌, ◌-◌, List, [], ◌∷◌, length, get_or, take, drop, refl, sym, ap, ◌∙◌, subst}
+use Rattle.std.proofs.Common.{arith, length-drop}
 use Rattle.std.specs.Int.Bits.{bit_xor, xor_assoc, xor_zero_r}
 use Rattle.std.proofs.lemmas.Nat.{xor_lt, xor_comm, pow-add}
 use Rattle.std.proofs.Math.Nat.{pow-suc, mul_comm, div-div-eq-div-mul}
@@ -15,7 +16,8 @@ use Rattle.btr_base.proofs.Linear.{shifted_by-xor, shifted_by-add, shifted_by-hi
 -- one byte of a list
 pub register_more : (reg i : ℕ) (bytes : List ℕ) → reg < 2 ^ 32 → i < length bytes → get_or bytes i 0 < 2 ^ 8
     → register (shifted_by 8 (bit_xor reg (get_or bytes i 0))) (drop (i + 1) bytes) ≡ register reg (drop i bytes)
-register_more reg i bytes lt in_range fits = sym (at_drop_more (register reg) bytes i 0 in_range ∙ register-cons reg (get_or bytes i 0) (drop (i + 1) bytes) lt fits)
+register_more reg i bytes lt in_range fits = sym (at_drop_more (register reg) bytes i 0 in_range
+    ∙ register-cons reg (get_or bytes i 0) (drop (i + 1) bytes) lt fits)
 
 -- no more bytes of a list
 pub register_all : (reg i : ℕ) (bytes : List ℕ) → reg < 2 ^ 32 → length bytes ≤ i → reg ≡ register reg (drop i bytes)
@@ -46,7 +48,8 @@ register_number (suc n) reg (b ∷ bytes) lt le fits =
     ∙ ap (λ x. register (shifted_by (8 * n) x) (drop n bytes)) (
     sym (taken_byte reg b (little_number n bytes) (omega arith))
     ∙ ap (λ h. shifted_by 8 (bit_xor reg (b + 256 * h))) (sym (little_from-cons 0 n b bytes)))
-    ∙ ap (λ x. register x (drop n bytes)) (sym (shifted_by-add 8 (8 * n) (bit_xor reg (little_number (suc n) (b ∷ bytes)))) ∙ ap (λ k. shifted_by k (bit_xor reg (little_number (suc n) (b ∷ bytes)))) more)
+    ∙ ap (λ x. register x (drop n bytes)) (sym (shifted_by-add 8 (8 * n) (bit_xor reg (little_number (suc n) (b ∷ bytes))))
+    ∙ ap (λ k. shifted_by k (bit_xor reg (little_number (suc n) (b ∷ bytes)))) more)
 
 -- a number and a register come down to a register
 taken_lt : (size reg number : ℕ) → reg < 2 ^ 32 → number < 2 ^ 32 → shifted_by size (bit_xor reg number) < 2 ^ 32
@@ -64,7 +67,8 @@ after_first size reg zero number = refl
 after_first size reg (suc n) number = ap (λ r. shifted_by size (bit_xor r (number (suc n)))) (after_first size reg n number)
 
 -- all bytes of a piece are taken in
-pub register_bytes : (reg : ℕ) (bytes : List ℕ) → reg < 2 ^ 32 → ((i : ℕ) → get_or bytes i 0 < 2 ^ 8) → register reg bytes ≡ after 8 reg (length bytes) (λ j. get_or bytes j 0)
+pub register_bytes : (reg : ℕ) (bytes : List ℕ) → reg < 2 ^ 32 → ((i : ℕ) → get_or bytes i 0 < 2 ^ 8) → register reg bytes
+    ≡ after 8 reg (length bytes) (λ j. get_or bytes j 0)
 unfolding after
 register_bytes reg [] lt fits = register-nil reg lt
 register_bytes reg (b ∷ bytes) lt fits =
@@ -96,7 +100,8 @@ after_start (suc n) reg h byte lt =
     after_first 8 (bit_xor reg h) n byte
     ∙ ap (λ r. after 8 r n (λ j. byte (suc j))) (ap (shifted_by 8) (first ∙ ap (bit_xor sum) parts) ∙ taken_byte sum low high (omega arith))
     ∙ after_start n next high (λ j. byte (suc j)) less
-    ∙ (λ i. after 8 (shifted_by 8 ((xor_assoc reg (byte 0) low ∙ ap (λ x. bit_xor reg (bit_xor (byte 0) x)) (sym whole)) i)) n (λ j. bit_xor (byte (suc j)) (higher j i % 256)))
+    ∙ (λ i. after 8 (shifted_by 8 ((xor_assoc reg (byte 0) low ∙ ap (λ x. bit_xor reg (bit_xor (byte 0) x)) (sym whole)) i)) n
+    (λ j. bit_xor (byte (suc j)) (higher j i % 256)))
     ∙ sym (after_first 8 reg n (λ j. bit_xor (byte j) (h / 256 ^ j % 256)))
   where
     higher : (j : ℕ) → h / 256 / 256 ^ j ≡ h / 256 ^ suc j

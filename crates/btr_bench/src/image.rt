@@ -6,8 +6,8 @@ ghost use Rattle.btr_read.specs.Store.{free_count};
 ghost use Rattle.btr_read.specs.Serves.{Serves};
 
 use btr_base::{SumKind, sum};
-use btr_blocks::Tree;
 use btr_chunk::{Chunk, ChunkTable};
+use btr_make_blocks::Tree;
 use btr_rack::{MemRack, Rack};
 use btr_read::{Store, Want};
 use std::alloc::{AllocError, Global};

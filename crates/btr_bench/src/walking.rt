@@ -8,7 +8,7 @@ ghost use Rattle.btr_walk.specs.ScanEnds.{IsReady, without_leaf};
 
 use crate::image::{FSID, GENERATION, KIND, START, image_with, store_over};
 use btr_base::Key;
-use btr_blocks::{Body, Form, Items, Tree};
+use btr_make_blocks::{Body, Form, Items, Tree};
 use btr_rack::MemRack;
 use btr_read::{Loan, Store};
 use btr_walk::{RootPlace, Scan, find_le, next};

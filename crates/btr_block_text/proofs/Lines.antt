@@ -1,5 +1,6 @@
 -- Texts of many lines, written one after another.
-use Rattle.std.proofs.Common.{◌≡◌, ℕ, ◌+◌, ◌-◌, ◌*◌, ◌<◌, ◌≤◌, leb, eqb, true, false, cond, IsTrue, length, get_or, codes, List, [], ◌∷◌, ◌++◌, Option, Some, None, Result, Ok, Err, refl, sym, ap, ◌∙◌, subst, arith}
+use Rattle.std.proofs.Common.{◌≡◌, ℕ, ◌+◌, ◌-◌, ◌*◌, ◌<◌, ◌≤◌, leb, eqb, true, false, cond, IsTrue, length, get_or, codes, List, [], ◌∷◌, ◌++◌, Option, Some}
+use Rattle.std.proofs.Common.{None, Result, Ok, Err, refl, sym, ap, ◌∙◌, subst, arith}
 use Rattle.std.proofs.lemmas.List.{append_assoc, append-nil}
 use Rattle.std.proofs.lemmas.Bool.{and_parts, eqb-true, false≢true}
 use Rattle.std.proofs.lemmas.List.Elements.{All-head, All-tail}
@@ -33,11 +34,13 @@ pub so_far_none : (out : Option (List ℕ)) (waits whole : List ℕ) → SoFar o
 so_far_none out waits whole = record { written = []; wrote = wrote_nothing out waits; all = refl }
 
 -- the front was written
-pub so_far_front : {old new : Option (List ℕ)} {waited waits front : List ℕ} (rest whole : List ℕ) → front ++ rest ≡ whole → Wrote old new waited waits front → SoFar old new waited waits rest whole
+pub so_far_front : {old new : Option (List ℕ)} {waited waits front : List ℕ} (rest whole : List ℕ) → front ++ rest ≡ whole
+    → Wrote old new waited waits front → SoFar old new waited waits rest whole
 so_far_front {front = front} rest whole all wrote = record { written = front; wrote = wrote; all = all }
 
 -- one line more
-pub so_far_more : {old mid new : Option (List ℕ)} {waited between waits rest whole line : List ℕ} (next : List ℕ) → SoFar old mid waited between rest whole → rest ≡ line ++ next → Wrote mid new between waits line
+pub so_far_more : {old mid new : Option (List ℕ)} {waited between waits rest whole line : List ℕ} (next : List ℕ)
+    → SoFar old mid waited between rest whole → rest ≡ line ++ next → Wrote mid new between waits line
     → SoFar old new waited waits next whole
 so_far_more {line = line} next s is wrote = record {
   written = s.written ++ line;
@@ -46,17 +49,20 @@ so_far_more {line = line} next s is wrote = record {
 }
 
 -- nothing more, where the rest is the same
-pub so_far_same : {old new : Option (List ℕ)} {waited waits rest whole : List ℕ} (next : List ℕ) → SoFar old new waited waits rest whole → rest ≡ next → SoFar old new waited waits next whole
+pub so_far_same : {old new : Option (List ℕ)} {waited waits rest whole : List ℕ} (next : List ℕ) → SoFar old new waited waits rest whole → rest ≡ next
+    → SoFar old new waited waits next whole
 so_far_same next s is = record { written = s.written; wrote = s.wrote; all = ap (λ l. s.written ++ l) (sym is) ∙ s.all }
 
 -- a line was cut short
-pub so_far_cut : {old mid new : Option (List ℕ)} {waited between waits rest whole line : List ℕ} (next : List ℕ) → SoFar old mid waited between rest whole → rest ≡ line ++ next → WasCut mid new between waits line
+pub so_far_cut : {old mid new : Option (List ℕ)} {waited between waits rest whole line : List ℕ} (next : List ℕ)
+    → SoFar old mid waited between rest whole → rest ≡ line ++ next → WasCut mid new between waits line
     → WasCut old new waited waits whole
 so_far_cut {whole = whole} {line = line} next s is cut =
     cut_as whole (append_assoc s.written line next ∙ ap (λ l. s.written ++ l) (sym is) ∙ s.all) (cut_longer next (cut_then s.wrote cut))
 
 -- all was written
-pub so_far_ended : {old new : Option (List ℕ)} {waited waits rest whole : List ℕ} → SoFar old new waited waits rest whole → rest ≡ [] → Wrote old new waited waits whole
+pub so_far_ended : {old new : Option (List ℕ)} {waited waits rest whole : List ℕ} → SoFar old new waited waits rest whole → rest ≡ []
+    → Wrote old new waited waits whole
 so_far_ended {whole = whole} s none = wrote_as whole (sym (append-nil s.written) ∙ ap (λ l. s.written ++ l) (sym none) ∙ s.all) s.wrote
 
 -- the texts of the numbers from i on: that of i, and the others
@@ -69,11 +75,13 @@ numbers_none f i n le = let none : n - i ≡ 0 = omega arith in ap (λ k. flat_m
 
 module _ {T X : Type 0} (line : X → List ℕ) (old new : Option (List ℕ)) (waited waits : List ℕ) (r : Result T SinkError) where
   -- the text of what was read
-  pub writes_read : (read : Result X ItemFault) (found : X) → Ok found ≡ read → Writes old new waited waits (line found) r → Writes old new waited waits (of_read line read) r
+  pub writes_read : (read : Result X ItemFault) (found : X) → Ok found ≡ read → Writes old new waited waits (line found) r
+      → Writes old new waited waits (of_read line read) r
   writes_read read found is = writes_as old new waited waits (line found) (of_read line read) r (ap (of_read line) is)
 
   -- of a fault nothing is written
-  pub writes_fault : (read : Result X ItemFault) (fault : ItemFault) → Err fault ≡ read → Writes old new waited waits [] r → Writes old new waited waits (of_read line read) r
+  pub writes_fault : (read : Result X ItemFault) (fault : ItemFault) → Err fault ≡ read → Writes old new waited waits [] r
+      → Writes old new waited waits (of_read line read) r
   writes_fault read fault is = writes_as old new waited waits [] (of_read line read) r (ap (of_read line) is)
 
 -- the body of a CHUNK_ITEM has each of its stripes
@@ -84,24 +92,29 @@ chunk_holds body fits n i is lt =
     omega (arith, size)
 
 -- what holds of each that was read holds of the first, and of the others
-pub stand_first : {T : Type 0} (stands : T → Type 0) (reads : List (Result T ItemFault)) (read : Result T ItemFault) (rest : List (Result T ItemFault)) → reads ≡ read ∷ rest → All (λ r. IfOk r stands) reads
+pub stand_first : {T : Type 0} (stands : T → Type 0) (reads : List (Result T ItemFault)) (read : Result T ItemFault)
+    (rest : List (Result T ItemFault)) → reads ≡ read ∷ rest → All (λ r. IfOk r stands) reads
     → IfOk read stands × All (λ r. IfOk r stands) rest
 stand_first stands reads read rest is all =
     let holds : All (λ r. IfOk r stands) (read ∷ rest) = subst (All (λ r. IfOk r stands)) is all in
     (All-head (λ r. IfOk r stands) read rest holds, All-tail (λ r. IfOk r stands) read rest holds)
 
 -- the first of three texts was cut short
-pub cut_first : {old new : Option (List ℕ)} {waited waits first : List ℕ} (second third : List ℕ) → WasCut old new waited waits first → WasCut old new waited waits ((first ++ second) ++ third)
+pub cut_first : {old new : Option (List ℕ)} {waited waits first : List ℕ} (second third : List ℕ) → WasCut old new waited waits first
+    → WasCut old new waited waits ((first ++ second) ++ third)
 cut_first second third cut = cut_longer third (cut_longer second cut)
 
 -- the second was
-pub cut_second : {old mid new : Option (List ℕ)} {waited between waits first second : List ℕ} (third : List ℕ) → Wrote old mid waited between first → WasCut mid new between waits second
+pub cut_second : {old mid new : Option (List ℕ)} {waited between waits first second : List ℕ} (third : List ℕ) → Wrote old mid waited between first
+    → WasCut mid new between waits second
     → WasCut old new waited waits ((first ++ second) ++ third)
 cut_second third wrote cut = cut_longer third (cut_then wrote cut)
 
 -- all three were written, or the third was cut short
-pub writes_third : {T : Type 0} {old mid late : Option (List ℕ)} {waited between behind first second : List ℕ} (new : Option (List ℕ)) (waits third : List ℕ) (r : Result T SinkError)
-    → Wrote old mid waited between first → Wrote mid late between behind second → Writes late new behind waits third r → Writes old new waited waits ((first ++ second) ++ third) r
+pub writes_third : {T : Type 0} {old mid late : Option (List ℕ)} {waited between behind first second : List ℕ} (new : Option (List ℕ))
+    (waits third : List ℕ) (r : Result T SinkError)
+    → Wrote old mid waited between first → Wrote mid late between behind second → Writes late new behind waits third r
+    → Writes old new waited waits ((first ++ second) ++ third) r
 writes_third new waits third r one two three = writes_then new waits third r (wrote_then one two) three
 
 -- what always holds of what was read

@@ -39,7 +39,7 @@ use Rattle.btr_check.specs.Counting.{Unless}
 use Rattle.btr_base.specs.Sum.{sum_size}
 use Rattle.btr_items.specs.Form.{fields_if}
 use Rattle.btr_items.specs.Key.{key_fits}
-use Rattle.btr_sums.specs.Items.{runs_in}
+use Rattle.btr_check_sums.specs.Items.{runs_in}
 use Rattle.btr_walk.specs.Le.{TreeItem}
 use Rattle.std.specs.Result.{result_ok}
 use Rattle.btr_check.specs.Data.{is_readable, data_lost, data_findings, sum_runs, ReadsBy, unread_stop}
@@ -48,9 +48,9 @@ use Rattle.btr_refs.proofs.Adding.{adds_as, adds_more}
 use Rattle.btr_refs.specs.Findings.{Adds, found, unless, FoundSet}
 use Rattle.btr_refs.specs.declared.finding.Finding.{Finding}
 use Rattle.std.proofs.lemmas.List.FromFn.{length-map-range_with_len, get_or-map-range_with_len}
-use Rattle.btr_sums.specs.Ranks.{run_end}
+use Rattle.btr_check_sums.specs.Ranks.{run_end}
 use Rattle.btr_refs.specs.Sectors.{sectors}
-use Rattle.btr_sums.specs.Sums.{run_sectors}
+use Rattle.btr_check_sums.specs.Sums.{run_sectors}
 use Rattle.std.proofs.lemmas.List.{take_all}
 use Rattle.std.specs.Option.{option_to_list}
 use Rattle.btr_check.specs.Filesystem.{Filesystem, kind_of_sums, tree_items}

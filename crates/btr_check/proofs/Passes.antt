@@ -2,7 +2,7 @@
 use Rattle.std.proofs.Common.{◌≡◌, true, List, [], Option, Some, None, fold, filter_map, Result, Ok, Err, OnOk, refl, sym, ap, ◌∙◌, subst}
 use Rattle.std.specs.Bool.{⊤}
 use Rattle.btr_base.specs.declared.memory.Memory.{Memory}
-use Rattle.btr_space.specs.Items.{with_mark, Collects}
+use Rattle.btr_check_space.specs.Items.{with_mark, Collects}
 use Rattle.btr_tour.specs.Tour.{items_met}
 use Rattle.btr_volume.specs.declared.root.TreeRoot.{TreeRoot}
 use Rattle.btr_volume.specs.declared.stop.Stop.{Stop}

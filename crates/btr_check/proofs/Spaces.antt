@@ -4,12 +4,12 @@ use Rattle.btr_chunk.specs.declared.chunk.Chunk.{Chunk}
 use Rattle.btr_refs.proofs.Adding.{adds_as}
 use Rattle.btr_refs.specs.declared.extent.Extent.{Extent}
 use Rattle.btr_refs.specs.Findings.{Adds, FoundSet}
-use Rattle.btr_space.specs.Devices.{device_findings}
-use Rattle.btr_space.specs.Groups.{group_findings}
-use Rattle.btr_space.specs.Items.{with_mark, group_in, device_extent_in, device_in, groups_in, Collects}
-use Rattle.btr_space.specs.declared.device_extent.DeviceExtent.{DeviceExtent}
-use Rattle.btr_space.specs.declared.group.Group.{Group}
-use Rattle.btr_space.specs.declared.stated_device.StatedDevice.{StatedDevice}
+use Rattle.btr_check_space.specs.Devices.{device_findings}
+use Rattle.btr_check_space.specs.Groups.{group_findings}
+use Rattle.btr_check_space.specs.Items.{with_mark, group_in, device_extent_in, device_in, groups_in, Collects}
+use Rattle.btr_check_space.specs.declared.device_extent.DeviceExtent.{DeviceExtent}
+use Rattle.btr_check_space.specs.declared.group.Group.{Group}
+use Rattle.btr_check_space.specs.declared.stated_device.StatedDevice.{StatedDevice}
 use Rattle.btr_volume.specs.declared.root.TreeRoot.{TreeRoot}
 use Rattle.btr_check.proofs.Passes.{collected}
 use Rattle.btr_check.specs.Families.{group_tree, groups, device_extents, devices, found_on_groups, found_on_devices}

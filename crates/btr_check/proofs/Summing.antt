@@ -5,8 +5,8 @@ use Rattle.btr_items.specs.declared.sum_run.SumRun.{SumRun}
 use Rattle.btr_refs.proofs.Adding.{adds_as}
 use Rattle.btr_refs.specs.declared.extent.Extent.{Extent}
 use Rattle.btr_refs.specs.Findings.{Adds, FoundSet}
-use Rattle.btr_sums.specs.Items.{RunsMet, KeepsRuns, runs_step, runs_in}
-use Rattle.btr_sums.specs.Sums.{sum_findings}
+use Rattle.btr_check_sums.specs.Items.{RunsMet, KeepsRuns, runs_step, runs_in}
+use Rattle.btr_check_sums.specs.Sums.{sum_findings}
 use Rattle.btr_volume.specs.declared.root.TreeRoot.{TreeRoot}
 use Rattle.btr_check.proofs.Passes.{marks_items}
 use Rattle.btr_check.specs.Data.{sum_runs}

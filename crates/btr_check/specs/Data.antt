@@ -16,8 +16,8 @@ use Rattle.btr_files.specs.Aheads.{IsSummed}
 use Rattle.btr_files.specs.Content.{want_by}
 use Rattle.btr_files.specs.Sums.{sum_at}
 use Rattle.btr_files.specs.declared.sums_ahead.SumsAhead.{SumsAhead}
-use Rattle.btr_sums.specs.Items.{runs_in}
-use Rattle.btr_sums.specs.Sums.{summed}
+use Rattle.btr_check_sums.specs.Items.{runs_in}
+use Rattle.btr_check_sums.specs.Sums.{summed}
 use Rattle.btr_check.specs.Filesystem.{Filesystem, kind_of_sums, tree_items}
 use Rattle.btr_check.specs.Trees.{tree_of}
 

@@ -1,17 +1,17 @@
 -- What is wrong with what the trees say, pass by pass.
 use Rattle.std.specs.Prelude.{◌≡◌, List, ◌++◌, map, flat_map, Option}
-use Rattle.btr_names.specs.Subvolumes.{Subvolumes, subvolumes_in, subvolume_findings}
+use Rattle.btr_check_names.specs.Subvolumes.{Subvolumes, subvolumes_in, subvolume_findings}
 use Rattle.btr_refs.specs.declared.finding.Finding.{Finding}
-use Rattle.btr_space.specs.Cover.{HoldSame}
-use Rattle.btr_space.specs.Devices.{device_findings}
-use Rattle.btr_space.specs.Groups.{group_findings}
-use Rattle.btr_space.specs.Items.{groups_in, device_extents_in, devices_in}
-use Rattle.btr_space.specs.declared.cover.Stretch.{Stretch}
-use Rattle.btr_space.specs.declared.device_extent.DeviceExtent.{DeviceExtent}
-use Rattle.btr_space.specs.declared.group.Group.{Group}
-use Rattle.btr_space.specs.declared.stated_device.StatedDevice.{StatedDevice}
-use Rattle.btr_sums.specs.Items.{RunsMet}
-use Rattle.btr_sums.specs.Sums.{run_stretch, sum_findings}
+use Rattle.btr_check_space.specs.Cover.{HoldSame}
+use Rattle.btr_check_space.specs.Devices.{device_findings}
+use Rattle.btr_check_space.specs.Groups.{group_findings}
+use Rattle.btr_check_space.specs.Items.{groups_in, device_extents_in, devices_in}
+use Rattle.btr_check_space.specs.declared.cover.Stretch.{Stretch}
+use Rattle.btr_check_space.specs.declared.device_extent.DeviceExtent.{DeviceExtent}
+use Rattle.btr_check_space.specs.declared.group.Group.{Group}
+use Rattle.btr_check_space.specs.declared.stated_device.StatedDevice.{StatedDevice}
+use Rattle.btr_check_sums.specs.Items.{RunsMet}
+use Rattle.btr_check_sums.specs.Sums.{run_stretch, sum_findings}
 use Rattle.btr_volume.specs.declared.root.TreeRoot.{TreeRoot}
 use Rattle.btr_check.specs.Data.{sum_runs}
 use Rattle.btr_check.specs.FileTrees.{file_tree_findings, root_entries}

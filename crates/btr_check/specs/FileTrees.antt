@@ -3,17 +3,17 @@ use Rattle.std.specs.Prelude.{◌≡◌, ℕ, Bool, true, false, List, [], ◌++
 use Rattle.btr_base.specs.declared.memory.Memory.{Memory}
 use Rattle.btr_chunk.specs.declared.chunk.Chunk.{Chunk}
 use Rattle.btr_items.specs.declared.sum_run.SumRun.{SumRun}
-use Rattle.btr_names.specs.Entry.{Entry}
-use Rattle.btr_names.specs.Names.{Names, names_in, names_findings}
-use Rattle.btr_names.specs.Subvolume.{NamedSubvolume}
-use Rattle.btr_names.specs.Subvolumes.{Subvolumes, names_at, subvolumes_at}
-use Rattle.btr_names.specs.Unpaired.{nothing_unpaired, unpaired_step}
+use Rattle.btr_check_names.specs.Entry.{Entry}
+use Rattle.btr_check_names.specs.Names.{Names, names_in, names_findings}
+use Rattle.btr_check_names.specs.Subvolume.{NamedSubvolume}
+use Rattle.btr_check_names.specs.Subvolumes.{Subvolumes, names_at, subvolumes_at}
+use Rattle.btr_check_names.specs.Unpaired.{nothing_unpaired, unpaired_step}
 use Rattle.btr_refs.specs.declared.finding.Finding.{Finding}
 use Rattle.btr_refs.specs.Findings.{Adds, FoundSet}
-use Rattle.btr_space.specs.Cover.{HoldSame}
-use Rattle.btr_space.specs.declared.cover.Stretch.{Stretch}
-use Rattle.btr_sums.specs.Items.{uses_step, loose_in, used_in}
-use Rattle.btr_sums.specs.Sums.{run_stretch, tree_missing}
+use Rattle.btr_check_space.specs.Cover.{HoldSame}
+use Rattle.btr_check_space.specs.declared.cover.Stretch.{Stretch}
+use Rattle.btr_check_sums.specs.Items.{uses_step, loose_in, used_in}
+use Rattle.btr_check_sums.specs.Sums.{run_stretch, tree_missing}
 use Rattle.btr_tour.specs.Tour.{Mark}
 use Rattle.btr_volume.specs.declared.root.TreeRoot.{TreeRoot}
 use Rattle.btr_walk.specs.Reading.{Map}

@@ -17,9 +17,9 @@ use crate::sums::{SUM_TREE, put_sums};
 use crate::walk::Walk;
 use crate::{all_trees, put_walk_findings, read_trees, walk_trees};
 use btr_base::Memory;
+use btr_check_sums::{Runs, sum_cover};
 use btr_rack::Rack;
 use btr_refs::{Findings, Found};
-use btr_sums::{Runs, sum_cover};
 use btr_volume::{Stop, TreeRoot, Volume};
 use std::alloc::Global;
 

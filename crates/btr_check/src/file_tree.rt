@@ -1,6 +1,6 @@
 use btr_base::Memory;
-use btr_names::Unpaired;
-use btr_sums::Uses;
+use btr_check_names::Unpaired;
+use btr_check_sums::Uses;
 use btr_tour::{Met, Visitor};
 use btr_volume::TreeRoot;
 use std::alloc::Global;

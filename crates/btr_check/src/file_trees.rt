@@ -1,9 +1,9 @@
 // What is wrong with trees of files.
 ghost use Rattle.std.specs.Prelude.{◌≡◌, ◌∷◌, [], OnOk, IfOk, filter};
-ghost use Rattle.btr_names.specs.Names.{names_findings};
-ghost use Rattle.btr_names.specs.Subvolumes.{subvolumes_in};
-ghost use Rattle.btr_names.specs.Subvolumes as names;
-ghost use Rattle.btr_names.specs.Unpaired.{are_paired};
+ghost use Rattle.btr_check_names.specs.Names.{names_findings};
+ghost use Rattle.btr_check_names.specs.Subvolumes.{subvolumes_in};
+ghost use Rattle.btr_check_names.specs.Subvolumes as names;
+ghost use Rattle.btr_check_names.specs.Unpaired.{are_paired};
 ghost use Rattle.btr_refs.specs.Findings.{Adds};
 ghost use Rattle.btr_check.specs.Counting.{Unless};
 ghost use Rattle.btr_check.specs.Filesystem.{is_file_tree, root_items};
@@ -18,14 +18,14 @@ use crate::file_tree::FileTree;
 use crate::refusing::is_file_tree;
 use crate::trees::{ROOT_TREE, push_tree};
 use btr_base::Memory;
-use btr_names::{
+use btr_check_names::{
     SubvolumeNames, TreeNames, names_law, put_name_findings, put_subvolume_findings,
     subvolumes_law, unpaired_law,
 };
+use btr_check_space::Cover;
+use btr_check_sums::{SumPlaces, keeps_law, put_missing_sums};
 use btr_rack::Rack;
 use btr_refs::{Finding, Found};
-use btr_space::Cover;
-use btr_sums::{SumPlaces, keeps_law, put_missing_sums};
 use btr_volume::{Stop, TreeRoot, Volume, named_root, root_root};
 use std::alloc::Global;
 

@@ -11,8 +11,8 @@
 //!
 //! The definitions are in `specs/`: `Findings` is the list of all findings, and `Families` has what each pass finds. `Trees` and `Filesystem`
 //! say what is checked, `Before` why it isn't, `Walks` has kinds 1 to 4, `Passing` what is kept of a subtree, `Uses` kinds 7 to 11, `Data`
-//! kind 31, `FileTrees` what is met of a tree of files, and `Text` the lines; the other kinds are those of `btr_names`, `btr_space` and
-//! `btr_sums`. `Running` is what each call that reads promises, and `Passes` what a pass puts.
+//! kind 31, `FileTrees` what is met of a tree of files, and `Text` the lines; the other kinds are those of `btr_check_names`, `btr_check_space` and
+//! `btr_check_sums`. `Running` is what each call that reads promises, and `Passes` what a pass puts.
 #![tactic(auto)]
 
 mod adding;

@@ -7,11 +7,11 @@ ghost use Rattle.btr_check.specs.Running.{world, IsReady, Ran};
 use crate::collecting::{collect, or_memory};
 use crate::refusing::{DEVICE_TREE, EXTENT_TREE, last_of};
 use crate::trees::CHUNK_TREE;
-use btr_rack::Rack;
-use btr_refs::{Extent, Finding, Found};
-use btr_space::{
+use btr_check_space::{
     DeviceExtents, Devices, Groups, collects_law, put_device_findings, put_group_findings,
 };
+use btr_rack::Rack;
+use btr_refs::{Extent, Finding, Found};
 use btr_volume::{Stop, TreeRoot, Volume, chunk_root, named_root};
 use std::alloc::Global;
 

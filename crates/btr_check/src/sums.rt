@@ -7,9 +7,9 @@ use crate::collecting::collect;
 use crate::form::kind_of;
 use crate::refusing::last_of;
 use btr_base::Memory;
+use btr_check_sums::{Runs, keeps_law, put_sum_findings};
 use btr_rack::Rack;
 use btr_refs::{Extent, Finding, Found};
-use btr_sums::{Runs, keeps_law, put_sum_findings};
 use btr_volume::{Stop, TreeRoot, Volume};
 use std::alloc::Global;
 

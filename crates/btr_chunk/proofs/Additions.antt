@@ -1,6 +1,8 @@
 -- What one more chunk does to the two maps of a table.
-use Rattle.std.proofs.Common.{◌≡◌, ◌≢◌, ℕ, ◌≤◌, Bool, true, false, eqb, cond, List, [], ◌∷◌, length, Option, Some, None, IsSome, Result, Ok, Err, OnOk, OnErr, is_err, slice_get, suc, ◌⊎◌, sym, ap, ◌∙◌, subst, refl, inl, inr, arith}
-use Rattle.std.proofs.lemmas.Bool.{and_parts, and_from, or_parts, lt-ltb, le-ltb, eq-eqb, eqb-true, cases_eq, cases_order, cond-true, cond-false, false≢true, true≢false, false_from_ne_true}
+use Rattle.std.proofs.Common.{◌≡◌, ◌≢◌, ℕ, ◌≤◌, Bool, true, false, eqb, cond, List, [], ◌∷◌, length, Option, Some, None, IsSome, Result, Ok, Err, OnOk, OnErr}
+use Rattle.std.proofs.Common.{is_err, slice_get, suc, ◌⊎◌, sym, ap, ◌∙◌, subst, refl, inl, inr, arith}
+use Rattle.std.proofs.lemmas.Bool.{and_parts, and_from, or_parts, lt-ltb, le-ltb, eq-eqb, eqb-true, cases_eq, cases_order, cond-true, cond-false, false≢true}
+use Rattle.std.proofs.lemmas.Bool.{true≢false, false_from_ne_true}
 use Rattle.std.proofs.lemmas.Map.Entries.{btree_map_get_place}
 use Rattle.std.specs.Cmp.{nat_cmp_total}
 use Rattle.std.specs.List.{list_any}
@@ -47,13 +49,16 @@ pub spread-overlaps : (m : BTreeMap ℕ Chunk) (chunk : Chunk) → overlaps (val
 spread-overlaps m chunk apart = (or_parts (some_meet (stripe_length chunk) chunk.stripes) (list_any (chunks_meet chunk) (values m)) apart).0
 
 -- a chunk that overlaps none of the chunks is apart from each
-pub apart-overlaps : (m : BTreeMap ℕ Chunk) (chunk : Chunk) → overlaps (values m) chunk ≡ false → (k : ℕ) (c : Chunk) → start_of m k ≡ Some c → chunks_meet chunk c ≡ false
+pub apart-overlaps : (m : BTreeMap ℕ Chunk) (chunk : Chunk) → overlaps (values m) chunk ≡ false → (k : ℕ) (c : Chunk) → start_of m k ≡ Some c
+    → chunks_meet chunk c ≡ false
 apart-overlaps m chunk apart k c there =
     let at = values-start_of m k c there in
-    fails-list_any (chunks_meet chunk) (values m) (or_parts (some_meet (stripe_length chunk) chunk.stripes) (list_any (chunks_meet chunk) (values m)) apart).1 at.0 c at.1
+    fails-list_any (chunks_meet chunk) (values m) (or_parts (some_meet (stripe_length chunk) chunk.stripes) (list_any (chunks_meet chunk) (values m))
+    apart).1 at.0 c at.1
 
 -- and none of the chunks starts where it does
-pub absent-overlaps : (m : BTreeMap ℕ Chunk) (chunk : Chunk) → AreChunks (start_of m) → IsChunk chunk → overlaps (values m) chunk ≡ false → start_of m chunk.start ≡ None
+pub absent-overlaps : (m : BTreeMap ℕ Chunk) (chunk : Chunk) → AreChunks (start_of m) → IsChunk chunk → overlaps (values m) chunk ≡ false
+    → start_of m chunk.start ≡ None
 absent-overlaps m chunk index is apart =
     none_from (start_of m chunk.start) (λ there.
     let found = some_from (start_of m chunk.start) there in
@@ -92,7 +97,8 @@ pub Gains-insert : (f f' : ℕ → Option Chunk) (chunk : Chunk) → f chunk.sta
     → ((k : ℕ) → f' k ≡ cond (is_eq (nat_cmp chunk.start k)) (Some chunk) (f k)) → Gains f f' chunk
 Gains-insert f f' chunk absent inserted = record {
   absent = absent;
-  here = inserted chunk.start ∙ cond-true (is_eq (nat_cmp chunk.start chunk.start)) (Some chunk) (f chunk.start) (ap is_eq (nat_cmp-equal chunk.start chunk.start refl));
+  here = inserted chunk.start ∙ cond-true (is_eq (nat_cmp chunk.start chunk.start)) (Some chunk) (f chunk.start)
+      (ap is_eq (nat_cmp-equal chunk.start chunk.start refl));
   others = λ k differ. inserted k ∙ cond-false (is_eq (nat_cmp chunk.start k)) (Some chunk) (f k) (apart k differ);
 }
   where
@@ -113,7 +119,8 @@ gained f f' chunk gains k c there =
       | inr differ ↦ inr (differ, sym (gains.others k differ) ∙ there)
     ]
 
-pub AreChunks-gains : (f f' : ℕ → Option Chunk) (chunk : Chunk) → Gains f f' chunk → AreChunks f → IsChunk chunk → some_meet (stripe_length chunk) chunk.stripes ≡ false
+pub AreChunks-gains : (f f' : ℕ → Option Chunk) (chunk : Chunk) → Gains f f' chunk → AreChunks f → IsChunk chunk
+    → some_meet (stripe_length chunk) chunk.stripes ≡ false
     → ((k : ℕ) (c : Chunk) → f k ≡ Some c → chunks_meet chunk c ≡ false) → AreChunks f'
 AreChunks-gains f f' chunk gains index is spread apart = record {
   keyed = λ k c there. elim (gained f f' chunk gains k c there) [ inl new ↦ ap (λ x. x.start) new.1 ∙ sym new.0 | inr old ↦ index.keyed k c old.1 ];
@@ -134,7 +141,8 @@ AreChunks-gains f f' chunk gains index is spread apart = record {
   ];
 }
 
-pub AreStripes-gains : (f f' : ℕ → Option Chunk) (g g' : StripePlace → Option ℕ) (chunk : Chunk) → Gains f f' chunk → AreChunks f → AreStripes f g → IsChunk chunk
+pub AreStripes-gains : (f f' : ℕ → Option Chunk) (g g' : StripePlace → Option ℕ) (chunk : Chunk) → Gains f f' chunk → AreChunks f → AreStripes f g
+    → IsChunk chunk
     → ((k : ℕ) (c : Chunk) → f k ≡ Some c → chunks_meet chunk c ≡ false)
     → ((q : StripePlace) → g' q ≡ cond (has_stripe_at q chunk.stripes) (Some (stripe_length chunk)) (g q)) → AreStripes f' g'
 AreStripes-gains f f' g g' chunk gains index stripes is apart entered = record {
@@ -228,13 +236,15 @@ AreStripes-same f g g' same stripes = record {
 }
 
 -- maps with equal entries keep the same
-pub IsIndexed-same : (m n : BTreeMap ℕ Chunk) (p q : BTreeMap StripePlace ℕ) → n.entries ≡ m.entries → ((place : StripePlace) → extent_of q place ≡ extent_of p place)
+pub IsIndexed-same : (m n : BTreeMap ℕ Chunk) (p q : BTreeMap StripePlace ℕ) → n.entries ≡ m.entries
+    → ((place : StripePlace) → extent_of q place ≡ extent_of p place)
     → IsIndexed m p → IsIndexed n q
 IsIndexed-same m n p q entries same is =
     let look : start_of n ≡ start_of m = ap (λ es. λ k. lookup (is_at (nat_cmp k)) es) entries in
     record {
       chunks = subst AreChunks (sym look) is.chunks;
-      stripes = subst (λ (f : ℕ → Option Chunk). AreStripes f (extent_of q)) (sym look) (AreStripes-same (start_of m) (extent_of p) (extent_of q) same is.stripes);
+      stripes = subst (λ (f : ℕ → Option Chunk). AreStripes f (extent_of q)) (sym look)
+          (AreStripes-same (start_of m) (extent_of p) (extent_of q) same is.stripes);
       ordered = subst (λ (es : List (ℕ × Chunk)). IsStrictlySortedBy nat_cmp (keys_of es)) (sym entries) is.ordered;
       few = subst (λ (es : List (ℕ × Chunk)). length es ≤ 65536) (sym entries) is.few;
     }

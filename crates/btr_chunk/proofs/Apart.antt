@@ -1,5 +1,6 @@
 -- Each byte of a device is of one stripe, of one part of a row, and of one copy at most.
-use Rattle.std.proofs.Common.{◌≡◌, ℕ, ◌+◌, ◌-◌, ◌*◌, ◌%◌, ◌<◌, true, eqb, ltb, List, length, Option, Some, None, IfSome, IsSomeAnd, slice_get, refl, sym, ap, ◌∙◌, subst, inl, inr, arith}
+use Rattle.std.proofs.Common.{◌≡◌, ℕ, ◌+◌, ◌-◌, ◌*◌, ◌%◌, ◌<◌, true, eqb, ltb, List, length, Option, Some, None, IfSome, IsSomeAnd, slice_get, refl, sym, ap}
+use Rattle.std.proofs.Common.{◌∙◌, subst, inl, inr, arith}
 use Rattle.std.proofs.lemmas.Bool.{false≢true, and_from, cases_order, eq-eqb, lt-ltb}
 use Rattle.std.proofs.lemmas.Option.{same_Some}
 use Rattle.btr_chunk.specs.Chunk.{mirror_count, mirrors, stripe_length}
@@ -21,10 +22,12 @@ use Rattle.btr_chunk.proofs.Rows.{without_copies, stripe_of-same}
 use Rattle.btr_chunk.proofs.Rule.{facts}
 
 -- stripes that share a byte meet
-sharing : (place : StripePlace) (len : ℕ) (s : Stripe) (other : ℕ) (u : Stripe) → IsInStripe len s place 1 → IsInStripe other u place 1 → stripes_meet len s other u ≡ true
+sharing : (place : StripePlace) (len : ℕ) (s : Stripe) (other : ℕ) (u : Stripe) → IsInStripe len s place 1 → IsInStripe other u place 1
+    → stripes_meet len s other u ≡ true
 sharing place len s other u one two =
     and_from (eqb s.devid u.devid) (ranges_meet s.offset len u.offset other) (eq-eqb s.devid u.devid (sym one.device ∙ two.device))
-    (and_from (ltb s.offset (u.offset + other)) (ltb u.offset (s.offset + len)) (lt-ltb s.offset (u.offset + other) (omega (arith, one.begin, two.end))) (lt-ltb u.offset (s.offset + len) (omega (arith, two.begin, one.end))))
+    (and_from (ltb s.offset (u.offset + other)) (ltb u.offset (s.offset + len))
+    (lt-ltb s.offset (u.offset + other) (omega (arith, one.begin, two.end))) (lt-ltb u.offset (s.offset + len) (omega (arith, two.begin, one.end))))
 
 module _ (chunks : List Chunk) (place : StripePlace) (table : IsTable chunks) where
   -- not in two chunks
@@ -94,7 +97,8 @@ record IsAt (chunks : List Chunk) (place : StripePlace) (i row rest : ℕ) (part
   offset : place.offset ≡ stripe.offset + row * 65536 + rest
   lies : LiesIn chunks place i (stripe_of c.chunk.profile (length c.chunk.stripes) part (in_row row rest))
 
-is_at : (chunks : List Chunk) (place : StripePlace) (i row rest : ℕ) (part : Part) → IsTable chunks → (c : IsOfPart chunks place i row rest part) → IsAt chunks place i row rest part c
+is_at : (chunks : List Chunk) (place : StripePlace) (i row rest : ℕ) (part : Part) → IsTable chunks → (c : IsOfPart chunks place i row rest part)
+    → IsAt chunks place i row rest part c
 is_at chunks place i row rest part table c =
     let p = placed_part c.chunk part (in_row row rest) (table.sound i c.chunk c.there).0 c.has c.position in
     let at : place ≡ place_on p.stripe (in_row row rest) = sym c.at ∙ p.place in
@@ -151,7 +155,8 @@ own Raid5 n copy at h = absurd h
 own Raid6 n copy at h = absurd h
 
 -- copies on one stripe are the same one
-copy_of : (p : Profile) (n c d : ℕ) (at bt : Elements) → IsSomeAnd (mirror_count p n) (λ m. c < m) → IsSomeAnd (mirror_count p n) (λ m. d < m) → stripe_of p n (Mirror c) at ≡ stripe_of p n (Mirror d) bt → c ≡ d
+copy_of : (p : Profile) (n c d : ℕ) (at bt : Elements) → IsSomeAnd (mirror_count p n) (λ m. c < m) → IsSomeAnd (mirror_count p n) (λ m. d < m)
+    → stripe_of p n (Mirror c) at ≡ stripe_of p n (Mirror d) bt → c ≡ d
 copy_of Single n c d at bt h g e = e
 copy_of Dup n c d at bt h g e = e
 copy_of Raid0 n c d at bt h g e = omega (arith, h, g)
@@ -170,7 +175,8 @@ some_less : (o : Option ℕ) (c : ℕ) → IsSomeAnd o (λ m. c < m) → IfSome 
 some_less None c h = tt
 some_less (Some m) c h = h
 
-lies : (chunks : List Chunk) (place : StripePlace) (i copy addr : ℕ) → IsTable chunks → (c : IsOfCopy chunks place i copy addr) → LiesIn chunks place i (stripe_of c.chunk.profile (length c.chunk.stripes) (Mirror copy) (position_of c.chunk addr))
+lies : (chunks : List Chunk) (place : StripePlace) (i copy addr : ℕ) → IsTable chunks → (c : IsOfCopy chunks place i copy addr)
+    → LiesIn chunks place i (stripe_of c.chunk.profile (length c.chunk.stripes) (Mirror copy) (position_of c.chunk addr))
 lies chunks place i copy addr table c =
     let is = (table.sound i c.chunk c.there).0 in
     let at = position_of c.chunk addr in

@@ -1,5 +1,6 @@
 -- What a system array comes to, pair by pair.
-use Rattle.std.proofs.Common.{◌≡◌, ℕ, zero, suc, ◌<◌, ◌≤◌, true, inl, inr, List, length, drop, slice_range, Result, Ok, Err, sym, ◌∙◌, subst, refl, arith, length-drop}
+use Rattle.std.proofs.Common.{◌≡◌, ℕ, zero, suc, ◌<◌, ◌≤◌, true, inl, inr, List, length, drop, slice_range, Result, Ok, Err, sym, ◌∙◌, subst, refl, arith}
+use Rattle.std.proofs.Common.{length-drop}
 use Rattle.std.proofs.lemmas.Bool.{eq-eqb, ne_eqb, cases_eq}
 use Rattle.btr_base.specs.Field.{number_at}
 use Rattle.btr_chunk.specs.declared.chunk.Chunk.{Chunk}
@@ -19,12 +20,14 @@ pub array_after-empty : (n : ℕ) (chunks : List Chunk) (bytes : List ℕ) → l
 array_after-empty zero chunks bytes none = refl
 array_after-empty (suc n) chunks bytes none = rw (eq-eqb (length bytes) 0 none) refl
 
-and_then-same : (r : Result (List Chunk) ArrayFault) (f g : List Chunk → Result (List Chunk) ArrayFault) → ((more : List Chunk) → f more ≡ g more) → and_then r f ≡ and_then r g
+and_then-same : (r : Result (List Chunk) ArrayFault) (f g : List Chunk → Result (List Chunk) ArrayFault) → ((more : List Chunk) → f more ≡ g more)
+    → and_then r f ≡ and_then r g
 and_then-same (Ok more) f g same = same more
 and_then-same (Err fault) f g same = refl
 
 -- any bound on the number of pairs will do
-pub array_after-enough : (n m : ℕ) (chunks : List Chunk) (bytes : List ℕ) → length bytes ≤ n → length bytes ≤ m → array_after n chunks bytes ≡ array_after m chunks bytes
+pub array_after-enough : (n m : ℕ) (chunks : List Chunk) (bytes : List ℕ) → length bytes ≤ n → length bytes ≤ m → array_after n chunks bytes
+    ≡ array_after m chunks bytes
 array_after-enough zero m chunks bytes few enough = sym (array_after-empty m chunks bytes (omega arith))
 array_after-enough (suc n) zero chunks bytes few enough = array_after-empty (suc n) chunks bytes (omega arith)
 array_after-enough (suc n) (suc m) chunks bytes few enough =
@@ -41,11 +44,13 @@ pub array_after-more : (chunks : List Chunk) (bytes : List ℕ) (more : List Chu
     → array_after (length bytes) chunks bytes ≡ array_after (length (drop (pair_size bytes) bytes)) more (drop (pair_size bytes) bytes)
 array_after-more chunks bytes more some first = by_length (length bytes) refl
   where
-    by_length : (n : ℕ) → length bytes ≡ n → array_after n chunks bytes ≡ array_after (length (drop (pair_size bytes) bytes)) more (drop (pair_size bytes) bytes)
+    by_length : (n : ℕ) → length bytes ≡ n → array_after n chunks bytes
+        ≡ array_after (length (drop (pair_size bytes) bytes)) more (drop (pair_size bytes) bytes)
     by_length zero none = absurd (omega arith)
     by_length (suc n) long =
         rw (ne_eqb (length bytes) 0 (λ none. omega arith), first)
-        (array_after-enough n (length (drop (pair_size bytes) bytes)) more (drop (pair_size bytes) bytes) (omega (arith, length-drop (pair_size bytes) bytes)) (omega arith))
+        (array_after-enough n (length (drop (pair_size bytes) bytes)) more (drop (pair_size bytes) bytes)
+        (omega (arith, length-drop (pair_size bytes) bytes)) (omega arith))
 
 -- and one whose first pair is refused ends there
 pub array_after-refused : (chunks : List Chunk) (bytes : List ℕ) (fault : ArrayFault) → 0 < length bytes → first_pair chunks bytes ≡ Err fault
@@ -57,7 +62,8 @@ array_after-refused chunks bytes fault some first = by_length (length bytes) ref
     by_length (suc n) long = rw (ne_eqb (length bytes) 0 (λ none. omega arith), first) refl
 
 -- the refusal of a pair is that of the array
-pub IsArrayReading-refused : (T : Type 0) (array pair : Result (List Chunk) ArrayFault) (fault : ArrayFault) (new : List Chunk) → IsItemReading {T = T} pair (Err fault) new
+pub IsArrayReading-refused : (T : Type 0) (array pair : Result (List Chunk) ArrayFault) (fault : ArrayFault) (new : List Chunk)
+    → IsItemReading {T = T} pair (Err fault) new
     → ((pair ≡ Err fault) → array ≡ Err fault) → IsArrayReading array (Err fault)
 IsArrayReading-refused T array pair BadArray new reading ends = ends reading
 IsArrayReading-refused T array pair (Stripes n) new reading ends = ends reading

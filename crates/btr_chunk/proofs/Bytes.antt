@@ -1,5 +1,6 @@
 -- Each byte of a chunk has places of its own.
-use Rattle.std.proofs.Common.{◌≡◌, ℕ, zero, suc, ◌+◌, ◌-◌, ◌*◌, ◌/◌, ◌%◌, ◌<◌, ◌≤◌, Bool, true, false, eqb, nat_lt, nat_le, List, [], ◌∷◌, length, Option, Some, None, IsNone, IfSome, IsSomeAnd, slice_get, inl, inr, sym, ap, ◌∙◌, refl, arith}
+use Rattle.std.proofs.Common.{◌≡◌, ℕ, zero, suc, ◌+◌, ◌-◌, ◌*◌, ◌/◌, ◌%◌, ◌<◌, ◌≤◌, Bool, true, false, eqb, nat_lt, nat_le, List, [], ◌∷◌, length, Option, Some}
+use Rattle.std.proofs.Common.{None, IsNone, IfSome, IsSomeAnd, slice_get, inl, inr, sym, ap, ◌∙◌, refl, arith}
 use Rattle.std.proofs.lemmas.Bool.{and_parts, and_from, leb-true, ltb-true, lt-ltb, eq-eqb, cases_order, true≢false, false≢true}
 use Rattle.std.proofs.lemmas.Nat.{div-add-mod', mod_below, same_from_place}
 use Rattle.btr_chunk.specs.declared.stripe.Stripe.{Stripe}
@@ -36,7 +37,8 @@ mirror-below Raid5 n i at count has index = absurd has
 mirror-below Raid6 n i at count has index = absurd has
 
 -- and so does each part
-pub stripe_of-below : (profile : Profile) (n : ℕ) (part : Part) (at : Elements) → has_count profile n ≡ true → HasPart profile n part → at.index < data_count profile n
+pub stripe_of-below : (profile : Profile) (n : ℕ) (part : Part) (at : Elements) → has_count profile n ≡ true → HasPart profile n part
+    → at.index < data_count profile n
     → stripe_of profile n part at < n
 stripe_of-below profile n (Mirror i) at count has index = mirror-below profile n i at count has index
 stripe_of-below profile n (Slice i) at count has index =
@@ -61,22 +63,26 @@ pub record Placed (chunk : Chunk) (part : Part) (at : Elements) : Type 0 where
   pub there : slice_get chunk.stripes (stripe_of chunk.profile (length chunk.stripes) part at) ≡ Some stripe
   pub place : place_at chunk part at ≡ place_on stripe at
 
-pub placed_part : (chunk : Chunk) (part : Part) (at : Elements) → IsChunk chunk → HasPart chunk.profile (length chunk.stripes) part → IsPosition chunk at → Placed chunk part at
+pub placed_part : (chunk : Chunk) (part : Part) (at : Elements) → IsChunk chunk → HasPart chunk.profile (length chunk.stripes) part
+    → IsPosition chunk at → Placed chunk part at
 placed_part chunk part at is has position =
     let n = length chunk.stripes in
     let found = at-below chunk.stripes (stripe_of chunk.profile n part at) (stripe_of-below chunk.profile n part at (facts chunk is).count has position.index) in
     record { stripe = found.0; there = found.1; place = rw found.1 refl }
 
 -- the bytes from a place on lie in its stripe
-pub place-inside : (chunk : Chunk) (part : Part) (at : Elements) (size : ℕ) → IsChunk chunk → HasPart chunk.profile (length chunk.stripes) part → IsPosition chunk at
+pub place-inside : (chunk : Chunk) (part : Part) (at : Elements) (size : ℕ) → IsChunk chunk → HasPart chunk.profile (length chunk.stripes) part
+    → IsPosition chunk at
     → at.row * 65536 + at.rest + size ≤ stripe_length chunk
-    → IsSomeAnd (slice_get chunk.stripes (stripe_of chunk.profile (length chunk.stripes) part at)) (λ stripe. IsInStripe (stripe_length chunk) stripe (place_at chunk part at) size)
+    → IsSomeAnd (slice_get chunk.stripes (stripe_of chunk.profile (length chunk.stripes) part at))
+    (λ stripe. IsInStripe (stripe_length chunk) stripe (place_at chunk part at) size)
 place-inside chunk part at size is has position inside =
     let found = placed_part chunk part at is has position in
     rw (found.place, found.there) (record { device = refl; begin = omega arith; end = omega arith })
 
 -- bytes of one row on one stripe are of one element
-index-same : (profile : Profile) (n copy : ℕ) (at bt : Elements) → is_striped profile ≡ true → has_count profile n ≡ true → at.index < data_count profile n → bt.index < data_count profile n
+index-same : (profile : Profile) (n copy : ℕ) (at bt : Elements) → is_striped profile ≡ true → has_count profile n ≡ true
+    → at.index < data_count profile n → bt.index < data_count profile n
     → at.row ≡ bt.row → stripe_of profile n (data_part profile copy at) at ≡ stripe_of profile n (data_part profile copy bt) bt → at.index ≡ bt.index
 index-same Raid0 n copy at bt striped count one two row same = same
 index-same Raid10 n copy at bt striped count one two row same = omega arith
@@ -112,13 +118,15 @@ data_part-has Raid5 n copy at some index = (refl, index)
 data_part-has Raid6 n copy at some index = (refl, index)
 
 -- bytes at one place of a device lie on one stripe, where the stripes are apart
-stripe-same : (len : ℕ) (stripes : List Stripe) (i j : ℕ) (s t : Stripe) (a b : ℕ) → some_meet len stripes ≡ false → slice_get stripes i ≡ Some s → slice_get stripes j ≡ Some t
+stripe-same : (len : ℕ) (stripes : List Stripe) (i j : ℕ) (s t : Stripe) (a b : ℕ) → some_meet len stripes ≡ false → slice_get stripes i ≡ Some s
+    → slice_get stripes j ≡ Some t
     → s.devid ≡ t.devid → a < len → b < len → s.offset + a ≡ t.offset + b → i ≡ j
 stripe-same len stripes i j s t a b spread here there device within too same =
     elim (cases_order i j) [
       | inl equal ↦ equal
       | inr (inl below) ↦ absurd (true≢false (sym (meets s t device (omega arith) (omega arith)) ∙ some_meet-apart len stripes spread i j s t below here there))
-      | inr (inr above) ↦ absurd (true≢false (sym (meets t s (sym device) (omega arith) (omega arith)) ∙ some_meet-apart len stripes spread j i t s above there here))
+      | inr (inr above) ↦ absurd (true≢false (sym (meets t s (sym device) (omega arith) (omega arith))
+          ∙ some_meet-apart len stripes spread j i t s above there here))
     ]
   where
     meets : (x y : Stripe) → x.devid ≡ y.devid → x.offset < y.offset + len → y.offset < x.offset + len → stripes_meet len x len y ≡ true
@@ -149,7 +157,8 @@ IsPosition-position chunk addr is held =
         rw (mirrored-position chunk addr mirrored) (record { index = omega (arith, one); inside = rw one (omega arith) })
 
 -- two bytes at one position of the stripes are one
-position-same : (chunk : Chunk) (copy a b : ℕ) → IsChunk chunk → chunk.start ≤ a → chunk.start ≤ b → IsPosition chunk (position chunk a) → IsPosition chunk (position chunk b)
+position-same : (chunk : Chunk) (copy a b : ℕ) → IsChunk chunk → chunk.start ≤ a → chunk.start ≤ b → IsPosition chunk (position chunk a)
+    → IsPosition chunk (position chunk b)
     → (position chunk a).row * 65536 + (position chunk a).rest ≡ (position chunk b).row * 65536 + (position chunk b).rest
     → stripe_of chunk.profile (length chunk.stripes) (data_part chunk.profile copy (position chunk a)) (position chunk a)
     ≡ stripe_of chunk.profile (length chunk.stripes) (data_part chunk.profile copy (position chunk b)) (position chunk b)

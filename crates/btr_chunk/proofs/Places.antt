@@ -1,6 +1,8 @@
 -- The order of places, and ranges of devices that meet.
-use Rattle.std.proofs.Common.{◌≡◌, ℕ, ◌+◌, ◌<◌, ◌≤◌, Bool, true, false, eqb, nat_lt, cond, Option, Some, None, List, ◌∷◌, Result, OnErr, sym, ap, ◌∙◌, refl, inl, inr, suc, arith}
-use Rattle.std.proofs.lemmas.Bool.{and_from, or_parts, lt-ltb, le-ltb, eq-eqb, ne_eqb, cases_order, false≢true, true≢false, false_from_ne_true, cond-true, cond-false}
+use Rattle.std.proofs.Common.{◌≡◌, ℕ, ◌+◌, ◌<◌, ◌≤◌, Bool, true, false, eqb, nat_lt, cond, Option, Some, None, List, ◌∷◌, Result, OnErr, sym, ap, ◌∙◌, refl}
+use Rattle.std.proofs.Common.{inl, inr, suc, arith}
+use Rattle.std.proofs.lemmas.Bool.{and_from, or_parts, lt-ltb, le-ltb, eq-eqb, ne_eqb, cases_order, false≢true, true≢false, false_from_ne_true, cond-true}
+use Rattle.std.proofs.lemmas.Bool.{cond-false}
 use Rattle.std.proofs.lemmas.Result.{on_err_weaker}
 use Rattle.std.specs.Ordering.{nat_cmp, is_eq, is_gt}
 use Rattle.std.specs.declared.cmp.Ordering.TheVariants.{Less, Equal, Greater}

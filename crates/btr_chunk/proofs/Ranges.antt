@@ -27,7 +27,8 @@ before-place_cmp a b less =
     ]
 
 -- what a stripe shares with a range that it meets
-pub meeting : (len : ℕ) (s : Stripe) (p : StripePlace) (n : ℕ) → meets_range len s p n ≡ true → (s.devid ≡ p.devid) × (s.offset < p.offset + n) × (p.offset < s.offset + len)
+pub meeting : (len : ℕ) (s : Stripe) (p : StripePlace) (n : ℕ) → meets_range len s p n ≡ true → (s.devid ≡ p.devid) × (s.offset < p.offset + n)
+    × (p.offset < s.offset + len)
 meeting len s p n meets =
     let parts = and_parts (eqb s.devid p.devid) (ranges_meet s.offset len p.offset n) meets in
     let both = and_parts (nat_lt s.offset (p.offset + n)) (nat_lt p.offset (s.offset + len)) parts.1 in

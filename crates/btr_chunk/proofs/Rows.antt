@@ -74,7 +74,8 @@ without_copies Raid5 n none = inl refl
 without_copies Raid6 n none = inr refl
 
 -- a part lies on the stripe that its place in the row turns to
-pub stripe_of-turned : (profile : Profile) (n : ℕ) (part : Part) (at : Elements) → mirror_count profile n ≡ None → has_count profile n ≡ true → HasPart profile n part
+pub stripe_of-turned : (profile : Profile) (n : ℕ) (part : Part) (at : Elements) → mirror_count profile n ≡ None → has_count profile n ≡ true
+    → HasPart profile n part
     → (stripe_of profile n part at ≡ (at.row + place_in_row profile n part) % n) × (place_in_row profile n part < n)
 stripe_of-turned Raid5 n (Slice i) at none count has = let two = leb-true 2 n count in (refl, omega (arith, has.1))
 stripe_of-turned Raid5 n P at none count has = let two = leb-true 2 n count in (refl, omega arith)
@@ -93,7 +94,8 @@ stripe_of-turned Raid0 n part at none count has = absurd (some_none 1 none)
 stripe_of-turned Raid10 n part at none count has = absurd (some_none 2 none)
 
 -- parts at one place of a row are one
-pub place_in_row-same : (profile : Profile) (n : ℕ) (one other : Part) → mirror_count profile n ≡ None → has_count profile n ≡ true → HasPart profile n one → HasPart profile n other
+pub place_in_row-same : (profile : Profile) (n : ℕ) (one other : Part) → mirror_count profile n ≡ None → has_count profile n ≡ true
+    → HasPart profile n one → HasPart profile n other
     → place_in_row profile n one ≡ place_in_row profile n other → one ≡ other
 place_in_row-same Raid5 n (Slice i) (Slice j) none count has too same = ap (λ k. Slice k) same
 place_in_row-same Raid5 n (Slice i) P none count has too same = absurd (omega (arith, has.1))
@@ -153,7 +155,8 @@ part_at Raid0 n j none count within = absurd (some_none 1 none)
 part_at Raid10 n j none count within = absurd (some_none 2 none)
 
 -- the parts of a row lie on stripes that differ
-pub stripe_of-same : (profile : Profile) (n : ℕ) (one other : Part) (at : Elements) → mirror_count profile n ≡ None → has_count profile n ≡ true → HasPart profile n one → HasPart profile n other
+pub stripe_of-same : (profile : Profile) (n : ℕ) (one other : Part) (at : Elements) → mirror_count profile n ≡ None → has_count profile n ≡ true
+    → HasPart profile n one → HasPart profile n other
     → stripe_of profile n one at ≡ stripe_of profile n other at → one ≡ other
 stripe_of-same profile n one other at none count has too same =
     let first = stripe_of-turned profile n one at none count has in
@@ -162,7 +165,8 @@ stripe_of-same profile n one other at none count has too same =
     (turn-same at.row (place_in_row profile n one) (place_in_row profile n other) n first.1 second.1 (sym first.0 ∙ same ∙ second.0))
 
 -- and cover them all
-pub stripe_of-cover : (profile : Profile) (n : ℕ) (at : Elements) (stripe : ℕ) → mirror_count profile n ≡ None → has_count profile n ≡ true → stripe < n → PartOn profile n at stripe
+pub stripe_of-cover : (profile : Profile) (n : ℕ) (at : Elements) (stripe : ℕ) → mirror_count profile n ≡ None → has_count profile n ≡ true
+    → stripe < n → PartOn profile n at stripe
 stripe_of-cover profile n at stripe none count within =
     let turn = turn-cover at.row stripe n within in
     let found = part_at profile n turn.0 none count turn.1 in

@@ -1,5 +1,6 @@
 -- What the rule of chunks says, fact by fact.
-use Rattle.std.proofs.Common.{List, [], ◌∷◌, zero, suc, ◌≡◌, ℕ, ◌+◌, ◌*◌, ◌/◌, ◌%◌, ◌^◌, ◌<◌, ◌≤◌, Bool, true, false, ◌&&◌, not, eqb, nat_lt, length, Some, slice_get, sym, ap, ◌∙◌, refl, arith}
+use Rattle.std.proofs.Common.{List, [], ◌∷◌, zero, suc, ◌≡◌, ℕ, ◌+◌, ◌*◌, ◌/◌, ◌%◌, ◌^◌, ◌<◌, ◌≤◌, Bool, true, false, ◌&&◌, not, eqb, nat_lt, length, Some}
+use Rattle.std.proofs.Common.{slice_get, sym, ap, ◌∙◌, refl, arith}
 use Rattle.std.proofs.lemmas.Bool.{and_parts, ltb-true, eqb-true, eqb-false, leb-true, not-true, true≢false}
 use Rattle.std.proofs.lemmas.Nat.{mod_below, div-add-mod', div-mul-add, div_below}
 use Rattle.std.specs.List.{list_all}
@@ -97,7 +98,8 @@ at-list_all p (y ∷ ys) zero x all found = let same : y ≡ x = cc in rw (← s
 at-list_all p (y ∷ ys) (suc i) x all found = at-list_all p ys i x (and_parts _ _ all).1 found
 
 -- each stripe of a chunk ends below 2^64
-pub stripe-fits : (chunk : Chunk) (i : ℕ) (stripe : Stripe) → IsChunk chunk → slice_get chunk.stripes i ≡ Some stripe → stripe.offset + stripe_length chunk < 2 ^ 64
+pub stripe-fits : (chunk : Chunk) (i : ℕ) (stripe : Stripe) → IsChunk chunk → slice_get chunk.stripes i ≡ Some stripe → stripe.offset
+    + stripe_length chunk < 2 ^ 64
 stripe-fits chunk i stripe is found =
     ltb-true _ _ (and_parts _ _ (at-list_all (is_stripe (stripe_length chunk)) chunk.stripes i stripe (facts chunk is).stripes found)).1
 

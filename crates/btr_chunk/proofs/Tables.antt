@@ -1,6 +1,8 @@
 -- What the two maps of a table say of its chunks.
-use Rattle.std.proofs.Common.{◌≡◌, ℕ, ◌+◌, ◌-◌, ◌<◌, ◌≤◌, Bool, true, false, ◌&&◌, eqb, ◌==◌, nat_lt, nat_le, length, Option, Some, None, MatchBool, slice_get, sym, ap, ◌∙◌, refl, inl, inr, arith}
-use Rattle.std.proofs.lemmas.Bool.{and_parts, and_from, or_from, or_left, or_right, lt-ltb, le-leb, leb-true, ltb-true, eq-eqb, eqb-true, cases_eq, cases_order, cases_lt, true≢false, false_from_ne_true}
+use Rattle.std.proofs.Common.{◌≡◌, ℕ, ◌+◌, ◌-◌, ◌<◌, ◌≤◌, Bool, true, false, ◌&&◌, eqb, ◌==◌, nat_lt, nat_le, length, Option, Some, None, MatchBool, slice_get}
+use Rattle.std.proofs.Common.{sym, ap, ◌∙◌, refl, inl, inr, arith}
+use Rattle.std.proofs.lemmas.Bool.{and_parts, and_from, or_from, or_left, or_right, lt-ltb, le-leb, leb-true, ltb-true, eq-eqb, eqb-true, cases_eq, cases_order}
+use Rattle.std.proofs.lemmas.Bool.{cases_lt, true≢false, false_from_ne_true}
 use Rattle.std.proofs.lemmas.Map.Entries.{btree_map_get_place, length-values_of}
 use Rattle.std.specs.Cmp.{nat_cmp_total}
 use Rattle.std.specs.List.{list_any}
@@ -27,7 +29,8 @@ ends-before a b apart first =
     elim (cases_lt b.start (a.start + a.length)) [
       | inr done ↦ done
       | inl more ↦
-          absurd (true≢false (sym (and_from (nat_lt a.start (b.start + b.length)) (nat_lt b.start (a.start + a.length)) (lt-ltb _ _ (omega arith)) (lt-ltb _ _ more)) ∙ meets))
+          absurd (true≢false (sym (and_from (nat_lt a.start (b.start + b.length)) (nat_lt b.start (a.start + a.length)) (lt-ltb _ _ (omega arith))
+          (lt-ltb _ _ more)) ∙ meets))
     ]
 
 -- what a chunk that holds an address says of its start
@@ -135,7 +138,8 @@ SharesNone-empty f chunk index some none = λ k d there.
     cc)
 
 -- a stripe that begins first and doesn't meet another one ends before it
-stripe-before : (len : ℕ) (s : Stripe) (other : ℕ) (t : Stripe) → stripes_meet len s other t ≡ false → s.devid ≡ t.devid → s.offset < t.offset → s.offset + len ≤ t.offset
+stripe-before : (len : ℕ) (s : Stripe) (other : ℕ) (t : Stripe) → stripes_meet len s other t ≡ false → s.devid ≡ t.devid → s.offset < t.offset
+    → s.offset + len ≤ t.offset
 stripe-before len s other t apart device first =
     elim (cases_lt t.offset (s.offset + len)) [
       | inr done ↦ done
@@ -168,7 +172,8 @@ IsSpaced-stripes f g index stripes = λ a b m n at bt device first.
                 let stripe : one.stripe ≡ two.stripe = cc in
                 let offset = ap (λ s. s.offset) stripe in
                 absurd (omega arith)
-            | inr (inl below) ↦ rw (← equal) (some_meet-apart len one.chunk.stripes spread one.number two.number one.stripe two.stripe below one.stripe_there there)
+            | inr (inl below) ↦ rw (← equal) (some_meet-apart len one.chunk.stripes spread one.number two.number one.stripe two.stripe below
+                one.stripe_there there)
             | inr (inr above) ↦
                 rw (← equal) (stripes_meet-turned len two.stripe len one.stripe
                 (some_meet-apart len one.chunk.stripes spread two.number one.number two.stripe one.stripe above there one.stripe_there))
@@ -286,7 +291,8 @@ next_at-first m addr c index ordered few first =
     let start = index.keyed first.start c first.there in
     let at = values-start_of m first.start c first.there in
     let behind = first.behind in
-    find-first (λ chunk. nat_le addr chunk.start) (values m) at.0 c at.1 (le-leb _ _ (omega (arith, start, behind))) (λ j y lt there. false_from_ne_true (nat_le addr y.start) (λ passes.
+    find-first (λ chunk. nat_le addr chunk.start) (values m) at.0 c at.1 (le-leb _ _ (omega (arith, start, behind)))
+    (λ j y lt there. false_from_ne_true (nat_le addr y.start) (λ passes.
     let key = start_of-values m ordered j y there in
     let y_start = index.keyed key.0 y key.1 in
     let before = (table.apart j at.0 y c lt there at.1).0 in

@@ -29,27 +29,32 @@ module _ (Is : UnreadBlock → Want → Type 0) (B : Map) (kind : SumKind) (id :
   abbrev next : Option TreeRoot → TextRun (Option ℕ)
   next found = exec B (found_tree kind id found)
 
-  of_parts : (done : List Text) (ans : Result (Option ℕ) (Halt fate.Fault UnreadBlock)) → Follows Is part [] (and_then looked next) done ans → Follows Is part [] (exec B asked) done ans
+  of_parts : (done : List Text) (ans : Result (Option ℕ) (Halt fate.Fault UnreadBlock)) → Follows Is part [] (and_then looked next) done ans
+      → Follows Is part [] (exec B asked) done ans
   of_parts done ans f = subst (λ r. Follows Is part [] r done ans) (sym (exec-bind B (quiet lookup) (found_tree kind id))) f
 
   -- the root tree can't be read on
-  pub asked_fault : (text : Option Text) (f : TreeFault) → Follows {S = ⊥} Is no_part [] (exec B lookup) [] (Err (halt_of f)) → PutsAsked Is (exec B asked) text text (Err (Tree f))
+  pub asked_fault : (text : Option Text) (f : TreeFault) → Follows {S = ⊥} Is no_part [] (exec B lookup) [] (Err (halt_of f))
+      → PutsAsked Is (exec B asked) text text (Err (Tree f))
   asked_fault text f h = record {
     done = [];
     adds = adds_nothing text;
     follows = of_parts [] (Err (halt_of f)) (follows_halt Is part [] looked next [] (halt_of f) (follows_quiet Is part [] B lookup [] (Err (halt_of f)) h));
   }
 
-  found_then : (found : Option TreeRoot) (done : List Text) (ans : Result (Option ℕ) (Halt fate.Fault UnreadBlock)) → Follows {S = ⊥} Is no_part [] (exec B lookup) [] (Ok found) → Follows Is part [] (next found) done ans → Follows Is part [] (exec B asked) done ans
+  found_then : (found : Option TreeRoot) (done : List Text) (ans : Result (Option ℕ) (Halt fate.Fault UnreadBlock))
+      → Follows {S = ⊥} Is no_part [] (exec B lookup) [] (Ok found) → Follows Is part [] (next found) done ans → Follows Is part [] (exec B asked) done ans
   found_then found done ans h g =
-      of_parts done ans (follows_then Is part [] looked found next [] done ans (follows_quiet Is part [] B lookup [] (Ok found) h) (follows_alone Is part (wants_of looked.marks) (next found) done ans g))
+      of_parts done ans (follows_then Is part [] looked found next [] done ans (follows_quiet Is part [] B lookup [] (Ok found) h)
+      (follows_alone Is part (wants_of looked.marks) (next found) done ans g))
 
   -- there is no such tree
   pub asked_none : (text : Option Text) → Follows {S = ⊥} Is no_part [] (exec B lookup) [] (Ok None) → PutsAsked Is (exec B asked) text text (Err (NoTree id))
   asked_none text h = record { done = []; adds = adds_nothing text; follows = found_then None [] (Ok (Some id)) h (refl, refl) }
 
   -- the tree was put
-  pub asked_some : (root : TreeRoot) (Later : UnreadBlock → Want → Type 0) → ((u : UnreadBlock) (w : Want) → Later u w → Is u w) → (old new : Option Text) (result : Result (Unit {0}) Stop) → Follows {S = ⊥} Is no_part [] (exec B lookup) [] (Ok (Some root))
+  pub asked_some : (root : TreeRoot) (Later : UnreadBlock → Want → Type 0) → ((u : UnreadBlock) (w : Want) → Later u w → Is u w)
+      → (old new : Option Text) (result : Result (Unit {0}) Stop) → Follows {S = ⊥} Is no_part [] (exec B lookup) [] (Ok (Some root))
       → Puts Later (exec B (tree_shown kind root)) old new result → PutsAsked Is (exec B asked) old new result
   asked_some root Later weaker old new result h p = record { done = p.done; adds = p.adds; follows = by result p.follows }
     where
@@ -63,10 +68,12 @@ module _ (Is : UnreadBlock → Want → Type 0) (B : Map) (kind : SumKind) (id :
       weak ans f = follows_as Later Is weaker part [] shown p.done ans f
 
       all : Follows Later part [] shown p.done (Ok tt) → Follows Is part [] (exec B asked) p.done (Ok None)
-      all f = found_then (Some root) p.done (Ok None) h (subst (λ r. Follows Is part [] r p.done (Ok None)) (sym whole_is) (follows_value Is part [] (λ u. None) shown tt p.done (weak (Ok tt) f)))
+      all f = found_then (Some root) p.done (Ok None) h (subst (λ r. Follows Is part [] r p.done (Ok None)) (sym whole_is)
+          (follows_value Is part [] (λ u. None) shown tt p.done (weak (Ok tt) f)))
 
       halts : (x : Halt fate.Fault UnreadBlock) → Follows Later part [] shown p.done (Err x) → Follows Is part [] (exec B asked) p.done (Err x)
-      halts x f = found_then (Some root) p.done (Err x) h (subst (λ r. Follows Is part [] r p.done (Err x)) (sym whole_is) (follows_halt Is part [] shown (λ u. run [] (Ok None)) p.done x (weak (Err x) f)))
+      halts x f = found_then (Some root) p.done (Err x) h (subst (λ r. Follows Is part [] r p.done (Err x)) (sym whole_is)
+          (follows_halt Is part [] shown (λ u. run [] (Ok None)) p.done x (weak (Err x) f)))
 
       by : (result : Result (Unit {0}) Stop) → StopFollows Later shown p.done result → AskedFollows Is (exec B asked) p.done result
       by (Ok u) f = all f

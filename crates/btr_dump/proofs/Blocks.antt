@@ -1,5 +1,6 @@
 -- One block, and its text.
-use Rattle.std.proofs.Common.{◌≡◌, ℕ, ◌≤◌, leb, true, cond, length, List, [], ◌∷◌, ◌++◌, Option, Some, None, IfSome, IsSomeAnd, Result, Ok, Err, refl, sym, ap, ◌∙◌, subst, arith}
+use Rattle.std.proofs.Common.{◌≡◌, ℕ, ◌≤◌, leb, true, cond, length, List, [], ◌∷◌, ◌++◌, Option, Some, None, IfSome, IsSomeAnd, Result, Ok, Err, refl, sym, ap}
+use Rattle.std.proofs.Common.{◌∙◌, subst, arith}
 use Rattle.btr_prog.specs.Prog.{Prog, Need, Wants, Does, given, exec, wants_of}
 use Rattle.btr_prog.specs.Answers.{Halt, Follows}
 use Rattle.btr_prog.specs.Calls as calls
@@ -46,7 +47,8 @@ if_all : (held : Option (List (List ℕ))) (P : List (List ℕ) → Type 0) → 
 if_all None P f = tt
 if_all (Some images) P f = f images
 
-both_some : (held : Option (List (List ℕ))) (P Q R : List (List ℕ) → Type 0) → ((images : List (List ℕ)) → P images → Q images → R images) → IfSome held P → IfSome held Q → IfSome held R
+both_some : (held : Option (List (List ℕ))) (P Q R : List (List ℕ) → Type 0) → ((images : List (List ℕ)) → P images → Q images → R images)
+    → IfSome held P → IfSome held Q → IfSome held R
 both_some None P Q R f p q = tt
 both_some (Some images) P Q R f p q = f images p q
 
@@ -54,8 +56,10 @@ le_leb : (m n : ℕ) → m ≤ n → leb m n ≡ true
 le_leb m n le = grind (arith, nat_tests)
 
 -- the output refused within the text of a good block
-pub held_cut : (layout : Layout) (before now : Seen) (seen : List Want) (B : Map) (kind : SumKind) (addr : ℕ) (block : List ℕ) (node : Option Node) (found : Node) (old new : Option Text) (waited waits : Text) (e : SinkError) → Some found ≡ node
-    → WasCut old new waited waits (block_text kind addr block) → Writes (unread_by layout before now) seen (exec B (held_block kind addr block node)) old new waited waits (Err (stop_of e))
+pub held_cut : (layout : Layout) (before now : Seen) (seen : List Want) (B : Map) (kind : SumKind) (addr : ℕ) (block : List ℕ) (node : Option Node)
+    (found : Node) (old new : Option Text) (waited waits : Text) (e : SinkError) → Some found ≡ node
+    → WasCut old new waited waits (block_text kind addr block)
+    → Writes (unread_by layout before now) seen (exec B (held_block kind addr block node)) old new waited waits (Err (stop_of e))
 unfolding held_block
 held_cut layout before now seen B kind addr block node found old new waited waits e is cut =
     subst (λ n. Writes (unread_by layout before now) seen (exec B (held_block kind addr block n)) old new waited waits (Err (stop_of e))) is (by e)
@@ -81,11 +85,13 @@ held_wants_none B kind addr block = by (held_in block)
     by (Some found) = refl
 
 -- what was written behind a want whose bytes came
-pub writes_came : {A : Type 0} (Is : UnreadBlock → Want → Type 0) (B : Map) (w : Want) (bytes : List ℕ) (k : List ℕ → Prog Want fate.Fault Text A) (old new : Option Text) (waited waits : Text) (result : Result A Stop) → B w ≡ Ok bytes
+pub writes_came : {A : Type 0} (Is : UnreadBlock → Want → Type 0) (B : Map) (w : Want) (bytes : List ℕ) (k : List ℕ → Prog Want fate.Fault Text A)
+    (old new : Option Text) (waited waits : Text) (result : Result A Stop) → B w ≡ Ok bytes
     → Writes Is [] (exec B (k bytes)) old new waited waits result → Writes Is [] (exec B (Need w k)) old new waited waits result
 writes_came {A} Is B w bytes k old new waited waits result is = by result
   where
-    behind : (answer : Result A (Halt fate.Fault UnreadBlock)) → WroteAll Is [] (exec B (k bytes)) old new waited waits answer → WroteAll Is [] (exec B (Need w k)) old new waited waits answer
+    behind : (answer : Result A (Halt fate.Fault UnreadBlock)) → WroteAll Is [] (exec B (k bytes)) old new waited waits answer
+        → WroteAll Is [] (exec B (Need w k)) old new waited waits answer
     behind answer h = record { done = h.done; wrote = h.wrote; follows = want_came Is part [] B w bytes k h.done answer is (follows_alone Is part (w ∷ []) (exec B (k bytes)) h.done answer h.follows) }
 
     cut : CutIn (exec B (k bytes)) old new waited waits → CutIn (exec B (Need w k)) old new waited waits
@@ -111,23 +117,32 @@ module _ (layout : Layout) (old new : Seen) (kind : SumKind) (addr : ℕ) (reads
   Told was now waited waits result B = Writes Is [] (exec B (block_shown kind addr)) was now waited waits result
 
   -- the block couldn't be had: nothing was written
-  pub block_failed : (text : Option Text) (waits : Text) (store : Blocks) (fault : ReadFault) → FitsFetch layout (Block addr) old new store (Err fault) → TellsBlock layout addr old new (Told text text waits waits (Err (Tree (tree_fault fault))))
+  pub block_failed : (text : Option Text) (waits : Text) (store : Blocks) (fault : ReadFault)
+      → FitsFetch layout (Block addr) old new store (Err fault) → TellsBlock layout addr old new (Told text text waits waits (Err (Tree (tree_fault fault))))
   block_failed text waits store fault fits = record { calls = record { same = same_held reads; later = reads.later; content = λ sure s. content fault fits } }
     where
       none : (f : TreeFault) (B : Map) → Follows Is part [] (exec B (block_shown kind addr)) [] (Err (halt_of f)) → Told text text waits waits (Err (Tree f)) B
       none f B h = record { done = []; wrote = wrote_nothing text waits; follows = h }
 
-      content : (fault : ReadFault) → FitsFetch layout (Block addr) old new store (Err fault) → OnMap layout (Told text text waits waits (Err (Tree (tree_fault fault)))) First old.held
-      content (read.Lost a) f = map_some old.held _ _ (λ images e. none (tree.Lost a) (fate_at images layout) (want_faults Is part [] (fate_at images layout) (Block addr) (fate.Lost a) (λ b. held_block kind addr b (held_in b)) e)) f.2
+      content : (fault : ReadFault) → FitsFetch layout (Block addr) old new store (Err fault)
+          → OnMap layout (Told text text waits waits (Err (Tree (tree_fault fault)))) First old.held
+      content (read.Lost a) f = map_some old.held _ _ (λ images e. none (tree.Lost a) (fate_at images layout)
+          (want_faults Is part [] (fate_at images layout) (Block addr) (fate.Lost a) (λ b. held_block kind addr b (held_in b)) e)) f.2
       content (read.Unread a slot) f = if_all old.held _ (λ images. none (tree.Unread a slot) (fate_at images layout) (want_unread Is part [] (record { addr = a; slot = slot }) (Block addr) _ f))
       content (read.Unmapped a) f =
-          if_all old.held _ (λ images. none (tree.Unmapped a) (fate_at images layout) (want_faults Is part [] (fate_at images layout) (Block addr) (fate.Unmapped a) (λ b. held_block kind addr b (held_in b)) (ap (fate_of images addr) f)))
+          if_all old.held _ (λ images. none (tree.Unmapped a) (fate_at images layout)
+          (want_faults Is part [] (fate_at images layout) (Block addr) (fate.Unmapped a) (λ b. held_block kind addr b (held_in b))
+          (ap (fate_of images addr) f)))
       content (read.Crosses a) f =
-          if_all old.held _ (λ images. none (tree.Crosses a) (fate_at images layout) (want_faults Is part [] (fate_at images layout) (Block addr) (fate.Crosses a) (λ b. held_block kind addr b (held_in b)) (ap (fate_of images addr) f)))
+          if_all old.held _ (λ images. none (tree.Crosses a) (fate_at images layout)
+          (want_faults Is part [] (fate_at images layout) (Block addr) (fate.Crosses a) (λ b. held_block kind addr b (held_in b))
+          (ap (fate_of images addr) f)))
 
   -- the block came, and what was written is its text
-  pub block_came : (was now : Option Text) (waited waits : Text) (store : Blocks) (loan : Lent) (block : List ℕ) (result : Result (Unit {0}) Stop) → FitsFetch layout (Block addr) old new store (Ok loan) → block_of store loan ≡ Some block
-      → ((B : Map) → Writes Is [] (exec B (held_block kind addr block (held_in block))) was now waited waits result) → TellsBlock layout addr old new (Told was now waited waits result)
+  pub block_came : (was now : Option Text) (waited waits : Text) (store : Blocks) (loan : Lent) (block : List ℕ) (result : Result (Unit {0}) Stop)
+      → FitsFetch layout (Block addr) old new store (Ok loan) → block_of store loan ≡ Some block
+      → ((B : Map) → Writes Is [] (exec B (held_block kind addr block (held_in block))) was now waited waits result)
+      → TellsBlock layout addr old new (Told was now waited waits result)
   block_came was now waited waits store loan block result fits is written = record { calls = record { same = same_held reads; later = reads.later; content = content } }
     where
       fetched : IsFetched layout (Block addr) old new block
@@ -136,19 +151,22 @@ module _ (layout : Layout) (old new : Seen) (kind : SumKind) (addr : ℕ) (reads
       came : (B : Map) → B (Block addr) ≡ Ok block → Told was now waited waits result B
       came B e = writes_came Is B (Block addr) block (λ b. held_block kind addr b (held_in b)) was now waited waits result e (written B)
 
-      content : (sure : Sure) → calls.CanTell (BlockAgreed layout addr) sure (shown old) (shown new) → OnMap layout (Told was now waited waits result) sure old.held
+      content : (sure : Sure) → calls.CanTell (BlockAgreed layout addr) sure (shown old) (shown new)
+          → OnMap layout (Told was now waited waits result) sure old.held
       content First s = map_some old.held _ _ (λ images e. came (fate_at images layout) e) (fetched.first (omega (arith, s), omega (arith, s)))
       content Any s = both_some old.held _ _ _ (λ images a f. came (fate_at images layout) (f a)) s fetched.agreed
 
   -- the fault has its cause
-  pub block_cause : (store : Blocks) (fault : ReadFault) → FitsFetch layout (Block addr) old new store (Err fault) → FaultCause layout old new (tree_fault fault)
+  pub block_cause : (store : Blocks) (fault : ReadFault) → FitsFetch layout (Block addr) old new store (Err fault)
+      → FaultCause layout old new (tree_fault fault)
   block_cause store (read.Lost a) fits = (Block addr, fits.2)
   block_cause store (read.Unread a slot) fits = (Block addr, fits)
   block_cause store (read.Unmapped a) fits = (Block addr, fits)
   block_cause store (read.Crosses a) fits = (Block addr, fits)
 
 -- what follows of a call
-pub tells_drawn : (layout : Layout) (addr : ℕ) (old new : Seen) (P Q : Map → Type 0) → ((B : Map) → P B → Q B) → TellsBlock layout addr old new P → TellsBlock layout addr old new Q
+pub tells_drawn : (layout : Layout) (addr : ℕ) (old new : Seen) (P Q : Map → Type 0) → ((B : Map) → P B → Q B) → TellsBlock layout addr old new P
+    → TellsBlock layout addr old new Q
 tells_drawn layout addr old new P Q f t = record { calls = calls_as (λ sure held p. on held p) t.calls }
   where
     on : (held : Option (List (List ℕ))) → IfSome held (λ images. P (fate_at images layout)) → IfSome held (λ images. Q (fate_at images layout))
@@ -161,7 +179,9 @@ unfolding met_block
 met_wants_none B kind met = held_wants_none B kind met.addr met.bytes
 
 -- what was written of it
-pub met_written : (Is : UnreadBlock → Want → Type 0) (seen : List Want) (B : Map) (kind : SumKind) (met : TreeBlock) (old new : Option Text) (waited waits : Text) (result : Result (Unit {0}) Stop)
-    → Writes Is seen (exec B (held_block kind met.addr met.bytes (held_in met.bytes))) old new waited waits result → Writes Is seen (exec B (met_block kind met)) old new waited waits result
+pub met_written : (Is : UnreadBlock → Want → Type 0) (seen : List Want) (B : Map) (kind : SumKind) (met : TreeBlock) (old new : Option Text)
+    (waited waits : Text) (result : Result (Unit {0}) Stop)
+    → Writes Is seen (exec B (held_block kind met.addr met.bytes (held_in met.bytes))) old new waited waits result
+    → Writes Is seen (exec B (met_block kind met)) old new waited waits result
 unfolding met_block
 met_written Is seen B kind met old new waited waits result w = w

@@ -20,14 +20,17 @@ use Rattle.btr_dump.proofs.Writing.{IsDone, done_value, done_fault, broke_in}
 
 module _ (Is : UnreadBlock → Want → Type 0) (r : TextRun (Unit {0})) where
   -- a first part of all that was written is put
-  some_put : (begun mid new : Option Text) (waits : Text) (n : ℕ) (answer : Result (Unit {0}) (Halt fate.Fault UnreadBlock)) (w : WroteAll Is [] r begun mid [] waits answer) → IsDone r w.done → Adds mid new (take n waits)
+  some_put : (begun mid new : Option Text) (waits : Text) (n : ℕ) (answer : Result (Unit {0}) (Halt fate.Fault UnreadBlock))
+      (w : WroteAll Is [] r begun mid [] waits answer) → IsDone r w.done → Adds mid new (take n waits)
       → (done : List Text) × Adds begun new (whole done) × Follows Is part [] r done (Err Broke)
   some_put begun mid new waits n answer w d adds =
       let all : w.wrote.put ++ waits ≡ whole (steps_of d.before) = w.wrote.whole ∙ ap whole d.steps in
       broke_in Is r d.before d.behind begun new (length w.wrote.put + n) d.place
-      (subst (Adds begun new) (sym (take-append-add w.wrote.put waits n) ∙ ap (take (length w.wrote.put + n)) all) (adds_twice begun mid new w.wrote.put (take n waits) w.wrote.adds adds))
+      (subst (Adds begun new) (sym (take-append-add w.wrote.put waits n) ∙ ap (take (length w.wrote.put + n)) all)
+      (adds_twice begun mid new w.wrote.put (take n waits) w.wrote.adds adds))
 
-  pub finish_cut : (begun new : Option Text) (waits : Text) (shown : Result (Unit {0}) Stop) → is_cut shown ≡ true → Writes Is [] r begun new [] waits shown → Puts Is r begun new shown
+  pub finish_cut : (begun new : Option Text) (waits : Text) (shown : Result (Unit {0}) Stop) → is_cut shown ≡ true
+      → Writes Is [] r begun new [] waits shown → Puts Is r begun new shown
   finish_cut begun new waits (Ok u) cut w = absurd (false≢true cut)
   finish_cut begun new waits (Err Out) cut w = let b = broke_in Is r w.before w.behind begun new w.cut.count w.place w.cut.adds in record { done = b.0; adds = b.1; follows = b.2 }
   finish_cut begun new waits (Err Memory) cut w = let b = broke_in Is r w.before w.behind begun new w.cut.count w.place w.cut.adds in record { done = b.0; adds = b.1; follows = b.2 }
@@ -40,10 +43,12 @@ module _ (Is : UnreadBlock → Want → Type 0) (r : TextRun (Unit {0})) where
   finish_cut begun new waits (Err Sink) cut w = absurd w
 
   -- the output's refusal of the rest
-  pub finish_refused : (begun mid new : Option Text) (waits : Text) (shown : Result (Unit {0}) Stop) (n : ℕ) (e : SinkError) → is_cut shown ≡ false → Writes Is [] r begun mid [] waits shown → Adds mid new (take n waits) → Puts Is r begun new (Err (stop_of e))
+  pub finish_refused : (begun mid new : Option Text) (waits : Text) (shown : Result (Unit {0}) Stop) (n : ℕ) (e : SinkError) → is_cut shown ≡ false
+      → Writes Is [] r begun mid [] waits shown → Adds mid new (take n waits) → Puts Is r begun new (Err (stop_of e))
   finish_refused begun mid new waits shown n e cut w adds = refused e (broke shown cut w)
     where
-      broke : (shown : Result (Unit {0}) Stop) → is_cut shown ≡ false → Writes Is [] r begun mid [] waits shown → (done : List Text) × Adds begun new (whole done) × Follows Is part [] r done (Err Broke)
+      broke : (shown : Result (Unit {0}) Stop) → is_cut shown ≡ false → Writes Is [] r begun mid [] waits shown → (done : List Text)
+          × Adds begun new (whole done) × Follows Is part [] r done (Err Broke)
       broke (Ok u) cut w = some_put begun mid new waits n (Ok u) w (done_value Is r w.done u w.follows) adds
       broke (Err (Tree f)) cut w = some_put begun mid new waits n (Err (halt_of f)) w (done_fault Is r w.done f w.follows) adds
       broke (Err Out) cut w = absurd (false≢true (sym cut))
@@ -55,6 +60,7 @@ module _ (Is : UnreadBlock → Want → Type 0) (r : TextRun (Unit {0})) where
       broke (Err (Image slot)) cut w = absurd w
       broke (Err Sink) cut w = absurd w
 
-      refused : (e : SinkError) → (done : List Text) × Adds begun new (whole done) × Follows Is part [] r done (Err Broke) → Puts Is r begun new (Err (stop_of e))
+      refused : (e : SinkError) → (done : List Text) × Adds begun new (whole done) × Follows Is part [] r done (Err Broke)
+          → Puts Is r begun new (Err (stop_of e))
       refused sink.Failed b = record { done = b.0; adds = b.1; follows = b.2 }
       refused sink.Memory b = record { done = b.0; adds = b.1; follows = b.2 }

@@ -24,12 +24,14 @@ puts_grow T old new text (Ok x) puts = record { more = text; adds = puts }
 puts_grow T old new text (Err e) puts = record { more = take puts.0 text; adds = puts.1 }
 
 -- by what was written of a text
-pub text_grows : (T : Type 0) (old new : Option Text) (waited waits text : Text) (r : Result T SinkError) → WritesText old new waited waits text r → Grows old new
+pub text_grows : (T : Type 0) (old new : Option Text) (waited waits text : Text) (r : Result T SinkError) → WritesText old new waited waits text r
+    → Grows old new
 text_grows T old new waited waits text (Ok x) w = record { more = w.put; adds = w.adds }
 text_grows T old new waited waits text (Err e) w = record { more = take w.count (waited ++ text); adds = w.adds }
 
 -- by what was written of a run
-pub run_grows : (Is : UnreadBlock → Want → Type 0) (seen : List Want) (r : TextRun (Unit {0})) (old new : Option Text) (waited waits : Text) (result : Result (Unit {0}) Stop) → Writes Is seen r old new waited waits result → Grows old new
+pub run_grows : (Is : UnreadBlock → Want → Type 0) (seen : List Want) (r : TextRun (Unit {0})) (old new : Option Text) (waited waits : Text)
+    (result : Result (Unit {0}) Stop) → Writes Is seen r old new waited waits result → Grows old new
 run_grows Is seen r old new waited waits result = by result
   where
     cut : CutIn r old new waited waits → Grows old new

@@ -38,17 +38,20 @@ steps_behind : (ws : List Want) (ms : List (Mark Want Text)) → steps_of (want_
 steps_behind ws ms = steps_of-append (want_marks ws) ms ∙ ap (λ x. x ++ steps_of ms) (steps_back Text ws)
 
 -- a run after another has the first one's marks in front
-pub marks_after : (ms : List (Mark Want Text)) (e : Result (Unit {0}) fate.Fault) (k : Unit {0} → TextRun (Unit {0})) → (more : List (Mark Want Text)) × ((after ms e k).marks ≡ ms ++ more)
+pub marks_after : (ms : List (Mark Want Text)) (e : Result (Unit {0}) fate.Fault) (k : Unit {0} → TextRun (Unit {0})) → (more : List (Mark Want Text))
+    × ((after ms e k).marks ≡ ms ++ more)
 marks_after ms (Ok a) k = ((k a).marks, refl)
 marks_after ms (Err f) k = ([], sym (append-nil ms))
 
-pub value_then : (ms : List (Mark Want Text)) (e : Result (Unit {0}) fate.Fault) (k : Unit {0} → TextRun (Unit {0})) → e ≡ Ok tt → after ms e k ≡ prepend ms (k tt)
+pub value_then : (ms : List (Mark Want Text)) (e : Result (Unit {0}) fate.Fault) (k : Unit {0} → TextRun (Unit {0})) → e ≡ Ok tt → after ms e k
+    ≡ prepend ms (k tt)
 value_then ms e k is = ap (λ x. after ms x k) is
 
 abbrev gone_on : Unit {0} → Run Want fate.Fault Text (Result (Unit {0}) (Unit {0}))
 gone_on a = run [] (Ok (Ok a))
 
-twice : (ms : List (Mark Want Text)) (e : Result (Unit {0}) fate.Fault) (k : Unit {0} → TextRun (Unit {0})) → and_then (after ms e gone_on) (go_on_run k) ≡ after ms e k
+twice : (ms : List (Mark Want Text)) (e : Result (Unit {0}) fate.Fault) (k : Unit {0} → TextRun (Unit {0}))
+    → and_then (after ms e gone_on) (go_on_run k) ≡ after ms e k
 twice ms (Ok a) k = ap (λ m. prepend m (k a)) (append-nil ms)
 twice ms (Err f) k = refl
 
@@ -80,23 +83,29 @@ module _ {X : Type 0} (show : X → Shown) (B : Map) where
   abbrev Exec : Unit {0} → X → Run Want fate.Fault Text (Result (Unit {0}) (Unit {0})) → Type 0
   Exec u x b = b ≡ exec B (body u x)
 
-  some_after : (ms : List (Mark Want X)) (e : Result (Unit {0}) fate.Fault) → ((u : Unit {0}) → ThreadsTo Exec fin u ms e (thread_run (λ u x. exec B (body u x)) fin u ms e)) → (marks : List (Mark Want Text)) (y : Result (Result (Unit {0}) (Unit {0})) fate.Fault) → AfterTo marks y (GoOnTo (λ u. ThreadsTo Exec fin u ms e)) (after marks y (go_on_run (λ u. thread_run (λ u x. exec B (body u x)) fin u ms e)))
+  some_after : (ms : List (Mark Want X)) (e : Result (Unit {0}) fate.Fault)
+      → ((u : Unit {0}) → ThreadsTo Exec fin u ms e (thread_run (λ u x. exec B (body u x)) fin u ms e))
+      → (marks : List (Mark Want Text)) (y : Result (Result (Unit {0}) (Unit {0})) fate.Fault)
+      → AfterTo marks y (GoOnTo (λ u. ThreadsTo Exec fin u ms e)) (after marks y (go_on_run (λ u. thread_run (λ u x. exec B (body u x)) fin u ms e)))
   some_after ms e h marks (Ok (Ok u)) = (thread_run (λ u x. exec B (body u x)) fin u ms e, refl, h u)
   some_after ms e h marks (Ok (Err y)) = (run [] (Ok y), refl, refl)
   some_after ms e h marks (Err f) = refl
 
-  some_all : (u : Unit {0}) (ms : List (Mark Want X)) (e : Result (Unit {0}) fate.Fault) → ThreadsTo Exec fin u ms e (thread_run (λ u x. exec B (body u x)) fin u ms e)
+  some_all : (u : Unit {0}) (ms : List (Mark Want X)) (e : Result (Unit {0}) fate.Fault)
+      → ThreadsTo Exec fin u ms e (thread_run (λ u x. exec B (body u x)) fin u ms e)
   some_all u [] e = refl
   some_all u (Wants w ∷ ms) e = (thread_run (λ u x. exec B (body u x)) fin u ms e, refl, some_all u ms e)
   some_all u (Does x ∷ ms) e = let b = exec B (body u x) in (b, refl, some_after ms e (λ v. some_all v ms e) b.marks b.ending)
 
   -- the cursor came to no item: what it answers is answered of what is shown
-  all_halts : (Is : UnreadBlock → Want → Type 0) (seen : List Want) (p : Program X (Unit {0})) (h : Halt fate.Fault UnreadBlock) → Follows Is no_part seen (exec B p) [] (Err h) → Follows Is part seen (exec B (shown_all p)) [] (Err h)
+  all_halts : (Is : UnreadBlock → Want → Type 0) (seen : List Want) (p : Program X (Unit {0})) (h : Halt fate.Fault UnreadBlock)
+      → Follows Is no_part seen (exec B p) [] (Err h) → Follows Is part seen (exec B (shown_all p)) [] (Err h)
   all_halts Is seen p h f =
       let g = cursor_halts Exec fin (λ u r. (thread_run (λ u x. exec B (body u x)) fin u r.marks r.ending, some_all u r.marks r.ending)) Is part seen tt (exec B p) h f in
       subst (λ q. Follows Is part seen q [] (Err h)) (threads_exec B body fin tt p g.0 g.1) g.2
 
-  all_none : (ms : List (Mark Want X)) (e : Result (Unit {0}) fate.Fault) → [] ≡ steps_of ms → e ≡ Ok tt → ([] ≡ steps_of (run_all (run ms e)).marks) × ((run_all (run ms e)).ending ≡ Ok tt)
+  all_none : (ms : List (Mark Want X)) (e : Result (Unit {0}) fate.Fault) → [] ≡ steps_of ms → e ≡ Ok tt → ([] ≡ steps_of (run_all (run ms e)).marks)
+      × ((run_all (run ms e)).ending ≡ Ok tt)
   all_none [] e n h = (
     subst (λ x. [] ≡ steps_of (end_of {W = Want} {F = fate.Fault} {T = Text} fin tt x).marks) (sym h) refl,
     subst (λ x. (end_of {W = Want} {F = fate.Fault} {T = Text} fin tt x).ending ≡ Ok tt) (sym h) refl,
@@ -105,11 +114,14 @@ module _ {X : Type 0} (show : X → Shown) (B : Map) where
   all_none (Does x ∷ ms) e n h = cc
 
   -- the cursor came to a fault
-  pub turn_halts : (Is : UnreadBlock → Want → Type 0) (seen : List Want) (p : Program X (Unit {0})) (text : Option Text) (waits : Text) (f : TreeFault) → Follows Is no_part seen (exec B p) [] (Err (halt_of f)) → Writes {A = Unit {0}} Is seen (exec B (shown_all p)) text text waits waits (Err (Tree f))
+  pub turn_halts : (Is : UnreadBlock → Want → Type 0) (seen : List Want) (p : Program X (Unit {0})) (text : Option Text) (waits : Text)
+      (f : TreeFault) → Follows Is no_part seen (exec B p) [] (Err (halt_of f))
+      → Writes {A = Unit {0}} Is seen (exec B (shown_all p)) text text waits waits (Err (Tree f))
   turn_halts Is seen p text waits f h = record { done = []; wrote = wrote_nothing text waits; follows = all_halts Is seen p (halt_of f) h }
 
   -- to its end
-  pub turn_ends : (Is : UnreadBlock → Want → Type 0) (seen : List Want) (p : Program X (Unit {0})) (text : Option Text) (waits : Text) → Follows Is no_part seen (exec B p) [] (Ok tt) → Writes Is seen (exec B (shown_all p)) text text waits waits (Ok tt)
+  pub turn_ends : (Is : UnreadBlock → Want → Type 0) (seen : List Want) (p : Program X (Unit {0})) (text : Option Text) (waits : Text)
+      → Follows Is no_part seen (exec B p) [] (Ok tt) → Writes Is seen (exec B (shown_all p)) text text waits waits (Ok tt)
   turn_ends Is seen p text waits h = record { done = []; wrote = wrote_nothing text waits; follows = subst (λ q. Follows Is part seen q [] (Ok tt)) (sym (exec_all p)) (all_none (exec B p).marks (exec B p).ending h.0 h.1) }
 
   -- to an item behind some wants
@@ -121,33 +133,41 @@ module _ {X : Type 0} (show : X → Shown) (B : Map) where
     rest u = exec B (shown_all q)
 
     met : exec B (shown_all p) ≡ prepend (want_marks past) (and_then item rest)
-    met = exec_all p ∙ ap run_all is ∙ all_past past (first (Does x) (exec B q)) ∙ ap (prepend (want_marks past)) (all_does x (exec B q) ∙ ap (λ z. and_then item (λ u. z)) (sym (exec_all q)))
+    met = exec_all p ∙ ap run_all is ∙ all_past past (first (Does x) (exec B q))
+        ∙ ap (prepend (want_marks past)) (all_does x (exec B q) ∙ ap (λ z. and_then item (λ u. z)) (sym (exec_all q)))
 
-    pub turn_moves : (On : List Want → Type 0) (Is : UnreadBlock → Want → Type 0) (seen ws : List Want) (old new : Option Text) (waited waits : Text) → On (seen ++ (past ++ wants_of item.marks)) → WroteAll Is ws item old new waited waits (Ok tt)
+    pub turn_moves : (On : List Want → Type 0) (Is : UnreadBlock → Want → Type 0) (seen ws : List Want) (old new : Option Text) (waited waits : Text)
+        → On (seen ++ (past ++ wants_of item.marks)) → WroteAll Is ws item old new waited waits (Ok tt)
         → GoesOn On (exec B (shown_all p)) (exec B (shown_all q)) seen old new waited waits
     turn_moves On Is seen ws old new waited waits on w = record {
       past = record {
         marks = want_marks past ++ item.marks;
-        is = met ∙ ap (prepend (want_marks past)) (value_then item.marks item.ending rest w.follows.1) ∙ ap (λ ms. run ms (rest tt).ending) (sym (append_assoc (want_marks past) item.marks (rest tt).marks));
+        is = met ∙ ap (prepend (want_marks past)) (value_then item.marks item.ending rest w.follows.1)
+            ∙ ap (λ ms. run ms (rest tt).ending) (sym (append_assoc (want_marks past) item.marks (rest tt).marks));
         wrote = wrote_as (whole (steps_of (want_marks past ++ item.marks))) (ap whole (w.follows.0 ∙ sym (steps_behind past item.marks))) w.wrote;
       };
-      on = subst (λ (x : List Want). On (seen ++ x)) (sym (wants_of-append (want_marks past) item.marks ∙ ap (λ y. y ++ wants_of item.marks) (wants_back Text past))) on;
+      on = subst (λ (x : List Want). On (seen ++ x)) (sym (wants_of-append (want_marks past) item.marks
+          ∙ ap (λ y. y ++ wants_of item.marks) (wants_back Text past))) on;
     }
 
     -- the same where the item wants nothing more
-    pub turn_goes : (On : List Want → Type 0) (Is : UnreadBlock → Want → Type 0) (seen ws : List Want) (old new : Option Text) (waited waits : Text) → wants_of item.marks ≡ [] → On (seen ++ past) → WroteAll Is ws item old new waited waits (Ok tt)
+    pub turn_goes : (On : List Want → Type 0) (Is : UnreadBlock → Want → Type 0) (seen ws : List Want) (old new : Option Text) (waited waits : Text)
+        → wants_of item.marks ≡ [] → On (seen ++ past) → WroteAll Is ws item old new waited waits (Ok tt)
         → GoesOn On (exec B (shown_all p)) (exec B (shown_all q)) seen old new waited waits
     turn_goes On Is seen ws old new waited waits none on w =
-        turn_moves On Is seen ws old new waited waits (subst (λ (x : List Want). On (seen ++ x)) (sym (ap (λ (y : List Want). past ++ y) none ∙ append-nil past)) on) w
+        turn_moves On Is seen ws old new waited waits (subst (λ (x : List Want). On (seen ++ x))
+        (sym (ap (λ (y : List Want). past ++ y) none ∙ append-nil past)) on) w
 
-    behind : (Is : UnreadBlock → Want → Type 0) (seen : List Want) (old new : Option Text) (waited waits : Text) (h : Halt fate.Fault UnreadBlock) → WroteAll Is (seen ++ past) item old new waited waits (Err h) → WroteAll Is seen (exec B (shown_all p)) old new waited waits (Err h)
+    behind : (Is : UnreadBlock → Want → Type 0) (seen : List Want) (old new : Option Text) (waited waits : Text) (h : Halt fate.Fault UnreadBlock)
+        → WroteAll Is (seen ++ past) item old new waited waits (Err h) → WroteAll Is seen (exec B (shown_all p)) old new waited waits (Err h)
     behind Is seen old new waited waits h w = record {
       done = w.done;
       wrote = w.wrote;
       follows = subst (λ r. Follows Is part seen r w.done (Err h)) (sym met)
           (subst (λ (d : List Text). Follows Is part seen (prepend (want_marks past) (and_then item rest)) (d ++ w.done) (Err h)) (steps_back Text past)
           (follows_behind Is part seen (want_marks past) (and_then item rest) w.done (Err h)
-          (subst (λ (ws : List Want). Follows Is part (seen ++ ws) (and_then item rest) w.done (Err h)) (sym (wants_back Text past)) (follows_halt Is part (seen ++ past) item rest w.done h w.follows))));
+          (subst (λ (ws : List Want). Follows Is part (seen ++ ws) (and_then item rest) w.done (Err h)) (sym (wants_back Text past))
+          (follows_halt Is part (seen ++ past) item rest w.done h w.follows))));
     }
 
     cut : (old new : Option Text) (waited waits : Text) → CutIn item old new waited waits → CutIn (exec B (shown_all p)) old new waited waits
@@ -163,7 +183,9 @@ module _ {X : Type 0} (show : X → Shown) (B : Map) where
         }
 
     -- the item could not be shown to its end
-    pub turn_stops : (Is : UnreadBlock → Want → Type 0) (seen : List Want) (old new : Option Text) (waited waits : Text) (stop : Stop) → Writes {A = Unit {0}} Is (seen ++ past) item old new waited waits (Err stop) → Writes {A = Unit {0}} Is seen (exec B (shown_all p)) old new waited waits (Err stop)
+    pub turn_stops : (Is : UnreadBlock → Want → Type 0) (seen : List Want) (old new : Option Text) (waited waits : Text) (stop : Stop)
+        → Writes {A = Unit {0}} Is (seen ++ past) item old new waited waits (Err stop)
+        → Writes {A = Unit {0}} Is seen (exec B (shown_all p)) old new waited waits (Err stop)
     turn_stops Is seen old new waited waits (Tree f) w = behind Is seen old new waited waits (halt_of f) w
     turn_stops Is seen old new waited waits Out w = cut old new waited waits w
     turn_stops Is seen old new waited waits Memory w = cut old new waited waits w
@@ -175,14 +197,16 @@ module _ {X : Type 0} (show : X → Shown) (B : Map) where
     turn_stops Is seen old new waited waits Sink w = absurd w
 
 -- no turn yet
-pub goes_none : (On : List Want → Type 0) (from : TextRun (Unit {0})) (seen : List Want) (text : Option Text) (waits : Text) → On seen → GoesOn On from from seen text text waits waits
+pub goes_none : (On : List Want → Type 0) (from : TextRun (Unit {0})) (seen : List Want) (text : Option Text) (waits : Text) → On seen
+    → GoesOn On from from seen text text waits waits
 goes_none On from seen text waits on = record {
   past = record { marks = []; is = refl; wrote = wrote_nothing text waits };
   on = subst On (sym (append-nil seen)) on;
 }
 
 -- one turn more
-pub goes_more : (On On' : List Want → Type 0) (from mid to : TextRun (Unit {0})) (seen : List Want) (old between new : Option Text) (waited waiting waits : Text) (g : GoesOn On from mid seen old between waited waiting)
+pub goes_more : (On On' : List Want → Type 0) (from mid to : TextRun (Unit {0})) (seen : List Want) (old between new : Option Text)
+    (waited waiting waits : Text) (g : GoesOn On from mid seen old between waited waiting)
     → ((ws : List Want) → On ws → GoesOn On' mid to ws between new waiting waits) → GoesOn On' from to seen old new waited waits
 goes_more On On' from mid to seen old between new waited waiting waits g turn =
     let h = turn (seen ++ wants_of g.past.marks) g.on in
@@ -190,22 +214,29 @@ goes_more On On' from mid to seen old between new waited waiting waits g turn =
       past = record {
         marks = g.past.marks ++ h.past.marks;
         is = g.past.is ∙ ap (prepend g.past.marks) h.past.is ∙ ap (λ ms. run ms to.ending) (sym (append_assoc g.past.marks h.past.marks to.marks));
-        wrote = wrote_as (whole (steps_of (g.past.marks ++ h.past.marks))) (sym (ap whole (steps_of-append g.past.marks h.past.marks) ∙ whole-append (steps_of g.past.marks) (steps_of h.past.marks))) (wrote_then g.past.wrote h.past.wrote);
+        wrote = wrote_as (whole (steps_of (g.past.marks ++ h.past.marks)))
+            (sym (ap whole (steps_of-append g.past.marks h.past.marks) ∙ whole-append (steps_of g.past.marks) (steps_of h.past.marks)))
+            (wrote_then g.past.wrote h.past.wrote);
       };
-      on = subst On' (append_assoc seen (wants_of g.past.marks) (wants_of h.past.marks) ∙ ap (λ x. seen ++ x) (sym (wants_of-append g.past.marks h.past.marks))) h.on;
+      on = subst On' (append_assoc seen (wants_of g.past.marks) (wants_of h.past.marks)
+          ∙ ap (λ x. seen ++ x) (sym (wants_of-append g.past.marks h.past.marks))) h.on;
     }
 
 -- what is written of the rest is written of the whole
-pub goes_ends : (On : List Want → Type 0) (Is Less : UnreadBlock → Want → Type 0) → ((u : UnreadBlock) (w : Want) → Is u w → Less u w) → (from mid : TextRun (Unit {0})) (seen : List Want) (old between new : Option Text) (waited waiting waits : Text) (result : Result (Unit {0}) Stop)
-    → GoesOn On from mid seen old between waited waiting → ((ws : List Want) → On ws → Writes Is ws mid between new waiting waits result) → Writes Less seen from old new waited waits result
+pub goes_ends : (On : List Want → Type 0) (Is Less : UnreadBlock → Want → Type 0) → ((u : UnreadBlock) (w : Want) → Is u w → Less u w)
+    → (from mid : TextRun (Unit {0})) (seen : List Want) (old between new : Option Text) (waited waiting waits : Text) (result : Result (Unit {0}) Stop)
+    → GoesOn On from mid seen old between waited waiting → ((ws : List Want) → On ws → Writes Is ws mid between new waiting waits result)
+    → Writes Less seen from old new waited waits result
 goes_ends On Is Less weaker from mid seen old between new waited waiting waits result g rest = by result (rest (seen ++ wants_of g.past.marks) g.on)
   where
-    all : (answer : Result (Unit {0}) (Halt fate.Fault UnreadBlock)) → WroteAll Is (seen ++ wants_of g.past.marks) mid between new waiting waits answer → WroteAll Less seen from old new waited waits answer
+    all : (answer : Result (Unit {0}) (Halt fate.Fault UnreadBlock))
+        → WroteAll Is (seen ++ wants_of g.past.marks) mid between new waiting waits answer → WroteAll Less seen from old new waited waits answer
     all answer w = record {
       done = steps_of g.past.marks ++ w.done;
       wrote = wrote_as (whole (steps_of g.past.marks ++ w.done)) (sym (whole-append (steps_of g.past.marks) w.done)) (wrote_then g.past.wrote w.wrote);
       follows = subst (λ r. Follows Less part seen r (steps_of g.past.marks ++ w.done) answer) (sym g.past.is)
-          (follows_behind Less part seen g.past.marks mid w.done answer (follows_as Is Less weaker part (seen ++ wants_of g.past.marks) mid w.done answer w.follows));
+          (follows_behind Less part seen g.past.marks mid w.done answer
+          (follows_as Is Less weaker part (seen ++ wants_of g.past.marks) mid w.done answer w.follows));
     }
 
     cut : CutIn mid between new waiting waits → CutIn from old new waited waits
@@ -213,10 +244,12 @@ goes_ends On Is Less weaker from mid seen old between new waited waiting waits r
       before = g.past.marks ++ c.before;
       behind = c.behind;
       place = ap (λ (r : TextRun (Unit {0})). r.marks) g.past.is ∙ ap (λ ms. g.past.marks ++ ms) c.place ∙ sym (append_assoc g.past.marks c.before c.behind);
-      cut = cut_as (whole (steps_of (g.past.marks ++ c.before))) (sym (ap whole (steps_of-append g.past.marks c.before) ∙ whole-append (steps_of g.past.marks) (steps_of c.before))) (cut_then g.past.wrote c.cut);
+      cut = cut_as (whole (steps_of (g.past.marks ++ c.before)))
+          (sym (ap whole (steps_of-append g.past.marks c.before) ∙ whole-append (steps_of g.past.marks) (steps_of c.before))) (cut_then g.past.wrote c.cut);
     }
 
-    by : (result : Result (Unit {0}) Stop) → Writes Is (seen ++ wants_of g.past.marks) mid between new waiting waits result → Writes Less seen from old new waited waits result
+    by : (result : Result (Unit {0}) Stop) → Writes Is (seen ++ wants_of g.past.marks) mid between new waiting waits result
+        → Writes Less seen from old new waited waits result
     by (Ok u) w = all (Ok u) w
     by (Err (Tree f)) w = all (Err (halt_of f)) w
     by (Err Out) w = cut w

@@ -18,7 +18,8 @@ pub on_as : (lo hi lo' hi' : Key) (B : Map) (ws : List Want) (place : ScanPlace)
 on_as lo hi lo' hi' B ws place same_lo same_hi on = subst (λ l. IsOn l hi' B ws place) same_lo (subst (λ h. IsOn lo h B ws place) same_hi on)
 
 -- the cause of an answer stays one of calls that began earlier
-pub stop_cause_since : (A C : Type 0) {a b : Seen} (c : Seen) (layout layout' : Layout) (stop : Stop) → layout' ≡ layout → OnlyReads a b → StopCause {A = A} layout' b c (Err stop) → StopCause {A = C} layout a c (Err stop)
+pub stop_cause_since : (A C : Type 0) {a b : Seen} (c : Seen) (layout layout' : Layout) (stop : Stop) → layout' ≡ layout → OnlyReads a b
+    → StopCause {A = A} layout' b c (Err stop) → StopCause {A = C} layout a c (Err stop)
 stop_cause_since A C c layout layout' (Tree f) e first h = cause_since c layout layout' f e first h
 stop_cause_since A C c layout layout' (NoTree n) e first h = tt
 stop_cause_since A C c layout layout' (Deletion n) e first h = tt
@@ -30,7 +31,8 @@ stop_cause_since A C c layout layout' Out e first h = tt
 stop_cause_since A C c layout layout' Memory e first h = tt
 
 -- the account of an answer, where none failed before
-pub counts_since : (A C : Type 0) (old mid new : CallAccount) (stop : Stop) → mid ≡ old → StopCounts {A = A} mid new (Err stop) → StopCounts {A = C} old new (Err stop)
+pub counts_since : (A C : Type 0) (old mid new : CallAccount) (stop : Stop) → mid ≡ old → StopCounts {A = A} mid new (Err stop)
+    → StopCounts {A = C} old new (Err stop)
 counts_since A C old mid new stop same h = as_other stop (subst (λ a. StopCounts {A = A} a new (Err stop)) same h)
   where
     as_other : (stop : Stop) → StopCounts {A = A} old new (Err stop) → StopCounts {A = C} old new (Err stop)

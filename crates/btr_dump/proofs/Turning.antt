@@ -24,9 +24,11 @@ use Rattle.btr_walk.proofs.Staying.{left_same, on_more}
 use Rattle.btr_dump.proofs.Loops.{turn_goes, turn_moves, turn_stops}
 
 -- the root that a ROOT_ITEM was read to have, if any
-pub item_root_read : (item : TreeItem) (read : Result TreeRoot ItemFault) → item.key.kind ≡ 132 → read ≡ map_ok (described item.key) (root_item_of item.body) → if_formed read ≡ item_root item
+pub item_root_read : (item : TreeItem) (read : Result TreeRoot ItemFault) → item.key.kind ≡ 132 → read
+    ≡ map_ok (described item.key) (root_item_of item.body) → if_formed read ≡ item_root item
 unfolding item_root
-item_root_read item read is same = ap if_formed same ∙ ap (λ b. cond b (if_formed (map_ok (described item.key) (root_item_of item.body))) None) (sym (eq-eqb _ _ is))
+item_root_read item read is same = ap if_formed same ∙ ap (λ b. cond b (if_formed (map_ok (described item.key) (root_item_of item.body))) None)
+    (sym (eq-eqb _ _ is))
 
 module _ (Is : UnreadBlock → Want → Type 0) (B : Map) (kind : SumKind) (seen : List Want) (old mid : Blocks) (scan scan' : Scan) (item : TreeItem) (gives : GivesItem B seen old mid scan scan' item) where
   abbrev show : TreeItem → Shown
@@ -39,22 +41,27 @@ module _ (Is : UnreadBlock → Want → Type 0) (B : Map) (kind : SumKind) (seen
   from = exec B (item_trees kind (left_of B old scan))
 
   -- an item that describes no tree
-  pub other_goes : (text : Option Text) (waits : Text) → item_root item ≡ None → GoesOn On from (exec B (item_trees kind (left_of B mid scan'))) seen text text waits waits
+  pub other_goes : (text : Option Text) (waits : Text) → item_root item ≡ None
+      → GoesOn On from (exec B (item_trees kind (left_of B mid scan'))) seen text text waits waits
   other_goes text waits none =
-      turn_goes show B (left_of B old scan) (left_of B mid scan') item gives.past gives.is On Is seen (seen ++ gives.past) text text waits waits (ap (λ o. wants_of (exec B (tree_if kind o)).marks) none) gives.on
+      turn_goes show B (left_of B old scan) (left_of B mid scan') item gives.past gives.is On Is seen (seen ++ gives.past) text text waits waits
+      (ap (λ o. wants_of (exec B (tree_if kind o)).marks) none) gives.on
       (subst (λ o. WroteAll Is (seen ++ gives.past) (exec B (tree_if kind o)) text text waits waits (Ok tt)) (sym none) (record { done = []; wrote = wrote_nothing text waits; follows = (refl, refl) }))
 
   -- a tree was written to its end
-  pub tree_goes : (root : TreeRoot) → item_root item ≡ Some root → (new : Blocks) → SameLoans mid new → (text text' : Option Text) (waited waits : Text) → WroteAll Is (seen ++ gives.past) (exec B (tree_shown kind root)) text text' waited waits (Ok tt)
+  pub tree_goes : (root : TreeRoot) → item_root item ≡ Some root → (new : Blocks) → SameLoans mid new
+      → (text text' : Option Text) (waited waits : Text) → WroteAll Is (seen ++ gives.past) (exec B (tree_shown kind root)) text text' waited waits (Ok tt)
       → GoesOn On from (exec B (item_trees kind (left_of B new scan'))) seen text text' waited waits
   tree_goes root is new same text text' waited waits w =
       subst (λ p. GoesOn On from (exec B (item_trees kind p)) seen text text' waited waits) (sym (left_same B mid new scan' same))
       (turn_moves show B (left_of B old scan) (left_of B mid scan') item gives.past gives.is On Is seen (seen ++ gives.past) text text' waited waits
-      (subst On (append_assoc seen gives.past (wants_of (exec B (show item)).marks)) (on_more scan.lo scan.hi B (seen ++ gives.past) (wants_of (exec B (show item)).marks) scan'.place gives.on))
+      (subst On (append_assoc seen gives.past (wants_of (exec B (show item)).marks))
+      (on_more scan.lo scan.hi B (seen ++ gives.past) (wants_of (exec B (show item)).marks) scan'.place gives.on))
       (subst (λ o. WroteAll Is (seen ++ gives.past) (exec B (tree_if kind o)) text text' waited waits (Ok tt)) (sym is) w))
 
   -- or to some place
-  pub tree_stops : (root : TreeRoot) → item_root item ≡ Some root → (text text' : Option Text) (waited waits : Text) (stop : Stop) → Writes {A = Unit {0}} Is (seen ++ gives.past) (exec B (tree_shown kind root)) text text' waited waits (Err stop)
+  pub tree_stops : (root : TreeRoot) → item_root item ≡ Some root → (text text' : Option Text) (waited waits : Text) (stop : Stop)
+      → Writes {A = Unit {0}} Is (seen ++ gives.past) (exec B (tree_shown kind root)) text text' waited waits (Err stop)
       → Writes {A = Unit {0}} Is seen from text text' waited waits (Err stop)
   tree_stops root is text text' waited waits stop w =
       turn_stops show B (left_of B old scan) (left_of B mid scan') item gives.past gives.is Is seen text text' waited waits stop

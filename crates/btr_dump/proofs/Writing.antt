@@ -1,5 +1,6 @@
 -- Texts that follow runs.
-use Rattle.std.proofs.Common.{◌≡◌, ℕ, zero, suc, ◌+◌, ◌-◌, true, false, ltb, List, [], ◌∷◌, ◌++◌, length, take, Option, Some, None, Result, Ok, Err, refl, sym, ap, ◌∙◌, subst, arith}
+use Rattle.std.proofs.Common.{◌≡◌, ℕ, zero, suc, ◌+◌, ◌-◌, true, false, ltb, List, [], ◌∷◌, ◌++◌, length, take, Option, Some, None, Result, Ok, Err, refl, sym}
+use Rattle.std.proofs.Common.{ap, ◌∙◌, subst, arith}
 use Rattle.std.proofs.lemmas.Bool.{ltb-true, ltb-false}
 use Rattle.std.proofs.lemmas.List.{append-nil, take-append-le}
 use Rattle.std.proofs.Math.Seq.{take-append-add}
@@ -76,7 +77,8 @@ module _ {A : Type 0} (Is : UnreadBlock → Want → Type 0) (r : TextRun A) (do
   done_fault (tree.Malformed a) f = done_all r done f.0
 
 -- a first part of the pieces of some first marks was put
-pub broke_in : {A : Type 0} (Is : UnreadBlock → Want → Type 0) (r : TextRun A) (before behind : List (Mark Want Text)) (old new : Option Text) (n : ℕ) → r.marks ≡ before ++ behind → Adds old new (take n (whole (steps_of before)))
+pub broke_in : {A : Type 0} (Is : UnreadBlock → Want → Type 0) (r : TextRun A) (before behind : List (Mark Want Text)) (old new : Option Text) (n : ℕ)
+    → r.marks ≡ before ++ behind → Adds old new (take n (whole (steps_of before)))
     → (done : List Text) × Adds old new (whole done) × Follows Is part [] r done (Err Broke)
 broke_in Is r before behind old new n place adds =
     let b = breaks_at r.ending behind n before in

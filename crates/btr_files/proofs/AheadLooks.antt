@@ -37,25 +37,32 @@ both_told None P Q R f p q = tt
 both_told (Some i) P Q R f p q = f i p q
 
 -- two facts that one call tells
-pub paired : (layout : Layout) {a b : Seen} (P Q R : Map → Type 0) → ((B : Map) → P B → Q B → R B) → Tells layout a b P → Tells layout a b Q → Tells layout a b R
+pub paired : (layout : Layout) {a b : Seen} (P Q R : Map → Type 0) → ((B : Map) → P B → Q B → R B) → Tells layout a b P → Tells layout a b Q
+    → Tells layout a b R
 paired layout {a} P Q R f one two = record {
   calls = record {
     same = one.calls.same;
     later = one.calls.later;
-    content = λ sure s. both_told a.held (λ images. P (fate images layout)) (λ images. Q (fate images layout)) (λ images. R (fate images layout)) (λ images p q. f (fate images layout) p q) (one.calls.content sure s) (two.calls.content sure s);
+    content = λ sure s. both_told a.held (λ images. P (fate images layout)) (λ images. Q (fate images layout)) (λ images. R (fate images layout))
+        (λ images p q. f (fate images layout) p q) (one.calls.content sure s) (two.calls.content sure s);
   };
 }
 
 -- ---- the tree with a root
 
 -- what is kept stays, whatever was told
-pub stays : (layout : Layout) {a b : Seen} (P : Map → Type 0) (root : RootPlace) (ahead : SumsAhead) → Tells layout a b P → Tells layout a b (λ B. IsAheadIn B root ahead → IsAheadIn B root ahead)
+pub stays : (layout : Layout) {a b : Seen} (P : Map → Type 0) (root : RootPlace) (ahead : SumsAhead) → Tells layout a b P
+    → Tells layout a b (λ B. IsAheadIn B root ahead → IsAheadIn B root ahead)
 stays layout P root ahead told = drawn layout P (λ B. IsAheadIn B root ahead → IsAheadIn B root ahead) (λ B p kept. kept) told
 
 -- what a lookup read ahead are checksums of the tree, and are kept instead of those before
-pub read_in : (layout : Layout) {a b : Seen} (Is : UnreadBlock → Want → Type 0) (root : RootPlace) (kind : SumKind) (addr : ℕ) (key : Key) (reach : Reach) (old new : SumsAhead) → key ≡ sum_key addr → IsReadAhead kind addr reach new → Tells layout a b (λ B. ReachesItem Is B root key (Ok (Some reach))) → Tells layout a b (λ B. Reaches B root key (Ok (Some reach))) → Tells layout a b (λ B. IsAheadIn B root old → IsAheadIn B root new)
+pub read_in : (layout : Layout) {a b : Seen} (Is : UnreadBlock → Want → Type 0) (root : RootPlace) (kind : SumKind) (addr : ℕ) (key : Key)
+    (reach : Reach) (old new : SumsAhead) → key ≡ sum_key addr → IsReadAhead kind addr reach new
+    → Tells layout a b (λ B. ReachesItem Is B root key (Ok (Some reach))) → Tells layout a b (λ B. Reaches B root key (Ok (Some reach)))
+    → Tells layout a b (λ B. IsAheadIn B root old → IsAheadIn B root new)
 read_in layout {a} {b} Is root kind addr key reach old new is law found reaches =
-    paired layout (λ B. ReachesItem Is B root (sum_key addr) (Ok (Some reach))) (λ B. Reaches B root (sum_key addr) (Ok (Some reach))) (λ B. IsAheadIn B root old → IsAheadIn B root new)
+    paired layout (λ B. ReachesItem Is B root (sum_key addr) (Ok (Some reach))) (λ B. Reaches B root (sum_key addr) (Ok (Some reach)))
+    (λ B. IsAheadIn B root old → IsAheadIn B root new)
     (λ B f r kept. law B root f.1 r)
     (subst (λ (k : Key). Tells layout a b (λ B. ReachesItem Is B root k (Ok (Some reach)))) is found)
     (subst (λ (k : Key). Tells layout a b (λ B. Reaches B root k (Ok (Some reach)))) is reaches)
@@ -75,26 +82,35 @@ module _ (layout : Layout) (kind : SumKind) (sums : Option TreeRoot) (nosum : Bo
       subst (λ (b : Bool). ComesOf Is B (cond b (Return (Plain addr)) p) (Ok (Sector addr sum))) (sym tested)
       (no_steps (steps_of (exec B p).marks), bind_ending B (sum_at kind sums addr) (λ s. Return (want_by addr s)) (Some sum) (Ok (Sector addr sum)) looked refl)
 
-  pub want_kept : {a : Seen} (Is : UnreadBlock → Want → Type 0) → Tells layout a a (λ B. IsSummed B sums ahead → ComesOf Is B (sector_want kind sums nosum addr) (Ok (Sector addr sum)))
+  pub want_kept : {a : Seen} (Is : UnreadBlock → Want → Type 0)
+      → Tells layout a a (λ B. IsSummed B sums ahead → ComesOf Is B (sector_want kind sums nosum addr) (Ok (Sector addr sum)))
   want_kept Is = unread_on layout (λ B. IsSummed B sums ahead → ComesOf Is B (sector_want kind sums nosum addr) (Ok (Sector addr sum))) (by_kept Is)
 
 -- a sector's want by a lookup of its checksum, whatever checksums are kept
-pub want_looked : (layout : Layout) {a b : Seen} (program : Lookup Want) (result : Result Want TreeFault) (sums : Option TreeRoot) (ahead : SumsAhead) → Looks layout a b program result → Tells layout a b (λ B. IsSummed B sums ahead → ComesOf (unread_by layout a b) B program result)
+pub want_looked : (layout : Layout) {a b : Seen} (program : Lookup Want) (result : Result Want TreeFault) (sums : Option TreeRoot) (ahead : SumsAhead)
+    → Looks layout a b program result → Tells layout a b (λ B. IsSummed B sums ahead → ComesOf (unread_by layout a b) B program result)
 want_looked layout {a} {b} program result sums ahead looks =
-    drawn layout (λ B. ComesOf (unread_by layout a b) B program result) (λ B. IsSummed B sums ahead → ComesOf (unread_by layout a b) B program result) (λ B f summed. f) looks
+    drawn layout (λ B. ComesOf (unread_by layout a b) B program result) (λ B. IsSummed B sums ahead → ComesOf (unread_by layout a b) B program result)
+    (λ B f summed. f) looks
 
-pub kept_still : (layout : Layout) {a : Seen} (sums : Option TreeRoot) (ahead : SumsAhead) → Tells layout a a (λ B. IsSummed B sums ahead → IsSummed B sums ahead)
+pub kept_still : (layout : Layout) {a : Seen} (sums : Option TreeRoot) (ahead : SumsAhead)
+    → Tells layout a a (λ B. IsSummed B sums ahead → IsSummed B sums ahead)
 kept_still layout sums ahead = unread_on layout (λ B. IsSummed B sums ahead → IsSummed B sums ahead) (λ B kept. kept)
 
 -- ---- a sector
 
 -- what a sector comes to where the checksums that are kept are those of the tree, and they are so behind it
-abbrev pub GivenWithSums : SumKind → Source → (UnreadBlock → Want → Type 0) → (ℕ → Map) → Progress → Progress → Blocks → SumsAhead → SumsAhead → Result Shown TreeFault → Type 0
-GivenWithSums kind source Is Bs p p' store ahead ahead' result = IsSummed (Bs 0) source.sums ahead → IsGiven kind source Is Bs p p' store result × IsSummed (Bs 0) source.sums ahead'
+abbrev pub GivenWithSums : SumKind → Source → (UnreadBlock → Want → Type 0) → (ℕ → Map) → Progress → Progress → Blocks → SumsAhead → SumsAhead
+    → Result Shown TreeFault → Type 0
+GivenWithSums kind source Is Bs p p' store ahead ahead' result = IsSummed (Bs 0) source.sums ahead → IsGiven kind source Is Bs p p' store result
+    × IsSummed (Bs 0) source.sums ahead'
 
 abbrev pub with_sums : (Map → Type 0) → Option TreeRoot → SumsAhead → SumsAhead → Map → Type 0
 with_sums P sums ahead ahead' B = IsSummed B sums ahead → P B × IsSummed B sums ahead'
 
-pub looked_with_sums : (layout : Layout) {a b : Seen} (P : Map → Type 0) (sums : Option TreeRoot) (ahead ahead' : SumsAhead) → Tells layout a b (λ B. IsSummed B sums ahead → P B) → Tells layout a b (λ B. IsSummed B sums ahead → IsSummed B sums ahead') → Tells layout a b (with_sums P sums ahead ahead')
+pub looked_with_sums : (layout : Layout) {a b : Seen} (P : Map → Type 0) (sums : Option TreeRoot) (ahead ahead' : SumsAhead)
+    → Tells layout a b (λ B. IsSummed B sums ahead → P B) → Tells layout a b (λ B. IsSummed B sums ahead → IsSummed B sums ahead')
+    → Tells layout a b (with_sums P sums ahead ahead')
 looked_with_sums layout P sums ahead ahead' one two =
-    paired layout (λ B. IsSummed B sums ahead → P B) (λ B. IsSummed B sums ahead → IsSummed B sums ahead') (with_sums P sums ahead ahead') (λ B p q summed. (p summed, q summed)) one two
+    paired layout (λ B. IsSummed B sums ahead → P B) (λ B. IsSummed B sums ahead → IsSummed B sums ahead') (with_sums P sums ahead ahead')
+    (λ B p q summed. (p summed, q summed)) one two

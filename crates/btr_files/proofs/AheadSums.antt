@@ -1,5 +1,6 @@
 -- Checksums that are kept are those that lookups give.
-use Rattle.std.proofs.Common.{◌≡◌, ℕ, zero, suc, ◌+◌, ◌-◌, ◌*◌, ◌/◌, ◌%◌, ◌<◌, ◌≤◌, Bool, true, false, cond, ◌&&◌, leb, ltb, List, [], ◌∷◌, take, drop, Some, None, Result, Ok, length, zero-add, refl, sym, ap, ◌∙◌, subst, arith}
+use Rattle.std.proofs.Common.{◌≡◌, ℕ, zero, suc, ◌+◌, ◌-◌, ◌*◌, ◌/◌, ◌%◌, ◌<◌, ◌≤◌, Bool, true, false, cond, ◌&&◌, leb, ltb, List, [], ◌∷◌, take, drop, Some}
+use Rattle.std.proofs.Common.{None, Result, Ok, length, zero-add, refl, sym, ap, ◌∙◌, subst, arith}
 use Rattle.std.proofs.lemmas.Bool.{and_parts, leb-true, ltb-true, le-leb, lt-ltb}
 use Rattle.std.proofs.lemmas.List.{length-take, length-drop}
 use Rattle.std.proofs.lemmas.Nat.{mul-le}
@@ -61,7 +62,8 @@ same_part len k n at copy body same le =
     ∙ ap (take n) (drop_twice at k body)
 
 -- a part of a list that was copied
-pub part_copied : (at len : ℕ) (copy body : List ℕ) → at + len ≤ length body → take (length (take (at + len - at) (drop at body))) copy ≡ take (at + len - at) (drop at body) → take len copy ≡ take len (drop at body)
+pub part_copied : (at len : ℕ) (copy body : List ℕ) → at + len ≤ length body → take (length (take (at + len - at) (drop at body))) copy
+    ≡ take (at + len - at) (drop at body) → take len copy ≡ take len (drop at body)
 part_copied at len copy body le same =
     let long : length (take (at + len - at) (drop at body)) ≡ len = omega (arith, length-take (at + len - at) (drop at body), length-drop at body, le) in
     let whole : at + len - at ≡ len = omega arith in
@@ -91,16 +93,20 @@ both_true true true e f = refl
 both_true true false e f = absurd (cc f)
 both_true false b e f = absurd (cc e)
 
-sum_of_covered : (kind : SumKind) (addr : ℕ) (body : List ℕ) (run : SumRun) → run.start ≤ addr → addr < run.start + run.count * 4096 → sum_in kind addr body run ≡ Some (stored_sum kind (drop ((addr - run.start) / 4096 * sum_size kind) body))
+sum_of_covered : (kind : SumKind) (addr : ℕ) (body : List ℕ) (run : SumRun) → run.start ≤ addr → addr < run.start + run.count * 4096
+    → sum_in kind addr body run ≡ Some (stored_sum kind (drop ((addr - run.start) / 4096 * sum_size kind) body))
 sum_of_covered kind addr body run le lt =
-    ap (λ b. cond b (Some (stored_sum kind (drop ((addr - run.start) / 4096 * sum_size kind) body))) None) (both_true (leb run.start addr) (ltb addr (run.start + run.count * 4096)) (le-leb _ _ le) (lt-ltb _ _ lt))
+    ap (λ b. cond b (Some (stored_sum kind (drop ((addr - run.start) / 4096 * sum_size kind) body))) None)
+    (both_true (leb run.start addr) (ltb addr (run.start + run.count * 4096)) (le-leb _ _ le) (lt-ltb _ _ lt))
 
 -- ---- a part of a run
 
-sector_of : (start addr other : ℕ) → start ≤ addr → addr ≤ other → (addr - start) % 4096 ≡ 0 → (other - start) / 4096 ≡ (addr - start) / 4096 + (other - addr) / 4096
+sector_of : (start addr other : ℕ) → start ≤ addr → addr ≤ other → (addr - start) % 4096 ≡ 0 → (other - start) / 4096 ≡ (addr - start) / 4096
+    + (other - addr) / 4096
 sector_of start addr other first second aligned = omega (arith, first, second, aligned)
 
-in_run : (start addr other count part : ℕ) → start ≤ addr → (addr - start) % 4096 ≡ 0 → part ≤ count - (addr - start) / 4096 → (addr - start) / 4096 < count → other < addr + part * 4096 → other < start + count * 4096
+in_run : (start addr other count part : ℕ) → start ≤ addr → (addr - start) % 4096 ≡ 0 → part ≤ count - (addr - start) / 4096
+    → (addr - start) / 4096 < count → other < addr + part * 4096 → other < start + count * 4096
 in_run start addr other count part le aligned few lt below = omega (arith, le, aligned, few, lt, below)
 
 nth_sector : (addr other part : ℕ) → addr ≤ other → other < addr + part * 4096 → (other - addr) / 4096 < part
@@ -123,7 +129,8 @@ part_ends first part count size few lt =
     let le : first + part ≤ count = omega (arith, few, lt) in
     subst (λ n. n ≤ count * size) (shared first part size) (mul-le (first + part) size count size le (omega arith))
 
-module _ (kind : SumKind) (addr : ℕ) (body : List ℕ) (run : SumRun) (part : ℕ) (copy : List ℕ) (behind : run.start ≤ addr) (aligned : (addr - run.start) % 4096 ≡ 0) (lt : (addr - run.start) / 4096 < run.count) (few : part ≤ run.count - (addr - run.start) / 4096)
+module _ (kind : SumKind) (addr : ℕ) (body : List ℕ) (run : SumRun) (part : ℕ) (copy : List ℕ) (behind : run.start ≤ addr)
+    (aligned : (addr - run.start) % 4096 ≡ 0) (lt : (addr - run.start) / 4096 < run.count) (few : part ≤ run.count - (addr - run.start) / 4096)
     (same : take (part * sum_size kind) copy ≡ take (part * sum_size kind) (drop ((addr - run.start) / 4096 * sum_size kind) body)) where
   abbrev taken : SumRun
   taken = record { start = addr; count = part }
@@ -151,18 +158,23 @@ module _ (kind : SumKind) (addr : ℕ) (body : List ℕ) (run : SumRun) (part : 
 -- ---- by what is looked up
 
 -- a program behind one that came to a value
-pub bind_ending : {A C : Type 0} (B : Map) (p : Lookup A) (k : A → Lookup C) (a : A) (r : Result C Fault) → (exec B p).ending ≡ Ok a → (exec B (k a)).ending ≡ r → (exec B (bind p k)).ending ≡ r
+pub bind_ending : {A C : Type 0} (B : Map) (p : Lookup A) (k : A → Lookup C) (a : A) (r : Result C Fault) → (exec B p).ending ≡ Ok a
+    → (exec B (k a)).ending ≡ r → (exec B (bind p k)).ending ≡ r
 bind_ending B p k a r e f = ap (λ (q : Run Want Fault ⊥ _). q.ending) (exec-bind B p k ∙ after-ok (exec B p) a (λ x. exec B (k x)) e) ∙ f
 
 -- what is found of a run's item
-run_found : (kind : SumKind) (addr : ℕ) (item : TreeItem) (run : SumRun) (B : Map) (sum : Sum) → is_sums item.key ≡ true → sum_run_of kind item.key item.body ≡ Ok run → sum_in kind addr item.body run ≡ Some sum → (exec B (sum_found kind addr (Some item))).ending ≡ Ok (Some sum)
+run_found : (kind : SumKind) (addr : ℕ) (item : TreeItem) (run : SumRun) (B : Map) (sum : Sum) → is_sums item.key ≡ true
+    → sum_run_of kind item.key item.body ≡ Ok run → sum_in kind addr item.body run ≡ Some sum → (exec B (sum_found kind addr (Some item))).ending
+    ≡ Ok (Some sum)
 run_found kind addr item run B sum sums is e =
-    ap (λ b. (exec {S = ⊥} B (cond b (formed item (sum_run_of kind item.key item.body) (λ r. Return (sum_in kind addr item.body r))) (Return None))).ending) sums
+    ap (λ b. (exec {S = ⊥} B (cond b (formed item (sum_run_of kind item.key item.body) (λ r. Return (sum_in kind addr item.body r)))
+    (Return None))).ending) sums
     ∙ ap (λ r. (exec {S = ⊥} B (formed item r (λ x. Return (sum_in kind addr item.body x)))).ending) is
     ∙ ap Ok e
 
 module _ (kind : SumKind) (addr : ℕ) (reach : Reach) (run : SumRun) (ahead : SumsAhead) where
-  pub from_is_ahead : is_sums reach.found.key ≡ true → sum_run_of kind reach.found.key reach.found.body.now ≡ Ok run → IsFrom kind addr reach.found.body.now run reach.until ahead → IsReadAhead kind addr reach ahead
+  pub from_is_ahead : is_sums reach.found.key ≡ true → sum_run_of kind reach.found.key reach.found.body.now ≡ Ok run
+      → IsFrom kind addr reach.found.body.now run reach.until ahead → IsReadAhead kind addr reach ahead
   from_is_ahead sums is from B root found same other sum kept =
       let behind : addr ≤ other = from.behind other sum kept in
       let below : is_below reach.until (sum_key other) ≡ true = from.below other sum kept in
@@ -173,5 +185,6 @@ module _ (kind : SumKind) (addr : ℕ) (reach : Reach) (run : SumRun) (ahead : S
       (run_found kind other (item_of reach.found) run B sum sums is (from.same other sum kept)))
 
 -- where nothing is kept
-pub none_ahead : (kind : SumKind) (addr : ℕ) (reach : Reach) (ahead : SumsAhead) → ((other : ℕ) → kept_sum ahead other ≡ None) → IsReadAhead kind addr reach ahead
+pub none_ahead : (kind : SumKind) (addr : ℕ) (reach : Reach) (ahead : SumsAhead) → ((other : ℕ) → kept_sum ahead other ≡ None)
+    → IsReadAhead kind addr reach ahead
 none_ahead kind addr reach ahead none B root found same other sum kept = absurd (cc (sym (none other) ∙ kept))

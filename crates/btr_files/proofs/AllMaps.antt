@@ -38,14 +38,17 @@ maps-zero First images layout = refl
 maps-zero Any images layout = fun_ext (λ want. choices-zero images layout want)
 
 -- what holds of the one map holds of all whose first it is
-one_all : (layout : Layout) (P : Map → Type 0) (Q : (ℕ → Map) → Type 0) → ((Bs : ℕ → Map) → P (Bs 0) → Q Bs) → (sure : Sure) (h : Option (List (List ℕ))) → OnMap layout P sure h → IfSome h (λ images. Q (λ n. maps_by sure images n layout))
+one_all : (layout : Layout) (P : Map → Type 0) (Q : (ℕ → Map) → Type 0) → ((Bs : ℕ → Map) → P (Bs 0) → Q Bs)
+    → (sure : Sure) (h : Option (List (List ℕ))) → OnMap layout P sure h → IfSome h (λ images. Q (λ n. maps_by sure images n layout))
 one_all layout P Q f sure None p = tt
 one_all layout P Q f sure (Some images) p = f (λ n. maps_by sure images n layout) (subst P (sym (maps-zero sure images layout)) p)
 
-pub all_of_one : (layout : Layout) {a b : Seen} (P : Map → Type 0) (Q : (ℕ → Map) → Type 0) → ((Bs : ℕ → Map) → P (Bs 0) → Q Bs) → Tells layout a b P → TellsAll layout a b Q
+pub all_of_one : (layout : Layout) {a b : Seen} (P : Map → Type 0) (Q : (ℕ → Map) → Type 0) → ((Bs : ℕ → Map) → P (Bs 0) → Q Bs) → Tells layout a b P
+    → TellsAll layout a b Q
 all_of_one layout P Q f one = record { calls = calls_as (λ sure h p. one_all layout P Q f sure h p) one.calls }
 
-all_one : (layout : Layout) (P Q : (ℕ → Map) → Type 0) → ((Bs : ℕ → Map) → P Bs → Q Bs) → (sure : Sure) (h : Option (List (List ℕ))) → IfSome h (λ images. P (λ n. maps_by sure images n layout)) → IfSome h (λ images. Q (λ n. maps_by sure images n layout))
+all_one : (layout : Layout) (P Q : (ℕ → Map) → Type 0) → ((Bs : ℕ → Map) → P Bs → Q Bs) → (sure : Sure) (h : Option (List (List ℕ)))
+    → IfSome h (λ images. P (λ n. maps_by sure images n layout)) → IfSome h (λ images. Q (λ n. maps_by sure images n layout))
 all_one layout P Q f sure None p = tt
 all_one layout P Q f sure (Some images) p = f (λ n. maps_by sure images n layout) p
 
@@ -53,16 +56,20 @@ all_one layout P Q f sure (Some images) p = f (λ n. maps_by sure images n layou
 pub all_drawn : (layout : Layout) {a b : Seen} (P Q : (ℕ → Map) → Type 0) → ((Bs : ℕ → Map) → P Bs → Q Bs) → TellsAll layout a b P → TellsAll layout a b Q
 all_drawn layout P Q f one = record { calls = calls_as (λ sure h p. all_one layout P Q f sure h p) one.calls }
 
-all_both : (layout : Layout) (P Q R : (ℕ → Map) → Type 0) → ((Bs : ℕ → Map) → P Bs → Q Bs → R Bs) → (sure : Sure) (h : Option (List (List ℕ))) → IfSome h (λ images. P (λ n. maps_by sure images n layout)) → IfSome h (λ images. Q (λ n. maps_by sure images n layout)) → IfSome h (λ images. R (λ n. maps_by sure images n layout))
+all_both : (layout : Layout) (P Q R : (ℕ → Map) → Type 0) → ((Bs : ℕ → Map) → P Bs → Q Bs → R Bs) → (sure : Sure) (h : Option (List (List ℕ)))
+    → IfSome h (λ images. P (λ n. maps_by sure images n layout)) → IfSome h (λ images. Q (λ n. maps_by sure images n layout))
+    → IfSome h (λ images. R (λ n. maps_by sure images n layout))
 all_both layout P Q R f sure None p q = tt
 all_both layout P Q R f sure (Some images) p q = f (λ n. maps_by sure images n layout) p q
 
 -- two calls over one layout
-pub all_joined : {layout layout' : Layout} {a b c : Seen} (P Q R : (ℕ → Map) → Type 0) → layout' ≡ layout → ((Bs : ℕ → Map) → P Bs → Q Bs → R Bs) → TellsAll layout a b P → TellsAll layout' b c Q → TellsAll layout a c R
+pub all_joined : {layout layout' : Layout} {a b c : Seen} (P Q R : (ℕ → Map) → Type 0) → layout' ≡ layout → ((Bs : ℕ → Map) → P Bs → Q Bs → R Bs)
+    → TellsAll layout a b P → TellsAll layout' b c Q → TellsAll layout a c R
 all_joined {layout} {layout'} {a} {b} {c} P Q R e f one two =
     record { calls = calls_then (λ sure h p q. all_both layout P Q R f sure h p q) one.calls (subst (λ (l : Layout). TellsAll l b c Q) e two).calls }
 
-all_none : (layout : Layout) (Q : (ℕ → Map) → Type 0) → ((Bs : ℕ → Map) → Q Bs) → (sure : Sure) (h : Option (List (List ℕ))) → IfSome h (λ images. Q (λ n. maps_by sure images n layout))
+all_none : (layout : Layout) (Q : (ℕ → Map) → Type 0) → ((Bs : ℕ → Map) → Q Bs) → (sure : Sure) (h : Option (List (List ℕ)))
+    → IfSome h (λ images. Q (λ n. maps_by sure images n layout))
 all_none layout Q f sure None = tt
 all_none layout Q f sure (Some images) = f (λ n. maps_by sure images n layout)
 

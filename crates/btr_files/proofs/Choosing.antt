@@ -1,5 +1,6 @@
 -- The pieces of a file are its bytes, also where a sector without a checksum may come to any of its copies.
-use Rattle.std.proofs.Common.{◌≡◌, ◌⊎◌, ℕ, zero, suc, ◌+◌, ◌-◌, ◌<◌, ◌≤◌, Bool, true, false, cond, not, IsTrue, List, [], ◌∷◌, ◌++◌, length, Option, Some, None, Result, Ok, Err, refl, sym, ap, ◌∙◌, subst, inl, inr, arith}
+use Rattle.std.proofs.Common.{◌≡◌, ◌⊎◌, ℕ, zero, suc, ◌+◌, ◌-◌, ◌<◌, ◌≤◌, Bool, true, false, cond, not, IsTrue, List, [], ◌∷◌, ◌++◌, length, Option, Some, None}
+use Rattle.std.proofs.Common.{Result, Ok, Err, refl, sym, ap, ◌∙◌, subst, inl, inr, arith}
 use Rattle.std.specs.Prelude.{nat_eq, nat_le, slice_index, take}
 use Rattle.std.proofs.lemmas.Bool.Decides.{nat_tests}
 use Rattle.std.proofs.lemmas.List.{get_or-append_right, get_or_append_left, length-append, length-take}
@@ -48,8 +49,18 @@ module _ {A : Type 0} where
       one_bind is_plain IsSectorLong AsLong (quiet p) k (one_none is_plain IsSectorLong AsLong (quiet p) (shows_quiet same same is_plain p h)) g
 
   -- a sector, cut, and then the rest
-  gives_sector : (left : ℕ) (want : Want) (rest : Program Piece A) → Gives rest → Gives (Need want (λ bytes. Emit (Bytes (take left bytes) (not (is_plain want))) rest))
-  gives_sector left want rest h = (λ bytes. h, λ t. inr (λ bytes. Bytes (take left bytes) (not (is_plain want)), rest, λ bytes. refl, λ b c long also. as_long want t b c long also))
+  gives_sector : (left : ℕ) (want : Want) (rest : Program Piece A) → Gives rest
+      → Gives (Need want (λ bytes. Emit (Bytes (take left bytes) (not (is_plain want))) rest))
+  gives_sector left want rest h = (
+    λ bytes. h,
+    λ t. inr (
+      λ bytes. Bytes (take left bytes) (not (is_plain want)),
+      rest,
+      λ bytes. refl,
+      λ b c long also.
+          as_long want t b c long also,
+    ),
+  )
     where
       as_long : (w : Want) → IsTrue (is_plain w) → (b c : List ℕ) → IsSectorLong w b → IsSectorLong w c → length (take left b) ≡ length (take left c)
       as_long (Tree addr generation level) t b c long also = absurd (never_true t)

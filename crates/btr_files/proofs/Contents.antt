@@ -1,5 +1,6 @@
 -- The pieces of a file are its bytes.
-use Rattle.std.proofs.Common.{◌≡◌, ℕ, ◌-◌, ◌<◌, ◌≤◌, Bool, true, false, cond, length, List, [], ◌∷◌, Option, Some, None, Result, Ok, Err, refl, sym, ap, ◌∙◌, subst, arith}
+use Rattle.std.proofs.Common.{◌≡◌, ℕ, ◌-◌, ◌<◌, ◌≤◌, Bool, true, false, cond, length, List, [], ◌∷◌, Option, Some, None, Result, Ok, Err, refl, sym, ap, ◌∙◌}
+use Rattle.std.proofs.Common.{subst, arith}
 use Rattle.std.specs.Prelude.{◌==◌, ◌&&◌, nat_le, nat_lt, find, slice_index}
 use Rattle.std.specs.Option.{option_map_or}
 use Rattle.std.proofs.lemmas.Bool.Decides.{nat_tests}
@@ -38,7 +39,8 @@ module _ (B : Map) where
   abbrev Behind : RangeProg → Type 0
   Behind items = (end p : ℕ) → p < end → find (covers p) (steps B (extents_in end items)) ≡ None
 
-  none_given : (k : List ℕ → RangeProg) → ((bytes : List ℕ) → Behind (k bytes)) → (x : Result (List ℕ) Fault) (end p : ℕ) → p < end → find (covers p) (steps_of (given x (λ bytes. exec B (extents_in end (k bytes)))).marks) ≡ None
+  none_given : (k : List ℕ → RangeProg) → ((bytes : List ℕ) → Behind (k bytes)) → (x : Result (List ℕ) Fault) (end p : ℕ) → p < end
+      → find (covers p) (steps_of (given x (λ bytes. exec B (extents_in end (k bytes)))).marks) ≡ None
   none_given k ih (Ok bytes) end p lt = ih bytes end p lt
   none_given k ih (Err f) end p lt = refl
 
@@ -47,7 +49,8 @@ module _ (B : Map) where
     on end' = extents_in end' items
 
     none_order : (fields : FileExtent) (b : Bool) → nat_le end item.key.offset ≡ b →
-        find (covers p) (steps B (bind (cond b (Emit (extent item fields) (Return (Ok (end_of item.key.offset fields)))) (Stop (Malformed item.leaf))) (go_on on))) ≡ None
+        find (covers p) (steps B (bind (cond b (Emit (extent item fields) (Return (Ok (end_of item.key.offset fields)))) (Stop (Malformed item.leaf)))
+        (go_on on))) ≡ None
     none_order fields true e =
         let le : end ≤ item.key.offset = is_le end item.key.offset e in
         let out : covers p (extent item fields) ≡ false = ap (λ (b : Bool). b && nat_lt p (end_of item.key.offset fields)) (test_lt p item.key.offset (omega (arith, lt, le))) in
@@ -55,7 +58,8 @@ module _ (B : Map) where
         ∙ ih (end_of item.key.offset fields) p (omega (arith, lt, le))
     none_order fields false e = refl
 
-    none_form : (r : Result FileExtent ItemFault) → find (covers p) (steps B (bind (formed item r (λ fields. in_order end (extent item fields))) (go_on on))) ≡ None
+    none_form : (r : Result FileExtent ItemFault) → find (covers p)
+        (steps B (bind (formed item r (λ fields. in_order end (extent item fields))) (go_on on))) ≡ None
     none_form (Ok fields) = none_order fields (nat_le end item.key.offset) refl
     none_form (Err fault) = refl
 
@@ -96,10 +100,12 @@ module _ (B : Map) (kind : SumKind) (sums : Option TreeRoot) (nosum : Bool) (siz
   Filled f at q = q.ending ≡ Ok tt → Fills f at size (bytes_in q.marks)
 
   abbrev Given : RangeProg → Type 0
-  Given items = (at end : ℕ) → at ≤ end → at ≤ size → Filled (bytes_at (steps B (extents_in end items))) at (exec B (pieces kind sums nosum size at (extents_in end items)))
+  Given items = (at end : ℕ) → at ≤ end → at ≤ size → Filled (bytes_at (steps B (extents_in end items))) at
+      (exec B (pieces kind sums nosum size at (extents_in end items)))
 
   given_need : (w : Want) (k : List ℕ → RangeProg) → ((bytes : List ℕ) → Given (k bytes)) → (x : Result (List ℕ) Fault) (at end : ℕ) → at ≤ end → at ≤ size →
-      Filled (bytes_at (steps_of (given x (λ bytes. exec B (extents_in end (k bytes)))).marks)) at (first (Wants w) (given x (λ bytes. exec B (pieces kind sums nosum size at (extents_in end (k bytes))))))
+      Filled (bytes_at (steps_of (given x (λ bytes. exec B (extents_in end (k bytes)))).marks)) at
+      (first (Wants w) (given x (λ bytes. exec B (pieces kind sums nosum size at (extents_in end (k bytes))))))
   given_need w k ih (Ok bytes) at end behind low ok = ih bytes at end behind low ok
   given_need w k ih (Err f) at end behind low ok = let z : ⊥ = cc in absurd z
 
@@ -135,12 +141,14 @@ module _ (B : Map) (kind : SumKind) (sums : Option TreeRoot) (nosum : Bool) (siz
       abbrev Put : Result ℕ ℕ → List ℕ → Type 0
       Put = Puts byte_x size end_x at
 
-      filled_by : (ms : Marks) (e : Result (Result ℕ ℕ) Fault) → ((r : Result ℕ ℕ) → e ≡ Ok r → Put r (bytes_in ms)) → Filled (bytes_at (x ∷ xs)) at (after ms e (λ r. exec B (bind (go_on K r) zeros)))
+      filled_by : (ms : Marks) (e : Result (Result ℕ ℕ) Fault) → ((r : Result ℕ ℕ) → e ≡ Ok r → Put r (bytes_in ms))
+          → Filled (bytes_at (x ∷ xs)) at (after ms e (λ r. exec B (bind (go_on K r) zeros)))
       filled_by ms (Ok (Ok at')) h ok =
           let p = h (Ok at') refl in
           fills_marks (bytes_at (x ∷ xs)) at at' size ms (exec B (pieces kind sums nosum size at' (extents_in end_x items))).marks
           (fills_as byte_x (bytes_at (x ∷ xs)) at at' (bytes_in ms) (λ q le lt. here q (omega (arith, lt, p.short))) p.fills)
-          (fills_as (bytes_at xs) (bytes_at (x ∷ xs)) at' size (bytes_in (exec B (pieces kind sums nosum size at' (extents_in end_x items))).marks) (λ q le lt. gone q (p.over q le lt))
+          (fills_as (bytes_at xs) (bytes_at (x ∷ xs)) at' size (bytes_in (exec B (pieces kind sums nosum size at' (extents_in end_x items))).marks)
+          (λ q le lt. gone q (p.over q le lt))
           (ih at' end_x p.short p.within ok))
       filled_by ms (Ok (Err at')) h ok =
           let p = h (Err at') refl in
@@ -152,16 +160,20 @@ module _ (B : Map) (kind : SumKind) (sums : Option TreeRoot) (nosum : Bool) (siz
       filled_clear : Filled (bytes_at (x ∷ xs)) at (exec B (bind (bind (one at x) (go_on K)) zeros))
       filled_clear =
           let q = exec B (one at x) in
-          subst (Filled (bytes_at (x ∷ xs)) at) (sym (ap (exec B) (bind_assoc (one at x) (go_on K) zeros) ∙ exec-bind B (one at x) (λ r. bind (go_on K r) zeros)))
+          subst (Filled (bytes_at (x ∷ xs)) at) (sym (ap (exec B) (bind_assoc (one at x) (go_on K) zeros)
+          ∙ exec-bind B (one at x) (λ r. bind (go_on K r) zeros)))
           (filled_by q.marks q.ending
-          (puts_clear B kind sums nosum size whole x at low (omega (arith, behind, order)) item.body refl (λ clear. extent_known item.key.offset item.body fields clear form) (judged fields) refl))
+          (puts_clear B kind sums nosum size whole x at low (omega (arith, behind, order)) item.body refl
+          (λ clear. extent_known item.key.offset item.body fields clear form) (judged fields) refl))
 
     abbrev more : ℕ → Program Extent (Unit {0})
     more end' = extents_in end' items
 
     filled_order : (fields : FileExtent) → Ok fields ≡ file_extent_of item.key.offset item.body → (b : Bool) → nat_le end item.key.offset ≡ b →
-        Filled (bytes_at (steps B (bind (cond b (Emit (extent item fields) (Return (Ok (end_of item.key.offset fields)))) (Stop (Malformed item.leaf))) (go_on more)))) at
-        (exec B (pieces kind sums nosum size at (bind (cond b (Emit (extent item fields) (Return (Ok (end_of item.key.offset fields)))) (Stop (Malformed item.leaf))) (go_on more))))
+        Filled (bytes_at (steps B (bind (cond b (Emit (extent item fields) (Return (Ok (end_of item.key.offset fields))))
+        (Stop (Malformed item.leaf))) (go_on more)))) at
+        (exec B (pieces kind sums nosum size at (bind (cond b (Emit (extent item fields) (Return (Ok (end_of item.key.offset fields))))
+        (Stop (Malformed item.leaf))) (go_on more))))
     filled_order fields form true e ok = filled_clear fields form (is_le end item.key.offset e) ok
     filled_order fields form false e ok = let z : ⊥ = cc in absurd z
 
@@ -175,11 +187,13 @@ module _ (B : Map) (kind : SumKind) (sums : Option TreeRoot) (nosum : Bool) (siz
   given_filled (Return u) at end behind low ok = fills_last (bytes_at []) B at size low (λ p le lt. refl)
   given_filled (Stop f) at end behind low ok = let z : ⊥ = cc in absurd z
   given_filled (Need w k) at end behind low ok = given_need w k (λ bytes. given_filled (k bytes)) (B w) at end behind low ok
-  given_filled (Emit item items) at end behind low ok = filled_form item items (given_filled items) at end behind low (file_extent_of item.key.offset item.body) refl ok
+  given_filled (Emit item items) at end behind low ok = filled_form item items (given_filled items) at end behind low
+      (file_extent_of item.key.offset item.body) refl ok
 
   module _ (tree : TreeRoot) (ino : ℕ) where
     abbrev IsFile : Program Piece (Unit {0}) → Type 0
-    IsFile p = (exec B p).ending ≡ Ok tt → (length (bytes_of (steps B p)) ≡ size) × ((i : ℕ) → i < size → slice_index (bytes_of (steps B p)) i ≡ bytes_at (steps B (extents tree ino)) i)
+    IsFile p = (exec B p).ending ≡ Ok tt → (length (bytes_of (steps B p)) ≡ size)
+        × ((i : ℕ) → i < size → slice_index (bytes_of (steps B p)) i ≡ bytes_at (steps B (extents tree ino)) i)
 
     by_empty : (b : Bool) → (size == 0) ≡ b → IsFile (cond b (Return tt) (pieces kind sums nosum size 0 (extents tree ino)))
     by_empty true e ok = let none : size ≡ 0 = grind (arith, nat_tests) in (omega (arith, none), λ i lt. absurd (omega (arith, none, lt)))

@@ -1,5 +1,6 @@
 -- What an item of a file's extents comes to.
-use Rattle.std.proofs.Common.{◌≡◌, ℕ, ◌+◌, ◌-◌, ◌*◌, ◌/◌, ◌%◌, ◌^◌, ◌<◌, ◌≤◌, Bool, true, false, cond, not, List, length, Some, Result, Ok, Err, refl, sym, ap, ◌∙◌, subst, arith}
+use Rattle.std.proofs.Common.{◌≡◌, ℕ, ◌+◌, ◌-◌, ◌*◌, ◌/◌, ◌%◌, ◌^◌, ◌<◌, ◌≤◌, Bool, true, false, cond, not, List, length, Some, Result, Ok, Err, refl, sym, ap}
+use Rattle.std.proofs.Common.{◌∙◌, subst, arith}
 use Rattle.std.specs.Prelude.{◌==◌, ◌&&◌, ◌||◌, nat_le, nat_lt, take, min, slice_index}
 use Rattle.std.proofs.lemmas.Bool.Decides.{nat_tests}
 use Rattle.btr_base.specs.Field.{number_at}
@@ -69,25 +70,31 @@ module _ (kind : SumKind) (source : Source) (at : ℕ) (item : TreeItem) where
     abbrev end : ℕ
     end = end_of start fields
 
-    by_shape : (s : Shape) → bind (shaped kind source.sums source.nosum source.size at (extent item fields) s) (on end) ≡ todo_prog kind source at end (inline_data item.body) (todo_at source.size item.leaf start s)
+    by_shape : (s : Shape) → bind (shaped kind source.sums source.nosum source.size at (extent item fields) s) (on end)
+        ≡ todo_prog kind source at end (inline_data item.body) (todo_at source.size item.leaf start s)
     by_shape (shape.Inline len) = by_len end len (len == 0)
     by_shape (shape.Regular addr disk_len skip len) = by_addr end (addr + skip) (sector_count source.size start len) (addr == 0)
     by_shape (shape.Prealloc addr disk_len skip len) = refl
 
-    by_size : (b : Bool) → bind (cond b (Return (Err at)) (shaped kind source.sums source.nosum source.size at (extent item fields) fields.shape)) (on end) ≡ todo_prog kind source at end (inline_data item.body) (cond b Over (todo_at source.size item.leaf start fields.shape))
+    by_size : (b : Bool) → bind (cond b (Return (Err at)) (shaped kind source.sums source.nosum source.size at (extent item fields) fields.shape))
+        (on end) ≡ todo_prog kind source at end (inline_data item.body) (cond b Over (todo_at source.size item.leaf start fields.shape))
     by_size true = refl
     by_size false = by_shape fields.shape
 
-    by_clearness : (s : Survey) → bind (if_clear (extent item fields) s (cond (nat_le source.size start) (Return (Err at)) (shaped kind source.sums source.nosum source.size at (extent item fields) fields.shape))) (on end) ≡ ahead_prog (ahead_clear source.size item fields s)
+    by_clearness : (s : Survey) → bind (if_clear (extent item fields) s
+        (cond (nat_le source.size start) (Return (Err at)) (shaped kind source.sums source.nosum source.size at (extent item fields) fields.shape)))
+        (on end) ≡ ahead_prog (ahead_clear source.size item fields s)
     by_clearness Clear = by_size (nat_le source.size start)
     by_clearness Compressed = refl
     by_clearness Encoded = refl
 
-    by_order : (b : Bool) → cond b (bind (piece kind source.sums source.nosum source.size at (extent item fields)) (on end)) (Stop (fate.Malformed item.leaf)) ≡ ahead_prog (cond b (ahead_clear source.size item fields (judged fields)) (Err (Malformed item.leaf)))
+    by_order : (b : Bool) → cond b (bind (piece kind source.sums source.nosum source.size at (extent item fields)) (on end))
+        (Stop (fate.Malformed item.leaf)) ≡ ahead_prog (cond b (ahead_clear source.size item fields (judged fields)) (Err (Malformed item.leaf)))
     by_order true = by_clearness (judged fields)
     by_order false = refl
 
-  by_form : (before : ℕ) (r : Result FileExtent ItemFault) → formed item r (extent_pieces kind source (given at before) item) ≡ ahead_prog (ahead_formed source.size before item r)
+  by_form : (before : ℕ) (r : Result FileExtent ItemFault) → formed item r (extent_pieces kind source (given at before) item)
+      ≡ ahead_prog (ahead_formed source.size before item r)
   by_form before (Ok fields) = by_order fields (nat_le before start)
   by_form before (Err fault) = refl
 
@@ -139,7 +146,9 @@ Known body (shape.Inline len) = length body ≡ 21 + len
 Known body (shape.Regular addr disk_len skip len) = 0 < addr → IsPlaced addr skip len
 Known body (shape.Prealloc addr disk_len skip len) = Unit {0}
 
-placed : (offset addr disk_len skip len : ℕ) (whole compressed : Bool) → compressed ≡ false → (whole && is_range offset len && not (len == 0) && is_range addr disk_len && ((addr == 0) || (is_aligned skip && (compressed || holds disk_len skip len)))) ≡ true → 0 < addr → IsPlaced addr skip len
+placed : (offset addr disk_len skip len : ℕ) (whole compressed : Bool) → compressed ≡ false
+    → (whole && is_range offset len && not (len == 0) && is_range addr disk_len &&
+    ((addr == 0) || (is_aligned skip && (compressed || holds disk_len skip len)))) ≡ true → 0 < addr → IsPlaced addr skip len
 placed offset addr disk_len skip len whole compressed clear h some =
     let z = (addr == 0) || (is_aligned skip && (compressed || holds disk_len skip len)) in
     let e = both (whole && is_range offset len && not (len == 0) && is_range addr disk_len) z h in
@@ -169,7 +178,8 @@ module _ (offset : ℕ) (body : List ℕ) (clear : not (slice_index body 16 == 0
   known_regular : (s : Shape) → fields_if (place_fits offset body) regular ≡ Ok s → Known body s
   known_regular s h =
       let f = of_fields (place_fits offset body) regular s h in
-      subst (Known body) f.1 (λ some. placed offset (number_at 8 21 body) (number_at 8 29 body) (number_at 8 37 body) (number_at 8 45 body) (length body == 53) (not (slice_index body 16 == 0)) clear f.0 some)
+      subst (Known body) f.1 (λ some. placed offset (number_at 8 21 body) (number_at 8 29 body) (number_at 8 37 body) (number_at 8 45 body)
+      (length body == 53) (not (slice_index body 16 == 0)) clear f.0 some)
 
   known_prealloc : (s : Shape) → fields_if (place_fits offset body) prealloc ≡ Ok s → Known body s
   known_prealloc s h = subst (Known body) (of_fields (place_fits offset body) prealloc s h).1 tt
@@ -222,7 +232,8 @@ module _ (offset : ℕ) (body : List ℕ) (fields : FileExtent) (clear : judged 
       let same : slice_index body 16 ≡ fields.compression = ap (λ (x : FileExtent). x.compression) m.2 in
       let zero : (slice_index body 16 == 0) ≡ true = ap (λ (n : ℕ). n == 0) same ∙ plain fields clear in
       subst (Known body) (ap (λ (x : FileExtent). x.shape) m.2)
-      (shape_known offset body (not_true (slice_index body 16 == 0) zero) (is_le 21 (length body) (both (nat_le 21 (length body)) (is_aligned offset) e).0) m.0 m.1)
+      (shape_known offset body (not_true (slice_index body 16 == 0) zero)
+      (is_le 21 (length body) (both (nat_le 21 (length body)) (is_aligned offset) e).0) m.0 m.1)
   of_test false e h = let z : ⊥ = cc in absurd z
 
   -- a clear extent in a body, by its shape
@@ -279,7 +290,8 @@ module _ (size before : ℕ) (item : TreeItem) (fields : FileExtent) (clear : ju
   fits_shape (shape.Regular addr disk_len skip len) k lt = fits_regular addr disk_len skip len (addr == 0) refl k lt
   fits_shape (shape.Prealloc addr disk_len skip len) k lt = omega (arith, order)
 
-  fits_size : (b : Bool) → nat_le size begin ≡ b → Known item.body fields.shape → FitsTodo size before (end_of begin fields) (cond b Over (todo_at size item.leaf begin fields.shape))
+  fits_size : (b : Bool) → nat_le size begin ≡ b → Known item.body fields.shape
+      → FitsTodo size before (end_of begin fields) (cond b Over (todo_at size item.leaf begin fields.shape))
   fits_size true e k = tt
   fits_size false e k = fits_shape fields.shape k (is_lt size begin e)
 
@@ -300,7 +312,8 @@ module _ (size before : ℕ) (item : TreeItem) (fields : FileExtent) (clear : ju
   inline_size true k = tt
   inline_size false k = inline_shape fields.shape k
 
-  pub ahead_good : Known item.body fields.shape → FitsTodo size before (ahead_at size item fields).end (ahead_at size item fields).todo × IsInline (Some item) (ahead_at size item fields).todo
+  pub ahead_good : Known item.body fields.shape → FitsTodo size before (ahead_at size item fields).end (ahead_at size item fields).todo
+      × IsInline (Some item) (ahead_at size item fields).todo
   ahead_good k = (fits_size (nat_le size begin) refl k, inline_size (nat_le size begin) k)
 
 -- what was found of an item is good
@@ -308,14 +321,17 @@ module _ (size before : ℕ) (item : TreeItem) (ahead : Ahead) where
   abbrev Good : Type 0
   Good = FitsTodo size before ahead.end ahead.todo × IsInline (Some item) ahead.todo
 
-  good_clear : (fields : FileExtent) (s : Survey) → judged fields ≡ s → before ≤ item.key.offset → Ok fields ≡ file_extent_of item.key.offset item.body → ahead_clear size item fields s ≡ Ok ahead → Good
+  good_clear : (fields : FileExtent) (s : Survey) → judged fields ≡ s → before ≤ item.key.offset → Ok fields
+      ≡ file_extent_of item.key.offset item.body → ahead_clear size item fields s ≡ Ok ahead → Good
   good_clear fields Clear clear order form h =
       let e : ahead_at size item fields ≡ ahead = cc in
-      subst (λ (a : Ahead). FitsTodo size before a.end a.todo × IsInline (Some item) a.todo) e (ahead_good size before item fields clear order (extent_known item.key.offset item.body fields clear form))
+      subst (λ (a : Ahead). FitsTodo size before a.end a.todo × IsInline (Some item) a.todo) e
+      (ahead_good size before item fields clear order (extent_known item.key.offset item.body fields clear form))
   good_clear fields Compressed clear order form h = let z : ⊥ = cc in absurd z
   good_clear fields Encoded clear order form h = let z : ⊥ = cc in absurd z
 
-  good_order : (fields : FileExtent) (b : Bool) → nat_le before item.key.offset ≡ b → Ok fields ≡ file_extent_of item.key.offset item.body → cond b (ahead_clear size item fields (judged fields)) (Err (Malformed item.leaf)) ≡ Ok ahead → Good
+  good_order : (fields : FileExtent) (b : Bool) → nat_le before item.key.offset ≡ b → Ok fields ≡ file_extent_of item.key.offset item.body
+      → cond b (ahead_clear size item fields (judged fields)) (Err (Malformed item.leaf)) ≡ Ok ahead → Good
   good_order fields true e form h = good_clear fields (judged fields) refl (is_le before item.key.offset e) form h
   good_order fields false e form h = let z : ⊥ = cc in absurd z
 
@@ -333,7 +349,8 @@ module _ (size before : ℕ) (item : TreeItem) (f : TreeFault) where
   fault_clear fields Compressed h = cc
   fault_clear fields Encoded h = cc
 
-  fault_order : (fields : FileExtent) (b : Bool) → cond b (ahead_clear size item fields (judged fields)) (Err (Malformed item.leaf)) ≡ Err f → f ≡ Malformed item.leaf
+  fault_order : (fields : FileExtent) (b : Bool) → cond b (ahead_clear size item fields (judged fields)) (Err (Malformed item.leaf)) ≡ Err f → f
+      ≡ Malformed item.leaf
   fault_order fields true h = fault_clear fields (judged fields) h
   fault_order fields false h = cc
 
@@ -347,7 +364,8 @@ module _ (size before : ℕ) (item : TreeItem) (f : TreeFault) where
 -- ---- what the code makes of an item
 module _ (size before : ℕ) (item : TreeItem) (fields : FileExtent) (form : Ok fields ≡ file_extent_of item.key.offset item.body) where
   pub ahead_late : item.key.offset < before → ahead_of size before item ≡ Err (Malformed item.leaf)
-  ahead_late h = ap (ahead_formed size before item) (sym form) ∙ ap (λ (b : Bool). cond b (ahead_clear size item fields (judged fields)) (Err (Malformed item.leaf))) (test_lt item.key.offset before h)
+  ahead_late h = ap (ahead_formed size before item) (sym form)
+      ∙ ap (λ (b : Bool). cond b (ahead_clear size item fields (judged fields)) (Err (Malformed item.leaf))) (test_lt item.key.offset before h)
 
   pub ahead_judged : (s : Survey) → before ≤ item.key.offset → s ≡ judged fields → ahead_of size before item ≡ ahead_clear size item fields s
   ahead_judged s h e =

@@ -1,5 +1,6 @@
 -- The bytes of an extent.
-use Rattle.std.proofs.Common.{◌≡◌, ℕ, ◌+◌, ◌-◌, ◌*◌, ◌<◌, ◌≤◌, Bool, true, false, cond, length, List, [], Option, Result, Ok, Err, refl, sym, ap, ◌∙◌, subst, arith}
+use Rattle.std.proofs.Common.{◌≡◌, ℕ, ◌+◌, ◌-◌, ◌*◌, ◌<◌, ◌≤◌, Bool, true, false, cond, length, List, [], Option, Result, Ok, Err, refl, sym, ap, ◌∙◌, subst}
+use Rattle.std.proofs.Common.{arith}
 use Rattle.std.specs.Prelude.{◌==◌, ◌&&◌, nat_le, nat_lt, min, take, slice_index}
 use Rattle.std.proofs.lemmas.Bool.Decides.{nat_tests}
 use Rattle.std.proofs.lemmas.List.{get_or-take, length-take, length-drop}
@@ -205,9 +206,11 @@ module _ (B : Map) (kind : SumKind) (sums : Option TreeRoot) (nosum : Bool) (siz
                 let least : m ≤ count * 4096 = omega arith in
                 let to : min (x.start + count * 4096) size ≡ min end size = omega (arith, most, least, place.len_whole, all, begins) in
                 subst (λ (n : ℕ). Fills byte x.start n (bytes_in (exec B told).marks)) to
-                (sectors_fill B kind sums nosum size whole count byte (addr + skip) x.start (size - x.start) refl (omega (arith, place.addr_whole, place.skip_whole)) (omega (arith, begins)) (omega (arith, most, begins)) regular_read ok)
+                (sectors_fill B kind sums nosum size whole count byte (addr + skip) x.start (size - x.start) refl
+                (omega (arith, place.addr_whole, place.skip_whole)) (omega (arith, begins)) (omega (arith, most, begins)) regular_read ok)
 
-            regular_run : (ms : Marks) (e : Result (Unit {0}) Fault) → (e ≡ Ok tt → Fills byte x.start (min end size) (bytes_in ms)) → (r : Result ℕ ℕ) → (after ms e (λ u. exec B (Return (on_at size end)))).ending ≡ Ok r →
+            regular_run : (ms : Marks) (e : Result (Unit {0}) Fault) → (e ≡ Ok tt → Fills byte x.start (min end size) (bytes_in ms))
+                → (r : Result ℕ ℕ) → (after ms e (λ u. exec B (Return (on_at size end)))).ending ≡ Ok r →
                 (on_at size end ≡ r) × Fills byte x.start (min end size) (bytes_in (after ms e (λ u. exec B (Return (on_at size end)))).marks)
             regular_run ms (Ok tt) h r e = (cc, fills_marks byte x.start (min end size) (min end size) ms [] (h refl) (fills_none byte (min end size)))
             regular_run ms (Err f) h r e = let z : ⊥ = cc in absurd z
@@ -223,26 +226,32 @@ module _ (B : Map) (kind : SumKind) (sums : Option TreeRoot) (nosum : Bool) (siz
                 (puts_on (bytes_in (exec B (gap (x.start - at) regular)).marks)
                 (fills_gap byte B at x.start (min end size) regular order (λ p le lt. byte_before p lt) filled))
 
-          regular_if : (b : Bool) → (addr == 0) ≡ b → (0 < addr → IsPlaced addr skip len) → Puts_by (exec B (cond b (Return (Ok at)) (gap (x.start - at) regular)))
+          regular_if : (b : Bool) → (addr == 0) ≡ b → (0 < addr → IsPlaced addr skip len)
+              → Puts_by (exec B (cond b (Return (Ok at)) (gap (x.start - at) regular)))
           regular_if true e place r h =
               by_ending [] (Ok at) r h
-              (puts_none (byte_none (Regular addr disk_len skip len) is (λ p. ap (λ (b : Bool). cond b 0 (byte_at B kind sums nosum size whole (addr + skip + (p - x.start)))) e)))
+              (puts_none (byte_none (Regular addr disk_len skip len) is
+              (λ p. ap (λ (b : Bool). cond b 0 (byte_at B kind sums nosum size whole (addr + skip + (p - x.start)))) e)))
           regular_if false e place r h = let some : 0 < addr = grind (arith, nat_tests) in regular_some e (place some) r h
 
-        puts_shape : (stored : List ℕ) → x.inline ≡ inline_data stored → judged x.fields ≡ Clear → (s : Shape) → x.fields.shape ≡ s → Known stored s → Puts_by (exec B (shaped kind sums nosum size at x s))
+        puts_shape : (stored : List ℕ) → x.inline ≡ inline_data stored → judged x.fields ≡ Clear → (s : Shape) → x.fields.shape ≡ s → Known stored s
+            → Puts_by (exec B (shaped kind sums nosum size at x s))
         puts_shape stored same clear (Inline len) is k r h =
             let all : end ≡ x.start + len = ap (λ (s : Shape). x.start + file_len x.fields s) is ∙ ap (λ (b : Bool). x.start + cond b len x.fields.ram) (plain x.fields clear) in
             let cut = length-drop 21 stored in
             inline_if len is all (ap length same ∙ omega (arith, cut, k)) (len == 0) refl r h
         puts_shape stored same clear (Regular addr disk_len skip len) is k r h =
             regular_if addr disk_len skip len is (ap (λ (s : Shape). x.start + file_len x.fields s) is) (addr == 0) refl k r h
-        puts_shape stored same clear (Prealloc addr disk_len skip len) is k r h = by_ending [] (Ok at) r h (puts_none (byte_none (Prealloc addr disk_len skip len) is (λ p. refl)))
+        puts_shape stored same clear (Prealloc addr disk_len skip len) is k r h = by_ending [] (Ok at) r h
+            (puts_none (byte_none (Prealloc addr disk_len skip len) is (λ p. refl)))
 
-      puts_size : (stored : List ℕ) → x.inline ≡ inline_data stored → judged x.fields ≡ Clear → Known stored x.fields.shape → (b : Bool) → nat_le size x.start ≡ b → Puts_by (exec B (cond b (Return (Err at)) (shaped kind sums nosum size at x x.fields.shape)))
+      puts_size : (stored : List ℕ) → x.inline ≡ inline_data stored → judged x.fields ≡ Clear → Known stored x.fields.shape → (b : Bool)
+          → nat_le size x.start ≡ b → Puts_by (exec B (cond b (Return (Err at)) (shaped kind sums nosum size at x x.fields.shape)))
       puts_size stored same clear k true e r h = by_ending [] (Err at) r h (puts_over (is_le size x.start e))
       puts_size stored same clear k false e r h = puts_shape (is_lt size x.start e) stored same clear x.fields.shape refl k r h
 
-      pub puts_clear : (stored : List ℕ) → x.inline ≡ inline_data stored → (judged x.fields ≡ Clear → Known stored x.fields.shape) → (s : Survey) → judged x.fields ≡ s →
+      pub puts_clear : (stored : List ℕ) → x.inline ≡ inline_data stored → (judged x.fields ≡ Clear → Known stored x.fields.shape) → (s : Survey)
+          → judged x.fields ≡ s →
           Puts_by (exec B (if_clear x s (cond (nat_le size x.start) (Return (Err at)) (shaped kind sums nosum size at x x.fields.shape))))
       puts_clear stored same k Clear e r h = puts_size stored same e (k e) (nat_le size x.start) refl r h
       puts_clear stored same k Compressed e r h = let z : ⊥ = cc in absurd z

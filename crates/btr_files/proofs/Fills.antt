@@ -38,7 +38,8 @@ module _ (f : ℕ → ℕ) where
   pub fills_none : (at : ℕ) → Fills f at at []
   fills_none at = record { long = omega arith; spells = λ i lt. absurd (omega (arith, lt)) }
 
-  both_spell : (a m : ℕ) (xs ys : List ℕ) → a + length xs ≡ m → Fills f a m xs → (b : ℕ) → Fills f m b ys → (i : ℕ) → i < length xs + length ys → (t : Bool) → nat_le (length xs) i ≡ t → slice_index (xs ++ ys) i ≡ f (a + i)
+  both_spell : (a m : ℕ) (xs ys : List ℕ) → a + length xs ≡ m → Fills f a m xs → (b : ℕ) → Fills f m b ys → (i : ℕ) → i < length xs + length ys
+      → (t : Bool) → nat_le (length xs) i ≡ t → slice_index (xs ++ ys) i ≡ f (a + i)
   both_spell a m xs ys seam h b g i lt true e =
       let le : length xs ≤ i = grind (arith, nat_tests) in
       get_or-append_right xs ys (length xs) i 0 refl le ∙ g.spells (i - length xs) (omega (arith, le, lt)) ∙ ap f (omega (arith, seam, le))
@@ -75,7 +76,8 @@ module _ (f : ℕ → ℕ) where
       }
 
   module _ {A : Type 0} (B : Map) (a m b : ℕ) (rest : Program Piece A) where
-    by_gap : (n : ℕ) (t : Bool) → (n == 0) ≡ t → Fills f a m (replicate n 0) → Fills f m b (bytes_in (exec B rest).marks) → Fills f a b (bytes_in (exec B (cond t rest (Emit (Gap n) rest))).marks)
+    by_gap : (n : ℕ) (t : Bool) → (n == 0) ≡ t → Fills f a m (replicate n 0) → Fills f m b (bytes_in (exec B rest).marks)
+        → Fills f a b (bytes_in (exec B (cond t rest (Emit (Gap n) rest))).marks)
     by_gap n true e h g =
         let none : n ≡ 0 = grind (arith, nat_tests) in
         let all = length-replicate {A = ℕ} n 0 in
@@ -84,11 +86,13 @@ module _ (f : ℕ → ℕ) where
     by_gap n false e h g = fills_both a m b (replicate n 0) (bytes_in (exec B rest).marks) h g
 
     -- a gap, and then a program
-    pub fills_gap : a ≤ m → ((p : ℕ) → a ≤ p → p < m → f p ≡ 0) → Fills f m b (bytes_in (exec B rest).marks) → Fills f a b (bytes_in (exec B (gap (m - a) rest)).marks)
+    pub fills_gap : a ≤ m → ((p : ℕ) → a ≤ p → p < m → f p ≡ 0) → Fills f m b (bytes_in (exec B rest).marks)
+        → Fills f a b (bytes_in (exec B (gap (m - a) rest)).marks)
     fills_gap le none g = by_gap (m - a) ((m - a) == 0) refl (fills_zeros a m le none) g
 
   -- the last gap
-  pub fills_last : (B : Map) (a b : ℕ) → a ≤ b → ((p : ℕ) → a ≤ p → p < b → f p ≡ 0) → Fills f a b (bytes_in (exec B (gap {A = Unit {0}} (b - a) (Return tt))).marks)
+  pub fills_last : (B : Map) (a b : ℕ) → a ≤ b → ((p : ℕ) → a ≤ p → p < b → f p ≡ 0)
+      → Fills f a b (bytes_in (exec B (gap {A = Unit {0}} (b - a) (Return tt))).marks)
   fills_last B a b le none = fills_gap B a b b (Return tt) le none (fills_none b)
 
 gap_if_ends : {A : Type 0} (B : Map) (n : ℕ) (rest : Program Piece A) (t : Bool) → (exec B (cond t rest (Emit (Gap n) rest))).ending ≡ (exec B rest).ending

@@ -15,7 +15,8 @@ use Rattle.btr_volume.specs.Looking.{Looks}
 use Rattle.btr_files.specs.Steps.{formed_next}
 
 -- what is answered of a lookup is answered of the same by another name
-pub looked : {A : Type 0} (layout : Layout) (old new : Seen) (p q : Lookup A) (result : Result A TreeFault) → p ≡ q → Looks layout old new p result → Looks layout old new q result
+pub looked : {A : Type 0} (layout : Layout) (old new : Seen) (p q : Lookup A) (result : Result A TreeFault) → p ≡ q → Looks layout old new p result
+    → Looks layout old new q result
 looked layout old new p q result e h = subst (λ x. Looks layout old new x result) e h
 
 -- a program, and then nothing
@@ -35,7 +36,8 @@ module _ {St' R' St R : Type 0} (body : St' → TreeItem → Lookup (Result St' 
   abbrev value : R' → Lookup R
   value r = Return (h r)
 
-  turned : (leaf : _) (n : Next St' R') (k : St' → Lookup R') (k' : St → Lookup R) → ((st : St') → bind (k st) value ≡ k' (g st)) → bind (bind (next_prog leaf n) (go_on k)) value ≡ bind (next_prog leaf (map_next g h n)) (go_on k')
+  turned : (leaf : _) (n : Next St' R') (k : St' → Lookup R') (k' : St → Lookup R) → ((st : St') → bind (k st) value ≡ k' (g st))
+      → bind (bind (next_prog leaf n) (go_on k)) value ≡ bind (next_prog leaf (map_next g h n)) (go_on k')
   turned leaf (Go st) k k' f = f st
   turned leaf (End r) k k' f = refl
   turned leaf Broken k k' f = refl

@@ -20,18 +20,21 @@ use Rattle.btr_files.proofs.Passed.{past_both}
 
 module _ (kind : SumKind) (source : Source) (Bs : ℕ → Map) (p : Progress) where
   -- no extent could be had
-  pub step_err : (Is : UnreadBlock → Want → Type 0) (p' : Progress) (store : Blocks) (f : TreeFault) → IsLooked source Is (Bs 0) p (Err f) → IsNextStep kind source Is Bs p p' store (Err f)
+  pub step_err : (Is : UnreadBlock → Want → Type 0) (p' : Progress) (store : Blocks) (f : TreeFault) → IsLooked source Is (Bs 0) p (Err f)
+      → IsNextStep kind source Is Bs p p' store (Err f)
   step_err Is p' store f h seen g = h seen g kind Bs
 
   module _ (Was Was' Is : UnreadBlock → Want → Type 0) (p' p'' : Progress) (weaker : (u : UnreadBlock) (w : Want) → Was' u w → Is u w) where
-    ends_on : (seen : List Want) (l : LooksOn source (Bs 0) seen p p') (answer : Result (Unit {0}) (Halt Fault UnreadBlock)) → EndsIn kind source Was' Bs (seen ++ l.past) p' answer → EndsIn kind source Is Bs seen p answer
+    ends_on : (seen : List Want) (l : LooksOn source (Bs 0) seen p p') (answer : Result (Unit {0}) (Halt Fault UnreadBlock))
+        → EndsIn kind source Was' Bs (seen ++ l.past) p' answer → EndsIn kind source Is Bs seen p answer
     ends_on seen l answer e = (
       prepend (want_marks l.past) e.0,
       l.goes kind Bs e.0 e.1,
       follows_past Is seen l.past e.0 answer (follows_as Was' Is weaker no_part (seen ++ l.past) e.0 [] answer e.2),
     )
 
-    gives_on : (seen : List Want) (l : LooksOn source (Bs 0) seen p p') (store : Blocks) (given : Shown) → GivesStep kind source Was' Bs (seen ++ l.past) p' p'' store given → GivesStep kind source Is Bs seen p p'' store given
+    gives_on : (seen : List Want) (l : LooksOn source (Bs 0) seen p p') (store : Blocks) (given : Shown)
+        → GivesStep kind source Was' Bs (seen ++ l.past) p' p'' store given → GivesStep kind source Is Bs seen p p'' store given
     gives_on seen l store given s = record {
       past = l.past ++ s.past;
       goes = λ q h.
@@ -41,7 +44,8 @@ module _ (kind : SumKind) (source : Source) (Bs : ℕ → Map) (p : Progress) wh
     }
 
     -- an extent was found, and then a step was made
-    pub step_on : (store : Blocks) (r : Result (Option Shown) TreeFault) → IsLooked source Was (Bs 0) p (Ok p') → IsNextStep kind source Was' Bs p' p'' store r → IsNextStep kind source Is Bs p p'' store r
+    pub step_on : (store : Blocks) (r : Result (Option Shown) TreeFault) → IsLooked source Was (Bs 0) p (Ok p')
+        → IsNextStep kind source Was' Bs p' p'' store r → IsNextStep kind source Is Bs p p'' store r
     step_on store (Ok (Some given)) h n seen g = let l = h seen g in gives_on seen l store given (n (seen ++ l.past) l.on)
     step_on store (Ok None) h n seen g = let l = h seen g in ends_on seen l (Ok tt) (n (seen ++ l.past) l.on)
     step_on store (Err f) h n seen g = let l = h seen g in ends_on seen l (Err (halt_of f)) (n (seen ++ l.past) l.on)

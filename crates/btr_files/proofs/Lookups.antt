@@ -32,8 +32,10 @@ searching u = record {}
 -- the inode
 pub inode_as : (p : RangeProg) → thread (λ (u : Unit {0}) (item : TreeItem). formed item (inode_of item.body) (λ (inode : Inode). Return (Err (Some inode)))) (λ u v. None) tt p ≡ folded_over inode_step (λ s. None) (record {}) p
 inode_as p =
-    sym (bind-return (thread (λ (u : Unit {0}) (item : TreeItem). formed item (inode_of item.body) (λ (inode : Inode). Return (Err (Some inode)))) (λ u v. None) tt p))
-    ∙ fold_as (λ (u : Unit {0}) (item : TreeItem). formed item (inode_of item.body) (λ (inode : Inode). Return (Err (Some inode)))) (λ u v. None) inode_next inode_step (λ s. None) searching (λ r. r)
+    sym (bind-return (thread (λ (u : Unit {0}) (item : TreeItem). formed item (inode_of item.body) (λ (inode : Inode). Return (Err (Some inode))))
+    (λ u v. None) tt p))
+    ∙ fold_as (λ (u : Unit {0}) (item : TreeItem). formed item (inode_of item.body) (λ (inode : Inode). Return (Err (Some inode)))) (λ u v. None)
+    inode_next inode_step (λ s. None) searching (λ r. r)
     (λ u item. formed_is item (λ (inode : Inode). Return (Err (Some inode))) (λ inode. End (Some inode)) (inode_of item.body) (λ inode. refl))
     (λ u item. formed_map searching (λ r. r) (λ (inode : Inode). End (Some inode)) (λ inode. End (Some inode)) (inode_of item.body) (λ inode. refl))
     (λ u. refl) p tt
@@ -54,7 +56,8 @@ module _ (wanted : Wanted) where
   link_body_is found item (Err fault) = refl
 
   -- whether all names of an inode are the one
-  pub linked_as : (p : RangeProg) → bind (each (λ found (item : TreeItem). formed item (links_of item.key item.body) (λ more. Return (found ++ more))) [] p) (λ found. Return (is_link (link_in wanted) found))
+  pub linked_as : (p : RangeProg) → bind (each (λ found (item : TreeItem). formed item (links_of item.key item.body) (λ more. Return (found ++ more)))
+      [] p) (λ found. Return (is_link (link_in wanted) found))
       ≡ folded_over link_step (λ s. is_one s.met) (record { wanted = wanted; met = met.None }) p
   linked_as p =
       fold_as link_body (λ found u. found) link_next link_step (λ s. is_one s.met) link_search (is_link (link_in wanted))
@@ -82,7 +85,8 @@ module _ (tree : ℕ) (wanted : Wanted) where
   mount_body_is found item (Err fault) = refl
 
   -- whether all names of a subvolume are the one
-  pub mounted_as : (p : RangeProg) → bind (each (λ found (item : TreeItem). formed item (root_ref_of item.body) (λ part. Return (found ++ mount_of item.key item.body part ∷ []))) [] p) (λ found. Return (is_mount Wants found))
+  pub mounted_as : (p : RangeProg) → bind (each (λ found (item : TreeItem). formed item (root_ref_of item.body)
+      (λ part. Return (found ++ mount_of item.key item.body part ∷ []))) [] p) (λ found. Return (is_mount Wants found))
       ≡ folded_over mount_step (λ s. is_one s.met) (record { tree = tree; wanted = wanted; met = met.None }) p
   mounted_as p =
       fold_as mount_body (λ found u. found) mount_next mount_step (λ s. is_one s.met) mount_search (is_mount Wants)

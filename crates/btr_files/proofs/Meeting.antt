@@ -1,5 +1,6 @@
 -- Names that are met one by one, and the list of all names.
-use Rattle.std.proofs.Common.{◌≡◌, ◌≢◌, ◌==◌, ℕ, suc, List, [], ◌∷◌, length, map, All, Option, Some, None, Bool, true, false, cond, Result, Ok, Err, refl, sym, ap, ◌∙◌, subst, arith}
+use Rattle.std.proofs.Common.{◌≡◌, ◌≢◌, ◌==◌, ℕ, suc, List, [], ◌∷◌, length, map, All, Option, Some, None, Bool, true, false, cond, Result, Ok, Err, refl, sym}
+use Rattle.std.proofs.Common.{ap, ◌∙◌, subst, arith}
 use Rattle.std.specs.Prelude.{nat_lt, ◌&&◌, filter_map}
 use Rattle.std.proofs.lemmas.Bool.Decides.{nat_tests}
 use Rattle.std.specs.List.{fold, list_all}
@@ -66,17 +67,21 @@ module _ (wanted : Link) where
     none_is body h = grind (arith, nat_tests)
 
     -- an empty body has no names
-    pub names_empty : (seen : Met) (body : List ℕ) (parts : List (Result T ItemFault)) → (length body == 0) ≡ true → links_met wanted seen (map_ok (map of) (parts_of body parts)) ≡ None
-    names_empty seen body parts h = ap (λ b. links_met wanted seen (map_ok (map of) (fields_if (b && list_all is_ok parts) (filter_map result_ok parts)))) (none_is body h)
+    pub names_empty : (seen : Met) (body : List ℕ) (parts : List (Result T ItemFault)) → (length body == 0) ≡ true
+        → links_met wanted seen (map_ok (map of) (parts_of body parts)) ≡ None
+    names_empty seen body parts h = ap (λ b. links_met wanted seen
+        (map_ok (map of) (fields_if (b && list_all is_ok parts) (filter_map result_ok parts)))) (none_is body h)
 
-  by_kind : (seen : Met) (b : Bool) (refs exts : Result (List Link) ItemFault) → links_met wanted seen refs ≡ None → links_met wanted seen exts ≡ None → None ≡ links_met wanted seen (cond b refs exts)
+  by_kind : (seen : Met) (b : Bool) (refs exts : Result (List Link) ItemFault) → links_met wanted seen refs ≡ None → links_met wanted seen exts ≡ None
+      → None ≡ links_met wanted seen (cond b refs exts)
   by_kind seen true refs exts h k = sym h
   by_kind seen false refs exts h k = sym k
 
   -- an empty item breaks its form
   pub links_empty : (seen : Met) (key : Key) (body : List ℕ) → (length body == 0) ≡ true → None ≡ links_met wanted seen (links_of key body)
   links_empty seen key body h =
-      by_kind seen (key.kind == 12) (map_ok (map (inode_link key.offset body)) (parts_of body (inode_refs_of body))) (map_ok (map (ext_link body)) (parts_of body (ext_refs_of body)))
+      by_kind seen (key.kind == 12) (map_ok (map (inode_link key.offset body)) (parts_of body (inode_refs_of body)))
+      (map_ok (map (ext_link body)) (parts_of body (ext_refs_of body)))
       (names_empty (inode_link key.offset body) seen body (inode_refs_of body) h) (names_empty (ext_link body) seen body (ext_refs_of body) h)
 
   is_ref : (key : Key) → key.kind ≡ 12 → (key.kind == 12) ≡ true
@@ -86,13 +91,17 @@ module _ (wanted : Link) where
   is_ext key h = grind (arith, nat_tests)
 
   -- the names of an item, by its type
-  pub by_refs : (seen : Met) (key : Key) (body : List ℕ) → key.kind ≡ 12 → links_met wanted seen (map_ok (map (inode_link key.offset body)) (parts_of body (inode_refs_of body))) ≡ links_met wanted seen (links_of key body)
+  pub by_refs : (seen : Met) (key : Key) (body : List ℕ) → key.kind ≡ 12
+      → links_met wanted seen (map_ok (map (inode_link key.offset body)) (parts_of body (inode_refs_of body))) ≡ links_met wanted seen (links_of key body)
   by_refs seen key body h =
-      ap (λ (b : Bool). links_met wanted seen (cond b (map_ok (map (inode_link key.offset body)) (parts_of body (inode_refs_of body))) (map_ok (map (ext_link body)) (parts_of body (ext_refs_of body))))) (sym (is_ref key h))
+      ap (λ (b : Bool). links_met wanted seen (cond b (map_ok (map (inode_link key.offset body)) (parts_of body (inode_refs_of body)))
+      (map_ok (map (ext_link body)) (parts_of body (ext_refs_of body))))) (sym (is_ref key h))
 
-  pub by_exts : (seen : Met) (key : Key) (body : List ℕ) → key.kind ≢ 12 → links_met wanted seen (map_ok (map (ext_link body)) (parts_of body (ext_refs_of body))) ≡ links_met wanted seen (links_of key body)
+  pub by_exts : (seen : Met) (key : Key) (body : List ℕ) → key.kind ≢ 12
+      → links_met wanted seen (map_ok (map (ext_link body)) (parts_of body (ext_refs_of body))) ≡ links_met wanted seen (links_of key body)
   by_exts seen key body h =
-      ap (λ (b : Bool). links_met wanted seen (cond b (map_ok (map (inode_link key.offset body)) (parts_of body (inode_refs_of body))) (map_ok (map (ext_link body)) (parts_of body (ext_refs_of body))))) (sym (is_ext key h))
+      ap (λ (b : Bool). links_met wanted seen (cond b (map_ok (map (inode_link key.offset body)) (parts_of body (inode_refs_of body)))
+      (map_ok (map (ext_link body)) (parts_of body (ext_refs_of body))))) (sym (is_ext key h))
 
   -- what holds of each part holds of the rest
   pub all_rest : {T : Type 0} (P : T → Type 0) (xs rest : List T) (x : T) → xs ≡ x ∷ rest → All P xs → All P rest

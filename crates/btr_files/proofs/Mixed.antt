@@ -88,7 +88,8 @@ pub never_true : IsTrue false → ⊥
 never_true t = absurd (cc)
 
 -- where one fate has bytes or a fault, so has one that is alike
-has_bytes : {F : Type 0} (b : Bool) (x y : Result (List ℕ) F) (bytes : List ℕ) → IsAlike b x y → y ≡ Ok bytes → (c : List ℕ) × (x ≡ Ok c) × (b ≡ false → c ≡ bytes)
+has_bytes : {F : Type 0} (b : Bool) (x y : Result (List ℕ) F) (bytes : List ℕ) → IsAlike b x y → y ≡ Ok bytes → (c : List ℕ) × (x ≡ Ok c)
+    × (b ≡ false → c ≡ bytes)
 has_bytes b x y bytes (inl e) is = (bytes, e ∙ is, λ f. refl)
 has_bytes true (Ok c) y bytes (inr h) is = (c, refl, λ f. absurd (cc))
 has_bytes true (Err f) y bytes (inr h) is = absurd h.1
@@ -141,7 +142,8 @@ module _ {W F S A : Type 0} (plain : W → Bool) (Fits : W → List ℕ → Type
     mix_same q e h =
         let there : (n : ℕ) → exec (Bs n) (Need w k) ≡ first (Wants w) (exec (Bs n) (k b)) =
         λ n. goes_on n (had n).0 (had n).1 ∙ ap (λ (p : Prog W F S A). first (Wants w) (exec (Bs n) p)) (e n) in (
-          mixed_as R (steps_of q.marks) (λ n. steps (Bs n) (Need w k)) (λ n. steps (Bs n) (k b)) (λ n. ap (λ (r : Run W F S A). steps_of r.marks) (there n)) h.0,
+          mixed_as R (steps_of q.marks) (λ n. steps (Bs n) (Need w k)) (λ n. steps (Bs n) (k b))
+              (λ n. ap (λ (r : Run W F S A). steps_of r.marks) (there n)) h.0,
           λ n. ap (λ (r : Run W F S A). r.ending) (there n) ∙ h.1 n,
         )
 

@@ -66,7 +66,8 @@ module _ (source : Source) (Is : UnreadBlock → Want → Type 0) (B : Map) (old
           past = o.past;
           goes = λ kind Bs q h.
               let a : Then kind source Bs (todo_prog kind source p.at ahead.end (inline_of (Some o.item)) ahead.todo) (exec B (rest_left B rest)) q = subst (λ (x : Option TreeItem). Then kind source Bs (todo_prog kind source p.at ahead.end (inline_of x) ahead.todo) (exec B (rest_left B rest)) q) met h in
-              to_left kind Bs _ (o.goes kind Bs p.at q (subst (λ (x : RangeProg). Then kind source Bs (todo_prog kind source p.at ahead.end (inline_data o.item.body) ahead.todo) (exec B x) q) program a));
+              to_left kind Bs _ (o.goes kind Bs p.at q (subst
+              (λ (x : RangeProg). Then kind source Bs (todo_prog kind source p.at ahead.end (inline_data o.item.body) ahead.todo) (exec B x) q) program a));
           on = record { rest = r.on B (seen ++ o.past) held on'; inline = subst (λ (x : Option TreeItem). IsInline x ahead.todo) (sym met) o.inline };
         }
 

@@ -43,7 +43,8 @@ marks-append [] ys = refl
 marks-append (w ∷ xs) ys = ap (λ x. Wants w ∷ x) (marks-append xs ys)
 
 -- marks before what comes after
-pub after_past : {S A C : Type 0} (ns ms : List (Mark Want S)) (e : Result A fate.Fault) (K : A → Run Want fate.Fault S C → Type 0) (q : Run Want fate.Fault S C) → AfterTo ms e K q → AfterTo (ns ++ ms) e K (prepend ns q)
+pub after_past : {S A C : Type 0} (ns ms : List (Mark Want S)) (e : Result A fate.Fault) (K : A → Run Want fate.Fault S C → Type 0)
+    (q : Run Want fate.Fault S C) → AfterTo ms e K q → AfterTo (ns ++ ms) e K (prepend ns q)
 after_past ns ms (Ok a) K q h = (h.0, ap (prepend ns) h.1 ∙ prepend-prepend ns ms h.0, h.2)
 after_past ns ms (Err f) K q h = ap (prepend ns) h
 
@@ -60,16 +61,24 @@ module _ (kind : SumKind) (source : Source) (Bs : ℕ → Map) where
   abbrev Last : ℕ → Pieces → Type 0
   Last = EndsAt kind source Bs
 
-  threads_past : (ws : List Want) (g : Given) (ms : List (Mark Want TreeItem)) (e : Result (Unit {0}) fate.Fault) (r : Run Want fate.Fault Piece ℕ) → Threads g ms e r → Threads g (wants ws ++ ms) e (prepend (want_marks ws) r)
+  threads_past : (ws : List Want) (g : Given) (ms : List (Mark Want TreeItem)) (e : Result (Unit {0}) fate.Fault) (r : Run Want fate.Fault Piece ℕ)
+      → Threads g ms e r → Threads g (wants ws ++ ms) e (prepend (want_marks ws) r)
   threads_past [] g ms e r h = h
   threads_past (w ∷ ws) g ms e r h = (prepend (want_marks ws) r, refl, threads_past ws g ms e r h)
 
   -- some wants are past
-  pub treats_past : (ws : List Want) (g : Given) (items : Items) (q : Pieces) → Treats kind source Bs g items q → Treats kind source Bs g (prepend (wants ws) items) (prepend (want_marks ws) q)
-  treats_past ws g items q h = (prepend (want_marks ws) h.0, threads_past ws g items.marks items.ending h.0 h.1, after_past (want_marks ws) h.0.marks h.0.ending Last q h.2)
+  pub treats_past : (ws : List Want) (g : Given) (items : Items) (q : Pieces) → Treats kind source Bs g items q
+      → Treats kind source Bs g (prepend (wants ws) items) (prepend (want_marks ws) q)
+  treats_past ws g items q h = (
+    prepend (want_marks ws) h.0,
+    threads_past ws g items.marks items.ending h.0 h.1,
+    after_past (want_marks ws) h.0.marks
+        h.0.ending Last q h.2,
+  )
 
   -- an item, by a run of its pieces
-  treats_by : (g : Given) (item : TreeItem) (items : Items) (b : Run Want fate.Fault Piece (Result Given ℕ)) (x : Result (Result Given ℕ) fate.Fault) (q : Pieces) → Item g item b → b.ending ≡ x → AfterTo b.marks x (Behind kind source Bs items) q → Treats kind source Bs g (first (Does item) items) q
+  treats_by : (g : Given) (item : TreeItem) (items : Items) (b : Run Want fate.Fault Piece (Result Given ℕ)) (x : Result (Result Given ℕ) fate.Fault)
+      (q : Pieces) → Item g item b → b.ending ≡ x → AfterTo b.marks x (Behind kind source Bs items) q → Treats kind source Bs g (first (Does item) items) q
   treats_by g item items b (Ok (Ok g')) q go is h =
       let r = h.2.0 in (
         prepend b.marks r,
@@ -90,7 +99,8 @@ module _ (kind : SumKind) (source : Source) (Bs : ℕ → Map) where
       )
 
   -- an item is treated by a run of the program of its pieces
-  pub treats_item : (g : Given) (item : TreeItem) (items : Items) (p : Program Piece (Result Given ℕ)) (q : Pieces) → item_pieces kind source g item ≡ p → Then kind source Bs p items q → Treats kind source Bs g (first (Does item) items) q
+  pub treats_item : (g : Given) (item : TreeItem) (items : Items) (p : Program Piece (Result Given ℕ)) (q : Pieces) → item_pieces kind source g item
+      ≡ p → Then kind source Bs p items q → Treats kind source Bs g (first (Does item) items) q
   treats_item g item items p q e h = treats_by g item items h.0 h.0.ending q (subst (λ x. GoesTo Bs x h.0) (sym e) h.1) refl h.2
 
   -- no item more
@@ -107,14 +117,18 @@ module _ (kind : SumKind) (source : Source) (Bs : ℕ → Map) where
       subst (Behind kind source Bs items x) (sym a.1) a.2
 
   -- some marks of a program are past
-  pub then_past : (p p' : Program Piece (Result Given ℕ)) (ms : List (Mark Want Piece)) (items : Items) (q : Pieces) → ((b : Run Want fate.Fault Piece (Result Given ℕ)) → GoesTo Bs p' b → GoesTo Bs p (prepend ms b)) → Then kind source Bs p' items q → Then kind source Bs p items (prepend ms q)
+  pub then_past : (p p' : Program Piece (Result Given ℕ)) (ms : List (Mark Want Piece)) (items : Items) (q : Pieces)
+      → ((b : Run Want fate.Fault Piece (Result Given ℕ)) → GoesTo Bs p' b → GoesTo Bs p (prepend ms b)) → Then kind source Bs p' items q
+      → Then kind source Bs p items (prepend ms q)
   then_past p p' ms items q f h = (prepend ms h.0, f h.0 h.1, after_past ms h.0.marks h.0.ending (Behind kind source Bs items) q h.2)
 
   -- ---- there is a run
   abbrev from : Given → List (Mark Want TreeItem) → Result (Unit {0}) fate.Fault → Run Want fate.Fault Piece ℕ
   from g ms e = thread_run (λ g' item. exec (Bs 0) (item_pieces kind source g' item)) fin g ms e
 
-  some_after : (ms : List (Mark Want TreeItem)) (e : Result (Unit {0}) fate.Fault) → ((g : Given) → Threads g ms e (from g ms e)) → (marks : List (Mark Want Piece)) (x : Result (Result Given ℕ) fate.Fault) → AfterTo marks x (GoOnTo (λ g. Threads g ms e)) (after marks x (go_on_run (λ g. from g ms e)))
+  some_after : (ms : List (Mark Want TreeItem)) (e : Result (Unit {0}) fate.Fault) → ((g : Given) → Threads g ms e (from g ms e))
+      → (marks : List (Mark Want Piece)) (x : Result (Result Given ℕ) fate.Fault)
+      → AfterTo marks x (GoOnTo (λ g. Threads g ms e)) (after marks x (go_on_run (λ g. from g ms e)))
   some_after ms e h marks (Ok (Ok g)) = (from g ms e, refl, h g)
   some_after ms e h marks (Ok (Err at)) = (run [] (Ok at), refl, refl)
   some_after ms e h marks (Err f) = refl
@@ -139,7 +153,8 @@ module _ (kind : SumKind) (source : Source) (Bs : ℕ → Map) where
       (and_then r last_run, (r, some_threads g items.marks items.ending, ends_after r.marks r.ending))
   some_behind items (Err at) = (last_run at, goes_map Bs 0 (zeros_to_end kind source at))
 
-  behind_after : (items : Items) (ms : List (Mark Want Piece)) (x : Result (Result Given ℕ) fate.Fault) → AfterTo ms x (Behind kind source Bs items) (after ms x (λ y. (some_behind items y).0))
+  behind_after : (items : Items) (ms : List (Mark Want Piece)) (x : Result (Result Given ℕ) fate.Fault)
+      → AfterTo ms x (Behind kind source Bs items) (after ms x (λ y. (some_behind items y).0))
   behind_after items ms (Ok y) = ((some_behind items y).0, refl, (some_behind items y).1)
   behind_after items ms (Err f) = refl
 
@@ -152,20 +167,27 @@ module _ (kind : SumKind) (source : Source) (Bs : ℕ → Map) where
   -- ---- what is answered without a piece
   module _ (Is : UnreadBlock → Want → Type 0) (seen : List Want) where
     -- the items came to no value
-    pub treats_halts : (g : Given) (items : Items) (h : Halt fate.Fault UnreadBlock) → Follows Is no_part seen items [] (Err h) → (q : Pieces) × Treats kind source Bs g items q × Follows Is no_part seen q [] (Err h)
+    pub treats_halts : (g : Given) (items : Items) (h : Halt fate.Fault UnreadBlock) → Follows Is no_part seen items [] (Err h) → (q : Pieces)
+        × Treats kind source Bs g items q × Follows Is no_part seen q [] (Err h)
     treats_halts g items h f =
         let c = cursor_halts Item fin (λ g' r. (from g' r.marks r.ending, some_threads g' r.marks r.ending)) Is no_part seen g items h f in
         let r = c.0 in
         (and_then r last_run, (r, c.1, ends_after r.marks r.ending), follows_halt Is no_part seen r last_run [] h c.2)
 
     -- what is to come of an extent came to no value
-    pub then_halts : (p : Program Piece (Result Given ℕ)) (items : Items) (h : Halt fate.Fault UnreadBlock) → Goes Is no_part seen Bs p [] (Err h) → (q : Pieces) × Then kind source Bs p items q × Follows Is no_part seen q [] (Err h)
+    pub then_halts : (p : Program Piece (Result Given ℕ)) (items : Items) (h : Halt fate.Fault UnreadBlock) → Goes Is no_part seen Bs p [] (Err h)
+        → (q : Pieces) × Then kind source Bs p items q × Follows Is no_part seen q [] (Err h)
     then_halts p items h g =
-        let r = g.0 in
-        (and_then r (λ y. (some_behind items y).0), (r, g.1, behind_after items r.marks r.ending), follows_halt Is no_part seen r (λ y. (some_behind items y).0) [] h g.2)
+        let r = g.0 in (
+          and_then r (λ y. (some_behind items y).0),
+          (r, g.1, behind_after items r.marks r.ending),
+          follows_halt Is no_part seen r
+              (λ y. (some_behind items y).0) [] h g.2,
+        )
 
 -- an answer behind some wants
-pub follows_past : (Is : UnreadBlock → Want → Type 0) (seen ws : List Want) (q : Pieces) (answer : Result (Unit {0}) (Halt fate.Fault UnreadBlock)) → Follows Is no_part (seen ++ ws) q [] answer → Follows Is no_part seen (prepend (want_marks ws) q) [] answer
+pub follows_past : (Is : UnreadBlock → Want → Type 0) (seen ws : List Want) (q : Pieces) (answer : Result (Unit {0}) (Halt fate.Fault UnreadBlock))
+    → Follows Is no_part (seen ++ ws) q [] answer → Follows Is no_part seen (prepend (want_marks ws) q) [] answer
 follows_past Is seen ws q answer f =
     subst (λ (done : List Piece). Follows Is no_part seen (prepend (want_marks ws) q) done answer) (append-nil (steps_of (want_marks ws)) ∙ steps_back ws)
     (follows_behind Is no_part seen (want_marks ws) q [] answer (subst (λ (x : List Want). Follows Is no_part (seen ++ x) q [] answer) (sym (wants_back ws)) f))

@@ -25,13 +25,15 @@ use Rattle.btr_files.specs.Ahead.{Onward, IsNextExtent}
 use Rattle.btr_files.proofs.Onwards.{Pieces, marks-append, follows_past}
 
 -- two parts of the wants that are past
-pub past_both : {A : Type 0} (xs ys : List Want) (q : Run Want fate.Fault Piece A) → prepend (want_marks xs) (prepend (want_marks ys) q) ≡ prepend (want_marks (xs ++ ys)) q
+pub past_both : {A : Type 0} (xs ys : List Want) (q : Run Want fate.Fault Piece A) → prepend (want_marks xs) (prepend (want_marks ys) q)
+    ≡ prepend (want_marks (xs ++ ys)) q
 past_both xs ys q = prepend-prepend (want_marks xs) (want_marks ys) q ∙ ap (λ ms. prepend ms q) (sym (marks-append xs ys))
 
 -- what is left behind an extent leads on to what is left behind a later one
 pub record Passes (source : Source) (B : Map) (seen : List Want) (old new : Blocks) (scan scan' : Scan) (end end' : ℕ) : Type 0 where
   pub past : List Want
-  pub goes : (kind : SumKind) (Bs : ℕ → Map) (at : ℕ) (q : Pieces) → Onward kind source Bs at end' (exec B (left_of B new scan')) q → Onward kind source Bs at end (exec B (left_of B old scan)) (prepend (want_marks past) q)
+  pub goes : (kind : SumKind) (Bs : ℕ → Map) (at : ℕ) (q : Pieces) → Onward kind source Bs at end' (exec B (left_of B new scan')) q
+      → Onward kind source Bs at end (exec B (left_of B old scan)) (prepend (want_marks past) q)
   pub on : IsOn scan.lo scan.hi B (seen ++ past) scan'.place
   pub held : HoldsLeaf B seen old scan → HoldsLeaf B (seen ++ past) new scan'
 
@@ -52,12 +54,15 @@ module _ (source : Source) (B : Map) (first : Blocks) (scan0 : Scan) (end0 : ℕ
     on_here : (seen : List Want) → IsOn scan0.lo scan0.hi B seen scan.place → IsOn scan.lo scan.hi B seen scan.place
     on_here seen on = subst (λ (k : Key). IsOn k scan.hi B seen scan.place) (sym lo) (subst (λ (k : Key). IsOn scan0.lo k B seen scan.place) (sym hi) on)
 
-    on_there : (seen xs ys : List Want) (scan' : Scan) → IsOn scan.lo scan.hi B ((seen ++ xs) ++ ys) scan'.place → IsOn scan0.lo scan0.hi B (seen ++ (xs ++ ys)) scan'.place
+    on_there : (seen xs ys : List Want) (scan' : Scan) → IsOn scan.lo scan.hi B ((seen ++ xs) ++ ys) scan'.place
+        → IsOn scan0.lo scan0.hi B (seen ++ (xs ++ ys)) scan'.place
     on_there seen xs ys scan' on =
         subst (λ (z : List Want). IsOn scan0.lo scan0.hi B z scan'.place) (append_assoc seen xs ys)
-        (subst (λ (k : Key). IsOn k scan0.hi B ((seen ++ xs) ++ ys) scan'.place) lo (subst (λ (k : Key). IsOn scan.lo k B ((seen ++ xs) ++ ys) scan'.place) hi on))
+        (subst (λ (k : Key). IsOn k scan0.hi B ((seen ++ xs) ++ ys) scan'.place) lo
+        (subst (λ (k : Key). IsOn scan.lo k B ((seen ++ xs) ++ ys) scan'.place) hi on))
 
-    held_there : (seen xs ys : List Want) (new : Blocks) (scan' : Scan) → HoldsLeaf B ((seen ++ xs) ++ ys) new scan' → HoldsLeaf B (seen ++ (xs ++ ys)) new scan'
+    held_there : (seen xs ys : List Want) (new : Blocks) (scan' : Scan) → HoldsLeaf B ((seen ++ xs) ++ ys) new scan'
+        → HoldsLeaf B (seen ++ (xs ++ ys)) new scan'
     held_there seen xs ys new scan' h = subst (λ (z : List Want). HoldsLeaf B z new scan') (append_assoc seen xs ys) h
 
     module _ (new : Blocks) (scan' : Scan) where
@@ -75,7 +80,8 @@ module _ (source : Source) (B : Map) (first : Blocks) (scan0 : Scan) (end0 : ℕ
             held = λ h. held_there seen x.past y.past new scan' (y.held (x.held h));
           }
 
-      pub gone_some : (ahead : Ahead) → IsNextExtent source Was B store new scan scan' end (Ok (Some ahead)) → IsNextExtent source Is B first new scan0 scan' end0 (Ok (Some ahead))
+      pub gone_some : (ahead : Ahead) → IsNextExtent source Was B store new scan scan' end (Ok (Some ahead))
+          → IsNextExtent source Is B first new scan0 scan' end0 (Ok (Some ahead))
       gone_some ahead n seen on =
           let x = gone seen on in
           let y = n (seen ++ x.past) (on_here (seen ++ x.past) x.on) in
@@ -102,7 +108,8 @@ module _ (source : Source) (B : Map) (first : Blocks) (scan0 : Scan) (end0 : ℕ
                 (x.goes kind Bs at (prepend (want_marks y.past) q) (y.goes kind Bs at q h));
           }
 
-      pub gone_err : (f : TreeFault) → ((u : UnreadBlock) (w : Want) → Was u w → Is u w) → IsNextExtent source Was B store new scan scan' end (Err f) → IsNextExtent source Is B first new scan0 scan' end0 (Err f)
+      pub gone_err : (f : TreeFault) → ((u : UnreadBlock) (w : Want) → Was u w → Is u w) → IsNextExtent source Was B store new scan scan' end (Err f)
+          → IsNextExtent source Is B first new scan0 scan' end0 (Err f)
       gone_err f weaker n seen on kind Bs at =
           let x = gone seen on in
           let y = n (seen ++ x.past) (on_here (seen ++ x.past) x.on) kind Bs at in (

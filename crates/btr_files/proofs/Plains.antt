@@ -86,20 +86,26 @@ module _ (lo hi : Key) where
   leaf_shows spot rest (Some (Leaf items)) h = emits_show (items_within lo hi spot.addr items) rest h
   leaf_shows spot rest (Some (Inner pointers)) h = tt
 
-  over_shows : (child : Spot → RangeProg → RangeProg) → ((spot : Spot) (rest : RangeProg) → Ranges rest → Ranges (child spot rest)) → (pointers : List KeyPointer) (up : Option Key) (rest : RangeProg) → Ranges rest → Ranges (over lo hi child pointers up rest)
+  over_shows : (child : Spot → RangeProg → RangeProg) → ((spot : Spot) (rest : RangeProg) → Ranges rest → Ranges (child spot rest))
+      → (pointers : List KeyPointer) (up : Option Key) (rest : RangeProg) → Ranges rest → Ranges (over lo hi child pointers up rest)
   over_shows child h [] up rest g = g
   over_shows child h (pointer ∷ pointers) up rest g =
-      if_shows same (meets lo hi pointer.key (up_of pointers up)) (child (below pointer (up_of pointers up)) (over lo hi child pointers up rest)) (over lo hi child pointers up rest)
-      (h (below pointer (up_of pointers up)) (over lo hi child pointers up rest) (over_shows child h pointers up rest g)) (over_shows child h pointers up rest g)
+      if_shows same (meets lo hi pointer.key (up_of pointers up)) (child (below pointer (up_of pointers up)) (over lo hi child pointers up rest))
+      (over lo hi child pointers up rest)
+      (h (below pointer (up_of pointers up)) (over lo hi child pointers up rest) (over_shows child h pointers up rest g))
+      (over_shows child h pointers up rest g)
 
-  inner_shows : (child : Spot → RangeProg → RangeProg) → ((spot : Spot) (rest : RangeProg) → Ranges rest → Ranges (child spot rest)) → (spot : Spot) (rest : RangeProg) (o : Option Node) → Ranges rest → Ranges (range_inner lo hi child spot rest o)
+  inner_shows : (child : Spot → RangeProg → RangeProg) → ((spot : Spot) (rest : RangeProg) → Ranges rest → Ranges (child spot rest))
+      → (spot : Spot) (rest : RangeProg) (o : Option Node) → Ranges rest → Ranges (range_inner lo hi child spot rest o)
   inner_shows child h spot rest None g = tt
   inner_shows child h spot rest (Some (Leaf items)) g = tt
   inner_shows child h spot rest (Some (Inner pointers)) g = over_shows child h pointers spot.up rest g
 
   at_shows : (n : ℕ) (spot : Spot) (rest : RangeProg) → Ranges rest → Ranges (range_at lo hi n spot rest)
-  at_shows zero spot rest h = block_shows same 0 spot (λ block. range_leaf lo hi spot rest (judged 0 spot block)) (λ block. leaf_shows spot rest (judged 0 spot block) h)
-  at_shows (suc n) spot rest h = block_shows same (suc n) spot (λ block. range_inner lo hi (range_at lo hi n) spot rest (judged (suc n) spot block)) (λ block. inner_shows (range_at lo hi n) (at_shows n) spot rest (judged (suc n) spot block) h)
+  at_shows zero spot rest h = block_shows same 0 spot (λ block. range_leaf lo hi spot rest (judged 0 spot block))
+      (λ block. leaf_shows spot rest (judged 0 spot block) h)
+  at_shows (suc n) spot rest h = block_shows same (suc n) spot (λ block. range_inner lo hi (range_at lo hi n) spot rest (judged (suc n) spot block))
+      (λ block. inner_shows (range_at lo hi n) (at_shows n) spot rest (judged (suc n) spot block) h)
 
   pub range_shows : (root : RootPlace) → Ranges (range lo hi root)
   range_shows root = at_shows root.level (root_spot root) (Return tt) tt
@@ -125,7 +131,8 @@ module _ (key : Key) where
 
   le_at_shows : (n : ℕ) (spot : Spot) → Finds (le_at n key spot)
   le_at_shows zero spot = block_shows same 0 spot (λ block. le_leaf key spot (judged 0 spot block)) (λ block. le_leaf_shows spot (judged 0 spot block))
-  le_at_shows (suc n) spot = block_shows same (suc n) spot (λ block. le_inner (le_at n key) key spot (judged (suc n) spot block)) (λ block. le_inner_shows (le_at n key) (le_at_shows n) spot (judged (suc n) spot block))
+  le_at_shows (suc n) spot = block_shows same (suc n) spot (λ block. le_inner (le_at n key) key spot (judged (suc n) spot block))
+      (λ block. le_inner_shows (le_at n key) (le_at_shows n) spot (judged (suc n) spot block))
 
   pub le_shows : (root : RootPlace) → Finds (le root key)
   le_shows root = le_at_shows root.level (root_spot root)
@@ -134,16 +141,21 @@ module _ (key : Key) where
 pub then_shows : {A C : Type 0} (p : Lookup A) (k : A → Lookup C) → Shows same p → ((a : A) → Shows same (k a)) → Shows same (bind p k)
 then_shows p k h g = shows_bind same (λ s. refl) is_plain p k h g
 
-pub looks_shows : {S A C : Type 0} (R : S → S → Type 0) (all : (s : S) → R s s) (p : Lookup A) (k : A → Program S C) → Shows same p → ((a : A) → Shows R (k a)) → Shows R (looks p k)
+pub looks_shows : {S A C : Type 0} (R : S → S → Type 0) (all : (s : S) → R s s) (p : Lookup A) (k : A → Program S C) → Shows same p
+    → ((a : A) → Shows R (k a)) → Shows R (looks p k)
 looks_shows R all p k h g = shows_bind R all is_plain (quiet p) k (shows_quiet same R is_plain p h) g
 
 module _ {S T : Type 0} (R : S → S → Type 0) (all : (s : S) → R s s) where
   -- treating the steps of a program that wants only what is tested
-  pub thread_shows : {A St X : Type 0} (body : St → T → Program S (Result St X)) (done : St → A → X) (st : St) (p : Program T A) → ((a : St) (t : T) → Shows R (body a t)) → Shows same p → Shows R (thread body done st p)
-  thread_shows body done st p h e = shows_thread same R all body done is_plain h (λ a t u q. subst (λ x. AreAlike R (body a t) (body a x)) q (alike_refl R all (body a t))) st p e
+  pub thread_shows : {A St X : Type 0} (body : St → T → Program S (Result St X)) (done : St → A → X) (st : St) (p : Program T A)
+      → ((a : St) (t : T) → Shows R (body a t)) → Shows same p → Shows R (thread body done st p)
+  thread_shows body done st p h e = shows_thread same R all body done is_plain h
+      (λ a t u q. subst (λ x. AreAlike R (body a t) (body a x)) q (alike_refl R all (body a t))) st p e
 
-  pub each_shows : {A : Type 0} (treat : A → T → Program S A) (st : A) (p : Program T (Unit {0})) → ((a : A) (t : T) → Shows R (treat a t)) → Shows same p → Shows R (each treat st p)
-  each_shows treat st p h e = thread_shows (λ a t. bind (treat a t) (λ b. Return (Ok b))) (λ a u. a) st p (λ a t. shows_bind R all is_plain (treat a t) (λ b. Return (Ok b)) (h a t) (λ b. tt)) e
+  pub each_shows : {A : Type 0} (treat : A → T → Program S A) (st : A) (p : Program T (Unit {0})) → ((a : A) (t : T) → Shows R (treat a t))
+      → Shows same p → Shows R (each treat st p)
+  each_shows treat st p h e = thread_shows (λ a t. bind (treat a t) (λ b. Return (Ok b))) (λ a u. a) st p
+      (λ a t. shows_bind R all is_plain (treat a t) (λ b. Return (Ok b)) (h a t) (λ b. tt)) e
 
 -- what is made of the items of a range
 next_shows : {St R : Type 0} (leaf : ℕ) (n : Next St R) → Shows same (next_prog leaf n)
@@ -151,9 +163,11 @@ next_shows leaf (Go st) = tt
 next_shows leaf (End r) = tt
 next_shows leaf Broken = tt
 
-pub folded_shows : {St R : Type 0} (step : St → TreeItem → Next St R) (answer : St → R) (state : St) (root : RootPlace) (lo hi : Key) → Shows same (folded step answer state root lo hi)
+pub folded_shows : {St R : Type 0} (step : St → TreeItem → Next St R) (answer : St → R) (state : St) (root : RootPlace) (lo hi : Key)
+    → Shows same (folded step answer state root lo hi)
 folded_shows step answer state root lo hi =
-    thread_shows same (λ s. refl) (λ st item. next_prog item.leaf (step st item)) (λ st u. answer st) state (range lo hi root) (λ st item. next_shows item.leaf (step st item)) (range_shows lo hi root)
+    thread_shows same (λ s. refl) (λ st item. next_prog item.leaf (step st item)) (λ st u. answer st) state (range lo hi root)
+    (λ st item. next_shows item.leaf (step st item)) (range_shows lo hi root)
 
 -- the chunk tree and the roots
 pub scan_shows : (start : Start) → Shows same (table_scan start)
@@ -162,28 +176,33 @@ scan_shows start = folded_shows table_step whole_table start.array (chunk_root s
 found_shows : (id : ℕ) (o : Option TreeItem) → Shows same (root_found id o)
 found_shows id None = tt
 found_shows id (Some item) =
-    if_shows same (is_root_of id item.key) _ (Return None) (formed_shows same item (root_item_of item.body) (λ root. Return (Some (described item.key root))) (λ root. tt)) tt
+    if_shows same (is_root_of id item.key) _ (Return None) (formed_shows same item (root_item_of item.body)
+    (λ root. Return (Some (described item.key root))) (λ root. tt)) tt
 
 pub tree_shows : (s : Super) (id : ℕ) → Shows same (tree_of s id)
 tree_shows s id =
     let deeper = then_shows (le (root_root s) (key id root_item last)) (root_found id) (le_shows (key id root_item last) (root_root s)) (found_shows id) in
-    if_shows same (nat_eq id 1) (Return (Some (named_root 1 (root_root s)))) _ tt (if_shows same (nat_eq id 3) (Return (Some (named_root 3 (chunk_root s)))) _ tt deeper)
+    if_shows same (nat_eq id 1) (Return (Some (named_root 1 (root_root s)))) _ tt
+    (if_shows same (nat_eq id 3) (Return (Some (named_root 3 (chunk_root s)))) _ tt deeper)
 
 -- names and inodes
 pub inode_shows : (tree : TreeRoot) (ino : ℕ) → Shows same (inode_in tree ino)
 inode_shows tree ino =
     thread_shows same (λ s. refl) _ (λ u v. None) tt (range (key ino inode_item 0) (key ino inode_item 0) tree.place)
-    (λ u item. formed_shows same item (inode_of item.body) (λ inode. Return (Err (Some inode))) (λ inode. tt)) (range_shows (key ino inode_item 0) (key ino inode_item 0) tree.place)
+    (λ u item. formed_shows same item (inode_of item.body) (λ inode. Return (Err (Some inode))) (λ inode. tt))
+    (range_shows (key ino inode_item 0) (key ino inode_item 0) tree.place)
 
 pub links_show : (tree : TreeRoot) (ino : ℕ) → Shows same (links tree ino)
 links_show tree ino =
     each_shows same (λ s. refl) _ [] (range (key ino inode_ref 0) (key ino inode_extref last) tree.place)
-    (λ found item. formed_shows same item (links_of item.key item.body) (λ more. Return (found ++ more)) (λ more. tt)) (range_shows (key ino inode_ref 0) (key ino inode_extref last) tree.place)
+    (λ found item. formed_shows same item (links_of item.key item.body) (λ more. Return (found ++ more)) (λ more. tt))
+    (range_shows (key ino inode_ref 0) (key ino inode_extref last) tree.place)
 
 pub mounts_show : (s : Super) (id : ℕ) → Shows same (mounts s id)
 mounts_show s id =
     each_shows same (λ s. refl) _ [] (range (key id root_backref 0) (key id root_backref last) (root_root s))
-    (λ found item. formed_shows same item (root_ref_of item.body) (λ part. Return (found ++ mount_of item.key item.body part ∷ [])) (λ part. tt)) (range_shows (key id root_backref 0) (key id root_backref last) (root_root s))
+    (λ found item. formed_shows same item (root_ref_of item.body) (λ part. Return (found ++ mount_of item.key item.body part ∷ [])) (λ part. tt))
+    (range_shows (key id root_backref 0) (key id root_backref last) (root_root s))
 
 pub linked_shows : (wanted : Link) (tree : TreeRoot) (ino : ℕ) → Shows same (linked wanted tree ino)
 linked_shows wanted tree ino = then_shows (links tree ino) (λ found. Return (is_link wanted found)) (links_show tree ino) (λ found. tt)
@@ -195,7 +214,8 @@ mounted_shows wanted s id = then_shows (mounts s id) (λ found. Return (is_mount
 pub entries_show : (tree : TreeRoot) (dirid : ℕ) → Shows same (entries tree dirid)
 entries_show tree dirid =
     each_shows same (λ s. refl) _ tt (range (key dirid dir_index 0) (key dirid dir_index last) tree.place)
-    (λ u item. formed_shows same item (index_entry_of item.body) (λ entry. Emit (entry_of item entry) (Return tt)) (λ entry. tt)) (range_shows (key dirid dir_index 0) (key dirid dir_index last) tree.place)
+    (λ u item. formed_shows same item (index_entry_of item.body) (λ entry. Emit (entry_of item entry) (Return tt)) (λ entry. tt))
+    (range_shows (key dirid dir_index 0) (key dirid dir_index last) tree.place)
 
 order_shows : (end : ℕ) (x : Extent) → Shows same (in_order end x)
 order_shows end x = if_shows same (nat_le end x.start) (Emit x (Return (Ok (end_of x.start x.fields)))) _ tt tt
@@ -203,20 +223,24 @@ order_shows end x = if_shows same (nat_le end x.start) (Emit x (Return (Ok (end_
 pub extents_show : (tree : TreeRoot) (ino : ℕ) → Shows same (extents tree ino)
 extents_show tree ino =
     thread_shows same (λ s. refl) _ (λ end u. u) 0 (range (key ino extent_data 0) (key ino extent_data last) tree.place)
-    (λ end item. formed_shows same item (file_extent_of item.key.offset item.body) (λ fields. in_order end (extent item fields)) (λ fields. order_shows end (extent item fields))) (range_shows (key ino extent_data 0) (key ino extent_data last) tree.place)
+    (λ end item. formed_shows same item (file_extent_of item.key.offset item.body) (λ fields. in_order end (extent item fields))
+    (λ fields. order_shows end (extent item fields))) (range_shows (key ino extent_data 0) (key ino extent_data last) tree.place)
 
 pub survey_shows : (tree : TreeRoot) (ino : ℕ) → Shows same (survey tree ino)
-survey_shows tree ino = thread_shows same (λ s. refl) (λ u (x : Extent). Return (extents.if_clear (extents.judged x.fields))) (λ u v. Clear) tt (extents tree ino) (λ u x. tt) (extents_show tree ino)
+survey_shows tree ino = thread_shows same (λ s. refl) (λ u (x : Extent). Return (extents.if_clear (extents.judged x.fields))) (λ u v. Clear) tt
+    (extents tree ino) (λ u x. tt) (extents_show tree ino)
 
 -- checksums and sectors
 sum_found_shows : (kind : SumKind) (addr : ℕ) (o : Option TreeItem) → Shows same (sum_found kind addr o)
 sum_found_shows kind addr None = tt
 sum_found_shows kind addr (Some item) =
-    if_shows same (is_sums item.key) _ (Return None) (formed_shows same item (sum_run_of kind item.key item.body) (λ run. Return (sum_in kind addr item.body run)) (λ run. tt)) tt
+    if_shows same (is_sums item.key) _ (Return None) (formed_shows same item (sum_run_of kind item.key item.body)
+    (λ run. Return (sum_in kind addr item.body run)) (λ run. tt)) tt
 
 sum_shows : (kind : SumKind) (sums : Option TreeRoot) (addr : ℕ) → Shows same (sum_at kind sums addr)
 sum_shows kind None addr = tt
-sum_shows kind (Some sums) addr = then_shows (le sums.place (key sums_objectid extent_csum addr)) (sum_found kind addr) (le_shows (key sums_objectid extent_csum addr) sums.place) (sum_found_shows kind addr)
+sum_shows kind (Some sums) addr = then_shows (le sums.place (key sums_objectid extent_csum addr)) (sum_found kind addr)
+    (le_shows (key sums_objectid extent_csum addr) sums.place) (sum_found_shows kind addr)
 
 -- pieces that differ only in their bytes
 abbrev pub alike_pieces : Piece → Piece → Type 0
@@ -230,13 +254,15 @@ each_alike (Gap n) = refl
 
 module _ (kind : SumKind) (sums : Option TreeRoot) (nosum : Bool) where
   pub want_shows : (addr : ℕ) → Shows same (sector_want kind sums nosum addr)
-  want_shows addr = if_shows same nosum (Return (Plain addr)) _ tt (then_shows (sum_at kind sums addr) (λ sum. Return (want_by addr sum)) (sum_shows kind sums addr) (λ sum. tt))
+  want_shows addr = if_shows same nosum (Return (Plain addr)) _ tt
+      (then_shows (sum_at kind sums addr) (λ sum. Return (want_by addr sum)) (sum_shows kind sums addr) (λ sum. tt))
 
   sectors_show : (n addr left : ℕ) → Shows alike_pieces (sectors kind sums nosum n addr left)
   sectors_show zero addr left = tt
   sectors_show (suc n) addr left =
       let rest = sectors kind sums nosum n (addr + 4096) (left - 4096) in
-      looks_shows alike_pieces each_alike (sector_want kind sums nosum addr) (λ want. Need want (λ bytes. Emit (Bytes (take left bytes) (not (is_plain want))) rest)) (want_shows addr)
+      looks_shows alike_pieces each_alike (sector_want kind sums nosum addr)
+      (λ want. Need want (λ bytes. Emit (Bytes (take left bytes) (not (is_plain want))) rest)) (want_shows addr)
       (λ want. (λ bytes. sectors_show n (addr + 4096) (left - 4096), λ t b c. (refl, alike_refl alike_pieces each_alike rest)))
 
   module _ (size : ℕ) where
@@ -251,7 +277,8 @@ module _ (kind : SumKind) (sums : Option TreeRoot) (nosum : Bool) where
         let inside = sectors kind sums nosum (sector_count size x.start len) (addr + skip) (size - x.start) in
         let rest : Unit {0} → Program Piece (Result ℕ ℕ) = λ u. Return (on_at size (end_of x.start x.fields)) in
         if_shows alike_pieces (nat_eq addr 0) (Return (Ok at)) (gap (x.start - at) (bind inside rest)) tt
-        (gap_shows (x.start - at) (bind inside rest) (shows_bind alike_pieces each_alike is_plain inside rest (sectors_show (sector_count size x.start len) (addr + skip) (size - x.start)) (λ u. tt)))
+        (gap_shows (x.start - at) (bind inside rest) (shows_bind alike_pieces each_alike is_plain inside rest
+        (sectors_show (sector_count size x.start len) (addr + skip) (size - x.start)) (λ u. tt)))
     shaped_shows at x (Prealloc addr disk_len skip len) = tt
 
     clear_shows : (x : Extent) (found : Survey) (rest : Program Piece (Result ℕ ℕ)) → Shows alike_pieces rest → Shows alike_pieces (if_clear x found rest)
@@ -261,10 +288,12 @@ module _ (kind : SumKind) (sums : Option TreeRoot) (nosum : Bool) where
 
     piece_shows : (at : ℕ) (x : Extent) → Shows alike_pieces (piece kind sums nosum size at x)
     piece_shows at x =
-        clear_shows x (extents.judged x.fields) _ (if_shows alike_pieces (nat_le size x.start) (Return (Err at)) (shaped kind sums nosum size at x x.fields.shape) tt (shaped_shows at x x.fields.shape))
+        clear_shows x (extents.judged x.fields) _ (if_shows alike_pieces (nat_le size x.start) (Return (Err at))
+        (shaped kind sums nosum size at x x.fields.shape) tt (shaped_shows at x x.fields.shape))
 
     pub content_shows : (tree : TreeRoot) (ino : ℕ) → Shows alike_pieces (content kind sums nosum size tree ino)
     content_shows tree ino =
         if_shows alike_pieces (nat_eq size 0) (Return tt) (pieces kind sums nosum size 0 (extents tree ino)) tt
         (shows_bind alike_pieces each_alike is_plain (thread (piece kind sums nosum size) (λ at u. at) 0 (extents tree ino)) (λ at. gap (size - at) (Return tt))
-        (thread_shows alike_pieces each_alike (piece kind sums nosum size) (λ at u. at) 0 (extents tree ino) piece_shows (extents_show tree ino)) (λ at. gap_shows (size - at) (Return tt) tt))
+        (thread_shows alike_pieces each_alike (piece kind sums nosum size) (λ at u. at) 0 (extents tree ino) piece_shows (extents_show tree ino))
+        (λ at. gap_shows (size - at) (Return tt) tt))

@@ -55,18 +55,21 @@ module _ (source : Source) (Is : UnreadBlock → Want → Type 0) (B : Map) (old
       record {
         past = past;
         goes = λ kind Bs at q h. subst (λ r. Onward kind source Bs at end r (prepend (want_marks past) q)) (sym (items_end items f.0 f.1))
-            (then_of kind source Bs (Ok (given at end)) _ (prepend (want_marks past) q) (treats_past kind source Bs past (given at end) (run [] (Ok tt)) q (treats_end kind source Bs (given at end) q h)));
+            (then_of kind source Bs (Ok (given at end)) _ (prepend (want_marks past) q)
+            (treats_past kind source Bs past (given at end) (run [] (Ok tt)) q (treats_end kind source Bs (given at end) q h)));
       }
 
   module _ (found : Found) (seen : List Want) (g : Gives B seen old new scan scan' found) where
     abbrev item : TreeItem
     item = item_of found
 
-    onward : (r : Result Ahead TreeFault) → ahead_of source.size end item ≡ r → (kind : SumKind) (Bs : ℕ → Map) (at : ℕ) (q : Pieces) → Then kind source Bs (ahead_prog kind source at item r) behind q → Onward kind source Bs at end items (prepend (want_marks g.past) q)
+    onward : (r : Result Ahead TreeFault) → ahead_of source.size end item ≡ r → (kind : SumKind) (Bs : ℕ → Map) (at : ℕ) (q : Pieces)
+        → Then kind source Bs (ahead_prog kind source at item r) behind q → Onward kind source Bs at end items (prepend (want_marks g.past) q)
     onward r e kind Bs at q h =
         let t = treats_item kind source Bs (given at end) item behind (ahead_prog kind source at item r) q (pieces_are kind source at item end ∙ ap (ahead_prog kind source at item) e) h in
         subst (λ x. Onward kind source Bs at end x (prepend (want_marks g.past) q)) (sym g.is)
-        (then_of kind source Bs (Ok (given at end)) _ (prepend (want_marks g.past) q) (treats_past kind source Bs g.past (given at end) (first (Does item) behind) q t))
+        (then_of kind source Bs (Ok (given at end)) _ (prepend (want_marks g.past) q)
+        (treats_past kind source Bs g.past (given at end) (first (Does item) behind) q t))
 
     some_ahead : (ahead : Ahead) → ahead_of source.size end item ≡ Ok ahead → LeadsOn source B seen old new scan scan' end ahead
     some_ahead ahead e = record {
@@ -84,13 +87,16 @@ module _ (source : Source) (Is : UnreadBlock → Want → Type 0) (B : Map) (old
         let broken : Pieces = run [] (Err (fate.Malformed item.leaf)) in (
           prepend (want_marks g.past) broken,
           onward (Err f) e kind Bs at broken (run [] (Err (fate.Malformed item.leaf)), refl, refl),
-          subst (λ (x : TreeFault). Follows Is no_part seen (prepend (want_marks g.past) broken) [] (Err (halt_of x))) (sym (found_fault source.size end item f e)) (no_steps g.past, refl),
+          subst (λ (x : TreeFault). Follows Is no_part seen (prepend (want_marks g.past) broken) [] (Err (halt_of x)))
+              (sym (found_fault source.size end item f e)) (no_steps g.past, refl),
         )
 
-  pub extent_some : (found : Found) (ahead : Ahead) → ahead_of source.size end (item_of found) ≡ Ok ahead → IsNextOn Is B old new scan scan' (Ok (Some found)) → IsNextExtent source Is B old new scan scan' end (Ok (Some ahead))
+  pub extent_some : (found : Found) (ahead : Ahead) → ahead_of source.size end (item_of found) ≡ Ok ahead
+      → IsNextOn Is B old new scan scan' (Ok (Some found)) → IsNextExtent source Is B old new scan scan' end (Ok (Some ahead))
   extent_some found ahead e n seen on = some_ahead found seen (n seen on) ahead e
 
-  pub extent_fault : (found : Found) (f : TreeFault) → ahead_of source.size end (item_of found) ≡ Err f → IsNextOn Is B old new scan scan' (Ok (Some found)) → IsNextExtent source Is B old new scan scan' end (Err f)
+  pub extent_fault : (found : Found) (f : TreeFault) → ahead_of source.size end (item_of found) ≡ Err f
+      → IsNextOn Is B old new scan scan' (Ok (Some found)) → IsNextExtent source Is B old new scan scan' end (Err f)
   extent_fault found f e n seen on = some_fault found seen (n seen on) f e
 
 -- an item that breaks its form needs no other cause

@@ -1,5 +1,6 @@
 -- The entries of a directory go on as its scan does.
-use Rattle.std.proofs.Common.{◌≡◌, ℕ, ◌+◌, ◌<◌, ◌≤◌, Bool, true, false, List, [], ◌∷◌, ◌++◌, length, Option, Some, None, Result, Ok, Err, refl, sym, ap, ◌∙◌, subst, arith}
+use Rattle.std.proofs.Common.{◌≡◌, ℕ, ◌+◌, ◌<◌, ◌≤◌, Bool, true, false, List, [], ◌∷◌, ◌++◌, length, Option, Some, None, Result, Ok, Err, refl, sym, ap, ◌∙◌}
+use Rattle.std.proofs.Common.{subst, arith}
 use Rattle.std.specs.Prelude.{nat_le, ◌&&◌}
 use Rattle.std.proofs.lemmas.Bool.Decides.{nat_tests}
 use Rattle.btr_base.specs.Field.{number_at, bytes_at}
@@ -72,16 +73,22 @@ module _ (B : Map) where
   rows_past [] r = refl
   rows_past (w ∷ ws) r = ap (first (Wants w)) (rows_past ws r)
 
-  given : (item : TreeItem) (x : Result Entry ItemFault) (entry : Entry) (k : Unit {0} → Rows) → x ≡ Ok entry → after (exec B (by_form item x)).marks (exec B (by_form item x)).ending (go_on_run k) ≡ first (Does (entry_of item entry)) (k tt)
-  given item x entry k e = subst (λ y. after (exec B (by_form item y)).marks (exec B (by_form item y)).ending (go_on_run k) ≡ first (Does (entry_of item entry)) (k tt)) (sym e) refl
+  given : (item : TreeItem) (x : Result Entry ItemFault) (entry : Entry) (k : Unit {0} → Rows) → x ≡ Ok entry
+      → after (exec B (by_form item x)).marks (exec B (by_form item x)).ending (go_on_run k) ≡ first (Does (entry_of item entry)) (k tt)
+  given item x entry k e = subst (λ y. after (exec B (by_form item y)).marks (exec B (by_form item y)).ending (go_on_run k)
+      ≡ first (Does (entry_of item entry)) (k tt)) (sym e) refl
 
-  row_given : (item : TreeItem) (entry : Entry) (r : Items) → index_entry_of item.body ≡ Ok entry → rows_of (first (Does item) r) ≡ first (Does (entry_of item entry)) (rows_of r)
+  row_given : (item : TreeItem) (entry : Entry) (r : Items) → index_entry_of item.body ≡ Ok entry → rows_of (first (Does item) r)
+      ≡ first (Does (entry_of item entry)) (rows_of r)
   row_given item entry r e = given item (index_entry_of item.body) entry (λ u. rows_of r) e
 
-  broke : (item : TreeItem) (x : Result Entry ItemFault) (fault : ItemFault) (k : Unit {0} → Rows) → x ≡ Err fault → after (exec B (by_form item x)).marks (exec B (by_form item x)).ending (go_on_run k) ≡ run [] (Err (fate.Malformed item.leaf))
-  broke item x fault k e = subst (λ y. after (exec B (by_form item y)).marks (exec B (by_form item y)).ending (go_on_run k) ≡ run [] (Err (fate.Malformed item.leaf))) (sym e) refl
+  broke : (item : TreeItem) (x : Result Entry ItemFault) (fault : ItemFault) (k : Unit {0} → Rows) → x ≡ Err fault
+      → after (exec B (by_form item x)).marks (exec B (by_form item x)).ending (go_on_run k) ≡ run [] (Err (fate.Malformed item.leaf))
+  broke item x fault k e = subst (λ y. after (exec B (by_form item y)).marks (exec B (by_form item y)).ending (go_on_run k)
+      ≡ run [] (Err (fate.Malformed item.leaf))) (sym e) refl
 
-  row_broken : (item : TreeItem) (fault : ItemFault) (r : Items) → index_entry_of item.body ≡ Err fault → rows_of (first (Does item) r) ≡ run [] (Err (fate.Malformed item.leaf))
+  row_broken : (item : TreeItem) (fault : ItemFault) (r : Items) → index_entry_of item.body ≡ Err fault → rows_of (first (Does item) r)
+      ≡ run [] (Err (fate.Malformed item.leaf))
   row_broken item fault r e = broke item (index_entry_of item.body) fault (λ u. rows_of r) e
 
   abbrev Exec : Unit {0} → TreeItem → Run Want fate.Fault DirEntry (Result (Unit {0}) (Unit {0})) → Type 0
@@ -90,7 +97,10 @@ module _ (B : Map) where
   abbrev rows_from : Unit {0} → List (Mark Want TreeItem) → Result (Unit {0}) fate.Fault → Rows
   rows_from st ms e = thread_run (λ u item. exec B (body u item)) fin st ms e
 
-  some_after : (ms : List (Mark Want TreeItem)) (e : Result (Unit {0}) fate.Fault) → ((st : Unit {0}) → ThreadsTo Exec fin st ms e (rows_from st ms e)) → (marks : List (Mark Want DirEntry)) (x : Result (Result (Unit {0}) (Unit {0})) fate.Fault) → AfterTo marks x (GoOnTo (λ st. ThreadsTo Exec fin st ms e)) (after marks x (go_on_run (λ st. rows_from st ms e)))
+  some_after : (ms : List (Mark Want TreeItem)) (e : Result (Unit {0}) fate.Fault)
+      → ((st : Unit {0}) → ThreadsTo Exec fin st ms e (rows_from st ms e))
+      → (marks : List (Mark Want DirEntry)) (x : Result (Result (Unit {0}) (Unit {0})) fate.Fault)
+      → AfterTo marks x (GoOnTo (λ st. ThreadsTo Exec fin st ms e)) (after marks x (go_on_run (λ st. rows_from st ms e)))
   some_after ms e h marks (Ok (Ok st)) = (rows_from st ms e, refl, h st)
   some_after ms e h marks (Ok (Err y)) = (run [] (Ok y), refl, refl)
   some_after ms e h marks (Err f) = refl
@@ -103,12 +113,14 @@ module _ (B : Map) where
       (b, refl, some_after ms e (λ st'. some_rows st' ms e) b.marks b.ending)
 
   -- the scan came to no item: what it answers is answered of the entries
-  pub rows_halt : (Is : UnreadBlock → Want → Type 0) (seen : List Want) (p : RangeProg) (h : Halt fate.Fault UnreadBlock) → Follows Is no_part seen (exec B p) [] (Err h) → Follows Is no_part seen (exec B (entries_in p)) [] (Err h)
+  pub rows_halt : (Is : UnreadBlock → Want → Type 0) (seen : List Want) (p : RangeProg) (h : Halt fate.Fault UnreadBlock)
+      → Follows Is no_part seen (exec B p) [] (Err h) → Follows Is no_part seen (exec B (entries_in p)) [] (Err h)
   rows_halt Is seen p h f =
       let g = cursor_halts Exec fin (λ s r. (rows_from s r.marks r.ending, some_rows s r.marks r.ending)) Is no_part seen tt (exec B p) h f in
       subst (λ q. Follows Is no_part seen q [] (Err h)) (threads_exec B body fin tt p g.0 g.1) g.2
 
-  rows_all : (st : Unit {0}) (ms : List (Mark Want TreeItem)) (e : Result (Unit {0}) fate.Fault) → [] ≡ steps_of ms → e ≡ Ok tt → ([] ≡ steps_of (rows_from st ms e).marks) × ((rows_from st ms e).ending ≡ Ok tt)
+  rows_all : (st : Unit {0}) (ms : List (Mark Want TreeItem)) (e : Result (Unit {0}) fate.Fault) → [] ≡ steps_of ms → e ≡ Ok tt
+      → ([] ≡ steps_of (rows_from st ms e).marks) × ((rows_from st ms e).ending ≡ Ok tt)
   rows_all tt [] e n h = (
     subst (λ x. [] ≡ steps_of (end_of {W = Want} {F = fate.Fault} {T = DirEntry} fin tt x).marks) (sym h) refl,
     subst (λ x. (end_of {W = Want} {F = fate.Fault} {T = DirEntry} fin tt x).ending ≡ Ok tt) (sym h) refl,
@@ -117,10 +129,12 @@ module _ (B : Map) where
   rows_all st (Does item ∷ ms) e n h = cc
 
   -- the scan came to its end
-  pub rows_end : (Is : UnreadBlock → Want → Type 0) (seen : List Want) (p : RangeProg) → Follows Is no_part seen (exec B p) [] (Ok tt) → Follows Is no_part seen (exec B (entries_in p)) [] (Ok tt)
+  pub rows_end : (Is : UnreadBlock → Want → Type 0) (seen : List Want) (p : RangeProg) → Follows Is no_part seen (exec B p) [] (Ok tt)
+      → Follows Is no_part seen (exec B (entries_in p)) [] (Ok tt)
   rows_end Is seen p f = subst (λ q. Follows Is no_part seen q [] (Ok tt)) (sym (exec_rows p)) (rows_all tt (exec B p).marks (exec B p).ending f.0 f.1)
 
-  rows_step : (p : RangeProg) (ws : List Want) (item : TreeItem) (r : Items) → exec B p ≡ prepend (wants ws) (first (Does item) r) → exec B (entries_in p) ≡ prepend (want_marks ws) (rows_of (first (Does item) r))
+  rows_step : (p : RangeProg) (ws : List Want) (item : TreeItem) (r : Items) → exec B p ≡ prepend (wants ws) (first (Does item) r)
+      → exec B (entries_in p) ≡ prepend (want_marks ws) (rows_of (first (Does item) r))
   rows_step p ws item r e = exec_rows p ∙ ap rows_of e ∙ rows_past ws (first (Does item) r)
 
   no_steps : (ws : List Want) → [] ≡ steps_of {S = DirEntry} (want_marks ws ++ [])
@@ -128,25 +142,34 @@ module _ (B : Map) where
   no_steps (w ∷ ws) = no_steps ws
 
   -- an item was met, and holds an entry
-  row_gives : (seen : List Want) (old new : Blocks) (scan scan' : Scan) (found : Found) (name : NameBuf) (row : DirRow) (entry : Entry) → index_entry_of found.body.now ≡ Ok entry → named_row row name ≡ entry_of (item_of found) entry → Gives B seen old new scan scan' found → GivesRow B seen old new scan scan' (named_row row name)
+  row_gives : (seen : List Want) (old new : Blocks) (scan scan' : Scan) (found : Found) (name : NameBuf) (row : DirRow) (entry : Entry)
+      → index_entry_of found.body.now ≡ Ok entry → named_row row name ≡ entry_of (item_of found) entry → Gives B seen old new scan scan' found
+      → GivesRow B seen old new scan scan' (named_row row name)
   row_gives seen old new scan scan' found name row entry h n g =
       let behind = exec B (left_of B new scan') in
       record {
         past = g.past;
         is = rows_step (left_of B old scan) g.past (item_of found) behind g.is
-            ∙ ap (prepend (want_marks g.past)) (row_given (item_of found) entry behind h ∙ ap (λ (x : DirEntry). first (Does x) (rows_of behind)) (sym n) ∙ ap (first (Does (named_row row name))) (sym (exec_rows (left_of B new scan'))));
+            ∙ ap (prepend (want_marks g.past)) (row_given (item_of found) entry behind h
+            ∙ ap (λ (x : DirEntry). first (Does x) (rows_of behind)) (sym n)
+            ∙ ap (first (Does (named_row row name))) (sym (exec_rows (left_of B new scan'))));
         on = g.on;
         held = g.held;
       }
 
   -- an item was met that breaks its form
-  row_breaks : (Is : UnreadBlock → Want → Type 0) (seen : List Want) (old new : Blocks) (scan scan' : Scan) (found : Found) (fault : ItemFault) (f : TreeFault) → index_entry_of found.body.now ≡ Err fault → f ≡ Malformed found.block → Gives B seen old new scan scan' found → EndsRows Is B seen (left_of B old scan) (Err f)
+  row_breaks : (Is : UnreadBlock → Want → Type 0) (seen : List Want) (old new : Blocks) (scan scan' : Scan) (found : Found) (fault : ItemFault)
+      (f : TreeFault) → index_entry_of found.body.now ≡ Err fault → f ≡ Malformed found.block → Gives B seen old new scan scan' found
+      → EndsRows Is B seen (left_of B old scan) (Err f)
   row_breaks Is seen old new scan scan' found fault f h n g =
       let behind = exec B (left_of B new scan') in
       let e = rows_step (left_of B old scan) g.past (item_of found) behind g.is ∙ ap (prepend (want_marks g.past)) (row_broken (item_of found) fault behind h) in
-      subst (λ (x : TreeFault). EndsRows Is B seen (left_of B old scan) (Err x)) (sym n) (subst (λ q. Follows Is no_part seen q [] (Err (Fault (fate.Malformed found.block)))) (sym e) (no_steps g.past, refl))
+      subst (λ (x : TreeFault). EndsRows Is B seen (left_of B old scan) (Err x)) (sym n)
+      (subst (λ q. Follows Is no_part seen q [] (Err (Fault (fate.Malformed found.block)))) (sym e) (no_steps g.past, refl))
 
-  by_entry : (Is : UnreadBlock → Want → Type 0) (seen : List Want) (old new : Blocks) (scan scan' : Scan) (found : Found) (name : NameBuf) (r : Result Entry ItemFault) (result : Result (Option DirRow) TreeFault) → index_entry_of found.body.now ≡ r → IsRowBy (item_of found) name r result → Gives B seen old new scan scan' found → NextRowBy Is B seen old new scan scan' name result
+  by_entry : (Is : UnreadBlock → Want → Type 0) (seen : List Want) (old new : Blocks) (scan scan' : Scan) (found : Found) (name : NameBuf)
+      (r : Result Entry ItemFault) (result : Result (Option DirRow) TreeFault) → index_entry_of found.body.now ≡ r
+      → IsRowBy (item_of found) name r result → Gives B seen old new scan scan' found → NextRowBy Is B seen old new scan scan' name result
   by_entry Is seen old new scan scan' found name (Ok entry) (Ok (Some row)) e h g = row_gives seen old new scan scan' found name row entry e h g
   by_entry Is seen old new scan scan' found name (Ok entry) (Ok None) e h g = absurd h
   by_entry Is seen old new scan scan' found name (Ok entry) (Err f) e h g = absurd h
@@ -154,23 +177,30 @@ module _ (B : Map) where
   by_entry Is seen old new scan scan' found name (Err fault) (Err f) e h g = row_breaks Is seen old new scan scan' found fault f e h g
 
   -- the scan met an item, came to its end, or to a fault
-  pub next_some : (Is : UnreadBlock → Want → Type 0) (old new : Blocks) (scan scan' : Scan) (found : Found) (name : NameBuf) (result : Result (Option DirRow) TreeFault) → IsRow (item_of found) name result → IsNextOn Is B old new scan scan' (Ok (Some found)) → IsNextRow Is B old new scan scan' name result
-  next_some Is old new scan scan' found name result h n seen on = by_entry Is seen old new scan scan' found name (index_entry_of found.body.now) result refl h (n seen on)
+  pub next_some : (Is : UnreadBlock → Want → Type 0) (old new : Blocks) (scan scan' : Scan) (found : Found) (name : NameBuf)
+      (result : Result (Option DirRow) TreeFault) → IsRow (item_of found) name result → IsNextOn Is B old new scan scan' (Ok (Some found))
+      → IsNextRow Is B old new scan scan' name result
+  next_some Is old new scan scan' found name result h n seen on = by_entry Is seen old new scan scan' found name (index_entry_of found.body.now)
+      result refl h (n seen on)
 
-  pub next_none : (Is : UnreadBlock → Want → Type 0) (old new : Blocks) (scan scan' : Scan) (name : NameBuf) → IsNextOn Is B old new scan scan' (Ok None) → IsNextRow Is B old new scan scan' name (Ok None)
+  pub next_none : (Is : UnreadBlock → Want → Type 0) (old new : Blocks) (scan scan' : Scan) (name : NameBuf)
+      → IsNextOn Is B old new scan scan' (Ok None) → IsNextRow Is B old new scan scan' name (Ok None)
   next_none Is old new scan scan' name n seen on = rows_end Is seen (left_of B old scan) (n seen on)
 
-  pub next_fault : (Is : UnreadBlock → Want → Type 0) (old new : Blocks) (scan scan' : Scan) (name : NameBuf) (f : TreeFault) → IsNextOn Is B old new scan scan' (Err f) → IsNextRow Is B old new scan scan' name (Err f)
+  pub next_fault : (Is : UnreadBlock → Want → Type 0) (old new : Blocks) (scan scan' : Scan) (name : NameBuf) (f : TreeFault)
+      → IsNextOn Is B old new scan scan' (Err f) → IsNextRow Is B old new scan scan' name (Err f)
   next_fault Is old new scan scan' name f n seen on = rows_halt Is seen (left_of B old scan) (halt_of f) (n seen on)
 
-by_row : (layout : Layout) (a b : Seen) (item : TreeItem) (name : NameBuf) (r : Result Entry ItemFault) (result : Result (Option DirRow) TreeFault) → IsRowBy item name r result → HasCause layout a b result
+by_row : (layout : Layout) (a b : Seen) (item : TreeItem) (name : NameBuf) (r : Result Entry ItemFault) (result : Result (Option DirRow) TreeFault)
+    → IsRowBy item name r result → HasCause layout a b result
 by_row layout a b item name (Ok entry) (Ok row) h = tt
 by_row layout a b item name (Ok entry) (Err f) h = absurd h
 by_row layout a b item name (Err fault) (Ok row) h = absurd h
 by_row layout a b item name (Err fault) (Err f) h = subst (λ (x : TreeFault). HasCause {A = Option DirRow} layout a b (Err x)) (sym h) tt
 
 -- an entry that breaks its form needs no other cause
-pub row_cause : (layout : Layout) (a b : Seen) (item : TreeItem) (name : NameBuf) (result : Result (Option DirRow) TreeFault) → IsRow item name result → HasCause layout a b result
+pub row_cause : (layout : Layout) (a b : Seen) (item : TreeItem) (name : NameBuf) (result : Result (Option DirRow) TreeFault) → IsRow item name result
+    → HasCause layout a b result
 row_cause layout a b item name result h = by_row layout a b item name (index_entry_of item.body) result h
 
 pub row_nears : (scan scan' : Scan) (result : Result (Option DirRow) TreeFault) → rank_of scan' < rank_of scan → RowNears scan scan' result
@@ -203,7 +233,8 @@ second false b h = let z : ⊥ = cc in absurd z
 at_most : (n : ℕ) → nat_le n 255 ≡ true → n ≤ 255
 at_most n h = grind (arith, nat_tests)
 
-pub name_fits : (body : List ℕ) (entry : Entry) (xs : List ℕ) → Ok entry ≡ index_entry_of body → HasName body entry.name_at entry.name_len → xs ≡ bytes_at entry.name_len entry.name_at body → length xs ≤ 255
+pub name_fits : (body : List ℕ) (entry : Entry) (xs : List ℕ) → Ok entry ≡ index_entry_of body → HasName body entry.name_at entry.name_len → xs
+    ≡ bytes_at entry.name_len entry.name_at body → length xs ≤ 255
 name_fits body entry xs e h n =
     let n0 = number_at 2 27 body in
     let a = nat_le 30 (length body) in
@@ -224,13 +255,15 @@ left_is B store (Some frame) p = refl
 pub rest_is : (B : Map) (store : Blocks) (rest : Rest) → rest_left B rest ≡ left_of B store (scan_of rest)
 rest_is B store rest = left_is B store rest.place.leaf (place_prog rest.lo rest.hi B rest.place.rest)
 
-pub ready_is : (rack : Seen) (store : Blocks) (scan : Scan) (rest : Rest) → scan ≡ scan_of rest → Serves rack store → IsShaped rest.place.rest → IsReady rack store scan
+pub ready_is : (rack : Seen) (store : Blocks) (scan : Scan) (rest : Rest) → scan ≡ scan_of rest → Serves rack store → IsShaped rest.place.rest
+    → IsReady rack store scan
 ready_is rack store scan rest e serves shaped = subst (IsReady rack store) (sym e) (record { serves = serves; hand = tt; shaped = shaped; alone = tt })
 
 pub free_is : (store : Blocks) (scan : Scan) (rest : Rest) → scan ≡ scan_of rest → without_leaf store scan ≡ store
 free_is store scan rest e = ap (without_leaf store) e
 
-pub same_through : (a b c : Blocks) (scan scan' : Scan) (rest : Rest) → scan ≡ scan_of rest → SameLoans (without_leaf a scan) (without_leaf b scan') → SameLoans (without_leaf b scan') c → SameLoans a c
+pub same_through : (a b c : Blocks) (scan scan' : Scan) (rest : Rest) → scan ≡ scan_of rest → SameLoans (without_leaf a scan) (without_leaf b scan')
+    → SameLoans (without_leaf b scan') c → SameLoans a c
 same_through a b c scan scan' rest e one two =
     let first' : SameLoans a (without_leaf b scan') = subst (λ x. SameLoans x (without_leaf b scan')) (free_is a scan rest e) one in
     record { layout = two.layout ∙ first'.layout; loans = two.loans ∙ first'.loans }
@@ -244,17 +277,22 @@ dir_some B Is old new dir scan scan' rest name row e lo hi r h seen on =
     let on' : IsOn scan'.lo scan'.hi B (seen ++ g.past) scan'.place = subst (λ (k : Key). IsOn k scan'.hi B (seen ++ g.past) scan'.place) (sym lo') (subst (λ (k : Key). IsOn dir.rest.lo k B (seen ++ g.past) scan'.place) (sym hi') g.on) in
     record {
       past = g.past;
-      is = ap (λ p. exec B (entries_in p)) (rest_is B old dir.rest) ∙ g.is ∙ ap (λ p. prepend (want_marks g.past) (first (Does (named_row row name)) (exec B (entries_in p)))) (sym (r.program B (seen ++ g.past) (g.held tt)));
+      is = ap (λ p. exec B (entries_in p)) (rest_is B old dir.rest) ∙ g.is
+          ∙ ap (λ p. prepend (want_marks g.past) (first (Does (named_row row name)) (exec B (entries_in p)))) (sym (r.program B (seen ++ g.past) (g.held tt)));
       on = r.on B (seen ++ g.past) (g.held tt) on';
     }
 
-pub dir_ends : (B : Map) (Is : UnreadBlock → Want → Type 0) (old new : Blocks) (dir : Dir) (scan scan' : Scan) (name : NameBuf) → scan ≡ scan_of dir.rest → IsNextRow Is B old new scan scan' name (Ok None) → IsNextEntry Is B dir dir name (Ok None)
+pub dir_ends : (B : Map) (Is : UnreadBlock → Want → Type 0) (old new : Blocks) (dir : Dir) (scan scan' : Scan) (name : NameBuf) → scan
+    ≡ scan_of dir.rest → IsNextRow Is B old new scan scan' name (Ok None) → IsNextEntry Is B dir dir name (Ok None)
 dir_ends B Is old new dir scan scan' name e h seen on =
-    subst (λ p. EndsRows Is B seen p (Ok None)) (sym (rest_is B old dir.rest)) ((subst (λ (s : Scan). IsNextRow Is B old new s scan' name (Ok None)) e h) seen on)
+    subst (λ p. EndsRows Is B seen p (Ok None)) (sym (rest_is B old dir.rest))
+    ((subst (λ (s : Scan). IsNextRow Is B old new s scan' name (Ok None)) e h) seen on)
 
-pub dir_fault : (B : Map) (Is : UnreadBlock → Want → Type 0) (old new : Blocks) (dir : Dir) (scan scan' : Scan) (name : NameBuf) (f : TreeFault) → scan ≡ scan_of dir.rest → IsNextRow Is B old new scan scan' name (Err f) → IsNextEntry Is B dir dir name (Err f)
+pub dir_fault : (B : Map) (Is : UnreadBlock → Want → Type 0) (old new : Blocks) (dir : Dir) (scan scan' : Scan) (name : NameBuf) (f : TreeFault)
+    → scan ≡ scan_of dir.rest → IsNextRow Is B old new scan scan' name (Err f) → IsNextEntry Is B dir dir name (Err f)
 dir_fault B Is old new dir scan scan' name f e h seen on =
     subst (λ p. EndsRows Is B seen p (Err f)) (sym (rest_is B old dir.rest)) ((subst (λ (s : Scan). IsNextRow Is B old new s scan' name (Err f)) e h) seen on)
 
-pub dir_nears : (dir : Dir) (scan scan' : Scan) (store : Blocks) (rest : Rest) → scan ≡ scan_of dir.rest → Rests store scan' rest → rank_of scan' < rank_of scan → rank_left rest < rank_left dir.rest
+pub dir_nears : (dir : Dir) (scan scan' : Scan) (store : Blocks) (rest : Rest) → scan ≡ scan_of dir.rest → Rests store scan' rest
+    → rank_of scan' < rank_of scan → rank_left rest < rank_left dir.rest
 dir_nears dir scan scan' store rest e r h = let f = ap rank_of e in omega (arith, h, r.rank, f)

@@ -1,5 +1,6 @@
 -- The bytes of a file's sectors.
-use Rattle.std.proofs.Common.{◌≡◌, ℕ, zero, suc, ◌+◌, ◌-◌, ◌*◌, ◌%◌, ◌<◌, ◌≤◌, Bool, true, false, cond, not, length, List, [], Option, Some, None, Result, Ok, Err, refl, sym, ap, ◌∙◌, subst, arith}
+use Rattle.std.proofs.Common.{◌≡◌, ℕ, zero, suc, ◌+◌, ◌-◌, ◌*◌, ◌%◌, ◌<◌, ◌≤◌, Bool, true, false, cond, not, length, List, [], Option, Some, None, Result, Ok}
+use Rattle.std.proofs.Common.{Err, refl, sym, ap, ◌∙◌, subst, arith}
 use Rattle.std.specs.Prelude.{min, take, slice_index}
 use Rattle.std.proofs.lemmas.List.{get_or-take, length-take}
 use Rattle.btr_base.specs.declared.kind.SumKind.{SumKind}
@@ -33,16 +34,19 @@ module _ (B : Map) (kind : SumKind) (sums : Option TreeRoot) (nosum : Bool) (siz
     long_for : (w : Want) → w ≡ want → IsSectorLong w bytes
     long_for w e = subst (λ (x : Want). IsSectorLong x bytes) (sym e) (whole want bytes had)
 
-    long_by : (ms : List (Mark Want ⊥)) (e : Result (Option Sum) Fault) → (after ms e (λ sum. exec B (Return (want_by addr sum)))).ending ≡ Ok want → length bytes ≡ 4096
+    long_by : (ms : List (Mark Want ⊥)) (e : Result (Option Sum) Fault) → (after ms e (λ sum. exec B (Return (want_by addr sum)))).ending ≡ Ok want
+        → length bytes ≡ 4096
     long_by ms (Ok None) h = long_for (Plain addr) (cc)
     long_by ms (Ok (Some sum)) h = long_for (Sector addr sum) (cc)
     long_by ms (Err f) h = let z : ⊥ = cc in absurd z
 
-    long_if : (b : Bool) → (exec B (cond b (Return (Plain addr)) (bind (sum_at kind sums addr) (λ sum. Return (want_by addr sum))))).ending ≡ Ok want → length bytes ≡ 4096
+    long_if : (b : Bool) → (exec B (cond b (Return (Plain addr)) (bind (sum_at kind sums addr) (λ sum. Return (want_by addr sum))))).ending ≡ Ok want
+        → length bytes ≡ 4096
     long_if true h = long_for (Plain addr) (cc)
     long_if false h =
         let s = exec B (sum_at kind sums addr) in
-        long_by s.marks s.ending (ap (λ (r : Run Want Fault ⊥ Want). r.ending) (sym (exec-bind B (sum_at kind sums addr) (λ sum. Return (want_by addr sum)))) ∙ h)
+        long_by s.marks s.ending (ap (λ (r : Run Want Fault ⊥ Want). r.ending)
+        (sym (exec-bind B (sum_at kind sums addr) (λ sum. Return (want_by addr sum)))) ∙ h)
 
   -- one sector, from a position on
   module _ (f : ℕ → ℕ) (addr from : ℕ) (aligned : addr % 4096 ≡ 0) (low : from ≤ size) (told : (p : ℕ) → from ≤ p → p < from + 4096 → f p ≡ byte_at (addr + (p - from))) where
@@ -53,7 +57,8 @@ module _ (B : Map) (kind : SumKind) (sums : Option TreeRoot) (nosum : Bool) (siz
         ∙ ap (λ (n : ℕ). slice_index (sector_bytes B kind sums nosum n) i) (omega (arith))
         ∙ ap (λ (bs : List ℕ). slice_index bs i) same
 
-    one_sector : (bytes : List ℕ) → length bytes ≡ 4096 → sector_bytes B kind sums nosum addr ≡ bytes → Fills f from (min (from + 4096) size) (take (size - from) bytes)
+    one_sector : (bytes : List ℕ) → length bytes ≡ 4096 → sector_bytes B kind sums nosum addr ≡ bytes
+        → Fills f from (min (from + 4096) size) (take (size - from) bytes)
     one_sector bytes long same =
         let cut = length-take (size - from) bytes in record {
           long = omega (arith, cut, long, low);
@@ -76,12 +81,14 @@ module _ (B : Map) (kind : SumKind) (sums : Option TreeRoot) (nosum : Bool) (siz
   sectors_behind : (n : ℕ) → Sectored n → (f : ℕ → ℕ) (addr from : ℕ) → addr % 4096 ≡ 0 → from ≤ size → from + (suc n * 4096) < size + 4096
       → ((p : ℕ) → from ≤ p → p < from + (suc n * 4096) → f p ≡ byte_at (addr + (p - from)))
       → (exec B (sectors kind sums nosum n (addr + 4096) (size - from - 4096))).ending ≡ Ok tt
-      → Fills f (min (from + 4096) size) (min (from + (suc n * 4096)) size) (bytes_in (exec B (sectors kind sums nosum n (addr + 4096) (size - from - 4096))).marks)
+      → Fills f (min (from + 4096) size) (min (from + (suc n * 4096)) size)
+      (bytes_in (exec B (sectors kind sums nosum n (addr + 4096) (size - from - 4096))).marks)
   sectors_behind zero ih f addr from aligned low high told ok = fills_none f (min (from + 4096) size)
   sectors_behind (suc n) ih f addr from aligned low high told ok =
       let past : from + 4096 ≡ min (from + 4096) size = omega (arith, high) in
       let far : from + 4096 + (suc n * 4096) ≡ from + (suc (suc n) * 4096) = omega arith in
-      subst (λ (m : ℕ). Fills f m (min (from + (suc (suc n) * 4096)) size) (bytes_in (exec B (sectors kind sums nosum (suc n) (addr + 4096) (size - from - 4096))).marks)) past
+      subst (λ (m : ℕ). Fills f m (min (from + (suc (suc n) * 4096)) size)
+      (bytes_in (exec B (sectors kind sums nosum (suc n) (addr + 4096) (size - from - 4096))).marks)) past
       (subst (λ (m : ℕ). Fills f (from + 4096) (min m size) (bytes_in (exec B (sectors kind sums nosum (suc n) (addr + 4096) (size - from - 4096))).marks)) far
       (ih f (addr + 4096) (from + 4096) (size - from - 4096) (omega arith) (omega (arith, aligned)) (omega (arith, high)) (omega (arith, high))
       (λ p lo hi. told p (omega (arith, lo)) (omega (arith, hi)) ∙ ap byte_at (omega (arith, lo))) ok))
@@ -100,7 +107,8 @@ module _ (B : Map) (kind : SumKind) (sums : Option TreeRoot) (nosum : Bool) (siz
     abbrev Told : Answer (Unit {0}) → Type 0
     Told r = r.ending ≡ Ok tt → Fills f from (min (from + (suc n * 4096)) size) (bytes_in r.marks)
 
-    of_bytes : (ms : List (Mark Want ⊥)) (want : Want) → (exec B W).ending ≡ Ok want → (x : Result (List ℕ) Fault) → B want ≡ x → Told (after (quiet_marks ms) (Ok want) (λ w. first (Wants want) (given x (λ bytes. exec B (cut_sector want bytes)))))
+    of_bytes : (ms : List (Mark Want ⊥)) (want : Want) → (exec B W).ending ≡ Ok want → (x : Result (List ℕ) Fault) → B want ≡ x
+        → Told (after (quiet_marks ms) (Ok want) (λ w. first (Wants want) (given x (λ bytes. exec B (cut_sector want bytes)))))
     of_bytes ms want wanted (Ok bytes) had ok =
         let long : length bytes ≡ 4096 = long_if addr want bytes had nosum wanted in
         let same : sector_bytes B kind sums nosum addr ≡ bytes = ap (bytes_by B kind sums nosum) wanted ∙ ap (bytes_or_none B kind sums nosum) had in
@@ -111,13 +119,15 @@ module _ (B : Map) (kind : SumKind) (sums : Option TreeRoot) (nosum : Bool) (siz
         (sectors_behind n ih f addr from aligned low high told ok))
     of_bytes ms want wanted (Err fault) had ok = let z : ⊥ = cc in absurd z
 
-    of_want : (ms : List (Mark Want ⊥)) (e : Result Want Fault) → (exec B W).ending ≡ e → Told (after (quiet_marks ms) e (λ want. exec B (Need want (cut_sector want))))
+    of_want : (ms : List (Mark Want ⊥)) (e : Result Want Fault) → (exec B W).ending ≡ e
+        → Told (after (quiet_marks ms) e (λ want. exec B (Need want (cut_sector want))))
     of_want ms (Ok want) wanted ok = of_bytes ms want wanted (B want) refl ok
     of_want ms (Err fault) wanted ok = let z : ⊥ = cc in absurd z
 
     sectors_more : Told (exec B (looks W (λ want. Need want (cut_sector want))))
     sectors_more =
-        subst Told (sym (exec-bind B (quiet W) (λ want. Need want (cut_sector want)) ∙ ap (λ (r : Answer Want). and_then r (λ want. exec B (Need want (cut_sector want)))) (exec-quiet B W)))
+        subst Told (sym (exec-bind B (quiet W) (λ want. Need want (cut_sector want))
+        ∙ ap (λ (r : Answer Want). and_then r (λ want. exec B (Need want (cut_sector want)))) (exec-quiet B W)))
         (of_want (exec B W).marks (exec B W).ending refl)
 
   pub sectors_fill : (n : ℕ) → Sectored n

@@ -1,5 +1,6 @@
 -- A file gives its next sector.
-use Rattle.std.proofs.Common.{◌≡◌, ℕ, suc, ◌+◌, ◌-◌, ◌<◌, ◌≤◌, Bool, true, false, cond, not, List, [], ◌∷◌, ◌++◌, length, Option, Some, IsSomeAnd, Result, Ok, Err, refl, sym, ap, ◌∙◌, subst, arith}
+use Rattle.std.proofs.Common.{◌≡◌, ℕ, suc, ◌+◌, ◌-◌, ◌<◌, ◌≤◌, Bool, true, false, cond, not, List, [], ◌∷◌, ◌++◌, length, Option, Some, IsSomeAnd, Result, Ok}
+use Rattle.std.proofs.Common.{Err, refl, sym, ap, ◌∙◌, subst, arith}
 use Rattle.std.specs.Prelude.{nat_le, take, min, unwrap_or}
 use Rattle.std.proofs.lemmas.Bool.Decides.{nat_tests}
 use Rattle.std.proofs.lemmas.List.{take_min}
@@ -84,13 +85,16 @@ module _ (kind : SumKind) (source : Source) (Bs : ℕ → Map) (p : Progress) (p
       no_zeros (part.start - p.at) _ none ∙ ap (λ (x : Program Piece (Unit {0})). bind x X) sectors_are ∙ bind_assoc (quiet W) one X
 
   -- ---- what is left behind the first sector
-  last_by : (n : ℕ) (q : Pieces) → n ≡ 0 → Then kind source Bs (X tt) (ahead kind source Bs p) q → Then kind source Bs (bind (rest n) X) (ahead kind source Bs p) q
+  last_by : (n : ℕ) (q : Pieces) → n ≡ 0 → Then kind source Bs (X tt) (ahead kind source Bs p) q
+      → Then kind source Bs (bind (rest n) X) (ahead kind source Bs p) q
   last_by n q e h = subst (λ (m : ℕ). Then kind source Bs (bind (rest m) X) (ahead kind source Bs p) q) (sym e) h
 
   abbrev next_part : SectorPart
   next_part = record { start = part.start + 4096; addr = part.addr + 4096; count = more }
 
-  left_by : (b : Bool) (q : Pieces) → nat_le part.count 1 ≡ b → LeftBy kind source Bs (Bs 0) (cond b (behind_end source.size p) (given_to p (part.start + 4096) (Sectors next_part))) q → Then kind source Bs S (ahead kind source Bs p) q
+  left_by : (b : Bool) (q : Pieces) → nat_le part.count 1 ≡ b
+      → LeftBy kind source Bs (Bs 0) (cond b (behind_end source.size p) (given_to p (part.start + 4096) (Sectors next_part))) q
+      → Then kind source Bs S (ahead kind source Bs p) q
   left_by true q e h =
       let le = at_most_one part.count e in
       last_by more q (omega (arith, le)) (left_end kind source Bs p q h)
@@ -98,12 +102,14 @@ module _ (kind : SumKind) (source : Source) (Bs : ℕ → Map) (p : Progress) (p
       let none : (part.start + 4096) - (part.start + 4096) ≡ 0 = omega arith in
       let same : source.size - (part.start + 4096) ≡ left - 4096 = omega arith in
       subst (λ (n : ℕ). Then kind source Bs (bind (sectors kind source.sums source.nosum more (part.addr + 4096) n) X) (ahead kind source Bs p) q) same
-      (subst (λ (x : Program Piece (Result Given ℕ)). Then kind source Bs x (ahead kind source Bs p) q) (no_zeros ((part.start + 4096) - (part.start + 4096)) _ none) h)
+      (subst (λ (x : Program Piece (Result Given ℕ)). Then kind source Bs x (ahead kind source Bs p) q)
+      (no_zeros ((part.start + 4096) - (part.start + 4096)) _ none) h)
 
   left_behind : (q : Pieces) → LeftBy kind source Bs (Bs 0) (behind_sector source.size p part) q → Then kind source Bs S (ahead kind source Bs p) q
   left_behind q h = left_by (nat_le part.count 1) q refl h
 
-  going_by : (seen past : List Want) (b : Bool) → IsGoing (Bs 0) seen p → IsGoing (Bs 0) (seen ++ past) (cond b (behind_end source.size p) (given_to p (part.start + 4096) (Sectors next_part)))
+  going_by : (seen past : List Want) (b : Bool) → IsGoing (Bs 0) seen p
+      → IsGoing (Bs 0) (seen ++ past) (cond b (behind_end source.size p) (given_to p (part.start + 4096) (Sectors next_part)))
   going_by seen past true g = going_end kind source Bs p seen past g
   going_by seen past false g = record { rest = rest_more (Bs 0) seen past p.rest g.rest; inline = tt }
 
@@ -131,11 +137,13 @@ module _ (kind : SumKind) (source : Source) (Bs : ℕ → Map) (p : Progress) (p
           subst (λ x. GoesTo Bs x (prepend (want_marks past) b)) (sym whole_is)
           (subst (GoesTo Bs (looks W K)) (ap (λ ms. prepend ms b1) (quiet_wants looked.marks) ∙ past_both (wants_of looked.marks) (want ∷ []) b) all)
 
-      left_from : (q : Pieces) → LeftBy kind source Bs (Bs 0) (behind_sector source.size p part) q → LeftBy kind source Bs (Bs 0) p (prepend (want_marks past) (first (Does given) q))
+      left_from : (q : Pieces) → LeftBy kind source Bs (Bs 0) (behind_sector source.size p part) q
+          → LeftBy kind source Bs (Bs 0) p (prepend (want_marks past) (first (Does given) q))
       left_from q h =
           left_as kind source Bs p (Sectors part) _ todo
           (then_past kind source Bs whole (Emit given S) (want_marks past) (ahead kind source Bs p) (first (Does given) q) goes_whole
-          (then_past kind source Bs (Emit given S) S (Does given ∷ []) (ahead kind source Bs p) q (λ b go. goes_first Bs given (Emit given S) S b refl go) (left_behind q h)))
+          (then_past kind source Bs (Emit given S) S (Does given ∷ []) (ahead kind source Bs p) q
+          (λ b go. goes_first Bs given (Emit given S) S b refl go) (left_behind q h)))
 
     -- its bytes are given
     module _ (Is : UnreadBlock → Want → Type 0) (store : Blocks) (loan : Lent) (block : List ℕ) (is : block_of store loan ≡ Some block) (len : ℕ) (verified : Bool) (len_is : len ≡ min left (length block)) (verified_is : verified ≡ not (is_plain want)) where
@@ -148,12 +156,14 @@ module _ (kind : SumKind) (source : Source) (Bs : ℕ → Map) (p : Progress) (p
           ∙ ap (Bytes (take len block)) (sym verified_is)
           ∙ ap shown_by (sym is)
 
-      pub sector_given : SectorComes Is Bs want store (Ok loan) → IsGiven kind source Is Bs p (behind_sector source.size p part) store (Ok (shown.Bytes loan (span.Sector len verified)))
+      pub sector_given : SectorComes Is Bs want store (Ok loan)
+          → IsGiven kind source Is Bs p (behind_sector source.size p part) store (Ok (shown.Bytes loan (span.Sector len verified)))
       sector_given h seen g =
           let came : Bs h.0 want ≡ Ok block = subst (λ o. IsSomeAnd o (λ b. Bs h.0 want ≡ Ok b)) is h.1 in
           record {
             past = past;
-            goes = λ q left_q. subst (λ (x : Piece). LeftBy kind source Bs (Bs 0) p (prepend (want_marks past) (first (Does x) q))) same_piece (left_from block h.0 came q left_q);
+            goes = λ q left_q. subst (λ (x : Piece). LeftBy kind source Bs (Bs 0) p (prepend (want_marks past) (first (Does x) q))) same_piece
+                (left_from block h.0 came q left_q);
             on = going_by seen past (nat_le part.count 1) g;
           }
 
@@ -177,7 +187,8 @@ module _ (kind : SumKind) (source : Source) (Bs : ℕ → Map) (p : Progress) (p
           (e.0, left_as kind source Bs p (Sectors part) e.0 todo e.1, e.2)
 
   -- the sum of the sector could not be had
-  pub sum_lacked : (Is : UnreadBlock → Want → Type 0) (p' : Progress) (store : Blocks) (f : TreeFault) → Follows {S = ⊥} Is no_part [] (exec (Bs 0) W) [] (Err (halt_of f)) → IsGiven kind source Is Bs p p' store (Err f)
+  pub sum_lacked : (Is : UnreadBlock → Want → Type 0) (p' : Progress) (store : Blocks) (f : TreeFault)
+      → Follows {S = ⊥} Is no_part [] (exec (Bs 0) W) [] (Err (halt_of f)) → IsGiven kind source Is Bs p p' store (Err f)
   sum_lacked Is p' store f h seen g =
       let quietly : Goes Is no_part [] Bs (quiet W) [] (Err (halt_of f)) = goes_quiet Is no_part [] Bs W [] (Err (halt_of f)) (exec (Bs 0) W, goes_map Bs 0 W, h) in
       let all : Goes Is no_part seen Bs (looks W K) [] (Err (halt_of f)) = goes_halt Bs Is no_part seen (quiet W) K 0 [] (halt_of f) (goes_alone Bs Is no_part seen (quiet W) [] (Err (halt_of f)) quietly) in
@@ -185,7 +196,8 @@ module _ (kind : SumKind) (source : Source) (Bs : ℕ → Map) (p : Progress) (p
       (e.0, left_as kind source Bs p (Sectors part) e.0 todo e.1, e.2)
 
 -- less may be said of a sector that could not be read
-pub comes_as : (Was Is : UnreadBlock → Want → Type 0) (Bs : ℕ → Map) (want : Want) (store : Blocks) (f : TreeFault) → ((u : UnreadBlock) (w : Want) → Was u w → Is u w) → SectorComes Was Bs want store (Err f) → SectorComes Is Bs want store (Err f)
+pub comes_as : (Was Is : UnreadBlock → Want → Type 0) (Bs : ℕ → Map) (want : Want) (store : Blocks) (f : TreeFault)
+    → ((u : UnreadBlock) (w : Want) → Was u w → Is u w) → SectorComes Was Bs want store (Err f) → SectorComes Is Bs want store (Err f)
 comes_as Was Is Bs want store (tree.Lost a) weaker h = h
 comes_as Was Is Bs want store (tree.Unread a slot) weaker h = weaker (record { addr = a; slot = slot }) want h
 comes_as Was Is Bs want store (tree.Unmapped a) weaker h = h

@@ -1,5 +1,6 @@
 -- The sectors of a file.
-use Rattle.std.proofs.Common.{◌≡◌, ℕ, ◌<◌, Bool, true, false, cond, ltb, List, [], length, Option, Some, None, IfSome, IsSomeAnd, Result, Ok, Err, refl, sym, ap, ◌∙◌, subst, arith}
+use Rattle.std.proofs.Common.{◌≡◌, ℕ, ◌<◌, Bool, true, false, cond, ltb, List, [], length, Option, Some, None, IfSome, IsSomeAnd, Result, Ok, Err, refl, sym}
+use Rattle.std.proofs.Common.{ap, ◌∙◌, subst, arith}
 use Rattle.std.specs.Borrow.{Bor}
 use Rattle.std.specs.Prelude.{Contains, slice_get}
 use Rattle.std.specs.Option.{option_copied}
@@ -52,17 +53,25 @@ module _ (layout : Layout) (old new : Seen) (kind : SumKind) (sums : Option Tree
   abbrev by_sum : Lookup Want
   by_sum = bind (sum_at kind sums addr) (λ sum. Return (want_by addr sum))
 
-  looked : (Is : _ → Want → Type 0) (B : Map) (r : Result (Option Sum) TreeFault) → Follows {S = ⊥} Is no_part [] (exec B (sum_at kind sums addr)) [] (answer_of r) → Follows {S = ⊥} Is no_part [] (exec B by_sum) [] (answer_of (want_with addr r))
-  looked Is B (Ok sum) f = subst (λ q. Follows Is no_part [] q [] (Ok (want_by addr sum))) (sym (exec-bind B (sum_at kind sums addr) (λ s. Return (want_by addr s)))) (follows_value Is no_part [] (want_by addr) (exec B (sum_at kind sums addr)) sum [] f)
-  looked Is B (Err x) f = subst (λ q. Follows Is no_part [] q [] (Err (halt_of x))) (sym (exec-bind B (sum_at kind sums addr) (λ s. Return (want_by addr s)))) (follows_halt Is no_part [] (exec B (sum_at kind sums addr)) (λ s. exec B (Return (want_by addr s))) [] (halt_of x) f)
+  looked : (Is : _ → Want → Type 0) (B : Map) (r : Result (Option Sum) TreeFault)
+      → Follows {S = ⊥} Is no_part [] (exec B (sum_at kind sums addr)) [] (answer_of r)
+      → Follows {S = ⊥} Is no_part [] (exec B by_sum) [] (answer_of (want_with addr r))
+  looked Is B (Ok sum) f = subst (λ q. Follows Is no_part [] q [] (Ok (want_by addr sum)))
+      (sym (exec-bind B (sum_at kind sums addr) (λ s. Return (want_by addr s))))
+      (follows_value Is no_part [] (want_by addr) (exec B (sum_at kind sums addr)) sum [] f)
+  looked Is B (Err x) f = subst (λ q. Follows Is no_part [] q [] (Err (halt_of x)))
+      (sym (exec-bind B (sum_at kind sums addr) (λ s. Return (want_by addr s))))
+      (follows_halt Is no_part [] (exec B (sum_at kind sums addr)) (λ s. exec B (Return (want_by addr s))) [] (halt_of x) f)
 
-  pub want_summed : (o : Option (Bor TreeRoot)) (r : Result (Option Sum) TreeFault) (w : Result Want TreeFault) → nosum ≡ false → option_copied o ≡ sums → w ≡ want_with addr r → Looks layout old new (sum_at kind (tree_behind o) addr) r → Looks layout old new (sector_want kind sums nosum addr) w
+  pub want_summed : (o : Option (Bor TreeRoot)) (r : Result (Option Sum) TreeFault) (w : Result Want TreeFault) → nosum ≡ false → option_copied o
+      ≡ sums → w ≡ want_with addr r → Looks layout old new (sum_at kind (tree_behind o) addr) r → Looks layout old new (sector_want kind sums nosum addr) w
   want_summed o r w tested same is h =
       let is_unread = unread_by layout old new in
       let h' : Looks layout old new (sum_at kind sums addr) r = subst (λ (s : Option TreeRoot). Looks layout old new (sum_at kind s addr) r) (copied_is o ∙ same) h in
       subst (λ (b : Bool). Looks layout old new (cond b (Return (want.Plain addr)) by_sum) w) (sym tested)
       (subst (Looks layout old new by_sum) (sym is)
-      (drawn layout (λ B. Follows {S = ⊥} is_unread no_part [] (exec B (sum_at kind sums addr)) [] (answer_of r)) (λ B. Follows {S = ⊥} is_unread no_part [] (exec B by_sum) [] (answer_of (want_with addr r))) (λ B f. looked is_unread B r f) h'))
+      (drawn layout (λ B. Follows {S = ⊥} is_unread no_part [] (exec B (sum_at kind sums addr)) [] (answer_of r))
+      (λ B. Follows {S = ⊥} is_unread no_part [] (exec B by_sum) [] (answer_of (want_with addr r))) (λ B f. looked is_unread B r f) h'))
 
 -- ---- a sector that was fetched
 map_some : {X : Type 0} (o : Option X) (P Q : X → Type 0) → ((x : X) → P x → Q x) → IfSome o P → IfSome o Q
@@ -83,14 +92,16 @@ module _ (images : List (List ℕ)) (addr : ℕ) (block : List ℕ) where
   choice_in (Ok t) h =
       let xs = passing images t in (
         h.0,
-        ap (λ (b : Bool). or_lost addr (slice_get xs (cond b h.0 0))) (lt_test h.0 (length xs) h.1) ∙ ap (or_lost addr) (slice_get-get_or xs h.0 block h.1 ∙ ap Some h.2),
+        ap (λ (b : Bool). or_lost addr (slice_get xs (cond b h.0 0))) (lt_test h.0 (length xs) h.1)
+            ∙ ap (or_lost addr) (slice_get-get_or xs h.0 block h.1 ∙ ap Some h.2),
       )
 
 module _ (layout : Layout) (w : Want) (old new : Seen) (reads : OnlyReads old new) (store : Blocks) where
   abbrev Comes : Sure → Result Lent TreeFault → List (List ℕ) → Type 0
   Comes sure result images = SectorComes (unread_by layout old new) (λ n. maps_by sure images n layout) w store result
 
-  told : (result : Result Lent TreeFault) → ((sure : Sure) → calls.CanTell (AgreedOn layout) sure (shown old) (shown new) → IfSome old.held (Comes sure result)) → TellsAll layout old new (λ Bs. SectorComes (unread_by layout old new) Bs w store result)
+  told : (result : Result Lent TreeFault) → ((sure : Sure) → calls.CanTell (AgreedOn layout) sure (shown old) (shown new)
+      → IfSome old.held (Comes sure result)) → TellsAll layout old new (λ Bs. SectorComes (unread_by layout old new) Bs w store result)
   told result f = record { calls = record { same = ap (λ (s : Seen). s.held) reads.same; later = reads.later; content = f } }
 
   module _ (loan : Lent) (block : List ℕ) (is : block_of store loan ≡ Some block) where
@@ -100,11 +111,13 @@ module _ (layout : Layout) (w : Want) (old new : Seen) (reads : OnlyReads old ne
     by_fate : (sure : Sure) (images : List (List ℕ)) → fate images layout w ≡ Ok block → Comes sure (Ok loan) images
     by_fate sure images e = came sure images 0 (ap (λ (B : Map). B w) (maps-zero sure images layout) ∙ e)
 
-    agreed_in : (o : Option (List (List ℕ))) → ((images : List (List ℕ)) → AgreedOn layout (Some images) → Agree images layout w) → AgreedOn layout o → IfSome o (λ images. Agree images layout w → fate images layout w ≡ Ok block) → IfSome o (Comes Any (Ok loan))
+    agreed_in : (o : Option (List (List ℕ))) → ((images : List (List ℕ)) → AgreedOn layout (Some images) → Agree images layout w) → AgreedOn layout o
+        → IfSome o (λ images. Agree images layout w → fate images layout w ≡ Ok block) → IfSome o (Comes Any (Ok loan))
     agreed_in None tested s f = tt
     agreed_in (Some images) tested s f = by_fate Any images (f (tested images s))
 
-  by_want : (loan : Lent) (block : List ℕ) (v : Want) → v ≡ w → block_of store loan ≡ Some block → IsSectorWant v → IsFetched layout w old new block → AgreedOn layout old.held → IfSome old.held (Comes Any (Ok loan))
+  by_want : (loan : Lent) (block : List ℕ) (v : Want) → v ≡ w → block_of store loan ≡ Some block → IsSectorWant v → IsFetched layout w old new block
+      → AgreedOn layout old.held → IfSome old.held (Comes Any (Ok loan))
   by_want loan block (want.Tree addr generation level) e is h f s = absurd h
   by_want loan block (want.Block addr) e is h f s = absurd h
   by_want loan block (want.Sector addr sum) e is h f s =
@@ -115,22 +128,33 @@ module _ (layout : Layout) (w : Want) (old new : Seen) (reads : OnlyReads old ne
       let c = choice_in images addr block (sought layout (want.Plain addr)) (subst (λ (x : Want). Contains (passing_for images (sought layout x)) block) (sym e) there) in
       came loan block is Any images c.0 (subst (λ (x : Want). choices images c.0 layout x ≡ Ok block) e c.1)) f.stand
 
-  by_block : (loan : Lent) (o : Option (List ℕ)) → block_of store loan ≡ o → IsSectorWant w → IsSomeAnd o (IsFetched layout w old new) → (sure : Sure) → calls.CanTell (AgreedOn layout) sure (shown old) (shown new) → IfSome old.held (Comes sure (Ok loan))
+  by_block : (loan : Lent) (o : Option (List ℕ)) → block_of store loan ≡ o → IsSectorWant w → IsSomeAnd o (IsFetched layout w old new) → (sure : Sure)
+      → calls.CanTell (AgreedOn layout) sure (shown old) (shown new) → IfSome old.held (Comes sure (Ok loan))
   by_block loan None is h f sure s = absurd f
-  by_block loan (Some block) is h f First s = map_some old.held (λ images. fate images layout w ≡ Ok block) (Comes First (Ok loan)) (λ images e. by_fate loan block is First images e) (f.first (omega (arith, s.0), s.1))
+  by_block loan (Some block) is h f First s = map_some old.held (λ images. fate images layout w ≡ Ok block) (Comes First (Ok loan))
+      (λ images e. by_fate loan block is First images e) (f.first (omega (arith, s.0), s.1))
   by_block loan (Some block) is h f Any s = by_want loan block w refl is h f s
 
-  pub sector_came : (loan : Lent) → IsSectorWant w → FitsFetch layout w old new store (Ok loan) → TellsAll layout old new (λ Bs. SectorComes (unread_by layout old new) Bs w store (Ok loan))
+  pub sector_came : (loan : Lent) → IsSectorWant w → FitsFetch layout w old new store (Ok loan)
+      → TellsAll layout old new (λ Bs. SectorComes (unread_by layout old new) Bs w store (Ok loan))
   sector_came loan h fits = told (Ok loan) (by_block loan (block_of store loan) refl h fits.1)
 
   zero_fault : (sure : Sure) (images : List (List ℕ)) (f : fate.Fault) → fate images layout w ≡ Err f → (n : ℕ) × (maps_by sure images n layout w ≡ Err f)
   zero_fault sure images f e = (0, ap (λ (B : Map). B w) (maps-zero sure images layout) ∙ e)
 
-  pub sector_failed : (f : ReadFault) → FitsFetch layout w old new store (Err f) → TellsAll layout old new (λ Bs. SectorComes (unread_by layout old new) Bs w store (Err (tree_fault f)))
-  sector_failed (read.Lost a) fits = told (Err (tree_fault (read.Lost a))) (λ sure s. map_some old.held (λ images. fate images layout w ≡ Err (fate.Lost a)) (Comes sure (Err (tree_fault (read.Lost a)))) (λ images e. zero_fault sure images (fate.Lost a) e) fits.2)
-  sector_failed (read.Unread a slot) fits = told (Err (tree_fault (read.Unread a slot))) (λ sure s. if_all old.held (Comes sure (Err (tree_fault (read.Unread a slot)))) (λ images. fits))
-  sector_failed (read.Unmapped a) fits = told (Err (tree_fault (read.Unmapped a))) (λ sure s. if_all old.held (Comes sure (Err (tree_fault (read.Unmapped a)))) (λ images. zero_fault sure images (fate.Unmapped a) (ap (fate_of images (addr_of w)) fits)))
-  sector_failed (read.Crosses a) fits = told (Err (tree_fault (read.Crosses a))) (λ sure s. if_all old.held (Comes sure (Err (tree_fault (read.Crosses a)))) (λ images. zero_fault sure images (fate.Crosses a) (ap (fate_of images (addr_of w)) fits)))
+  pub sector_failed : (f : ReadFault) → FitsFetch layout w old new store (Err f)
+      → TellsAll layout old new (λ Bs. SectorComes (unread_by layout old new) Bs w store (Err (tree_fault f)))
+  sector_failed (read.Lost a) fits = told (Err (tree_fault (read.Lost a)))
+      (λ sure s. map_some old.held (λ images. fate images layout w ≡ Err (fate.Lost a)) (Comes sure (Err (tree_fault (read.Lost a))))
+      (λ images e. zero_fault sure images (fate.Lost a) e) fits.2)
+  sector_failed (read.Unread a slot) fits = told (Err (tree_fault (read.Unread a slot)))
+      (λ sure s. if_all old.held (Comes sure (Err (tree_fault (read.Unread a slot)))) (λ images. fits))
+  sector_failed (read.Unmapped a) fits = told (Err (tree_fault (read.Unmapped a)))
+      (λ sure s. if_all old.held (Comes sure (Err (tree_fault (read.Unmapped a))))
+      (λ images. zero_fault sure images (fate.Unmapped a) (ap (fate_of images (addr_of w)) fits)))
+  sector_failed (read.Crosses a) fits = told (Err (tree_fault (read.Crosses a)))
+      (λ sure s. if_all old.held (Comes sure (Err (tree_fault (read.Crosses a))))
+      (λ images. zero_fault sure images (fate.Crosses a) (ap (fate_of images (addr_of w)) fits)))
 
 -- its loan
 len_is : (old : Blocks) (v : Want) → IsSectorWant v → (n : ℕ) → n ≡ len_of old.layout.setting v → n ≡ 4096

@@ -1,5 +1,6 @@
 -- A file gives its next piece.
-use Rattle.std.proofs.Common.{◌≡◌, ℕ, ◌+◌, ◌-◌, ◌<◌, ◌≤◌, Bool, true, false, cond, List, [], ◌∷◌, ◌++◌, length, get_or, Option, Some, None, IsSomeAnd, Result, Ok, Err, refl, sym, ap, ◌∙◌, subst, arith}
+use Rattle.std.proofs.Common.{◌≡◌, ℕ, ◌+◌, ◌-◌, ◌<◌, ◌≤◌, Bool, true, false, cond, List, [], ◌∷◌, ◌++◌, length, get_or, Option, Some, None, IsSomeAnd, Result}
+use Rattle.std.proofs.Common.{Ok, Err, refl, sym, ap, ◌∙◌, subst, arith}
 use Rattle.std.specs.Prelude.{◌==◌, nat_le, take, min, unwrap_or}
 use Rattle.std.proofs.lemmas.Bool.Decides.{nat_tests}
 use Rattle.std.proofs.lemmas.List.{take_min, length-drop}
@@ -44,7 +45,8 @@ some_zeros : {A : Type 0} (n : ℕ) (p : Program Piece A) → 0 < n → gap n p 
 some_zeros n p h = ap (λ (b : Bool). cond b p (Emit (Gap n) p)) (zero_or n h)
 
 -- a step that comes first
-pub goes_first : {A : Type 0} (Bs : ℕ → Map) (piece : Piece) (p p' : Program Piece A) (b : Run Want fate.Fault Piece A) → p ≡ Emit piece p' → GoesTo Bs p' b → GoesTo Bs p (first (Does piece) b)
+pub goes_first : {A : Type 0} (Bs : ℕ → Map) (piece : Piece) (p p' : Program Piece A) (b : Run Want fate.Fault Piece A) → p ≡ Emit piece p'
+    → GoesTo Bs p' b → GoesTo Bs p (first (Does piece) b)
 goes_first Bs piece p p' b e h = subst (λ x. GoesTo Bs x (first (Does piece) b)) (sym e) (b, refl, h)
 
 module _ (kind : SumKind) (source : Source) (Bs : ℕ → Map) (p : Progress) where
@@ -58,13 +60,16 @@ module _ (kind : SumKind) (source : Source) (Bs : ℕ → Map) (p : Progress) wh
   inline = inline_of (met_last B p.rest)
 
   -- what is left, where what is to come of an extent is known
-  pub left_as : (todo : Todo) (q : Pieces) → p.todo ≡ todo → Then kind source Bs (todo_prog kind source p.at p.end inline todo) ahead q → LeftBy kind source Bs B p q
+  pub left_as : (todo : Todo) (q : Pieces) → p.todo ≡ todo → Then kind source Bs (todo_prog kind source p.at p.end inline todo) ahead q
+      → LeftBy kind source Bs B p q
   left_as todo q e h = subst (λ (t : Todo). Then kind source Bs (todo_prog kind source p.at p.end inline t) ahead q) (sym e) h
 
-  pub left_is : (todo : Todo) (q : Pieces) → p.todo ≡ todo → LeftBy kind source Bs B p q → Then kind source Bs (todo_prog kind source p.at p.end inline todo) ahead q
+  pub left_is : (todo : Todo) (q : Pieces) → p.todo ≡ todo → LeftBy kind source Bs B p q
+      → Then kind source Bs (todo_prog kind source p.at p.end inline todo) ahead q
   left_is todo q e h = subst (λ (t : Todo). Then kind source Bs (todo_prog kind source p.at p.end inline t) ahead q) e h
 
-  end_by : (b : Bool) (q : Pieces) → LeftBy kind source Bs B (cond b (given_to p source.size Over) (given_to p p.end Next)) q → Then kind source Bs (Return (on_behind p.end (cond b (Err source.size) (Ok p.end)))) ahead q
+  end_by : (b : Bool) (q : Pieces) → LeftBy kind source Bs B (cond b (given_to p source.size Over) (given_to p p.end Next)) q
+      → Then kind source Bs (Return (on_behind p.end (cond b (Err source.size) (Ok p.end)))) ahead q
   end_by true q h = h
   end_by false q h = h
 
@@ -85,7 +90,8 @@ module _ (kind : SumKind) (source : Source) (Bs : ℕ → Map) (p : Progress) wh
     behind = behind_zeros p zeros
 
     -- before the bytes of an extent
-    gap_bytes : (start : ℕ) (x : Program Piece (Result Given ℕ)) (q : Pieces) → zeros ≡ start - p.at → Then kind source Bs (gap (start - (p.at + zeros)) x) ahead q → Then kind source Bs (gap (start - p.at) x) ahead (first (Does (Gap zeros)) q)
+    gap_bytes : (start : ℕ) (x : Program Piece (Result Given ℕ)) (q : Pieces) → zeros ≡ start - p.at
+        → Then kind source Bs (gap (start - (p.at + zeros)) x) ahead q → Then kind source Bs (gap (start - p.at) x) ahead (first (Does (Gap zeros)) q)
     gap_bytes start x q is h =
         let none : start - (p.at + zeros) ≡ 0 = omega (arith, is) in
         let h' : Then kind source Bs x ahead q = subst (λ y. Then kind source Bs y ahead q) (no_zeros (start - (p.at + zeros)) x none) h in
@@ -93,7 +99,8 @@ module _ (kind : SumKind) (source : Source) (Bs : ℕ → Map) (p : Progress) wh
         (λ b go. goes_first Bs (Gap zeros) (gap (start - p.at) x) x b (ap (λ n. gap n x) (sym is) ∙ some_zeros zeros x some) go) h'
 
     -- up to the size
-    gap_end : (q : Pieces) → zeros ≡ source.size - p.at → Then kind source Bs (Return (Err (p.at + zeros))) ahead q → Then kind source Bs (Return (Err p.at)) ahead (first (Does (Gap zeros)) q)
+    gap_end : (q : Pieces) → zeros ≡ source.size - p.at → Then kind source Bs (Return (Err (p.at + zeros))) ahead q
+        → Then kind source Bs (Return (Err p.at)) ahead (first (Does (Gap zeros)) q)
     gap_end q is h =
         let none : source.size - (p.at + zeros) ≡ 0 = omega (arith, is) in
         let h' : GoesTo Bs (zeros_to_end kind source (p.at + zeros)) q = of_then kind source Bs (Err (p.at + zeros)) ahead q h in
@@ -101,13 +108,16 @@ module _ (kind : SumKind) (source : Source) (Bs : ℕ → Map) (p : Progress) wh
         then_of kind source Bs (Err p.at) ahead (first (Does (Gap zeros)) q)
         (goes_first Bs (Gap zeros) (zeros_to_end kind source p.at) (Return tt) q (ap (λ n. gap n (Return tt)) (sym is) ∙ some_zeros zeros (Return tt) some) h'')
 
-    gap_by : (todo : Todo) (q : Pieces) → p.todo ≡ todo → zeros ≡ zeros_at source.size p.at todo → Then kind source Bs (todo_prog kind source (p.at + zeros) p.end inline todo) ahead q → Then kind source Bs (todo_prog kind source p.at p.end inline todo) ahead (first (Does (Gap zeros)) q)
+    gap_by : (todo : Todo) (q : Pieces) → p.todo ≡ todo → zeros ≡ zeros_at source.size p.at todo
+        → Then kind source Bs (todo_prog kind source (p.at + zeros) p.end inline todo) ahead q
+        → Then kind source Bs (todo_prog kind source p.at p.end inline todo) ahead (first (Does (Gap zeros)) q)
     gap_by Next q e is h = absurd (omega (arith, is, some))
     gap_by (Inline part) q e is h = gap_bytes part.start _ q is h
     gap_by (Sectors part) q e is h = gap_bytes part.start _ q is h
     gap_by Over q e is h = gap_end q is h
 
-    pub zeros_given : (Is : UnreadBlock → Want → Type 0) (store : Blocks) → zeros ≡ zeros_at source.size p.at p.todo → IsNextStep kind source Is Bs p behind store (Ok (Some (shown.Gap zeros)))
+    pub zeros_given : (Is : UnreadBlock → Want → Type 0) (store : Blocks) → zeros ≡ zeros_at source.size p.at p.todo
+        → IsNextStep kind source Is Bs p behind store (Ok (Some (shown.Gap zeros)))
     zeros_given Is store is seen g = record {
       past = [];
       goes = λ q h. gap_by p.todo q refl is h;
@@ -115,19 +125,22 @@ module _ (kind : SumKind) (source : Source) (Bs : ℕ → Map) (p : Progress) wh
     }
 
   -- ---- nothing is left
-  pub nothing_left : (Is : UnreadBlock → Want → Type 0) (p' : Progress) (store : Blocks) → p.todo ≡ Over → source.size ≤ p.at → IsNextStep kind source Is Bs p p' store (Ok None)
+  pub nothing_left : (Is : UnreadBlock → Want → Type 0) (p' : Progress) (store : Blocks) → p.todo ≡ Over → source.size ≤ p.at
+      → IsNextStep kind source Is Bs p p' store (Ok None)
   nothing_left Is p' store e le seen g =
       let q : Pieces = run [] (Ok tt) in
       let none : source.size - p.at ≡ 0 = omega (arith, le) in (
         q,
-        left_as Over q e (then_of kind source Bs (Err p.at) ahead q (subst (λ (x : Program Piece (Unit {0})). GoesTo Bs x q) (sym (no_zeros (source.size - p.at) (Return tt) none)) refl)),
+        left_as Over q e (then_of kind source Bs (Err p.at) ahead q
+            (subst (λ (x : Program Piece (Unit {0})). GoesTo Bs x q) (sym (no_zeros (source.size - p.at) (Return tt) none)) refl)),
         (refl, refl),
       )
 
   -- ---- an inline extent
   module _ (Is : UnreadBlock → Want → Type 0) (part : InlinePart) (todo : p.todo ≡ Inline part) where
     -- its leaf could not be read again
-    pub inline_err : (p' : Progress) (store store' : Blocks) (f : TreeFault) → IsMetAgain Is B p.rest store (Err f) → IsGiven kind source Is Bs p p' store' (Err f)
+    pub inline_err : (p' : Progress) (store store' : Blocks) (f : TreeFault) → IsMetAgain Is B p.rest store (Err f)
+        → IsGiven kind source Is Bs p p' store' (Err f)
     inline_err p' store store' (tree.Lost a) h seen g = absurd (h seen g.rest)
     inline_err p' store store' (tree.Unread a slot) h seen g =
         let prog = todo_prog kind source p.at p.end inline p.todo in
@@ -155,7 +168,8 @@ module _ (kind : SumKind) (source : Source) (Bs : ℕ → Map) (p : Progress) wh
       item_of seen g = item_by seen (met_last B p.rest) refl (subst (IsInline (met_last B p.rest)) todo g.inline) g
 
       -- it isn't an inline extent of another length
-      pub inline_other : (p' : Progress) (store' : Blocks) (f : TreeFault) → (length (body_at block at) ≡ 21 + part.len → ⊥) → IsGiven kind source Is Bs p p' store' (Err f)
+      pub inline_other : (p' : Progress) (store' : Blocks) (f : TreeFault) → (length (body_at block at) ≡ 21 + part.len → ⊥)
+          → IsGiven kind source Is Bs p p' store' (Err f)
       inline_other p' store' f other seen g = let i = item_of seen g in absurd (other (ap length i.body ∙ i.len))
 
       -- its bytes are given

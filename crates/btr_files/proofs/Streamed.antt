@@ -33,11 +33,16 @@ abbrev pub file_at : FileBytes → Progress → SumsAhead → Option Lent → Fi
 file_at file p ahead loan = record { source = file.source; progress = p; ahead = ahead; loan = loan }
 
 -- what a step comes to where the checksums that are kept are those of the tree, and they are so behind it
-abbrev pub NextWithSums : SumKind → Source → (UnreadBlock → Want → Type 0) → (ℕ → Map) → Progress → Progress → Blocks → SumsAhead → SumsAhead → Result (Option Shown) TreeFault → Type 0
-NextWithSums kind source Is Bs p p' store ahead ahead' result = IsSummed (Bs 0) source.sums ahead → IsNextStep kind source Is Bs p p' store result × IsSummed (Bs 0) source.sums ahead'
+abbrev pub NextWithSums : SumKind → Source → (UnreadBlock → Want → Type 0) → (ℕ → Map) → Progress → Progress → Blocks → SumsAhead → SumsAhead
+    → Result (Option Shown) TreeFault → Type 0
+NextWithSums kind source Is Bs p p' store ahead ahead' result = IsSummed (Bs 0) source.sums ahead → IsNextStep kind source Is Bs p p' store result
+    × IsSummed (Bs 0) source.sums ahead'
 
 -- a step with its piece
-gives : (kind : SumKind) (Is : UnreadBlock → Want → Type 0) (Bs : ℕ → Map) (file : FileBytes) (store : Blocks) (ahead : SumsAhead) (p' : Progress) (given : Shown) (loan : Option Lent) (piece : Lending) → shown_piece store given ≡ piece_of piece → NextWithSums kind file.source Is Bs file.progress p' store file.ahead ahead (Ok (Some given)) → IsNextPiece kind Is Bs file (file_at file p' ahead loan) (Ok (Some piece))
+gives : (kind : SumKind) (Is : UnreadBlock → Want → Type 0) (Bs : ℕ → Map) (file : FileBytes) (store : Blocks) (ahead : SumsAhead) (p' : Progress)
+    (given : Shown) (loan : Option Lent) (piece : Lending) → shown_piece store given ≡ piece_of piece
+    → NextWithSums kind file.source Is Bs file.progress p' store file.ahead ahead (Ok (Some given))
+    → IsNextPiece kind Is Bs file (file_at file p' ahead loan) (Ok (Some piece))
 gives kind Is Bs file store ahead p' given loan piece e h seen on =
     let both = h on.1 in
     let s = both.0 seen on.0 in
@@ -52,41 +57,58 @@ module _ (old new : Volume) (mid : Blocks) (file : FileBytes) (taken : Option Le
   layout_is = ap (λ (s : Blocks). s.layout) back ∙ base_layout old.store taken
 
   abbrev Told : Progress → SumsAhead → Layout → Result (Option Shown) TreeFault → Type 0
-  Told p' ahead l r = TellsAll l before now (λ Bs. NextWithSums (kind_in old.sup) file.source (unread_by l before now) Bs file.progress p' new.store file.ahead ahead r)
+  Told p' ahead l r = TellsAll l before now (λ Bs. NextWithSums (kind_in old.sup) file.source (unread_by l before now) Bs file.progress p' new.store
+      file.ahead ahead r)
 
   -- after a step that gives a piece
-  pub streamed : (ahead : SumsAhead) (p' : Progress) (given : Shown) (loan : Option Lent) (piece : Lending) → shown_piece new.store given ≡ piece_of piece → new.sup ≡ old.sup → SameLoans mid (base new.store loan) → IfSome loan (IsLiveIn new.store) → Serves now new.store → StepsOn file.source file.progress p' given → Told p' ahead mid.layout (Ok (Some given)) → Streamed old new file (file_at file p' ahead loan) before now (Ok (Some piece))
+  pub streamed : (ahead : SumsAhead) (p' : Progress) (given : Shown) (loan : Option Lent) (piece : Lending) → shown_piece new.store given
+      ≡ piece_of piece → new.sup ≡ old.sup → SameLoans mid (base new.store loan) → IfSome loan (IsLiveIn new.store) → Serves now new.store
+      → StepsOn file.source file.progress p' given → Told p' ahead mid.layout (Ok (Some given))
+      → Streamed old new file (file_at file p' ahead loan) before now (Ok (Some piece))
   streamed ahead p' given loan piece e sup others live serves on told = record {
     sup = sup;
     others = subst (λ (s : Blocks). SameLoans s (base new.store loan)) (back ∙ ap (base old.store) is_taken) others;
     reading = record { serves = serves; held = live; underway = on.underway };
-    content = all_drawn old.store.layout (λ Bs. NextWithSums (kind_in old.sup) file.source (unread_by old.store.layout before now) Bs file.progress p' new.store file.ahead ahead (Ok (Some given)))
+    content = all_drawn old.store.layout (λ Bs. NextWithSums (kind_in old.sup) file.source (unread_by old.store.layout before now) Bs file.progress p'
+        new.store file.ahead ahead (Ok (Some given)))
         (λ Bs. IsNextPiece (kind_in old.sup) (unread_by old.store.layout before now) Bs file (file_at file p' ahead loan) (Ok (Some piece)))
         (λ Bs h. gives (kind_in old.sup) (unread_by old.store.layout before now) Bs file new.store ahead p' given loan piece e h)
         (subst (λ l. Told p' ahead l (Ok (Some given))) layout_is told);
   }
 
   -- after a step that gives none: the end, or a fault
-  ended : (file' : FileBytes) (p' : Progress) (ahead : SumsAhead) (step : Result (Option Shown) TreeFault) (result : Result (Option Lending) TreeFault) → ((Is : UnreadBlock → Want → Type 0) (Bs : ℕ → Map) → NextWithSums (kind_in old.sup) file.source Is Bs file.progress p' new.store file.ahead ahead step → IsNextPiece (kind_in old.sup) Is Bs file file' result)
-      → file'.source ≡ file.source → file'.progress ≡ p' → file'.loan ≡ None → new.sup ≡ old.sup → SameLoans mid new.store → Serves now new.store → IsUnderway file.source p' → Told p' ahead mid.layout step → Streamed old new file file' before now result
+  ended : (file' : FileBytes) (p' : Progress) (ahead : SumsAhead) (step : Result (Option Shown) TreeFault)
+      (result : Result (Option Lending) TreeFault) → ((Is : UnreadBlock → Want → Type 0) (Bs : ℕ → Map)
+      → NextWithSums (kind_in old.sup) file.source Is Bs file.progress p' new.store file.ahead ahead step
+      → IsNextPiece (kind_in old.sup) Is Bs file file' result)
+      → file'.source ≡ file.source → file'.progress ≡ p' → file'.loan ≡ None → new.sup ≡ old.sup → SameLoans mid new.store → Serves now new.store
+      → IsUnderway file.source p' → Told p' ahead mid.layout step → Streamed old new file file' before now result
   ended file' p' ahead step result f source progress loan sup same serves underway told = record {
     sup = sup;
-    others = subst (λ (s : Blocks). SameLoans s (base new.store file'.loan)) (back ∙ ap (base old.store) is_taken) (subst (λ l. SameLoans mid (base new.store l)) (sym loan) same);
+    others = subst (λ (s : Blocks). SameLoans s (base new.store file'.loan)) (back ∙ ap (base old.store) is_taken)
+        (subst (λ l. SameLoans mid (base new.store l)) (sym loan) same);
     reading = record { serves = serves; held = subst (λ l. IfSome l (IsLiveIn new.store)) (sym loan) tt; underway = subst (λ (s : Source). IsUnderway s file'.progress) (sym source) (subst (IsUnderway file.source) (sym progress) underway) };
-    content = all_drawn old.store.layout (λ Bs. NextWithSums (kind_in old.sup) file.source (unread_by old.store.layout before now) Bs file.progress p' new.store file.ahead ahead step)
+    content = all_drawn old.store.layout (λ Bs. NextWithSums (kind_in old.sup) file.source (unread_by old.store.layout before now) Bs file.progress p'
+        new.store file.ahead ahead step)
         (λ Bs. IsNextPiece (kind_in old.sup) (unread_by old.store.layout before now) Bs file file' result)
         (λ Bs h. f (unread_by old.store.layout before now) Bs h)
         (subst (λ l. Told p' ahead l step) layout_is told);
   }
 
-  pub streamed_none : (ahead : SumsAhead) (p' : Progress) (loan : Option Lent) → loan ≡ None → new.sup ≡ old.sup → SameLoans mid new.store → Serves now new.store → IsUnderway file.source p' → Told p' ahead mid.layout (Ok None) → Streamed old new file (file_at file p' ahead loan) before now (Ok None)
+  pub streamed_none : (ahead : SumsAhead) (p' : Progress) (loan : Option Lent) → loan ≡ None → new.sup ≡ old.sup → SameLoans mid new.store
+      → Serves now new.store → IsUnderway file.source p' → Told p' ahead mid.layout (Ok None)
+      → Streamed old new file (file_at file p' ahead loan) before now (Ok None)
   streamed_none ahead p' loan none = ended (file_at file p' ahead loan) p' ahead (Ok None) (Ok None) (λ Is Bs h seen on. (h on.1).0 seen on.0) refl refl none
 
-  pub streamed_err : (ahead later : SumsAhead) (p' : Progress) (loan : Option Lent) (fault : TreeFault) → loan ≡ None → new.sup ≡ old.sup → SameLoans mid new.store → Serves now new.store → IsUnderway file.source p' → Told p' ahead mid.layout (Err fault) → Streamed old new file (file_at file p' later loan) before now (Err fault)
-  streamed_err ahead later p' loan fault none = ended (file_at file p' later loan) p' ahead (Err fault) (Err fault) (λ Is Bs h seen on. (h on.1).0 seen on.0) refl refl none
+  pub streamed_err : (ahead later : SumsAhead) (p' : Progress) (loan : Option Lent) (fault : TreeFault) → loan ≡ None → new.sup ≡ old.sup
+      → SameLoans mid new.store → Serves now new.store → IsUnderway file.source p' → Told p' ahead mid.layout (Err fault)
+      → Streamed old new file (file_at file p' later loan) before now (Err fault)
+  streamed_err ahead later p' loan fault none = ended (file_at file p' later loan) p' ahead (Err fault) (Err fault)
+      (λ Is Bs h seen on. (h on.1).0 seen on.0) refl refl none
 
 -- less is left of the file
-pub nearer : (file : FileBytes) (p' : Progress) (given : Shown) → StepsOn file.source file.progress p' given → file.source.size - p'.at < file.source.size - file.progress.at
+pub nearer : (file : FileBytes) (p' : Progress) (given : Shown) → StepsOn file.source file.progress p' given
+    → file.source.size - p'.at < file.source.size - file.progress.at
 nearer file p' given on = omega (arith, on.further, on.underway.within)
 
 -- what is known of a step, by its piece
@@ -110,7 +132,8 @@ none_back mid new loan e h = subst (λ l. SameLoans mid (base new l)) (sym e) h
 pub none_live : (new : Blocks) (loan : Option Lent) → loan ≡ None → IfSome loan (IsLiveIn new)
 none_live new loan e = subst (λ l. IfSome l (IsLiveIn new)) (sym e) tt
 
-pub some_back : (mid new : Blocks) (place : Option Lent) (loan : Lent) → place ≡ Some loan → SameLoans mid (base new (Some loan)) → SameLoans mid (base new place)
+pub some_back : (mid new : Blocks) (place : Option Lent) (loan : Lent) → place ≡ Some loan → SameLoans mid (base new (Some loan))
+    → SameLoans mid (base new place)
 some_back mid new place loan e h = subst (λ l. SameLoans mid (base new l)) (sym e) h
 
 pub some_live : (new : Blocks) (place : Option Lent) (loan : Lent) → place ≡ Some loan → IsLiveIn new loan → IfSome place (IsLiveIn new)
@@ -119,6 +142,7 @@ some_live new place loan e h = subst (λ l. IfSome l (IsLiveIn new)) (sym e) h
 pub same_loan : (place : Option Lent) (held loan : Lent) → place ≡ Some held → place ≡ Some loan → held ≡ loan
 same_loan place held loan e f = cc
 
-pub span_shown : (store : Blocks) (loan held : Lent) (place : Span) (bytes : List ℕ) (piece : Piece) → held ≡ loan → block_of store held ≡ Some bytes → piece ≡ span_piece bytes place → shown_piece store (shown.Bytes loan place) ≡ piece
+pub span_shown : (store : Blocks) (loan held : Lent) (place : Span) (bytes : List ℕ) (piece : Piece) → held ≡ loan → block_of store held ≡ Some bytes
+    → piece ≡ span_piece bytes place → shown_piece store (shown.Bytes loan place) ≡ piece
 span_shown store loan held place bytes piece e is p =
     ap (λ l. span_piece (unwrap_or (block_of store l) []) place) (sym e) ∙ ap (λ o. span_piece (unwrap_or o []) place) is ∙ sym p

@@ -33,18 +33,24 @@ surveyed xs = thread judge done tt xs
 abbrev folds : ℕ → RangeProg → Lookup Survey
 folds end p = folded_over survey_step (λ s. Clear) (at end) p
 
-on_clear : (leaf : ℕ) (s : Survey) (end : ℕ) (k : Unit {0} → Lookup Survey) (k' : Surveyor → Lookup Survey) → k tt ≡ k' (at end) → bind (Return (if_clear s)) (go_on k) ≡ bind (next_prog leaf (cleared s (Go (at end)))) (go_on k')
+on_clear : (leaf : ℕ) (s : Survey) (end : ℕ) (k : Unit {0} → Lookup Survey) (k' : Surveyor → Lookup Survey) → k tt ≡ k' (at end)
+    → bind (Return (if_clear s)) (go_on k) ≡ bind (next_prog leaf (cleared s (Go (at end)))) (go_on k')
 on_clear leaf Clear end k k' e = e
 on_clear leaf Compressed end k k' e = refl
 on_clear leaf Encoded end k k' e = refl
 
-on_order : (x : Extent) (end : ℕ) (b : Bool) (k : ℕ → Program Extent (Unit {0})) (k' : Surveyor → Lookup Survey) → ((end' : ℕ) → surveyed (k end') ≡ k' (at end')) →
-    surveyed (bind (cond b (Emit x (Return (Ok (end_of x.start x.fields)))) (Stop (Rattle.btr_read.specs.Fate.Malformed x.leaf))) (go_on k)) ≡ bind (next_prog x.leaf (cond b (cleared (judged x.fields) (Go (at (end_of x.start x.fields)))) Broken)) (go_on k')
-on_order x end true k k' f = on_clear x.leaf (judged x.fields) (end_of x.start x.fields) (λ u. surveyed (k (end_of x.start x.fields))) k' (f (end_of x.start x.fields))
+on_order : (x : Extent) (end : ℕ) (b : Bool) (k : ℕ → Program Extent (Unit {0})) (k' : Surveyor → Lookup Survey)
+    → ((end' : ℕ) → surveyed (k end') ≡ k' (at end')) →
+    surveyed (bind (cond b (Emit x (Return (Ok (end_of x.start x.fields)))) (Stop (Rattle.btr_read.specs.Fate.Malformed x.leaf))) (go_on k))
+    ≡ bind (next_prog x.leaf (cond b (cleared (judged x.fields) (Go (at (end_of x.start x.fields)))) Broken)) (go_on k')
+on_order x end true k k' f = on_clear x.leaf (judged x.fields) (end_of x.start x.fields) (λ u. surveyed (k (end_of x.start x.fields))) k'
+    (f (end_of x.start x.fields))
 on_order x end false k k' f = refl
 
-on_form : (item : TreeItem) (end : ℕ) (r : Result FileExtent ItemFault) (k : ℕ → Program Extent (Unit {0})) (k' : Surveyor → Lookup Survey) → ((end' : ℕ) → surveyed (k end') ≡ k' (at end')) →
-    surveyed (bind (formed item r (λ fields. in_order end (extent item fields))) (go_on k)) ≡ bind (next_prog item.leaf (formed_next r (survey_fields (at end) item.key.offset))) (go_on k')
+on_form : (item : TreeItem) (end : ℕ) (r : Result FileExtent ItemFault) (k : ℕ → Program Extent (Unit {0})) (k' : Surveyor → Lookup Survey)
+    → ((end' : ℕ) → surveyed (k end') ≡ k' (at end')) →
+    surveyed (bind (formed item r (λ fields. in_order end (extent item fields))) (go_on k))
+    ≡ bind (next_prog item.leaf (formed_next r (survey_fields (at end) item.key.offset))) (go_on k')
 on_form item end (Ok fields) k k' f = on_order (extent item fields) end (nat_le end item.key.offset) k k' f
 on_form item end (Err fault) k k' f = refl
 
@@ -53,7 +59,8 @@ pub survey_as : (p : RangeProg) (end : ℕ) → surveyed (extents_in end p) ≡ 
 survey_as (Return tt) end = refl
 survey_as (Stop f) end = refl
 survey_as (Need w k) end = ap (Need w) (fun_ext (λ bytes. survey_as (k bytes) end))
-survey_as (Emit item p) end = on_form item end (file_extent_of item.key.offset item.body) (λ end'. extents_in end' p) (λ s. folded_over survey_step (λ s'. Clear) s p) (λ end'. survey_as p end')
+survey_as (Emit item p) end = on_form item end (file_extent_of item.key.offset item.body) (λ end'. extents_in end' p)
+    (λ s. folded_over survey_step (λ s'. Clear) s p) (λ end'. survey_as p end')
 
 -- what one extent comes to
 order_is : (s : Surveyor) (start : ℕ) → start < s.end → nat_le s.end start ≡ false
@@ -62,13 +69,17 @@ order_is s start h = grind (arith, nat_tests)
 in_order_is : (s : Surveyor) (start : ℕ) → s.end ≤ start → nat_le s.end start ≡ true
 in_order_is s start h = grind (arith, nat_tests)
 
-pub step_is : (s : Surveyor) (item : TreeItem) (fields : FileExtent) → Ok fields ≡ file_extent_of item.key.offset item.body → survey_step s item ≡ survey_fields s item.key.offset fields
+pub step_is : (s : Surveyor) (item : TreeItem) (fields : FileExtent) → Ok fields ≡ file_extent_of item.key.offset item.body → survey_step s item
+    ≡ survey_fields s item.key.offset fields
 step_is s item fields e = ap (λ r. formed_next r (survey_fields s item.key.offset)) (sym e)
 
-pub step_broken : (s : Surveyor) (item : TreeItem) (fields : FileExtent) → Ok fields ≡ file_extent_of item.key.offset item.body → item.key.offset < s.end → survey_step s item ≡ Broken
-step_broken s item fields e h = step_is s item fields e ∙ ap (λ (b : Bool). cond b (cleared (judged fields) (Go (at (end_of item.key.offset fields)))) Broken) (order_is s item.key.offset h)
+pub step_broken : (s : Surveyor) (item : TreeItem) (fields : FileExtent) → Ok fields ≡ file_extent_of item.key.offset item.body
+    → item.key.offset < s.end → survey_step s item ≡ Broken
+step_broken s item fields e h = step_is s item fields e ∙ ap
+    (λ (b : Bool). cond b (cleared (judged fields) (Go (at (end_of item.key.offset fields)))) Broken) (order_is s item.key.offset h)
 
-pub step_judged : (s : Surveyor) (item : TreeItem) (fields : FileExtent) (found : Survey) → Ok fields ≡ file_extent_of item.key.offset item.body → s.end ≤ item.key.offset → found ≡ judged fields → survey_step s item ≡ cleared found (Go (at (end_of item.key.offset fields)))
+pub step_judged : (s : Surveyor) (item : TreeItem) (fields : FileExtent) (found : Survey) → Ok fields ≡ file_extent_of item.key.offset item.body
+    → s.end ≤ item.key.offset → found ≡ judged fields → survey_step s item ≡ cleared found (Go (at (end_of item.key.offset fields)))
 step_judged s item fields found e h j =
     step_is s item fields e
     ∙ ap (λ (b : Bool). cond b (cleared (judged fields) (Go (at (end_of item.key.offset fields)))) Broken) (in_order_is s item.key.offset h)

@@ -7,9 +7,9 @@ ghost use Rattle.btr_files.specs.Listing.{IsDir};
 
 use super::volume::{START, root_of, scene_by, tree_of};
 use btr_base::{Key, SumKind};
-use btr_blocks::{Body, Items, Tree, bodies};
 use btr_files::{Dir, NameBuf};
 use btr_items::item;
+use btr_make_blocks::{Body, Items, Tree, bodies};
 use btr_rack::MemRack;
 use btr_volume::Volume;
 use btr_walk::TreeFault;

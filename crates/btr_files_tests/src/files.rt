@@ -1,8 +1,8 @@
 // Files and their checksums.
 use super::volume::{DATA, START, SUMS, form, tree_at};
 use btr_base::{SumKind, sum};
-use btr_blocks::{Body, Items, Tree, bodies};
 use btr_items::{FileExtent, Shape, item};
+use btr_make_blocks::{Body, Items, Tree, bodies};
 use std::alloc::{AllocError, Global};
 use std::test::Fail;
 

@@ -1,9 +1,9 @@
 // Lookups in trees of several leaves. Each is made in a volume of its own.
 use super::volume::{DATA, START, SUMS, form, root_of, scene_by, tree_at, tree_of};
 use btr_base::{Sum, SumKind, sum};
-use btr_blocks::{Body, Items, Tree, bodies};
 use btr_files::{NameBuf, Survey, inode, linked, mounted, sum_of, survey};
 use btr_items::{FileExtent, Inode, Shape, item};
+use btr_make_blocks::{Body, Items, Tree, bodies};
 use btr_walk::TreeFault;
 use std::alloc::{AllocError, Global};
 use std::test::Fail;

@@ -5,8 +5,8 @@ ghost use Rattle.btr_read.specs.Serves.{Serves};
 ghost use Rattle.btr_read.specs.Store.{free_count};
 
 use btr_base::SumKind;
-use btr_blocks::{Form, Items, Tree, bodies};
 use btr_chunk::{Chunk, ChunkTable, Stripe};
+use btr_make_blocks::{Form, Items, Tree, bodies};
 use btr_rack::{MemRack, Rack};
 use btr_read::Store;
 use btr_super::Super;

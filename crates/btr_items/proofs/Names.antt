@@ -12,7 +12,8 @@ use Rattle.btr_items.specs.declared.ext_ref.ExtRef.{ExtRef}
 use Rattle.btr_items.specs.declared.inode_ref.InodeRef.{InodeRef}
 
 -- what lies before an end that is within the body is within it, where the last rule says so
-named : {T : Type 0} (last : T → ℕ) (others : Bool) (end size : ℕ) (fields : T) → last fields ≤ end → IfOk (fields_if (others && leb end size) fields) (λ part. last part ≤ size)
+named : {T : Type 0} (last : T → ℕ) (others : Bool) (end size : ℕ) (fields : T) → last fields ≤ end
+    → IfOk (fields_if (others && leb end size) fields) (λ part. last part ≤ size)
 named last false end size fields before = tt
 named last true end size fields before =
     elim (leb end size) as (λ fits. leb end size ≡ fits → IfOk (fields_if fits fields) (λ part. last part ≤ size)) [
@@ -21,7 +22,8 @@ named last true end size fields before =
     ] refl
 
 pub entry_named : (at : ℕ) (body : List ℕ) → IfOk (entry_at at body) (λ (part : Entry). HasName body part.name_at part.name_len)
-entry_named at body = named (λ (part : Entry). part.name_at + part.name_len) _ (at + 30 + number_at 2 (at + 27) body + number_at 2 (at + 25) body) (length body) _ (omega arith)
+entry_named at body = named (λ (part : Entry). part.name_at + part.name_len) _ (at + 30 + number_at 2 (at + 27) body + number_at 2 (at + 25) body)
+    (length body) _ (omega arith)
 
 pub inode_ref_named : (at : ℕ) (body : List ℕ) → IfOk (inode_ref_at at body) (λ (part : InodeRef). HasName body part.name_at part.name_len)
 inode_ref_named at body = named (λ (part : InodeRef). part.name_at + part.name_len) _ (at + 10 + number_at 2 (at + 8) body) (length body) _ (omega arith)

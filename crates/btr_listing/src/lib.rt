@@ -13,8 +13,6 @@ mod lines;
 mod name;
 mod path;
 mod rules;
-#[cfg(test)]
-mod tests;
 
 pub use cause::{Cause, cause_text};
 pub use deciding::decide;

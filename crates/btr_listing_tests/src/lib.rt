@@ -3,3 +3,5 @@
 
 #[cfg(test)]
 mod deciding;
+#[cfg(test)]
+mod names;

@@ -43,7 +43,8 @@ ready_stays old new r e =
     }
 
 -- three images of zeros make one
-pub ready_zeros : (len : ℕ) (none one two three : MemoryRack) → none ≡ empty_rack → one ≡ with_image (zeros (codes "a") len) none → two ≡ with_image (zeros (codes "b") len) one → three ≡ with_image (zeros (codes "c") len) two → IsReady three
+pub ready_zeros : (len : ℕ) (none one two three : MemoryRack) → none ≡ empty_rack → one ≡ with_image (zeros (codes "a") len) none → two
+    ≡ with_image (zeros (codes "b") len) one → three ≡ with_image (zeros (codes "c") len) two → IsReady three
 ready_zeros len none one two three e a b c =
     let all : three ≡ with_image (zeros (codes "c") len) (with_image (zeros (codes "b") len) (with_image (zeros (codes "a") len) empty_rack)) =
     c ∙ ap (with_image (zeros (codes "c") len)) (b ∙ ap (with_image (zeros (codes "b") len)) (a ∙ ap (with_image (zeros (codes "a") len)) e)) in

@@ -1,5 +1,6 @@
 -- What `seal` does, from the two pokes that it makes: one of no bytes, and one of the sum.
-use Rattle.std.proofs.Common.{◌≡◌, ◌≢◌, ◌∙◌, inl, ℕ, ◌+◌, ◌-◌, ◌<◌, ◌≤◌, Bool, true, false, List, [], Option, Some, Result, Ok, Err, refl, sym, ap, subst, length, take, drop, arith}
+use Rattle.std.proofs.Common.{◌≡◌, ◌≢◌, ◌∙◌, inl, ℕ, ◌+◌, ◌-◌, ◌<◌, ◌≤◌, Bool, true, false, List, [], Option, Some, Result, Ok, Err, refl, sym, ap, subst}
+use Rattle.std.proofs.Common.{length, take, drop, arith}
 use Rattle.std.specs.Prelude.{IfSome}
 use Rattle.std.specs.Int.{w32, to_le_bytes}
 use Rattle.std.specs.Str.{bytes_eq}
@@ -19,7 +20,8 @@ pasted-none image off within =
     let none : off + 0 - off ≡ 0 = omega arith in
     ap (λ k. pasted image off (take k (drop off image))) (sym none) ∙ pasted-same image off 0 (omega arith)
 
-untouched_image : (name other : List ℕ) (off : ℕ) (old new : MemoryRack) → Rewrites name off [] old new → (b : Bool) → bytes_eq other name ≡ b → named new other ≡ named old other
+untouched_image : (name other : List ℕ) (off : ℕ) (old new : MemoryRack) → Rewrites name off [] old new → (b : Bool) → bytes_eq other name ≡ b
+    → named new other ≡ named old other
 untouched_image name other off old new r true e =
     let same : other ≡ name = (bytes_eq-Decides other name).0 e in
     let within : off ≤ length r.image = omega (arith, r.fits) in
@@ -38,7 +40,8 @@ untouched_more : (old mid new : MemoryRack) → IsUntouched old mid → new ≡ 
 untouched_more old mid new u e = subst (IsUntouched old) (sym e) u
 
 -- what is written after nothing was
-rewrites_after : (name : List ℕ) (off : ℕ) (bytes : List ℕ) (old mid new : MemoryRack) → IsUntouched old mid → Rewrites name off bytes mid new → Rewrites name off bytes old new
+rewrites_after : (name : List ℕ) (off : ℕ) (bytes : List ℕ) (old mid new : MemoryRack) → IsUntouched old mid → Rewrites name off bytes mid new
+    → Rewrites name off bytes old new
 unfolding standing
 rewrites_after name off bytes old mid new u r = record {
   image = r.image;
@@ -60,11 +63,20 @@ shorter image bytes end short e = let P : Option (List ℕ) → Type 0 = λ o. I
 length_sum : (crc : ℕ) → length (to_le_bytes w32 crc) ≡ 4
 length_sum crc = refl
 
-pub seals_poke : {T : Type 0} (name image : List ℕ) (off len crc end : ℕ) (old mid new : MemoryRack) (result : Result T PokeError) → 36 ≤ len → end ≡ off + len → IsUntouched old mid → named mid name ≡ Some image → IsCrcOf crc (named mid name) (off + 32) end → Pokes name off (to_le_bytes w32 crc) mid new result → Seals name off len old new result
+pub seals_poke : {T : Type 0} (name image : List ℕ) (off len crc end : ℕ) (old mid new : MemoryRack) (result : Result T PokeError) → 36 ≤ len → end
+    ≡ off + len → IsUntouched old mid → named mid name ≡ Some image → IsCrcOf crc (named mid name) (off + 32) end
+    → Pokes name off (to_le_bytes w32 crc) mid new result → Seals name off len old new result
 seals_poke name image off len crc end old mid new (Ok x) least at u stood is p =
     let here : IsCrcOf crc (Some image) (off + 32) (off + len) =
-    subst (λ e. IsCrcOf crc (Some image) (off + 32) e) at (subst (λ o. IsCrcOf crc o (off + 32) end) stood is) in
-    (image, sym (u.images name) ∙ stood, here.0, subst (λ n. Rewrites name off (to_le_bytes w32 n) old new) here.1 (rewrites_after name off (to_le_bytes w32 crc) old mid new u p))
+    subst (λ e. IsCrcOf crc (Some image) (off + 32) e) at (subst (λ o. IsCrcOf crc o (off + 32) end) stood is) in (
+      image,
+      sym (u.images name) ∙ stood,
+      here.0,
+      subst (λ n. Rewrites name off (to_le_bytes w32 n) old new) here.1
+          (rewrites_after name off (to_le_bytes w32 crc) old mid new u p),
+    )
 seals_poke name image off len crc end old mid new (Err NoImage) least at u stood is p = (sym (u.images name) ∙ p.0, untouched_more old mid new u p.1)
-seals_poke name image off len crc end old mid new (Err Range) least at u stood is p = (p.0, sym (u.images name) ∙ p.1, inl (omega (arith, p.2, length_sum crc)), untouched_more old mid new u p.3)
-seals_poke name image off len crc end old mid new (Err Memory) least at u stood is p = (p.0, omega (arith, p.1, length_sum crc), rewrites_after name off p.0 old mid new u p.2)
+seals_poke name image off len crc end old mid new (Err Range) least at u stood is p =
+    (p.0, sym (u.images name) ∙ p.1, inl (omega (arith, p.2, length_sum crc)), untouched_more old mid new u p.3)
+seals_poke name image off len crc end old mid new (Err Memory) least at u stood is p =
+    (p.0, omega (arith, p.1, length_sum crc), rewrites_after name off p.0 old mid new u p.2)

@@ -1,5 +1,6 @@
 -- What `spoil` does, page by page.
-use Rattle.std.proofs.Common.{◌≡◌, ◌∙◌, inl, inr, ℕ, zero, suc, ◌+◌, ◌-◌, ◌*◌, ◌/◌, ◌^◌, ◌<◌, ◌≤◌, Bool, true, false, ◌&&◌, List, [], ◌∷◌, Option, Some, None, Ok, Err, refl, sym, ap, subst, length, map, drop, get_or, arith}
+use Rattle.std.proofs.Common.{◌≡◌, ◌∙◌, inl, inr, ℕ, zero, suc, ◌+◌, ◌-◌, ◌*◌, ◌/◌, ◌^◌, ◌<◌, ◌≤◌, Bool, true, false, ◌&&◌, List, [], ◌∷◌, Option, Some, None}
+use Rattle.std.proofs.Common.{Ok, Err, refl, sym, ap, subst, length, map, drop, get_or, arith}
 use Rattle.std.specs.Prelude.{IfSome, is_none, nat_lt, if◌then◌else◌}
 use Rattle.std.specs.Option.{unwrap_or, option_map, option_and_then}
 use Rattle.std.specs.List.{slice_get, slice_range, range_with_len, find}
@@ -27,9 +28,12 @@ get_or-range image off n k d lt =
     get_or-take (off + n - off) (drop off image) k d within ∙ get_or-drop off image k d
 
 -- bytes that were read one by one
-pub bytes_read : (image : Option (List ℕ)) (off : ℕ) (page : List ℕ) → length page ≡ 4096 → ((k : ℕ) → k < 4096 → get_or page k 0 ≡ unwrap_or (option_and_then (λ bytes. slice_get bytes (off + k)) image) 0) → IfSome image (λ bytes. off + 4096 ≤ length bytes → page ≡ slice_range bytes off (off + 4096))
+pub bytes_read : (image : Option (List ℕ)) (off : ℕ) (page : List ℕ) → length page ≡ 4096
+    → ((k : ℕ) → k < 4096 → get_or page k 0 ≡ unwrap_or (option_and_then (λ bytes. slice_get bytes (off + k)) image) 0)
+    → IfSome image (λ bytes. off + 4096 ≤ length bytes → page ≡ slice_range bytes off (off + 4096))
 bytes_read None off page whole read = tt
-bytes_read (Some image) off page whole read = λ fits. same_lists page (slice_range image off (off + 4096)) (whole ∙ sym (length-range image off 4096 fits)) (λ k d lt. at k d fits (omega arith))
+bytes_read (Some image) off page whole read = λ fits. same_lists page (slice_range image off (off + 4096))
+    (whole ∙ sym (length-range image off 4096 fits)) (λ k d lt. at k d fits (omega arith))
   where
     at : (k d : ℕ) → off + 4096 ≤ length image → k < 4096 → get_or page k d ≡ get_or (slice_range image off (off + 4096)) k d
     at k d fits lt =
@@ -40,7 +44,8 @@ bytes_read (Some image) off page whole read = λ fits. same_lists page (slice_ra
         ∙ sym (get_or-range image off 4096 k d lt)
 
 -- a page is there where its last byte is
-pub page_there : (image : Option (List ℕ)) (at : ℕ) → is_none (option_and_then (λ (bytes : List ℕ). slice_get bytes at) image) ≡ false → (bytes : List ℕ) × (image ≡ Some bytes) × (at < length bytes)
+pub page_there : (image : Option (List ℕ)) (at : ℕ) → is_none (option_and_then (λ (bytes : List ℕ). slice_get bytes at) image) ≡ false
+    → (bytes : List ℕ) × (image ≡ Some bytes) × (at < length bytes)
 page_there None at some = cc
 page_there (Some bytes) at some =
     (bytes, refl, elim (slice_get_cases bytes at).1 [ inl there ↦ there.1 | inr past ↦ let e : is_none (slice_get bytes at) ≡ true = ap is_none past.1 in cc ])
@@ -55,7 +60,8 @@ unkept_byte image page k none lt =
     let at : (4096 * page + k) / 4096 ≡ page = omega arith in
     rw (at, none) refl
 
-unkept_page : (image : MemoryImage) (page : ℕ) → page_at image.pages page ≡ None → 4096 * page + 4096 ≤ length (bytes_in image) → is_zeros (page_of (bytes_in image) page) ≡ true
+unkept_page : (image : MemoryImage) (page : ℕ) → page_at image.pages page ≡ None → 4096 * page + 4096 ≤ length (bytes_in image)
+    → is_zeros (page_of (bytes_in image) page) ≡ true
 unkept_page image page none fits = zeros_all (page_of (bytes_in image) page) at
   where
     long : length (bytes_in image) ≡ image.slot.len
@@ -72,10 +78,12 @@ unkept_page image page none fits = zeros_all (page_of (bytes_in image) page) at
       | inr le ↦ get_or_past (page_of (bytes_in image) page) k 0 (omega (arith, sized))
     ]
 
-pub unkept : (rack : MemoryRack) (name : List ℕ) (page : ℕ) → named_page rack name page ≡ None → IfSome (named rack name) (λ image. 4096 * page + 4096 ≤ length image → None ≡ turned_if_spoiled image page)
+pub unkept : (rack : MemoryRack) (name : List ℕ) (page : ℕ) → named_page rack name page ≡ None
+    → IfSome (named rack name) (λ image. 4096 * page + 4096 ≤ length image → None ≡ turned_if_spoiled image page)
 unkept rack name page none = at (find (is_named name) rack.images) none
   where
-    at : (image : Option MemoryImage) → option_and_then (λ (i : MemoryImage). page_at i.pages page) image ≡ None → IfSome (option_map bytes_in image) (λ bytes. 4096 * page + 4096 ≤ length bytes → None ≡ turned_if_spoiled bytes page)
+    at : (image : Option MemoryImage) → option_and_then (λ (i : MemoryImage). page_at i.pages page) image ≡ None
+        → IfSome (option_map bytes_in image) (λ bytes. 4096 * page + 4096 ≤ length bytes → None ≡ turned_if_spoiled bytes page)
     at None none = tt
     at (Some image) none = λ fits. let blank : is_zeros (page_of (bytes_in image) page) ≡ true = unkept_page image page none fits in grind (arith, blank)
 
@@ -103,7 +111,8 @@ made_same f g a (suc n) same = λ i. same a i ∷ made_same f g (a + 1) n same i
 made_again : (xs : List ℕ) → map (λ i. get_or xs i 0) (range_with_len 0 (length xs)) ≡ xs
 made_again xs = same_lists _ _ (length-map-range_with_len (λ i. get_or xs i 0) 0 (length xs)) (λ k d lt. at k d lt)
   where
-    at : (k d : ℕ) → k < length (map (λ i. get_or xs i 0) (range_with_len 0 (length xs))) → get_or (map (λ i. get_or xs i 0) (range_with_len 0 (length xs))) k d ≡ get_or xs k d
+    at : (k d : ℕ) → k < length (map (λ i. get_or xs i 0) (range_with_len 0 (length xs)))
+        → get_or (map (λ i. get_or xs i 0) (range_with_len 0 (length xs))) k d ≡ get_or xs k d
     at k d lt =
         let below : k < length xs = omega (arith, length-map-range_with_len (λ i. get_or xs i 0) 0 (length xs)) in
         get_or-map-range_with_len (λ i. get_or xs i 0) 0 (length xs) k k d below (omega arith) ∙ get_or_default xs k 0 d below
@@ -194,7 +203,8 @@ length_turned : (n : ℕ) (image : List ℕ) → 4096 * n + 4096 ≤ length imag
 unfolding turned_bytes
 length_turned n image fits = length-map (page_of image n) (λ b. 255 - b) ∙ length-range image (4096 * n) 4096 fits
 
-turned_byte : (n i : ℕ) (image : List ℕ) → 4096 * n + 4096 ≤ length image → 4096 * n ≤ i → i < 4096 * n + 4096 → get_or (turned_bytes n image) (i - 4096 * n) 0 ≡ 255 - get_or image i 0
+turned_byte : (n i : ℕ) (image : List ℕ) → 4096 * n + 4096 ≤ length image → 4096 * n ≤ i → i < 4096 * n + 4096
+    → get_or (turned_bytes n image) (i - 4096 * n) 0 ≡ 255 - get_or image i 0
 unfolding turned_bytes
 turned_byte n i image fits le lt =
     let k : ℕ = i - 4096 * n in
@@ -216,7 +226,8 @@ spared_more n image is i =
       ]
     ]
 
-turned_more : (n : ℕ) (image : List ℕ) → 4096 * n + 4096 ≤ length image → is_spoiled image n ≡ true → (i : ℕ) → spoiled_byte (n + 1) image i ≡ patched (spoiled_byte n image i) (4096 * n) (turned_bytes n image) i
+turned_more : (n : ℕ) (image : List ℕ) → 4096 * n + 4096 ≤ length image → is_spoiled image n ≡ true → (i : ℕ) → spoiled_byte (n + 1) image i
+    ≡ patched (spoiled_byte n image i) (4096 * n) (turned_bytes n image) i
 turned_more n image fits is i =
     let x : ℕ = get_or image i 0 in
     let s : Bool = is_spoiled image (i / 4096) in
@@ -235,16 +246,20 @@ turned_more n image fits is i =
       ]
     ]
 
-page_more : (n : ℕ) (image : List ℕ) → 4096 * n + 4096 ≤ length image → (b : Bool) → is_spoiled image n ≡ b → with_page (spoiled_below n image) n (if b then Some (map (λ b. 255 - b) (page_of image n)) else None) ≡ spoiled_below (n + 1) image
+page_more : (n : ℕ) (image : List ℕ) → 4096 * n + 4096 ≤ length image → (b : Bool) → is_spoiled image n ≡ b
+    → with_page (spoiled_below n image) n (if b then Some (map (λ b. 255 - b) (page_of image n)) else None) ≡ spoiled_below (n + 1) image
 unfolding spoiled_below turned_bytes
 page_more n image fits false is = made_same (spoiled_byte n image) (spoiled_byte (n + 1) image) 0 (length image) (spared_more n image is)
-page_more n image fits true is = sym (patched_bytes (spoiled_byte n image) (spoiled_byte (n + 1) image) (length image) (4096 * n) (turned_bytes n image) (omega (arith, length_turned n image fits)) (turned_more n image fits is))
+page_more n image fits true is = sym (patched_bytes (spoiled_byte n image) (spoiled_byte (n + 1) image) (length image) (4096 * n)
+    (turned_bytes n image) (omega (arith, length_turned n image fits)) (turned_more n image fits is))
 
-pub spoiled_more : (n : ℕ) (image : List ℕ) → 4096 * n + 4096 ≤ length image → with_page (spoiled_below n image) n (turned_if_spoiled (spoiled_below n image) n) ≡ spoiled_below (n + 1) image
+pub spoiled_more : (n : ℕ) (image : List ℕ) → 4096 * n + 4096 ≤ length image
+    → with_page (spoiled_below n image) n (turned_if_spoiled (spoiled_below n image) n) ≡ spoiled_below (n + 1) image
 spoiled_more n image fits = ap (with_page (spoiled_below n image) n) (turned_kept n image fits) ∙ page_more n image fits (is_spoiled image n) refl
 
 -- what was written into an image is what it becomes
-pub becomes_written : (name : List ℕ) (off : ℕ) (bytes : List ℕ) (old new : MemoryRack) → (r : Rewrites name off bytes old new) → Becomes name (pasted r.image off bytes) old new
+pub becomes_written : (name : List ℕ) (off : ℕ) (bytes : List ℕ) (old new : MemoryRack) → (r : Rewrites name off bytes old new)
+    → Becomes name (pasted r.image off bytes) old new
 becomes_written name off bytes old new r = record {
   now = r.written;
   others = r.others;
@@ -259,8 +274,10 @@ becomes_then name a b old mid new first second = record {
 }
 
 -- one page is written, whose bytes are turned
-pub page_written : (name : List ℕ) (n off at : ℕ) (page : List ℕ) (old new : MemoryRack) → off ≡ 4096 * n → at ≡ 4096 * n + 4095 → is_none (option_and_then (λ (bytes : List ℕ). slice_get bytes at) (named old name)) ≡ false
-    → IfSome (named old name) (λ image. 4096 * n + 4096 ≤ length image → Some page ≡ turned_if_spoiled image n) → Rewrites name off page old new → SpoilsPage name n old new (Ok true)
+pub page_written : (name : List ℕ) (n off at : ℕ) (page : List ℕ) (old new : MemoryRack) → off ≡ 4096 * n → at ≡ 4096 * n + 4095
+    → is_none (option_and_then (λ (bytes : List ℕ). slice_get bytes at) (named old name)) ≡ false
+    → IfSome (named old name) (λ image. 4096 * n + 4096 ≤ length image → Some page ≡ turned_if_spoiled image n) → Rewrites name off page old new
+    → SpoilsPage name n old new (Ok true)
 page_written name n off at page old new here last there is r =
     let bytes = page_there (named old name) at there in
     let same : Some r.image ≡ Some bytes.0 = sym r.stood ∙ bytes.1 in
@@ -271,19 +288,28 @@ page_written name n off at page old new here last there is r =
     let whole : pasted r.image off page ≡ with_page r.image n (turned_if_spoiled r.image n) = ap (λ o. pasted r.image o page) here ∙ ap (with_page r.image n) turned in
     (r.image, r.stood, fits, subst (λ bytes. Becomes name bytes old new) whole (becomes_written name off page old new r))
 
-pub spoil_begins : (name : List ℕ) (old new : MemoryRack) → Rewrites name 0 [] old new → (image : List ℕ) × (named old name ≡ Some image) × Becomes name (spoiled_below 256 image) old new
+pub spoil_begins : (name : List ℕ) (old new : MemoryRack) → Rewrites name 0 [] old new → (image : List ℕ) × (named old name ≡ Some image)
+    × Becomes name (spoiled_below 256 image) old new
 spoil_begins name old new r =
     (r.image, r.stood, subst (λ bytes. Becomes name bytes old new) (sym (none_spoiled 256 r.image (omega arith))) (becomes_written name 0 [] old new r))
 
-pub spoil_goes_on : (name : List ℕ) (n : ℕ) (old mid new : MemoryRack) → ((image : List ℕ) × (named old name ≡ Some image) × Becomes name (spoiled_below n image) old mid) → SpoilsPage name n mid new (Ok true) → (image : List ℕ) × (named old name ≡ Some image) × Becomes name (spoiled_below (n + 1) image) old new
+pub spoil_goes_on : (name : List ℕ) (n : ℕ) (old mid new : MemoryRack)
+    → ((image : List ℕ) × (named old name ≡ Some image) × Becomes name (spoiled_below n image) old mid) → SpoilsPage name n mid new (Ok true)
+    → (image : List ℕ) × (named old name ≡ Some image) × Becomes name (spoiled_below (n + 1) image) old new
 spoil_goes_on name n old mid new so_far step =
     let image : List ℕ = so_far.0 in
     let is : step.0 ≡ spoiled_below n image = let e : Some step.0 ≡ Some (spoiled_below n image) = sym step.1 ∙ so_far.2.now in cc in
     let fits : 4096 * n + 4096 ≤ length image = omega (arith, step.2, ap length is, length_spoiled n image) in
-    let now : with_page step.0 n (turned_if_spoiled step.0 n) ≡ spoiled_below (n + 1) image = ap (λ bytes. with_page bytes n (turned_if_spoiled bytes n)) is ∙ spoiled_more n image fits in
-    (image, so_far.1, becomes_then name (spoiled_below n image) (spoiled_below (n + 1) image) old mid new so_far.2 (subst (λ bytes. Becomes name bytes mid new) now step.3))
+    let now : with_page step.0 n (turned_if_spoiled step.0 n) ≡ spoiled_below (n + 1) image = ap (λ bytes. with_page bytes n (turned_if_spoiled bytes n)) is ∙ spoiled_more n image fits in (
+      image,
+      so_far.1,
+      becomes_then name (spoiled_below n image) (spoiled_below (n + 1) image) old mid new so_far.2
+          (subst (λ bytes. Becomes name bytes mid new) now step.3),
+    )
 
-pub spoil_ends : (name : List ℕ) (n : ℕ) (old mid new : MemoryRack) → n ≤ 2 ^ 51 → ((image : List ℕ) × (named old name ≡ Some image) × Becomes name (spoiled_below n image) old mid) → SpoilsPage name n mid new (Ok false) → (image : List ℕ) × (named old name ≡ Some image) × Becomes name (spoiled image) old new
+pub spoil_ends : (name : List ℕ) (n : ℕ) (old mid new : MemoryRack) → n ≤ 2 ^ 51
+    → ((image : List ℕ) × (named old name ≡ Some image) × Becomes name (spoiled_below n image) old mid) → SpoilsPage name n mid new (Ok false)
+    → (image : List ℕ) × (named old name ≡ Some image) × Becomes name (spoiled image) old new
 spoil_ends name n old mid new le so_far step =
     let image : List ℕ = so_far.0 in
     let P : Option (List ℕ) → Type 0 = λ o. IfSome o (λ bytes. length bytes < 4096 * n + 4096) in
@@ -291,7 +317,9 @@ spoil_ends name n old mid new le so_far step =
     let all : spoiled_below n image ≡ spoiled image = all_spoiled n (2 ^ 51) image le (omega (arith, short, length_spoiled n image)) in
     (image, so_far.1, subst (λ rack. Becomes name (spoiled image) old rack) (sym step.1) (subst (λ bytes. Becomes name bytes old mid) all so_far.2))
 
-pub spoil_stops : (name : List ℕ) (n : ℕ) (old mid new : MemoryRack) (e : PokeError) → ((image : List ℕ) × (named old name ≡ Some image) × Becomes name (spoiled_below n image) old mid) → SpoilsPage name n mid new (Err e) → Spoils {T = Unit {0}} name old new (Err e)
+pub spoil_stops : (name : List ℕ) (n : ℕ) (old mid new : MemoryRack) (e : PokeError)
+    → ((image : List ℕ) × (named old name ≡ Some image) × Becomes name (spoiled_below n image) old mid) → SpoilsPage name n mid new (Err e)
+    → Spoils {T = Unit {0}} name old new (Err e)
 spoil_stops name n old mid new NoImage so_far step = absurd (let e : Some (spoiled_below n so_far.0) ≡ None = sym so_far.2.now ∙ step in cc)
 spoil_stops name n old mid new Range so_far step = step
 spoil_stops name n old mid new Memory so_far step =
@@ -309,7 +337,8 @@ spoil_stops name n old mid new Memory so_far step =
     )
 
 -- the first step is refused
-pub spoil_refused : (name : List ℕ) (old new : MemoryRack) (e : PokeError) → Pokes {T = Unit {0}} name 0 [] old new (Err e) → Spoils {T = Unit {0}} name old new (Err e)
+pub spoil_refused : (name : List ℕ) (old new : MemoryRack) (e : PokeError) → Pokes {T = Unit {0}} name 0 [] old new (Err e)
+    → Spoils {T = Unit {0}} name old new (Err e)
 spoil_refused name old new NoImage p = p
 spoil_refused name old new Range p = absurd (omega (arith, p.2))
 spoil_refused name old new Memory p =

@@ -5,10 +5,10 @@ ghost use Rattle.btr_chunk.specs.Chunk.{IsChunk};
 use crate::fault::MakeFault;
 use crate::plan::{CHUNK_TREE_UUID, ChunkPlan, Plan, device_uuid};
 use btr_base::Key;
-use btr_blocks::{Body, Items, bodies};
 use btr_chunk::{Chunk, ChunkTable, Stripe};
 use btr_items::DevExtent;
 use btr_items::item::{CHUNK_ITEM, DEV_EXTENT};
+use btr_make_blocks::{Body, Items, bodies};
 use std::alloc::{AllocError, Global};
 
 /// The objectid of all chunks.

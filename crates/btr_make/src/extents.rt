@@ -2,9 +2,9 @@
 use crate::chunks::CHUNKS;
 use crate::draft::{BlockPlace, DataExtent, Draft};
 use crate::plan::{ChunkPlan, GENERATION, NODE};
-use btr_blocks::{Body, Items, bodies};
 use btr_items::item::{BLOCK_GROUP_ITEM, EXTENT_DATA_REF, EXTENT_ITEM, METADATA_ITEM};
 use btr_items::{BlockGroup, ExtentFlags, ExtentItem, Link};
+use btr_make_blocks::{Body, Items, bodies};
 use std::alloc::{AllocError, Global};
 
 impl Draft {

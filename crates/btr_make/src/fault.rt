@@ -1,6 +1,6 @@
 use btr_base::Memory;
-use btr_blocks::GrowFault;
 use btr_chunk::{AddFault, ChunkFault};
+use btr_make_blocks::GrowFault;
 use btr_rack::{AddError, PokeError};
 use std::alloc::{AllocError, AllocFailed};
 

@@ -1,8 +1,8 @@
 use crate::plan::GENERATION;
 use btr_base::{Key, name_hash};
-use btr_blocks::{Items, bodies};
 use btr_items::item::{DIR_INDEX, DIR_ITEM, EXTENT_DATA, INODE_ITEM, INODE_REF, ROOT_ITEM};
 use btr_items::{FileExtent, Inode, Shape};
+use btr_make_blocks::{Items, bodies};
 use std::alloc::{AllocError, Global};
 use std::collections::BTreeMap;
 

@@ -10,8 +10,8 @@ use crate::fault::MakeFault;
 use crate::parities::put_parities;
 use crate::plan::FSID;
 use crate::sums::sum_items;
-use btr_blocks::{Items, Tree, bodies};
 use btr_items::item::{CHUNK_ITEM, DEV_ITEM};
+use btr_make_blocks::{Items, Tree, bodies};
 use btr_rack::MemRack;
 use std::mem::replace;
 

@@ -1,6 +1,6 @@
 //! Volumes in memory, for tests.
 //!
-//! `row` makes the small ones and `make` those of many directories, of trees that `btr_blocks` grows: a `Plan` has the images
+//! `row` makes the small ones and `make` those of many directories, of trees that `btr_make_blocks` grows: a `Plan` has the images
 //! and chunks, `Files` grows a tree of files name by name, and a `Draft` writes both, and at last the trees that say where
 //! everything is. `put_super` writes one superblock, byte for byte what `specs/Copy.antt` says; `seal` writes a checksum anew,
 //! and `spoil` makes an image wrong.

@@ -1,8 +1,8 @@
 // The items of the checksum tree.
 use crate::draft::SECTOR;
 use btr_base::{Sum, SumKind};
-use btr_blocks::{Body, Items, bodies};
 use btr_items::item::EXTENT_CSUM;
+use btr_make_blocks::{Body, Items, bodies};
 use std::alloc::{AllocError, Global};
 use std::collections::BTreeMap;
 

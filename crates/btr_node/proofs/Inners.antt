@@ -34,13 +34,16 @@ level_fits level = ltb 0 level && leb level 7
 table_fits : List ℕ → Bool
 table_fits block = ltb 0 (entry_count block) && leb (101 + 33 * entry_count block) (length block)
 
-keys_of_pointers : (block : List ℕ) → map (λ (pointer : KeyPointer). pointer.key) (map (pointer_at block) (range_with_len 0 (entry_count block))) ≡ map (entry_key 33 block) (range_with_len 0 (entry_count block))
+keys_of_pointers : (block : List ℕ) → map (λ (pointer : KeyPointer). pointer.key) (map (pointer_at block) (range_with_len 0 (entry_count block)))
+    ≡ map (entry_key 33 block) (range_with_len 0 (entry_count block))
 unfolding pointer_at
 keys_of_pointers block = map-map (pointer_at block) (λ (pointer : KeyPointer). pointer.key) (range_with_len 0 (entry_count block))
 
-inner_is : (block : List ℕ) → is_inner block ≡ (level_fits (level_of block) && (table_fits block && ascends (map (entry_key 33 block) (range_with_len 0 (entry_count block)))))
+inner_is : (block : List ℕ) → is_inner block ≡ (level_fits (level_of block) &&
+    (table_fits block && ascends (map (entry_key 33 block) (range_with_len 0 (entry_count block)))))
 unfolding is_inner pointers level_fits table_fits
-inner_is block = ap (λ keys. (ltb 0 (level_of block) && leb (level_of block) 7) && ((ltb 0 (entry_count block) && leb (101 + 33 * entry_count block) (length block)) && ascends keys)) (keys_of_pointers block)
+inner_is block = ap (λ keys. (ltb 0 (level_of block) && leb (level_of block) 7) &&
+    ((ltb 0 (entry_count block) && leb (101 + 33 * entry_count block) (length block)) && ascends keys)) (keys_of_pointers block)
 
 -- a leaf is no inner node
 pub inner_leaf : (block : List ℕ) → level_of block ≡ 0 → is_inner block ≡ false
@@ -63,7 +66,8 @@ unfolding table_fits
 inner_room block long = inner_is block ∙ and_right _ _ (and_left _ _ (and_right _ _ (lt-leb _ _ long)))
 
 -- every other block is an inner node as its keys say
-pub inner_rules : (block : List ℕ) (n : ℕ) → n ≡ entry_count block → 0 < level_of block → level_of block ≤ 7 → 0 < n → 101 + 33 * n ≤ length block → is_inner block ≡ ascends (map (entry_key 33 block) (range_with_len 0 n))
+pub inner_rules : (block : List ℕ) (n : ℕ) → n ≡ entry_count block → 0 < level_of block → level_of block ≤ 7 → 0 < n → 101 + 33 * n ≤ length block
+    → is_inner block ≡ ascends (map (entry_key 33 block) (range_with_len 0 n))
 unfolding level_fits table_fits
 inner_rules block n count above level some fits =
     let keys = ascends (map (entry_key 33 block) (range_with_len 0 (entry_count block))) in
@@ -74,7 +78,8 @@ inner_rules block n count above level some fits =
     ∙ ap (λ test. test && keys) (le-leb (101 + 33 * entry_count block) (length block) (omega arith))
     ∙ ap (λ m. ascends (map (entry_key 33 block) (range_with_len 0 m))) (sym count)
 
-parts_of : (block : List ℕ) → is_inner block ≡ true → ((0 < entry_count block) × (101 + 33 * entry_count block ≤ length block)) × (ascends (map (entry_key 33 block) (range_with_len 0 (entry_count block))) ≡ true)
+parts_of : (block : List ℕ) → is_inner block ≡ true → ((0 < entry_count block) × (101 + 33 * entry_count block ≤ length block))
+    × (ascends (map (entry_key 33 block) (range_with_len 0 (entry_count block))) ≡ true)
 unfolding table_fits
 parts_of block good =
     let rules = and_parts (table_fits block) (ascends (map (entry_key 33 block) (range_with_len 0 (entry_count block)))) (and_parts (level_fits (level_of block)) _ (sym (inner_is block) ∙ good)).1 in

@@ -1,5 +1,6 @@
 -- What a good leaf's bytes say of the list of its items.
-use Rattle.std.proofs.Common.{◌≡◌, ℕ, ◌+◌, ◌-◌, ◌*◌, ◌<◌, ◌≤◌, Bool, true, false, ◌&&◌, eqb, List, length, get_or, slice_range, map, refl, sym, ◌∙◌, ap, ⊎_elim, arith}
+use Rattle.std.proofs.Common.{◌≡◌, ℕ, ◌+◌, ◌-◌, ◌*◌, ◌<◌, ◌≤◌, Bool, true, false, ◌&&◌, eqb, List, length, get_or, slice_range, map, refl, sym, ◌∙◌, ap, ⊎_elim}
+use Rattle.std.proofs.Common.{arith}
 use Rattle.std.specs.List.{range_with_len}
 use Rattle.std.proofs.lemmas.Bool.{ne_eqb, eq-eqb, eqb-true, and_left, and_right, and_parts, cases_lt, false≢true}
 use Rattle.std.proofs.lemmas.List.FromFn.{length-map-range_with_len, get_or-map-range_with_len}
@@ -31,15 +32,18 @@ key_seen block list same = record { at = λ i d within. ap (λ (item : Item). it
 
 -- the rules of a leaf, over its table
 rules_of : (block : List ℕ) → Bool
-rules_of block = is_packed (25 * entry_count block) (length block - 101) (map (item_at block) (range_with_len 0 (entry_count block))) && ascends (map (entry_key 25 block) (range_with_len 0 (entry_count block)))
+rules_of block = is_packed (25 * entry_count block) (length block - 101) (map (item_at block) (range_with_len 0 (entry_count block))) && ascends
+    (map (entry_key 25 block) (range_with_len 0 (entry_count block)))
 
-keys_of_items : (block : List ℕ) → map (λ (item : Item). item.key) (map (item_at block) (range_with_len 0 (entry_count block))) ≡ map (entry_key 25 block) (range_with_len 0 (entry_count block))
+keys_of_items : (block : List ℕ) → map (λ (item : Item). item.key) (map (item_at block) (range_with_len 0 (entry_count block)))
+    ≡ map (entry_key 25 block) (range_with_len 0 (entry_count block))
 unfolding item_at
 keys_of_items block = map-map (item_at block) (λ (item : Item). item.key) (range_with_len 0 (entry_count block))
 
 leaf_is : (block : List ℕ) → is_leaf block ≡ (eqb (level_of block) 0 && rules_of block)
 unfolding is_leaf items rules_of
-leaf_is block = ap (λ keys. eqb (level_of block) 0 && (is_packed (25 * entry_count block) (length block - 101) (map (item_at block) (range_with_len 0 (entry_count block))) && ascends keys)) (keys_of_items block)
+leaf_is block = ap (λ keys. eqb (level_of block) 0 && (is_packed (25 * entry_count block) (length block - 101)
+    (map (item_at block) (range_with_len 0 (entry_count block))) && ascends keys)) (keys_of_items block)
 
 -- a block of another level is no leaf
 pub leaf_level : (block : List ℕ) → (level_of block ≡ 0 → ⊥) → is_leaf block ≡ false
@@ -58,14 +62,17 @@ leaf_room block long =
     leaf_is block ∙ and_right _ _ (and_left _ _ packed)
 
 -- a block of level 0 is a leaf as its items' bytes and its keys say
-pub leaf_rules : (block : List ℕ) (n : ℕ) → n ≡ entry_count block → level_of block ≡ 0 → is_leaf block ≡ (is_packed (25 * n) (length block - 101) (map (item_at block) (range_with_len 0 n)) && ascends (map (entry_key 25 block) (range_with_len 0 n)))
+pub leaf_rules : (block : List ℕ) (n : ℕ) → n ≡ entry_count block → level_of block ≡ 0 → is_leaf block
+    ≡ (is_packed (25 * n) (length block - 101) (map (item_at block) (range_with_len 0 n)) && ascends (map (entry_key 25 block) (range_with_len 0 n)))
 unfolding rules_of
 leaf_rules block n count level =
     leaf_is block
     ∙ ap (λ test. test && rules_of block) (eq-eqb _ _ level)
-    ∙ ap (λ m. is_packed (25 * m) (length block - 101) (map (item_at block) (range_with_len 0 m)) && ascends (map (entry_key 25 block) (range_with_len 0 m))) (sym count)
+    ∙ ap (λ m. is_packed (25 * m) (length block - 101) (map (item_at block) (range_with_len 0 m)) && ascends
+    (map (entry_key 25 block) (range_with_len 0 m))) (sym count)
 
-parts_of : (block : List ℕ) → is_leaf block ≡ true → (is_packed (25 * entry_count block) (length block - 101) (map (item_at block) (range_with_len 0 (entry_count block))) ≡ true) × (ascends (map (entry_key 25 block) (range_with_len 0 (entry_count block))) ≡ true)
+parts_of : (block : List ℕ) → is_leaf block ≡ true → (is_packed (25 * entry_count block) (length block - 101)
+    (map (item_at block) (range_with_len 0 (entry_count block))) ≡ true) × (ascends (map (entry_key 25 block) (range_with_len 0 (entry_count block))) ≡ true)
 unfolding rules_of
 parts_of block good =
     let rules = (and_parts (eqb (level_of block) 0) (rules_of block) (sym (leaf_is block) ∙ good)).1 in
@@ -80,9 +87,14 @@ leaf_fits block header good =
     (cases_lt (length block - 101) (25 * entry_count block))
 
 -- the bytes of a good leaf's items lie in the block
-pub leaf_item_fits : (block : List ℕ) → 101 ≤ length block → is_leaf block ≡ true → (i : ℕ) → i < entry_count block → 101 + (item_at block i).offset + (item_at block i).size ≤ length block
+pub leaf_item_fits : (block : List ℕ) → 101 ≤ length block → is_leaf block ≡ true → (i : ℕ) → i < entry_count block → 101 + (item_at block i).offset
+    + (item_at block i).size ≤ length block
 leaf_item_fits block header good i within =
-    omega (arith, (packed_within block (25 * entry_count block) (length block - 101) 0 (entry_count block) (parts_of block good).0 i (omega arith) (omega arith)).1)
+    omega (
+      arith,
+      (packed_within block (25 * entry_count block) (length block - 101) 0 (entry_count block) (parts_of block good).0 i (omega arith)
+          (omega arith)).1,
+    )
 
 -- a good leaf has level 0, and the keys of its items ascend
 pub level-leaf : (block : List ℕ) → is_leaf block ≡ true → level_of block ≡ 0
@@ -97,10 +109,12 @@ pub leaf_ascends : (block : List ℕ) → is_leaf block ≡ true → IsAscending
 leaf_ascends block good i j less within =
     ascends-order (entry_key 25 block) 0 (entry_count block) (parts_of block good).1 i j (omega arith) less (omega arith)
 
-body-item_at : (block : List ℕ) (i : ℕ) → (item_at block i).body ≡ slice_range block (101 + (item_at block i).offset) (101 + (item_at block i).offset + (item_at block i).size)
+body-item_at : (block : List ℕ) (i : ℕ) → (item_at block i).body
+    ≡ slice_range block (101 + (item_at block i).offset) (101 + (item_at block i).offset + (item_at block i).size)
 unfolding item_at
 body-item_at block i = refl
 
 -- the bytes of an item, by numbers that equal its offset and its size
-pub item_body : (block : List ℕ) (i offset size : ℕ) → offset ≡ (item_at block i).offset → size ≡ (item_at block i).size → (item_at block i).body ≡ slice_range block (101 + offset) (101 + offset + size)
+pub item_body : (block : List ℕ) (i offset size : ℕ) → offset ≡ (item_at block i).offset → size ≡ (item_at block i).size → (item_at block i).body
+    ≡ slice_range block (101 + offset) (101 + offset + size)
 item_body block i offset size from many = body-item_at block i ∙ (λ t. slice_range block (101 + sym from t) (101 + sym from t + sym many t))

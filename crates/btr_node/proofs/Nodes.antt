@@ -30,4 +30,5 @@ pub leaf_is : (block : List ℕ) → is_leaf block ≡ true → node_of block �
 leaf_is block e = ap (λ b. cond b (Some (Leaf (items block))) (cond (is_inner block) (Some (Inner (pointers block))) None)) e
 
 pub inner_is : (block : List ℕ) → is_leaf block ≡ false → is_inner block ≡ true → node_of block ≡ Some (Inner (pointers block))
-inner_is block leafless e = ap (λ b. cond b (Some (Leaf (items block))) (cond (is_inner block) (Some (Inner (pointers block))) None)) leafless ∙ ap (λ b. cond b (Some (Inner (pointers block))) None) e
+inner_is block leafless e = ap (λ b. cond b (Some (Leaf (items block))) (cond (is_inner block) (Some (Inner (pointers block))) None)) leafless
+    ∙ ap (λ b. cond b (Some (Inner (pointers block))) None) e

@@ -10,7 +10,9 @@ abbrev pub packed_from : List ℕ → ℕ → ℕ → ℕ → ℕ → Bool
 packed_from block table n end i = is_packed table end (map (item_at block) (range_with_len i (n - i)))
 
 -- the first of them, and the others
-first_packed : (block : List ℕ) (table n end i : ℕ) → i < n → packed_from block table n end i ≡ (eqb ((item_at block i).offset + (item_at block i).size) end && (leb table (item_at block i).offset && packed_from block table n (item_at block i).offset (i + 1)))
+first_packed : (block : List ℕ) (table n end i : ℕ) → i < n → packed_from block table n end i
+    ≡ (eqb ((item_at block i).offset + (item_at block i).size) end &&
+    (leb table (item_at block i).offset && packed_from block table n (item_at block i).offset (i + 1)))
 first_packed block table n end i more = ap (λ l. is_packed table end (map (item_at block) l)) (range_first i n more)
 
 pub packed_all : (block : List ℕ) (table n end i : ℕ) → n ≤ i → packed_from block table n end i ≡ true
@@ -19,14 +21,16 @@ packed_all block table n end i done =
     ap (λ l. is_packed table end (map (item_at block) (range_with_len i l))) none
 
 -- an item that ends where it has to and begins behind the table
-pub packed_next : (block : List ℕ) (table n end i : ℕ) → i < n → (item_at block i).offset + (item_at block i).size ≡ end → table ≤ (item_at block i).offset → packed_from block table n end i ≡ packed_from block table n (item_at block i).offset (i + 1)
+pub packed_next : (block : List ℕ) (table n end i : ℕ) → i < n → (item_at block i).offset + (item_at block i).size ≡ end
+    → table ≤ (item_at block i).offset → packed_from block table n end i ≡ packed_from block table n (item_at block i).offset (i + 1)
 packed_next block table n end i more ends begins =
     first_packed block table n end i more
     ∙ ap (λ b. b && (leb table (item_at block i).offset && packed_from block table n (item_at block i).offset (i + 1))) (eq-eqb _ _ ends)
     ∙ ap (λ b. b && packed_from block table n (item_at block i).offset (i + 1)) (le-leb _ _ begins)
 
 -- an item that does not end where it has to
-pub packed_gap : (block : List ℕ) (table n end i : ℕ) → i < n → ((item_at block i).offset + (item_at block i).size ≡ end → ⊥) → packed_from block table n end i ≡ false
+pub packed_gap : (block : List ℕ) (table n end i : ℕ) → i < n → ((item_at block i).offset + (item_at block i).size ≡ end → ⊥)
+    → packed_from block table n end i ≡ false
 packed_gap block table n end i more ends = first_packed block table n end i more ∙ and_left _ _ (ne_eqb _ _ ends)
 
 -- an item that begins in the table
@@ -43,7 +47,8 @@ packed_too_many block table n end some long =
     (cases_lt item.offset table)
 
 -- each of the packed items lies behind the table and before the end
-pub packed_within : (block : List ℕ) (table end a n : ℕ) → is_packed table end (map (item_at block) (range_with_len a n)) ≡ true → (i : ℕ) → a ≤ i → i < a + n → (table ≤ (item_at block i).offset) × ((item_at block i).offset + (item_at block i).size ≤ end)
+pub packed_within : (block : List ℕ) (table end a n : ℕ) → is_packed table end (map (item_at block) (range_with_len a n)) ≡ true → (i : ℕ) → a ≤ i
+    → i < a + n → (table ≤ (item_at block i).offset) × ((item_at block i).offset + (item_at block i).size ≤ end)
 packed_within block table end a zero packed i low high = absurd (omega arith)
 packed_within block table end a (suc n) packed i low high =
     let item = item_at block a in
@@ -53,7 +58,8 @@ packed_within block table end a (suc n) packed i low high =
     let ends : item.offset + item.size ≡ end = eqb-true _ _ parts.0 in
     let begins : table ≤ item.offset = leb-true _ _ rest.0 in
     ⊎_elim
-    (λ (same : a ≡ i). subst (λ (k : ℕ). (table ≤ (item_at block k).offset) × ((item_at block k).offset + (item_at block k).size ≤ end)) same (begins, omega arith))
+    (λ (same : a ≡ i). subst (λ (k : ℕ). (table ≤ (item_at block k).offset) × ((item_at block k).offset + (item_at block k).size ≤ end)) same
+    (begins, omega arith))
     (λ (other : a ≡ i → ⊥).
     let later = packed_within block table item.offset (a + 1) n rest.1 i (omega arith) (omega arith) in
     (later.0, omega (arith, later.1, ends)))
@@ -65,7 +71,8 @@ pub record SoFar (whole : Bool) (block : List ℕ) (table n end i : ℕ) : Type 
   pub fits : table ≤ end → whole ≡ packed_from block table n end i
   pub broken : end < table → whole ≡ false
 
-pub so_far_next : (whole : Bool) (block : List ℕ) (table n end i : ℕ) → SoFar whole block table n end i → i < n → (item_at block i).offset + (item_at block i).size ≡ end → SoFar whole block table n (item_at block i).offset (i + 1)
+pub so_far_next : (whole : Bool) (block : List ℕ) (table n end i : ℕ) → SoFar whole block table n end i → i < n → (item_at block i).offset
+    + (item_at block i).size ≡ end → SoFar whole block table n (item_at block i).offset (i + 1)
 so_far_next whole block table n end i before more ends = record {
   fits = λ begins. before.fits (omega arith) ∙ packed_next block table n end i more ends begins;
   broken = λ low.
@@ -75,7 +82,8 @@ so_far_next whole block table n end i before more ends = record {
       (cases_lt end table);
 }
 
-pub so_far_gap : (whole : Bool) (block : List ℕ) (table n end i : ℕ) → SoFar whole block table n end i → i < n → ((item_at block i).offset + (item_at block i).size ≡ end → ⊥) → whole ≡ false
+pub so_far_gap : (whole : Bool) (block : List ℕ) (table n end i : ℕ) → SoFar whole block table n end i → i < n
+    → ((item_at block i).offset + (item_at block i).size ≡ end → ⊥) → whole ≡ false
 so_far_gap whole block table n end i before more ends =
     ⊎_elim
     (λ (lower : end < table). before.broken lower)

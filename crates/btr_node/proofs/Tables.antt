@@ -22,7 +22,8 @@ range_first i n more =
     ap (range_with_len i) steps
 
 -- keys ascend where each stands before the next
-pub ascends-all : (f : ℕ → Key) (a n : ℕ) → ((k : ℕ) → a ≤ k → k + 1 < a + n → key_number (f k) < key_number (f (k + 1))) → ascends (map f (range_with_len a n)) ≡ true
+pub ascends-all : (f : ℕ → Key) (a n : ℕ) → ((k : ℕ) → a ≤ k → k + 1 < a + n → key_number (f k) < key_number (f (k + 1)))
+    → ascends (map f (range_with_len a n)) ≡ true
 ascends-all f a zero each = refl
 ascends-all f a (suc zero) each = refl
 ascends-all f a (suc (suc n)) each =
@@ -41,7 +42,8 @@ ascends-not f a (suc (suc n)) k low high not =
     (cases_eq a k)
 
 -- in keys that ascend each stands before all behind it
-pub ascends-order : (f : ℕ → Key) (a n : ℕ) → ascends (map f (range_with_len a n)) ≡ true → (i j : ℕ) → a ≤ i → i < j → j < a + n → key_number (f i) < key_number (f j)
+pub ascends-order : (f : ℕ → Key) (a n : ℕ) → ascends (map f (range_with_len a n)) ≡ true → (i j : ℕ) → a ≤ i → i < j → j < a + n
+    → key_number (f i) < key_number (f j)
 ascends-order f a zero up i j low less high = absurd (omega arith)
 ascends-order f a (suc zero) up i j low less high = absurd (omega arith)
 ascends-order f a (suc (suc n)) up i j low less high =
@@ -52,7 +54,8 @@ ascends-order f a (suc (suc n)) up i j low less high =
     (λ (same : a ≡ i).
     ⊎_elim
     (λ (next : a + 1 ≡ j). subst (λ (k : ℕ). key_number (f k) < key_number (f j)) same (subst (λ (k : ℕ). key_number (f a) < key_number (f k)) next step))
-    (λ (far : a + 1 ≡ j → ⊥). subst (λ (k : ℕ). key_number (f k) < key_number (f j)) same (omega (arith, step, rest (a + 1) j (omega arith) (omega arith) (omega arith))))
+    (λ (far : a + 1 ≡ j → ⊥). subst (λ (k : ℕ). key_number (f k) < key_number (f j)) same
+    (omega (arith, step, rest (a + 1) j (omega arith) (omega arith) (omega arith))))
     (cases_eq (a + 1) j))
     (λ (other : a ≡ i → ⊥). rest i j (omega arith) less (omega arith))
     (cases_eq a i)
@@ -67,8 +70,10 @@ first_before key (next ∷ keys) d up (suc j) within =
     omega (arith, step, first_before next keys d parts.1 j (omega arith))
 
 -- each of them stands before all behind it
-pub ascends-pairs : (keys : List Key) → ascends keys ≡ true → (i j : ℕ) (d : Key) → i < j → j < length keys → key_number (get_or keys i d) < key_number (get_or keys j d)
+pub ascends-pairs : (keys : List Key) → ascends keys ≡ true → (i j : ℕ) (d : Key) → i < j → j < length keys
+    → key_number (get_or keys i d) < key_number (get_or keys j d)
 ascends-pairs [] up i j d less within = absurd (omega arith)
 ascends-pairs (key ∷ keys) up i zero d less within = absurd (omega arith)
 ascends-pairs (key ∷ keys) up zero (suc j) d less within = first_before key keys d up j (omega arith)
-ascends-pairs (key ∷ keys) up (suc i) (suc j) d less within = ascends-pairs keys (and_parts (is_before key keys) (ascends keys) up).1 i j d (omega arith) (omega arith)
+ascends-pairs (key ∷ keys) up (suc i) (suc j) d less within = ascends-pairs keys (and_parts (is_before key keys) (ascends keys) up).1 i j d
+    (omega arith) (omega arith)

@@ -5,7 +5,8 @@ use Rattle.std.proofs.lemmas.List.{length-set, set-get_or, ext_get_or, get_or-se
 use Rattle.std.proofs.lemmas.List.Elements.{All-nil, All-cons, All-get_or, All-contains}
 use Rattle.btr_parity.specs.Slices.{IsSlice, zeros, plus, parity_p, parity_q}
 use Rattle.btr_parity.specs.Solutions.{IsTheOne, FitsP, FitsQ, FitsBoth}
-use Rattle.btr_parity.specs.Ways.{Element, Slice, ParityP, ParityQ, Way, AsItStands, ByP, ByQ, ByBoth, IsWay, Reads, Stripe, bytes_of, IsConsistent, Gives, SomeWayReadsNoneWrong, RightElementsGiveRightSlice, SomeWayGivesRightSlice}
+use Rattle.btr_parity.specs.Ways.{Element, Slice, ParityP, ParityQ, Way, AsItStands, ByP, ByQ, ByBoth, IsWay, Reads, Stripe, bytes_of, IsConsistent, Gives}
+use Rattle.btr_parity.specs.Ways.{SomeWayReadsNoneWrong, RightElementsGiveRightSlice, SomeWayGivesRightSlice}
 use Rattle.btr_parity.proofs.Folding.{quotient_is_one, pair_is_one}
 use Rattle.btr_parity.proofs.Lost.{lost_by_p, lost_by_q, lost_by_both, plus_slice, parity_p_slice, weighted_slice, cleared}
 
@@ -90,7 +91,8 @@ some_way_reads_none_wrong n k parity wrong lt most few = choose n k parity wrong
 settled : (size : ℕ) (E : List ℕ → Type 0) (X Y : List ℕ) → IsTheOne size E Y → IsSlice size X → E X → IsTheOne size E X
 settled size E X Y one slice meets = subst (λ Z. IsTheOne size E Z) (sym (one.only X slice meets)) one
 
-same_equations : (size : ℕ) (E F : List ℕ → Type 0) (X : List ℕ) → ((Z : List ℕ) → E Z → F Z) → ((Z : List ℕ) → F Z → E Z) → IsTheOne size E X → IsTheOne size F X
+same_equations : (size : ℕ) (E F : List ℕ → Type 0) (X : List ℕ) → ((Z : List ℕ) → E Z → F Z) → ((Z : List ℕ) → F Z → E Z) → IsTheOne size E X
+    → IsTheOne size F X
 same_equations size E F X to from one = record { slice = one.slice; meets = to X one.meets; only = λ Z slice meets. one.only Z slice (from Z meets) }
 
 module _ (size n k : ℕ) (held right : Stripe) (lt : k < n) (most : n ≤ 63) (count : length held.slices ≡ n) (whole : IsConsistent size n right) where
@@ -114,7 +116,8 @@ module _ (size n k : ℕ) (held right : Stripe) (lt : k < n) (most : n ≤ 63) (
   with_one same Z =
       ext_get_or [] (set held.slices k Z) (set right.slices k Z) (length-set held.slices k Z ∙ count ∙ sym whole.count ∙ sym (length-set right.slices k Z))
       (λ i h. let within : i < n = omega (arith, length-set held.slices k Z) in
-      ⊎_elim (λ e. ap (λ m. get_or (set held.slices k Z) m []) e ∙ get_or-set_same held.slices k Z [] (omega arith) ∙ sym (ap (λ m. get_or (set right.slices k Z) m []) e ∙ get_or-set_same right.slices k Z [] (omega (arith, whole.count))))
+      ⊎_elim (λ e. ap (λ m. get_or (set held.slices k Z) m []) e ∙ get_or-set_same held.slices k Z [] (omega arith)
+      ∙ sym (ap (λ m. get_or (set right.slices k Z) m []) e ∙ get_or-set_same right.slices k Z [] (omega (arith, whole.count))))
       (λ ne. get_or-set_other held.slices k i Z [] ne ∙ same i within ne ∙ sym (get_or-set_other right.slices k i Z [] ne)) (cases_eq i k))
 
   by_p : ((i : ℕ) → i < n → i ≢ k → get_or held.slices i [] ≡ get_or right.slices i []) → held.p ≡ right.p → Gives size held k ByP slice
@@ -131,7 +134,8 @@ module _ (size n k : ℕ) (held right : Stripe) (lt : k < n) (most : n ≤ 63) (
       let found = quotient_is_one size k (plus right.q R) (omega arith) (plus_slice size right.q R q_is hR) in
       same_equations size (FitsQ size right.slices right.q k) (FitsQ size held.slices held.q k) slice
       (λ Z e. ap (parity_q size) (with_one same Z) ∙ e ∙ sym q) (λ Z e. ap (parity_q size) (sym (with_one same Z)) ∙ e ∙ q)
-      (settled size (FitsQ size right.slices right.q k) slice found.0 (lost_by_q size k right.slices right.q found.0 whole.sizes (omega (arith, whole.count)) q_is found.1) slice_is
+      (settled size (FitsQ size right.slices right.q k) slice found.0
+      (lost_by_q size k right.slices right.q found.0 whole.sizes (omega (arith, whole.count)) q_is found.1) slice_is
       (ap (parity_q size) (set-get_or right.slices k []) ∙ whole.q))
 
   -- and where all but two are right, with any slices in both places
@@ -139,11 +143,13 @@ module _ (size n k : ℕ) (held right : Stripe) (lt : k < n) (most : n ≤ 63) (
       → (Y Z : List ℕ) → set (set held.slices j Y) k Z ≡ set (set right.slices j Y) k Z
   with_two j within same Y Z =
       ext_get_or [] (set (set held.slices j Y) k Z) (set (set right.slices j Y) k Z)
-      (length-set (set held.slices j Y) k Z ∙ length-set held.slices j Y ∙ count ∙ sym whole.count ∙ sym (length-set (set right.slices j Y) k Z ∙ length-set right.slices j Y))
+      (length-set (set held.slices j Y) k Z ∙ length-set held.slices j Y ∙ count ∙ sym whole.count
+      ∙ sym (length-set (set right.slices j Y) k Z ∙ length-set right.slices j Y))
       (λ i h. let inside : i < n = omega (arith, length-set (set held.slices j Y) k Z, length-set held.slices j Y) in
       ⊎_elim
       (λ e. ap (λ m. get_or (set (set held.slices j Y) k Z) m []) e ∙ get_or-set_same (set held.slices j Y) k Z [] (omega (arith, length-set held.slices j Y))
-      ∙ sym (ap (λ m. get_or (set (set right.slices j Y) k Z) m []) e ∙ get_or-set_same (set right.slices j Y) k Z [] (omega (arith, whole.count, length-set right.slices j Y))))
+      ∙ sym (ap (λ m. get_or (set (set right.slices j Y) k Z) m []) e
+      ∙ get_or-set_same (set right.slices j Y) k Z [] (omega (arith, whole.count, length-set right.slices j Y))))
       (λ ne. get_or-set_other (set held.slices j Y) k i Z [] ne
       ∙ ⊎_elim
       (λ e. ap (λ m. get_or (set held.slices j Y) m []) e ∙ get_or-set_same held.slices j Y [] (omega arith)
@@ -151,7 +157,8 @@ module _ (size n k : ℕ) (held right : Stripe) (lt : k < n) (most : n ≤ 63) (
       (λ other. get_or-set_other held.slices j i Y [] other ∙ same i inside ne other ∙ sym (get_or-set_other right.slices j i Y [] other)) (cases_eq i j)
       ∙ sym (get_or-set_other (set right.slices j Y) k i Z [] ne)) (cases_eq i k))
 
-  by_both : (j : ℕ) → j < n → j ≢ k → ((i : ℕ) → i < n → i ≢ k → i ≢ j → get_or held.slices i [] ≡ get_or right.slices i []) → held.p ≡ right.p → held.q ≡ right.q
+  by_both : (j : ℕ) → j < n → j ≢ k → ((i : ℕ) → i < n → i ≢ k → i ≢ j → get_or held.slices i [] ≡ get_or right.slices i []) → held.p ≡ right.p
+      → held.q ≡ right.q
       → Gives size held k (ByBoth j) slice
   by_both j within differ same p q =
       let others = set (set right.slices j (zeros size)) k (zeros size) in
@@ -177,7 +184,8 @@ module _ (size n k : ℕ) (held right : Stripe) (lt : k < n) (most : n ≤ 63) (
         weighted_sum = ap (parity_q size) (sym (with_two j within same e.other Z)) ∙ e.weighted_sum ∙ q;
       })
       (settled size (FitsBoth size right.slices right.p right.q k j) slice found.0
-      (lost_by_both size k j right.slices right.p right.q found.0 whole.sizes (omega (arith, whole.count)) (omega (arith, whole.count)) ne p_is q_is found.1) slice_is
+      (lost_by_both size k j right.slices right.p right.q found.0 whole.sizes (omega (arith, whole.count)) (omega (arith, whole.count)) ne p_is q_is
+      found.1) slice_is
       (record {
         other = Y;
         slice = All-get_or (IsSlice size) right.slices j [] (omega (arith, whole.count)) whole.sizes;
@@ -185,7 +193,8 @@ module _ (size n k : ℕ) (held right : Stripe) (lt : k < n) (most : n ≤ 63) (
         weighted_sum = ap (parity_q size) back ∙ whole.q;
       }))
 
-  gives : (parity : ℕ) (way : Way) → IsWay n k parity way → ((element : Element) → Reads n k way element → bytes_of held element ≡ bytes_of right element) → Gives size held k way slice
+  gives : (parity : ℕ) (way : Way) → IsWay n k parity way → ((element : Element) → Reads n k way element → bytes_of held element
+      ≡ bytes_of right element) → Gives size held k way slice
   gives parity AsItStands is same = same (Slice k) refl
   gives parity ByP is same = by_p (λ i h ne. same (Slice i) (h, ne)) (same ParityP tt)
   gives parity ByQ is same = by_q (λ i h ne. same (Slice i) (h, ne)) (same ParityQ tt)

@@ -1,5 +1,6 @@
 -- P and Q, slice by slice; and that the equations of lost slices have solutions.
-use Rattle.std.proofs.Common.{◌≡◌, ℕ, suc, ◌+◌, ◌^◌, ◌<◌, List, [], ◌∷◌, ◌++◌, All, length, get_or, take, refl, sym, ap, ap₂, ◌∙◌, subst, ⊎_elim, arith, bit_xor}
+use Rattle.std.proofs.Common.{◌≡◌, ℕ, suc, ◌+◌, ◌^◌, ◌<◌, List, [], ◌∷◌, ◌++◌, All, length, get_or, take, refl, sym, ap, ap₂, ◌∙◌, subst, ⊎_elim, arith}
+use Rattle.std.proofs.Common.{bit_xor}
 use Rattle.std.specs.Simd.Lanes.{zip2}
 use Rattle.std.proofs.lemmas.Bool.{cases_eq}
 use Rattle.std.proofs.lemmas.Nat.{xor_lt}
@@ -22,7 +23,8 @@ unfolding parity_p
 p_of_one_more size [] d h = plus_comm d (zeros size)
 p_of_one_more size (e ∷ ds) d h = ap (plus e) (p_of_one_more size ds d h) ∙ sym (plus_assoc e (parity_p size ds) d)
 
-weighted_one_more : (size k : ℕ) (ds : List (List ℕ)) (d : List ℕ) → weighted size k (ds ++ d ∷ []) ≡ plus (weighted size k ds) (scaled (power (k + length ds)) d)
+weighted_one_more : (size k : ℕ) (ds : List (List ℕ)) (d : List ℕ) → weighted size k (ds ++ d ∷ [])
+    ≡ plus (weighted size k ds) (scaled (power (k + length ds)) d)
 unfolding weighted
 weighted_one_more size k [] d =
     let here : k ≡ k + 0 = omega arith in
@@ -43,7 +45,8 @@ unfolding power
 scaled_twice k [] h = refl
 scaled_twice k (x ∷ xs) h =
     let more : k + 1 ≡ suc k = omega arith in
-    ap₂ (λ y ys. y ∷ ys) (ap (λ n. product (power n) x) more ∙ product_assoc 2 (power k) x (omega arith) (power-lt k) (All-head IsByte x xs h)) (scaled_twice k xs (All-tail IsByte x xs h))
+    ap₂ (λ y ys. y ∷ ys) (ap (λ n. product (power n) x) more ∙ product_assoc 2 (power k) x (omega arith) (power-lt k) (All-head IsByte x xs h))
+    (scaled_twice k xs (All-tail IsByte x xs h))
 
 scaled_once : (xs : List ℕ) → All IsByte xs → scaled (power 0) xs ≡ xs
 unfolding power
@@ -57,7 +60,8 @@ weighted_next size k (d ∷ ds) h =
     ap₂ plus (scaled_twice k d (All-head (IsSlice size) d ds h).bytes) (weighted_next size (k + 1) ds (All-tail (IsSlice size) d ds h))
     ∙ sym (scaled-plus 2 (scaled (power k) d) (weighted size (k + 1) ds))
 
-q_of_one_before : (size : ℕ) (ds : List (List ℕ)) (d : List ℕ) → All (IsSlice size) ds → IsSlice size d → parity_q size (d ∷ ds) ≡ plus (scaled 2 (parity_q size ds)) d
+q_of_one_before : (size : ℕ) (ds : List (List ℕ)) (d : List ℕ) → All (IsSlice size) ds → IsSlice size d → parity_q size (d ∷ ds)
+    ≡ plus (scaled 2 (parity_q size ds)) d
 unfolding weighted
 q_of_one_before size ds d h hd =
     ap₂ plus (scaled_once d hd.bytes) (weighted_next size 0 ds h) ∙ plus_comm d (scaled 2 (parity_q size ds))
@@ -90,15 +94,19 @@ folding_onto_p = record {
       let d = get_or ds k [] in
       let hd = All-get_or (IsSlice size) ds k [] lt h in
       let long = (parity_p_slice size (take k ds) (All-take (IsSlice size) k ds h)).long in
-      ap (plus P) (sym (ap (parity_p size) (front_more ds k lt) ∙ p_of_one_more size (take k ds) d hd ∙ ap (plus (parity_p size (take k ds))) e ∙ plus-zeros (parity_p size (take k ds)) size long));
-  from_zeros = λ size ds h. ap (λ l. plus (zeros size) (parity_p size l)) (take_all (length ds) ds (omega arith)) ∙ plus_comm (zeros size) (parity_p size ds) ∙ plus-zeros (parity_p size ds) size (parity_p_slice size ds h).long;
+      ap (plus P) (sym (ap (parity_p size) (front_more ds k lt) ∙ p_of_one_more size (take k ds) d hd ∙ ap (plus (parity_p size (take k ds))) e
+      ∙ plus-zeros (parity_p size (take k ds)) size long));
+  from_zeros = λ size ds h. ap (λ l. plus (zeros size) (parity_p size l)) (take_all (length ds) ds (omega arith))
+      ∙ plus_comm (zeros size) (parity_p size ds) ∙ plus-zeros (parity_p size ds) size (parity_p_slice size ds h).long;
 }
 
 -- Q of one slice more
-q_front_more : (size k : ℕ) (ds : List (List ℕ)) → k < length ds → parity_q size (take (k + 1) ds) ≡ plus (parity_q size (take k ds)) (scaled (power k) (get_or ds k []))
+q_front_more : (size k : ℕ) (ds : List (List ℕ)) → k < length ds → parity_q size (take (k + 1) ds)
+    ≡ plus (parity_q size (take k ds)) (scaled (power k) (get_or ds k []))
 q_front_more size k ds lt =
     let long : length (take k ds) ≡ k = length-take-le k ds (omega arith) in
-    ap (parity_q size) (front_more ds k lt) ∙ q_of_one_more size (take k ds) (get_or ds k []) ∙ ap (λ n. plus (parity_q size (take k ds)) (scaled (power n) (get_or ds k []))) long
+    ap (parity_q size) (front_more ds k lt) ∙ q_of_one_more size (take k ds) (get_or ds k [])
+    ∙ ap (λ n. plus (parity_q size (take k ds)) (scaled (power n) (get_or ds k []))) long
 
 pub folding_onto_q : FoldingOntoQ
 unfolding weighted
@@ -109,7 +117,8 @@ folding_onto_q = record {
       let long = (weighted_slice size 0 (take k ds) (All-take (IsSlice size) k ds h)).long in
       ap (plus Q) (sym (q_front_more size k ds lt ∙ ap (λ d. plus (parity_q size (take k ds)) (scaled (power k) d)) e
       ∙ ap (plus (parity_q size (take k ds))) (scaled-zeros (power k) size) ∙ plus-zeros (parity_q size (take k ds)) size long));
-  from_zeros = λ size ds h. ap (λ l. plus (zeros size) (parity_q size l)) (take_all (length ds) ds (omega arith)) ∙ plus_comm (zeros size) (parity_q size ds) ∙ plus-zeros (parity_q size ds) size (weighted_slice size 0 ds h).long;
+  from_zeros = λ size ds h. ap (λ l. plus (zeros size) (parity_q size l)) (take_all (length ds) ds (omega arith))
+      ∙ plus_comm (zeros size) (parity_q size ds) ∙ plus-zeros (parity_q size ds) size (weighted_slice size 0 ds h).long;
 }
 
 -- ---- solutions

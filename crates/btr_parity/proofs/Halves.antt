@@ -5,7 +5,8 @@ use Rattle.std.specs.Simd.Lanes.{zip2, Each1}
 use Rattle.std.proofs.lemmas.Nat.{and_mask, xor_block}
 use Rattle.std.proofs.lemmas.List.FromFn.{get_or-map-range_with_len}
 use Rattle.std.proofs.lemmas.List.{length-map, ext_get_or, get_or-map}
-use Rattle.std.proofs.lemmas.Simd.{SwzOk, swz_l, length-zip2, length-swz_l, get_or-zip2, get_or-swz_l_below, get_or-replicate, Each1-get_or, Each1-from_get_or, SwzOk-from_below}
+use Rattle.std.proofs.lemmas.Simd.{SwzOk, swz_l, length-zip2, length-swz_l, get_or-zip2, get_or-swz_l_below, get_or-replicate, Each1-get_or, Each1-from_get_or}
+use Rattle.std.proofs.lemmas.Simd.{SwzOk-from_below}
 use lib.Bits.{bit_and}
 use Rattle.btr_parity.specs.Field.{product}
 use Rattle.btr_parity.specs.Multiples.{multiples}
@@ -47,7 +48,8 @@ module _ (bytes : List ℕ) (long : length bytes ≡ 16) (fits : Each1 (Fits w8)
   get_or-low_of : (i : ℕ) → i < 16 → get_or (low_of bytes) i 0 ≡ get_or bytes i 0 % 16
   unfolding low_of
   get_or-low_of i lt =
-      get_or-zip2 bit_and bytes (replicate 16 15) i 0 0 0 (omega arith) lt ∙ ap (bit_and (get_or bytes i 0)) (get_or-replicate 16 i 15 0 lt) ∙ low_half (get_or bytes i 0)
+      get_or-zip2 bit_and bytes (replicate 16 15) i 0 0 0 (omega arith) lt ∙ ap (bit_and (get_or bytes i 0)) (get_or-replicate 16 i 15 0 lt)
+      ∙ low_half (get_or bytes i 0)
 
   get_or-high_of : (i : ℕ) → i < 16 → get_or (high_of bytes) i 0 ≡ get_or bytes i 0 / 16
   unfolding high_of
@@ -67,10 +69,12 @@ module _ (bytes : List ℕ) (long : length bytes ≡ 16) (fits : Each1 (Fits w8)
       (Each1-from_get_or (λ j. j < 16) (high_of bytes) 0 (λ i lt. let within : i < 16 = omega (arith, length-high_of) in omega (arith, get_or-high_of i within, byte_at i within)))
 
   -- what a table gives at a place
-  found : (factor step : ℕ) (js : List ℕ) (i j : ℕ) → length js ≡ 16 → i < 16 → get_or js i 0 ≡ j → j < 16 → get_or (swz_l w8 16 (multiples factor step) 0 js) i 0 ≡ product factor (step * j)
+  found : (factor step : ℕ) (js : List ℕ) (i j : ℕ) → length js ≡ 16 → i < 16 → get_or js i 0 ≡ j → j < 16
+      → get_or (swz_l w8 16 (multiples factor step) 0 js) i 0 ≡ product factor (step * j)
   found factor step js i j len lt is small =
       let place : 16 * ((0 + i) / 16) + get_or js i 0 ≡ j = omega arith in
-      get_or-swz_l_below w8 16 (multiples factor step) 0 js i (omega arith) (omega arith) ∙ ap (λ k. get_or (multiples factor step) k 0) place ∙ entry factor step j small
+      get_or-swz_l_below w8 16 (multiples factor step) 0 js i (omega arith) (omega arith) ∙ ap (λ k. get_or (multiples factor step) k 0) place
+      ∙ entry factor step j small
 
   lows : ℕ → List ℕ
   lows factor = swz_l w8 16 (multiples factor 1) 0 (low_of bytes)
@@ -103,7 +107,8 @@ module _ (bytes : List ℕ) (long : length bytes ≡ 16) (fits : Each1 (Fits w8)
       (λ i lt. let within : i < 16 = omega (arith, len) in at_lane factor i within ∙ sym (get_or-map (product factor) bytes i 0 0 (omega arith)))
 
   pub scaled_by_halves : (factor : ℕ) (low high : List ℕ) → low ≡ multiples factor 1 → high ≡ multiples factor 16
-      → zip2 bit_xor (swz_l w8 16 low 0 (zip2 bit_and bytes (replicate 16 15))) (swz_l w8 16 high 0 (zip2 (λ a s. a / 2 ^ s) bytes (replicate 16 4))) ≡ map (product factor) bytes
+      → zip2 bit_xor (swz_l w8 16 low 0 (zip2 bit_and bytes (replicate 16 15))) (swz_l w8 16 high 0 (zip2 (λ a s. a / 2 ^ s) bytes (replicate 16 4)))
+      ≡ map (product factor) bytes
   unfolding lows highs low_of high_of
   scaled_by_halves factor low high el eh =
       ap₂ (λ l h. zip2 bit_xor (swz_l w8 16 l 0 (low_of bytes)) (swz_l w8 16 h 0 (high_of bytes))) el eh ∙ looked_up factor

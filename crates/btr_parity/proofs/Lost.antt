@@ -86,7 +86,8 @@ sums_of_slices = record {
 
 -- ---- one slice among others
 
-pub parity_p-set : (size i : ℕ) (ds : List (List ℕ)) (X : List ℕ) → All (IsSlice size) ds → i < length ds → parity_p size (set ds i X) ≡ plus X (parity_p size (set ds i (zeros size)))
+pub parity_p-set : (size i : ℕ) (ds : List (List ℕ)) (X : List ℕ) → All (IsSlice size) ds → i < length ds → parity_p size (set ds i X)
+    ≡ plus X (parity_p size (set ds i (zeros size)))
 unfolding parity_p
 parity_p-set size i [] X h lt = absurd (omega arith)
 parity_p-set size zero (d ∷ ds) X h lt =
@@ -103,7 +104,8 @@ weighted-set size k zero (d ∷ ds) X h lt =
     let rest = weighted_slice size (k + 1) ds (All-tail (IsSlice size) d ds h) in
     let here : k ≡ k + 0 = omega arith in
     ap₂ (λ n w. plus (scaled (power n) X) w) here
-    (sym (ap (λ z. plus z (weighted size (k + 1) ds)) (scaled-zeros (power k) size) ∙ plus_comm (zeros size) (weighted size (k + 1) ds) ∙ plus-zeros (weighted size (k + 1) ds) size rest.long))
+    (sym (ap (λ z. plus z (weighted size (k + 1) ds)) (scaled-zeros (power k) size) ∙ plus_comm (zeros size) (weighted size (k + 1) ds)
+    ∙ plus-zeros (weighted size (k + 1) ds) size rest.long))
 weighted-set size k (suc i) (d ∷ ds) X h lt =
     let there : k + 1 + i ≡ k + suc i = omega arith in
     let rest = weighted size (k + 1) (set ds i (zeros size)) in
@@ -145,7 +147,8 @@ lost_by_q size i ds Q X h lt hQ one =
     record {
       slice = one.slice;
       meets = parity_q-set size i ds X h lt ∙ put_back size (scaled (power i) X) R Q hQ hR one.meets;
-      only = λ Z hZ e. one.only Z hZ (taken_away size (scaled (power i) Z) R Q (scaled_slice size (power i) Z (power-lt i) hZ) hR (sym (parity_q-set size i ds Z h lt) ∙ e));
+      only = λ Z hZ e. one.only Z hZ (taken_away size (scaled (power i) Z) R Q (scaled_slice size (power i) Z (power-lt i) hZ) hR
+          (sym (parity_q-set size i ds Z h lt) ∙ e));
     }
 
 -- ---- two slices among others
@@ -176,11 +179,13 @@ module _ (size i j : ℕ) (ds : List (List ℕ)) (h : All (IsSlice size) ds) (li
       ∙ ap (plus X) (parity_p-set size j (set ds i (zeros size)) Y (cleared size i ds h) within_second ∙ ap (λ es. plus Y (parity_p size es)) to_others)
       ∙ sym (plus_assoc X Y (parity_p size others))
 
-  parity_q-both : (X Y : List ℕ) → IsSlice size Y → parity_q size (set (set ds j Y) i X) ≡ plus (plus (scaled (power i) X) (scaled (power j) Y)) (parity_q size others)
+  parity_q-both : (X Y : List ℕ) → IsSlice size Y → parity_q size (set (set ds j Y) i X)
+      ≡ plus (plus (scaled (power i) X) (scaled (power j) Y)) (parity_q size others)
   parity_q-both X Y hY =
       parity_q-set size i (set ds j Y) X (All-set (IsSlice size) ds j Y hY h) (within_first Y)
       ∙ ap (λ es. plus (scaled (power i) X) (parity_q size es)) (set_comm ds j i Y (zeros size) swapped)
-      ∙ ap (plus (scaled (power i) X)) (parity_q-set size j (set ds i (zeros size)) Y (cleared size i ds h) within_second ∙ ap (λ es. plus (scaled (power j) Y) (parity_q size es)) to_others)
+      ∙ ap (plus (scaled (power i) X)) (parity_q-set size j (set ds i (zeros size)) Y (cleared size i ds h) within_second
+      ∙ ap (λ es. plus (scaled (power j) Y) (parity_q size es)) to_others)
       ∙ sym (plus_assoc (scaled (power i) X) (scaled (power j) Y) (parity_q size others))
 
   pub by_both : (P Q X : List ℕ) → IsSlice size P → IsSlice size Q
@@ -209,7 +214,8 @@ module _ (size i j : ℕ) (ds : List (List ℕ)) (h : All (IsSlice size) ds) (li
               other = T;
               slice = subst (λ n. IsSlice n T) (sym long) fits.slice;
               sum = taken_away size (plus Z T) R P (plus_slice size Z T hZ fits.slice) hR (sym (parity_p-both Z T fits.slice) ∙ fits.sum);
-              weighted_sum = taken_away size (plus (scaled (power i) Z) (scaled (power j) T)) S Q (plus_slice size (scaled (power i) Z) (scaled (power j) T) sZ sT) hS
+              weighted_sum = taken_away size (plus (scaled (power i) Z) (scaled (power j) T)) S Q
+                  (plus_slice size (scaled (power i) Z) (scaled (power j) T) sZ sT) hS
                   (sym (parity_q-both Z T fits.slice) ∙ fits.weighted_sum);
             });
       }

@@ -5,7 +5,8 @@ use Rattle.std.proofs.lemmas.Bool.{eqb-true}
 use Rattle.std.proofs.lemmas.Nat.{xor_shr, xor_mod, xor_block, pow_pos, mod-pow-add, mod_below}
 use borrow.Author.Tests.{ltb-true}
 use Rattle.btr_parity.specs.Field.{modulus, multiplied, reduced, product, power}
-use Rattle.btr_parity.proofs.Additive.{IsAdditive, zero_of, xor_swap, double-xor, coefficient-xor, coefficients-xor, after, identity, same_below, small_below, upto, upto_holds}
+use Rattle.btr_parity.proofs.Additive.{IsAdditive, zero_of, xor_swap, double-xor, coefficient-xor, coefficients-xor, after, identity, same_below, small_below}
+use Rattle.btr_parity.proofs.Additive.{upto, upto_holds}
 
 -- ---- products keep sums
 
@@ -28,7 +29,8 @@ unfolding multiplied
 multiplied-left zero a b c = sym (xor_self 0)
 multiplied-left (suc n) a b c =
     ap₂ bit_xor (ap (λ x. x * c) (low-xor a b) ∙ coefficients-xor (a % 2) (b % 2) c (omega arith) (omega arith))
-    (ap (λ x. 2 * multiplied n x c) (half-xor a b) ∙ ap (λ x. 2 * x) (multiplied-left n (a / 2) (b / 2) c) ∙ double-xor (multiplied n (a / 2) c) (multiplied n (b / 2) c))
+    (ap (λ x. 2 * multiplied n x c) (half-xor a b) ∙ ap (λ x. 2 * x) (multiplied-left n (a / 2) (b / 2) c)
+    ∙ double-xor (multiplied n (a / 2) c) (multiplied n (b / 2) c))
     ∙ xor_swap (a % 2 * c) (b % 2 * c) (2 * multiplied n (a / 2) c) (2 * multiplied n (b / 2) c)
 
 -- the coefficient of x^k
@@ -74,7 +76,8 @@ product_comm a b h k =
     by_left : (j : ℕ) → j < 8 → product a (2 ^ j) ≡ product (2 ^ j) a
     by_left j lt =
         same_below 8 (λ a. product a (2 ^ j)) (product (2 ^ j)) (product-left (2 ^ j)) (product-right (2 ^ j))
-        (λ i less. equal (λ k. product (2 ^ i) (2 ^ k)) (λ k. product (2 ^ k) (2 ^ i)) 8 (upto_holds (λ j. upto (λ k. eqb (product (2 ^ j) (2 ^ k)) (product (2 ^ k) (2 ^ j))) 8) 8 i all_turned less) j lt)
+        (λ i less. equal (λ k. product (2 ^ i) (2 ^ k)) (λ k. product (2 ^ k) (2 ^ i)) 8
+        (upto_holds (λ j. upto (λ k. eqb (product (2 ^ j) (2 ^ k)) (product (2 ^ k) (2 ^ j))) 8) 8 i all_turned less) j lt)
         a h
 
 all_small : upto (λ j. upto (λ k. ltb (product (2 ^ j) (2 ^ k)) (2 ^ 8)) 8) 8 ≡ true
@@ -87,7 +90,9 @@ product-lt a b h k = small_below 8 8 (product a) (product-right a) (λ j lt. by_
     by_left : (j : ℕ) → j < 8 → product a (2 ^ j) < 2 ^ 8
     by_left j lt =
         small_below 8 8 (λ a. product a (2 ^ j)) (product-left (2 ^ j))
-        (λ i less. ltb-true (product (2 ^ i) (2 ^ j)) (2 ^ 8) (upto_holds (λ k. ltb (product (2 ^ i) (2 ^ k)) (2 ^ 8)) 8 j (upto_holds (λ j. upto (λ k. ltb (product (2 ^ j) (2 ^ k)) (2 ^ 8)) 8) 8 i all_small less) lt))
+        (λ i less. ltb-true (product (2 ^ i) (2 ^ j)) (2 ^ 8)
+        (upto_holds (λ k. ltb (product (2 ^ i) (2 ^ k)) (2 ^ 8)) 8 j
+        (upto_holds (λ j. upto (λ k. ltb (product (2 ^ j) (2 ^ k)) (2 ^ 8)) 8) 8 i all_small less) lt))
         a h
 
 all_joined : upto (λ i. upto (λ j. upto (λ k. eqb (product (product (2 ^ i) (2 ^ j)) (2 ^ k)) (product (2 ^ i) (product (2 ^ j) (2 ^ k)))) 8) 8) 8 ≡ true
@@ -96,7 +101,8 @@ all_joined = refl
 
 pub product_assoc : (a b c : ℕ) → a < 2 ^ 8 → b < 2 ^ 8 → c < 2 ^ 8 → product (product a b) c ≡ product a (product b c)
 product_assoc a b c la lb lc =
-    same_below 8 (product (product a b)) (λ c. product a (product b c)) (product-right (product a b)) (after (product a) (product b) (product-right a) (product-right b))
+    same_below 8 (product (product a b)) (λ c. product a (product b c)) (product-right (product a b))
+    (after (product a) (product b) (product-right a) (product-right b))
     (λ k lt. by_second k lt) c lc
   where
     by_first : (j k : ℕ) → j < 8 → k < 8 → product (product a (2 ^ j)) (2 ^ k) ≡ product a (product (2 ^ j) (2 ^ k))
@@ -105,7 +111,8 @@ product_assoc a b c la lb lc =
         (after (λ a. product a (2 ^ k)) (λ a. product a (2 ^ j)) (product-left (2 ^ k)) (product-left (2 ^ j))) (product-left (product (2 ^ j) (2 ^ k)))
         (λ i li. equal (λ k. product (product (2 ^ i) (2 ^ j)) (2 ^ k)) (λ k. product (2 ^ i) (product (2 ^ j) (2 ^ k))) 8
         (upto_holds (λ j. upto (λ k. eqb (product (product (2 ^ i) (2 ^ j)) (2 ^ k)) (product (2 ^ i) (product (2 ^ j) (2 ^ k)))) 8) 8 j
-        (upto_holds (λ i. upto (λ j. upto (λ k. eqb (product (product (2 ^ i) (2 ^ j)) (2 ^ k)) (product (2 ^ i) (product (2 ^ j) (2 ^ k)))) 8) 8) 8 i all_joined li) lj) k lk)
+        (upto_holds (λ i. upto (λ j. upto (λ k. eqb (product (product (2 ^ i) (2 ^ j)) (2 ^ k)) (product (2 ^ i) (product (2 ^ j) (2 ^ k)))) 8) 8) 8 i
+        all_joined li) lj) k lk)
         a la
 
     by_second : (k : ℕ) → k < 8 → product (product a b) (2 ^ k) ≡ product a (product b (2 ^ k))

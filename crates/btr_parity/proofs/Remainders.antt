@@ -27,7 +27,8 @@ quotient-xor (suc n) a b =
     let d : ℕ = b / 2 ^ k % 2 in
     let spread : (x : ℕ) → bit_xor a b / 2 ^ k % 2 * x ≡ bit_xor (c * x) (d * x) = λ x. ap (λ y. y * x) (bit-xor k a b) ∙ coefficients-xor c d x (omega arith) (omega arith) in
     ap₂ bit_xor (spread (2 ^ n))
-    (ap (λ x. quotient n (bit_xor (bit_xor a b) x)) (spread m) ∙ ap (quotient n) (xor_swap a b (c * m) (d * m)) ∙ quotient-xor n (bit_xor a (c * m)) (bit_xor b (d * m)))
+    (ap (λ x. quotient n (bit_xor (bit_xor a b) x)) (spread m) ∙ ap (quotient n) (xor_swap a b (c * m) (d * m))
+    ∙ quotient-xor n (bit_xor a (c * m)) (bit_xor b (d * m)))
     ∙ xor_swap (c * 2 ^ n) (d * 2 ^ n) (quotient n (bit_xor a (c * m))) (quotient n (bit_xor b (d * m)))
 
 divided : IsAdditive (quotient 7)
@@ -52,7 +53,8 @@ all_whole = refl
 is_whole : (a : ℕ) → a < 2 ^ 15 → a ≡ whole a
 unfolding whole
 is_whole a h =
-    same_below 15 (λ a. a) whole identity (sum_of (λ a. multiplied 7 (quotient 7 a) modulus) (reduced 7) (after (λ q. multiplied 7 q modulus) (quotient 7) multiple divided) left)
+    same_below 15 (λ a. a) whole identity (sum_of (λ a. multiplied 7 (quotient 7 a) modulus) (reduced 7)
+    (after (λ q. multiplied 7 q modulus) (quotient 7) multiple divided) left)
     (λ k lt. eqb-true (2 ^ k) (whole (2 ^ k)) (upto_holds (λ k. eqb (2 ^ k) (whole (2 ^ k))) 15 k all_whole lt)) a h
 
 all_divided : upto (λ k. ltb (quotient 7 (2 ^ k)) (2 ^ 7)) 15 ≡ true
@@ -60,7 +62,8 @@ unfolding quotient
 all_divided = refl
 
 quotient-lt : (a : ℕ) → a < 2 ^ 15 → quotient 7 a < 2 ^ 7
-quotient-lt a h = small_below 7 15 (quotient 7) divided (λ k lt. ltb-true (quotient 7 (2 ^ k)) (2 ^ 7) (upto_holds (λ k. ltb (quotient 7 (2 ^ k)) (2 ^ 7)) 15 k all_divided lt)) a h
+quotient-lt a h = small_below 7 15 (quotient 7) divided (λ k lt. ltb-true (quotient 7 (2 ^ k)) (2 ^ 7)
+    (upto_holds (λ k. ltb (quotient 7 (2 ^ k)) (2 ^ 7)) 15 k all_divided lt)) a h
 
 all_multiplied : upto (λ j. upto (λ k. ltb (multiplied 8 (2 ^ j) (2 ^ k)) (2 ^ 15)) 8) 8 ≡ true
 unfolding multiplied
@@ -72,7 +75,9 @@ multiplied-lt a b h k = small_below 15 8 (multiplied 8 a) (record { adds = multi
     by_left : (j : ℕ) → j < 8 → multiplied 8 a (2 ^ j) < 2 ^ 15
     by_left j lt =
         small_below 15 8 (λ a. multiplied 8 a (2 ^ j)) (record { adds = λ a b. multiplied-left 8 a b (2 ^ j) })
-        (λ i less. ltb-true (multiplied 8 (2 ^ i) (2 ^ j)) (2 ^ 15) (upto_holds (λ k. ltb (multiplied 8 (2 ^ i) (2 ^ k)) (2 ^ 15)) 8 j (upto_holds (λ j. upto (λ k. ltb (multiplied 8 (2 ^ j) (2 ^ k)) (2 ^ 15)) 8) 8 i all_multiplied less) lt))
+        (λ i less. ltb-true (multiplied 8 (2 ^ i) (2 ^ j)) (2 ^ 15)
+        (upto_holds (λ k. ltb (multiplied 8 (2 ^ i) (2 ^ k)) (2 ^ 15)) 8 j
+        (upto_holds (λ j. upto (λ k. ltb (multiplied 8 (2 ^ j) (2 ^ k)) (2 ^ 15)) 8) 8 i all_multiplied less) lt))
         a h
 
 is_product : (a b : ℕ) → a < 256 → b < 256 → IsProduct a b (product a b)
@@ -98,12 +103,14 @@ unfolding reduced
 all_left = refl
 
 byte_left : (c : ℕ) → c < 2 ^ 8 → reduced 7 c ≡ c
-byte_left c h = same_below 8 (reduced 7) (λ c. c) left identity (λ k lt. eqb-true (reduced 7 (2 ^ k)) (2 ^ k) (upto_holds (λ k. eqb (reduced 7 (2 ^ k)) (2 ^ k)) 8 k all_left lt)) c h
+byte_left c h = same_below 8 (reduced 7) (λ c. c) left identity
+    (λ k lt. eqb-true (reduced 7 (2 ^ k)) (2 ^ k) (upto_holds (λ k. eqb (reduced 7 (2 ^ k)) (2 ^ k)) 8 k all_left lt)) c h
 
 only_product : (a b c : ℕ) → IsProduct a b c → c ≡ product a b
 unfolding product
 only_product a b c is =
-    sym (ap (reduced 7) is.whole ∙ reduced-xor 7 (multiplied 7 is.quotient modulus) c ∙ ap₂ bit_xor (multiple_gone is.quotient is.small) (byte_left c is.byte) ∙ xor_zero_l c)
+    sym (ap (reduced 7) is.whole ∙ reduced-xor 7 (multiplied 7 is.quotient modulus) c
+    ∙ ap₂ bit_xor (multiple_gone is.quotient is.small) (byte_left c is.byte) ∙ xor_zero_l c)
 
 pub product_is_remainder : ProductIsRemainder
 product_is_remainder = record { is = is_product; only = only_product }

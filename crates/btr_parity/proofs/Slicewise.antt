@@ -34,7 +34,8 @@ over_all f [] [] (suc n) e h = refl
 over_all f (x ∷ xs) (y ∷ ys) (suc n) e h = ap (λ r. f x y ∷ r) (over_all f xs ys n (omega arith) (omega arith))
 
 -- a loop's step that writes f of the pair at n
-pub over_step : (f : ℕ → ℕ → ℕ) (xs ys acc : List ℕ) (n v : ℕ) → length xs ≡ length ys → n < length xs → acc ≡ over f n xs ys → v ≡ f (get_or acc n 0) (get_or ys n 0)
+pub over_step : (f : ℕ → ℕ → ℕ) (xs ys acc : List ℕ) (n v : ℕ) → length xs ≡ length ys → n < length xs → acc ≡ over f n xs ys → v
+    ≡ f (get_or acc n 0) (get_or ys n 0)
     → set acc n v ≡ over f (n + 1) xs ys
 over_step f xs ys acc n v e h so_far written =
     ap (set acc n) written ∙ ap (λ a. set a n (f (get_or a n 0) (get_or ys n 0))) so_far ∙ over_more f xs ys n e h
@@ -65,7 +66,8 @@ first_chunk f (suc m) (x ∷ xs) [] e = absurd (omega arith)
 first_chunk f (suc m) (x ∷ xs) (y ∷ ys) e = ap (λ r. f x y ∷ r) (first_chunk f m xs ys (omega arith))
 
 -- the m pairs behind the first n
-pub over_chunk : (f : ℕ → ℕ → ℕ) (n m : ℕ) (xs ys : List ℕ) → length xs ≡ length ys → put_chunk n (over f n xs ys) (zip2 f (chunk n m xs) (chunk n m ys)) ≡ over f (n + m) xs ys
+pub over_chunk : (f : ℕ → ℕ → ℕ) (n m : ℕ) (xs ys : List ℕ) → length xs ≡ length ys
+    → put_chunk n (over f n xs ys) (zip2 f (chunk n m xs) (chunk n m ys)) ≡ over f (n + m) xs ys
 over_chunk f zero m xs ys e =
     let all : m ≡ 0 + m = omega arith in
     first_chunk f m xs ys e ∙ ap (λ k. over f k xs ys) all

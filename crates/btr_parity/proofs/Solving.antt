@@ -89,15 +89,18 @@ module _ (a b w : ℕ) (la : IsByte a) (lb : IsByte b) (lw : IsByte w) (one : pr
 pub bytes_of : (xs : List ℕ) → ((i : ℕ) → Fits w8 (get_or xs i 0)) → All IsByte xs
 bytes_of xs fits = All-from_get_or IsByte xs 0 (λ i h. (fits i).fits)
 
-pub All-zip2 : (f : ℕ → ℕ → ℕ) → ((u v : ℕ) → IsByte u → IsByte v → IsByte (f u v)) → (xs ys : List ℕ) → All IsByte xs → All IsByte ys → All IsByte (zip2 f xs ys)
+pub All-zip2 : (f : ℕ → ℕ → ℕ) → ((u v : ℕ) → IsByte u → IsByte v → IsByte (f u v)) → (xs ys : List ℕ) → All IsByte xs → All IsByte ys
+    → All IsByte (zip2 f xs ys)
 All-zip2 f small [] ys h k = All-nil IsByte
 All-zip2 f small (x ∷ xs) [] h k = All-nil IsByte
 All-zip2 f small (x ∷ xs) (y ∷ ys) h k =
-    All-cons IsByte (f x y) (zip2 f xs ys) (small x y (All-head IsByte x xs h) (All-head IsByte y ys k)) (All-zip2 f small xs ys (All-tail IsByte x xs h) (All-tail IsByte y ys k))
+    All-cons IsByte (f x y) (zip2 f xs ys) (small x y (All-head IsByte x xs h) (All-head IsByte y ys k))
+    (All-zip2 f small xs ys (All-tail IsByte x xs h) (All-tail IsByte y ys k))
 
 pub All-scaled : (c : ℕ) → IsByte c → (xs : List ℕ) → All IsByte xs → All IsByte (scaled c xs)
 All-scaled c lc [] h = All-nil IsByte
-All-scaled c lc (x ∷ xs) h = All-cons IsByte (product c x) (scaled c xs) (product-lt c x lc (All-head IsByte x xs h)) (All-scaled c lc xs (All-tail IsByte x xs h))
+All-scaled c lc (x ∷ xs) h = All-cons IsByte (product c x) (scaled c xs) (product-lt c x lc (All-head IsByte x xs h))
+    (All-scaled c lc xs (All-tail IsByte x xs h))
 
 pub scaled_undone : (a b : ℕ) → IsByte a → IsByte b → product a b ≡ 1 → (xs : List ℕ) → All IsByte xs → scaled a (scaled b xs) ≡ xs
 scaled_undone a b la lb one [] h = refl
@@ -146,7 +149,8 @@ module _ (a b w : ℕ) (la : IsByte a) (lb : IsByte b) (lw : IsByte w) (one : pr
       ap₂ (λ y ys. y ∷ ys) (first_found a b w la lb lw one s t (All-head IsByte s X h) (All-head IsByte t Y k))
       (found X Y (omega arith) (All-tail IsByte s X h) (All-tail IsByte t Y k))
 
-  slice_of : (f : ℕ → ℕ → ℕ) → ((u v : ℕ) → IsByte u → IsByte v → IsByte (f u v)) → (p q : List ℕ) → length p ≡ length q → All IsByte p → All IsByte q → IsSlice (length p) (zip2 f p q)
+  slice_of : (f : ℕ → ℕ → ℕ) → ((u v : ℕ) → IsByte u → IsByte v → IsByte (f u v)) → (p q : List ℕ) → length p ≡ length q → All IsByte p → All IsByte q
+      → IsSlice (length p) (zip2 f p q)
   slice_of f small p q e h k = record { long = length-zip2 f p q e; bytes = All-zip2 f small p q h k }
 
   pub pair_one : (p q : List ℕ) (x y : ℕ) → a ≡ power x → b ≡ power y → length p ≡ length q → All IsByte p → All IsByte q

@@ -1,12 +1,15 @@
 -- Facts about the bits that say which slots are lent.
-use Rattle.std.proofs.Common.{◌≡◌, ◌≢◌, ℕ, zero, suc, ◌-◌, ◌*◌, ◌/◌, ◌%◌, ◌^◌, ◌<◌, ◌≤◌, ◌↔◌, ◌⊎◌, Bool, true, false, not, cond, eqb, List, length, get_or, set, map, count_by, replicate, bit_and, bit_or, refl, sym, ap, ◌∙◌, subst, inl, inr, arith, w64}
+use Rattle.std.proofs.Common.{◌≡◌, ◌≢◌, ℕ, zero, suc, ◌-◌, ◌*◌, ◌/◌, ◌%◌, ◌^◌, ◌<◌, ◌≤◌, ◌↔◌, ◌⊎◌, Bool, true, false, not, cond, eqb, List, length, get_or, set}
+use Rattle.std.proofs.Common.{map, count_by, replicate, bit_and, bit_or, refl, sym, ap, ◌∙◌, subst, inl, inr, arith, w64}
 use Rattle.std.specs.Int.{bit_at, bit_not}
 use Rattle.std.specs.Int.RustNames.{count_ones}
 use Rattle.std.proofs.lemmas.Bool.{cases_eq, cases_lt}
-use Rattle.std.proofs.lemmas.List.{length-map, length-set, length-replicate, same_lists, get_or-set_same, get_or-set_other, get_or-map, get_or_past, get_or-replicate}
+use Rattle.std.proofs.lemmas.List.{length-map, length-set, length-replicate, same_lists, get_or-set_same, get_or-set_other, get_or-map, get_or_past}
+use Rattle.std.proofs.lemmas.List.{get_or-replicate}
 use Rattle.std.proofs.lemmas.List.FromFn.{length-map-range_with_len, get_or-map-range_with_len}
 use Rattle.std.proofs.lemmas.Nat.{zero_from_ones, ones_le_self, and_le_l, or_lt, one_shl, pow_pos, pow_below}
-use Rattle.std.proofs.lemmas.Nat.Bits.{bit_at-lt, bit_at_above, bit_at_ones, bit_at_and, same_from_bits, and_pow, bit_at_set_same, bit_at_set_other, bit_at_clear_same, bit_at_clear_other, bit_at-trailing_zeros, ones_shr}
+use Rattle.std.proofs.lemmas.Nat.Bits.{bit_at-lt, bit_at_above, bit_at_ones, bit_at_and, same_from_bits, and_pow, bit_at_set_same, bit_at_set_other}
+use Rattle.std.proofs.lemmas.Nat.Bits.{bit_at_clear_same, bit_at_clear_other, bit_at-trailing_zeros, ones_shr}
 use Rattle.std.specs.Int.{trailing_zeros}
 use Rattle.std.proofs.lemmas.Simd.{ones-mask_l, bit_mask_l}
 use lib.Lanes.{mask_l}
@@ -23,7 +26,8 @@ pub lent_past : (count free k : ℕ) → count ≤ k → get_or (lent_of count f
 lent_past count free k le = get_or_past (lent_of count free) k true (omega (arith, length-lent_of count free))
 
 -- one bit changed, and so one slot
-pub lent_changed : (count before after k : ℕ) (lent : Bool) → count ≤ 64 → eqb (bit_at after k) 0 ≡ lent → ((i : ℕ) → i < 64 → i ≢ k → bit_at after i ≡ bit_at before i) → lent_of count after ≡ set (lent_of count before) k lent
+pub lent_changed : (count before after k : ℕ) (lent : Bool) → count ≤ 64 → eqb (bit_at after k) 0 ≡ lent
+    → ((i : ℕ) → i < 64 → i ≢ k → bit_at after i ≡ bit_at before i) → lent_of count after ≡ set (lent_of count before) k lent
 lent_changed count before after k lent few here others =
     let old : List Bool = lent_of count before in
     let size : length (lent_of count after) ≡ count = length-lent_of count after in
@@ -32,8 +36,10 @@ lent_changed count before after k lent few here others =
     let below : i < count = omega (arith, lt, size) in
     let new : get_or (lent_of count after) i d ≡ eqb (bit_at after i) 0 = get_or-lent_of count after i d below in
     elim (cases_eq i k) [
-      | inl e ↦ new ∙ ap (λ j. eqb (bit_at after j) 0) e ∙ here ∙ sym (ap (λ j. get_or (set old k lent) j d) e ∙ get_or-set_same old k lent d (omega (arith, below, e, old_size)))
-      | inr ne ↦ new ∙ ap (λ b. eqb b 0) (others i (omega (arith, below, few)) ne) ∙ sym (get_or-lent_of count before i d below) ∙ sym (get_or-set_other old k i lent d ne)
+      | inl e ↦ new ∙ ap (λ j. eqb (bit_at after j) 0) e ∙ here
+          ∙ sym (ap (λ j. get_or (set old k lent) j d) e ∙ get_or-set_same old k lent d (omega (arith, below, e, old_size)))
+      | inr ne ↦ new ∙ ap (λ b. eqb b 0) (others i (omega (arith, below, few)) ne) ∙ sym (get_or-lent_of count before i d below)
+          ∙ sym (get_or-set_other old k i lent d ne)
     ])
 
 bit_back : (b : ℕ) → b < 2 → cond (not (eqb b 0)) 1 0 ≡ b
@@ -47,8 +53,10 @@ free_is count free within =
     let lent : List Bool = lent_of count free in
     same_from_bits (mask_l (map not lent)) free (λ i.
     bit_mask_l (map not lent) i ∙ elim (cases_lt i count) [
-      | inl lt ↦ ap (λ b. cond b 1 0) (get_or-map not lent i true false (omega (arith, lt, length-lent_of count free)) ∙ ap not (get_or-lent_of count free i true lt)) ∙ bit_back (bit_at free i) (bit_at-lt free i)
-      | inr le ↦ ap (λ b. cond b 1 0) (get_or_past (map not lent) i false (omega (arith, le, length-map lent not, length-lent_of count free))) ∙ sym (bit_at_above free count i within le)
+      | inl lt ↦ ap (λ b. cond b 1 0) (get_or-map not lent i true false (omega (arith, lt, length-lent_of count free))
+          ∙ ap not (get_or-lent_of count free i true lt)) ∙ bit_back (bit_at free i) (bit_at-lt free i)
+      | inr le ↦ ap (λ b. cond b 1 0) (get_or_past (map not lent) i false (omega (arith, le, length-map lent not, length-lent_of count free)))
+          ∙ sym (bit_at_above free count i within le)
     ])
 
 -- as many bits are 1 as slots are free
@@ -92,7 +100,8 @@ pub record IsLent (count free : ℕ) (lent : List Bool) (k : ℕ) : Type 0 where
   pub within : bit_and free (bit_not w64 (bit k)) < 2 ^ count
   pub after : lent_of count (bit_and free (bit_not w64 (bit k))) ≡ set lent k true
 
-pub lent_when_free : (count free k : ℕ) (lent : List Bool) → lent_of count free ≡ lent → free < 2 ^ count → count ≤ 64 → k < 64 → bit_at free k ≡ 1 → IsLent count free lent k
+pub lent_when_free : (count free k : ℕ) (lent : List Bool) → lent_of count free ≡ lent → free < 2 ^ count → count ≤ 64 → k < 64 → bit_at free k ≡ 1
+    → IsLent count free lent k
 lent_when_free count free k lent view within few lt one =
     let below : k < count = elim (cases_lt k count) [ inl lt ↦ lt | inr le ↦ absurd (omega (arith, one, bit_at_above free count k within le)) ] in
     let was_free : get_or (lent_of count free) k true ≡ false = get_or-lent_of count free k true below ∙ ap (λ b. eqb b 0) one in
@@ -138,7 +147,8 @@ all_free count few =
     let is : (2 ^ 64 - 1) / 2 ^ (64 - count) ≡ 2 ^ count - 1 = ones_shr 64 (64 - count) (omega arith) ∙ ap (λ n. 2 ^ n - 1) back in
     subst (IsAllFree count) (sym is) record {
       within = omega (arith, pow_pos count);
-      view = same_lists (lent_of count (2 ^ count - 1)) (replicate count false) (length-lent_of count (2 ^ count - 1) ∙ sym (length-replicate count false)) (λ i d lt.
+      view = same_lists (lent_of count (2 ^ count - 1)) (replicate count false)
+          (length-lent_of count (2 ^ count - 1) ∙ sym (length-replicate count false)) (λ i d lt.
           let below : i < count = omega (arith, lt, length-lent_of count (2 ^ count - 1)) in
           get_or-lent_of count (2 ^ count - 1) i d below ∙ ap (λ b. eqb b 0) (bit_at_ones count i below) ∙ sym (get_or-replicate count i false d below));
     }

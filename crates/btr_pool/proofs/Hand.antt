@@ -26,10 +26,12 @@ are_live_taken pool loans k are free = record {
   distinct = λ i j lt_i lt_j same. elim (cases_lt i (length loans)) [
     | inl old_i ↦ elim (cases_lt j (length loans)) [
       | inl old_j ↦ are.distinct i j old_i old_j (sym (get_or_append_left loans (k ∷ []) 0 i old_i) ∙ same ∙ get_or_append_left loans (k ∷ []) 0 j old_j)
-      | inr new_j ↦ absurd (apart pool (get_or loans i 0) k (are.live i old_i) free (sym (get_or_append_left loans (k ∷ []) 0 i old_i) ∙ same ∙ get_or_push loans k 0 j (omega (arith, lt_j, new_j, length_push loans k))))
+      | inr new_j ↦ absurd (apart pool (get_or loans i 0) k (are.live i old_i) free
+          (sym (get_or_append_left loans (k ∷ []) 0 i old_i) ∙ same ∙ get_or_push loans k 0 j (omega (arith, lt_j, new_j, length_push loans k))))
     ]
     | inr new_i ↦ elim (cases_lt j (length loans)) [
-      | inl old_j ↦ absurd (apart pool (get_or loans j 0) k (are.live j old_j) free (sym (get_or_append_left loans (k ∷ []) 0 j old_j) ∙ sym same ∙ get_or_push loans k 0 i (omega (arith, lt_i, new_i, length_push loans k))))
+      | inl old_j ↦ absurd (apart pool (get_or loans j 0) k (are.live j old_j) free
+          (sym (get_or_append_left loans (k ∷ []) 0 j old_j) ∙ sym same ∙ get_or_push loans k 0 i (omega (arith, lt_i, new_i, length_push loans k))))
       | inr new_j ↦ omega (arith, lt_i, lt_j, new_i, new_j, length_push loans k)
     ]
   ];
@@ -40,11 +42,16 @@ pub are_live_written : (pool : Slots) (loans : List ℕ) (k : ℕ) (written : Li
 are_live_written pool loans k written are = record { live = λ i lt. live_after_write pool (get_or loans i 0) k written (are.live i lt); distinct = are.distinct }
 
 -- one was given back
-pub are_live_given : (pool : Slots) (loans : List ℕ) (i : ℕ) → AreLive pool loans → i < length loans → AreLive (with_free pool (get_or loans i 0)) (remove loans i)
+pub are_live_given : (pool : Slots) (loans : List ℕ) (i : ℕ) → AreLive pool loans → i < length loans
+    → AreLive (with_free pool (get_or loans i 0)) (remove loans i)
 are_live_given pool loans i are there = record {
   live = λ j lt. elim (cases_lt j i) [
-    | inl below ↦ subst (IsLive (with_free pool (get_or loans i 0))) (sym (get_or-remove_below loans i 0 j below there)) (live_after_give pool (get_or loans j 0) (get_or loans i 0) (λ same. absurd (omega (arith, below, are.distinct j i (omega (arith, below, there)) there same))) (are.live j (omega (arith, below, there))))
-    | inr above ↦ subst (IsLive (with_free pool (get_or loans i 0))) (sym (get_or-remove_above loans i 0 j above there)) (live_after_give pool (get_or loans (j + 1) 0) (get_or loans i 0) (λ same. absurd (omega (arith, above, are.distinct (j + 1) i (after j lt) there same))) (are.live (j + 1) (after j lt)))
+    | inl below ↦ subst (IsLive (with_free pool (get_or loans i 0))) (sym (get_or-remove_below loans i 0 j below there))
+        (live_after_give pool (get_or loans j 0) (get_or loans i 0)
+        (λ same. absurd (omega (arith, below, are.distinct j i (omega (arith, below, there)) there same))) (are.live j (omega (arith, below, there))))
+    | inr above ↦ subst (IsLive (with_free pool (get_or loans i 0))) (sym (get_or-remove_above loans i 0 j above there))
+        (live_after_give pool (get_or loans (j + 1) 0) (get_or loans i 0)
+        (λ same. absurd (omega (arith, above, are.distinct (j + 1) i (after j lt) there same))) (are.live (j + 1) (after j lt)))
   ];
   distinct = λ j h lt_j lt_h same.
       let place : ℕ → ℕ = λ n. cond (ltb n i) n (n + 1) in
@@ -77,7 +84,8 @@ pub record InHand (pool : Slots) (size : ℕ) (loans : List ℕ) : Type 0 where
   pub are : AreLive pool loans
 
 -- one more was taken and written
-pub in_hand_taken : (pool taken written : Slots) (size k : ℕ) (bytes : List ℕ) (loans more : List ℕ) → InHand pool size loans → IsFree pool k → taken ≡ with_lent pool k → written ≡ with_bytes taken k bytes → more ≡ loans ++ k ∷ [] → InHand written size more
+pub in_hand_taken : (pool taken written : Slots) (size k : ℕ) (bytes : List ℕ) (loans more : List ℕ) → InHand pool size loans → IsFree pool k → taken
+    ≡ with_lent pool k → written ≡ with_bytes taken k bytes → more ≡ loans ++ k ∷ [] → InHand written size more
 in_hand_taken pool taken written size k bytes loans more hand free is_taken is_written is_more =
     let is : written ≡ with_bytes (with_lent pool k) k bytes = is_written ∙ ap (λ p. with_bytes p k bytes) is_taken in
     let are : AreLive (with_bytes (with_lent pool k) k bytes) (loans ++ k ∷ []) = are_live_written (with_lent pool k) (loans ++ k ∷ []) k bytes (are_live_taken pool loans k hand.are free) in
@@ -91,10 +99,12 @@ pub in_hand_live : (pool : Slots) (size i loan : ℕ) (loans : List ℕ) → InH
 in_hand_live pool size i loan loans hand there read = subst (IsLive pool) (sym (get_or_read loans i loan there read 0)) (hand.are.live i there)
 
 -- one was given back
-pub in_hand_given : (pool given : Slots) (size i loan : ℕ) (loans fewer : List ℕ) → InHand pool size loans → i < length loans → loan ≡ get_or loans i loan → given ≡ with_free pool loan → fewer ≡ remove loans i → InHand given size fewer
+pub in_hand_given : (pool given : Slots) (size i loan : ℕ) (loans fewer : List ℕ) → InHand pool size loans → i < length loans → loan
+    ≡ get_or loans i loan → given ≡ with_free pool loan → fewer ≡ remove loans i → InHand given size fewer
 in_hand_given pool given size i loan loans fewer hand there read is_given is_fewer =
     let is : given ≡ with_free pool (get_or loans i 0) = is_given ∙ ap (with_free pool) (get_or_read loans i loan there read 0) in
     record {
       size_is = ap (λ p. p.size) is ∙ hand.size_is;
-      are = subst (λ p. AreLive p fewer) (sym is) (subst (AreLive (with_free pool (get_or loans i 0))) (sym is_fewer) (are_live_given pool loans i hand.are there));
+      are = subst (λ p. AreLive p fewer) (sym is) (subst (AreLive (with_free pool (get_or loans i 0))) (sym is_fewer)
+          (are_live_given pool loans i hand.are there));
     }

@@ -1,5 +1,6 @@
 -- What callers need to know of loans: which are live after a call, and what they hold.
-use Rattle.std.proofs.Common.{◌≡◌, ◌≢◌, ℕ, ◌+◌, ◌<◌, Bool, true, false, not, cond, List, [], length, map, get_or, set, count_by, Option, Some, None, refl, sym, ap, ◌∙◌, inl, inr, arith}
+use Rattle.std.proofs.Common.{◌≡◌, ◌≢◌, ℕ, ◌+◌, ◌<◌, Bool, true, false, not, cond, List, [], length, map, get_or, set, count_by, Option, Some, None, refl, sym}
+use Rattle.std.proofs.Common.{ap, ◌∙◌, inl, inr, arith}
 use Rattle.std.proofs.lemmas.Bool.{cases_eq, cases_lt, false≢true}
 use Rattle.std.proofs.lemmas.List.{length-set, same_lists, get_or_default, get_or_past, get_or-set_same, get_or-set_other, set-set, set-get_or}
 use Rattle.std.proofs.lemmas.List.FromFn.{fill_by_all, length-map-range_with_len, get_or-map-range_with_len}
@@ -79,7 +80,8 @@ free_count-with_free pool k live =
     sym (count_set (set pool.lent k false) k free.free) ∙ ap (λ lent. count_by not lent + 1) again
 
 -- the map of the loans changed at one slot
-loans_changed : (old new : Slots) (k : ℕ) (loan : Option (List ℕ)) → length new.lent ≡ length old.lent → k < length old.lent → loan_at new k ≡ loan → ((j : ℕ) → j ≢ k → loan_at new j ≡ loan_at old j) → loans_of new ≡ set (loans_of old) k loan
+loans_changed : (old new : Slots) (k : ℕ) (loan : Option (List ℕ)) → length new.lent ≡ length old.lent → k < length old.lent → loan_at new k ≡ loan
+    → ((j : ℕ) → j ≢ k → loan_at new j ≡ loan_at old j) → loans_of new ≡ set (loans_of old) k loan
 loans_changed old new k loan size below here others =
     let count = length old.lent in
     let old_size : length (loans_of old) ≡ count = length-map-range_with_len (loan_at old) 0 count in
@@ -88,7 +90,8 @@ loans_changed old new k loan size below here others =
     let within : j < count = omega (arith, lt, new_size) in
     let at : get_or (loans_of new) j d ≡ loan_at new j = get_or-map-range_with_len (loan_at new) 0 (length new.lent) j j d (omega (arith, within, size)) (omega arith) in
     at ∙ elim (cases_eq j k) [
-      | inl e ↦ ap (loan_at new) e ∙ here ∙ sym (ap (λ n. get_or (set (loans_of old) k loan) n d) e ∙ get_or-set_same (loans_of old) k loan d (omega (arith, below, old_size)))
+      | inl e ↦ ap (loan_at new) e ∙ here ∙ sym (ap (λ n. get_or (set (loans_of old) k loan) n d) e
+          ∙ get_or-set_same (loans_of old) k loan d (omega (arith, below, old_size)))
       | inr ne ↦ others j ne ∙ sym (get_or-set_other (loans_of old) k j loan d ne ∙ get_or-map-range_with_len (loan_at old) 0 count j j d within (omega arith))
     ])
 
@@ -106,7 +109,8 @@ loans_of-with_free pool k live =
     (ap (λ lent. cond lent (Some (bytes_at pool k)) None) (get_or-set_same pool.lent k false false (live_below pool.lent k live.lent)))
     (λ j ne. ap (λ lent. cond lent (Some (bytes_at pool j)) None) (get_or-set_other pool.lent k j false false ne))
 
-pub loans_of-with_bytes : (pool : Slots) (k : ℕ) (written : List ℕ) → IsLive pool k → loans_of (with_bytes pool k written) ≡ set (loans_of pool) k (Some written)
+pub loans_of-with_bytes : (pool : Slots) (k : ℕ) (written : List ℕ) → IsLive pool k → loans_of (with_bytes pool k written)
+    ≡ set (loans_of pool) k (Some written)
 loans_of-with_bytes pool k written live =
     loans_changed pool (with_bytes pool k written) k (Some written) refl (live_below pool.lent k live.lent)
     (ap (λ lent. cond lent (Some (bytes_at (with_bytes pool k written) k)) None) live.lent ∙ ap Some (bytes_at-with_bytes_same pool k written live))

@@ -1,7 +1,9 @@
 -- Facts about a list that is cut into pieces of one size.
-use Rattle.std.proofs.Common.{◌≡◌, ℕ, zero, suc, ◌+◌, ◌-◌, ◌*◌, ◌≤◌, ◌<◌, List, [], ◌∷◌, ◌++◌, take, drop, length, get_or, set, replicate, refl, sym, ap, ◌∙◌, arith, length-take, length-drop}
+use Rattle.std.proofs.Common.{◌≡◌, ℕ, zero, suc, ◌+◌, ◌-◌, ◌*◌, ◌≤◌, ◌<◌, List, [], ◌∷◌, ◌++◌, take, drop, length, get_or, set, replicate, refl, sym, ap, ◌∙◌}
+use Rattle.std.proofs.Common.{arith, length-take, length-drop}
 use Rattle.std.specs.List.{concat}
-use Rattle.std.proofs.lemmas.List.{take-append-drop, take-append-le, take-take, take_at, take-replicate, drop-append-le, drop-drop, drop-take, drop_at, drop-replicate}
+use Rattle.std.proofs.lemmas.List.{take-append-drop, take-append-le, take-take, take_at, take-replicate, drop-append-le, drop-drop, drop-take, drop_at}
+use Rattle.std.proofs.lemmas.List.{drop-replicate}
 use Rattle.btr_pool.specs.Slots.{pieces}
 
 pub length-pieces : (count size : ℕ) (bytes : List ℕ) → length (pieces count size bytes) ≡ count
@@ -35,14 +37,16 @@ pub concat-pieces : (count size : ℕ) (bytes : List ℕ) → length bytes ≡ c
 concat-pieces zero size [] whole = refl
 concat-pieces zero size (b ∷ bytes) whole = absurd (omega arith)
 concat-pieces (suc count) size bytes whole =
-    ap (λ rest. take size bytes ++ rest) (concat-pieces count size (drop size bytes) (omega (arith, whole, length-drop size bytes))) ∙ take-append-drop size bytes
+    ap (λ rest. take size bytes ++ rest) (concat-pieces count size (drop size bytes) (omega (arith, whole, length-drop size bytes)))
+    ∙ take-append-drop size bytes
 
 -- bytes with others over them from place i on
 abbrev pub over : ℕ → List ℕ → List ℕ → List ℕ
 over i written bytes = take i bytes ++ (written ++ drop (length written) (drop i bytes))
 
 -- a piece's length written over piece k
-pub pieces-over : (count size k : ℕ) (written bytes : List ℕ) → k < count → length written ≡ size → length bytes ≡ count * size → pieces count size (over (k * size) written bytes) ≡ set (pieces count size bytes) k written
+pub pieces-over : (count size k : ℕ) (written bytes : List ℕ) → k < count → length written ≡ size → length bytes ≡ count * size
+    → pieces count size (over (k * size) written bytes) ≡ set (pieces count size bytes) k written
 pieces-over zero size k written bytes lt one whole = absurd (omega arith)
 pieces-over (suc count) size zero written bytes lt one whole =
     let start : 0 * size ≡ 0 = omega arith in

@@ -1,5 +1,6 @@
 -- Facts about the region of a pool, and the slots that it stands for.
-use Rattle.std.proofs.Common.{◌≡◌, ℕ, ◌+◌, ◌-◌, ◌*◌, ◌≤◌, ◌<◌, true, false, List, ◌++◌, take, drop, length, get_or, sym, ap, ◌∙◌, subst, arith, length-append, length-take, length-drop}
+use Rattle.std.proofs.Common.{◌≡◌, ℕ, ◌+◌, ◌-◌, ◌*◌, ◌≤◌, ◌<◌, true, false, List, ◌++◌, take, drop, length, get_or, sym, ap, ◌∙◌, subst, arith, length-append}
+use Rattle.std.proofs.Common.{length-take, length-drop}
 use Rattle.std.specs.Vec.{with_items_from}
 use Rattle.std.proofs.lemmas.List.{take-append-le}
 use Rattle.std.proofs.Math.Nat.{mul-le-mul_left}
@@ -11,7 +12,8 @@ use Rattle.btr_pool.proofs.Pieces.{length-pieces, get_or-pieces, pieces-take, co
 
 -- a live loan l of slot k is of a slot that is there
 pub below_when_live : (pool : Inside) (slots : Slots) (k l : ℕ) → slots_of pool ≡ slots → k ≡ l → IsLive slots l → k < length pool.ledger
-below_when_live pool slots k l view is live = live_below pool.ledger k (ap (λ j. get_or pool.ledger j false) is ∙ ap (λ s. get_or s.lent l false) view ∙ live.lent)
+below_when_live pool slots k l view is live = live_below pool.ledger k
+    (ap (λ j. get_or pool.ledger j false) is ∙ ap (λ s. get_or s.lent l false) view ∙ live.lent)
 
 -- a slot that the ledger says is free
 pub free_when_found : (pool : Inside) (slots : Slots) (k : ℕ) → slots_of pool ≡ slots → get_or pool.ledger k true ≡ false → IsFree slots k
@@ -25,14 +27,23 @@ pub record IsRead (slots : Slots) (l : ℕ) (read : List ℕ) : Type 0 where
   pub value : read ≡ bytes_at slots l
   pub len : length read ≡ slots.size
 
-pub read_when_live : (pool : Inside) (slots : Slots) (k l : ℕ) (read : List ℕ) → slots_of pool ≡ slots → IsPool pool → k ≡ l → IsLive slots l → read ≡ take (k * pool.size + pool.size - k * pool.size) (drop (k * pool.size) pool.region.items) → IsRead slots l read
+pub read_when_live : (pool : Inside) (slots : Slots) (k l : ℕ) (read : List ℕ) → slots_of pool ≡ slots → IsPool pool → k ≡ l → IsLive slots l → read
+    ≡ take (k * pool.size + pool.size - k * pool.size) (drop (k * pool.size) pool.region.items) → IsRead slots l read
 read_when_live pool slots k l read view inv is live value =
     let below = below_when_live pool slots k l view is live in
     let width : k * pool.size + pool.size - k * pool.size ≡ pool.size = omega arith in
     let slot : read ≡ take pool.size (drop (k * pool.size) pool.region.items) = value ∙ ap (λ n. take n (drop (k * pool.size) pool.region.items)) width in
     record {
-      value = slot ∙ sym (get_or-pieces (length pool.ledger) pool.size k pool.region.items below) ∙ ap (bytes_at (slots_of pool)) is ∙ ap (λ s. bytes_at s l) view;
-      len = ap length slot ∙ omega (arith, length-take pool.size (drop (k * pool.size) pool.region.items), length-drop (k * pool.size) pool.region.items, mul-le-mul_left pool.size below, inv.whole) ∙ ap (λ s. s.size) view;
+      value = slot ∙ sym (get_or-pieces (length pool.ledger) pool.size k pool.region.items below) ∙ ap (bytes_at (slots_of pool)) is
+          ∙ ap (λ s. bytes_at s l) view;
+      len = ap length slot ∙ omega (
+        arith,
+        length-take pool.size (drop (k * pool.size) pool.region.items),
+        length-drop (k * pool.size)
+            pool.region.items,
+        mul-le-mul_left pool.size below,
+        inv.whole,
+      ) ∙ ap (λ s. s.size) view;
     }
 
 -- the slots with bytes from slot k on, cut from the region itself
@@ -40,7 +51,8 @@ poured_cut : (pool : Inside) (k : ℕ) (written : List ℕ) → IsPool pool → 
 poured_cut pool k written inv = λ i. record {
   size = pool.size;
   lent = pool.ledger;
-  bytes = pieces (length-pieces (length pool.ledger) pool.size pool.region.items i) pool.size (over (k * pool.size) written (concat-pieces (length pool.ledger) pool.size pool.region.items inv.whole i));
+  bytes = pieces (length-pieces (length pool.ledger) pool.size pool.region.items i) pool.size
+      (over (k * pool.size) written (concat-pieces (length pool.ledger) pool.size pool.region.items inv.whole i));
 }
 
 -- the slots once a `&mut` into the region from slot k on has ended
@@ -60,7 +72,8 @@ poured_when_written pool slots k l written view inv is =
     ∙ ap (λ s. poured s l written) view
 
 -- what is as long as a slot goes into that slot alone
-pub poured_alone : (pool : Inside) (slots : Slots) (k l : ℕ) → slots_of pool ≡ slots → IsPool pool → k ≡ l → IsLive slots l → (written : List ℕ) → length written ≡ slots.size → poured slots l written ≡ with_bytes slots l written
+pub poured_alone : (pool : Inside) (slots : Slots) (k l : ℕ) → slots_of pool ≡ slots → IsPool pool → k ≡ l → IsLive slots l → (written : List ℕ)
+    → length written ≡ slots.size → poured slots l written ≡ with_bytes slots l written
 poured_alone pool slots k l view inv is live written one =
     let below = below_when_live pool slots k l view is live in
     let piece : length written ≡ pool.size = one ∙ sym (ap (λ s. s.size) view) in

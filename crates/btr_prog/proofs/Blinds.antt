@@ -1,5 +1,6 @@
 -- Where a want may come to several things, and some are lacked.
-use Rattle.std.proofs.Common.{◌≡◌, ◌⊎◌, inl, inr, ℕ, Bool, IsTrue, List, [], ◌∷◌, ◌++◌, Option, Result, Ok, Err, refl, sym, ap, ◌∙◌, subst, append-nil, append_assoc}
+use Rattle.std.proofs.Common.{◌≡◌, ◌⊎◌, inl, inr, ℕ, Bool, IsTrue, List, [], ◌∷◌, ◌++◌, Option, Result, Ok, Err, refl, sym, ap, ◌∙◌, subst, append-nil}
+use Rattle.std.proofs.Common.{append_assoc}
 use Rattle.btr_prog.specs.Prog.{BlockMap, Prog, Return, Stop, Need, Emit, Wants, Does, Run, run, first, given, exec, needs, steps_of, wants_of}
 use Rattle.btr_prog.specs.Maps.{Each, IsWithin}
 use Rattle.btr_prog.specs.Answers.{Halt, Fault, Unread, Broke, Names, no_part, Breaks, Follows}
@@ -21,7 +22,11 @@ module _ {W F S A J : Type 0} (plain : W → Bool) (Cs : J → BlockMap W F) (C 
   Same p q = (wants_of q.marks ≡ needs C p) × (q.ending ≡ (exec C p).ending)
 
   -- of one want, whose fates are x by the map taken and y by C
-  given_same : (test : Bool) (x y : Result (List ℕ) F) (k : List ℕ → Prog W F S A) (q : Run W F S A) → ((bytes : List ℕ) (t : Run W F S A) → Each (Alike plain Cs C) (needs C (k bytes)) → GoesTo Cs (k bytes) t → Same (k bytes) t) → (IsTrue test → (b c : List ℕ) → SameWants (k b) (k c)) → IsAlike test x y → Each (Alike plain Cs C) (wants_of (given y (λ bytes. exec C (k bytes))).marks) → goes_given x (λ bytes. GoesTo Cs (k bytes)) q → (wants_of q.marks ≡ wants_of (given y (λ bytes. exec C (k bytes))).marks) × (q.ending ≡ (given y (λ bytes. exec C (k bytes))).ending)
+  given_same : (test : Bool) (x y : Result (List ℕ) F) (k : List ℕ → Prog W F S A) (q : Run W F S A)
+      → ((bytes : List ℕ) (t : Run W F S A) → Each (Alike plain Cs C) (needs C (k bytes)) → GoesTo Cs (k bytes) t → Same (k bytes) t)
+      → (IsTrue test → (b c : List ℕ) → SameWants (k b) (k c)) → IsAlike test x y
+      → Each (Alike plain Cs C) (wants_of (given y (λ bytes. exec C (k bytes))).marks) → goes_given x (λ bytes. GoesTo Cs (k bytes)) q
+      → (wants_of q.marks ≡ wants_of (given y (λ bytes. exec C (k bytes))).marks) × (q.ending ≡ (given y (λ bytes. exec C (k bytes))).ending)
   given_same test (Ok b) (Ok c) k q ih same (inl e) h d =
       let i : b ≡ c = cc in
       ih c q h (subst (λ x. GoesTo Cs (k x) q) i d)
@@ -52,7 +57,8 @@ module _ {W F S A I J : Type 0} (some : J) (Bs : I → BlockMap W F) (Cs : J →
   Cut p r = GoesTo Cs p r ⊎ ((q : Run W F S A) × GoesTo Cs p q × Drops Bs q r)
 
   -- a mark before
-  more_want : (w : W) (j : J) (k : List ℕ → Prog W F S A) (bytes : List ℕ) (q r : Run W F S A) → Cs j w ≡ Ok bytes → r ≡ first (Wants w) q → Cut (k bytes) q → Cut (Need w k) r
+  more_want : (w : W) (j : J) (k : List ℕ → Prog W F S A) (bytes : List ℕ) (q r : Run W F S A) → Cs j w ≡ Ok bytes → r ≡ first (Wants w) q
+      → Cut (k bytes) q → Cut (Need w k) r
   more_want w j k bytes q r e i (inl g) = inl (j, q, i, subst (λ x. goes_given x (λ y. GoesTo Cs (k y)) q) (sym e) g)
   more_want w j k bytes q r e i (inr g) =
       let m = g.2 in
@@ -93,7 +99,9 @@ module _ {W F S A I J : Type 0} (some : J) (Bs : I → BlockMap W F) (Cs : J →
       )
 
   -- of one want, which comes to x
-  given_cut : (w : W) (i : I) (x y : Result (List ℕ) F) (j : J) (k : List ℕ → Prog W F S A) (q r : Run W F S A) → Bs i w ≡ x → Cs j w ≡ y → IsWithin x y → r ≡ first (Wants w) q → ((bytes : List ℕ) → y ≡ Ok bytes → (t : Run W F S A) → GoesTo Bs (k bytes) t → Cut (k bytes) t) → goes_given x (λ bytes. GoesTo Bs (k bytes)) q → Cut (Need w k) r
+  given_cut : (w : W) (i : I) (x y : Result (List ℕ) F) (j : J) (k : List ℕ → Prog W F S A) (q r : Run W F S A) → Bs i w ≡ x → Cs j w ≡ y
+      → IsWithin x y → r ≡ first (Wants w) q → ((bytes : List ℕ) → y ≡ Ok bytes → (t : Run W F S A) → GoesTo Bs (k bytes) t → Cut (k bytes) t)
+      → goes_given x (λ bytes. GoesTo Bs (k bytes)) q → Cut (Need w k) r
   given_cut w i (Ok bytes) y j k q r e c n s ih d = more_want w j k bytes q r (c ∙ n) s (ih bytes n q d)
   given_cut w i (Err f) y j k q r e c n s ih d = inr (
     exec (Cs some) (Need w k),
@@ -118,11 +126,13 @@ module _ {W F S A I J : Type 0} (some : J) (Bs : I → BlockMap W F) (Cs : J →
   goes_cut (Need w k) r h d =
       let j = (h (exec (Cs some) (Need w k)) (goes_map Cs some (Need w k))).0 d.0 in
       given_cut w d.0 (Bs d.0 w) (Cs j.0 w) j.0 k d.1 r refl refl j.1 d.2
-      (λ bytes e t g. goes_cut (k bytes) t (λ q c. (h (first (Wants w) q) (j.0, q, refl, subst (λ x. goes_given x (λ y. GoesTo Cs (k y)) q) (sym e) c)).1) g) d.3
+      (λ bytes e t g. goes_cut (k bytes) t (λ q c. (h (first (Wants w) q)
+      (j.0, q, refl, subst (λ x. goes_given x (λ y. GoesTo Cs (k y)) q) (sym e) c)).1) g) d.3
 
   module _ {U : Type 0} (Is : U → W → Type 0) (part : S → ℕ → Option S) (seen : List W) (p : Prog W F S A) (done : List S) where
     abbrev Held : Result A (Halt F U) → Type 0
-    Held ans = Goes Is part seen Cs p done ans ⊎ ((q : Run W F S A) × (r : Run W F S A) × GoesTo Cs p q × (m : Drops Bs q r) × (done ≡ steps_of m.before) × (ans ≡ Err (Fault m.fault)))
+    Held ans = Goes Is part seen Cs p done ans ⊎ ((q : Run W F S A) × (r : Run W F S A) × GoesTo Cs p q × (m : Drops Bs q r)
+        × (done ≡ steps_of m.before) × (ans ≡ Err (Fault m.fault)))
 
     -- the place where a shorter run is broken off is one of the longer
     drops_place : (part : S → ℕ → Option S) (P : List W → Type 0) (q r : Run W F S A) → Drops Bs q r → Breaks part P r done → Breaks part P q done
@@ -143,5 +153,6 @@ module _ {W F S A I J : Type 0} (some : J) (Bs : I → BlockMap W F) (Cs : J →
     held_by (Err (Unread u)) r f (inr c) = inl (c.0, c.1, drops_place no_part (λ ws. Names Is u (seen ++ ws)) c.0 r c.2 f)
     held_by (Err Broke) r f (inr c) = inl (c.0, c.1, drops_place part (λ ws. Unit {0}) c.0 r c.2 f)
 
-    pub goes_held : (plain : W → Bool) (C : BlockMap W F) (ans : Result A (Halt F U)) → IsBlind plain p → Each (λ w. (j : J) → IsAlike (plain w) (Cs j w) (C w)) (needs C p) → Each (Within Bs Cs) (needs C p) → Goes Is part seen Bs p done ans → Held ans
+    pub goes_held : (plain : W → Bool) (C : BlockMap W F) (ans : Result A (Halt F U)) → IsBlind plain p
+        → Each (λ w. (j : J) → IsAlike (plain w) (Cs j w) (C w)) (needs C p) → Each (Within Bs Cs) (needs C p) → Goes Is part seen Bs p done ans → Held ans
     goes_held plain C ans b h g n = held_by ans n.0 n.2 (goes_cut p n.0 (λ q c. subst (Each (Within Bs Cs)) (sym (blind_law plain Cs C p q b h c).0) g) n.1)

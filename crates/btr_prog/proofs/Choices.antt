@@ -1,23 +1,31 @@
 -- Runs where a want may come to any of several things.
 use Rattle.std.proofs.Common.{◌≡◌, ℕ, List, [], ◌∷◌, ◌++◌, Option, Some, Result, Ok, Err, refl, sym, ap, ◌∙◌, subst}
-use Rattle.btr_prog.specs.Prog.{BlockMap, Prog, Return, Stop, Need, Emit, Mark, Wants, Does, Run, run, first, prepend, given, exec, bind, after, and_then, needs, wants_of}
+use Rattle.btr_prog.specs.Prog.{BlockMap, Prog, Return, Stop, Need, Emit, Mark, Wants, Does, Run, run, first, prepend, given, exec, bind, after, and_then}
+use Rattle.btr_prog.specs.Prog.{needs, wants_of}
 use Rattle.btr_prog.specs.Maps.{Each}
 use Rattle.btr_prog.specs.Answers.{Halt, Fault, Unread, Broke, Follows}
 use Rattle.btr_prog.specs.Goes.{goes_given, GoesTo, AfterTo, Goes}
 use Rattle.btr_prog.proofs.Follow.{follows_behind, follows_halt, follows_alone, want_unread, step_done, step_broke, broke_here}
 
 module _ {W F S I A : Type 0} (Bs : I → BlockMap W F) (B : BlockMap W F) where
-  given_one : (x : Result (List ℕ) F) (k : List ℕ → Prog W F S A) (q : Run W F S A) → ((bytes : List ℕ) (s : Run W F S A) → Each (λ w. (i : I) → Bs i w ≡ B w) (needs B (k bytes)) → GoesTo Bs (k bytes) s → s ≡ exec B (k bytes)) → Each (λ w. (i : I) → Bs i w ≡ B w) (wants_of (given x (λ bytes. exec B (k bytes))).marks) → goes_given x (λ bytes. GoesTo Bs (k bytes)) q → q ≡ given x (λ bytes. exec B (k bytes))
+  given_one : (x : Result (List ℕ) F) (k : List ℕ → Prog W F S A) (q : Run W F S A)
+      → ((bytes : List ℕ) (s : Run W F S A) → Each (λ w. (i : I) → Bs i w ≡ B w) (needs B (k bytes)) → GoesTo Bs (k bytes) s → s ≡ exec B (k bytes))
+      → Each (λ w. (i : I) → Bs i w ≡ B w) (wants_of (given x (λ bytes. exec B (k bytes))).marks) → goes_given x (λ bytes. GoesTo Bs (k bytes)) q → q
+      ≡ given x (λ bytes. exec B (k bytes))
   given_one (Ok bytes) k q ih h g = ih bytes q h g
   given_one (Err f) k q ih h g = g
 
   pub goes_one : (p : Prog W F S A) (r : Run W F S A) → Each (λ w. (i : I) → Bs i w ≡ B w) (needs B p) → GoesTo Bs p r → r ≡ exec B p
   goes_one (Return a) r h g = g
   goes_one (Stop f) r h g = g
-  goes_one (Need w k) r h g = g.2 ∙ ap (first (Wants w)) (given_one (B w) k g.1 (λ bytes s e d. goes_one (k bytes) s e d) h.1 (subst (λ x. goes_given x (λ bytes. GoesTo Bs (k bytes)) g.1) (h.0 g.0) g.3))
+  goes_one (Need w k) r h g = g.2 ∙ ap (first (Wants w)) (given_one (B w) k g.1 (λ bytes s e d. goes_one (k bytes) s e d) h.1
+      (subst (λ x. goes_given x (λ bytes. GoesTo Bs (k bytes)) g.1) (h.0 g.0) g.3))
   goes_one (Emit s p) r h g = g.1 ∙ ap (first (Does s)) (goes_one p g.0 h g.2)
 
-  given_some : (x : Result (List ℕ) F) (k : List ℕ → Prog W F S A) → ((bytes : List ℕ) → Each (λ w. (i : I) × (Bs i w ≡ B w)) (needs B (k bytes)) → GoesTo Bs (k bytes) (exec B (k bytes))) → Each (λ w. (i : I) × (Bs i w ≡ B w)) (wants_of (given x (λ bytes. exec B (k bytes))).marks) → goes_given x (λ bytes. GoesTo Bs (k bytes)) (given x (λ bytes. exec B (k bytes)))
+  given_some : (x : Result (List ℕ) F) (k : List ℕ → Prog W F S A)
+      → ((bytes : List ℕ) → Each (λ w. (i : I) × (Bs i w ≡ B w)) (needs B (k bytes)) → GoesTo Bs (k bytes) (exec B (k bytes)))
+      → Each (λ w. (i : I) × (Bs i w ≡ B w)) (wants_of (given x (λ bytes. exec B (k bytes))).marks)
+      → goes_given x (λ bytes. GoesTo Bs (k bytes)) (given x (λ bytes. exec B (k bytes)))
   given_some (Ok bytes) k ih h = ih bytes h
   given_some (Err f) k ih h = refl
 
@@ -31,7 +39,9 @@ module _ {W F S I A : Type 0} (Bs : I → BlockMap W F) (B : BlockMap W F) where
 
 module _ {W F S I : Type 0} (Bs : I → BlockMap W F) where
   -- the run under one of the maps
-  given_map : {A : Type 0} (i : I) (x : Result (List ℕ) F) (k : List ℕ → Prog W F S A) → ((bytes : List ℕ) → GoesTo Bs (k bytes) (exec (Bs i) (k bytes))) → goes_given x (λ bytes. GoesTo Bs (k bytes)) (given x (λ bytes. exec (Bs i) (k bytes)))
+  given_map : {A : Type 0} (i : I) (x : Result (List ℕ) F) (k : List ℕ → Prog W F S A)
+      → ((bytes : List ℕ) → GoesTo Bs (k bytes) (exec (Bs i) (k bytes)))
+      → goes_given x (λ bytes. GoesTo Bs (k bytes)) (given x (λ bytes. exec (Bs i) (k bytes)))
   given_map i (Ok bytes) k ih = ih bytes
   given_map i (Err f) k ih = refl
 
@@ -42,7 +52,9 @@ module _ {W F S I : Type 0} (Bs : I → BlockMap W F) where
   goes_map i (Emit s p) = (exec (Bs i) p, refl, goes_map i p)
 
   module _ {J : Type 0} (Cs : J → BlockMap W F) where
-    given_more : {A : Type 0} (x : Result (List ℕ) F) (k : List ℕ → Prog W F S A) (q : Run W F S A) → ((bytes : List ℕ) (s : Run W F S A) → GoesTo Bs (k bytes) s → GoesTo Cs (k bytes) s) → goes_given x (λ bytes. GoesTo Bs (k bytes)) q → goes_given x (λ bytes. GoesTo Cs (k bytes)) q
+    given_more : {A : Type 0} (x : Result (List ℕ) F) (k : List ℕ → Prog W F S A) (q : Run W F S A)
+        → ((bytes : List ℕ) (s : Run W F S A) → GoesTo Bs (k bytes) s → GoesTo Cs (k bytes) s) → goes_given x (λ bytes. GoesTo Bs (k bytes)) q
+        → goes_given x (λ bytes. GoesTo Cs (k bytes)) q
     given_more (Ok bytes) k q ih g = ih bytes q g
     given_more (Err f) k q ih g = g
 
@@ -50,16 +62,23 @@ module _ {W F S I : Type 0} (Bs : I → BlockMap W F) where
     goes_more (Return a) r h g = g
     goes_more (Stop f) r h g = g
     goes_more (Need w k) r h g =
-        let c = h g.0 w in
-        (c.0, g.1, g.2, subst (λ x. goes_given x (λ bytes. GoesTo Cs (k bytes)) g.1) (sym c.1) (given_more (Bs g.0 w) k g.1 (λ bytes s d. goes_more (k bytes) s h d) g.3))
+        let c = h g.0 w in (
+          c.0,
+          g.1,
+          g.2,
+          subst (λ x. goes_given x (λ bytes. GoesTo Cs (k bytes)) g.1) (sym c.1)
+              (given_more (Bs g.0 w) k g.1 (λ bytes s d. goes_more (k bytes) s h d) g.3),
+        )
     goes_more (Emit s p) r h g = (g.0, g.1, goes_more p g.0 h g.2)
 
   -- a mark before what comes after
-  after_first : {A C : Type 0} (m : Mark W S) (ms : List (Mark W S)) (e : Result A F) (K : A → Run W F S C → Type 0) (r : Run W F S C) → AfterTo (m ∷ ms) e K r → (q : Run W F S C) × (r ≡ first m q) × AfterTo ms e K q
+  after_first : {A C : Type 0} (m : Mark W S) (ms : List (Mark W S)) (e : Result A F) (K : A → Run W F S C → Type 0) (r : Run W F S C)
+      → AfterTo (m ∷ ms) e K r → (q : Run W F S C) × (r ≡ first m q) × AfterTo ms e K q
   after_first m ms (Ok a) K r g = (prepend ms g.0, g.1, (g.0, refl, g.2))
   after_first m ms (Err f) K r g = (run ms (Err f), g, refl)
 
-  first_after : {A C : Type 0} (m : Mark W S) (ms : List (Mark W S)) (e : Result A F) (K : A → Run W F S C → Type 0) (q r : Run W F S C) → r ≡ first m q → AfterTo ms e K q → AfterTo (m ∷ ms) e K r
+  first_after : {A C : Type 0} (m : Mark W S) (ms : List (Mark W S)) (e : Result A F) (K : A → Run W F S C → Type 0) (q r : Run W F S C) → r
+      ≡ first m q → AfterTo ms e K q → AfterTo (m ∷ ms) e K r
   first_after m ms (Ok a) K q r e g = (g.0, e ∙ ap (first m) g.1, g.2)
   first_after m ms (Err f) K q r e g = e ∙ ap (first m) g
 
@@ -68,11 +87,15 @@ module _ {W F S I : Type 0} (Bs : I → BlockMap W F) where
     Bound p r = (q : Run W F S A) × GoesTo Bs p q × AfterTo q.marks q.ending (λ a. GoesTo Bs (k a)) r
 
     -- a run of the first, and then one of the other
-    given_bind : (x : Result (List ℕ) F) (g : List ℕ → Prog W F S A) (q : Run W F S A) (r : Run W F S C) → ((bytes : List ℕ) (t : Run W F S A) (s : Run W F S C) → GoesTo Bs (g bytes) t → AfterTo t.marks t.ending (λ a. GoesTo Bs (k a)) s → GoesTo Bs (bind (g bytes) k) s) → goes_given x (λ bytes. GoesTo Bs (g bytes)) q → AfterTo q.marks q.ending (λ a. GoesTo Bs (k a)) r → goes_given x (λ bytes. GoesTo Bs (bind (g bytes) k)) r
+    given_bind : (x : Result (List ℕ) F) (g : List ℕ → Prog W F S A) (q : Run W F S A) (r : Run W F S C)
+        → ((bytes : List ℕ) (t : Run W F S A) (s : Run W F S C) → GoesTo Bs (g bytes) t → AfterTo t.marks t.ending (λ a. GoesTo Bs (k a)) s
+        → GoesTo Bs (bind (g bytes) k) s) → goes_given x (λ bytes. GoesTo Bs (g bytes)) q → AfterTo q.marks q.ending (λ a. GoesTo Bs (k a)) r
+        → goes_given x (λ bytes. GoesTo Bs (bind (g bytes) k)) r
     given_bind (Ok bytes) g q r ih d h = ih bytes q r d h
     given_bind (Err f) g q r ih d h = subst (λ (x : Run W F S A). AfterTo x.marks x.ending (λ a. GoesTo Bs (k a)) r) d h
 
-    pub goes_bind : (p : Prog W F S A) (q : Run W F S A) (r : Run W F S C) → GoesTo Bs p q → AfterTo q.marks q.ending (λ a. GoesTo Bs (k a)) r → GoesTo Bs (bind p k) r
+    pub goes_bind : (p : Prog W F S A) (q : Run W F S A) (r : Run W F S C) → GoesTo Bs p q → AfterTo q.marks q.ending (λ a. GoesTo Bs (k a)) r
+        → GoesTo Bs (bind p k) r
     goes_bind (Return a) q r d h =
         let g = subst (λ (x : Run W F S A). AfterTo x.marks x.ending (λ b. GoesTo Bs (k b)) r) d h in
         subst (GoesTo Bs (k a)) (sym g.1) g.2
@@ -85,11 +108,21 @@ module _ {W F S I : Type 0} (Bs : I → BlockMap W F) where
         (t.0, t.1, goes_bind p d.0 t.0 d.2 t.2)
 
     -- each run of one program and then another is a run of the first, and then one of the other
-    given_parts : (w : W) (i : I) (x : Result (List ℕ) F) (g : List ℕ → Prog W F S A) (q r : Run W F S C) → Bs i w ≡ x → r ≡ first (Wants w) q → ((bytes : List ℕ) (s : Run W F S C) → GoesTo Bs (bind (g bytes) k) s → Bound (g bytes) s) → goes_given x (λ bytes. GoesTo Bs (bind (g bytes) k)) q → Bound (Need w g) r
+    given_parts : (w : W) (i : I) (x : Result (List ℕ) F) (g : List ℕ → Prog W F S A) (q r : Run W F S C) → Bs i w ≡ x → r ≡ first (Wants w) q
+        → ((bytes : List ℕ) (s : Run W F S C) → GoesTo Bs (bind (g bytes) k) s → Bound (g bytes) s)
+        → goes_given x (λ bytes. GoesTo Bs (bind (g bytes) k)) q → Bound (Need w g) r
     given_parts w i (Ok bytes) g q r e c ih d =
-        let b = ih bytes q d in
-        (first (Wants w) b.0, (i, b.0, refl, subst (λ x. goes_given x (λ y. GoesTo Bs (g y)) b.0) (sym e) b.1), first_after (Wants w) b.0.marks b.0.ending (λ a. GoesTo Bs (k a)) q r c b.2)
-    given_parts w i (Err f) g q r e c ih d = (first (Wants w) (run [] (Err f)), (i, run [] (Err f), refl, subst (λ x. goes_given x (λ y. GoesTo Bs (g y)) (run [] (Err f))) (sym e) refl), c ∙ ap (first (Wants w)) d)
+        let b = ih bytes q d in (
+          first (Wants w) b.0,
+          (i, b.0, refl, subst (λ x. goes_given x (λ y. GoesTo Bs (g y)) b.0) (sym e) b.1),
+          first_after (Wants w) b.0.marks
+              b.0.ending (λ a. GoesTo Bs (k a)) q r c b.2,
+        )
+    given_parts w i (Err f) g q r e c ih d = (
+      first (Wants w) (run [] (Err f)),
+      (i, run [] (Err f), refl, subst (λ x. goes_given x (λ y. GoesTo Bs (g y)) (run [] (Err f))) (sym e) refl),
+      c ∙ ap (first (Wants w)) d,
+    )
 
     pub goes_parts : (p : Prog W F S A) (r : Run W F S C) → GoesTo Bs (bind p k) r → Bound p r
     goes_parts (Return a) r d = (run [] (Ok a), refl, (r, refl, d))
@@ -100,12 +133,14 @@ module _ {W F S I : Type 0} (Bs : I → BlockMap W F) where
         (first (Does s) b.0, (b.0, refl, b.1), first_after (Does s) b.0.marks b.0.ending (λ a. GoesTo Bs (k a)) d.0 r d.1 b.2)
 
   -- a run that some run after it completes
-  after_exec : {A C : Type 0} (i : I) (k : A → Prog W F S C) (ms : List (Mark W S)) (e : Result A F) → AfterTo ms e (λ a. GoesTo Bs (k a)) (after ms e (λ a. exec (Bs i) (k a)))
+  after_exec : {A C : Type 0} (i : I) (k : A → Prog W F S C) (ms : List (Mark W S)) (e : Result A F)
+      → AfterTo ms e (λ a. GoesTo Bs (k a)) (after ms e (λ a. exec (Bs i) (k a)))
   after_exec i k ms (Ok a) = (exec (Bs i) (k a), refl, goes_map i (k a))
   after_exec i k ms (Err f) = refl
 
   module _ {A C U : Type 0} (Is : U → W → Type 0) (part : S → ℕ → Option S) (seen : List W) (p : Prog W F S A) (k : A → Prog W F S C) where
-    pub goes_then : (r : Run W F S A) (a : A) (done more : List S) (ans : Result C (Halt F U)) → GoesTo Bs p r → Follows Is part seen r done (Ok a) → Goes Is part (seen ++ wants_of r.marks) Bs (k a) more ans → Goes Is part seen Bs (bind p k) (done ++ more) ans
+    pub goes_then : (r : Run W F S A) (a : A) (done more : List S) (ans : Result C (Halt F U)) → GoesTo Bs p r → Follows Is part seen r done (Ok a)
+        → Goes Is part (seen ++ wants_of r.marks) Bs (k a) more ans → Goes Is part seen Bs (bind p k) (done ++ more) ans
     goes_then r a done more ans g h n = (
       prepend r.marks n.0,
       goes_bind k p r (prepend r.marks n.0) g (subst (λ x. AfterTo r.marks x (λ b. GoesTo Bs (k b)) (prepend r.marks n.0)) (sym h.1) (n.0, refl, n.1)),
@@ -121,7 +156,8 @@ module _ {W F S I : Type 0} (Bs : I → BlockMap W F) where
         )
 
   module _ {A U : Type 0} (Is : U → W → Type 0) (part : S → ℕ → Option S) (seen : List W) where
-    pub goes_came : (i : I) (w : W) (bytes : List ℕ) (k : List ℕ → Prog W F S A) (done : List S) (ans : Result A (Halt F U)) → Bs i w ≡ Ok bytes → Goes Is part (seen ++ (w ∷ [])) Bs (k bytes) done ans → Goes Is part seen Bs (Need w k) done ans
+    pub goes_came : (i : I) (w : W) (bytes : List ℕ) (k : List ℕ → Prog W F S A) (done : List S) (ans : Result A (Halt F U)) → Bs i w ≡ Ok bytes
+        → Goes Is part (seen ++ (w ∷ [])) Bs (k bytes) done ans → Goes Is part seen Bs (Need w k) done ans
     goes_came i w bytes k done ans e h = (
       first (Wants w) h.0,
       (i, h.0, refl, subst (λ x. goes_given x (λ y. GoesTo Bs (k y)) h.0) (sym e) h.1),
@@ -138,7 +174,8 @@ module _ {W F S I : Type 0} (Bs : I → BlockMap W F) where
     pub goes_unread : (i : I) (u : U) (w : W) (k : List ℕ → Prog W F S A) → Is u w → Goes Is part seen Bs (Need w k) [] (Err (Unread u))
     goes_unread i u w k h = (exec (Bs i) (Need w k), goes_map i (Need w k), want_unread Is part seen u w (given (Bs i w) (λ bytes. exec (Bs i) (k bytes))) h)
 
-    pub goes_step : (s : S) (p : Prog W F S A) (done : List S) (ans : Result A (Halt F U)) → Goes Is part seen Bs p done ans → Goes Is part seen Bs (Emit s p) (s ∷ done) ans
+    pub goes_step : (s : S) (p : Prog W F S A) (done : List S) (ans : Result A (Halt F U)) → Goes Is part seen Bs p done ans
+        → Goes Is part seen Bs (Emit s p) (s ∷ done) ans
     goes_step s p done ans h = (first (Does s) h.0, (h.0, refl, h.1), step_done Is part seen s h.0 done ans h.2)
 
     pub goes_broke : (i : I) (s t : S) (n : ℕ) (p : Prog W F S A) → part s n ≡ Some t → Goes Is part seen Bs (Emit s p) (t ∷ []) (Err Broke)
@@ -155,7 +192,8 @@ module _ {W F S I : Type 0} (Bs : I → BlockMap W F) where
   abbrev pub with_value : {A C : Type 0} → (A → C) → Run W F S A → Run W F S C
   with_value f r = and_then r (λ a. run [] (Ok (f a)))
 
-  after_value : {A C : Type 0} (f : A → C) (ms : List (Mark W S)) (e : Result A F) → AfterTo ms e (λ a. GoesTo Bs (Return (f a))) (after ms e (λ a. run [] (Ok (f a))))
+  after_value : {A C : Type 0} (f : A → C) (ms : List (Mark W S)) (e : Result A F)
+      → AfterTo ms e (λ a. GoesTo Bs (Return (f a))) (after ms e (λ a. run [] (Ok (f a))))
   after_value f ms (Ok a) = (run [] (Ok (f a)), refl, refl)
   after_value f ms (Err x) = refl
 

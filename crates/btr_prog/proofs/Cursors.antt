@@ -30,16 +30,19 @@ module _ {W F S A T St R : Type 0} (Body : St → S → Run W F T (Result St R) 
   past_in (w ∷ ws) st r q h = (prepend (want_marks ws) q, refl, past_in ws st r q h)
 
   -- the cursor read on: some wants are past
-  pub so_far_past : (Whole : Run W F T R → Type 0) (seen ws : List W) (done : List T) (st : St) (r r' : Run W F S A) → r ≡ prepend (want_marks ws) r' → SoFar Whole (Treats st r) seen done → SoFar Whole (Treats st r') (seen ++ ws) done
+  pub so_far_past : (Whole : Run W F T R → Type 0) (seen ws : List W) (done : List T) (st : St) (r r' : Run W F S A) → r ≡ prepend (want_marks ws) r'
+      → SoFar Whole (Treats st r) seen done → SoFar Whole (Treats st r') (seen ++ ws) done
   so_far_past Whole seen ws done st r r' e s =
       let t : SoFar Whole (Treats st (prepend (want_marks ws) r')) seen done = subst (λ x. SoFar Whole (Treats st x) seen done) e s in
       let u = so_far_more Whole (Treats st (prepend (want_marks ws) r')) (Treats st r') seen done (want_marks ws) (λ q h. past_in ws st r' q h) t in
       subst (λ (x : List W). SoFar Whole (Treats st r') (seen ++ x) done) (wants_back T ws)
-      (subst (λ (x : List T). SoFar Whole (Treats st r') (seen ++ wants_of (want_marks {S = T} ws)) x) (ap (λ (x : List T). done ++ x) (steps_back T ws) ∙ append-nil done) u)
+      (subst (λ (x : List T). SoFar Whole (Treats st r') (seen ++ wants_of (want_marks {S = T} ws)) x)
+      (ap (λ (x : List T). done ++ x) (steps_back T ws) ∙ append-nil done) u)
 
   module _ (some : (st : St) (r : Run W F S A) → (q : Run W F T R) × Treats st r q) where
     -- marks without a step before others
-    stops_at : (part : T → ℕ → Option T) (P : List W → Type 0) (st : St) (e : Result A F) (before behind : List (Mark W S)) → [] ≡ steps_of before → P (wants_of before) → (q : Run W F T R) × ThreadsTo Body fin st (before ++ behind) e q × Breaks part P q []
+    stops_at : (part : T → ℕ → Option T) (P : List W → Type 0) (st : St) (e : Result A F) (before behind : List (Mark W S)) → [] ≡ steps_of before
+        → P (wants_of before) → (q : Run W F T R) × ThreadsTo Body fin st (before ++ behind) e q × Breaks part P q []
     stops_at part P st e [] behind n h =
         let g = some st (run behind e) in
         (g.0, g.1, record { before = []; behind = g.0.marks; left = None; place = refl; steps = refl; leaves = tt; holds = h })
@@ -49,12 +52,14 @@ module _ {W F S A T St R : Type 0} (Body : St → S → Run W F T (Result St R) 
         (first (Wants w) g.0, (g.0, refl, g.1), record { before = Wants w ∷ b.before; behind = b.behind; left = b.left; place = ap (λ x. Wants w ∷ x) b.place; steps = b.steps; leaves = b.leaves; holds = b.holds })
     stops_at part P st e (Does s ∷ before) behind n h = cc
 
-    breaks_as : (part0 : S → ℕ → Option S) (part : T → ℕ → Option T) (P : List W → Type 0) (st : St) (r : Run W F S A) → Breaks part0 P r [] → (q : Run W F T R) × Treats st r q × Breaks part P q []
+    breaks_as : (part0 : S → ℕ → Option S) (part : T → ℕ → Option T) (P : List W → Type 0) (st : St) (r : Run W F S A) → Breaks part0 P r []
+        → (q : Run W F T R) × Treats st r q × Breaks part P q []
     breaks_as part0 part P st r b =
         subst (λ ms. (q : Run W F T R) × ThreadsTo Body fin st ms r.ending q × Breaks part P q []) (sym b.place)
         (stops_at part P st r.ending b.before b.behind (nothing_left (steps_of b.before) b.left b.steps) b.holds)
 
-    ends_as : (st : St) (f : F) (ms : List (Mark W S)) (e : Result A F) → [] ≡ steps_of ms → e ≡ Err f → (q : Run W F T R) × ThreadsTo Body fin st ms e q × ([] ≡ steps_of q.marks) × (q.ending ≡ Err f)
+    ends_as : (st : St) (f : F) (ms : List (Mark W S)) (e : Result A F) → [] ≡ steps_of ms → e ≡ Err f → (q : Run W F T R)
+        × ThreadsTo Body fin st ms e q × ([] ≡ steps_of q.marks) × (q.ending ≡ Err f)
     ends_as st f [] e n h = (
       end_of fin st e,
       refl,
@@ -65,13 +70,16 @@ module _ {W F S A T St R : Type 0} (Body : St → S → Run W F T (Result St R) 
     ends_as st f (Does s ∷ ms) e n h = cc
 
     -- the cursor came to no item: what it answers is answered of the treated program
-    pub cursor_halts : {U : Type 0} (Is : U → W → Type 0) (part : T → ℕ → Option T) (seen : List W) (st : St) (r : Run W F S A) (h : Halt F U) → Follows Is no_part seen r [] (Err h) → (q : Run W F T R) × Treats st r q × Follows Is part seen q [] (Err h)
+    pub cursor_halts : {U : Type 0} (Is : U → W → Type 0) (part : T → ℕ → Option T) (seen : List W) (st : St) (r : Run W F S A) (h : Halt F U)
+        → Follows Is no_part seen r [] (Err h) → (q : Run W F T R) × Treats st r q × Follows Is part seen q [] (Err h)
     cursor_halts Is part seen st r (Fault f) h = let g = ends_as st f r.marks r.ending h.0 h.1 in (g.0, g.1, (g.2, g.3))
     cursor_halts Is part seen st r (Unread u) h = breaks_as no_part no_part (λ ws. Names Is u (seen ++ ws)) st r h
     cursor_halts Is part seen st r Broke h = breaks_as no_part part (λ ws. Unit {0}) st r h
 
     -- a loop ends with the answer of a cursor that came to no item
-    pub so_far_cursor : {U : Type 0} (Is : U → W → Type 0) (part : T → ℕ → Option T) (Whole : Run W F T R → Type 0) (seen : List W) (done : List T) (st : St) (r : Run W F S A) (h : Halt F U) → Follows Is no_part seen r [] (Err h) → SoFar Whole (Treats st r) seen done → Answers Is part Whole done (Err h)
+    pub so_far_cursor : {U : Type 0} (Is : U → W → Type 0) (part : T → ℕ → Option T) (Whole : Run W F T R → Type 0) (seen : List W) (done : List T)
+        (st : St) (r : Run W F S A) (h : Halt F U) → Follows Is no_part seen r [] (Err h) → SoFar Whole (Treats st r) seen done
+        → Answers Is part Whole done (Err h)
     so_far_cursor Is part Whole seen done st r h f s =
         subst (λ (x : List T). Answers Is part Whole x (Err h)) (append-nil done)
         (so_far_ends Is part Whole (Treats st r) seen done [] (Err h) s (cursor_halts Is part seen st r h f))

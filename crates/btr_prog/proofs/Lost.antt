@@ -53,7 +53,8 @@ module _ {W F S A : Type 0} (B : BlockMap W F) where
   missing (Wants w ∷ ms) e = missing_want w (B w) ms e refl (missing ms e)
   missing (Does s ∷ ms) e = missing_step s ms e (missing ms e)
 
-  lost_or_whole : (C : BlockMap W F) (p : Prog W F S A) → Each (λ w. IsWithin (B w) (C w)) (needs C p) → Missing (exec C p).marks (exec C p).ending → (exec B p ≡ exec C p) ⊎ Loses B (exec C p) (exec B p)
+  lost_or_whole : (C : BlockMap W F) (p : Prog W F S A) → Each (λ w. IsWithin (B w) (C w)) (needs C p) → Missing (exec C p).marks (exec C p).ending
+      → (exec B p ≡ exec C p) ⊎ Loses B (exec C p) (exec B p)
   lost_or_whole C p h (inl g) = inl (whole_law B C p h g)
   lost_or_whole C p h (inr g) = inr (subst (λ (r : Run W F S A). Loses B (exec C p) r) (sym (cut_law B C p h)) g)
 

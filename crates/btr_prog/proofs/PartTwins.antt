@@ -24,30 +24,38 @@ refused x = x
 abbrev any_want : ℕ → Staged ℕ ℕ → Type 0
 any_want u w = Unit {0}
 
-staged_cut_twin : ((B C : Map) (D E : ℕ → Map) (p : First) (k : ℕ → P) → exec (both B D) (staged refused p k) ≡ cut (both B D) (exec (both C E) (staged refused p k))) → ⊥
+staged_cut_twin : ((B C : Map) (D E : ℕ → Map) (p : First) (k : ℕ → P) → exec (both B D) (staged refused p k)
+    ≡ cut (both B D) (exec (both C E) (staged refused p k))) → ⊥
 staged_cut_twin h = values 1 2 one_two (ap parts_value (h one one (λ t. one) (λ t. two) (Return (Ok 0)) (λ t. asks)))
 
-staged_lost_twin : ((B C : Map) (D E : ℕ → Map) (p : First) (k : ℕ → P) → (exec (both B D) (staged refused p k) ≡ exec (both C E) (staged refused p k)) ⊎ Loses (both B D) (exec (both C E) (staged refused p k)) (exec (both B D) (staged refused p k))) → ⊥
+staged_lost_twin : ((B C : Map) (D E : ℕ → Map) (p : First) (k : ℕ → P)
+    → (exec (both B D) (staged refused p k) ≡ exec (both C E) (staged refused p k))
+    ⊎ Loses (both B D) (exec (both C E) (staged refused p k)) (exec (both B D) (staged refused p k))) → ⊥
 staged_lost_twin h = elim (h one one (λ t. one) (λ t. two) (Return (Ok 0)) (λ t. asks)) [ inl e ↦ values 1 2 one_two (ap parts_value e) | inr m ↦ value_fault 1 m.fault m.ending ]
 
 -- the rest run under another table than the first part gave, or where it refused
-staged_then_twin : ((B : Map) (D : ℕ → Map) (p : First) (k : ℕ → P) (t : ℕ) (done more : List ℕ) (ans : Ans) → Follows Is no_part [] (exec (D t) (k t)) more ans → Follows any_want no_part [] (exec (both B D) (staged refused p k)) (done ++ more) ans) → ⊥
+staged_then_twin : ((B : Map) (D : ℕ → Map) (p : First) (k : ℕ → P) (t : ℕ) (done more : List ℕ) (ans : Ans)
+    → Follows Is no_part [] (exec (D t) (k t)) more ans → Follows any_want no_part [] (exec (both B D) (staged refused p k)) (done ++ more) ans) → ⊥
 staged_then_twin h = values 7 1 (λ e. omega (arith, e)) (h one (λ t. one) (Return (Err 7)) (λ t. asks) 0 [] [] (Ok 1) (refl, refl)).1
 
-staged_refused_twin : ((B : Map) (D : ℕ → Map) (p : First) (k : ℕ → P) (x : ℕ) (done : List ℕ) → Follows {U = ℕ} any_want no_part [] (exec (both B D) (staged refused p k)) done (Ok (refused x))) → ⊥
+staged_refused_twin : ((B : Map) (D : ℕ → Map) (p : First) (k : ℕ → P) (x : ℕ) (done : List ℕ)
+    → Follows {U = ℕ} any_want no_part [] (exec (both B D) (staged refused p k)) done (Ok (refused x))) → ⊥
 staged_refused_twin h = value_fault 7 9 (sym (h one (λ t. one) (Stop 9) (λ t. asks) 7 []).1)
 
-goes_staged_twin : ((Bs : Bool → Map) (Ds : Bool → ℕ → Map) (p : First) (k : ℕ → P) (t : ℕ) (done more : List ℕ) (ans : Ans) → Goes Is no_part [] (λ i. Ds i t) (k t) more ans → Goes any_want no_part [] (λ i. both (Bs i) (Ds i)) (staged refused p k) (done ++ more) ans) → ⊥
+goes_staged_twin : ((Bs : Bool → Map) (Ds : Bool → ℕ → Map) (p : First) (k : ℕ → P) (t : ℕ) (done more : List ℕ) (ans : Ans)
+    → Goes Is no_part [] (λ i. Ds i t) (k t) more ans → Goes any_want no_part [] (λ i. both (Bs i) (Ds i)) (staged refused p k) (done ++ more) ans) → ⊥
 goes_staged_twin h =
     let g = h each_one (λ i t. one) (Stop 9) (λ t. Return 1) 0 [] [] (Ok 1) (ended 1, refl, (refl, refl)) in
     value_fault 1 9 (sym (sym (ap parts_value g.1) ∙ g.2.1))
 
-goes_staged_refused_twin : ((Bs : Bool → Map) (Ds : Bool → ℕ → Map) (p : First) (k : ℕ → P) (x : ℕ) (done : List ℕ) → Goes {U = ℕ} any_want no_part [] (λ i. both (Bs i) (Ds i)) (staged refused p k) done (Ok (refused x))) → ⊥
+goes_staged_refused_twin : ((Bs : Bool → Map) (Ds : Bool → ℕ → Map) (p : First) (k : ℕ → P) (x : ℕ) (done : List ℕ)
+    → Goes {U = ℕ} any_want no_part [] (λ i. both (Bs i) (Ds i)) (staged refused p k) done (Ok (refused x))) → ⊥
 goes_staged_refused_twin h =
     let g = h each_one (λ i t. one) (Stop 9) (λ t. Return 1) 7 [] in
     value_fault 7 9 (sym (sym (ap parts_value g.1) ∙ g.2.1))
 
-goes_staged_halt_twin : ((Bs : Bool → Map) (Ds : Bool → ℕ → Map) (p : First) (k : ℕ → P) (done : List ℕ) (f : ℕ) → Goes {U = ℕ} any_want no_part [] (λ i. both (Bs i) (Ds i)) (staged refused p k) done (Err (Fault f))) → ⊥
+goes_staged_halt_twin : ((Bs : Bool → Map) (Ds : Bool → ℕ → Map) (p : First) (k : ℕ → P) (done : List ℕ) (f : ℕ)
+    → Goes {U = ℕ} any_want no_part [] (λ i. both (Bs i) (Ds i)) (staged refused p k) done (Err (Fault f))) → ⊥
 goes_staged_halt_twin h =
     let g = h each_one (λ i t. one) (Return (Err 1)) (λ t. Return 1) [] 9 in
     value_fault 1 9 (sym (ap parts_value g.1) ∙ g.2.1)
@@ -64,7 +72,8 @@ well_twin : ((well : ℕ → Bool) (B : Map) (p : P) → Each (λ w. EndsWell (�
 well_twin h = let no : IsTrue false = (h (λ f. false) none asks).0 in cc
 
 -- the same of what the first part of two answered, and of wants that go by other names
-staged_halt_twin : ((B : Map) (D : ℕ → Map) (p : First) (k : ℕ → P) (done : List ℕ) (f : ℕ) → Follows {U = ℕ} any_want no_part [] (exec (both B D) (staged refused p k)) done (Err (Fault f))) → ⊥
+staged_halt_twin : ((B : Map) (D : ℕ → Map) (p : First) (k : ℕ → P) (done : List ℕ) (f : ℕ)
+    → Follows {U = ℕ} any_want no_part [] (exec (both B D) (staged refused p k)) done (Err (Fault f))) → ⊥
 staged_halt_twin h = value_fault 1 9 (h one (λ t. one) (Return (Ok 0)) (λ t. asks) [] 9).1
 
 follows_renamed_twin : ((f : ℕ → ℕ) (r : R) (done : List ℕ) (ans : Ans) → Follows Is no_part [] (renamed_run f r) done ans) → ⊥

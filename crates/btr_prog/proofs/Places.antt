@@ -19,16 +19,21 @@ module _ {W F S : Type 0} (B : BlockMap W F) where
   up_to-part (Does s ∷ ms) = let h = up_to-part ms in (h.0, ap (λ x. Does s ∷ x) h.1)
 
 module _ {W F S A : Type 0} where
-  pub same_place : (part : S → ℕ → Option S) (P : List W → Type 0) (B C : BlockMap W F) (p : Prog W F S A) (done : List S) → Each (λ w. IsWithin (B w) (C w)) (needs C p) → Breaks part P (exec B p) done → Breaks part P (exec C p) done
+  pub same_place : (part : S → ℕ → Option S) (P : List W → Type 0) (B C : BlockMap W F) (p : Prog W F S A) (done : List S)
+      → Each (λ w. IsWithin (B w) (C w)) (needs C p) → Breaks part P (exec B p) done → Breaks part P (exec C p) done
   same_place part P B C p done h b =
       let q = up_to-part B (exec C p).marks in
       let e : (exec B p).marks ++ q.0 ≡ (exec C p).marks = ap (λ (r : Run W F S A). r.marks ++ q.0) (cut_law B C p h) ∙ sym q.1 in
       subst (λ x. Breaks part P (run x (exec C p).ending) done) e (breaks_longer part P (exec B p) q.0 (exec C p).ending done b)
 
-  pub unread_place : {U : Type 0} (Is : U → W → Type 0) (part : S → ℕ → Option S) (seen : List W) (B C : BlockMap W F) (p : Prog W F S A) (done : List S) (u : U) → Each (λ w. IsWithin (B w) (C w)) (needs C p) → Follows Is part seen (exec B p) done (Err (Unread u)) → Follows Is part seen (exec C p) done (Err (Unread u))
+  pub unread_place : {U : Type 0} (Is : U → W → Type 0) (part : S → ℕ → Option S) (seen : List W) (B C : BlockMap W F) (p : Prog W F S A)
+      (done : List S) (u : U) → Each (λ w. IsWithin (B w) (C w)) (needs C p) → Follows Is part seen (exec B p) done (Err (Unread u))
+      → Follows Is part seen (exec C p) done (Err (Unread u))
   unread_place Is part seen B C p done u h f = same_place no_part (λ ws. Names Is u (seen ++ ws)) B C p done h f
 
-  pub broke_place : {U : Type 0} (Is : U → W → Type 0) (part : S → ℕ → Option S) (seen : List W) (B C : BlockMap W F) (p : Prog W F S A) (done : List S) → Each (λ w. IsWithin (B w) (C w)) (needs C p) → Follows Is part seen (exec B p) done (Err Broke) → Follows Is part seen (exec C p) done (Err Broke)
+  pub broke_place : {U : Type 0} (Is : U → W → Type 0) (part : S → ℕ → Option S) (seen : List W) (B C : BlockMap W F) (p : Prog W F S A)
+      (done : List S) → Each (λ w. IsWithin (B w) (C w)) (needs C p) → Follows Is part seen (exec B p) done (Err Broke)
+      → Follows Is part seen (exec C p) done (Err Broke)
   broke_place Is part seen B C p done h f = same_place part (λ ws. Unit {0}) B C p done h f
 
   -- the steps of a run that is cut are those before the want that is lost

@@ -22,7 +22,9 @@ module _ {W S : Type 0} where
   quiet-append (Does s ∷ ms) ns = absurd s
 
 module _ {W F S : Type 0} where
-  given_quiet : {A : Type 0} (B : BlockMap W F) (x : Result (List ℕ) F) (k : List ℕ → Prog W F ⊥ A) → ((b : List ℕ) → exec B (quiet {S = S} (k b)) ≡ quiet_run (exec B (k b))) → given x (λ b. exec B (quiet {S = S} (k b))) ≡ quiet_run (given x (λ b. exec B (k b)))
+  given_quiet : {A : Type 0} (B : BlockMap W F) (x : Result (List ℕ) F) (k : List ℕ → Prog W F ⊥ A)
+      → ((b : List ℕ) → exec B (quiet {S = S} (k b)) ≡ quiet_run (exec B (k b))) → given x (λ b. exec B (quiet {S = S} (k b)))
+      ≡ quiet_run (given x (λ b. exec B (k b)))
   given_quiet B (Ok b) k h = h b
   given_quiet B (Err f) k h = refl
 
@@ -32,7 +34,8 @@ module _ {W F S : Type 0} where
   exec-quiet B (Need w k) = ap (first (Wants w)) (given_quiet B (B w) k (λ b. exec-quiet B (k b)))
   exec-quiet B (Emit s p) = absurd s
 
-  quiet_breaks : {A : Type 0} (part : S → ℕ → Option S) (P : List W → Type 0) (part0 : ⊥ → ℕ → Option ⊥) (r : Run W F ⊥ A) (done : List ⊥) → Breaks part0 P r done → Breaks part P (quiet_run r) []
+  quiet_breaks : {A : Type 0} (part : S → ℕ → Option S) (P : List W → Type 0) (part0 : ⊥ → ℕ → Option ⊥) (r : Run W F ⊥ A) (done : List ⊥)
+      → Breaks part0 P r done → Breaks part P (quiet_run r) []
   quiet_breaks part P part0 r done b = record {
     before = quiet_marks b.before;
     behind = quiet_marks b.behind;
@@ -43,14 +46,17 @@ module _ {W F S : Type 0} where
     holds = subst P (sym (wants_of-quiet S b.before)) b.holds;
   }
 
-  pub quiet_follows : {A U : Type 0} (Is : U → W → Type 0) (part : S → ℕ → Option S) (seen : List W) (r : Run W F ⊥ A) (done : List ⊥) (ans : Result A (Halt F U)) → Follows Is no_part seen r done ans → Follows Is part seen (quiet_run r) [] ans
+  pub quiet_follows : {A U : Type 0} (Is : U → W → Type 0) (part : S → ℕ → Option S) (seen : List W) (r : Run W F ⊥ A) (done : List ⊥)
+      (ans : Result A (Halt F U)) → Follows Is no_part seen r done ans → Follows Is part seen (quiet_run r) [] ans
   quiet_follows Is part seen r done (Ok a) h = (no_steps r.marks, h.1)
   quiet_follows Is part seen r done (Err (Fault f)) h = (no_steps r.marks, h.1)
   quiet_follows Is part seen r done (Err (Unread u)) h = quiet_breaks no_part (λ ws. Names Is u (seen ++ ws)) no_part r done h
   quiet_follows Is part seen r done (Err Broke) h = quiet_breaks part (λ ws. Unit {0}) no_part r done h
 
-  pub follows_quiet : {A U : Type 0} (Is : U → W → Type 0) (part : S → ℕ → Option S) (seen : List W) (B : BlockMap W F) (p : Prog W F ⊥ A) (done : List ⊥) (ans : Result A (Halt F U)) → Follows Is no_part seen (exec B p) done ans → Follows Is part seen (exec B (quiet {S = S} p)) [] ans
-  follows_quiet Is part seen B p done ans h = subst (λ r. Follows Is part seen r [] ans) (sym (exec-quiet B p)) (quiet_follows Is part seen (exec B p) done ans h)
+  pub follows_quiet : {A U : Type 0} (Is : U → W → Type 0) (part : S → ℕ → Option S) (seen : List W) (B : BlockMap W F) (p : Prog W F ⊥ A)
+      (done : List ⊥) (ans : Result A (Halt F U)) → Follows Is no_part seen (exec B p) done ans → Follows Is part seen (exec B (quiet {S = S} p)) [] ans
+  follows_quiet Is part seen B p done ans h = subst (λ r. Follows Is part seen r [] ans) (sym (exec-quiet B p))
+      (quiet_follows Is part seen (exec B p) done ans h)
 
 module _ {W F : Type 0} (S : Type 0) where
   -- how it ends, and what it wants
@@ -60,7 +66,9 @@ module _ {W F : Type 0} (S : Type 0) where
   pub needs-quiet : {A : Type 0} (B : BlockMap W F) (p : Prog W F ⊥ A) → needs B (quiet {S = S} p) ≡ needs B p
   needs-quiet B p = ap (λ (r : Run W F S _). wants_of r.marks) (exec-quiet B p) ∙ wants_of-quiet S (exec B p).marks
 
-  goes_in : {I A : Type 0} (Bs : I → BlockMap W F) (x : Result (List ℕ) F) (k : List ℕ → Prog W F ⊥ A) (q : Run W F ⊥ A) → ((b : List ℕ) (t : Run W F ⊥ A) → GoesTo Bs (k b) t → GoesTo Bs (quiet {S = S} (k b)) (quiet_run t)) → goes_given x (λ b. GoesTo Bs (k b)) q → goes_given x (λ b. GoesTo Bs (quiet {S = S} (k b))) (quiet_run q)
+  goes_in : {I A : Type 0} (Bs : I → BlockMap W F) (x : Result (List ℕ) F) (k : List ℕ → Prog W F ⊥ A) (q : Run W F ⊥ A)
+      → ((b : List ℕ) (t : Run W F ⊥ A) → GoesTo Bs (k b) t → GoesTo Bs (quiet {S = S} (k b)) (quiet_run t)) → goes_given x (λ b. GoesTo Bs (k b)) q
+      → goes_given x (λ b. GoesTo Bs (quiet {S = S} (k b))) (quiet_run q)
   goes_in Bs (Ok b) k q ih h = ih b q h
   goes_in Bs (Err f) k q ih h = ap quiet_run h
 
@@ -71,5 +79,6 @@ module _ {W F : Type 0} (S : Type 0) where
   quiet_goes Bs (Emit s p) r h = absurd s
 
 module _ {W F S : Type 0} where
-  pub goes_quiet : {I A U : Type 0} (Is : U → W → Type 0) (part : S → ℕ → Option S) (seen : List W) (Bs : I → BlockMap W F) (p : Prog W F ⊥ A) (done : List ⊥) (ans : Result A (Halt F U)) → Goes Is no_part seen Bs p done ans → Goes Is part seen Bs (quiet {S = S} p) [] ans
+  pub goes_quiet : {I A U : Type 0} (Is : U → W → Type 0) (part : S → ℕ → Option S) (seen : List W) (Bs : I → BlockMap W F) (p : Prog W F ⊥ A)
+      (done : List ⊥) (ans : Result A (Halt F U)) → Goes Is no_part seen Bs p done ans → Goes Is part seen Bs (quiet {S = S} p) [] ans
   goes_quiet Is part seen Bs p done ans h = (quiet_run h.0, quiet_goes S Bs p h.0 h.1, quiet_follows Is part seen h.0 done ans h.2)

@@ -42,14 +42,16 @@ module _ {V W S : Type 0} (f : V → W) where
   each_original P (Wants v ∷ ms) h = (h.0, each_original P ms h.1)
   each_original P (Does s ∷ ms) h = each_original P ms h
 
-  names_renamed : {U : Type 0} (Is : U → W → Type 0) (u : U) (ms : List (Mark V S)) → Names (λ t v. Is t (f v)) u (wants_of ms) → Names Is u (wants_of (renamed_marks f ms))
+  names_renamed : {U : Type 0} (Is : U → W → Type 0) (u : U) (ms : List (Mark V S)) → Names (λ t v. Is t (f v)) u (wants_of ms)
+      → Names Is u (wants_of (renamed_marks f ms))
   names_renamed Is u [] h = absurd h
   names_renamed Is u (Wants v ∷ ms) (inl e) = inl e
   names_renamed Is u (Wants v ∷ ms) (inr h) = inr (names_renamed Is u ms h)
   names_renamed Is u (Does s ∷ ms) h = names_renamed Is u ms h
 
 module _ {V W F S A : Type 0} (f : V → W) where
-  breaks_renamed : (part : S → ℕ → Option S) (P : List V → Type 0) (Q : List W → Type 0) (r : Run V F S A) (done : List S) → ((ms : List (Mark V S)) → P (wants_of ms) → Q (wants_of (renamed_marks f ms))) → Breaks part P r done → Breaks part Q (renamed_run f r) done
+  breaks_renamed : (part : S → ℕ → Option S) (P : List V → Type 0) (Q : List W → Type 0) (r : Run V F S A) (done : List S)
+      → ((ms : List (Mark V S)) → P (wants_of ms) → Q (wants_of (renamed_marks f ms))) → Breaks part P r done → Breaks part Q (renamed_run f r) done
   breaks_renamed part P Q r done g b = record {
     before = renamed_marks f b.before;
     behind = renamed_marks f b.behind;
@@ -60,13 +62,17 @@ module _ {V W F S A : Type 0} (f : V → W) where
     holds = g b.before b.holds;
   }
 
-  pub follows_renamed : {U : Type 0} (Is : U → W → Type 0) (part : S → ℕ → Option S) (r : Run V F S A) (done : List S) (ans : Result A (Halt F U)) → Follows (λ u v. Is u (f v)) part [] r done ans → Follows Is part [] (renamed_run f r) done ans
+  pub follows_renamed : {U : Type 0} (Is : U → W → Type 0) (part : S → ℕ → Option S) (r : Run V F S A) (done : List S) (ans : Result A (Halt F U))
+      → Follows (λ u v. Is u (f v)) part [] r done ans → Follows Is part [] (renamed_run f r) done ans
   follows_renamed Is part r done (Ok a) h = (h.0 ∙ sym (steps_of-renamed f r.marks), h.1)
   follows_renamed Is part r done (Err (Fault x)) h = (h.0 ∙ sym (steps_of-renamed f r.marks), h.1)
-  follows_renamed Is part r done (Err (Unread u)) h = breaks_renamed no_part (λ ws. Names (λ t v. Is t (f v)) u ws) (λ ws. Names Is u ws) r done (λ ms n. names_renamed f Is u ms n) h
+  follows_renamed Is part r done (Err (Unread u)) h = breaks_renamed no_part (λ ws. Names (λ t v. Is t (f v)) u ws) (λ ws. Names Is u ws) r done
+      (λ ms n. names_renamed f Is u ms n) h
   follows_renamed Is part r done (Err Broke) h = breaks_renamed part (λ ws. Unit {0}) (λ ws. Unit {0}) r done (λ ms n. tt) h
 
-  given_renamed : (B : BlockMap W F) (x : Result (List ℕ) F) (k : List ℕ → Prog V F S A) → ((bytes : List ℕ) → exec B (renamed f (k bytes)) ≡ renamed_run f (exec (λ v. B (f v)) (k bytes))) → given x (λ bytes. exec B (renamed f (k bytes))) ≡ renamed_run f (given x (λ bytes. exec (λ v. B (f v)) (k bytes)))
+  given_renamed : (B : BlockMap W F) (x : Result (List ℕ) F) (k : List ℕ → Prog V F S A)
+      → ((bytes : List ℕ) → exec B (renamed f (k bytes)) ≡ renamed_run f (exec (λ v. B (f v)) (k bytes)))
+      → given x (λ bytes. exec B (renamed f (k bytes))) ≡ renamed_run f (given x (λ bytes. exec (λ v. B (f v)) (k bytes)))
   given_renamed B (Ok bytes) k ih = ih bytes
   given_renamed B (Err x) k ih = refl
 
@@ -76,12 +82,21 @@ module _ {V W F S A : Type 0} (f : V → W) where
   exec-renamed B (Need v k) = ap (first (Wants (f v))) (given_renamed B (B (f v)) k (λ bytes. exec-renamed B (k bytes)))
   exec-renamed B (Emit s p) = ap (first (Does s)) (exec-renamed B p)
 
-  given_goes : {I : Type 0} (Bs : I → BlockMap W F) (x : Result (List ℕ) F) (k : List ℕ → Prog V F S A) (q : Run V F S A) → ((bytes : List ℕ) (t : Run V F S A) → GoesTo (λ i v. Bs i (f v)) (k bytes) t → GoesTo Bs (renamed f (k bytes)) (renamed_run f t)) → goes_given x (λ bytes. GoesTo (λ i v. Bs i (f v)) (k bytes)) q → goes_given x (λ bytes. GoesTo Bs (renamed f (k bytes))) (renamed_run f q)
+  given_goes : {I : Type 0} (Bs : I → BlockMap W F) (x : Result (List ℕ) F) (k : List ℕ → Prog V F S A) (q : Run V F S A)
+      → ((bytes : List ℕ) (t : Run V F S A) → GoesTo (λ i v. Bs i (f v)) (k bytes) t → GoesTo Bs (renamed f (k bytes)) (renamed_run f t))
+      → goes_given x (λ bytes. GoesTo (λ i v. Bs i (f v)) (k bytes)) q → goes_given x (λ bytes. GoesTo Bs (renamed f (k bytes))) (renamed_run f q)
   given_goes Bs (Ok bytes) k q ih h = ih bytes q h
   given_goes Bs (Err x) k q ih h = ap (renamed_run f) h
 
-  pub goes_renamed : {I : Type 0} (Bs : I → BlockMap W F) (p : Prog V F S A) (r : Run V F S A) → GoesTo (λ i v. Bs i (f v)) p r → GoesTo Bs (renamed f p) (renamed_run f r)
+  pub goes_renamed : {I : Type 0} (Bs : I → BlockMap W F) (p : Prog V F S A) (r : Run V F S A) → GoesTo (λ i v. Bs i (f v)) p r
+      → GoesTo Bs (renamed f p) (renamed_run f r)
   goes_renamed Bs (Return a) r h = ap (renamed_run f) h
   goes_renamed Bs (Stop x) r h = ap (renamed_run f) h
-  goes_renamed Bs (Need v k) r h = (h.0, renamed_run f h.1, ap (renamed_run f) h.2, given_goes Bs (Bs h.0 (f v)) k h.1 (λ bytes t g. goes_renamed Bs (k bytes) t g) h.3)
+  goes_renamed Bs (Need v k) r h = (
+    h.0,
+    renamed_run f h.1,
+    ap (renamed_run f) h.2,
+    given_goes Bs (Bs h.0 (f v)) k h.1
+        (λ bytes t g. goes_renamed Bs (k bytes) t g) h.3,
+  )
   goes_renamed Bs (Emit s p) r h = (renamed_run f h.0, ap (renamed_run f) h.1, goes_renamed Bs p h.0 h.2)

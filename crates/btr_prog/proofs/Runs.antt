@@ -1,6 +1,7 @@
 -- The laws of programs and their runs, by induction on the program.
 use Rattle.std.proofs.Common.{◌≡◌, ℕ, List, [], ◌∷◌, ◌++◌, Result, Ok, Err, refl, sym, ap, ◌∙◌, append_assoc}
-use Rattle.btr_prog.specs.Prog.{BlockMap, Prog, Return, Stop, Need, Emit, Mark, Wants, Does, Run, run, first, prepend, given, exec, bind, after, and_then, steps_of, wants_of, needs}
+use Rattle.btr_prog.specs.Prog.{BlockMap, Prog, Return, Stop, Need, Emit, Mark, Wants, Does, Run, run, first, prepend, given, exec, bind, after, and_then}
+use Rattle.btr_prog.specs.Prog.{steps_of, wants_of, needs}
 use Rattle.btr_prog.specs.Maps.{Each, IsWithin, IsWhole, marks_if, ending_if, up_to, first_fault, cut}
 
 -- the steps and the wants of two lists of marks are those of the first and then those of the second
@@ -26,7 +27,8 @@ module _ {W F S : Type 0} where
   first_after m ms (Ok a) k = refl
   first_after m ms (Err f) k = refl
 
-  given_after : {A C : Type 0} (x : Result (List ℕ) F) (g : List ℕ → Run W F S C) (h : List ℕ → Run W F S A) (k : A → Run W F S C) → ((bytes : List ℕ) → g bytes ≡ and_then (h bytes) k) → given x g ≡ and_then (given x h) k
+  given_after : {A C : Type 0} (x : Result (List ℕ) F) (g : List ℕ → Run W F S C) (h : List ℕ → Run W F S A) (k : A → Run W F S C)
+      → ((bytes : List ℕ) → g bytes ≡ and_then (h bytes) k) → given x g ≡ and_then (given x h) k
   given_after (Ok bytes) g h k e = e bytes
   given_after (Err f) g h k e = refl
 
@@ -35,7 +37,8 @@ module _ {W F S : Type 0} where
   exec-bind B (Stop f) k = refl
   exec-bind B (Need w g) k =
       let r = given (B w) (λ bytes. exec B (g bytes)) in
-      ap (first (Wants w)) (given_after (B w) (λ bytes. exec B (bind (g bytes) k)) (λ bytes. exec B (g bytes)) (λ a. exec B (k a)) (λ bytes. exec-bind B (g bytes) k))
+      ap (first (Wants w)) (given_after (B w) (λ bytes. exec B (bind (g bytes) k)) (λ bytes. exec B (g bytes)) (λ a. exec B (k a))
+      (λ bytes. exec-bind B (g bytes) k))
       ∙ first_after (Wants w) r.marks r.ending (λ a. exec B (k a))
   exec-bind B (Emit s p) k =
       let r = exec B p in
@@ -48,16 +51,20 @@ module _ {W F S : Type 0} where
   pub after-err : {A C : Type 0} (r : Run W F S A) (f : F) (k : A → Run W F S C) → r.ending ≡ Err f → and_then r k ≡ run r.marks (Err f)
   after-err r f k e = ap (λ x. after r.marks x k) e
 
-  pub needs-bind : {A C : Type 0} (B : BlockMap W F) (p : Prog W F S A) (k : A → Prog W F S C) (a : A) → (exec B p).ending ≡ Ok a → needs B (bind p k) ≡ needs B p ++ needs B (k a)
+  pub needs-bind : {A C : Type 0} (B : BlockMap W F) (p : Prog W F S A) (k : A → Prog W F S C) (a : A) → (exec B p).ending ≡ Ok a → needs B (bind p k)
+      ≡ needs B p ++ needs B (k a)
   needs-bind B p k a e =
       ap (λ (r : Run W F S _). wants_of r.marks) (exec-bind B p k ∙ after-ok (exec B p) a (λ x. exec B (k x)) e)
       ∙ wants_of-append (exec B p).marks (exec B (k a)).marks
 
-  pub needs-stop : {A C : Type 0} (B : BlockMap W F) (p : Prog W F S A) (k : A → Prog W F S C) (f : F) → (exec B p).ending ≡ Err f → needs B (bind p k) ≡ needs B p
+  pub needs-stop : {A C : Type 0} (B : BlockMap W F) (p : Prog W F S A) (k : A → Prog W F S C) (f : F) → (exec B p).ending ≡ Err f
+      → needs B (bind p k) ≡ needs B p
   needs-stop B p k f e = ap (λ (r : Run W F S _). wants_of r.marks) (exec-bind B p k ∙ after-err (exec B p) f (λ x. exec B (k x)) e)
 
 module _ {W F S A : Type 0} (B C : BlockMap W F) where
-  given_same : (x : Result (List ℕ) F) (k : List ℕ → Prog W F S A) → ((bytes : List ℕ) → Each (λ w. B w ≡ C w) (needs B (k bytes)) → exec B (k bytes) ≡ exec C (k bytes)) → Each (λ w. B w ≡ C w) (wants_of (given x (λ bytes. exec B (k bytes))).marks) → given x (λ bytes. exec B (k bytes)) ≡ given x (λ bytes. exec C (k bytes))
+  given_same : (x : Result (List ℕ) F) (k : List ℕ → Prog W F S A)
+      → ((bytes : List ℕ) → Each (λ w. B w ≡ C w) (needs B (k bytes)) → exec B (k bytes) ≡ exec C (k bytes))
+      → Each (λ w. B w ≡ C w) (wants_of (given x (λ bytes. exec B (k bytes))).marks) → given x (λ bytes. exec B (k bytes)) ≡ given x (λ bytes. exec C (k bytes))
   given_same (Ok bytes) k ih h = ih bytes h
   given_same (Err f) k ih h = refl
 
@@ -69,7 +76,11 @@ module _ {W F S A : Type 0} (B C : BlockMap W F) where
       ap (first (Wants w)) (given_same (B w) k (λ bytes g. only_needs (k bytes) g) h.1 ∙ ap (λ x. given x (λ bytes. exec C (k bytes))) h.0)
 
   -- of one want, whose fates are x under B and y under C
-  given_cut : (x y : Result (List ℕ) F) (k : List ℕ → Prog W F S A) → IsWithin x y → ((bytes : List ℕ) → Each (λ w. IsWithin (B w) (C w)) (needs C (k bytes)) → exec B (k bytes) ≡ cut B (exec C (k bytes))) → Each (λ w. IsWithin (B w) (C w)) (wants_of (given y (λ bytes. exec C (k bytes))).marks) → given x (λ bytes. exec B (k bytes)) ≡ run (marks_if x (up_to B (given y (λ bytes. exec C (k bytes))).marks)) (ending_if x (first_fault B (given y (λ bytes. exec C (k bytes))).marks (given y (λ bytes. exec C (k bytes))).ending))
+  given_cut : (x y : Result (List ℕ) F) (k : List ℕ → Prog W F S A) → IsWithin x y
+      → ((bytes : List ℕ) → Each (λ w. IsWithin (B w) (C w)) (needs C (k bytes)) → exec B (k bytes) ≡ cut B (exec C (k bytes)))
+      → Each (λ w. IsWithin (B w) (C w)) (wants_of (given y (λ bytes. exec C (k bytes))).marks) → given x (λ bytes. exec B (k bytes))
+      ≡ run (marks_if x (up_to B (given y (λ bytes. exec C (k bytes))).marks))
+      (ending_if x (first_fault B (given y (λ bytes. exec C (k bytes))).marks (given y (λ bytes. exec C (k bytes))).ending))
   given_cut (Err f) y k i ih h = refl
   given_cut (Ok bytes) (Err f) k i ih h = cc
   given_cut (Ok bytes) (Ok bytes') k i ih h =
@@ -99,7 +110,9 @@ module _ {W F S : Type 0} where
 
   -- a run of which B has each want is not cut
   pub cut-whole : {A : Type 0} (B : BlockMap W F) (r : Run W F S A) → Each (λ w. IsWhole (B w)) (wants_of r.marks) → cut B r ≡ r
-  cut-whole B r h = ap (λ ms. run ms (first_fault B r.marks r.ending)) (up_to-whole B r.marks h) ∙ ap (λ e. run r.marks e) (first_fault-whole B r.marks r.ending h)
+  cut-whole B r h = ap (λ ms. run ms (first_fault B r.marks r.ending)) (up_to-whole B r.marks h)
+      ∙ ap (λ e. run r.marks e) (first_fault-whole B r.marks r.ending h)
 
-  pub whole_law : {A : Type 0} (B C : BlockMap W F) (p : Prog W F S A) → Each (λ w. IsWithin (B w) (C w)) (needs C p) → Each (λ w. IsWhole (B w)) (needs C p) → exec B p ≡ exec C p
+  pub whole_law : {A : Type 0} (B C : BlockMap W F) (p : Prog W F S A) → Each (λ w. IsWithin (B w) (C w)) (needs C p)
+      → Each (λ w. IsWhole (B w)) (needs C p) → exec B p ≡ exec C p
   whole_law B C p h g = cut_law B C p h ∙ cut-whole B (exec C p) g

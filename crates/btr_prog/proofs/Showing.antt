@@ -12,7 +12,8 @@ module _ {W F S A : Type 0} (R : S → S → Type 0) where
   Same B p q = (needs B p ≡ needs B q) × ((exec B p).ending ≡ (exec B q).ending)
 
   given_same : (B : BlockMap W F) (w : W) (x : Result (List ℕ) F) (k l : List ℕ → Prog W F S A) → ((b : List ℕ) → Same B (k b) (l b))
-      → ((w ∷ wants_of (given x (λ b. exec B (k b))).marks) ≡ (w ∷ wants_of (given x (λ b. exec B (l b))).marks)) × ((given x (λ b. exec B (k b))).ending ≡ (given x (λ b. exec B (l b))).ending)
+      → ((w ∷ wants_of (given x (λ b. exec B (k b))).marks) ≡ (w ∷ wants_of (given x (λ b. exec B (l b))).marks))
+      × ((given x (λ b. exec B (k b))).ending ≡ (given x (λ b. exec B (l b))).ending)
   given_same B w (Ok b) k l h = (ap (λ ws. w ∷ ws) (h b).0, (h b).1)
   given_same B w (Err f) k l h = (refl, refl)
 
@@ -59,7 +60,8 @@ module _ {W F S T A St X : Type 0} (R : S → S → Type 0) (Q : T → T → Typ
   alike_on k l h (Ok st) = h st
   alike_on k l h (Err x) = refl
 
-  pub alike_thread : ((st : St) (s t : S) → R s t → AreAlike Q (body st s) (body st t)) → (st : St) (p q : Prog W F S A) → AreAlike R p q → AreAlike Q (thread body done st p) (thread body done st q)
+  pub alike_thread : ((st : St) (s t : S) → R s t → AreAlike Q (body st s) (body st t)) → (st : St) (p q : Prog W F S A) → AreAlike R p q
+      → AreAlike Q (thread body done st p) (thread body done st q)
   alike_thread g st (Return a) (Return b) e = ap (done st) e
   alike_thread g st (Stop f) (Stop h) e = e
   alike_thread g st (Need w k) (Need v l) e = (e.0, λ b. alike_thread g st (k b) (l b) (e.1 b))
@@ -74,11 +76,13 @@ module _ {W F S T A St X : Type 0} (R : S → S → Type 0) (Q : T → T → Typ
     shows_on k h (Err x) = tt
 
     -- treating the steps of a program that only shows, by a body that only shows
-    pub shows_thread : ((st : St) (s : S) → OnlyShows Q plain (body st s)) → ((st : St) (s t : S) → R s t → AreAlike Q (body st s) (body st t)) → (st : St) (p : Prog W F S A) → OnlyShows R plain p → OnlyShows Q plain (thread body done st p)
+    pub shows_thread : ((st : St) (s : S) → OnlyShows Q plain (body st s)) → ((st : St) (s t : S) → R s t → AreAlike Q (body st s) (body st t))
+        → (st : St) (p : Prog W F S A) → OnlyShows R plain p → OnlyShows Q plain (thread body done st p)
     shows_thread h g st (Return a) e = tt
     shows_thread h g st (Stop f) e = tt
     shows_thread h g st (Need w k) e = (λ b. shows_thread h g st (k b) (e.0 b), λ t b c. alike_thread g st (k b) (k c) (e.1 t b c))
-    shows_thread h g st (Emit s p) e = shows_bind Q all plain (body st s) (go_on (λ st'. thread body done st' p)) (h st s) (shows_on (λ st'. thread body done st' p) (λ st'. shows_thread h g st' p e))
+    shows_thread h g st (Emit s p) e = shows_bind Q all plain (body st s) (go_on (λ st'. thread body done st' p)) (h st s)
+        (shows_on (λ st'. thread body done st' p) (λ st'. shows_thread h g st' p e))
 
 module _ {W F S A : Type 0} (R : ⊥ → ⊥ → Type 0) (Q : S → S → Type 0) where
   pub alike_quiet : (p q : Prog W F ⊥ A) → AreAlike R p q → AreAlike Q (quiet p) (quiet q)
@@ -109,10 +113,13 @@ module _ {V W F S A : Type 0} (f : V → W) (R : S → S → Type 0) where
   shows_renamed plain (Emit s p) h = shows_renamed plain p h
 
 module _ {T X W F S A : Type 0} (R : S → S → Type 0) (all : (s : S) → R s s) (plain : Staged T W → Bool) (refused : X → A) where
-  shows_rest : (k : T → Prog W F S A) → ((t : T) → OnlyShows R (λ w. plain (Late t w)) (k t)) → (x : Result T X) → OnlyShows R plain (unless_refused refused (λ (t : T). renamed (Late t) (k t)) x)
+  shows_rest : (k : T → Prog W F S A) → ((t : T) → OnlyShows R (λ w. plain (Late t w)) (k t)) → (x : Result T X)
+      → OnlyShows R plain (unless_refused refused (λ (t : T). renamed (Late t) (k t)) x)
   shows_rest k h (Ok t) = shows_renamed (Late t) R plain (k t) (h t)
   shows_rest k h (Err x) = tt
 
   -- two parts, each of which only shows
-  pub shows_staged : (p : Prog W F S (Result T X)) (k : T → Prog W F S A) → OnlyShows R (λ w. plain (Early w)) p → ((t : T) → OnlyShows R (λ w. plain (Late t w)) (k t)) → OnlyShows R plain (staged refused p k)
-  shows_staged p k h g = shows_bind R all plain (renamed Early p) (unless_refused refused (λ (t : T). renamed (Late t) (k t))) (shows_renamed Early R plain p h) (shows_rest k g)
+  pub shows_staged : (p : Prog W F S (Result T X)) (k : T → Prog W F S A) → OnlyShows R (λ w. plain (Early w)) p
+      → ((t : T) → OnlyShows R (λ w. plain (Late t w)) (k t)) → OnlyShows R plain (staged refused p k)
+  shows_staged p k h g = shows_bind R all plain (renamed Early p) (unless_refused refused (λ (t : T). renamed (Late t) (k t)))
+      (shows_renamed Early R plain p h) (shows_rest k g)

@@ -23,7 +23,8 @@ module _ {W F S A : Type 0} where
   so_far_none Whole = record { before = []; wants = refl; steps = refl; goes = λ q h. h }
 
   -- some more marks are past
-  pub so_far_more : (Whole Rest Then : Run W F S A → Type 0) (seen : List W) (done : List S) (ms : List (Mark W S)) → ((q : Run W F S A) → Then q → Rest (prepend ms q)) → SoFar Whole Rest seen done → SoFar Whole Then (seen ++ wants_of ms) (done ++ steps_of ms)
+  pub so_far_more : (Whole Rest Then : Run W F S A → Type 0) (seen : List W) (done : List S) (ms : List (Mark W S))
+      → ((q : Run W F S A) → Then q → Rest (prepend ms q)) → SoFar Whole Rest seen done → SoFar Whole Then (seen ++ wants_of ms) (done ++ steps_of ms)
   so_far_more Whole Rest Then seen done ms f s = record {
     before = s.before ++ ms;
     wants = ap (λ x. x ++ wants_of ms) s.wants ∙ sym (wants_of-append s.before ms);
@@ -32,7 +33,9 @@ module _ {W F S A : Type 0} where
   }
 
   -- what is answered of the rest is answered of the whole
-  pub so_far_ends : {U : Type 0} (Is : U → W → Type 0) (part : S → ℕ → Option S) (Whole Rest : Run W F S A → Type 0) (seen : List W) (done more : List S) (ans : Result A (Halt F U)) → SoFar Whole Rest seen done → (q : Run W F S A) × Rest q × Follows Is part seen q more ans → (r : Run W F S A) × Whole r × Follows Is part [] r (done ++ more) ans
+  pub so_far_ends : {U : Type 0} (Is : U → W → Type 0) (part : S → ℕ → Option S) (Whole Rest : Run W F S A → Type 0) (seen : List W)
+      (done more : List S) (ans : Result A (Halt F U)) → SoFar Whole Rest seen done → (q : Run W F S A) × Rest q × Follows Is part seen q more ans
+      → (r : Run W F S A) × Whole r × Follows Is part [] r (done ++ more) ans
   so_far_ends Is part Whole Rest seen done more ans s h = (
     prepend s.before h.0,
     s.goes h.0 h.1,
@@ -51,36 +54,48 @@ module _ {W F S A T St R : Type 0} (Body : St → S → Run W F T (Result St R) 
   abbrev LeftFrom : St → S → Run W F T R → Type 0
   LeftFrom st s = ThreadsTo Body fin st (Does s ∷ ms) e
 
-  treated : (st' : St) (marks : List (Mark W T)) (x : Result (Result St R) F) (q : Run W F T R) → x ≡ Ok (Ok st') → Left st' q → AfterTo marks x (GoOnTo Left) (prepend marks q)
+  treated : (st' : St) (marks : List (Mark W T)) (x : Result (Result St R) F) (q : Run W F T R) → x ≡ Ok (Ok st') → Left st' q
+      → AfterTo marks x (GoOnTo Left) (prepend marks q)
   treated st' marks x q i h = subst (λ y. AfterTo marks y (GoOnTo Left) (prepend marks q)) (sym i) (q, refl, h)
 
   -- an item was treated by a run of its body, and the next is to come
-  pub so_far_step : {U : Type 0} (Is : U → W → Type 0) (part : T → ℕ → Option T) (Whole : Run W F T R → Type 0) (seen : List W) (done more : List T) (st st' : St) (s : S) (b : Run W F T (Result St R)) → Body st s b → Follows Is part seen b more (Ok (Ok st')) → SoFar Whole (LeftFrom st s) seen done → SoFar Whole (Left st') (seen ++ wants_of b.marks) (done ++ more)
+  pub so_far_step : {U : Type 0} (Is : U → W → Type 0) (part : T → ℕ → Option T) (Whole : Run W F T R → Type 0) (seen : List W) (done more : List T)
+      (st st' : St) (s : S) (b : Run W F T (Result St R)) → Body st s b → Follows Is part seen b more (Ok (Ok st'))
+      → SoFar Whole (LeftFrom st s) seen done → SoFar Whole (Left st') (seen ++ wants_of b.marks) (done ++ more)
   so_far_step Is part Whole seen done more st st' s b g f sofar =
       subst (λ (x : List T). SoFar Whole (Left st') (seen ++ wants_of b.marks) (done ++ x)) (sym f.0)
       (so_far_more Whole (LeftFrom st s) (Left st') seen done b.marks (λ q h. (b, g, treated st' b.marks b.ending q f.1 h)) sofar)
 
   -- an item was treated, and ends the whole
-  pub so_far_early : {U : Type 0} (Is : U → W → Type 0) (part : T → ℕ → Option T) (Whole : Run W F T R → Type 0) (seen : List W) (done more : List T) (st : St) (x : R) (s : S) (b : Run W F T (Result St R)) → Body st s b → Follows Is part seen b more (Ok (Err x)) → SoFar Whole (LeftFrom st s) seen done → Answers Is part Whole (done ++ more) (Ok x)
+  pub so_far_early : {U : Type 0} (Is : U → W → Type 0) (part : T → ℕ → Option T) (Whole : Run W F T R → Type 0) (seen : List W) (done more : List T)
+      (st : St) (x : R) (s : S) (b : Run W F T (Result St R)) → Body st s b → Follows Is part seen b more (Ok (Err x))
+      → SoFar Whole (LeftFrom st s) seen done → Answers Is part Whole (done ++ more) (Ok x)
   so_far_early Is part Whole seen done more st x s b g f sofar =
       let q = run b.marks (Ok x) in
-      so_far_ends Is part Whole (LeftFrom st s) seen done more (Ok x) sofar
-      (q, (b, g, subst (λ y. AfterTo b.marks y (GoOnTo Left) q) (sym f.1) (run [] (Ok x), ap (λ y. run y (Ok x)) (sym (append-nil b.marks)), refl)), (f.0, refl))
+      so_far_ends Is part Whole (LeftFrom st s) seen done more (Ok x) sofar (
+        q,
+        (b, g, subst (λ y. AfterTo b.marks y (GoOnTo Left) q) (sym f.1) (run [] (Ok x), ap (λ y. run y (Ok x)) (sym (append-nil b.marks)), refl)),
+        (f.0, refl),
+      )
 
-  after_some : (k : St → Run W F T R) → ((st : St) → Left st (k st)) → (marks : List (Mark W T)) (x : Result (Result St R) F) → AfterTo marks x (GoOnTo Left) (after marks x (go_on_run k))
+  after_some : (k : St → Run W F T R) → ((st : St) → Left st (k st)) → (marks : List (Mark W T)) (x : Result (Result St R) F)
+      → AfterTo marks x (GoOnTo Left) (after marks x (go_on_run k))
   after_some k h marks (Ok (Ok st)) = (k st, refl, h st)
   after_some k h marks (Ok (Err y)) = (run [] (Ok y), refl, refl)
   after_some k h marks (Err f) = refl
 
   -- an item was not treated to its end, which ends the whole; k is how it might have gone on
-  pub so_far_halts : {U : Type 0} (Is : U → W → Type 0) (part : T → ℕ → Option T) (Whole : Run W F T R → Type 0) (seen : List W) (done more : List T) (st : St) (s : S) (b : Run W F T (Result St R)) (halt : Halt F U) (k : St → Run W F T R) → ((st' : St) → Left st' (k st')) → Body st s b → Follows Is part seen b more (Err halt) → SoFar Whole (LeftFrom st s) seen done → Answers Is part Whole (done ++ more) (Err halt)
+  pub so_far_halts : {U : Type 0} (Is : U → W → Type 0) (part : T → ℕ → Option T) (Whole : Run W F T R → Type 0) (seen : List W) (done more : List T)
+      (st : St) (s : S) (b : Run W F T (Result St R)) (halt : Halt F U) (k : St → Run W F T R) → ((st' : St) → Left st' (k st')) → Body st s b
+      → Follows Is part seen b more (Err halt) → SoFar Whole (LeftFrom st s) seen done → Answers Is part Whole (done ++ more) (Err halt)
   so_far_halts Is part Whole seen done more st s b halt k h g f sofar =
       so_far_ends Is part Whole (LeftFrom st s) seen done more (Err halt) sofar
       (after b.marks b.ending (go_on_run k), (b, g, after_some k h b.marks b.ending), follows_halt Is part seen b (go_on_run k) more halt f)
 
 module _ {W F S A T St R : Type 0} (Body : St → S → Run W F T (Result St R) → Type 0) (fin : St → A → R) where
   -- all items were treated
-  pub so_far_ended : {U : Type 0} (Is : U → W → Type 0) (part : T → ℕ → Option T) (Whole : Run W F T R → Type 0) (seen : List W) (done : List T) (st : St) (a : A) → SoFar Whole (ThreadsTo Body fin st [] (Ok a)) seen done → Answers Is part Whole done (Ok (fin st a))
+  pub so_far_ended : {U : Type 0} (Is : U → W → Type 0) (part : T → ℕ → Option T) (Whole : Run W F T R → Type 0) (seen : List W) (done : List T)
+      (st : St) (a : A) → SoFar Whole (ThreadsTo Body fin st [] (Ok a)) seen done → Answers Is part Whole done (Ok (fin st a))
   so_far_ended Is part Whole seen done st a sofar =
       subst (λ (x : List T). Answers Is part Whole x (Ok (fin st a))) (append-nil done)
       (so_far_ends Is part Whole (ThreadsTo Body fin st [] (Ok a)) seen done [] (Ok (fin st a)) sofar (run [] (Ok (fin st a)), refl, (refl, refl)))
@@ -97,7 +112,8 @@ module _ {W F S A T St R : Type 0} (Body : St → S → Run W F T (Result St R) 
   Last seen = (more : List W) × Ahead [] (seen ++ more)
 
   past_want : (w : W) (ms : List (Mark W S)) (seen : List W) → Ahead (Wants w ∷ ms) seen → Ahead ms (seen ++ (w ∷ []))
-  past_want w ms seen s = subst (λ (x : List T). SoFar Whole (ThreadsTo Body fin st ms e) (seen ++ (w ∷ [])) x) (append-nil done) (so_far_more Whole (ThreadsTo Body fin st (Wants w ∷ ms) e) (ThreadsTo Body fin st ms e) seen done (Wants w ∷ []) (λ q h. (q, refl, h)) s)
+  past_want w ms seen s = subst (λ (x : List T). SoFar Whole (ThreadsTo Body fin st ms e) (seen ++ (w ∷ [])) x) (append-nil done)
+      (so_far_more Whole (ThreadsTo Body fin st (Wants w ∷ ms) e) (ThreadsTo Body fin st ms e) seen done (Wants w ∷ []) (λ q h. (q, refl, h)) s)
 
   here : (ms : List (Mark W S)) (seen : List W) → Ahead ms seen → Ahead ms (seen ++ [])
   here ms seen s = subst (Ahead ms) (sym (append-nil seen)) s
@@ -126,7 +142,9 @@ module _ {W F S A T St R I : Type 0} (Bs : I → BlockMap W F) (i : I) (body : S
   abbrev Goings : St → S → Run W F T (Result St R) → Type 0
   Goings st s b = GoesTo Bs (body st s) b
 
-  after_map : (ms : List (Mark W S)) (e : Result A F) → ((st : St) → ThreadsTo Goings fin st ms e (some_run st ms e)) → (marks : List (Mark W T)) (x : Result (Result St R) F) → AfterTo marks x (GoOnTo (λ st. ThreadsTo Goings fin st ms e)) (after marks x (go_on_run (λ st. some_run st ms e)))
+  after_map : (ms : List (Mark W S)) (e : Result A F) → ((st : St) → ThreadsTo Goings fin st ms e (some_run st ms e))
+      → (marks : List (Mark W T)) (x : Result (Result St R) F)
+      → AfterTo marks x (GoOnTo (λ st. ThreadsTo Goings fin st ms e)) (after marks x (go_on_run (λ st. some_run st ms e)))
   after_map ms e h marks (Ok (Ok st)) = (some_run st ms e, refl, h st)
   after_map ms e h marks (Ok (Err y)) = (run [] (Ok y), refl, refl)
   after_map ms e h marks (Err f) = refl
@@ -143,19 +161,23 @@ module _ {W F S A T St R : Type 0} (B : BlockMap W F) (body : St → S → Prog 
   abbrev Exec : St → S → Run W F T (Result St R) → Type 0
   Exec st s b = b ≡ exec B (body st s)
 
-  after_one : (ms : List (Mark W T)) (e : Result (Result St R) F) (K : St → Run W F T R → Type 0) (k : St → Run W F T R) (r : Run W F T R) → ((st : St) (q : Run W F T R) → K st q → q ≡ k st) → AfterTo ms e (GoOnTo K) r → r ≡ after ms e (go_on_run k)
+  after_one : (ms : List (Mark W T)) (e : Result (Result St R) F) (K : St → Run W F T R → Type 0) (k : St → Run W F T R) (r : Run W F T R)
+      → ((st : St) (q : Run W F T R) → K st q → q ≡ k st) → AfterTo ms e (GoOnTo K) r → r ≡ after ms e (go_on_run k)
   after_one ms (Ok (Ok st)) K k r f h = h.1 ∙ ap (prepend ms) (f st h.0 h.2)
   after_one ms (Ok (Err x)) K k r f h = h.1 ∙ ap (prepend ms) h.2
   after_one ms (Err x) K k r f h = h
 
-  threads_one : (st : St) (ms : List (Mark W S)) (e : Result A F) (r : Run W F T R) → ThreadsTo Exec fin st ms e r → r ≡ thread_run (λ st' s. exec B (body st' s)) fin st ms e
+  threads_one : (st : St) (ms : List (Mark W S)) (e : Result A F) (r : Run W F T R) → ThreadsTo Exec fin st ms e r → r
+      ≡ thread_run (λ st' s. exec B (body st' s)) fin st ms e
   threads_one st [] e r h = h
   threads_one st (Wants w ∷ ms) e r h = h.1 ∙ ap (first (Wants w)) (threads_one st ms e h.0 h.2)
   threads_one st (Does s ∷ ms) e r h =
       let b = exec B (body st s) in
-      after_one b.marks b.ending (λ st'. ThreadsTo Exec fin st' ms e) (λ st'. thread_run (λ st'' s'. exec B (body st'' s')) fin st' ms e) r (λ st' q g. threads_one st' ms e q g)
+      after_one b.marks b.ending (λ st'. ThreadsTo Exec fin st' ms e) (λ st'. thread_run (λ st'' s'. exec B (body st'' s')) fin st' ms e) r
+      (λ st' q g. threads_one st' ms e q g)
       (subst (λ (x : Run W F T (Result St R)). AfterTo x.marks x.ending (GoOnTo (λ st'. ThreadsTo Exec fin st' ms e)) r) h.1 h.2)
 
   -- where each body has one run, treating a program's items has one
-  pub threads_exec : (st : St) (p : Prog W F S A) (r : Run W F T R) → ThreadsTo Exec fin st (exec B p).marks (exec B p).ending r → r ≡ exec B (thread body fin st p)
+  pub threads_exec : (st : St) (p : Prog W F S A) (r : Run W F T R) → ThreadsTo Exec fin st (exec B p).marks (exec B p).ending r → r
+      ≡ exec B (thread body fin st p)
   threads_exec st p r h = threads_one st (exec B p).marks (exec B p).ending r h ∙ sym (exec-thread B body fin st p)

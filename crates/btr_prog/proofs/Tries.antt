@@ -1,6 +1,7 @@
 -- Programs that go on behind faults, and programs as parts of them.
 use Rattle.std.proofs.Common.{◌≡◌, ℕ, List, [], ◌∷◌, ◌++◌, Option, None, IsOk, Result, Ok, Err, refl, sym, ap, ◌∙◌, subst, append-nil}
-use Rattle.btr_prog.specs.Prog.{BlockMap, Prog, Return, Stop, Need, Emit, Mark, Wants, Does, Run, run, first, given, exec, after, and_then, steps_of, wants_of, want_marks}
+use Rattle.btr_prog.specs.Prog.{BlockMap, Prog, Return, Stop, Need, Emit, Mark, Wants, Does, Run, run, first, given, exec, after, and_then, steps_of, wants_of}
+use Rattle.btr_prog.specs.Prog.{want_marks}
 use Rattle.btr_prog.specs.Outcomes.{Outcome, outcome, outcome_of}
 use Rattle.btr_prog.specs.Maps.{Each}
 use Rattle.btr_prog.specs.Answers.{Halt, Fault, Unread, Broke, Breaks, Follows}
@@ -27,7 +28,8 @@ module _ {W F S : Type 0} where
   first_then m ms (Ok a) k = refl
   first_then m ms (Err f) k = refl
 
-  pub tried-then : {A C : Type 0} (B : BlockMap W F) (p : Trying W F S A) (k : A → Trying W F S C) → tried B (try_then p k) ≡ and_then (tried B p) (λ a. tried B (k a))
+  pub tried-then : {A C : Type 0} (B : BlockMap W F) (p : Trying W F S A) (k : A → Trying W F S C) → tried B (try_then p k)
+      ≡ and_then (tried B p) (λ a. tried B (k a))
   tried-then B (Done a) k = refl
   tried-then B (Try w g) k =
       let r = tried B (g (B w)) in
@@ -50,7 +52,9 @@ module _ {W F S : Type 0} where
   abbrev handed : {A : Type 0} → Run W F S A → Run W F S (Result A F)
   handed r = run r.marks (Ok r.ending)
 
-  given_handed : {A : Type 0} (B : BlockMap W F) (x : Result (List ℕ) F) (k : List ℕ → Prog W F S A) → ((b : List ℕ) → tried B (attempt (k b)) ≡ handed (exec B (k b))) → tried B (by_fate x (λ b. attempt (k b)) (λ f. Err f)) ≡ handed (given x (λ b. exec B (k b)))
+  given_handed : {A : Type 0} (B : BlockMap W F) (x : Result (List ℕ) F) (k : List ℕ → Prog W F S A)
+      → ((b : List ℕ) → tried B (attempt (k b)) ≡ handed (exec B (k b))) → tried B (by_fate x (λ b. attempt (k b)) (λ f. Err f))
+      ≡ handed (given x (λ b. exec B (k b)))
   given_handed B (Ok b) k h = h b
   given_handed B (Err f) k h = refl
 
@@ -65,7 +69,9 @@ module _ {W F S T : Type 0} where
   abbrev collected : {A : Type 0} → Run W F T A → Run W F S (Outcome F T A)
   collected r = run (want_marks (wants_of r.marks)) (Ok (outcome_of r))
 
-  given_collected : {A : Type 0} (B : BlockMap W F) (x : Result (List ℕ) F) (k : List ℕ → Prog W F T A) → ((b : List ℕ) → tried B (gathered (k b)) ≡ collected (exec B (k b))) → tried B (by_fate x (λ b. gathered (k b)) (λ f. outcome [] (Err f))) ≡ collected (given x (λ b. exec B (k b)))
+  given_collected : {A : Type 0} (B : BlockMap W F) (x : Result (List ℕ) F) (k : List ℕ → Prog W F T A)
+      → ((b : List ℕ) → tried B (gathered (k b)) ≡ collected (exec B (k b))) → tried B (by_fate x (λ b. gathered (k b)) (λ f. outcome [] (Err f)))
+      ≡ collected (given x (λ b. exec B (k b)))
   given_collected B (Ok b) k h = h b
   given_collected B (Err f) k h = refl
 
@@ -81,40 +87,58 @@ module _ {W F S T : Type 0} where
       ∙ ap (λ ms. run ms (Ok (outcome (t ∷ steps_of r.marks) r.ending))) (append-nil (want_marks (wants_of r.marks)))
 
 module _ {W F S U : Type 0} (Is : U → W → Type 0) (part : S → ℕ → Option S) where
-  pub try_came : {A : Type 0} (seen : List W) (B : BlockMap W F) (w : W) (k : Result (List ℕ) F → Trying W F S A) (done : List S) (ans : Result A (Halt F U)) → Follows Is part (seen ++ (w ∷ [])) (tried B (k (B w))) done ans → Follows Is part seen (tried B (Try w k)) done ans
+  pub try_came : {A : Type 0} (seen : List W) (B : BlockMap W F) (w : W) (k : Result (List ℕ) F → Trying W F S A) (done : List S)
+      (ans : Result A (Halt F U)) → Follows Is part (seen ++ (w ∷ [])) (tried B (k (B w))) done ans → Follows Is part seen (tried B (Try w k)) done ans
   try_came seen B w k done ans h = follows_behind Is part seen (Wants w ∷ []) (tried B (k (B w))) done ans h
 
   -- a place of a run is one of each run with these marks
-  same_place : {A C : Type 0} (own : S → ℕ → Option S) (P : List W → Type 0) (ms : List (Mark W S)) (e : Result A F) (e' : Result C F) (done : List S) → Breaks own P (run ms e) done → Breaks own P (run ms e') done
+  same_place : {A C : Type 0} (own : S → ℕ → Option S) (P : List W → Type 0) (ms : List (Mark W S)) (e : Result A F) (e' : Result C F) (done : List S)
+      → Breaks own P (run ms e) done → Breaks own P (run ms e') done
   same_place own P ms e e' done b = record { before = b.before; behind = b.behind; left = b.left; place = b.place; steps = b.steps; leaves = b.leaves; holds = b.holds }
 
-  follows_handed : {A : Type 0} (seen : List W) (r : Run W F S A) (done : List S) (ans : Result A (Halt F U)) → Follows Is part seen r done ans → Follows Is part seen (handed r) done (attempted ans)
+  follows_handed : {A : Type 0} (seen : List W) (r : Run W F S A) (done : List S) (ans : Result A (Halt F U)) → Follows Is part seen r done ans
+      → Follows Is part seen (handed r) done (attempted ans)
   follows_handed seen r done (Ok a) h = (h.0, ap Ok h.1)
   follows_handed seen r done (Err (Fault f)) h = (h.0, ap Ok h.1)
   follows_handed seen r done (Err (Unread u)) h = same_place _ _ r.marks r.ending (Ok r.ending) done h
   follows_handed seen r done (Err Broke) h = same_place _ _ r.marks r.ending (Ok r.ending) done h
 
-  pub follows_attempt : {A : Type 0} (seen : List W) (B : BlockMap W F) (p : Prog W F S A) (done : List S) (ans : Result A (Halt F U)) → Follows Is part seen (exec B p) done ans → Follows Is part seen (tried B (attempt p)) done (attempted ans)
-  follows_attempt seen B p done ans h = subst (λ r. Follows Is part seen r done (attempted ans)) (sym (tried-attempt B p)) (follows_handed seen (exec B p) done ans h)
+  pub follows_attempt : {A : Type 0} (seen : List W) (B : BlockMap W F) (p : Prog W F S A) (done : List S) (ans : Result A (Halt F U))
+      → Follows Is part seen (exec B p) done ans → Follows Is part seen (tried B (attempt p)) done (attempted ans)
+  follows_attempt seen B p done ans h = subst (λ r. Follows Is part seen r done (attempted ans)) (sym (tried-attempt B p))
+      (follows_handed seen (exec B p) done ans h)
 
   module _ {T : Type 0} (own : T → ℕ → Option T) where
     -- a place of a run is one of its wants
-    no_steps_before : {A : Type 0} (there : T → ℕ → Option T) (here : S → ℕ → Option S) (P : List W → Type 0) (r : Run W F T A) (done : List T) → Breaks there P r done → Breaks here P (collected {S = S} r) []
+    no_steps_before : {A : Type 0} (there : T → ℕ → Option T) (here : S → ℕ → Option S) (P : List W → Type 0) (r : Run W F T A) (done : List T)
+        → Breaks there P r done → Breaks here P (collected {S = S} r) []
     no_steps_before there here P r done b = record {
       before = want_marks (wants_of b.before);
       behind = want_marks (wants_of b.behind);
       left = None;
-      place = ap (λ ms. want_marks (wants_of ms)) b.place ∙ ap want_marks (wants_of-append b.before b.behind) ∙ want_marks-append (wants_of b.before) (wants_of b.behind);
+      place = ap (λ ms. want_marks (wants_of ms)) b.place ∙ ap want_marks (wants_of-append b.before b.behind)
+          ∙ want_marks-append (wants_of b.before) (wants_of b.behind);
       steps = sym (append-nil (steps_of (want_marks {S = S} (wants_of b.before))) ∙ steps_of-marks S (wants_of b.before));
       leaves = tt;
       holds = subst P (sym (wants_of-marks S (wants_of b.before))) b.holds;
     }
 
-    follows_collected : {A : Type 0} (seen : List W) (r : Run W F T A) (done : List T) (ans : Result A (Halt F U)) → Follows Is own seen r done ans → Follows Is part seen (collected r) [] (gathered_by done ans)
-    follows_collected seen r done (Ok a) h = (sym (steps_of-marks S (wants_of r.marks)), ap (λ e. Ok (outcome (steps_of r.marks) e)) h.1 ∙ ap (λ x. Ok (outcome x (Ok a))) (sym h.0))
-    follows_collected seen r done (Err (Fault f)) h = (sym (steps_of-marks S (wants_of r.marks)), ap (λ e. Ok (outcome (steps_of r.marks) e)) h.1 ∙ ap (λ x. Ok (outcome x (Err f))) (sym h.0))
+    follows_collected : {A : Type 0} (seen : List W) (r : Run W F T A) (done : List T) (ans : Result A (Halt F U)) → Follows Is own seen r done ans
+        → Follows Is part seen (collected r) [] (gathered_by done ans)
+    follows_collected seen r done (Ok a) h = (
+      sym (steps_of-marks S (wants_of r.marks)),
+      ap (λ e. Ok (outcome (steps_of r.marks) e)) h.1
+          ∙ ap (λ x. Ok (outcome x (Ok a))) (sym h.0),
+    )
+    follows_collected seen r done (Err (Fault f)) h = (
+      sym (steps_of-marks S (wants_of r.marks)),
+      ap (λ e. Ok (outcome (steps_of r.marks) e)) h.1
+          ∙ ap (λ x. Ok (outcome x (Err f))) (sym h.0),
+    )
     follows_collected seen r done (Err (Unread u)) h = no_steps_before _ _ _ r done h
     follows_collected seen r done (Err Broke) h = no_steps_before own part _ r done h
 
-    pub follows_gathered : {A : Type 0} (seen : List W) (B : BlockMap W F) (p : Prog W F T A) (done : List T) (ans : Result A (Halt F U)) → Follows Is own seen (exec B p) done ans → Follows Is part seen (tried B (gathered p)) [] (gathered_by done ans)
-    follows_gathered seen B p done ans h = subst (λ r. Follows Is part seen r [] (gathered_by done ans)) (sym (tried-gathered B p)) (follows_collected seen (exec B p) done ans h)
+    pub follows_gathered : {A : Type 0} (seen : List W) (B : BlockMap W F) (p : Prog W F T A) (done : List T) (ans : Result A (Halt F U))
+        → Follows Is own seen (exec B p) done ans → Follows Is part seen (tried B (gathered p)) [] (gathered_by done ans)
+    follows_gathered seen B p done ans h = subst (λ r. Follows Is part seen r [] (gathered_by done ans)) (sym (tried-gathered B p))
+        (follows_collected seen (exec B p) done ans h)

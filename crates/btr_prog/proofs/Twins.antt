@@ -1,5 +1,6 @@
 -- What the laws would say without one of their premises is false: each is refuted by a small program.
-use Rattle.std.proofs.Common.{◌≡◌, ◌⊎◌, inl, inr, ℕ, zero, suc, Bool, true, false, List, [], ◌∷◌, ◌++◌, Option, Some, None, Result, Ok, Err, refl, sym, ap, ◌∙◌, subst, arith}
+use Rattle.std.proofs.Common.{◌≡◌, ◌⊎◌, inl, inr, ℕ, zero, suc, Bool, true, false, List, [], ◌∷◌, ◌++◌, Option, Some, None, Result, Ok, Err, refl, sym, ap, ◌∙◌}
+use Rattle.std.proofs.Common.{subst, arith}
 use Rattle.std.specs.Option.{option_to_list}
 use Rattle.btr_prog.specs.Prog.{Prog, Return, Stop, Need, Emit, Mark, Wants, Does, Run, run, first, given, exec, bind, and_then, needs, wants_of, steps_of}
 use Rattle.btr_prog.specs.Thread.{thread}
@@ -115,19 +116,23 @@ lost_twin : ((B C : Map) (p : P) → (exec B p ≡ exec C p) ⊎ Loses B (exec C
 lost_twin h = elim (h one two asks) [ inl e ↦ values 1 2 one_two (ap value e) | inr m ↦ value_fault 1 m.fault m.ending ]
 
 -- calls without what the first of them answered, or the last
-follows_then_twin_first : ((r : R) (a : ℕ) (k : ℕ → R) (done more : List ℕ) (ans : Ans) → Follows Is no_part ([] ++ wants_of r.marks) (k a) more ans → Follows Is no_part [] (and_then r k) (done ++ more) ans) → ⊥
+follows_then_twin_first : ((r : R) (a : ℕ) (k : ℕ → R) (done more : List ℕ) (ans : Ans) → Follows Is no_part ([] ++ wants_of r.marks) (k a) more ans
+    → Follows Is no_part [] (and_then r k) (done ++ more) ans) → ⊥
 follows_then_twin_first h = value_fault 1 9 (sym (h (run [] (Err 9)) 0 (λ a. ended 1) [] [] (Ok 1) (refl, refl)).1)
 
-follows_then_twin_last : ((r : R) (a : ℕ) (k : ℕ → R) (done more : List ℕ) (ans : Ans) → Follows Is no_part [] r done (Ok a) → Follows Is no_part [] (and_then r k) (done ++ more) ans) → ⊥
+follows_then_twin_last : ((r : R) (a : ℕ) (k : ℕ → R) (done more : List ℕ) (ans : Ans) → Follows Is no_part [] r done (Ok a)
+    → Follows Is no_part [] (and_then r k) (done ++ more) ans) → ⊥
 follows_then_twin_last h = values 1 2 one_two (h (ended 0) 0 (λ a. ended 1) [] [] (Ok 2) (refl, refl)).1
 
 follows_halt_twin : ((r : R) (k : ℕ → R) (done : List ℕ) (f : ℕ) → Follows Is no_part [] (and_then r k) done (Err (Fault f))) → ⊥
 follows_halt_twin h = value_fault 1 9 (h (ended 0) (λ a. ended 1) [] 9).1
 
-want_came_twin : ((B : Map) (w : ℕ) (bytes : List ℕ) (k : List ℕ → P) (done : List ℕ) (ans : Ans) → Follows Is no_part (w ∷ []) (exec B (k bytes)) done ans → Follows Is no_part [] (first (Wants w) (given (B w) (λ bytes. exec B (k bytes)))) done ans) → ⊥
+want_came_twin : ((B : Map) (w : ℕ) (bytes : List ℕ) (k : List ℕ → P) (done : List ℕ) (ans : Ans)
+    → Follows Is no_part (w ∷ []) (exec B (k bytes)) done ans → Follows Is no_part [] (first (Wants w) (given (B w) (λ bytes. exec B (k bytes)))) done ans) → ⊥
 want_came_twin h = value_fault 1 9 (sym (h none 0 (1 ∷ []) told [] (Ok 1) (refl, refl)).1)
 
-want_faults_twin : ((B : Map) (w f : ℕ) (k : List ℕ → P) → Follows Is no_part [] (first (Wants w) (given (B w) (λ bytes. exec B (k bytes)))) [] (Err (Fault f))) → ⊥
+want_faults_twin : ((B : Map) (w f : ℕ) (k : List ℕ → P) → Follows Is no_part [] (first (Wants w) (given (B w) (λ bytes. exec B (k bytes)))) []
+    (Err (Fault f))) → ⊥
 want_faults_twin h = value_fault 1 9 (h one 0 9 told).1
 
 step_done_twin : ((s : ℕ) (r : R) (done : List ℕ) (ans : Ans) → Follows Is no_part [] (first (Does s) r) (s ∷ done) ans) → ⊥
@@ -155,7 +160,8 @@ unread_here_twin h =
     subst (λ (ms : List (Mark ℕ ℕ)). Names Is 0 ([] ++ wants_of ms)) (no_marks b.before b.behind b.place) b.holds
 
 -- a step that can't be done in part was
-one_of : (xs : List ℕ) (o : Option ℕ) → (xs ≡ []) ⊎ SameList xs (1 ∷ []) → SameList (2 ∷ []) (xs ++ option_to_list o) → Leaves {W = ℕ} no_part o (Does 1 ∷ []) → ⊥
+one_of : (xs : List ℕ) (o : Option ℕ) → (xs ≡ []) ⊎ SameList xs (1 ∷ []) → SameList (2 ∷ []) (xs ++ option_to_list o)
+    → Leaves {W = ℕ} no_part o (Does 1 ∷ []) → ⊥
 one_of xs (Some t) e f l = let no : None ≡ Some t = l.1 in cc
 one_of xs None (inl e) f l = some_list 2 [] (f ∙ ap (λ x. x ++ []) e)
 one_of xs None (inr e) f l =
@@ -189,12 +195,14 @@ names_five (x ∷ xs) ys e n =
 want_unread_twin : ((u w : ℕ) (r : R) → Follows Is no_part [] (first (Wants w) r) [] (Err (Unread u))) → ⊥
 want_unread_twin h = let b = h 5 0 (ended 1) in names_five b.before b.behind b.place b.holds
 
-place_twin : ((B C : Map) (p : P) (done : List ℕ) (a : ℕ) → Follows Is no_part [] (exec B p) done (Err (Unread a)) → Follows Is no_part [] (exec C p) done (Err (Unread a))) → ⊥
+place_twin : ((B C : Map) (p : P) (done : List ℕ) (a : ℕ) → Follows Is no_part [] (exec B p) done (Err (Unread a))
+    → Follows Is no_part [] (exec C p) done (Err (Unread a))) → ⊥
 place_twin h =
     let b = h one nil looks_on [] 5 (record { before = Wants 0 ∷ (Wants 5 ∷ []); behind = []; left = None; place = refl; steps = refl; leaves = tt; holds = inr (inl refl) }) in
     names_five b.before b.behind b.place b.holds
 
-held_twin : ((B C : Map) (p : P) (done : List ℕ) (ans : Ans) → Follows Is no_part [] (exec B p) done ans → Follows Is no_part [] (exec C p) done ans ⊎ ((m : Loses B (exec C p) (exec B p)) × (done ≡ steps_of m.before) × (ans ≡ Err (Fault m.fault)))) → ⊥
+held_twin : ((B C : Map) (p : P) (done : List ℕ) (ans : Ans) → Follows Is no_part [] (exec B p) done ans → Follows Is no_part [] (exec C p) done ans
+    ⊎ ((m : Loses B (exec C p) (exec B p)) × (done ≡ steps_of m.before) × (ans ≡ Err (Fault m.fault)))) → ⊥
 held_twin h = elim (h one two asks [] (Ok 1) (refl, refl)) [ inl f ↦ values 1 2 one_two (sym f.1) | inr m ↦ value_halt 1 (Fault m.0.fault) m.2 ]
 
 -- several maps that have nothing to do with the one
@@ -222,15 +230,18 @@ stops st s = Return (Err 7)
 abbrev later : P
 later = Emit 0 asks
 
-thread_goes_twin : ((Bs : ⊥ → Map) (body : ℕ → ℕ → Prog ℕ ℕ ℕ (Result ℕ ℕ)) (fin : ℕ → ℕ → ℕ) (st : ℕ) (p : P) (r : R) → GoesTo Bs (thread body fin st p) r → (q : R) × GoesTo Bs p q × ThreadsTo (λ st' s. GoesTo Bs (body st' s)) fin st q.marks q.ending r) → ⊥
+thread_goes_twin : ((Bs : ⊥ → Map) (body : ℕ → ℕ → Prog ℕ ℕ ℕ (Result ℕ ℕ)) (fin : ℕ → ℕ → ℕ) (st : ℕ) (p : P) (r : R)
+    → GoesTo Bs (thread body fin st p) r → (q : R) × GoesTo Bs p q × ThreadsTo (λ st' s. GoesTo Bs (body st' s)) fin st q.marks q.ending r) → ⊥
 thread_goes_twin h = let g = h (λ i. absurd i) stops (λ st a. st) 0 later (ended 7) refl in g.1.2.0
 
-goes_then_twin : ((Bs : Bool → Map) (p : P) (k : ℕ → P) (r : R) (a : ℕ) (done more : List ℕ) (ans : Ans) → GoesTo Bs p r → Goes Is no_part ([] ++ wants_of r.marks) Bs (k a) more ans → Goes Is no_part [] Bs (bind p k) (done ++ more) ans) → ⊥
+goes_then_twin : ((Bs : Bool → Map) (p : P) (k : ℕ → P) (r : R) (a : ℕ) (done more : List ℕ) (ans : Ans) → GoesTo Bs p r
+    → Goes Is no_part ([] ++ wants_of r.marks) Bs (k a) more ans → Goes Is no_part [] Bs (bind p k) (done ++ more) ans) → ⊥
 goes_then_twin h =
     let g = h each_one (Stop 9) (λ a. Return 1) (run [] (Err 9)) 0 [] [] (Ok 1) refl (ended 1, refl, (refl, refl)) in
     value_fault 1 9 (sym (sym (ap value g.1) ∙ g.2.1))
 
-goes_came_twin : ((Bs : Bool → Map) (i : Bool) (w : ℕ) (bytes : List ℕ) (k : List ℕ → P) (done : List ℕ) (ans : Ans) → Goes Is no_part (w ∷ []) Bs (k bytes) done ans → Goes Is no_part [] Bs (Need w k) done ans) → ⊥
+goes_came_twin : ((Bs : Bool → Map) (i : Bool) (w : ℕ) (bytes : List ℕ) (k : List ℕ → P) (done : List ℕ) (ans : Ans)
+    → Goes Is no_part (w ∷ []) Bs (k bytes) done ans → Goes Is no_part [] Bs (Need w k) done ans) → ⊥
 goes_came_twin h =
     let g = h (λ i. none) true 0 (1 ∷ []) told [] (Ok 1) (ended 1, refl, (refl, refl)) in
     value_fault 1 9 (sym (sym (ap value (g.1.2 ∙ ap (first (Wants 0)) g.1.3)) ∙ g.2.1))
@@ -241,16 +252,19 @@ goes_faults_twin h =
     value_fault 1 9 (sym (ap value (g.1.2 ∙ ap (first (Wants 0)) g.1.3)) ∙ g.2.1)
 
 -- a program that looks at what may differ: its runs do not want the same
-blind_twin : ((plain : ℕ → Bool) (Cs : Bool → Map) (C : Map) (p : P) (q : R) → Each (λ w. (j : Bool) → IsAlike (plain w) (Cs j w) (C w)) (needs C p) → GoesTo Cs p q → (wants_of q.marks ≡ needs C p) × (q.ending ≡ (exec C p).ending)) → ⊥
+blind_twin : ((plain : ℕ → Bool) (Cs : Bool → Map) (C : Map) (p : P) (q : R) → Each (λ w. (j : Bool) → IsAlike (plain w) (Cs j w) (C w)) (needs C p)
+    → GoesTo Cs p q → (wants_of q.marks ≡ needs C p) × (q.ending ≡ (exec C p).ending)) → ⊥
 blind_twin h =
     let alike : Each (λ w. (j : Bool) → IsAlike true (each_one j w) (two w)) (0 ∷ []) = (elim [ true ↦ inr (refl, tt, tt) | false ↦ inr (refl, tt, tt) ], tt) in
     values 1 2 one_two (h (λ w. true) each_one two asks (run (Wants 0 ∷ []) (Ok 1)) alike (true, ended 1, refl, refl)).1
 
 -- what is allowed of a program's run and of its bodies
-goes_thread_twin_items : ((Bs : Bool → Map) (body : ℕ → ℕ → Prog ℕ ℕ ℕ (Result ℕ ℕ)) (fin : ℕ → ℕ → ℕ) (st : ℕ) (p : P) (q r : R) → ThreadsTo (λ st' s. GoesTo Bs (body st' s)) fin st q.marks q.ending r → GoesTo Bs (thread body fin st p) r) → ⊥
+goes_thread_twin_items : ((Bs : Bool → Map) (body : ℕ → ℕ → Prog ℕ ℕ ℕ (Result ℕ ℕ)) (fin : ℕ → ℕ → ℕ) (st : ℕ) (p : P) (q r : R)
+    → ThreadsTo (λ st' s. GoesTo Bs (body st' s)) fin st q.marks q.ending r → GoesTo Bs (thread body fin st p) r) → ⊥
 goes_thread_twin_items h = value_fault 1 9 (sym (ap value (h each_one stops (λ st a. a) 0 (Return 1) (run [] (Err 9)) (run [] (Err 9)) refl)))
 
-goes_thread_twin_bodies : ((Bs : Bool → Map) (body : ℕ → ℕ → Prog ℕ ℕ ℕ (Result ℕ ℕ)) (fin : ℕ → ℕ → ℕ) (st : ℕ) (p : P) (q r : R) → GoesTo Bs p q → GoesTo Bs (thread body fin st p) r) → ⊥
+goes_thread_twin_bodies : ((Bs : Bool → Map) (body : ℕ → ℕ → Prog ℕ ℕ ℕ (Result ℕ ℕ)) (fin : ℕ → ℕ → ℕ) (st : ℕ) (p : P) (q r : R) → GoesTo Bs p q
+    → GoesTo Bs (thread body fin st p) r) → ⊥
 goes_thread_twin_bodies h = value_fault 1 9 (sym (ap value (h each_one stops (λ st a. a) 0 (Return 1) (ended 1) (run [] (Err 9)) refl)))
 
 goes_halt_twin : ((Bs : Bool → Map) (p : P) (k : ℕ → P) (done : List ℕ) (f : ℕ) → Goes Is no_part [] Bs (bind p k) done (Err (Fault f))) → ⊥
@@ -267,7 +281,9 @@ goes_broke_twin h =
     one_of (steps_of b.before) b.left (steps_in b.before b.behind 1 b.place) b.steps (part_here b.left b.behind b.leaves)
 
 -- an answer by some maps under others
-goes_held_twin_within : ((plain : ℕ → Bool) (Bs Cs : Bool → Map) (C : Map) (p : P) (done : List ℕ) (ans : Ans) → IsBlind plain p → Each (λ w. (j : Bool) → IsAlike (plain w) (Cs j w) (C w)) (needs C p) → Goes Is no_part [] Bs p done ans → Goes Is no_part [] Cs p done ans ⊎ ((q : R) × (r : R) × GoesTo Cs p q × (m : Drops Bs q r) × (done ≡ steps_of m.before) × (ans ≡ Err (Fault m.fault)))) → ⊥
+goes_held_twin_within : ((plain : ℕ → Bool) (Bs Cs : Bool → Map) (C : Map) (p : P) (done : List ℕ) (ans : Ans) → IsBlind plain p
+    → Each (λ w. (j : Bool) → IsAlike (plain w) (Cs j w) (C w)) (needs C p) → Goes Is no_part [] Bs p done ans → Goes Is no_part [] Cs p done ans
+    ⊎ ((q : R) × (r : R) × GoesTo Cs p q × (m : Drops Bs q r) × (done ≡ steps_of m.before) × (ans ≡ Err (Fault m.fault)))) → ⊥
 goes_held_twin_within h =
     let blind : IsBlind (λ w. false) asks = (elim [ [] ↦ tt | x ∷ xs ↦ tt ], λ e bytes others. let no : ⊥ = cc in absurd no) in
     elim (h (λ w. false) (λ i. one) (λ j. two) two asks [] (Ok 1) blind ((λ j. inl refl), tt) (run (Wants 0 ∷ []) (Ok 1), (true, ended 1, refl, refl), (refl, refl))) [
@@ -296,7 +312,11 @@ no_seven false q d e =
     let g = subst (λ x. goes_given x (λ bytes. GoesTo eight (told bytes)) d.1) (eight_of d.0) d.3 in
     values 8 7 (λ i. omega (arith, i)) (sym (ap value (d.2 ∙ ap (first (Wants 5)) g)) ∙ e)
 
-goes_held_twin_blind : ((plain : ℕ → Bool) (Bs Cs : Bool → Map) (C : Map) (p : P) (done : List ℕ) (ans : Ans) → Each (λ w. (j : Bool) → IsAlike (plain w) (Cs j w) (C w)) (needs C p) → Each (λ w. (i : Bool) → (j : Bool) × IsWithin (Bs i w) (Cs j w)) (needs C p) → Goes Is no_part [] Bs p done ans → Goes Is no_part [] Cs p done ans ⊎ ((q : R) × (r : R) × GoesTo Cs p q × (m : Drops Bs q r) × (done ≡ steps_of m.before) × (ans ≡ Err (Fault m.fault)))) → ⊥
+goes_held_twin_blind : ((plain : ℕ → Bool) (Bs Cs : Bool → Map) (C : Map) (p : P) (done : List ℕ) (ans : Ans)
+    → Each (λ w. (j : Bool) → IsAlike (plain w) (Cs j w) (C w)) (needs C p)
+    → Each (λ w. (i : Bool) → (j : Bool) × IsWithin (Bs i w) (Cs j w)) (needs C p) → Goes Is no_part [] Bs p done ans
+    → Goes Is no_part [] Cs p done ans ⊎ ((q : R) × (r : R) × GoesTo Cs p q × (m : Drops Bs q r) × (done ≡ steps_of m.before)
+    × (ans ≡ Err (Fault m.fault)))) → ⊥
 goes_held_twin_blind h =
     let alike : Each (λ w. (j : Bool) → IsAlike true (eight j w) (eight true w)) (0 ∷ []) = (elim [ true ↦ inl refl | false ↦ inr (refl, tt, tt) ], tt) in
     let came : Goes Is no_part [] (λ (i : Bool). seven) looks_on [] (Ok 7) = (run (Wants 0 ∷ (Wants 5 ∷ [])) (Ok 7), (true, run (Wants 5 ∷ []) (Ok 7), refl, (true, ended 7, refl, refl)), (refl, refl)) in
@@ -315,10 +335,14 @@ looks_blind (zero ∷ xs) = tt
 looks_blind (suc x ∷ xs) = (told_blind, λ e bytes others. let no : ⊥ = cc in absurd no)
 
 -- maps that differ where there is a test
-blind_twin_alike : ((plain : ℕ → Bool) (Cs : Bool → Map) (C : Map) (p : P) (q : R) → IsBlind plain p → GoesTo Cs p q → (wants_of q.marks ≡ needs C p) × (q.ending ≡ (exec C p).ending)) → ⊥
+blind_twin_alike : ((plain : ℕ → Bool) (Cs : Bool → Map) (C : Map) (p : P) (q : R) → IsBlind plain p → GoesTo Cs p q → (wants_of q.marks ≡ needs C p)
+    × (q.ending ≡ (exec C p).ending)) → ⊥
 blind_twin_alike h = values 1 2 one_two (h (λ w. false) each_one two asks (run (Wants 0 ∷ []) (Ok 1)) (told_blind, λ e bytes others. let no : ⊥ = cc in absurd no) (true, ended 1, refl, refl)).1
 
-goes_held_twin_alike : ((plain : ℕ → Bool) (Bs Cs : Bool → Map) (C : Map) (p : P) (done : List ℕ) (ans : Ans) → IsBlind plain p → Each (λ w. (i : Bool) → (j : Bool) × IsWithin (Bs i w) (Cs j w)) (needs C p) → Goes Is no_part [] Bs p done ans → Goes Is no_part [] Cs p done ans ⊎ ((q : R) × (r : R) × GoesTo Cs p q × (m : Drops Bs q r) × (done ≡ steps_of m.before) × (ans ≡ Err (Fault m.fault)))) → ⊥
+goes_held_twin_alike : ((plain : ℕ → Bool) (Bs Cs : Bool → Map) (C : Map) (p : P) (done : List ℕ) (ans : Ans) → IsBlind plain p
+    → Each (λ w. (i : Bool) → (j : Bool) × IsWithin (Bs i w) (Cs j w)) (needs C p) → Goes Is no_part [] Bs p done ans
+    → Goes Is no_part [] Cs p done ans ⊎ ((q : R) × (r : R) × GoesTo Cs p q × (m : Drops Bs q r) × (done ≡ steps_of m.before)
+    × (ans ≡ Err (Fault m.fault)))) → ⊥
 goes_held_twin_alike h =
     let blind : IsBlind (λ w. false) looks_on = (looks_blind, λ e bytes others. let no : ⊥ = cc in absurd no) in
     let came : Goes Is no_part [] (λ (i : Bool). seven) looks_on [] (Ok 7) = (run (Wants 0 ∷ (Wants 5 ∷ [])) (Ok 7), (true, run (Wants 5 ∷ []) (Ok 7), refl, (true, ended 7, refl, refl)), (refl, refl)) in
@@ -344,7 +368,8 @@ goes_unread_twin_is h =
 goes_nowhere_twin : ((Bs : ⊥ → Map) (p : P) → Goes Is no_part [] Bs p [] (Err Broke)) → ⊥
 goes_nowhere_twin h = (h no_map asks).1.0
 
-goes_halt_twin_some : ((Bs : ⊥ → Map) (p : P) (k : ℕ → P) (done : List ℕ) (x : Halt ℕ ℕ) → Goes Is no_part [] Bs p done (Err x) → Goes Is no_part [] Bs (bind p k) done (Err x)) → ⊥
+goes_halt_twin_some : ((Bs : ⊥ → Map) (p : P) (k : ℕ → P) (done : List ℕ) (x : Halt ℕ ℕ) → Goes Is no_part [] Bs p done (Err x)
+    → Goes Is no_part [] Bs (bind p k) done (Err x)) → ⊥
 goes_halt_twin_some h = (h no_map (Return 0) (λ a. asks) [] Broke (ended 0, refl, record { before = []; behind = []; left = None; place = refl; steps = refl; leaves = tt; holds = tt })).1.0
 
 -- a step that was done under another map

@@ -4,7 +4,8 @@ use Rattle.btr_prog.specs.Prog.{BlockMap, Prog, Mark, Run, run, exec, and_then, 
 use Rattle.btr_prog.specs.Maps.{Each, IsWithin, cut, Loses}
 use Rattle.btr_prog.specs.Answers.{Halt, Follows}
 use Rattle.btr_prog.specs.Goes.{Goes}
-use Rattle.btr_prog.specs.Stages.{Staged, Early, Late, both, renamed, renamed_marks, renamed_run, unless_refused, run_unless_refused, staged, staged_run, staged_needs, IsWithinBoth}
+use Rattle.btr_prog.specs.Stages.{Staged, Early, Late, both, renamed, renamed_marks, renamed_run, unless_refused, run_unless_refused, staged, staged_run}
+use Rattle.btr_prog.specs.Stages.{staged_needs, IsWithinBoth}
 use Rattle.btr_prog.proofs.Runs.{exec-bind, wants_of-append, cut_law}
 use Rattle.btr_prog.proofs.Threads.{after_same}
 use Rattle.btr_prog.proofs.Lost.{lost_law}
@@ -32,11 +33,13 @@ module _ {W : Type 0} (P : W → Type 0) where
 
 module _ {T X W F S A : Type 0} (refused : X → A) where
   -- the run of the rest, or the refusal
-  exec-rest : (B : BlockMap W F) (D : T → BlockMap W F) (k : T → Prog W F S A) (x : Result T X) → exec (both B D) (unless_refused refused (λ t. renamed (Late t) (k t)) x) ≡ run_unless_refused refused (λ t. renamed_run (Late t) (exec (D t) (k t))) x
+  exec-rest : (B : BlockMap W F) (D : T → BlockMap W F) (k : T → Prog W F S A) (x : Result T X)
+      → exec (both B D) (unless_refused refused (λ t. renamed (Late t) (k t)) x) ≡ run_unless_refused refused (λ t. renamed_run (Late t) (exec (D t) (k t))) x
   exec-rest B D k (Ok t) = exec-renamed (Late t) (both B D) (k t)
   exec-rest B D k (Err x) = refl
 
-  pub exec-staged : (B : BlockMap W F) (D : T → BlockMap W F) (p : Prog W F S (Result T X)) (k : T → Prog W F S A) → exec (both B D) (staged refused p k) ≡ staged_run refused (exec B p) (λ t. exec (D t) (k t))
+  pub exec-staged : (B : BlockMap W F) (D : T → BlockMap W F) (p : Prog W F S (Result T X)) (k : T → Prog W F S A)
+      → exec (both B D) (staged refused p k) ≡ staged_run refused (exec B p) (λ t. exec (D t) (k t))
   exec-staged B D p k =
       let r = exec B p in
       let rest : Result T X → Prog (Staged T W) F S A = unless_refused refused (λ t. renamed (Late t) (k t)) in
@@ -45,7 +48,8 @@ module _ {T X W F S A : Type 0} (refused : X → A) where
       ∙ (ap (λ (x : Run (Staged T W) F S (Result T X)). and_then x (λ y. exec (both B D) (rest y))) (exec-renamed Early (both B D) p)
       ∙ after_same (renamed_marks Early r.marks) r.ending (λ y. exec (both B D) (rest y)) runs (exec-rest B D k))
 
-  wants_of-staged : (ms : List (Mark W S)) (e : Result (Result T X) F) (k : T → Run W F S A) → wants_of (staged_run refused (run ms e) k).marks ≡ staged_needs (wants_of ms) e (λ t. wants_of (k t).marks)
+  wants_of-staged : (ms : List (Mark W S)) (e : Result (Result T X) F) (k : T → Run W F S A) → wants_of (staged_run refused (run ms e) k).marks
+      ≡ staged_needs (wants_of ms) e (λ t. wants_of (k t).marks)
   wants_of-staged ms (Ok (Ok t)) k =
       wants_of-append (renamed_marks Early ms) (renamed_marks (Late t) (k t).marks)
       ∙ (λ i. wants_of-renamed Early ms i ++ wants_of-renamed (Late t) (k t).marks i)
@@ -53,8 +57,10 @@ module _ {T X W F S A : Type 0} (refused : X → A) where
   wants_of-staged ms (Err f) k = wants_of-renamed Early ms
 
   -- the wants of both parts
-  pub needs-staged : (B : BlockMap W F) (D : T → BlockMap W F) (p : Prog W F S (Result T X)) (k : T → Prog W F S A) → needs (both B D) (staged refused p k) ≡ staged_needs (needs B p) (exec B p).ending (λ t. needs (D t) (k t))
-  needs-staged B D p k = ap (λ (r : Run (Staged T W) F S A). wants_of r.marks) (exec-staged B D p k) ∙ wants_of-staged (exec B p).marks (exec B p).ending (λ t. exec (D t) (k t))
+  pub needs-staged : (B : BlockMap W F) (D : T → BlockMap W F) (p : Prog W F S (Result T X)) (k : T → Prog W F S A)
+      → needs (both B D) (staged refused p k) ≡ staged_needs (needs B p) (exec B p).ending (λ t. needs (D t) (k t))
+  needs-staged B D p k = ap (λ (r : Run (Staged T W) F S A). wants_of r.marks) (exec-staged B D p k)
+      ∙ wants_of-staged (exec B p).marks (exec B p).ending (λ t. exec (D t) (k t))
 
   module _ (P : Staged T W → Type 0) (B : BlockMap W F) (D : T → BlockMap W F) (p : Prog W F S (Result T X)) (k : T → Prog W F S A) where
     abbrev Runs : List (Mark W S) → Result (Result T X) F → Run (Staged T W) F S A
@@ -66,20 +72,24 @@ module _ {T X W F S A : Type 0} (refused : X → A) where
     early_after : (ms : List (Mark W S)) (e : Result (Result T X) F) → Each P (wants_of (Runs ms e).marks) → Each (λ w. P (Early w)) (wants_of ms)
     early_after ms (Ok (Ok t)) h =
         let ns = renamed_marks (Late t) (exec (D t) (k t)).marks in
-        each_original Early P ms (each_first P (wants_of (renamed_marks Early ms)) (wants_of ns) (subst (Each P) (wants_of-append (renamed_marks Early ms) ns) h))
+        each_original Early P ms (each_first P (wants_of (renamed_marks Early ms)) (wants_of ns)
+        (subst (Each P) (wants_of-append (renamed_marks Early ms) ns) h))
     early_after ms (Ok (Err x)) h = each_original Early P ms (subst (λ ns. Each P (wants_of ns)) (append-nil (renamed_marks Early ms)) h)
     early_after ms (Err f) h = each_original Early P ms h
 
     late_after : (ms : List (Mark W S)) (t : T) → Each P (wants_of (Runs ms (Ok (Ok t))).marks) → Rest t
     late_after ms t h =
         let ns = renamed_marks (Late t) (exec (D t) (k t)).marks in
-        each_original (Late t) P (exec (D t) (k t)).marks (each_last P (wants_of (renamed_marks Early ms)) (wants_of ns) (subst (Each P) (wants_of-append (renamed_marks Early ms) ns) h))
+        each_original (Late t) P (exec (D t) (k t)).marks (each_last P (wants_of (renamed_marks Early ms)) (wants_of ns)
+        (subst (Each P) (wants_of-append (renamed_marks Early ms) ns) h))
 
-    both_after : (ms : List (Mark W S)) (e : Result (Result T X) F) → Each (λ w. P (Early w)) (wants_of ms) → ((t : T) → e ≡ Ok (Ok t) → Rest t) → Each P (wants_of (Runs ms e).marks)
+    both_after : (ms : List (Mark W S)) (e : Result (Result T X) F) → Each (λ w. P (Early w)) (wants_of ms) → ((t : T) → e ≡ Ok (Ok t) → Rest t)
+        → Each P (wants_of (Runs ms e).marks)
     both_after ms (Ok (Ok t)) h g =
         let ns = renamed_marks (Late t) (exec (D t) (k t)).marks in
         subst (Each P) (sym (wants_of-append (renamed_marks Early ms) ns))
-        (each_append P (wants_of (renamed_marks Early ms)) (wants_of ns) (each_renamed Early P ms h) (each_renamed (Late t) P (exec (D t) (k t)).marks (g t refl)))
+        (each_append P (wants_of (renamed_marks Early ms)) (wants_of ns) (each_renamed Early P ms h)
+        (each_renamed (Late t) P (exec (D t) (k t)).marks (g t refl)))
     both_after ms (Ok (Err x)) h g = subst (λ ns. Each P (wants_of ns)) (sym (append-nil (renamed_marks Early ms))) (each_renamed Early P ms h)
     both_after ms (Err f) h g = each_renamed Early P ms h
 
@@ -102,7 +112,8 @@ module _ {T X W F S A : Type 0} (refused : X → A) where
     pub staged_cut : IsWithinBoth B C D E p k → exec (both B D) (staged refused p k) ≡ cut (both B D) (exec (both C E) (staged refused p k))
     staged_cut h = cut_law (both B D) (both C E) (staged refused p k) (within_staged h)
 
-    pub staged_lost : IsWithinBoth B C D E p k → (exec (both B D) (staged refused p k) ≡ exec (both C E) (staged refused p k)) ⊎ Loses (both B D) (exec (both C E) (staged refused p k)) (exec (both B D) (staged refused p k))
+    pub staged_lost : IsWithinBoth B C D E p k → (exec (both B D) (staged refused p k) ≡ exec (both C E) (staged refused p k))
+        ⊎ Loses (both B D) (exec (both C E) (staged refused p k)) (exec (both B D) (staged refused p k))
     staged_lost h = lost_law (both B D) (both C E) (staged refused p k) (within_staged h)
 
 module _ {T X W F S A U : Type 0} (refused : X → A) (Is : U → Staged T W → Type 0) (part : S → ℕ → Option S) where
@@ -113,22 +124,26 @@ module _ {T X W F S A U : Type 0} (refused : X → A) (Is : U → Staged T W →
     rest : Result T X → Run (Staged T W) F S A
     rest = run_unless_refused refused (λ t. renamed_run (Late t) (exec (D t) (k t)))
 
-    whole : (done : List S) (ans : Result A (Halt F U)) → Follows Is part [] (staged_run refused (exec B p) (λ t. exec (D t) (k t))) done ans → Follows Is part [] (exec (both B D) (staged refused p k)) done ans
+    whole : (done : List S) (ans : Result A (Halt F U)) → Follows Is part [] (staged_run refused (exec B p) (λ t. exec (D t) (k t))) done ans
+        → Follows Is part [] (exec (both B D) (staged refused p k)) done ans
     whole done ans h = subst (λ (r : Run (Staged T W) F S A). Follows Is part [] r done ans) (sym (exec-staged refused B D p k)) h
 
-    pub staged_then : (t : T) (done more : List S) (ans : Result A (Halt F U)) → Follows (λ u w. Is u (Early w)) part [] (exec B p) done (Ok (Ok t)) → Follows (λ u w. Is u (Late t w)) part [] (exec (D t) (k t)) more ans → Follows Is part [] (exec (both B D) (staged refused p k)) (done ++ more) ans
+    pub staged_then : (t : T) (done more : List S) (ans : Result A (Halt F U)) → Follows (λ u w. Is u (Early w)) part [] (exec B p) done (Ok (Ok t))
+        → Follows (λ u w. Is u (Late t w)) part [] (exec (D t) (k t)) more ans → Follows Is part [] (exec (both B D) (staged refused p k)) (done ++ more) ans
     unfolding early rest
     staged_then t done more ans h g = whole (done ++ more) ans
         (follows_then Is part [] early (Ok t) rest done more ans (follows_renamed Early Is part (exec B p) done (Ok (Ok t)) h)
         (follows_alone Is part (wants_of early.marks) (rest (Ok t)) more ans (follows_renamed (Late t) Is part (exec (D t) (k t)) more ans g)))
 
-    pub staged_refused : (x : X) (done : List S) → Follows (λ u w. Is u (Early w)) part [] (exec B p) done (Ok (Err x)) → Follows Is part [] (exec (both B D) (staged refused p k)) done (Ok (refused x))
+    pub staged_refused : (x : X) (done : List S) → Follows (λ u w. Is u (Early w)) part [] (exec B p) done (Ok (Err x))
+        → Follows Is part [] (exec (both B D) (staged refused p k)) done (Ok (refused x))
     unfolding early rest
     staged_refused x done h = whole done (Ok (refused x))
         (subst (λ (ss : List S). Follows Is part [] (and_then early rest) ss (Ok (refused x))) (append-nil done)
         (follows_then Is part [] early (Err x) rest done [] (Ok (refused x)) (follows_renamed Early Is part (exec B p) done (Ok (Err x)) h) (refl, refl)))
 
-    pub staged_halt : (done : List S) (h : Halt F U) → Follows (λ u w. Is u (Early w)) part [] (exec B p) done (Err h) → Follows Is part [] (exec (both B D) (staged refused p k)) done (Err h)
+    pub staged_halt : (done : List S) (h : Halt F U) → Follows (λ u w. Is u (Early w)) part [] (exec B p) done (Err h)
+        → Follows Is part [] (exec (both B D) (staged refused p k)) done (Err h)
     unfolding early rest
     staged_halt done h g = whole done (Err h) (follows_halt Is part [] early rest done h (follows_renamed Early Is part (exec B p) done (Err h) g))
 
@@ -139,21 +154,25 @@ module _ {T X W F S A U : Type 0} (refused : X → A) (Is : U → Staged T W →
     abbrev after_early : Result T X → Prog (Staged T W) F S A
     after_early = unless_refused refused (λ t. renamed (Late t) (k t))
 
-    pub goes_staged : (t : T) (done more : List S) (ans : Result A (Halt F U)) → Goes (λ u w. Is u (Early w)) part [] Bs p done (Ok (Ok t)) → Goes (λ u w. Is u (Late t w)) part [] (λ i. Ds i t) (k t) more ans → Goes Is part [] maps (staged refused p k) (done ++ more) ans
+    pub goes_staged : (t : T) (done more : List S) (ans : Result A (Halt F U)) → Goes (λ u w. Is u (Early w)) part [] Bs p done (Ok (Ok t))
+        → Goes (λ u w. Is u (Late t w)) part [] (λ i. Ds i t) (k t) more ans → Goes Is part [] maps (staged refused p k) (done ++ more) ans
     goes_staged t done more ans h g =
         goes_then maps Is part [] (renamed Early p) after_early (renamed_run Early h.0) (Ok t) done more ans
         (goes_renamed Early maps p h.0 h.1) (follows_renamed Early Is part h.0 done (Ok (Ok t)) h.2) (
           renamed_run (Late t) g.0,
           goes_renamed (Late t) maps (k t) g.0 g.1,
-          follows_alone Is part (wants_of (renamed_marks Early h.0.marks)) (renamed_run (Late t) g.0) more ans (follows_renamed (Late t) Is part g.0 more ans g.2),
+          follows_alone Is part (wants_of (renamed_marks Early h.0.marks)) (renamed_run (Late t) g.0) more ans
+              (follows_renamed (Late t) Is part g.0 more ans g.2),
         )
 
-    pub goes_staged_refused : (x : X) (done : List S) → Goes (λ u w. Is u (Early w)) part [] Bs p done (Ok (Err x)) → Goes Is part [] maps (staged refused p k) done (Ok (refused x))
+    pub goes_staged_refused : (x : X) (done : List S) → Goes (λ u w. Is u (Early w)) part [] Bs p done (Ok (Err x))
+        → Goes Is part [] maps (staged refused p k) done (Ok (refused x))
     goes_staged_refused x done h = subst (λ (ss : List S). Goes Is part [] maps (staged refused p k) ss (Ok (refused x))) (append-nil done)
         (goes_then maps Is part [] (renamed Early p) after_early (renamed_run Early h.0) (Err x) done [] (Ok (refused x))
         (goes_renamed Early maps p h.0 h.1) (follows_renamed Early Is part h.0 done (Ok (Err x)) h.2) (run [] (Ok (refused x)), refl, (refl, refl)))
 
-    pub goes_staged_halt : (i : I) (done : List S) (h : Halt F U) → Goes (λ u w. Is u (Early w)) part [] Bs p done (Err h) → Goes Is part [] maps (staged refused p k) done (Err h)
+    pub goes_staged_halt : (i : I) (done : List S) (h : Halt F U) → Goes (λ u w. Is u (Early w)) part [] Bs p done (Err h)
+        → Goes Is part [] maps (staged refused p k) done (Err h)
     goes_staged_halt i done h g =
         goes_halt maps Is part [] (renamed Early p) after_early i done h
         (renamed_run Early g.0, goes_renamed Early maps p g.0 g.1, follows_renamed Early Is part g.0 done (Err h) g.2)

@@ -4,7 +4,10 @@ use Rattle.btr_prog.specs.Prog.{BlockMap, Prog, Return, Stop, Need, Emit, given,
 use Rattle.btr_prog.specs.Maps.{Each, EndsWell}
 
 module _ {W F S A : Type 0} (Well : F → Type 0) (B : BlockMap W F) where
-  well_given : (w : W) (x : Result (List ℕ) F) (k : List ℕ → Prog W F S A) → B w ≡ x → ((b : List ℕ) → EndsWell Well (exec B (k b)).ending → Each (λ v. EndsWell Well (B v)) (needs B (k b))) → EndsWell Well (given x (λ b. exec B (k b))).ending → EndsWell Well (B w) × Each (λ v. EndsWell Well (B v)) (wants_of (given x (λ b. exec B (k b))).marks)
+  well_given : (w : W) (x : Result (List ℕ) F) (k : List ℕ → Prog W F S A) → B w ≡ x
+      → ((b : List ℕ) → EndsWell Well (exec B (k b)).ending → Each (λ v. EndsWell Well (B v)) (needs B (k b)))
+      → EndsWell Well (given x (λ b. exec B (k b))).ending → EndsWell Well (B w)
+      × Each (λ v. EndsWell Well (B v)) (wants_of (given x (λ b. exec B (k b))).marks)
   well_given w (Ok b) k is h well = (subst (EndsWell Well) (sym is) tt, h b well)
   well_given w (Err f) k is h well = (subst (EndsWell Well) (sym is) well, tt)
 

@@ -1,5 +1,6 @@
 -- All pages of a catalogue.
-use Rattle.std.proofs.Common.{◌≡◌, ℕ, ◌+◌, ◌<◌, ◌≤◌, length, get_or, drop, add-one, drop-cons, Bool, true, false, List, [], ◌∷◌, ◌++◌, Result, Ok, Err, refl, sym, ap, ◌∙◌, subst, append_assoc, append-nil}
+use Rattle.std.proofs.Common.{◌≡◌, ℕ, ◌+◌, ◌<◌, ◌≤◌, length, get_or, drop, add-one, drop-cons, Bool, true, false, List, [], ◌∷◌, ◌++◌, Result, Ok, Err, refl}
+use Rattle.std.proofs.Common.{sym, ap, ◌∙◌, subst, append_assoc, append-nil}
 use Rattle.std.proofs.lemmas.List.{drop_all}
 use Rattle.std.specs.declared.vec.Vec.{Vec}
 use Rattle.btr_prog.specs.Prog.{Mark, Wants, Does, Run, run, first, prepend, wants_of}
@@ -57,7 +58,8 @@ module _ (Bs : ℕ → Want → Result (List ℕ) ℕ) (a : ℕ) where
         seen = Catalogue a ∷ [];
         done = [];
         rows = sym (append-nil old);
-        sofar = so_far_more (Whole Bs a) (Whole Bs a) (Left Bs v.items 0) [] [] w (λ r k. goes_thread Bs treat fin 0 (catalogue a) (first (Wants (Catalogue a)) q) (prepend w r) g (r, refl, k)) (so_far_none (Whole Bs a));
+        sofar = so_far_more (Whole Bs a) (Whole Bs a) (Left Bs v.items 0) [] [] w
+            (λ r k. goes_thread Bs treat fin 0 (catalogue a) (first (Wants (Catalogue a)) q) (prepend w r) g (r, refl, k)) (so_far_none (Whole Bs a));
       }
 
   module _ (page : ℕ) (pages : List ℕ) (last : ℕ) (old now new : List Row) (f : Far Bs a (page ∷ pages) last old now) where
@@ -73,7 +75,8 @@ module _ (Bs : ℕ → Want → Result (List ℕ) ℕ) (a : ℕ) where
           seen = f.seen ++ wants_of b.marks;
           done = f.done ++ p.0;
           rows = rows_then p.0 p.1;
-          sofar = so_far_step (Goings Bs) fin (does pages) (Ok tt) IsTold part (Whole Bs a) f.seen f.done p.0 last page page b (goes_value Bs (next last page) (shown page) r p.2.1)
+          sofar = so_far_step (Goings Bs) fin (does pages) (Ok tt) IsTold part (Whole Bs a) f.seen f.done p.0 last page page b
+              (goes_value Bs (next last page) (shown page) r p.2.1)
               (follows_alone IsTold part f.seen b p.0 (Ok (Ok page)) (follows_value IsTold part [] (next last page) r true p.0 p.2.2)) f.sofar;
         }
 
@@ -84,7 +87,8 @@ module _ (Bs : ℕ → Want → Result (List ℕ) ℕ) (a : ℕ) where
         let b = with_value Bs (next last page) r in (
           f.done ++ p.0,
           rows_then p.0 p.1,
-          so_far_early (Goings Bs) fin (does pages) (Ok tt) IsTold part (Whole Bs a) f.seen f.done p.0 last last page b (goes_value Bs (next last page) (shown page) r p.2.1)
+          so_far_early (Goings Bs) fin (does pages) (Ok tt) IsTold part (Whole Bs a) f.seen f.done p.0 last last page b
+              (goes_value Bs (next last page) (shown page) r p.2.1)
               (follows_alone IsTold part f.seen b p.0 (Ok (Err last)) (follows_value IsTold part [] (next last page) r false p.0 p.2.2)) f.sofar,
         )
 
@@ -98,7 +102,8 @@ module _ (Bs : ℕ → Want → Result (List ℕ) ℕ) (a : ℕ) where
           so_far_halts (Goings Bs) fin (does pages) (Ok tt) IsTold part (Whole Bs a) f.seen f.done p.0 last page b (halt_of stop)
               (λ st. some_run Bs 0 treat fin st (does pages) (Ok tt)) (λ st. threads_map Bs 0 treat fin st (does pages) (Ok tt))
               (goes_value Bs (next last page) (shown page) r p.2.1)
-              (follows_alone IsTold part f.seen b p.0 (Err (halt_of stop)) (follows_halt IsTold part [] r (λ more. run [] (Ok (next last page more))) p.0 (halt_of stop) p.2.2)) f.sofar,
+              (follows_alone IsTold part f.seen b p.0 (Err (halt_of stop))
+              (follows_halt IsTold part [] r (λ more. run [] (Ok (next last page more))) p.0 (halt_of stop) p.2.2)) f.sofar,
         )
 
   -- no page is left
@@ -110,7 +115,8 @@ module _ (Bs : ℕ → Want → Result (List ℕ) ℕ) (a : ℕ) where
   stops_at_once old stop h = puts_stop Bs (Catalogue a) (λ bytes. thread treat fin 0 (items bytes)) old stop h
 
   -- the same by the index of a loop over the pages
-  at_page : (xs : List ℕ) (i last : ℕ) (old now : List Row) → i < length xs → Far Bs a (drop i xs) last old now → Far Bs a (get_or xs i 0 ∷ drop (i + 1) xs) last old now
+  at_page : (xs : List ℕ) (i last : ℕ) (old now : List Row) → i < length xs → Far Bs a (drop i xs) last old now
+      → Far Bs a (get_or xs i 0 ∷ drop (i + 1) xs) last old now
   at_page xs i last old now h f =
       let e : drop i xs ≡ get_or xs i 0 ∷ drop (i + 1) xs = rw (add-one, drop-cons xs i 0) in
       subst (λ (x : List ℕ). Far Bs a x last old now) e f

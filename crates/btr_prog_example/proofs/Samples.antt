@@ -21,8 +21,10 @@ has (Page (suc zero)) = Ok (97 ∷ (98 ∷ []))
 has (Page (suc (suc zero))) = Ok (99 ∷ [])
 has (Page (suc (suc (suc a)))) = Ok []
 
-stops_at_two : exec lacks (listing 0) ≡ run (Wants (Catalogue 0) ∷ (Wants (Page 1) ∷ (Does (Bytes (97 ∷ (98 ∷ []))) ∷ (Does End ∷ (Wants (Page 2) ∷ []))))) (Err 2)
+stops_at_two : exec lacks (listing 0) ≡ run (Wants (Catalogue 0) ∷
+    (Wants (Page 1) ∷ (Does (Bytes (97 ∷ (98 ∷ []))) ∷ (Does End ∷ (Wants (Page 2) ∷ []))))) (Err 2)
 stops_at_two = refl
 
-ends_at_three : exec has (listing 0) ≡ run (Wants (Catalogue 0) ∷ (Wants (Page 1) ∷ (Does (Bytes (97 ∷ (98 ∷ []))) ∷ (Does End ∷ (Wants (Page 2) ∷ (Does (Bytes (99 ∷ [])) ∷ (Does End ∷ (Wants (Page 3) ∷ [])))))))) (Ok 2)
+ends_at_three : exec has (listing 0) ≡ run (Wants (Catalogue 0) ∷
+    (Wants (Page 1) ∷ (Does (Bytes (97 ∷ (98 ∷ []))) ∷ (Does End ∷ (Wants (Page 2) ∷ (Does (Bytes (99 ∷ [])) ∷ (Does End ∷ (Wants (Page 3) ∷ [])))))))) (Ok 2)
 ends_at_three = refl

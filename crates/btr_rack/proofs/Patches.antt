@@ -1,5 +1,6 @@
 -- The bytes of images in memory.
-use Rattle.std.proofs.Common.{◌≡◌, ℕ, zero, suc, ◌+◌, ◌-◌, ◌%◌, ◌<◌, ◌≤◌, List, ◌∷◌, ◌++◌, length, map, take, drop, get_or, replicate, Some, None, refl, sym, ap, ◌∙◌, arith, length-append}
+use Rattle.std.proofs.Common.{◌≡◌, ℕ, zero, suc, ◌+◌, ◌-◌, ◌%◌, ◌<◌, ◌≤◌, List, ◌∷◌, ◌++◌, length, map, take, drop, get_or, replicate, Some, None, refl, sym}
+use Rattle.std.proofs.Common.{ap, ◌∙◌, arith, length-append}
 use Rattle.std.specs.List.{range_with_len, slice_get, slice_range}
 use Rattle.std.proofs.lemmas.List.{same_lists, places, length-take, length-drop, get_or_default, get_or-drop, get_or-take}
 use Rattle.std.proofs.lemmas.List.FromFn.{length-map-range_with_len, get_or-map-range_with_len}
@@ -25,11 +26,17 @@ made_zeros f a zero none = refl
 made_zeros f a (suc n) none = λ i. none a i ∷ made_zeros f (a + 1) n none i
 
 -- a part of what a function makes
-pub part_made : (f : ℕ → ℕ) (xs : List ℕ) (n off : ℕ) → off + length xs ≤ n → ((k : ℕ) → k < length xs → get_or xs k 0 ≡ f (off + k)) → xs ≡ slice_range (map f (range_with_len 0 n)) off (off + length xs)
+pub part_made : (f : ℕ → ℕ) (xs : List ℕ) (n off : ℕ) → off + length xs ≤ n → ((k : ℕ) → k < length xs → get_or xs k 0 ≡ f (off + k)) → xs
+    ≡ slice_range (map f (range_with_len 0 n)) off (off + length xs)
 part_made f xs n off fits each = same_lists _ _ sized (λ k d lt. at k d lt)
   where
     sized : length xs ≡ length (slice_range (map f (range_with_len 0 n)) off (off + length xs))
-    sized = omega (arith, length-take (off + length xs - off) (drop off (map f (range_with_len 0 n))), length-drop off (map f (range_with_len 0 n)), length-map-range_with_len f 0 n)
+    sized = omega (
+      arith,
+      length-take (off + length xs - off) (drop off (map f (range_with_len 0 n))),
+      length-drop off (map f (range_with_len 0 n)),
+      length-map-range_with_len f 0 n,
+    )
 
     at : (k d : ℕ) → k < length xs → get_or xs k d ≡ get_or (slice_range (map f (range_with_len 0 n)) off (off + length xs)) k d
     at k d lt =
@@ -44,10 +51,12 @@ pub patched_bytes : (f g : ℕ → ℕ) (n off : ℕ) (piece : List ℕ) → off
     → map g (range_with_len 0 n) ≡ pasted (map f (range_with_len 0 n)) off piece
 patched_bytes f g n off piece fits each = same_lists _ _ sized at
   where
-    sized : length (map g (range_with_len 0 n)) ≡ length (take off (map f (range_with_len 0 n)) ++ piece ++ drop (off + length piece) (map f (range_with_len 0 n)))
+    sized : length (map g (range_with_len 0 n)) ≡ length (take off (map f (range_with_len 0 n)) ++ piece
+        ++ drop (off + length piece) (map f (range_with_len 0 n)))
     sized = simp (length-append, length-take, length-drop, length-map-range_with_len) (omega arith)
 
-    at : (k d : ℕ) → k < length (map g (range_with_len 0 n)) → get_or (map g (range_with_len 0 n)) k d ≡ get_or (take off (map f (range_with_len 0 n)) ++ piece ++ drop (off + length piece) (map f (range_with_len 0 n))) k d
+    at : (k d : ℕ) → k < length (map g (range_with_len 0 n)) → get_or (map g (range_with_len 0 n)) k d
+        ≡ get_or (take off (map f (range_with_len 0 n)) ++ piece ++ drop (off + length piece) (map f (range_with_len 0 n))) k d
     at k d lt =
         let below : k < n = omega (arith, length-map-range_with_len g 0 n) in
         let made : get_or (map g (range_with_len 0 n)) k d ≡ g k = get_or-map-range_with_len g 0 n k k d below (omega arith) in
@@ -63,7 +72,12 @@ standing g off n = map g (range_with_len off n)
 -- where a first part of a piece was patched in, some bytes of the piece's length were
 pub partly_patched : (f g : ℕ → ℕ) (len off n : ℕ) (piece : List ℕ) → off + length piece ≤ len → ((i : ℕ) → g i ≡ patched (f i) off (take n piece) i)
     → (some : List ℕ) × (length some ≡ length piece) × (map g (range_with_len 0 len) ≡ pasted (map f (range_with_len 0 len)) off some)
-partly_patched f g len off n piece fits each = (standing g off (length piece), sized, patched_bytes f g len off (standing g off (length piece)) (omega (arith, sized)) at)
+partly_patched f g len off n piece fits each = (
+  standing g off (length piece),
+  sized,
+  patched_bytes f g len off (standing g off (length piece))
+      (omega (arith, sized)) at,
+)
   where
     sized : length (standing g off (length piece)) ≡ length piece
     sized = length-map-range_with_len g off (length piece)
@@ -86,7 +100,8 @@ pasted-same bytes off n le = same_lists _ _ whole at
     whole : length (pasted bytes off (slice_range bytes off (off + n))) ≡ length bytes
     whole = simp (length-append, length-take, length-drop) (omega arith)
 
-    at : (k d : ℕ) → k < length (pasted bytes off (slice_range bytes off (off + n))) → get_or (pasted bytes off (slice_range bytes off (off + n))) k d ≡ get_or bytes k d
+    at : (k d : ℕ) → k < length (pasted bytes off (slice_range bytes off (off + n))) → get_or (pasted bytes off (slice_range bytes off (off + n))) k d
+        ≡ get_or bytes k d
     at k d lt = grind (arith, places, nat_tests, part, whole)
 
 -- a byte that is a number is that number's byte
@@ -94,12 +109,14 @@ pub byte_is : (b n : ℕ) → b < 256 → b ≡ n → b ≡ n % 256
 byte_is b n fits is = omega arith
 
 -- what was patched in, as bytes
-pub patched_byte : (old new at : ℕ) (piece : List ℕ) (i : ℕ) → ((k : ℕ) → get_or piece k 0 < 256) → new ≡ patched old at piece i → new % 256 ≡ patched (old % 256) at piece i
+pub patched_byte : (old new at : ℕ) (piece : List ℕ) (i : ℕ) → ((k : ℕ) → get_or piece k 0 < 256) → new ≡ patched old at piece i → new % 256
+    ≡ patched (old % 256) at piece i
 patched_byte old new at piece i fits is =
     let small = fits (i - at) in
     grind (arith, nat_tests, small, is)
 
-pub patched_pages : (old new : Pages) (off : ℕ) (piece : List ℕ) → ((k : ℕ) → get_or piece k 0 < 256) → Patches old new off piece → (i : ℕ) → page_byte new i ≡ patched (page_byte old i) off piece i
+pub patched_pages : (old new : Pages) (off : ℕ) (piece : List ℕ) → ((k : ℕ) → get_or piece k 0 < 256) → Patches old new off piece → (i : ℕ)
+    → page_byte new i ≡ patched (page_byte old i) off piece i
 patched_pages old new off piece fits each = λ i. patched_byte (kept_byte old i) (kept_byte new i) off piece i fits (each i)
 
 pub take_fits : (n : ℕ) (piece : List ℕ) → ((k : ℕ) → get_or piece k 0 < 256) → (k : ℕ) → get_or (take n piece) k 0 < 256

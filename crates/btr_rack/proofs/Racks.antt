@@ -1,5 +1,6 @@
 -- The images of a rack in memory.
-use Rattle.std.proofs.Common.{◌≡◌, ℕ, zero, suc, ◌+◌, ◌-◌, ◌<◌, ◌≤◌, Bool, true, false, cond, ◌||◌, List, [], ◌∷◌, ◌++◌, length, map, take, drop, get_or, set, nat_lt, Option, Some, None, Result, Ok, Err, refl, replicate, sym, ap, ◌∙◌, subst, arith, add-one}
+use Rattle.std.proofs.Common.{◌≡◌, ℕ, zero, suc, ◌+◌, ◌-◌, ◌<◌, ◌≤◌, Bool, true, false, cond, ◌||◌, List, [], ◌∷◌, ◌++◌, length, map, take, drop, get_or, set}
+use Rattle.std.proofs.Common.{nat_lt, Option, Some, None, Result, Ok, Err, refl, replicate, sym, ap, ◌∙◌, subst, arith, add-one}
 use Rattle.std.specs.List.{slice_get, find, position, position_or_len, insert, remove, list_any}
 use Rattle.std.specs.Option.{MatchOption, is_some, option_map}
 use Rattle.std.specs.Str.{bytes_eq}
@@ -8,7 +9,8 @@ use Rattle.std.proofs.Math.Seq.{take-set-lt, map-set_same}
 use Rattle.std.proofs.lemmas.Bool.{false_from_ne_true}
 use Rattle.std.proofs.lemmas.Bool.Decides.{nat_tests}
 use Rattle.std.proofs.lemmas.Slice.Eq.{bytes_eq-Decides}
-use Rattle.std.proofs.lemmas.List.{map_push, map-set, drop-set-lt, get_or-map, get_or-drop, get_or-take, length-map, length-take, length-drop, length-replicate, set-get_or, get_or_default, take-map}
+use Rattle.std.proofs.lemmas.List.{map_push, map-set, drop-set-lt, get_or-map, get_or-drop, get_or-take, length-map, length-take, length-drop, length-replicate}
+use Rattle.std.proofs.lemmas.List.{set-get_or, get_or_default, take-map}
 use Rattle.std.proofs.lemmas.List.FromFn.{length-map-range_with_len}
 use Rattle.std.proofs.lemmas.List.Folds.{find_at, list_any-append}
 use Rattle.std.proofs.lemmas.List.Quantifiers.{position-Some}
@@ -36,7 +38,8 @@ stands : (name : List ℕ) (images : List MemoryImage) → MatchOption (position
 stands name images =
     cases (nat_lt (position_or_len (is_named name) images) (length images)) refl
   where
-    cases : (b : Bool) → b ≡ nat_lt (position_or_len (is_named name) images) (length images) → MatchOption (cond b (Some (position_or_len (is_named name) images)) None) (find (is_named name) images ≡ None) (StandsAt name images)
+    cases : (b : Bool) → b ≡ nat_lt (position_or_len (is_named name) images) (length images)
+        → MatchOption (cond b (Some (position_or_len (is_named name) images)) None) (find (is_named name) images ≡ None) (StandsAt name images)
     cases true e = record { within = grind (arith, nat_tests, e); first = refl }
     cases false e =
         let past : length images ≤ position_or_len (is_named name) images = grind (arith, nat_tests, e) in
@@ -49,23 +52,28 @@ pub stands_nowhere : (name : List ℕ) (images : List MemoryImage) → None ≡ 
 stands_nowhere name images e = subst (λ found. MatchOption found (find (is_named name) images ≡ None) (StandsAt name images)) (sym e) (stands name images)
 
 -- the image that stands there is found
-pub finds : (name : List ℕ) (images : List MemoryImage) (at : ℕ) (d : MemoryImage) → StandsAt name images at → find (is_named name) images ≡ Some (get_or images at d)
+pub finds : (name : List ℕ) (images : List MemoryImage) (at : ℕ) (d : MemoryImage) → StandsAt name images at → find (is_named name) images
+    ≡ Some (get_or images at d)
 finds name images at d s = find_at (is_named name) images ∙ ap (slice_get images) (sym s.first) ∙ get-within images at d s.within
 
 -- the image that was read at its place is found
-pub finds_read : (name : List ℕ) (images : List MemoryImage) (at : ℕ) (image : MemoryImage) → StandsAt name images at → image ≡ get_or images at image → find (is_named name) images ≡ Some image
+pub finds_read : (name : List ℕ) (images : List MemoryImage) (at : ℕ) (image : MemoryImage) → StandsAt name images at → image ≡ get_or images at image
+    → find (is_named name) images ≡ Some image
 finds_read name images at image s e = finds name images at image s ∙ ap Some (sym e)
 
-any_case : (b any : Bool) (image : MemoryImage) (found : Option MemoryImage) → is_some (option_map bytes_in found) ≡ any → is_some (option_map bytes_in (cond b (Some image) found)) ≡ (b || any)
+any_case : (b any : Bool) (image : MemoryImage) (found : Option MemoryImage) → is_some (option_map bytes_in found) ≡ any
+    → is_some (option_map bytes_in (cond b (Some image) found)) ≡ (b || any)
 any_case true any image found e = refl
 any_case false any image found e = e
 
 -- a name that is found is that of some image
 pub is_some-named : (name : List ℕ) (images : List MemoryImage) → is_some (option_map bytes_in (find (is_named name) images)) ≡ list_any (is_named name) images
 is_some-named name [] = refl
-is_some-named name (image ∷ images) = any_case (is_named name image) (list_any (is_named name) images) image (find (is_named name) images) (is_some-named name images)
+is_some-named name (image ∷ images) = any_case (is_named name image) (list_any (is_named name) images) image (find (is_named name) images)
+    (is_some-named name images)
 
-list_any-slots : (name : List ℕ) (images : List MemoryImage) → list_any (λ (s : Slot). bytes_eq s.name name) (map (λ (i : MemoryImage). i.slot) images) ≡ list_any (is_named name) images
+list_any-slots : (name : List ℕ) (images : List MemoryImage)
+    → list_any (λ (s : Slot). bytes_eq s.name name) (map (λ (i : MemoryImage). i.slot) images) ≡ list_any (is_named name) images
 list_any-slots name [] = refl
 list_any-slots name (image ∷ images) = ap (λ b. is_named name image || b) (list_any-slots name images)
 
@@ -94,7 +102,8 @@ module _ (name : List ℕ) (write : Bool) (images images' : List MemoryImage) (o
   stood : get_or (drop opened images) at m.image ≡ m.image
   stood = get_or-drop opened images at m.image ∙ sym m.stood
 
-  placed : (at < length (drop opened images)) × (is_named name (get_or (drop opened images) at m.image) ≡ true) × ((k : ℕ) → k < at → is_named name (get_or (drop opened images) k m.image) ≡ false)
+  placed : (at < length (drop opened images)) × (is_named name (get_or (drop opened images) at m.image) ≡ true)
+      × ((k : ℕ) → k < at → is_named name (get_or (drop opened images) k m.image) ≡ false)
   placed = position-Some (is_named name) (drop opened images) at m.image (sym found)
 
   called : m.image.slot.name ≡ name
@@ -114,11 +123,13 @@ module _ (name : List ℕ) (write : Bool) (images images' : List MemoryImage) (o
       number = omega (arith, length-map (take opened images) (λ (image : MemoryImage). image.slot), length-take opened images)
 
       appended : map (λ (image : MemoryImage). image.slot) (take (opened + 1) images') ≡ map (λ (image : MemoryImage). image.slot) (take opened images) ++ record { name = name; len = m.image.slot.len; write = write } ∷ []
-      appended = ap (map (λ (image : MemoryImage). image.slot)) front ∙ map_push (λ (image : MemoryImage). image.slot) (take opened images) (opened_for write m.image)
+      appended = ap (map (λ (image : MemoryImage). image.slot)) front
+          ∙ map_push (λ (image : MemoryImage). image.slot) (take opened images) (opened_for write m.image)
           ∙ ap (λ (n : List ℕ). map (λ (image : MemoryImage). image.slot) (take opened images) ++ record { name = n; len = m.image.slot.len; write = write } ∷ []) called
 
   -- the shelf and the opened images
-  named_in : (other : List ℕ) → list_any (is_named other) (take (opened + 1) images') ≡ (list_any (is_named other) (take opened images) || (bytes_eq m.image.slot.name other || false))
+  named_in : (other : List ℕ) → list_any (is_named other) (take (opened + 1) images')
+      ≡ (list_any (is_named other) (take opened images) || (bytes_eq m.image.slot.name other || false))
   named_in other = ap (list_any (is_named other)) front ∙ list_any-append (is_named other) (take opened images) (opened_for write m.image ∷ [])
 
   pub takes : TakesImage name
@@ -131,11 +142,13 @@ module _ (name : List ℕ) (write : Bool) (images images' : List MemoryImage) (o
         ∙ ap (option_map bytes_in) (finds name (drop opened images) at m.image (stands_at name (drop opened images) at found) ∙ ap Some stood);
     opened = ap (map bytes_in) front ∙ map_push bytes_in (take opened images) (opened_for write m.image);
     gone = ap (λ b. cond b None (option_map bytes_in (find (is_named name) (drop (opened + 1) images'))))
-        (named_in name ∙ ap (λ b. list_any (is_named name) (take opened images) || (b || false)) ((bytes_eq-Decides m.image.slot.name name).1 called) ∙ ap (λ b. b || true) shut);
+        (named_in name ∙ ap (λ b. list_any (is_named name) (take opened images) || (b || false)) ((bytes_eq-Decides m.image.slot.name name).1 called)
+        ∙ ap (λ b. b || true) shut);
     others = λ other apart.
         let differs : bytes_eq m.image.slot.name other ≡ false = false_from_ne_true (bytes_eq m.image.slot.name other) (λ e. apart (sym ((bytes_eq-Decides m.image.slot.name other).0 e) ∙ called)) in
         ap (λ b. cond b None (option_map bytes_in (find (is_named other) (drop (opened + 1) images'))))
-        (named_in other ∙ ap (λ b. list_any (is_named other) (take opened images) || (b || false)) differs ∙ or-false (list_any (is_named other) (take opened images)))
+        (named_in other ∙ ap (λ b. list_any (is_named other) (take opened images) || (b || false)) differs
+        ∙ or-false (list_any (is_named other) (take opened images)))
         ∙ ap (λ (r : Option MemoryImage). cond (list_any (is_named other) (take opened images)) None (option_map bytes_in r))
         (ap (find (is_named other)) rest ∙ find-remove (is_named other) (drop opened images) at m.image placed.0 (ap (is_named other) stood ∙ differs));
   }
@@ -166,10 +179,17 @@ module _ (images : List MemoryImage) (opened slot : ℕ) (image : MemoryImage) (
       fits' = omega (arith, image-len)
 
       sized : length (bytes_of (map bytes_in (take opened images)) slot off n) ≡ n
-      sized = omega (arith, fits', length-take (off + n - off) (drop off (image_of (map bytes_in (take opened images)) slot)), length-drop off (image_of (map bytes_in (take opened images)) slot))
+      sized = omega (
+        arith,
+        fits',
+        length-take (off + n - off) (drop off (image_of (map bytes_in (take opened images)) slot)),
+        length-drop off
+            (image_of (map bytes_in (take opened images)) slot),
+      )
 
       kept : written (map bytes_in (take opened images)) slot off (bytes_of (map bytes_in (take opened images)) slot off n) ≡ map bytes_in (take opened images)
-      kept = ap (set (map bytes_in (take opened images)) slot) (pasted-same (image_of (map bytes_in (take opened images)) slot) off n fits') ∙ set-get_or (map bytes_in (take opened images)) slot []
+      kept = ap (set (map bytes_in (take opened images)) slot) (pasted-same (image_of (map bytes_in (take opened images)) slot) off n fits')
+          ∙ set-get_or (map bytes_in (take opened images)) slot []
 
 -- what a write leaves of the open images: its range holds these bytes, and all else is as before
 pub record Overwritten (opened slot off : ℕ) (bytes : List ℕ) (xs ys : List MemoryImage) : Type 0 where
@@ -181,14 +201,17 @@ pub record Overwritten (opened slot off : ℕ) (bytes : List ℕ) (xs ys : List 
 abbrev pub slot_in : MemoryImage → Slot
 slot_in image = image.slot
 
-pub slots-set : (xs : List MemoryImage) (n at : ℕ) (x d : MemoryImage) → x.slot ≡ (get_or xs at d).slot → map slot_in (take n (set xs at x)) ≡ map slot_in (take n xs)
+pub slots-set : (xs : List MemoryImage) (n at : ℕ) (x d : MemoryImage) → x.slot ≡ (get_or xs at d).slot → map slot_in (take n (set xs at x))
+    ≡ map slot_in (take n xs)
 slots-set xs n at x d same = sym (take-map slot_in n (set xs at x)) ∙ ap (take n) (map-set_same slot_in xs at x d same) ∙ take-map slot_in n xs
 
-pub overwritten : (opened slot off : ℕ) (bytes : List ℕ) (xs ys : List MemoryImage) → slot < opened → opened ≤ length xs → Overwrites slot off bytes xs ys → Overwritten opened slot off bytes xs ys
+pub overwritten : (opened slot off : ℕ) (bytes : List ℕ) (xs ys : List MemoryImage) → slot < opened → opened ≤ length xs
+    → Overwrites slot off bytes xs ys → Overwritten opened slot off bytes xs ys
 overwritten opened slot off bytes xs ys front within o = record {
   held = ap (λ zs. map bytes_in (take opened zs)) o.now
       ∙ ap (map bytes_in) (take-set-lt opened xs slot o.after front) ∙ map-set bytes_in (take opened xs) slot o.after
-      ∙ ap (set (map bytes_in (take opened xs)) slot) (o.pasted_in ∙ ap (λ (b : List ℕ). pasted b off bytes) (sym (image-is xs opened slot o.before front within o.stood)));
+      ∙ ap (set (map bytes_in (take opened xs)) slot) (o.pasted_in
+      ∙ ap (λ (b : List ℕ). pasted b off bytes) (sym (image-is xs opened slot o.before front within o.stood)));
   slots = same;
   shelf = λ n. λ i. cond (names n i) None (option_map bytes_in (find (is_named n) (rest i)));
 }
@@ -200,7 +223,9 @@ overwritten opened slot off bytes xs ys front within o = record {
     rest = ap (drop opened) o.now ∙ drop-set-lt opened xs slot o.after front
 
     names : (n : List ℕ) → list_any (is_named n) (take opened ys) ≡ list_any (is_named n) (take opened xs)
-    names n = sym (list_any-slots n (take opened ys)) ∙ ap (list_any (λ s. bytes_eq s.name n)) (ap (λ zs. map slot_in (take opened zs)) o.now ∙ slots-set xs opened slot o.after o.before (o.slot ∙ ap slot_in o.stood)) ∙ list_any-slots n (take opened xs)
+    names n = sym (list_any-slots n (take opened ys)) ∙ ap (list_any (λ s. bytes_eq s.name n))
+        (ap (λ zs. map slot_in (take opened zs)) o.now ∙ slots-set xs opened slot o.after o.before (o.slot ∙ ap slot_in o.stood))
+        ∙ list_any-slots n (take opened xs)
 
 -- a write that is refused leaves some bytes in its range
 abbrev pub SomeOverwritten : ℕ → ℕ → ℕ → ℕ → List MemoryImage → List MemoryImage → Type 0
@@ -211,7 +236,8 @@ pub partly : (opened slot off n : ℕ) (xs ys : List MemoryImage) → slot < ope
 partly opened slot off n xs ys front within p = (p.0, p.1, overwritten opened slot off p.0 xs ys front within p.2)
 
 -- and one that changed nothing leaves those that stood there
-unchanged : (opened slot off n : ℕ) (xs ys : List MemoryImage) → slot < opened → opened ≤ length xs → off + n ≤ len_of (map slot_in (take opened xs)) slot → ys ≡ xs → SomeOverwritten opened slot off n xs ys
+unchanged : (opened slot off n : ℕ) (xs ys : List MemoryImage) → slot < opened → opened ≤ length xs → off
+    + n ≤ len_of (map slot_in (take opened xs)) slot → ys ≡ xs → SomeOverwritten opened slot off n xs ys
 unchanged opened slot off n xs ys front within fits same = (
   kept.0,
   kept.1,
@@ -223,17 +249,21 @@ unchanged opened slot off n xs ys front within fits same = (
 )
   where
     kept : (some : List ℕ) × (length some ≡ n) × (map bytes_in (take opened xs) ≡ written (map bytes_in (take opened xs)) slot off some)
-    kept = writes-same xs opened slot (get_or xs slot (zeros [] 0)) front within (get_or_default xs slot (zeros [] 0) (get_or xs slot (zeros [] 0)) (omega arith)) off n fits
+    kept = writes-same xs opened slot (get_or xs slot (zeros [] 0)) front within
+        (get_or_default xs slot (zeros [] 0) (get_or xs slot (zeros [] 0)) (omega arith)) off n fits
 
-pub torn : {T E : Type 0} (tear : Option ℕ) (opened slot off n : ℕ) (xs ys : List MemoryImage) (result : Result T E) → slot < opened → opened ≤ length xs → off + n ≤ len_of (map slot_in (take opened xs)) slot
+pub torn : {T E : Type 0} (tear : Option ℕ) (opened slot off n : ℕ) (xs ys : List MemoryImage) (result : Result T E) → slot < opened
+    → opened ≤ length xs → off + n ≤ len_of (map slot_in (take opened xs)) slot
     → TearsImage tear slot off n xs ys result → SomeOverwritten opened slot off n xs ys
 torn None opened slot off n xs ys result front within fits t = unchanged opened slot off n xs ys front within fits t
-torn (Some byte) opened slot off n xs ys (Ok _) front within fits t = (replicate n byte, length-replicate n byte, overwritten opened slot off (replicate n byte) xs ys front within t)
+torn (Some byte) opened slot off n xs ys (Ok _) front within fits t =
+    (replicate n byte, length-replicate n byte, overwritten opened slot off (replicate n byte) xs ys front within t)
 torn (Some byte) opened slot off n xs ys (Err _) front within fits t = partly opened slot off n xs ys front within (t.0, t.1 ∙ length-replicate n byte, t.2)
 
 -- what a write that is made to fail leaves
 pub tears : (tear : Option ℕ) (opened slot off n : ℕ) (xs ys : List MemoryImage) (u : Unit {0}) → slot < opened → opened ≤ length xs
-    → TearsImage {E = Memory} tear slot off n xs ys (Ok u) → Tears {T = Unit {0}} tear slot off n (map bytes_in (take opened xs)) (map bytes_in (take opened ys)) (Err Failed)
+    → TearsImage {E = Memory} tear slot off n xs ys (Ok u) → Tears {T = Unit {0}} tear slot off n (map bytes_in (take opened xs))
+    (map bytes_in (take opened ys)) (Err Failed)
 tears None opened slot off n xs ys u open? within t = ap (λ zs. map bytes_in (take opened zs)) t
 tears (Some byte) opened slot off n xs ys u open? within t = (overwritten opened slot off (replicate n byte) xs ys open? within t).held
 

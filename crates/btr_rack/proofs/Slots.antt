@@ -7,7 +7,8 @@ use Rattle.btr_rack.specs.Rack.{Slot, Account, Seen, Opening, opening_of}
 use Rattle.btr_rack.specs.Opened.{OpenImage, slots_of, IsOpenedAs}
 
 -- a file whose slot is as it was is put in its place
-pub slots_set : (images : List OpenImage) (i : ℕ) (image image' : OpenImage) → image ≡ get_or images i image → image'.slot ≡ image.slot → slots_of (slice_set images i image') ≡ slots_of images
+pub slots_set : (images : List OpenImage) (i : ℕ) (image image' : OpenImage) → image ≡ get_or images i image → image'.slot ≡ image.slot
+    → slots_of (slice_set images i image') ≡ slots_of images
 slots_set images i image image' is same = map-set_same (λ (im : OpenImage). im.slot) images i image' image (same ∙ ap (λ (im : OpenImage). im.slot) is)
 
 pub length_slots : (images : List OpenImage) → length (slots_of images) ≡ length images
@@ -26,6 +27,7 @@ slots_push opening name write images images' image is short asked all =
 abbrev pub seen_files : List Slot → List Place → List Place → Account → Seen
 seen_files slots unsynced never_synced account = record { slots = slots; held = None; shelf = None; unsynced = unsynced; never_synced = never_synced; sure = false; account = account }
 
-pub same_seen : (slots slots' : List Slot) (unsynced unsynced' never never' : List Place) (account : Account) → slots' ≡ slots → unsynced' ≡ unsynced → never' ≡ never
+pub same_seen : (slots slots' : List Slot) (unsynced unsynced' never never' : List Place) (account : Account) → slots' ≡ slots → unsynced' ≡ unsynced
+    → never' ≡ never
     → seen_files slots' unsynced' never' account ≡ seen_files slots unsynced never account
 same_seen slots slots' unsynced unsynced' never never' account e u n = λ i. seen_files (e i) (u i) (n i) account

@@ -3,7 +3,8 @@ use Rattle.std.proofs.Common.{◌≡◌, ◌⊎◌, ◌&&◌, ◌||◌, ◌-◌,
 use Rattle.std.specs.List.{list_any}
 use Rattle.btr_rack.specs.declared.place.Place.{Place}
 use Rattle.btr_rack.specs.Rack.{Unsyncs}
-use Rattle.btr_rack.specs.Memory.{MemoryRack, Failures, NamedRange, slots_of, held_of, shelf_of, seen_of, is_sure, is_calm, is_empty, call_strikes, write_strikes}
+use Rattle.btr_rack.specs.Memory.{MemoryRack, Failures, NamedRange, slots_of, held_of, shelf_of, seen_of, is_sure, is_calm, is_empty, call_strikes}
+use Rattle.btr_rack.specs.Memory.{write_strikes}
 
 -- a list in which something was found is not empty
 some_listed : {X : Type 0} (p : X → Bool) (xs : List X) → list_any p xs ≡ true → is_empty xs ≡ false
@@ -32,7 +33,8 @@ either true b P f g e = f refl
 either false b P f g e = g e
 
 pub write_struck : (f : Failures) → write_strikes f ≡ true → is_calm f ≡ false
-write_struck f e = either _ _ (is_calm f ≡ false) (call_struck f) (λ w. second_of_three (is_empty f.failing_calls) (is_empty f.failing_writes) (is_empty f.failing_ranges) (some_listed _ f.failing_writes w)) e
+write_struck f e = either _ _ (is_calm f ≡ false) (call_struck f)
+    (λ w. second_of_three (is_empty f.failing_calls) (is_empty f.failing_writes) (is_empty f.failing_ranges) (some_listed _ f.failing_writes w)) e
 
 pub range_struck : (f : Failures) (p : NamedRange → Bool) → list_any p f.failing_ranges ≡ true → is_calm f ≡ false
 range_struck f p e = third_of_three (is_empty f.failing_calls) (is_empty f.failing_writes) (is_empty f.failing_ranges) (some_listed p f.failing_ranges e)
@@ -42,10 +44,12 @@ pub unsure : (rack : MemoryRack) → is_calm rack.failing ≡ false → is_sure 
 unsure rack e = ap (λ calm. calm && nat_lt rack.account.faults (2 ^ 64 - 1)) e
 
 -- a call after which as much is to fail as before leaves a rack as sure as it was: something is to fail, or it didn't fail
-pub as_sure : (old new : MemoryRack) → is_calm new.failing ≡ is_calm old.failing → (is_calm old.failing ≡ false) ⊎ (new.account ≡ old.account) → is_sure new ≡ is_sure old
+pub as_sure : (old new : MemoryRack) → is_calm new.failing ≡ is_calm old.failing → (is_calm old.failing ≡ false) ⊎ (new.account ≡ old.account)
+    → is_sure new ≡ is_sure old
 as_sure old new same (inl struck) = unsure new (same ∙ struck) ∙ sym (unsure old struck)
 as_sure old new same (inr calm) = λ i. same i && nat_lt (calm i).faults (2 ^ 64 - 1)
 
 -- what a write leaves
-pub unsyncs : (range : Place) (old new : MemoryRack) → slots_of new ≡ slots_of old → Some (shelf_of new) ≡ Some (shelf_of old) → new.unsynced ≡ old.unsynced ++ range ∷ [] → new.never_synced ≡ old.never_synced → is_sure new ≡ is_sure old → Unsyncs range (seen_of old) (seen_of new)
+pub unsyncs : (range : Place) (old new : MemoryRack) → slots_of new ≡ slots_of old → Some (shelf_of new) ≡ Some (shelf_of old) → new.unsynced
+    ≡ old.unsynced ++ range ∷ [] → new.never_synced ≡ old.never_synced → is_sure new ≡ is_sure old → Unsyncs range (seen_of old) (seen_of new)
 unsyncs range old new slots shelf unsynced never sure = λ i. record { slots = slots i; held = Some (held_of new); shelf = shelf i; unsynced = unsynced i; never_synced = never i; sure = sure i; account = new.account }

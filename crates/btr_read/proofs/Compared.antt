@@ -1,5 +1,6 @@
 -- How candidates are compared, one after another.
-use Rattle.std.proofs.Common.{◌≡◌, ℕ, ◌+◌, ◌<◌, ◌≤◌, Bool, true, false, not, cond, ◌&&◌, List, [], ◌∷◌, ◌++◌, length, map, take, drop, slice_get, Option, Some, None, IfSome, Result, Ok, Err, refl, sym, ap, ◌∙◌, subst, arith, inl, inr}
+use Rattle.std.proofs.Common.{◌≡◌, ℕ, ◌+◌, ◌<◌, ◌≤◌, Bool, true, false, not, cond, ◌&&◌, List, [], ◌∷◌, ◌++◌, length, map, take, drop, slice_get, Option, Some}
+use Rattle.std.proofs.Common.{None, IfSome, Result, Ok, Err, refl, sym, ap, ◌∙◌, subst, arith, inl, inr}
 use Rattle.std.specs.Option.{option_and_then, option_map_or, option_or}
 use Rattle.std.proofs.lemmas.Slice.Eq.{bytes_eq-Decides}
 use Rattle.std.proofs.lemmas.List.{take_more, take_all, take-append-drop, append-nil, append_assoc, map-append, map-id}
@@ -21,7 +22,8 @@ use Rattle.btr_read.specs.Cause.{IsOf, IsMissed}
 use Rattle.btr_read.specs.Fate.{Agree, Fault, passing, passing_for, sought}
 use Rattle.btr_read.specs.Layout.{Layout}
 use Rattle.btr_read.specs.Trial.{passing_of}
-use Rattle.btr_read.specs.Comparing.{AreAlike, AreRead, Compares, ComparesSought, IsCompared, IsOther, NonePass, ReadUpTo, differ, disagreeing, disagreeing_of, is_other, least_of, least_slot, lesser, other_of, other_slot}
+use Rattle.btr_read.specs.Comparing.{AreAlike, AreRead, Compares, ComparesSought, IsCompared, IsOther, NonePass, ReadUpTo, differ, disagreeing, disagreeing_of}
+use Rattle.btr_read.specs.Comparing.{is_other, least_of, least_slot, lesser, other_of, other_slot}
 use Rattle.btr_read.proofs.Ones.{In, at_in, in_either, in_left, in_right}
 use Rattle.btr_read.proofs.ReadsOn.{same_held}
 use Rattle.btr_read.proofs.Trials.{any_before, any_last, passes_first, passing-append, telling, told}

@@ -1,5 +1,6 @@
 -- The devices of a store, one added behind others.
-use Rattle.std.proofs.Common.{◌≡◌, ◌≢◌, ℕ, ◌⊎◌, Bool, true, false, cond, ◌||◌, List, [], ◌∷◌, ◌++◌, Option, Some, None, nat_eq, refl, sym, ap, ◌∙◌, subst, inl, inr}
+use Rattle.std.proofs.Common.{◌≡◌, ◌≢◌, ℕ, ◌⊎◌, Bool, true, false, cond, ◌||◌, List, [], ◌∷◌, ◌++◌, Option, Some, None, nat_eq, refl, sym, ap, ◌∙◌, subst, inl}
+use Rattle.std.proofs.Common.{inr}
 use Rattle.std.proofs.lemmas.Bool.{eqb-true, false≢true, eq-eqb}
 use Rattle.std.specs.List.{list_any}
 use Rattle.btr_rack.specs.Rack.{Slot}
@@ -19,13 +20,15 @@ in_either true x o p y P f e = inl e
 in_either false x o p y P f e = f e
 
 -- a device is that of the members, or the one behind them
-in_last : (members : List Member) (m : Member) (d : ℕ) (a : Device) → device_in (members ++ m ∷ []) d ≡ Some a → (device_in members d ≡ Some a) ⊎ ((m.devid ≡ d) × (m.device ≡ a))
+in_last : (members : List Member) (m : Member) (d : ℕ) (a : Device) → device_in (members ++ m ∷ []) d ≡ Some a → (device_in members d ≡ Some a)
+    ⊎ ((m.devid ≡ d) × (m.device ≡ a))
 in_last [] m d a e = by (nat_eq m.devid d) refl e
   where
     by : (b : Bool) → nat_eq m.devid d ≡ b → cond b (Some m.device) None ≡ Some a → (None ≡ Some a) ⊎ ((m.devid ≡ d) × (m.device ≡ a))
     by true test e = let same : m.device ≡ a = cc in inr (eqb-true m.devid d test, same)
     by false test e = inl e
-in_last (x ∷ members) m d a e = in_either (nat_eq x.devid d) (Some x.device) (device_in (members ++ m ∷ []) d) (device_in members d) (Some a) ((m.devid ≡ d) × (m.device ≡ a)) (in_last members m d a) e
+in_last (x ∷ members) m d a e = in_either (nat_eq x.devid d) (Some x.device) (device_in (members ++ m ∷ []) d) (device_in members d) (Some a)
+    ((m.devid ≡ d) × (m.device ≡ a)) (in_last members m d a) e
 
 pub open_more : (slots : List Slot) (members : List Member) (m : Member) → AreOpen slots members → IsOpen slots m.device → AreOpen slots (members ++ m ∷ [])
 open_more slots members m are one devid device e = elim (in_last members m devid device e) [
@@ -34,7 +37,8 @@ open_more slots members m are one devid device e = elim (in_last members m devid
 ]
 
 -- one more device, in a slot of its own
-pub own_more : (members : List Member) (m : Member) → HaveOwnSlots members → ((d : ℕ) (a : Device) → device_in members d ≡ Some a → a.slot ≢ m.device.slot) → HaveOwnSlots (members ++ m ∷ [])
+pub own_more : (members : List Member) (m : Member) → HaveOwnSlots members
+    → ((d : ℕ) (a : Device) → device_in members d ≡ Some a → a.slot ≢ m.device.slot) → HaveOwnSlots (members ++ m ∷ [])
 own_more members m own new d e a b first second same = elim (in_last members m d a first) [
   | inl h ↦ elim (in_last members m e b second) [
     | inl g ↦ own d e a b h g same
@@ -61,7 +65,8 @@ module _ (slot : ℕ) where
       let both = both_false (lies_there x) (list_any lies_there members) none in
       by (lacks_slot members both.1 d a) both.0 (nat_eq x.devid d) e
     where
-      by : (device_in members d ≡ Some a → a.slot ≢ slot) → lies_there x ≡ false → (b : Bool) → cond b (Some x.device) (device_in members d) ≡ Some a → a.slot ≢ slot
+      by : (device_in members d ≡ Some a → a.slot ≢ slot) → lies_there x ≡ false → (b : Bool) → cond b (Some x.device) (device_in members d) ≡ Some a
+          → a.slot ≢ slot
       by rest none true e same =
           let is : x.device ≡ a = cc in
           let there : x.device.slot ≡ slot = ap (λ (y : Device). y.slot) is ∙ same in
@@ -69,10 +74,12 @@ module _ (slot : ℕ) where
       by rest none false e same = rest e same
 
 -- a device in a slot of its own, before others
-pub own_first : (x : Member) (members : List Member) → HaveOwnSlots members → ((d : ℕ) (a : Device) → device_in members d ≡ Some a → a.slot ≢ x.device.slot) → HaveOwnSlots (x ∷ members)
+pub own_first : (x : Member) (members : List Member) → HaveOwnSlots members
+    → ((d : ℕ) (a : Device) → device_in members d ≡ Some a → a.slot ≢ x.device.slot) → HaveOwnSlots (x ∷ members)
 own_first x members own new d e a b first second same = by (nat_eq x.devid d) (nat_eq x.devid e) refl refl first second
   where
-    by : (p q : Bool) → nat_eq x.devid d ≡ p → nat_eq x.devid e ≡ q → cond p (Some x.device) (device_in members d) ≡ Some a → cond q (Some x.device) (device_in members e) ≡ Some b → d ≡ e
+    by : (p q : Bool) → nat_eq x.devid d ≡ p → nat_eq x.devid e ≡ q → cond p (Some x.device) (device_in members d) ≡ Some a
+        → cond q (Some x.device) (device_in members e) ≡ Some b → d ≡ e
     by true true p q first second = sym (eqb-true x.devid d p) ∙ eqb-true x.devid e q
     by true false p q first second = let is : x.device ≡ a = cc in absurd (new e b second (sym same ∙ ap (λ (y : Device). y.slot) (sym is)))
     by false true p q first second = let is : x.device ≡ b = cc in absurd (new d a first (same ∙ ap (λ (y : Device). y.slot) (sym is)))

@@ -86,7 +86,9 @@ lent_by chunks devices setting p0 p2 kept kept' k len old want is view free writ
     })
 
 -- what a mirror that passes says of what is sought
-pub tried_passes : (s : Result Target Fault) (t : Target) (c : Candidate) (held : Option (List (List ℕ))) (store : Blocks) (loan : Lent) (slot : List ℕ) → s ≡ Ok t → FitsAttempt t c held slot attempt.Passed → block_of store loan ≡ Some (take (size_of t) slot) → IfOk s (λ t. FitsTried t c held store (Ok (tried.Passed loan)))
+pub tried_passes : (s : Result Target Fault) (t : Target) (c : Candidate) (held : Option (List (List ℕ))) (store : Blocks) (loan : Lent)
+    (slot : List ℕ) → s ≡ Ok t → FitsAttempt t c held slot attempt.Passed → block_of store loan ≡ Some (take (size_of t) slot)
+    → IfOk s (λ t. FitsTried t c held store (Ok (tried.Passed loan)))
 tried_passes s t c held store loan slot e fits block =
     subst (λ s. IfOk s (λ t. FitsTried t c held store (Ok (tried.Passed loan)))) (sym e) (
       fits.0,

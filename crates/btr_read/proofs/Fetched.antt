@@ -1,5 +1,6 @@
 -- What a fetch answers.
-use Rattle.std.proofs.Common.{◌≡◌, ℕ, ◌≤◌, true, List, [], ◌∷◌, length, slice_get, Option, Some, None, IfSome, IsSomeAnd, Result, Ok, Err, IfOk, refl, sym, ap, ◌∙◌, subst, arith, inl, inr}
+use Rattle.std.proofs.Common.{◌≡◌, ℕ, ◌≤◌, true, List, [], ◌∷◌, length, slice_get, Option, Some, None, IfSome, IsSomeAnd, Result, Ok, Err, IfOk, refl, sym, ap}
+use Rattle.std.proofs.Common.{◌∙◌, subst, arith, inl, inr}
 use Rattle.std.specs.List.{All, Any as AnyOf, Contains}
 use Rattle.std.specs.Result.{is_ok}
 use Rattle.btr_prog.specs.Calls.{Sure, First, Any, Calls}
@@ -36,7 +37,8 @@ contains_first [] bytes e = cc
 contains_first (x ∷ xs) bytes e = let same : x ≡ bytes = cc in (0, omega arith, same)
 
 -- the bytes of a want's fate are among those that pass
-fate_passes : (images : List (List ℕ)) (addr : ℕ) (s : Result Target Fault) (bytes : List ℕ) → fate_of images addr s ≡ Ok bytes → Contains (passing_for images s) bytes
+fate_passes : (images : List (List ℕ)) (addr : ℕ) (s : Result Target Fault) (bytes : List ℕ) → fate_of images addr s ≡ Ok bytes
+    → Contains (passing_for images s) bytes
 fate_passes images addr (Err fault) bytes e = cc
 fate_passes images addr (Ok t) bytes e = contains_first (passing images t) bytes (some_of (slice_get (passing images t) 0) e)
   where
@@ -48,13 +50,17 @@ fate_passes images addr (Ok t) bytes e = contains_first (passing images t) bytes
 pub kept_fetched : (layout : Layout) (want : Want) (old new : Seen) (bytes : List ℕ) → IsKept layout old.held (record { want = want; bytes = bytes }) → IsFetched layout want old new bytes
 kept_fetched layout want old new bytes h = record {
   pass = h.pass;
-  stand = told old.held (λ images. Contains (passing_for images (sought layout want)) bytes) (λ images tells. fate_passes images (addr_of want) (sought layout want) bytes (telling old.held (λ images. fate images layout want ≡ Ok bytes) h.fate images tells));
+  stand = told old.held (λ images. Contains (passing_for images (sought layout want)) bytes)
+      (λ images tells. fate_passes images (addr_of want) (sought layout want) bytes
+      (telling old.held (λ images. fate images layout want ≡ Ok bytes) h.fate images tells));
   first = λ calm. h.fate;
-  agreed = told old.held (λ images. Agree images layout want → fate images layout want ≡ Ok bytes) (λ images tells agree. telling old.held (λ images. fate images layout want ≡ Ok bytes) h.fate images tells);
+  agreed = told old.held (λ images. Agree images layout want → fate images layout want ≡ Ok bytes)
+      (λ images tells agree. telling old.held (λ images. fate images layout want ≡ Ok bytes) h.fate images tells);
 }
 
 -- then no call failed
-pub kept_last : (layout : Layout) (want : Want) (old new : Seen) → new ≡ forgot old → (new.account.fresh ≡ 0) × (new.account.missed ≡ []) × IfOk (sought layout want) (λ t. LastOf t old.account new.account)
+pub kept_last : (layout : Layout) (want : Want) (old new : Seen) → new ≡ forgot old → (new.account.fresh ≡ 0) × (new.account.missed ≡ [])
+    × IfOk (sought layout want) (λ t. LastOf t old.account new.account)
 kept_last layout want old new e = (
   ap (λ (s : Seen). s.account.fresh) e,
   ap (λ (s : Seen). s.account.missed) e,
@@ -89,10 +95,12 @@ module _ (layout : Layout) (want : Want) (t : Target) (old mid after new : Seen)
     among images = Contains (passing images t) bytes
 
     fate_is : IfSome mid.held leads → IfSome old.held (λ images. fate images layout want ≡ Ok bytes)
-    fate_is h = told old.held (λ images. fate images layout want ≡ Ok bytes) (λ images tells. ap (fate_of images (addr_of want)) seeks ∙ ap (or_lost (addr_of want)) (telling mid.held leads h images (held_mid ∙ tells)))
+    fate_is h = told old.held (λ images. fate images layout want ≡ Ok bytes)
+        (λ images tells. ap (fate_of images (addr_of want)) seeks ∙ ap (or_lost (addr_of want)) (telling mid.held leads h images (held_mid ∙ tells)))
 
     stands_for : IfSome mid.held among → IfSome old.held (λ images. Contains (passing_for images (sought layout want)) bytes)
-    stands_for h = told old.held (λ images. Contains (passing_for images (sought layout want)) bytes) (λ images tells. subst (λ s. Contains (passing_for images s) bytes) (sym seeks) (telling mid.held among h images (held_mid ∙ tells)))
+    stands_for h = told old.held (λ images. Contains (passing_for images (sought layout want)) bytes)
+        (λ images tells. subst (λ s. Contains (passing_for images s) bytes) (sym seeks) (telling mid.held among h images (held_mid ∙ tells)))
 
     agreed_is : IfSome mid.held among → IfSome old.held (λ images. Agree images layout want → fate images layout want ≡ Ok bytes)
     agreed_is h = told old.held (λ images. Agree images layout want → fate images layout want ≡ Ok bytes) (λ images tells agree.
@@ -145,11 +153,14 @@ module _ (layout : Layout) (want : Want) (t : Target) (old mid after new : Seen)
         ))
 
   -- none passes
-  pub lost_fetched : (store : Blocks) → IfSome mid.held (λ images. slice_get (passing images t) 0 ≡ None) → FitsFetch layout want old after store (Err (fault.Lost (addr_of want)))
+  pub lost_fetched : (store : Blocks) → IfSome mid.held (λ images. slice_get (passing images t) 0 ≡ None)
+      → FitsFetch layout want old after store (Err (fault.Lost (addr_of want)))
   lost_fetched store h = (
     refl,
     ap is_ok seeks,
-    told old.held (λ images. fate images layout want ≡ Err (Lost (addr_of want))) (λ images tells. ap (fate_of images (addr_of want)) seeks ∙ ap (or_lost (addr_of want)) (telling mid.held (λ images. slice_get (passing images t) 0 ≡ None) h images (held_mid ∙ tells))),
+    told old.held (λ images. fate images layout want ≡ Err (Lost (addr_of want)))
+        (λ images tells. ap (fate_of images (addr_of want)) seeks
+        ∙ ap (or_lost (addr_of want)) (telling mid.held (λ images. slice_get (passing images t) 0 ≡ None) h images (held_mid ∙ tells))),
   )
 
   -- some read failed
@@ -167,7 +178,9 @@ module _ (layout : Layout) (want : Want) (t : Target) (old mid after new : Seen)
       only = h.only;
       some = h.some;
       enough = subst (λ (o : Option (List (List ℕ))). IfSome o (λ images. length (passing images t) ≤ after.account.fresh)) held_mid h.enough;
-      each = subst (λ (o : Option (List (List ℕ))). IfSome o (λ images. All (λ candidate. Passes images t candidate → AnyOf (λ missed. IsOf t missed candidate) after.account.missed) (candidates t))) held_mid h.each;
+      each = subst (λ (o : Option (List (List ℕ))). IfSome o
+          (λ images. All (λ candidate. Passes images t candidate → AnyOf (λ missed. IsOf t missed candidate) after.account.missed) (candidates t)))
+          held_mid h.each;
     };
   }
 
@@ -181,29 +194,39 @@ if_all : {X : Type 0} (o : Option X) (P : X → Type 0) → ((x : X) → P x) �
 if_all None P f = tt
 if_all (Some x) P f = f x
 
-known : (layout : Layout) (want : Want) (old new : Seen) (bytes : List ℕ) → IsTested want → IsFetched layout want old new bytes → (sure : Sure) → calls.CanTell (AgreedOn layout) sure (shown old) (shown new) → IfSome old.held (λ images. fate images layout want ≡ Ok bytes)
+known : (layout : Layout) (want : Want) (old new : Seen) (bytes : List ℕ) → IsTested want → IsFetched layout want old new bytes → (sure : Sure)
+    → calls.CanTell (AgreedOn layout) sure (shown old) (shown new) → IfSome old.held (λ images. fate images layout want ≡ Ok bytes)
 known layout want old new bytes tested f First s = f.first (omega (arith, s.0), s.1)
 known layout want old new bytes tested f Any s = both old.held s f.agreed
   where
-    both : (o : Option (List (List ℕ))) → AgreedOn layout o → IfSome o (λ images. Agree images layout want → fate images layout want ≡ Ok bytes) → IfSome o (λ images. fate images layout want ≡ Ok bytes)
+    both : (o : Option (List (List ℕ))) → AgreedOn layout o → IfSome o (λ images. Agree images layout want → fate images layout want ≡ Ok bytes)
+        → IfSome o (λ images. fate images layout want ≡ Ok bytes)
     both None s f = tt
     both (Some images) s f = f (s want tested)
 
 -- what a fetch answers, as a call that was steady
-pub calls_of : (layout : Layout) (want : Want) (old new : Seen) (store : Blocks) (result : Result Lent ReadFault) → OnlyReads old new → FitsFetch layout want old new store result → CallsFetch layout want old new store result
+pub calls_of : (layout : Layout) (want : Want) (old new : Seen) (store : Blocks) (result : Result Lent ReadFault) → OnlyReads old new
+    → FitsFetch layout want old new store result → CallsFetch layout want old new store result
 calls_of layout want old new store result reads fits tested = record {
   same = same_held reads;
   later = reads.later;
   content = content result fits;
 }
   where
-    bytes_came : (loan : Lent) (o : Option (List ℕ)) → block_of store loan ≡ o → IsSomeAnd o (IsFetched layout want old new) → (sure : Sure) → calls.CanTell (AgreedOn layout) sure (shown old) (shown new) → OnMap layout (AnswersOf want store (Ok loan)) sure old.held
+    bytes_came : (loan : Lent) (o : Option (List ℕ)) → block_of store loan ≡ o → IsSomeAnd o (IsFetched layout want old new) → (sure : Sure)
+        → calls.CanTell (AgreedOn layout) sure (shown old) (shown new) → OnMap layout (AnswersOf want store (Ok loan)) sure old.held
     bytes_came loan None e h sure s = absurd h
-    bytes_came loan (Some block) e h sure s = map_some old.held (λ images. fate images layout want ≡ Ok block) (λ images. AnswersOf want store (Ok loan) (fate images layout)) (λ images is. subst (λ o. IsSomeAnd o (λ block. fate images layout want ≡ Ok block)) (sym e) is) (known layout want old new block tested h sure s)
+    bytes_came loan (Some block) e h sure s = map_some old.held (λ images. fate images layout want ≡ Ok block)
+        (λ images. AnswersOf want store (Ok loan) (fate images layout))
+        (λ images is. subst (λ o. IsSomeAnd o (λ block. fate images layout want ≡ Ok block)) (sym e) is) (known layout want old new block tested h sure s)
 
-    content : (result : Result Lent ReadFault) → FitsFetch layout want old new store result → (sure : Sure) → calls.CanTell (AgreedOn layout) sure (shown old) (shown new) → OnMap layout (AnswersOf want store result) sure old.held
+    content : (result : Result Lent ReadFault) → FitsFetch layout want old new store result → (sure : Sure)
+        → calls.CanTell (AgreedOn layout) sure (shown old) (shown new) → OnMap layout (AnswersOf want store result) sure old.held
     content (Ok loan) f sure s = bytes_came loan (block_of store loan) refl f.1 sure s
-    content (Err (fault.Lost a)) f sure s = map_some old.held (λ images. fate images layout want ≡ Err (Lost a)) (λ images. fate images layout want ≡ Err (Lost a)) (λ images e. e) f.2
+    content (Err (fault.Lost a)) f sure s = map_some old.held (λ images. fate images layout want ≡ Err (Lost a))
+        (λ images. fate images layout want ≡ Err (Lost a)) (λ images e. e) f.2
     content (Err (fault.Unread a slot)) f sure s = if_all old.held (λ images. a ≡ addr_of want) (λ images. f.same_addr)
-    content (Err (fault.Unmapped a)) f sure s = if_all old.held (λ images. fate images layout want ≡ Err (Unmapped a)) (λ images. ap (fate_of images (addr_of want)) f)
-    content (Err (fault.Crosses a)) f sure s = if_all old.held (λ images. fate images layout want ≡ Err (Crosses a)) (λ images. ap (fate_of images (addr_of want)) f)
+    content (Err (fault.Unmapped a)) f sure s = if_all old.held (λ images. fate images layout want ≡ Err (Unmapped a))
+        (λ images. ap (fate_of images (addr_of want)) f)
+    content (Err (fault.Crosses a)) f sure s = if_all old.held (λ images. fate images layout want ≡ Err (Crosses a))
+        (λ images. ap (fate_of images (addr_of want)) f)

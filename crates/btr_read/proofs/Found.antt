@@ -1,5 +1,6 @@
 -- What a fetch answers and leaves where it had to read.
-use Rattle.std.proofs.Common.{◌≡◌, ◌≢◌, ℕ, ◌<◌, Bool, true, false, cond, List, length, take, get_or, set, Option, Some, None, IsSome, IsSomeAnd, IfOk, Result, Ok, Err, refl, sym, ap, ◌∙◌, subst, arith, inl, inr}
+use Rattle.std.proofs.Common.{◌≡◌, ◌≢◌, ℕ, ◌<◌, Bool, true, false, cond, List, length, take, get_or, set, Option, Some, None, IsSome, IsSomeAnd, IfOk, Result}
+use Rattle.std.proofs.Common.{Ok, Err, refl, sym, ap, ◌∙◌, subst, arith, inl, inr}
 use Rattle.std.proofs.lemmas.Bool.{false≢true}
 use Rattle.std.proofs.lemmas.List.{get_or-set_same, get_or_default}
 use Rattle.std.specs.Option.{option_map}
@@ -72,11 +73,13 @@ module _ (chunks : List Chunk) (devices : List Member) (setting : Setting) (p0 :
     pub missed_serves : StillKept w0 w2 p0 p2 → Serves old store → Serves after then_store
     missed_serves still serves = serves_still chunks devices setting w0 w2 p0 p2 old after store view slots_then held_then still serves (loans_of p2)
 
-    pub missed_fetched : (store' : Blocks) (m : Missed) → FitsFinding t w0 w2 p0 p2 mid after (Err m) → FitsFetch store.layout want old after store' (Err (fault_of (addr_of want) m))
+    pub missed_fetched : (store' : Blocks) (m : Missed) → FitsFinding t w0 w2 p0 p2 mid after (Err m)
+        → FitsFetch store.layout want old after store' (Err (fault_of (addr_of want) m))
     missed_fetched store' Lost found = lost_fetched store.layout want t old mid after (forgot after) seeks begin refl store' found.2
     missed_fetched store' (Unread image) found = unread_fetched store.layout want t old mid after (forgot after) seeks begin refl image found.1
 
-    pub missed_accounts : (m : Missed) → FitsFinding t w0 w2 p0 p2 mid after (Err m) → AccountsFetch store.layout want old.account after.account (Err (fault_of (addr_of want) m))
+    pub missed_accounts : (m : Missed) → FitsFinding t w0 w2 p0 p2 mid after (Err m)
+        → AccountsFetch store.layout want old.account after.account (Err (fault_of (addr_of want) m))
     missed_accounts Lost found = subst (λ (a : Account). NoneFailed a after.account) (ap (λ (s : Seen). s.account) begin) found.1
     missed_accounts (Unread image) found = tt
 
@@ -92,8 +95,10 @@ module _ (chunks : List Chunk) (devices : List Member) (setting : Setting) (p0 :
             let one : w2 ≡ set h.0.then k (kept_want want) = h.0.one ∙ ap (λ w. set h.0.then k (kept_want w)) (sought_of store.layout want t seeks).want_is in
             let first = first_kept store.layout want t old mid after new seeks begin end (take (size_of t) (bytes_at p2 k)) h.1 in
             let here : IsKept store.layout old.held (block_in setting (bytes_at p2 k) want) = subst (λ n. IsKept store.layout old.held (record { want = want; bytes = take n (bytes_at p2 k) })) size_is first in
-            serves_more chunks devices setting w0 h.0.then p0 p2 old new store view (ap (λ (s : Seen). s.slots) end ∙ slots_then) (ap (λ (s : Seen). s.held) end ∙ held_then) h.0.still serves (loans_of p2) w2 k want one here
-        | inr h ↦ serves_still chunks devices setting w0 w2 p0 p2 old new store view (ap (λ (s : Seen). s.slots) end ∙ slots_then) (ap (λ (s : Seen). s.held) end ∙ held_then) h.0 serves (loans_of p2)
+            serves_more chunks devices setting w0 h.0.then p0 p2 old new store view (ap (λ (s : Seen). s.slots) end ∙ slots_then)
+            (ap (λ (s : Seen). s.held) end ∙ held_then) h.0.still serves (loans_of p2) w2 k want one here
+        | inr h ↦ serves_still chunks devices setting w0 w2 p0 p2 old new store view (ap (λ (s : Seen). s.slots) end ∙ slots_then)
+            (ap (λ (s : Seen). s.held) end ∙ held_then) h.0 serves (loans_of p2)
       ]
 
       pub found_last : IfOk (sought store.layout want) (λ t. LastOf t old.account new.account)
@@ -128,8 +133,10 @@ module _ (chunks : List Chunk) (devices : List Member) (setting : Setting) (p0 :
             (ap is_ok seeks, subst (λ o. IsSomeAnd o (IsFetched store.layout want old new)) (sym block) here)
 
 -- the same where the pool and the wants known are those before
-pub found_of : (t : Target) (w0 w1 w2 : List (Option Want)) (p0 p1 p2 : Slots) (mid after : Seen) (r : Result ℕ Missed) → p1 ≡ p0 → w1 ≡ w0 → FitsFinding t w1 w2 p1 p2 mid after r → FitsFinding t w0 w2 p0 p2 mid after r
-found_of t w0 w1 w2 p0 p1 p2 mid after r same known h = subst (λ p. FitsFinding t w0 w2 p p2 mid after r) same (subst (λ w. FitsFinding t w w2 p1 p2 mid after r) known h)
+pub found_of : (t : Target) (w0 w1 w2 : List (Option Want)) (p0 p1 p2 : Slots) (mid after : Seen) (r : Result ℕ Missed) → p1 ≡ p0 → w1 ≡ w0
+    → FitsFinding t w1 w2 p1 p2 mid after r → FitsFinding t w0 w2 p0 p2 mid after r
+found_of t w0 w1 w2 p0 p1 p2 mid after r same known h = subst (λ p. FitsFinding t w0 w2 p p2 mid after r) same
+    (subst (λ w. FitsFinding t w w2 p1 p2 mid after r) known h)
 
 pub taken_of : (p0 p1 p2 : Slots) (k : ℕ) → p1 ≡ p0 → TakesFound p1 p2 k → TakesFound p0 p2 k
 taken_of p0 p1 p2 k same h = subst (λ p. TakesFound p p2 k) same h

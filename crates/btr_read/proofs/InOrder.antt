@@ -1,5 +1,6 @@
 -- The candidates in their order.
-use Rattle.std.proofs.Common.{◌≡◌, ℕ, suc, ◌+◌, ◌-◌, ◌<◌, ◌≤◌, List, ◌∷◌, length, map, get_or, Some, slice_get, refl, sym, ap, ◌∙◌, subst, arith, length-append, IsNone}
+use Rattle.std.proofs.Common.{◌≡◌, ℕ, suc, ◌+◌, ◌-◌, ◌<◌, ◌≤◌, List, ◌∷◌, length, map, get_or, Some, slice_get, refl, sym, ap, ◌∙◌, subst, arith, length-append}
+use Rattle.std.proofs.Common.{IsNone}
 use Rattle.std.proofs.lemmas.List.{length-map, get_or_append_left, get_or-append_right, get_or-map}
 use Rattle.std.proofs.lemmas.List.FromFn.{get_or-range_with_len, length-range_with_len}
 use Rattle.std.proofs.lemmas.Option.{slice_get-get_or}
@@ -63,13 +64,16 @@ slice_there : (p : Profile) (n i : ℕ) (part : Part) → HasPart p n (Slice i) 
 slice_there p n i part h e = subst (HasPart p n) (sym e) h
 
 pub can_try_one : (t : Target) (c : Candidate) → IsTarget t.setting t.chunk t.at → t.chunk.profile ≡ Raid5 → IsOneParity t.at.index c → CanTry t c
-can_try_one t (Read part) h e is = slice_there t.chunk.profile (length t.chunk.stripes) t.at.index part (subst (λ p. HasPart p (length t.chunk.stripes) (Slice t.at.index)) (sym e) (refl, is_slice t Raid5 h e)) is
+can_try_one t (Read part) h e is = slice_there t.chunk.profile (length t.chunk.stripes) t.at.index part
+    (subst (λ p. HasPart p (length t.chunk.stripes) (Slice t.at.index)) (sym e) (refl, is_slice t Raid5 h e)) is
 can_try_one t ByP h e is = subst (λ p. IsNone (mirror_count p (length t.chunk.stripes))) (sym e) refl
 can_try_one t ByQ h e is = absurd is
 can_try_one t (ByBoth j) h e is = absurd is
 
-pub can_try_two : (t : Target) (c : Candidate) → IsTarget t.setting t.chunk t.at → t.chunk.profile ≡ Raid6 → IsTwoParities (length t.chunk.stripes - 2) t.at.index c → CanTry t c
-can_try_two t (Read part) h e is = slice_there t.chunk.profile (length t.chunk.stripes) t.at.index part (subst (λ p. HasPart p (length t.chunk.stripes) (Slice t.at.index)) (sym e) (refl, is_slice t Raid6 h e)) is
+pub can_try_two : (t : Target) (c : Candidate) → IsTarget t.setting t.chunk t.at → t.chunk.profile ≡ Raid6
+    → IsTwoParities (length t.chunk.stripes - 2) t.at.index c → CanTry t c
+can_try_two t (Read part) h e is = slice_there t.chunk.profile (length t.chunk.stripes) t.at.index part
+    (subst (λ p. HasPart p (length t.chunk.stripes) (Slice t.at.index)) (sym e) (refl, is_slice t Raid6 h e)) is
 can_try_two t ByP h e is = subst (λ p. IsNone (mirror_count p (length t.chunk.stripes))) (sym e) refl
 can_try_two t ByQ h e is = e
 can_try_two t (ByBoth j) h e is = (e, subst (λ p. j < data_count p (length t.chunk.stripes)) (sym e) is.0, is.1)

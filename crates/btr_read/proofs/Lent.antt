@@ -1,5 +1,6 @@
 -- Loans of a store, from call to call.
-use Rattle.std.proofs.Common.{◌≡◌, ◌≢◌, ℕ, ◌+◌, ◌<◌, cond, List, length, take, get_or, set, count_by, Option, Some, None, IsSome, refl, sym, ap, ◌∙◌, subst, arith, inl, inr}
+use Rattle.std.proofs.Common.{◌≡◌, ◌≢◌, ℕ, ◌+◌, ◌<◌, cond, List, length, take, get_or, set, count_by, Option, Some, None, IsSome, refl, sym, ap, ◌∙◌, subst}
+use Rattle.std.proofs.Common.{arith, inl, inr}
 use Rattle.std.proofs.lemmas.Bool.{cases_lt, false≢true}
 use Rattle.std.proofs.lemmas.List.Sums.{sum_by-set}
 use Rattle.std.proofs.lemmas.List.{get_or_past, get_or-set_other, set-set, set-get_or}
@@ -13,9 +14,11 @@ not_free : (store : Blocks) (loan other : Lent) → IsLiveIn store other → loa
 not_free store loan other live free same = false≢true (sym (ap is_some free) ∙ ap (λ n. is_some (loan_in store n)) (sym same) ∙ live.live)
 
 -- what stands in a slot that wasn't lent stays
-pub loan_stays : (old new : Blocks) (want : Want) (loan other : Lent) → IsLentBy old new want loan → IsLiveIn old other → loan_in new other.slot ≡ loan_in old other.slot
+pub loan_stays : (old new : Blocks) (want : Want) (loan other : Lent) → IsLentBy old new want loan → IsLiveIn old other → loan_in new other.slot
+    ≡ loan_in old other.slot
 loan_stays old new want loan other t live =
-    ap (λ loans. get_or loans other.slot None) t.after.1 ∙ get_or-set_other old.loans loan.slot other.slot (Some t.after.0) None (not_free old loan other live t.free)
+    ap (λ loans. get_or loans other.slot None) t.after.1 ∙ get_or-set_other old.loans loan.slot other.slot (Some t.after.0) None
+    (not_free old loan other live t.free)
 
 -- a live loan stays live while another is lent, and keeps its bytes
 pub stays_live : (old new : Blocks) (want : Want) (loan other : Lent) → IsLentBy old new want loan → IsLiveIn old other → IsLiveIn new other
@@ -24,7 +27,8 @@ stays_live old new want loan other t live = record {
   fits = omega (arith, live.fits, ap (λ (l : Layout). l.setting.nodesize) t.layout);
 }
 
-pub stays_block : (old new : Blocks) (want : Want) (loan other : Lent) → IsLentBy old new want loan → IsLiveIn old other → block_of new other ≡ block_of old other
+pub stays_block : (old new : Blocks) (want : Want) (loan other : Lent) → IsLentBy old new want loan → IsLiveIn old other → block_of new other
+    ≡ block_of old other
 stays_block old new want loan other t live = ap (option_map (take other.len)) (loan_stays old new want loan other t live)
 
 -- the same where nothing was lent

@@ -1,5 +1,6 @@
 -- The loans of a store.
-use Rattle.std.proofs.Common.{◌≡◌, ◌≢◌, ℕ, ◌+◌, ◌<◌, Bool, true, false, not, cond, List, length, take, get_or, set, count_by, Option, Some, None, IsSome, refl, sym, ap, ◌∙◌, subst, inl, inr, arith}
+use Rattle.std.proofs.Common.{◌≡◌, ◌≢◌, ℕ, ◌+◌, ◌<◌, Bool, true, false, not, cond, List, length, take, get_or, set, count_by, Option, Some, None, IsSome, refl}
+use Rattle.std.proofs.Common.{sym, ap, ◌∙◌, subst, inl, inr, arith}
 use Rattle.std.proofs.lemmas.Bool.{cases_lt, cases_eq, false≢true}
 use Rattle.std.proofs.lemmas.List.{length-set, same_lists, get_or_past, get_or_default, get_or-set_same, get_or-set_other, set-set, set-get_or}
 use Rattle.std.proofs.lemmas.List.FromFn.{length-map-range_with_len, get_or-map-range_with_len}
@@ -43,7 +44,8 @@ pub loan_is : (pool : Slots) (k : ℕ) → length pool.bytes ≡ length pool.len
 loan_is pool k whole live = loan_there pool k (omega (arith, live.there, whole)) ∙ ap (λ b. cond b (Some (bytes_at pool k)) None) live.lent
 
 -- a slot was taken and written
-pub loans_taken : (p0 p2 : Slots) (k : ℕ) → length p0.bytes ≡ length p0.lent → IsFree p0 k → OnlyWrites k (with_lent p0 k) p2 → loans_of p2 ≡ set (loans_of p0) k (Some (bytes_at p2 k))
+pub loans_taken : (p0 p2 : Slots) (k : ℕ) → length p0.bytes ≡ length p0.lent → IsFree p0 k → OnlyWrites k (with_lent p0 k) p2 → loans_of p2
+    ≡ set (loans_of p0) k (Some (bytes_at p2 k))
 loans_taken p0 p2 k whole free writes =
     let below : k < length p0.lent = free_below p0.lent k free.free in
     let live : IsLive p2 k = live_written (with_lent p0 k) p2 k k writes (live_when_lent p0 k free) in
@@ -54,8 +56,11 @@ loans_taken p0 p2 k whole free writes =
     let within : j < length p0.lent = omega (arith, lt, new_len) in
     let at : get_or (loans_of p2) j d ≡ loan_at p2 j = get_or-map-range_with_len (loan_at p2) 0 (length p2.lent) j j d (omega (arith, within, lent_len)) (omega arith) in
     at ∙ elim (cases_eq j k) [
-      | inl e ↦ ap (loan_at p2) e ∙ ap (λ b. cond b (Some (bytes_at p2 k)) None) live.lent ∙ sym (ap (λ n. get_or (set (loans_of p0) k (Some (bytes_at p2 k))) n d) e ∙ get_or-set_same (loans_of p0) k (Some (bytes_at p2 k)) d (omega (arith, below, length-loans p0)))
-      | inr ne ↦ other_loan j ne ∙ sym (get_or-set_other (loans_of p0) k j (Some (bytes_at p2 k)) d ne ∙ get_or-map-range_with_len (loan_at p0) 0 (length p0.lent) j j d within (omega arith))
+      | inl e ↦ ap (loan_at p2) e ∙ ap (λ b. cond b (Some (bytes_at p2 k)) None) live.lent
+          ∙ sym (ap (λ n. get_or (set (loans_of p0) k (Some (bytes_at p2 k))) n d) e
+          ∙ get_or-set_same (loans_of p0) k (Some (bytes_at p2 k)) d (omega (arith, below, length-loans p0)))
+      | inr ne ↦ other_loan j ne ∙ sym (get_or-set_other (loans_of p0) k j (Some (bytes_at p2 k)) d ne
+          ∙ get_or-map-range_with_len (loan_at p0) 0 (length p0.lent) j j d within (omega arith))
     ])
   where
     same_if : (b : Bool) (x y : List ℕ) → (b ≡ true → x ≡ y) → cond b (Some x) None ≡ cond b (Some y) None
@@ -69,7 +74,8 @@ loans_taken p0 p2 k whole free writes =
         ∙ same_if (get_or p0.lent j false) (bytes_at p2 j) (bytes_at p0 j) (λ live. writes.others j ne (get_or-set_other p0.lent k j true false ne ∙ live))
 
 -- its loan has the bytes that were written
-pub loan_taken : (p0 p2 : Slots) (k : ℕ) → length p0.bytes ≡ length p0.lent → IsFree p0 k → OnlyWrites k (with_lent p0 k) p2 → get_or (loans_of p2) k None ≡ Some (bytes_at p2 k)
+pub loan_taken : (p0 p2 : Slots) (k : ℕ) → length p0.bytes ≡ length p0.lent → IsFree p0 k → OnlyWrites k (with_lent p0 k) p2
+    → get_or (loans_of p2) k None ≡ Some (bytes_at p2 k)
 loan_taken p0 p2 k whole free writes =
     let live : IsLive p2 k = live_written (with_lent p0 k) p2 k k writes (live_when_lent p0 k free) in
     loan_is p2 k (omega (arith, ap length writes.lent, length-set p0.lent k true, writes.count, whole)) live
@@ -81,7 +87,8 @@ no_loan pool k free =
     loan_there pool k below ∙ ap (λ b. cond b (Some (bytes_at pool k)) None) (get_or_default pool.lent k false true below ∙ free.free)
 
 -- a slot was taken, written and given back
-pub loans_back : (p0 p2 : Slots) (k : ℕ) → length p0.bytes ≡ length p0.lent → IsFree p0 k → OnlyWrites k (with_lent p0 k) p2 → loans_of (with_free p2 k) ≡ loans_of p0
+pub loans_back : (p0 p2 : Slots) (k : ℕ) → length p0.bytes ≡ length p0.lent → IsFree p0 k → OnlyWrites k (with_lent p0 k) p2
+    → loans_of (with_free p2 k) ≡ loans_of p0
 loans_back p0 p2 k whole free writes =
     let live : IsLive p2 k = live_written (with_lent p0 k) p2 k k writes (live_when_lent p0 k free) in
     loans_of-with_free p2 k live

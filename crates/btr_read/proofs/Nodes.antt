@@ -1,5 +1,6 @@
 -- Which of the blocks that are kept are known to be good nodes.
-use Rattle.std.proofs.Common.{◌≡◌, ℕ, zero, suc, Bool, true, false, List, [], ◌∷◌, length, take, get_or, set, Option, Some, None, IsSome, refl, sym, ap, ◌∙◌, subst, inl, inr, replicate, arith}
+use Rattle.std.proofs.Common.{◌≡◌, ℕ, zero, suc, Bool, true, false, List, [], ◌∷◌, length, take, get_or, set, Option, Some, None, IsSome, refl, sym, ap, ◌∙◌}
+use Rattle.std.proofs.Common.{subst, inl, inr, replicate, arith}
 use Rattle.std.proofs.lemmas.Bool.{cases_eq, false≢true}
 use Rattle.std.proofs.lemmas.List.{get_or-set_other, length-set}
 use Rattle.btr_pool.specs.Slots.{Slots, with_lent, with_free}
@@ -10,13 +11,15 @@ use Rattle.btr_read.specs.Store.{AreNodes, IsNode, IsSound, IsStore}
 use Rattle.btr_read.specs.Writing.{OnlyWrites, StillKept, StillNodes}
 
 -- what is still known to be a good node is one
-pub still_nodes : (wants wants' : List (Option Want)) (nodes nodes' : List Bool) (p p' : Slots) (size : ℕ) → StillNodes wants nodes wants' nodes' p p' → AreNodes wants nodes p.bytes size → AreNodes wants' nodes' p'.bytes size
+pub still_nodes : (wants wants' : List (Option Want)) (nodes nodes' : List Bool) (p p' : Slots) (size : ℕ) → StillNodes wants nodes wants' nodes' p p'
+    → AreNodes wants nodes p.bytes size → AreNodes wants' nodes' p'.bytes size
 still_nodes wants wants' nodes nodes' p p' size still are k w is node =
     let was = still k w is node in
     subst (λ bytes. IsNode (take size bytes)) (sym was.2) (are k w was.0 was.1)
 
 -- no more is known of what is still kept
-pub nodes_with : (wants wants' : List (Option Want)) (nodes nodes' : List Bool) (p p' : Slots) → StillKept wants wants' p p' → nodes' ≡ nodes → StillNodes wants nodes wants' nodes' p p'
+pub nodes_with : (wants wants' : List (Option Want)) (nodes nodes' : List Bool) (p p' : Slots) → StillKept wants wants' p p' → nodes' ≡ nodes
+    → StillNodes wants nodes wants' nodes' p p'
 nodes_with wants wants' nodes nodes' p p' still e j w is node =
     let was = still j w is in
     (was.0, ap (λ ns. get_or ns j false) (sym e) ∙ node, was.1)
@@ -27,7 +30,8 @@ unknown_at (n ∷ ns) zero = refl
 unknown_at (n ∷ ns) (suc k) = unknown_at ns k
 
 -- nothing is known of what is kept anew
-pub nodes_more : (wants then wants' : List (Option Want)) (nodes nodes' : List Bool) (p p' : Slots) (k : ℕ) (x : Option Want) → StillKept wants then p p' → wants' ≡ set then k x → nodes' ≡ set nodes k false → StillNodes wants nodes wants' nodes' p p'
+pub nodes_more : (wants then wants' : List (Option Want)) (nodes nodes' : List Bool) (p p' : Slots) (k : ℕ) (x : Option Want)
+    → StillKept wants then p p' → wants' ≡ set then k x → nodes' ≡ set nodes k false → StillNodes wants nodes wants' nodes' p p'
 nodes_more wants then wants' nodes nodes' p p' k x still one e j w is node =
     let here : get_or (set nodes k false) j false ≡ true = ap (λ ns. get_or ns j false) (sym e) ∙ node in
     elim (cases_eq j k) [
@@ -47,14 +51,17 @@ no_nodes wants nodes slots size e k w is node = absurd (never 24 k w (ap (λ ws.
     never (suc n) (suc k) w e = never n k w e
 
 -- one more is known, which is one
-pub nodes_noted : (wants wants' : List (Option Want)) (nodes nodes' : List Bool) (slots : List (List ℕ)) (size k : ℕ) → AreNodes wants nodes slots size → wants' ≡ wants → nodes' ≡ set nodes k true → IsNode (take size (get_or slots k [])) → AreNodes wants' nodes' slots size
+pub nodes_noted : (wants wants' : List (Option Want)) (nodes nodes' : List Bool) (slots : List (List ℕ)) (size k : ℕ)
+    → AreNodes wants nodes slots size → wants' ≡ wants → nodes' ≡ set nodes k true → IsNode (take size (get_or slots k [])) → AreNodes wants' nodes' slots size
 nodes_noted wants wants' nodes nodes' slots size k are same e one j w is node = elim (cases_eq j k) [
   | inl here ↦ subst (λ i. IsNode (take size (get_or slots i []))) (sym here) one
-  | inr other ↦ are j w (ap (λ ws. get_or ws j None) (sym same) ∙ is) (sym (get_or-set_other nodes k j true false other) ∙ ap (λ ns. get_or ns j false) (sym e) ∙ node)
+  | inr other ↦ are j w (ap (λ ws. get_or ws j None) (sym same) ∙ is)
+      (sym (get_or-set_other nodes k j true false other) ∙ ap (λ ns. get_or ns j false) (sym e) ∙ node)
 ]
 
 -- a block that is known to be a good node is one
-pub known_node : (wants : List (Option Want)) (nodes : List Bool) (slots : List (List ℕ)) (size k : ℕ) → AreNodes wants nodes slots size → IsSome (get_or wants k None) → get_or nodes k false ≡ true → IsNode (take size (get_or slots k []))
+pub known_node : (wants : List (Option Want)) (nodes : List Bool) (slots : List (List ℕ)) (size k : ℕ) → AreNodes wants nodes slots size
+    → IsSome (get_or wants k None) → get_or nodes k false ≡ true → IsNode (take size (get_or slots k []))
 known_node wants nodes slots size k are some node = by (get_or wants k None) refl some
   where
     by : (o : Option Want) → get_or wants k None ≡ o → IsSome o → IsNode (take size (get_or slots k []))
@@ -102,16 +109,20 @@ store_shaped p p' setting same is = record {
 }
 
 -- a store whose slots were written, where nothing more is known of its blocks
-pub sound_still : (wants wants' : List (Option Want)) (nodes nodes' : List Bool) (p p' : Slots) (setting : Setting) → IsStore p' setting → StillNodes wants nodes wants' nodes' p p' → IsSound p wants nodes setting → IsSound p' wants' nodes' setting
+pub sound_still : (wants wants' : List (Option Want)) (nodes nodes' : List Bool) (p p' : Slots) (setting : Setting) → IsStore p' setting
+    → StillNodes wants nodes wants' nodes' p p' → IsSound p wants nodes setting → IsSound p' wants' nodes' setting
 sound_still wants wants' nodes nodes' p p' setting store still is = record { store = store; known = still_nodes wants wants' nodes nodes' p p' setting.nodesize still is.known }
 
 -- a store is sound after what was found in its slots by a look at what is kept
-pub found_sound : (p0 p1 p2 : Slots) (w0 w1 w2 : List (Option Want)) (n0 n1 n2 : List Bool) (setting : Setting) → p1 ≡ p0 → w1 ≡ w0 → n1 ≡ n0 → SameShape p1 p2 → StillNodes w1 n1 w2 n2 p1 p2 → IsSound p0 w0 n0 setting → IsSound p2 w2 n2 setting
+pub found_sound : (p0 p1 p2 : Slots) (w0 w1 w2 : List (Option Want)) (n0 n1 n2 : List Bool) (setting : Setting) → p1 ≡ p0 → w1 ≡ w0 → n1 ≡ n0
+    → SameShape p1 p2 → StillNodes w1 n1 w2 n2 p1 p2 → IsSound p0 w0 n0 setting → IsSound p2 w2 n2 setting
 found_sound p0 p1 p2 w0 w1 w2 n0 n1 n2 setting pool wants nodes shape still is =
     let was : IsSound p1 w1 n1 setting = subst (λ p. IsSound p w1 n1 setting) (sym pool) (subst (λ w. IsSound p0 w n1 setting) (sym wants) (subst (λ n. IsSound p0 w0 n setting) (sym nodes) is)) in
     sound_still w1 w2 n1 n2 p1 p2 setting (store_shaped p1 p2 setting shape was.store) still was
 
 -- a store is sound after a slot was taken and written
-pub written_sound : (p0 p2 p3 : Slots) (w0 w2 : List (Option Want)) (n0 n2 : List Bool) (setting : Setting) (k : ℕ) → p2 ≡ with_lent p0 k → OnlyWrites k p2 p3 → StillKept w0 w2 p0 p3 → n2 ≡ n0 → IsSound p0 w0 n0 setting → IsSound p3 w2 n2 setting
+pub written_sound : (p0 p2 p3 : Slots) (w0 w2 : List (Option Want)) (n0 n2 : List Bool) (setting : Setting) (k : ℕ) → p2 ≡ with_lent p0 k
+    → OnlyWrites k p2 p3 → StillKept w0 w2 p0 p3 → n2 ≡ n0 → IsSound p0 w0 n0 setting → IsSound p3 w2 n2 setting
 written_sound p0 p2 p3 w0 w2 n0 n2 setting k lent writes still nodes is =
-    sound_still w0 w2 n0 n2 p0 p3 setting (store_written p0 p3 setting k (subst (λ p. OnlyWrites k p p3) lent writes) is.store) (nodes_with w0 w2 n0 n2 p0 p3 still nodes) is
+    sound_still w0 w2 n0 n2 p0 p3 setting (store_written p0 p3 setting k (subst (λ p. OnlyWrites k p p3) lent writes) is.store)
+    (nodes_with w0 w2 n0 n2 p0 p3 still nodes) is

@@ -1,5 +1,6 @@
 -- The one solution of equations, among all lists of bytes.
-use Rattle.std.proofs.Common.{◌≡◌, ℕ, zero, suc, ◌<◌, Bool, true, false, cond, ◌||◌, ◌⊎◌, List, [], ◌∷◌, ◌++◌, length, map, get_or, Some, refl, sym, ap, ◌∙◌, subst, inl, inr, arith}
+use Rattle.std.proofs.Common.{◌≡◌, ℕ, zero, suc, ◌<◌, Bool, true, false, cond, ◌||◌, ◌⊎◌, List, [], ◌∷◌, ◌++◌, length, map, get_or, Some, refl, sym, ap, ◌∙◌}
+use Rattle.std.proofs.Common.{subst, inl, inr, arith}
 use Rattle.std.proofs.lemmas.Bool.{false≢true}
 use Rattle.std.proofs.lemmas.List.FromFn.{get_or-range_with_len, length-range_with_len}
 use Rattle.std.specs.List.{find, range_with_len, list_any}
@@ -59,7 +60,8 @@ in_below n b h =
 
 in_each : (b : ℕ) (rest : List ℕ) (bytes : List ℕ) (rests : List (List ℕ)) → In b bytes → In rest rests → In (b ∷ rest) (each_before bytes rests)
 in_each b rest [] rests h g = absurd h
-in_each b rest (c ∷ bytes) rests (inl e) g = in_left (b ∷ rest) (map (λ r. c ∷ r) rests) (each_before bytes rests) (subst (λ x. In (b ∷ rest) (map (λ r. x ∷ r) rests)) (sym e) (in_map (λ r. b ∷ r) rest rests g))
+in_each b rest (c ∷ bytes) rests (inl e) g = in_left (b ∷ rest) (map (λ r. c ∷ r) rests) (each_before bytes rests)
+    (subst (λ x. In (b ∷ rest) (map (λ r. x ∷ r) rests)) (sym e) (in_map (λ r. b ∷ r) rest rests g))
 in_each b rest (c ∷ bytes) rests (inr h) g = in_right (b ∷ rest) (map (λ r. c ∷ r) rests) (each_before bytes rests) (in_each b rest bytes rests h g)
 
 pub record IsBefore (bytes : List ℕ) (rests : List (List ℕ)) (x : List ℕ) : Type 0 where
@@ -105,17 +107,20 @@ all_slices (suc n) x h =
     let r = of_each x (range_with_len 0 256) (byte_lists n) h in
     subst (IsSlice (suc n)) r.whole (slice_cons n r.byte r.rest (in_below 256 r.byte r.in_bytes) (all_slices n r.rest r.in_rests))
 
-find_if : (test : List ℕ → Bool) (y : List ℕ) (ys : List (List ℕ)) (x : List ℕ) (b : Bool) → test y ≡ b → In x (y ∷ ys) → test x ≡ true → ((z : List ℕ) → In z (y ∷ ys) → test z ≡ true → z ≡ x) → (In x ys → unwrap_or (find test ys) [] ≡ x) → unwrap_or (cond b (Some y) (find test ys)) [] ≡ x
+find_if : (test : List ℕ → Bool) (y : List ℕ) (ys : List (List ℕ)) (x : List ℕ) (b : Bool) → test y ≡ b → In x (y ∷ ys) → test x ≡ true
+    → ((z : List ℕ) → In z (y ∷ ys) → test z ≡ true → z ≡ x) → (In x ys → unwrap_or (find test ys) [] ≡ x) → unwrap_or (cond b (Some y) (find test ys)) [] ≡ x
 find_if test y ys x true e i t only rest = only y (inl refl) e
 find_if test y ys x false e (inl same) t only rest = absurd (false≢true (sym e ∙ ap test same ∙ t))
 find_if test y ys x false e (inr i) t only rest = rest i
 
-find_is : (test : List ℕ → Bool) (xs : List (List ℕ)) (x : List ℕ) → In x xs → test x ≡ true → ((z : List ℕ) → In z xs → test z ≡ true → z ≡ x) → unwrap_or (find test xs) [] ≡ x
+find_is : (test : List ℕ → Bool) (xs : List (List ℕ)) (x : List ℕ) → In x xs → test x ≡ true → ((z : List ℕ) → In z xs → test z ≡ true → z ≡ x)
+    → unwrap_or (find test xs) [] ≡ x
 find_is test [] x i t only = absurd i
 find_is test (y ∷ ys) x i t only = find_if test y ys x (test y) refl i t only (λ j. find_is test ys x j t (λ z k. only z (inr k)))
 
 -- the one list of n bytes that passes a test
-pub the_one_is : (n : ℕ) (test : List ℕ → Bool) (x : List ℕ) → IsSlice n x → test x ≡ true → ((z : List ℕ) → IsSlice n z → test z ≡ true → z ≡ x) → the_one n test ≡ x
+pub the_one_is : (n : ℕ) (test : List ℕ → Bool) (x : List ℕ) → IsSlice n x → test x ≡ true → ((z : List ℕ) → IsSlice n z → test z ≡ true → z ≡ x)
+    → the_one n test ≡ x
 unfolding the_one
 the_one_is n test x h t only = find_is test (byte_lists n) x (covers n x h) t (λ z i e. only z (all_slices n z i) e)
 
@@ -123,7 +128,8 @@ any_if : (test : List ℕ → Bool) (xs : List (List ℕ)) → list_any test xs 
 any_if test [] h = absurd (false≢true h)
 any_if test (y ∷ ys) h = by (test y) refl h (any_if test ys)
   where
-    by : (b : Bool) → test y ≡ b → (b || list_any test ys) ≡ true → (list_any test ys ≡ true → (x : List ℕ) × In x ys × (test x ≡ true)) → (x : List ℕ) × In x (y ∷ ys) × (test x ≡ true)
+    by : (b : Bool) → test y ≡ b → (b || list_any test ys) ≡ true → (list_any test ys ≡ true → (x : List ℕ) × In x ys × (test x ≡ true))
+        → (x : List ℕ) × In x (y ∷ ys) × (test x ≡ true)
     by true e g rest = (y, inl refl, e)
     by false e g rest = let r = rest g in (r.0, inr r.1, r.2)
 

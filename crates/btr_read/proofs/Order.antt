@@ -1,5 +1,6 @@
 -- The ways to get bytes, in the order in which they are tried.
-use Rattle.std.proofs.Common.{◌≡◌, ℕ, zero, suc, ◌+◌, ◌-◌, ◌<◌, ◌≤◌, Bool, true, false, not, cond, ◌&&◌, ◌||◌, eqb, List, [], ◌∷◌, ◌++◌, length, map, take, get_or, Some, slice_get, Ok, Err, refl, sym, ap, ◌∙◌, subst, inl, inr, arith, length-append}
+use Rattle.std.proofs.Common.{◌≡◌, ℕ, zero, suc, ◌+◌, ◌-◌, ◌<◌, ◌≤◌, Bool, true, false, not, cond, ◌&&◌, ◌||◌, eqb, List, [], ◌∷◌, ◌++◌, length, map, take}
+use Rattle.std.proofs.Common.{get_or, Some, slice_get, Ok, Err, refl, sym, ap, ◌∙◌, subst, inl, inr, arith, length-append}
 use Rattle.std.specs.Bool.{beq}
 use Rattle.std.proofs.lemmas.Bool.{false≢true}
 use Rattle.std.proofs.lemmas.List.Filters.{length-filter_both}
@@ -110,7 +111,8 @@ module _ (t : Target) where
   newest (c ∷ cs) e = by (reads_older t c) e (newest cs)
     where
       by : (b : Bool) → length (cond (beq b true) (c ∷ filter (λ c. beq (reads_older t c) true) cs) (filter (λ c. beq (reads_older t c) true) cs)) ≡ 0
-          → (length (filter (λ c. beq (reads_older t c) true) cs) ≡ 0 → filter (λ c. beq (reads_older t c) false) cs ++ filter (λ c. beq (reads_older t c) true) cs ≡ cs)
+          → (length (filter (λ c. beq (reads_older t c) true) cs) ≡ 0 → filter (λ c. beq (reads_older t c) false) cs
+          ++ filter (λ c. beq (reads_older t c) true) cs ≡ cs)
           → cond (beq b false) (c ∷ filter (λ c. beq (reads_older t c) false) cs) (filter (λ c. beq (reads_older t c) false) cs)
           ++ cond (beq b true) (c ∷ filter (λ c. beq (reads_older t c) true) cs) (filter (λ c. beq (reads_older t c) true) cs) ≡ c ∷ cs
       by true e rest = absurd (omega (arith, e))
@@ -120,7 +122,8 @@ module _ (t : Target) where
   pub same_order : length (among t true) ≡ 0 → candidates t ≡ ways t
   same_order e = newest (ways t) e
 
-  none_in : (members : List Member) (devid : ℕ) → list_any is_older members ≡ false → option_map_or (λ (device : Device). device.older) (device_in members devid) false ≡ false
+  none_in : (members : List Member) (devid : ℕ) → list_any is_older members ≡ false
+      → option_map_or (λ (device : Device). device.older) (device_in members devid) false ≡ false
   none_in [] devid none = refl
   none_in (m ∷ members) devid none = by m.device.older (eqb m.devid devid) refl none (none_in members devid)
     where
@@ -140,7 +143,8 @@ module _ (t : Target) where
     none_among : (cs : List Candidate) → length (filter (λ c. beq (reads_older t c) true) cs) ≡ 0
     none_among [] = refl
     none_among (c ∷ cs) =
-        ap (λ b. length (cond (beq b true) (c ∷ filter (λ c. beq (reads_older t c) true) cs) (filter (λ c. beq (reads_older t c) true) cs))) (none_read (parts_read (slice_count t) t.at.index c))
+        ap (λ b. length (cond (beq b true) (c ∷ filter (λ c. beq (reads_older t c) true) cs) (filter (λ c. beq (reads_older t c) true) cs)))
+        (none_read (parts_read (slice_count t) t.at.index c))
         ∙ none_among cs
 
     pub none_older : candidates t ≡ ways t
@@ -179,7 +183,8 @@ pub with_copies : (t : Target) (n : ℕ) → mirrors t.chunk ≡ Some n → ways
 with_copies t n has = ap (λ o. option_map_or copies o (rebuilt t.chunk.profile (slice_count t) t.at.index)) has
 
 -- the candidate at a place in the order is a copy
-pub copy_in_order : (t : Target) (n k m : ℕ) → mirrors t.chunk ≡ Some n → k < n → IsWayAt k m t → (m < n) × (slice_get (candidates t) k ≡ Some (Read (Mirror m)))
+pub copy_in_order : (t : Target) (n k m : ℕ) → mirrors t.chunk ≡ Some n → k < n → IsWayAt k m t → (m < n)
+    × (slice_get (candidates t) k ≡ Some (Read (Mirror m)))
 copy_in_order t n k m has lt at =
     let long : length (candidates t) ≡ n = length-candidates t ∙ ap length (with_copies t n has) ∙ length-copies n in
     let there = slice_get-get_or (candidates t) k (Read (Mirror 0)) (omega (arith, lt, long)) in
@@ -209,7 +214,8 @@ module _ (f : Part → Bool) (p : ℕ → Bool) where
   none_of [] h = refl
   none_of (x ∷ xs) h = by (p x) (f (Slice x)) refl (h x (inl refl)) (none_of xs (λ y i. h y (inr i)))
     where
-      by : (b c : Bool) → f (Slice x) ≡ c → (b && c) ≡ false → list_any f (map Slice (filter p xs)) ≡ false → list_any f (map Slice (cond b (x ∷ filter p xs) (filter p xs))) ≡ false
+      by : (b c : Bool) → f (Slice x) ≡ c → (b && c) ≡ false → list_any f (map Slice (filter p xs)) ≡ false
+          → list_any f (map Slice (cond b (x ∷ filter p xs) (filter p xs))) ≡ false
       by true true e test rest = absurd (false≢true (sym test))
       by true false e test rest = ap (λ c. c || list_any f (map Slice (filter p xs))) e ∙ rest
       by false c e test rest = rest

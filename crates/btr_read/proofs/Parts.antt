@@ -1,5 +1,6 @@
 -- The parts that a candidate by parities reads, and their ranges.
-use Rattle.std.proofs.Common.{◌≡◌, ℕ, suc, ◌<◌, Bool, true, false, not, cond, ◌&&◌, eqb, List, [], ◌∷◌, Option, Some, None, IsSome, is_some, Err, refl, sym, ap, ◌∙◌, subst, inl, inr, arith}
+use Rattle.std.proofs.Common.{◌≡◌, ℕ, suc, ◌<◌, Bool, true, false, not, cond, ◌&&◌, eqb, List, [], ◌∷◌, Option, Some, None, IsSome, is_some, Err, refl, sym, ap}
+use Rattle.std.proofs.Common.{◌∙◌, subst, inl, inr, arith}
 use Rattle.std.proofs.lemmas.Bool.{false≢true}
 use Rattle.std.specs.List.{filter, filter_map, cons_option, list_all, range_with_len, Any}
 use Rattle.btr_rack.specs.declared.place.Place.{Place as Range}
@@ -32,9 +33,12 @@ in_filter p x (y ∷ xs) i e = by (p y) refl i (λ j. in_filter p x xs j e)
 -- a slice that is read is among the parts
 pub slice_in : (k i : ℕ) (c : Candidate) (s : ℕ) → s < k → reads_slice i c s ≡ true → In (Slice s) (parts_read k i c)
 slice_in k i (Read part) s lt e = absurd (false≢true e)
-slice_in k i ByP s lt e = inr (in_map Slice s (filter (reads_slice i ByP) (range_with_len 0 k)) (in_filter (reads_slice i ByP) s (range_with_len 0 k) (below_in k s lt) e))
-slice_in k i ByQ s lt e = inr (in_map Slice s (filter (reads_slice i ByQ) (range_with_len 0 k)) (in_filter (reads_slice i ByQ) s (range_with_len 0 k) (below_in k s lt) e))
-slice_in k i (ByBoth j) s lt e = inr (inr (in_map Slice s (filter (reads_slice i (ByBoth j)) (range_with_len 0 k)) (in_filter (reads_slice i (ByBoth j)) s (range_with_len 0 k) (below_in k s lt) e)))
+slice_in k i ByP s lt e = inr (in_map Slice s (filter (reads_slice i ByP) (range_with_len 0 k))
+    (in_filter (reads_slice i ByP) s (range_with_len 0 k) (below_in k s lt) e))
+slice_in k i ByQ s lt e = inr (in_map Slice s (filter (reads_slice i ByQ) (range_with_len 0 k))
+    (in_filter (reads_slice i ByQ) s (range_with_len 0 k) (below_in k s lt) e))
+slice_in k i (ByBoth j) s lt e = inr (inr (in_map Slice s (filter (reads_slice i (ByBoth j)) (range_with_len 0 k))
+    (in_filter (reads_slice i (ByBoth j)) s (range_with_len 0 k) (below_in k s lt) e)))
 
 -- so is a parity
 pub parity_in : (k i : ℕ) (p : Parity) (c : Candidate) → Uses p c → In (part_of p) (parts_read k i c)
@@ -72,15 +76,19 @@ row_stands t p q Q h = part_stands t ByQ Q q (inl refl)
 
 pub stands_in_row : (t : Target) (c : Candidate) → RowStands t ByP → IsByParities c → stands t c ≡ true
 stands_in_row t (Read part) h by = absurd by
-stands_in_row t ByP h by = both (is_some (range_of t P)) (list_all (λ part. is_some (range_of t part)) (slices_read (slice_count t) t.at.index ByP)) (h P tt) (all_read (λ part. is_some (range_of t part)) (reads_slice t.at.index ByP) (slice_count t) (λ s lt e. h (Slice s) (lt, e)))
-stands_in_row t ByQ h by = both (is_some (range_of t Q)) (list_all (λ part. is_some (range_of t part)) (slices_read (slice_count t) t.at.index ByQ)) (h Q tt) (all_read (λ part. is_some (range_of t part)) (reads_slice t.at.index ByQ) (slice_count t) (λ s lt e. h (Slice s) (lt, e)))
+stands_in_row t ByP h by = both (is_some (range_of t P)) (list_all (λ part. is_some (range_of t part)) (slices_read (slice_count t) t.at.index ByP))
+    (h P tt) (all_read (λ part. is_some (range_of t part)) (reads_slice t.at.index ByP) (slice_count t) (λ s lt e. h (Slice s) (lt, e)))
+stands_in_row t ByQ h by = both (is_some (range_of t Q)) (list_all (λ part. is_some (range_of t part)) (slices_read (slice_count t) t.at.index ByQ))
+    (h Q tt) (all_read (λ part. is_some (range_of t part)) (reads_slice t.at.index ByQ) (slice_count t) (λ s lt e. h (Slice s) (lt, e)))
 stands_in_row t (ByBoth j) h by =
     let f : Part → Bool = λ part. is_some (range_of t part) in
     let rest : Bool = list_all f (slices_read (slice_count t) t.at.index (ByBoth j)) in
-    both (f P) (f Q && rest) (h P tt) (both (f Q) rest (h Q tt) (all_read f (reads_slice t.at.index (ByBoth j)) (slice_count t) (λ s lt e. h (Slice s) (lt, left_of (not (eqb s t.at.index)) (not (eqb s j)) e))))
+    both (f P) (f Q && rest) (h P tt) (both (f Q) rest (h Q tt)
+    (all_read f (reads_slice t.at.index (ByBoth j)) (slice_count t) (λ s lt e. h (Slice s) (lt, left_of (not (eqb s t.at.index)) (not (eqb s j)) e))))
 
 -- a read of one of them failed, after others that didn't
-pub row_missed : (t : Target) (c : Candidate) (part : Part) (u : Unread) (a b n : Seen) → b.sure ≡ a.sure → NoneFailed a.account b.account → AccountsPart t part b n (Err u) → IsOfRow t c part → AccountsRow {T = Unit {0}} t c a n (Err u)
+pub row_missed : (t : Target) (c : Candidate) (part : Part) (u : Unread) (a b n : Seen) → b.sure ≡ a.sure → NoneFailed a.account b.account
+    → AccountsPart t part b n (Err u) → IsOfRow t c part → AccountsRow {T = Unit {0}} t c a n (Err u)
 row_missed t c part u a b n sure calm e h = (e.0, one_after e.0 a b n sure calm e.1, e.2, ap (range_of t) e.4 ∙ e.3, subst (IsOfRow t c) (sym e.4) h)
 
 lies_self : (m : Range) → LiesIn m m
@@ -98,5 +106,6 @@ in_ranges t (q ∷ ps) part m (inl same) e =
 in_ranges t (q ∷ ps) part m (inr i) e = any_more m (range_of t q) (filter_map (range_of t) ps) (in_ranges t ps part m i e)
 
 -- a range of a part is one of the candidate's
-pub range_in_candidate : (t : Target) (c : Candidate) (part : Part) (m : Range) → In part (parts_read (slice_count t) t.at.index c) → range_of t part ≡ Some m → Any (LiesIn m) (ranges_of t c)
+pub range_in_candidate : (t : Target) (c : Candidate) (part : Part) (m : Range) → In part (parts_read (slice_count t) t.at.index c) → range_of t part
+    ≡ Some m → Any (LiesIn m) (ranges_of t c)
 range_in_candidate t c part m i e = in_ranges t (parts_read (slice_count t) t.at.index c) part m i e

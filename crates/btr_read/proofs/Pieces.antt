@@ -1,5 +1,6 @@
 -- A slot that is written piece by piece.
-use Rattle.std.proofs.Common.{◌≡◌, ◌≢◌, ℕ, ◌+◌, ◌-◌, ◌<◌, ◌≤◌, List, [], ◌∷◌, ◌++◌, length, take, drop, refl, sym, ap, ap₂, ◌∙◌, subst, arith, length-append, length-take, length-drop, bit_xor}
+use Rattle.std.proofs.Common.{◌≡◌, ◌≢◌, ℕ, ◌+◌, ◌-◌, ◌<◌, ◌≤◌, List, [], ◌∷◌, ◌++◌, length, take, drop, refl, sym, ap, ap₂, ◌∙◌, subst, arith, length-append}
+use Rattle.std.proofs.Common.{length-take, length-drop, bit_xor}
 use Rattle.std.proofs.lemmas.List.{take_at, drop_at, drop-drop, drop-take, take-take, map-append, set-set}
 use Rattle.std.proofs.lemmas.Simd.{length-zip2}
 use Rattle.std.proofs.lemmas.List.{length-map}
@@ -60,9 +61,11 @@ range_behind : (xs written : List ℕ) (done end : ℕ) → length written ≡ d
 range_behind xs written done end long = ap (take (end - done)) (drop_at written (drop done xs) done long)
 
 -- and once it is written too
-pasted_behind : (xs written piece : List ℕ) (done end : ℕ) → length written ≡ done → done + length piece ≡ end → pasted (written ++ drop done xs) done piece ≡ (written ++ piece) ++ drop end xs
+pasted_behind : (xs written piece : List ℕ) (done end : ℕ) → length written ≡ done → done + length piece ≡ end
+    → pasted (written ++ drop done xs) done piece ≡ (written ++ piece) ++ drop end xs
 pasted_behind xs written piece done end long there =
-    ap₂ (λ front rest. (front ++ piece) ++ rest) (take_at written (drop done xs) done long) (ap (λ n. drop n (written ++ drop done xs)) there ∙ behind xs written done end long (omega arith))
+    ap₂ (λ front rest. (front ++ piece) ++ rest) (take_at written (drop done xs) done long)
+    (ap (λ n. drop n (written ++ drop done xs)) there ∙ behind xs written done end long (omega arith))
 
 -- ---- a slot and its pieces
 
@@ -88,10 +91,20 @@ module _ (P : List ℕ → Type 0) (k done : ℕ) (old now : Slots) (live : IsLi
 
   -- the slot was as long as it is, so far as it isn't written
   pub long_enough : (end : ℕ) → done < end → end ≤ length (bytes_at now k) → end ≤ length (bytes_at old k)
-  long_enough end lt le = omega (arith, lt, le, ap length bytes_now, length-append h.written (drop done (bytes_at old k)), length-drop done (bytes_at old k), h.long)
+  long_enough end lt le = omega (
+    arith,
+    lt,
+    le,
+    ap length bytes_now,
+    length-append h.written (drop done (bytes_at old k)),
+    length-drop done
+        (bytes_at old k),
+    h.long,
+  )
 
   -- one more piece
-  pub written_more : (Q : List ℕ → Type 0) (end : ℕ) (piece : List ℕ) (after : Slots) → done + length piece ≡ end → after ≡ with_bytes now k (pasted (bytes_at now k) done piece) → Q (h.written ++ piece) → WrittenSoFar Q k end old after
+  pub written_more : (Q : List ℕ → Type 0) (end : ℕ) (piece : List ℕ) (after : Slots) → done + length piece ≡ end → after
+      ≡ with_bytes now k (pasted (bytes_at now k) done piece) → Q (h.written ++ piece) → WrittenSoFar Q k end old after
   written_more Q end piece after there e meets =
       let xs = bytes_at old k in
       let front = h.written ++ drop done xs in
@@ -126,7 +139,9 @@ pub length-sum : (p : Parity) (i n : ℕ) (xs ys : List ℕ) → length xs ≡ n
 length-sum p i n xs ys ex ey = length-zip2 bit_xor xs (weighed p i ys) (ex ∙ sym ey ∙ sym (length-weighed p i ys)) ∙ ex
 
 -- the sum of two longer first parts is that of the first parts and that of the pieces behind them
-pub sum_on : (p : Parity) (i done end : ℕ) (xs ys : List ℕ) → done ≤ end → end ≤ length xs → end ≤ length ys → plus (take done xs) (weighed p i (take done ys)) ++ plus (slice_range xs done end) (weighed p i (slice_range ys done end)) ≡ plus (take end xs) (weighed p i (take end ys))
+pub sum_on : (p : Parity) (i done end : ℕ) (xs ys : List ℕ) → done ≤ end → end ≤ length xs → end ≤ length ys
+    → plus (take done xs) (weighed p i (take done ys)) ++ plus (slice_range xs done end) (weighed p i (slice_range ys done end))
+    ≡ plus (take end xs) (weighed p i (take end ys))
 sum_on p i done end xs ys le fits fits' =
     let same : length (take done xs) ≡ length (weighed p i (take done ys)) = length-first xs done (omega arith) ∙ sym (length-weighed p i (take done ys) ∙ length-first ys done (omega arith)) in
     sym (
@@ -136,7 +151,8 @@ sum_on p i done end xs ys le fits fits' =
 
 -- the first bytes of slot j were added to what slot k has of a parity
 abbrev pub AddedSoFar : Parity → ℕ → ℕ → ℕ → ℕ → Slots → Slots → Type 0
-AddedSoFar p i k j done old now = WrittenSoFar (λ written. written ≡ plus (take done (bytes_at old k)) (weighed p i (take done (bytes_at old j)))) k done old now
+AddedSoFar p i k j done old now = WrittenSoFar (λ written. written ≡ plus (take done (bytes_at old k)) (weighed p i (take done (bytes_at old j)))) k
+    done old now
 
 module _ (p : Parity) (i k j done end : ℕ) (old now after : Slots) (live : IsLive old k) (apart : k ≢ j) (lt : done < end) (fits : end ≤ old.size) (h : AddedSoFar p i k j done old now) (long : length (bytes_at now k) ≡ now.size) (long' : length (slice_range (bytes_at now j) done end) ≡ end - done) where
   abbrev MeetsNow : List ℕ → Type 0
@@ -179,7 +195,8 @@ abbrev pub CopiedSoFar : ℕ → ℕ → ℕ → Slots → Slots → Type 0
 CopiedSoFar k j done old now = WrittenSoFar (λ written. written ≡ take done (bytes_at old j)) k done old now
 
 -- the piece behind them too
-pub copied_more : (k j done end : ℕ) (old now after : Slots) → IsLive old k → k ≢ j → done < end → CopiedSoFar k j done old now → length (slice_range (bytes_at now j) done end) ≡ end - done
+pub copied_more : (k j done end : ℕ) (old now after : Slots) → IsLive old k → k ≢ j → done < end → CopiedSoFar k j done old now
+    → length (slice_range (bytes_at now j) done end) ≡ end - done
     → after ≡ with_bytes now k (pasted (bytes_at now k) done (slice_range (bytes_at now j) done end)) → CopiedSoFar k j end old after
 copied_more k j done end old now after live apart lt h long e =
     let Now : List ℕ → Type 0 = λ written. written ≡ take done (bytes_at old j) in

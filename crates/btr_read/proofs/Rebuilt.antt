@@ -1,5 +1,6 @@
 -- What is left of a parity is the one solution of its equations.
-use Rattle.std.proofs.Common.{◌≡◌, ◌≢◌, ℕ, ◌<◌, Bool, true, false, not, cond, ◌&&◌, List, [], length, get_or, set, eqb, bit_xor, zero-add, refl, sym, ap, ◌∙◌, subst, inl, inr, arith}
+use Rattle.std.proofs.Common.{◌≡◌, ◌≢◌, ℕ, ◌<◌, Bool, true, false, not, cond, ◌&&◌, List, [], length, get_or, set, eqb, bit_xor, zero-add, refl, sym, ap, ◌∙◌}
+use Rattle.std.proofs.Common.{subst, inl, inr, arith}
 use Rattle.std.proofs.lemmas.Bool.{cases_eq, eq-eqb}
 use Rattle.std.proofs.lemmas.Bool.{eqb-true}
 use Rattle.std.proofs.lemmas.List.{same_lists, length-set, set-get_or, get_or-set_same, get_or-set_other}
@@ -59,7 +60,8 @@ module _ (images : List (List ℕ)) (t : Target) (c : Candidate) where
       ap (set rs t.at.index) (sym here) ∙ set-get_or rs t.at.index []
 
   -- so with any other in its place the slices are the same
-  same_with : ((s : ℕ) → s ≢ t.at.index → reads_slice t.at.index c s ≡ true) → t.at.index < slice_count t → (X : List ℕ) → set rs t.at.index X ≡ set (slices images t) t.at.index X
+  same_with : ((s : ℕ) → s ≢ t.at.index → reads_slice t.at.index c s ≡ true) → t.at.index < slice_count t → (X : List ℕ) → set rs t.at.index X
+      ≡ set (slices images t) t.at.index X
   same_with reads lt X =
       let len : length (set rs t.at.index X) ≡ slice_count t = length-set rs t.at.index X ∙ length-rs in
       let len' : length (set (slices images t) t.at.index X) ≡ slice_count t = length-set (slices images t) t.at.index X ∙ length-slices in
@@ -69,7 +71,8 @@ module _ (images : List (List ℕ)) (t : Target) (c : Candidate) where
         | inl e ↦
             ap (λ n. get_or (set rs t.at.index X) n d) e
             ∙ get_or-set_same rs t.at.index X d (omega (arith, lt, length-rs))
-            ∙ sym (ap (λ n. get_or (set (slices images t) t.at.index X) n d) e ∙ get_or-set_same (slices images t) t.at.index X d (omega (arith, lt, length-slices)))
+            ∙ sym (ap (λ n. get_or (set (slices images t) t.at.index X) n d) e
+            ∙ get_or-set_same (slices images t) t.at.index X d (omega (arith, lt, length-slices)))
         | inr ne ↦
             get_or-set_other rs t.at.index j X d ne
             ∙ at_slice j d within
@@ -78,7 +81,8 @@ module _ (images : List (List ℕ)) (t : Target) (c : Candidate) where
       ])
 
 -- what P leaves is the one slice that fits P
-pub one_by_p : (images : List (List ℕ)) (t : Target) (bytes : List ℕ) → t.at.index < slice_count t → IsGathered images t ByP parity.P bytes → IsTheOne (size_of t) (λ X. fits_p images t X ≡ true) bytes
+pub one_by_p : (images : List (List ℕ)) (t : Target) (bytes : List ℕ) → t.at.index < slice_count t → IsGathered images t ByP parity.P bytes
+    → IsTheOne (size_of t) (λ X. fits_p images t X ≡ true) bytes
 one_by_p images t bytes lt h =
     let i = t.at.index in
     let n = size_of t in
@@ -94,11 +98,13 @@ one_by_p images t bytes lt h =
     }
 
 -- so it is the candidate's value
-pub by_p : (images : List (List ℕ)) (t : Target) (bytes : List ℕ) → t.at.index < slice_count t → IsGathered images t ByP parity.P bytes → value_of images t ByP ≡ bytes
+pub by_p : (images : List (List ℕ)) (t : Target) (bytes : List ℕ) → t.at.index < slice_count t → IsGathered images t ByP parity.P bytes
+    → value_of images t ByP ≡ bytes
 by_p images t bytes lt h = let one = one_by_p images t bytes lt h in the_one_is (size_of t) (fits_p images t) bytes one.slice one.meets one.only
 
 -- what Q leaves, divided, is the one slice that fits Q
-pub one_by_q : (images : List (List ℕ)) (t : Target) (sum X : List ℕ) → t.at.index < slice_count t → IsGathered images t ByQ parity.Q sum → IsTheOne (size_of t) (Weighs t.at.index sum) X → IsTheOne (size_of t) (λ X. fits_q images t X ≡ true) X
+pub one_by_q : (images : List (List ℕ)) (t : Target) (sum X : List ℕ) → t.at.index < slice_count t → IsGathered images t ByQ parity.Q sum
+    → IsTheOne (size_of t) (Weighs t.at.index sum) X → IsTheOne (size_of t) (λ X. fits_q images t X ≡ true) X
 one_by_q images t sum X lt h weighs =
     let i = t.at.index in
     let n = size_of t in
@@ -113,7 +119,8 @@ one_by_q images t sum X lt h weighs =
     }
 
 -- so it is the candidate's value
-pub by_q : (images : List (List ℕ)) (t : Target) (sum X : List ℕ) → t.at.index < slice_count t → IsGathered images t ByQ parity.Q sum → IsTheOne (size_of t) (Weighs t.at.index sum) X → value_of images t ByQ ≡ X
+pub by_q : (images : List (List ℕ)) (t : Target) (sum X : List ℕ) → t.at.index < slice_count t → IsGathered images t ByQ parity.Q sum
+    → IsTheOne (size_of t) (Weighs t.at.index sum) X → value_of images t ByQ ≡ X
 by_q images t sum X lt h weighs = let one = one_by_q images t sum X lt h weighs in the_one_is (size_of t) (fits_q images t) X one.slice one.meets one.only
 
 and_false : (a : Bool) → (a && false) ≡ false
@@ -134,7 +141,8 @@ module _ (images : List (List ℕ)) (t : Target) (j : ℕ) where
       ap (λ xs. set xs i (zeros (size_of t))) same_j ∙ only_sought images t (ByBoth j) lt (ap (λ b. b && not (eqb i j)) (not_itself i))
 
   -- so with any others in their places the slices are the same
-  same_both : t.at.index < slice_count t → j < slice_count t → (X Y : List ℕ) → set (set both_rs j Y) t.at.index X ≡ set (set (slices images t) j Y) t.at.index X
+  same_both : t.at.index < slice_count t → j < slice_count t → (X Y : List ℕ) → set (set both_rs j Y) t.at.index X
+      ≡ set (set (slices images t) j Y) t.at.index X
   same_both lt lt_j X Y =
       let i = t.at.index in
       let mine = set both_rs j Y in
@@ -164,7 +172,8 @@ module _ (images : List (List ℕ)) (t : Target) (j : ℕ) where
       ])
 
 -- what a parity leaves is as long as a slice
-pub gathered_long : (images : List (List ℕ)) (t : Target) (c : Candidate) (p : Parity) (bytes : List ℕ) → IsGathered images t c p bytes → length bytes ≡ size_of t
+pub gathered_long : (images : List (List ℕ)) (t : Target) (c : Candidate) (p : Parity) (bytes : List ℕ) → IsGathered images t c p bytes → length bytes
+    ≡ size_of t
 gathered_long images t c p bytes h =
     let E = element images t (part_of p) in
     let B = parity_of p (size_of t) (read_slices images t c) in
@@ -172,7 +181,8 @@ gathered_long images t c p bytes h =
     ap length h.sum ∙ length-zip2 bit_xor E B (h.whole.long ∙ sym B_long) ∙ h.whole.long
 
 -- the parity of slices of which one is another
-of_set : (p : Parity) (size j : ℕ) (ds : List (List ℕ)) (X : List ℕ) → All (IsSlice size) ds → j < length ds → parity_of p size (set ds j X) ≡ plus (weighed p j X) (parity_of p size (set ds j (zeros size)))
+of_set : (p : Parity) (size j : ℕ) (ds : List (List ℕ)) (X : List ℕ) → All (IsSlice size) ds → j < length ds → parity_of p size (set ds j X)
+    ≡ plus (weighed p j X) (parity_of p size (set ds j (zeros size)))
 of_set parity.P size j ds X h lt = parity_p-set size j ds X h lt
 of_set parity.Q size j ds X h lt = weighted-set size 0 j ds X h lt ∙ ap (λ n. plus (scaled (power n) X) (weighted size 0 (set ds j (zeros size)))) (zero-add j)
 
@@ -192,7 +202,8 @@ module _ (images : List (List ℕ)) (t : Target) (j : ℕ) (lt_j : j < slice_cou
   there = at_slice images t ByP j [] lt_j ∙ is_read images t ByP j (not_other j t.at.index ne)
 
   same_read : (s : ℕ) → s ≢ j → read_slice images t ByP s ≡ read_slice images t (ByBoth j) s
-  same_read s ne_s = ap (λ b. cond b (element images t (Slice s)) (zeros (size_of t))) (sym (ap (λ b. not (eqb s t.at.index) && b) (not_other s j ne_s) ∙ and_true (not (eqb s t.at.index))))
+  same_read s ne_s = ap (λ b. cond b (element images t (Slice s)) (zeros (size_of t)))
+      (sym (ap (λ b. not (eqb s t.at.index) && b) (not_other s j ne_s) ∙ and_true (not (eqb s t.at.index))))
 
   -- without slice j they are those that the candidate by both parities reads
   left_out : set all_rs j (zeros (size_of t)) ≡ read_slices images t (ByBoth j)
@@ -214,7 +225,8 @@ module _ (images : List (List ℕ)) (t : Target) (j : ℕ) (lt_j : j < slice_cou
       ])
 
   -- a syndrome to which slice j is added once more is what the parity leaves of both slices
-  pub without_other : (p : Parity) (S : List ℕ) → IsGathered images t ByP p S → IsSlice (size_of t) other → IsGathered images t (ByBoth j) p (plus S (weighed p j other))
+  pub without_other : (p : Parity) (S : List ℕ) → IsGathered images t ByP p S → IsSlice (size_of t) other
+      → IsGathered images t (ByBoth j) p (plus S (weighed p j other))
   without_other p S h slice =
       let n = size_of t in
       let E = element images t (part_of p) in
@@ -235,7 +247,10 @@ module _ (images : List (List ℕ)) (t : Target) (j : ℕ) (lt_j : j < slice_cou
       }
 
 -- the first of the two slices that P and Q leave is the one that fits both with some other
-pub one_by_both : (images : List (List ℕ)) (t : Target) (j : ℕ) (sum weighted X : List ℕ) → t.at.index < slice_count t → j < slice_count t → t.at.index ≢ j → IsGathered images t (ByBoth j) parity.P sum → IsGathered images t (ByBoth j) parity.Q weighted → IsTheOne (size_of t) (WeighsWith sum weighted t.at.index j) X → IsTheOne (size_of t) (λ X. (Y : List ℕ) × IsSlice (size_of t) Y × (fits_both images t j X Y ≡ true)) X
+pub one_by_both : (images : List (List ℕ)) (t : Target) (j : ℕ) (sum weighted X : List ℕ) → t.at.index < slice_count t → j < slice_count t
+    → t.at.index ≢ j → IsGathered images t (ByBoth j) parity.P sum → IsGathered images t (ByBoth j) parity.Q weighted
+    → IsTheOne (size_of t) (WeighsWith sum weighted t.at.index j) X
+    → IsTheOne (size_of t) (λ X. (Y : List ℕ) × IsSlice (size_of t) Y × (fits_both images t j X Y ≡ true)) X
 one_by_both images t j sum weighted X lt lt_j ne p q solves =
     let i = t.at.index in
     let n = size_of t in
@@ -253,8 +268,12 @@ one_by_both images t j sum weighted X lt lt_j ne p q solves =
           let Y = is.meets.other in
           let ys = set (set (slices images t) j Y) i X in
           let dp = bytes_eq-Decides (parity_p n ys) (element images t P) in
-          let dq = bytes_eq-Decides (parity_q n ys) (element images t Q) in
-          (Y, is.meets.slice, both (bytes_eq (parity_p n ys) (element images t P)) (bytes_eq (parity_q n ys) (element images t Q)) (dp.1 (sym (ap (parity_p n) (same X Y)) ∙ is.meets.sum)) (dq.1 (sym (ap (parity_q n) (same X Y)) ∙ is.meets.weighted_sum)));
+          let dq = bytes_eq-Decides (parity_q n ys) (element images t Q) in (
+            Y,
+            is.meets.slice,
+            both (bytes_eq (parity_p n ys) (element images t P)) (bytes_eq (parity_q n ys) (element images t Q))
+                (dp.1 (sym (ap (parity_p n) (same X Y)) ∙ is.meets.sum)) (dq.1 (sym (ap (parity_q n) (same X Y)) ∙ is.meets.weighted_sum)),
+          );
       only = λ z slice y.
           let ys = set (set (slices images t) j y.0) i z in
           let dp = bytes_eq-Decides (parity_p n ys) (element images t P) in
@@ -262,13 +281,17 @@ one_by_both images t j sum weighted X lt lt_j ne p q solves =
           is.only z slice (record {
             other = y.0;
             slice = y.1;
-            sum = ap (parity_p n) (same z y.0) ∙ dp.0 (left_of (bytes_eq (parity_p n ys) (element images t P)) (bytes_eq (parity_q n ys) (element images t Q)) y.2);
-            weighted_sum = ap (parity_q n) (same z y.0) ∙ dq.0 (right_of (bytes_eq (parity_p n ys) (element images t P)) (bytes_eq (parity_q n ys) (element images t Q)) y.2);
+            sum = ap (parity_p n) (same z y.0) ∙ dp.0 (left_of (bytes_eq (parity_p n ys) (element images t P))
+                (bytes_eq (parity_q n ys) (element images t Q)) y.2);
+            weighted_sum = ap (parity_q n) (same z y.0) ∙ dq.0
+                (right_of (bytes_eq (parity_p n ys) (element images t P)) (bytes_eq (parity_q n ys) (element images t Q)) y.2);
           });
     }
 
 -- so it is the candidate's value
-pub by_both : (images : List (List ℕ)) (t : Target) (j : ℕ) (sum weighted X : List ℕ) → t.at.index < slice_count t → j < slice_count t → t.at.index ≢ j → IsGathered images t (ByBoth j) parity.P sum → IsGathered images t (ByBoth j) parity.Q weighted → IsTheOne (size_of t) (WeighsWith sum weighted t.at.index j) X → value_of images t (ByBoth j) ≡ X
+pub by_both : (images : List (List ℕ)) (t : Target) (j : ℕ) (sum weighted X : List ℕ) → t.at.index < slice_count t → j < slice_count t
+    → t.at.index ≢ j → IsGathered images t (ByBoth j) parity.P sum → IsGathered images t (ByBoth j) parity.Q weighted
+    → IsTheOne (size_of t) (WeighsWith sum weighted t.at.index j) X → value_of images t (ByBoth j) ≡ X
 by_both images t j sum weighted X lt lt_j ne p q solves =
     let n = size_of t in
     let one = one_by_both images t j sum weighted X lt lt_j ne p q solves in

@@ -1,5 +1,6 @@
 -- That a rack goes on serving a store.
-use Rattle.std.proofs.Common.{◌≡◌, ◌≢◌, ℕ, zero, suc, ◌⊎◌, List, [], ◌∷◌, drop, get_or, set, Option, Some, None, IfSome, IsSomeAnd, refl, sym, ap, ◌∙◌, subst, inl, inr, replicate}
+use Rattle.std.proofs.Common.{◌≡◌, ◌≢◌, ℕ, zero, suc, ◌⊎◌, List, [], ◌∷◌, drop, get_or, set, Option, Some, None, IfSome, IsSomeAnd, refl, sym, ap, ◌∙◌, subst}
+use Rattle.std.proofs.Common.{inl, inr, replicate}
 use Rattle.std.specs.Option.{option_map}
 use Rattle.std.proofs.lemmas.List.{get_or-set_other}
 use Rattle.btr_chunk.specs.declared.chunk.Chunk.{Chunk}
@@ -20,14 +21,17 @@ past_first [] k = refl
 past_first (x ∷ xs) k = refl
 
 -- the block that is kept in a slot
-pub kept-at : (setting : Setting) (wants : List (Option Want)) (slots : List (List ℕ)) (k : ℕ) → get_or (kept_in setting wants slots) k None ≡ option_map (block_in setting (get_or slots k [])) (get_or wants k None)
+pub kept-at : (setting : Setting) (wants : List (Option Want)) (slots : List (List ℕ)) (k : ℕ) → get_or (kept_in setting wants slots) k None
+    ≡ option_map (block_in setting (get_or slots k [])) (get_or wants k None)
 kept-at setting [] slots k = refl
 kept-at setting (w ∷ ws) slots zero = refl
-kept-at setting (w ∷ ws) slots (suc k) = kept-at setting ws (drop 1 slots) k ∙ ap (λ bytes. option_map (block_in setting bytes) (get_or ws k None)) (past_first slots k)
+kept-at setting (w ∷ ws) slots (suc k) = kept-at setting ws (drop 1 slots) k
+    ∙ ap (λ bytes. option_map (block_in setting bytes) (get_or ws k None)) (past_first slots k)
 
 module _ (P : Kept → Type 0) (setting : Setting) (wants : List (Option Want)) (slots : List (List ℕ)) where
   -- what holds of each want's block holds of all that is kept
-  pub all_kept : ((k : ℕ) (w : Want) → get_or wants k None ≡ Some w → P (block_in setting (get_or slots k []) w)) → (k : ℕ) → IfSome (get_or (kept_in setting wants slots) k None) P
+  pub all_kept : ((k : ℕ) (w : Want) → get_or wants k None ≡ Some w → P (block_in setting (get_or slots k []) w)) → (k : ℕ)
+      → IfSome (get_or (kept_in setting wants slots) k None) P
   all_kept h k = subst (λ o. IfSome o P) (sym (kept-at setting wants slots k)) (mapped (get_or wants k None) refl)
     where
       mapped : (o : Option Want) → get_or wants k None ≡ o → IfSome (option_map (block_in setting (get_or slots k [])) o) P
@@ -35,16 +39,21 @@ module _ (P : Kept → Type 0) (setting : Setting) (wants : List (Option Want)) 
       mapped (Some w) e = h k w e
 
   -- and of each
-  pub kept_one : ((k : ℕ) → IfSome (get_or (kept_in setting wants slots) k None) P) → (k : ℕ) (w : Want) → get_or wants k None ≡ Some w → P (block_in setting (get_or slots k []) w)
+  pub kept_one : ((k : ℕ) → IfSome (get_or (kept_in setting wants slots) k None) P) → (k : ℕ) (w : Want) → get_or wants k None ≡ Some w
+      → P (block_in setting (get_or slots k []) w)
   kept_one all k w e = subst (λ o. IfSome o P) (kept-at setting wants slots k ∙ ap (option_map (block_in setting (get_or slots k []))) e) (all k)
 
 -- a slot keeps the block of a want that is known to stand in it
-pub keeps_in : (setting : Setting) (wants : List (Option Want)) (slots : List (List ℕ)) (k : ℕ) (want : Want) → get_or wants k None ≡ Some want → IsSomeAnd (get_or (kept_in setting wants slots) k None) (λ kept. kept.want ≡ want)
-keeps_in setting wants slots k want e = subst (λ o. IsSomeAnd o (λ (kept : Kept). kept.want ≡ want)) (sym (kept-at setting wants slots k ∙ ap (option_map (block_in setting (get_or slots k []))) e)) refl
+pub keeps_in : (setting : Setting) (wants : List (Option Want)) (slots : List (List ℕ)) (k : ℕ) (want : Want) → get_or wants k None ≡ Some want
+    → IsSomeAnd (get_or (kept_in setting wants slots) k None) (λ kept. kept.want ≡ want)
+keeps_in setting wants slots k want e = subst (λ o. IsSomeAnd o (λ (kept : Kept). kept.want ≡ want))
+    (sym (kept-at setting wants slots k ∙ ap (option_map (block_in setting (get_or slots k []))) e)) refl
 
 -- and no other
-pub known_in : (setting : Setting) (wants : List (Option Want)) (slots : List (List ℕ)) (k : ℕ) (want : Want) → IsSomeAnd (get_or (kept_in setting wants slots) k None) (λ kept. kept.want ≡ want) → get_or wants k None ≡ Some want
-known_in setting wants slots k want h = by (get_or wants k None) (subst (λ o. IsSomeAnd o (λ (kept : Kept). kept.want ≡ want)) (kept-at setting wants slots k) h)
+pub known_in : (setting : Setting) (wants : List (Option Want)) (slots : List (List ℕ)) (k : ℕ) (want : Want)
+    → IsSomeAnd (get_or (kept_in setting wants slots) k None) (λ kept. kept.want ≡ want) → get_or wants k None ≡ Some want
+known_in setting wants slots k want h = by (get_or wants k None)
+    (subst (λ o. IsSomeAnd o (λ (kept : Kept). kept.want ≡ want)) (kept-at setting wants slots k) h)
   where
     by : (o : Option Want) → IsSomeAnd (option_map (block_in setting (get_or slots k [])) o) (λ kept. kept.want ≡ want) → o ≡ Some want
     by None h = absurd h
@@ -55,7 +64,8 @@ abbrev pub AllKept : Layout → Option (List (List ℕ)) → Setting → List (O
 AllKept layout held setting wants pool = (k : ℕ) → IfSome (get_or (kept_in setting wants pool.bytes) k None) (IsKept layout held)
 
 -- what is kept still
-pub still_kept : (layout : Layout) (held : Option (List (List ℕ))) (setting : Setting) (wants wants' : List (Option Want)) (p p' : Slots) → StillKept wants wants' p p' → AllKept layout held setting wants p → AllKept layout held setting wants' p'
+pub still_kept : (layout : Layout) (held : Option (List (List ℕ))) (setting : Setting) (wants wants' : List (Option Want)) (p p' : Slots)
+    → StillKept wants wants' p p' → AllKept layout held setting wants p → AllKept layout held setting wants' p'
 still_kept layout held setting wants wants' p p' still all = all_kept (IsKept layout held) setting wants' p'.bytes (λ k w e.
     let was = still k w e in
     subst (λ bytes. IsKept layout held (block_in setting bytes w)) (sym was.1) (kept_one (IsKept layout held) setting wants p.bytes all k w was.0))
@@ -78,7 +88,8 @@ still_forgets a b p q k still none = by (get_or b k None) refl
     by (Some w) e = let was = still k w e in let never : None ≡ Some w = sym none ∙ was.0 in cc
 
 -- what a list with one more entry has
-set_at : (ws : List (Option Want)) (n j : ℕ) (x : Option Want) (w : Want) → get_or (set ws n x) j None ≡ Some w → ((j ≡ n) × (x ≡ Some w)) ⊎ (get_or ws j None ≡ Some w)
+set_at : (ws : List (Option Want)) (n j : ℕ) (x : Option Want) (w : Want) → get_or (set ws n x) j None ≡ Some w → ((j ≡ n) × (x ≡ Some w))
+    ⊎ (get_or ws j None ≡ Some w)
 set_at [] n j x w e = inr e
 set_at (y ∷ ws) zero zero x w e = inl (refl, e)
 set_at (y ∷ ws) zero (suc j) x w e = inr e
@@ -108,7 +119,8 @@ forgotten_at (w ∷ ws) zero = refl
 forgotten_at (w ∷ ws) (suc k) = forgotten_at ws k
 
 -- a slot of which nothing is known is written
-pub still_written : (wants : List (Option Want)) (k : ℕ) (p p' : Slots) → get_or wants k None ≡ None → (written : List ℕ) × (p' ≡ with_bytes p k written) → StillKept wants wants p p'
+pub still_written : (wants : List (Option Want)) (k : ℕ) (p p' : Slots) → get_or wants k None ≡ None → (written : List ℕ)
+    × (p' ≡ with_bytes p k written) → StillKept wants wants p p'
 still_written wants k p p' none h j w e =
     let other : j ≢ k = λ same. none_is_some w (sym none ∙ ap (λ n. get_or wants n None) (sym same) ∙ e) in
     (e, ap (λ p. bytes_at p j) h.1 ∙ get_or-set_other p.bytes k j h.0 [] other)
@@ -120,19 +132,24 @@ pub still_same : (wants : List (Option Want)) (p p' : Slots) → p'.bytes ≡ p.
 still_same wants p p' same j w e = (e, ap (λ bytes. get_or bytes j []) same)
 
 -- a slot was taken and forgotten, and others were
-pub still_taken : (w0 w1 w2 w3 : List (Option Want)) (p0 p1 p2 p3 : Slots) (k : ℕ) → p1 ≡ p0 → w1 ≡ w0 → p2 ≡ with_lent p1 k → w2 ≡ set w1 k None → StillKept w2 w3 p2 p3 → StillKept w0 w3 p0 p3
+pub still_taken : (w0 w1 w2 w3 : List (Option Want)) (p0 p1 p2 p3 : Slots) (k : ℕ) → p1 ≡ p0 → w1 ≡ w0 → p2 ≡ with_lent p1 k → w2 ≡ set w1 k None
+    → StillKept w2 w3 p2 p3 → StillKept w0 w3 p0 p3
 still_taken w0 w1 w2 w3 p0 p1 p2 p3 k same known lent forgotten h =
     still_more w0 w2 w3 p0 p2 p3 (still_forgotten w0 w2 k p0 p2 (forgotten ∙ ap (λ w. set w k None) known) (ap (λ p. p.bytes) lent ∙ ap (λ p. p.bytes) same)) h
 
 -- one more is kept
-pub kept_more : (layout : Layout) (held : Option (List (List ℕ))) (setting : Setting) (wants wants' : List (Option Want)) (p : Slots) (slot : ℕ) (want : Want) → AllKept layout held setting wants p → wants' ≡ set wants slot (kept_want want) → IsKept layout held (block_in setting (bytes_at p slot) want) → AllKept layout held setting wants' p
+pub kept_more : (layout : Layout) (held : Option (List (List ℕ))) (setting : Setting) (wants wants' : List (Option Want)) (p : Slots) (slot : ℕ)
+    (want : Want) → AllKept layout held setting wants p → wants' ≡ set wants slot (kept_want want)
+    → IsKept layout held (block_in setting (bytes_at p slot) want) → AllKept layout held setting wants' p
 kept_more layout held setting wants wants' p slot want all e one = all_kept (IsKept layout held) setting wants' p.bytes (λ j w is. elim (set_at wants slot j (kept_want want) w (ap (λ ws. get_or ws j None) (sym e) ∙ is)) [
-  | inl here ↦ subst (λ k. IsKept layout held (block_in setting (bytes_at p k) w)) (sym here.0) (subst (λ w. IsKept layout held (block_in setting (bytes_at p slot) w)) (kept_is want w here.1) one)
+  | inl here ↦ subst (λ k. IsKept layout held (block_in setting (bytes_at p k) w)) (sym here.0)
+      (subst (λ w. IsKept layout held (block_in setting (bytes_at p slot) w)) (kept_is want w here.1) one)
   | inr there ↦ kept_one (IsKept layout held) setting wants p.bytes all j w there
 ])
 
 -- nothing is kept where no want is known
-pub nothing_kept : (setting : Setting) (wants : List (Option Want)) (slots : List (List ℕ)) → wants ≡ replicate 24 None → kept_in setting wants slots ≡ none_kept
+pub nothing_kept : (setting : Setting) (wants : List (Option Want)) (slots : List (List ℕ)) → wants ≡ replicate 24 None → kept_in setting wants slots
+    ≡ none_kept
 nothing_kept setting wants slots e = ap (λ ws. kept_in setting ws slots) e ∙ none_of 24 slots
   where
     none_of : (n : ℕ) (slots : List (List ℕ)) → kept_in setting (replicate n None) slots ≡ replicate n None
@@ -153,7 +170,8 @@ unfolding Serves
 serving rack store h = h
 
 -- a rack begins to serve a store that keeps nothing
-pub serves_anew : (rack : Seen) (store : Blocks) → AreOpen rack.slots store.layout.devices → HaveOwnSlots store.layout.devices → store.kept ≡ none_kept → Serves rack store
+pub serves_anew : (rack : Seen) (store : Blocks) → AreOpen rack.slots store.layout.devices → HaveOwnSlots store.layout.devices → store.kept
+    ≡ none_kept → Serves rack store
 serves_anew rack store are own none = serves_of rack store (record {
   are_open = are;
   own_slots = own;
@@ -161,13 +179,16 @@ serves_anew rack store are own none = serves_of rack store (record {
 })
 
 -- a rack that shows the same slots and images serves a store that keeps the same blocks
-pub serves_as : (old new : Seen) (store store' : Blocks) → new.slots ≡ old.slots → new.held ≡ old.held → store'.layout ≡ store.layout → store'.kept ≡ store.kept → Serves old store → Serves new store'
+pub serves_as : (old new : Seen) (store store' : Blocks) → new.slots ≡ old.slots → new.held ≡ old.held → store'.layout ≡ store.layout → store'.kept
+    ≡ store.kept → Serves old store → Serves new store'
 serves_as old new store store' slots held layout kept serves =
     let was = serving old store serves in
     serves_of new store' (record {
       are_open = subst (λ s. AreOpen s store'.layout.devices) (sym slots) (subst (λ (l : Layout). AreOpen old.slots l.devices) (sym layout) was.are_open);
       own_slots = subst (λ (l : Layout). HaveOwnSlots l.devices) (sym layout) was.own_slots;
-      kept = λ k. subst (λ l. IfSome (kept_at store' k) (IsKept l new.held)) (sym layout) (subst (λ h. IfSome (kept_at store' k) (IsKept store.layout h)) (sym held) (subst (λ ks. IfSome (get_or ks k None) (IsKept store.layout old.held)) (sym kept) (was.kept k)));
+      kept = λ k. subst (λ l. IfSome (kept_at store' k) (IsKept l new.held)) (sym layout)
+          (subst (λ h. IfSome (kept_at store' k) (IsKept store.layout h)) (sym held)
+          (subst (λ ks. IfSome (get_or ks k None) (IsKept store.layout old.held)) (sym kept) (was.kept k)));
     })
 
 -- a loan was given back
@@ -182,7 +203,8 @@ module _ (chunks : List Chunk) (devices : List Member) (setting : Setting) (w w'
   was_served serves = serving old (blocks chunks devices setting (loans_of p) (kept_in setting w p.bytes)) (subst (Serves old) (sym view) serves)
 
   -- what is known still stands
-  pub serves_still : new.slots ≡ old.slots → new.held ≡ old.held → StillKept w w' p p' → Serves old store → (loans : List (Option (List ℕ))) → Serves new (blocks chunks devices setting loans (kept_in setting w' p'.bytes))
+  pub serves_still : new.slots ≡ old.slots → new.held ≡ old.held → StillKept w w' p p' → Serves old store → (loans : List (Option (List ℕ)))
+      → Serves new (blocks chunks devices setting loans (kept_in setting w' p'.bytes))
   serves_still slots held still serves loans =
       let was = was_served serves in
       serves_of new (blocks chunks devices setting loans (kept_in setting w' p'.bytes)) (record {
@@ -192,7 +214,9 @@ module _ (chunks : List Chunk) (devices : List Member) (setting : Setting) (w w'
       })
 
   -- and one more does
-  pub serves_more : new.slots ≡ old.slots → new.held ≡ old.held → StillKept w w' p p' → Serves old store → (loans : List (Option (List ℕ))) (w'' : List (Option Want)) (k : ℕ) (want : Want) → w'' ≡ set w' k (kept_want want) → IsKept store.layout old.held (block_in setting (bytes_at p' k) want) → Serves new (blocks chunks devices setting loans (kept_in setting w'' p'.bytes))
+  pub serves_more : new.slots ≡ old.slots → new.held ≡ old.held → StillKept w w' p p' → Serves old store
+      → (loans : List (Option (List ℕ))) (w'' : List (Option Want)) (k : ℕ) (want : Want) → w'' ≡ set w' k (kept_want want)
+      → IsKept store.layout old.held (block_in setting (bytes_at p' k) want) → Serves new (blocks chunks devices setting loans (kept_in setting w'' p'.bytes))
   serves_more slots held still serves loans w'' k want e one =
       let was = serving new (blocks chunks devices setting loans (kept_in setting w' p'.bytes)) (serves_still slots held still serves loans) in
       let here : IsKept layout_is new.held (block_in setting (bytes_at p' k) want) = subst (λ h. IsKept layout_is h (block_in setting (bytes_at p' k) want)) (sym held) (subst (λ (s : Blocks). IsKept s.layout old.held (block_in setting (bytes_at p' k) want)) (sym view) one) in
@@ -206,4 +230,5 @@ module _ (chunks : List Chunk) (devices : List Member) (setting : Setting) (w w'
   pub kept_there : (k : ℕ) (want : Want) → Serves old store → get_or w k None ≡ Some want → IsKept store.layout old.held (block_in setting (bytes_at p k) want)
   kept_there k want serves known =
       let was = was_served serves in
-      subst (λ (s : Blocks). IsKept s.layout old.held (block_in setting (bytes_at p k) want)) view (kept_one (IsKept layout_is old.held) setting w p.bytes was.kept k want known)
+      subst (λ (s : Blocks). IsKept s.layout old.held (block_in setting (bytes_at p k) want)) view
+      (kept_one (IsKept layout_is old.held) setting w p.bytes was.kept k want known)

@@ -1,5 +1,6 @@
 -- Several slots that are written.
-use Rattle.std.proofs.Common.{◌≡◌, ◌≢◌, ℕ, zero, suc, Bool, true, false, List, [], ◌∷◌, get_or, set, Option, Some, None, refl, sym, ap, ◌∙◌, subst, arith, length}
+use Rattle.std.proofs.Common.{◌≡◌, ◌≢◌, ℕ, zero, suc, Bool, true, false, List, [], ◌∷◌, get_or, set, Option, Some, None, refl, sym, ap, ◌∙◌, subst, arith}
+use Rattle.std.proofs.Common.{length}
 use Rattle.std.proofs.lemmas.List.{length-set, get_or-set_other, set-get_or, set-set, get_or_default}
 use Rattle.std.proofs.lemmas.Bool.{false≢true}
 use Rattle.btr_pool.specs.Slots.{Slots, IsLive, IsFree, bytes_at, with_bytes, with_lent, with_free}
@@ -8,7 +9,8 @@ use Rattle.btr_read.specs.declared.want.Want.{Want}
 use Rattle.btr_read.specs.Writing.{OnlyWrites, OnlyWritesIn, AreApart, AreFour, StillKept, IsNoneOf}
 
 -- one of the slots was written
-pub writes_one : (old new : Slots) (k : ℕ) (ks : List ℕ) → ((j : ℕ) → IsNoneOf ks j → j ≢ k) → (written : List ℕ) × (new ≡ with_bytes old k written) → OnlyWritesIn ks old new
+pub writes_one : (old new : Slots) (k : ℕ) (ks : List ℕ) → ((j : ℕ) → IsNoneOf ks j → j ≢ k) → (written : List ℕ) × (new ≡ with_bytes old k written)
+    → OnlyWritesIn ks old new
 writes_one old new k ks among h = subst (OnlyWritesIn ks old) (sym h.1) (record {
   size = refl;
   lent = refl;
@@ -95,7 +97,8 @@ module _ (p0 : Slots) (k q s : ℕ) (live : IsLive p0 k) (free_q : IsFree p0 q) 
     }
 
     -- what is known of the other slots still stands
-    pub both_forgotten : (wants wants' : List (Option Want)) → get_or wants k None ≡ None → wants' ≡ set (set wants q None) s None → StillKept wants wants' p0 returned
+    pub both_forgotten : (wants wants' : List (Option Want)) → get_or wants k None ≡ None → wants' ≡ set (set wants q None) s None
+        → StillKept wants wants' p0 returned
     both_forgotten wants wants' forgotten e j want there =
         let now : get_or (set (set wants q None) s None) j None ≡ Some want = ap (λ ws. get_or ws j None) (sym e) ∙ there in
         let not_s : j ≢ s = λ same. some_is_set (set wants q None) s j want same now in
@@ -203,7 +206,8 @@ module _ (p0 : Slots) (k p q s : ℕ) (live : IsLive p0 k) (free_p : IsFree p0 p
         record { size = all.size; lent = all.lent; count = all.count; others = λ j ne live. all.others j (ne, tt) live }
 
     -- what is known of the other slots still stands
-    pub three_forgotten : (wants wants' : List (Option Want)) → get_or wants k None ≡ None → wants' ≡ set (set (set wants p None) q None) s None → StillKept wants wants' p0 all_returned
+    pub three_forgotten : (wants wants' : List (Option Want)) → get_or wants k None ≡ None → wants' ≡ set (set (set wants p None) q None) s None
+        → StillKept wants wants' p0 all_returned
     three_forgotten wants wants' forgotten e j want there =
         let a = not_forgotten (set (set wants p None) q None) s j want (ap (λ ws. get_or ws j None) (sym e) ∙ there) in
         let b = not_forgotten (set wants p None) q j want a.1 in

@@ -1,5 +1,6 @@
 -- Slots that are written, and ranges that can be read.
-use Rattle.std.proofs.Common.{◌≡◌, ℕ, ◌+◌, ◌<◌, ◌≤◌, Bool, true, false, cond, leb, List, [], length, get_or, Option, Some, None, refl, sym, ap, ◌∙◌, subst, arith}
+use Rattle.std.proofs.Common.{◌≡◌, ℕ, ◌+◌, ◌<◌, ◌≤◌, Bool, true, false, cond, leb, List, [], length, get_or, Option, Some, None, refl, sym, ap, ◌∙◌, subst}
+use Rattle.std.proofs.Common.{arith}
 use Rattle.std.proofs.lemmas.List.{length-set, get_or-set_other, set-get_or}
 use Rattle.std.proofs.lemmas.Bool.Decides.{nat_tests}
 use Rattle.btr_pool.specs.Slots.{Slots, IsLive, bytes_at, with_bytes}
@@ -47,14 +48,16 @@ pub record IsReadable (slots : List Slot) (range : Range) : Type 0 where
   pub slot : range.slot < length slots
   pub within : range.off + range.len ≤ len_of slots range.slot
 
-readable_if : (slots : List Slot) (off len : ℕ) (device : Device) (range : Range) (b : Bool) → leb (off + len) device.len ≡ b → IsOpen slots device → cond b (Some (range_in device.slot off len)) None ≡ Some range → IsReadable slots range
+readable_if : (slots : List Slot) (off len : ℕ) (device : Device) (range : Range) (b : Bool) → leb (off + len) device.len ≡ b → IsOpen slots device
+    → cond b (Some (range_in device.slot off len)) None ≡ Some range → IsReadable slots range
 readable_if slots off len device range true test is e =
     let same : range_in device.slot off len ≡ range = cc in
     let le : off + len ≤ device.len = grind (arith, nat_tests, test) in
     subst (IsReadable slots) same (record { slot = is.slot; within = omega (arith, le, is.len) })
 readable_if slots off len device range false test is e = cc
 
-readable_on : (slots : List Slot) (off len : ℕ) (o : Option Device) (range : Range) → ((device : Device) → o ≡ Some device → IsOpen slots device) → range_on off len o ≡ Some range → IsReadable slots range
+readable_on : (slots : List Slot) (off len : ℕ) (o : Option Device) (range : Range) → ((device : Device) → o ≡ Some device → IsOpen slots device)
+    → range_on off len o ≡ Some range → IsReadable slots range
 readable_on slots off len None range are e = cc
 readable_on slots off len (Some device) range are e = readable_if slots off len device range (leb (off + len) device.len) refl (are device refl) e
 

@@ -1,5 +1,6 @@
 -- The solutions of two pairs of equations, one after the other, solve the pair of their ends put together.
-use Rattle.std.proofs.Common.{◌≡◌, ◌≢◌, ℕ, zero, suc, ◌+◌, ◌-◌, ◌<◌, ◌≤◌, List, [], ◌∷◌, ◌++◌, length, take, drop, refl, sym, ap, ap₂, ◌∙◌, subst, arith, length-append, length-take, length-drop, bit_xor}
+use Rattle.std.proofs.Common.{◌≡◌, ◌≢◌, ℕ, zero, suc, ◌+◌, ◌-◌, ◌<◌, ◌≤◌, List, [], ◌∷◌, ◌++◌, length, take, drop, refl, sym, ap, ap₂, ◌∙◌, subst, arith}
+use Rattle.std.proofs.Common.{length-append, length-take, length-drop, bit_xor}
 use Rattle.std.proofs.lemmas.List.{take_at, drop_at, map-append, take-map, drop-map, take-append-drop, length-map}
 use Rattle.std.proofs.lemmas.List.Elements.{All-append, All-take, All-drop}
 use Rattle.std.proofs.lemmas.Simd.{length-zip2}
@@ -9,7 +10,8 @@ use Rattle.btr_parity.specs.Slices.{IsSlice, plus, scaled}
 use Rattle.btr_parity.specs.Solutions.{IsTheOne, WeighsWith}
 use Rattle.btr_pool.specs.Slots.{Slots, IsLive, bytes_at, with_bytes}
 use Rattle.btr_rack.specs.Rack.{pasted}
-use Rattle.btr_read.proofs.Pieces.{plus-append, take_on, length-slice_range, length-first, WrittenSoFar, size_now, range_now, other_now, long_enough, written_more}
+use Rattle.btr_read.proofs.Pieces.{plus-append, take_on, length-slice_range, length-first, WrittenSoFar, size_now, range_now, other_now, long_enough}
+use Rattle.btr_read.proofs.Pieces.{written_more}
 
 abbrev IsByte : ℕ → Type 0
 IsByte b = b < 256
@@ -46,16 +48,20 @@ drop-plus (suc n) (x ∷ xs) (y ∷ ys) = drop-plus n xs ys
 abbrev weighted_sum : ℕ → ℕ → List ℕ → List ℕ → List ℕ
 weighted_sum x y X Y = plus (scaled (power x) X) (scaled (power y) Y)
 
-weighted_sum-append : (x y : ℕ) (X Y X' Y' : List ℕ) → length X ≡ length Y → weighted_sum x y (X ++ X') (Y ++ Y') ≡ weighted_sum x y X Y ++ weighted_sum x y X' Y'
+weighted_sum-append : (x y : ℕ) (X Y X' Y' : List ℕ) → length X ≡ length Y → weighted_sum x y (X ++ X') (Y ++ Y') ≡ weighted_sum x y X Y
+    ++ weighted_sum x y X' Y'
 weighted_sum-append x y X Y X' Y' e =
     ap₂ plus (map-append (product (power x)) X X') (map-append (product (power y)) Y Y')
-    ∙ plus-append (scaled (power x) X) (scaled (power y) Y) (scaled (power x) X') (scaled (power y) Y') (length-map X (product (power x)) ∙ e ∙ sym (length-map Y (product (power y))))
+    ∙ plus-append (scaled (power x) X) (scaled (power y) Y) (scaled (power x) X') (scaled (power y) Y')
+    (length-map X (product (power x)) ∙ e ∙ sym (length-map Y (product (power y))))
 
 take-weighted_sum : (n x y : ℕ) (X Y : List ℕ) → take n (weighted_sum x y X Y) ≡ weighted_sum x y (take n X) (take n Y)
-take-weighted_sum n x y X Y = take-plus n (scaled (power x) X) (scaled (power y) Y) ∙ ap₂ plus (take-map (product (power x)) n X) (take-map (product (power y)) n Y)
+take-weighted_sum n x y X Y = take-plus n (scaled (power x) X) (scaled (power y) Y)
+    ∙ ap₂ plus (take-map (product (power x)) n X) (take-map (product (power y)) n Y)
 
 drop-weighted_sum : (n x y : ℕ) (X Y : List ℕ) → drop n (weighted_sum x y X Y) ≡ weighted_sum x y (drop n X) (drop n Y)
-drop-weighted_sum n x y X Y = drop-plus n (scaled (power x) X) (scaled (power y) Y) ∙ ap₂ plus (drop-map (product (power x)) n X) (drop-map (product (power y)) n Y)
+drop-weighted_sum n x y X Y = drop-plus n (scaled (power x) X) (scaled (power y) Y)
+    ∙ ap₂ plus (drop-map (product (power x)) n X) (drop-map (product (power y)) n Y)
 
 length-weighted_sum : (n x y : ℕ) (X Y : List ℕ) → length X ≡ n → length Y ≡ n → length (weighted_sum x y X Y) ≡ n
 length-weighted_sum n x y X Y ex ey =
@@ -138,20 +144,24 @@ module _ (x y k j done end : ℕ) (old now after : Slots) (live : IsLive old k) 
   first_long : end ≤ length (bytes_at old k)
   first_long = long_enough MeetsNow k done old now live h end lt (omega (arith, fits, long, size_same))
 
-  meets_next : (X : List ℕ) → IsTheOne (end - done) (WeighsWith (slice_range (bytes_at now k) done end) (slice_range (bytes_at now j) done end) x y) X → MeetsNext (h.written ++ X)
+  meets_next : (X : List ℕ) → IsTheOne (end - done) (WeighsWith (slice_range (bytes_at now k) done end) (slice_range (bytes_at now j) done end) x y) X
+      → MeetsNext (h.written ++ X)
   meets_next X one =
       let ps = bytes_at old k in
       let qs = bytes_at old j in
       let le : done ≤ end = omega (arith, lt) in
       let of_old : IsTheOne (end - done) (WeighsWith (slice_range ps done end) (slice_range qs done end) x y) X =
-      subst (λ q. IsTheOne (end - done) (WeighsWith (slice_range ps done end) (slice_range q done end) x y) X) (other_now MeetsNow k done old now live h j (λ e. apart (sym e)))
+      subst (λ q. IsTheOne (end - done) (WeighsWith (slice_range ps done end) (slice_range q done end) x y) X)
+      (other_now MeetsNow k done old now live h j (λ e. apart (sym e)))
       (subst (λ p. IsTheOne (end - done) (WeighsWith p (slice_range (bytes_at now j) done end) x y) X) (range_now MeetsNow k done old now live h end) one)
       in
       let both = solved_on done (end - done) x y (take done ps) (take done qs) (slice_range ps done end) (slice_range qs done end) h.written X (length-first ps done (omega (arith, lt, first_long))) (length-slice_range ps done end first_long) h.meets of_old in
       subst (λ n. IsTheOne n (WeighsWith (take end ps) (take end qs) x y) (h.written ++ X)) whole
       (subst (λ q. IsTheOne (done + (end - done)) (WeighsWith (take end ps) q x y) (h.written ++ X)) (sym (take_on qs done end le))
-      (subst (λ p. IsTheOne (done + (end - done)) (WeighsWith p (take done qs ++ slice_range qs done end) x y) (h.written ++ X)) (sym (take_on ps done end le)) both))
+      (subst (λ p. IsTheOne (done + (end - done)) (WeighsWith p (take done qs ++ slice_range qs done end) x y) (h.written ++ X))
+      (sym (take_on ps done end le)) both))
 
   -- those of the piece behind them too
-  pub solved_more : (X : List ℕ) → IsTheOne (end - done) (WeighsWith (slice_range (bytes_at now k) done end) (slice_range (bytes_at now j) done end) x y) X → after ≡ with_bytes now k (pasted (bytes_at now k) done X) → SolvedSoFar x y k j end old after
+  pub solved_more : (X : List ℕ) → IsTheOne (end - done) (WeighsWith (slice_range (bytes_at now k) done end) (slice_range (bytes_at now j) done end) x
+      y) X → after ≡ with_bytes now k (pasted (bytes_at now k) done X) → SolvedSoFar x y k j end old after
   solved_more X one e = written_more MeetsNow k done old now live h MeetsNext end X after (omega (arith, lt, one.slice.long)) e (meets_next X one)

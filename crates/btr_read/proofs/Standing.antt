@@ -30,7 +30,8 @@ module _ (f : Part → Bool) (p : ℕ → Bool) where
   one_of [] x h i e = absurd i
   one_of (y ∷ xs) x h i e = by (p y) refl h i (λ g j. one_of xs x g j e)
     where
-      by : (b : Bool) → p y ≡ b → list_all f (map Slice (cond b (y ∷ filter p xs) (filter p xs))) ≡ true → In x (y ∷ xs) → (list_all f (map Slice (filter p xs)) ≡ true → In x xs → f (Slice x) ≡ true) → f (Slice x) ≡ true
+      by : (b : Bool) → p y ≡ b → list_all f (map Slice (cond b (y ∷ filter p xs) (filter p xs))) ≡ true → In x (y ∷ xs)
+          → (list_all f (map Slice (filter p xs)) ≡ true → In x xs → f (Slice x) ≡ true) → f (Slice x) ≡ true
       by true q g (inl same) rest = ap (λ z. f (Slice z)) (sym same) ∙ left_of (f (Slice y)) (list_all f (map Slice (filter p xs))) g
       by true q g (inr j) rest = rest (right_of (f (Slice y)) (list_all f (map Slice (filter p xs))) g) j
       by false q g (inl same) rest = absurd (false≢true (sym q ∙ ap p same ∙ e))

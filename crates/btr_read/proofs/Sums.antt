@@ -26,7 +26,8 @@ of_none : (p : Parity) (size : ℕ) (P : List ℕ) → IsSlice size P → plus P
 of_none parity.P size P h = ap (plus P) (parity_by_folding.p_of_none size) ∙ plus-zeros P size h.long
 of_none parity.Q size P h = ap (plus P) (parity_by_folding.q_of_none size) ∙ plus-zeros P size h.long
 
-of_one_more : (p : Parity) (size k : ℕ) (ds : List (List ℕ)) (d : List ℕ) → length ds ≡ k → IsSlice size d → parity_of p size (ds ++ d ∷ []) ≡ plus (parity_of p size ds) (weighed p k d)
+of_one_more : (p : Parity) (size k : ℕ) (ds : List (List ℕ)) (d : List ℕ) → length ds ≡ k → IsSlice size d → parity_of p size (ds ++ d ∷ [])
+    ≡ plus (parity_of p size ds) (weighed p k d)
 of_one_more parity.P size k ds d e h = parity_by_folding.p_of_one_more size ds d h
 of_one_more parity.Q size k ds d e h = parity_by_folding.q_of_one_more size ds d h ∙ ap (λ n. plus (parity_q size ds) (scaled (power n) d)) e
 
@@ -67,22 +68,26 @@ module _ (images : List (List ℕ)) (t : Target) (c : Candidate) where
   more : (k : ℕ) → up_to (k + 1) ≡ up_to k ++ read_slice k ∷ []
   more k = map-range_with_len_more read_slice 0 k k (omega arith)
 
-  step : (p : Parity) (k : ℕ) (bytes bytes' d : List ℕ) → GatheredSoFar p k bytes → read_slice k ≡ d → IsSlice (size_of t) d → bytes' ≡ plus bytes (weighed p k d) → GatheredSoFar p (k + 1) bytes'
+  step : (p : Parity) (k : ℕ) (bytes bytes' d : List ℕ) → GatheredSoFar p k bytes → read_slice k ≡ d → IsSlice (size_of t) d → bytes'
+      ≡ plus bytes (weighed p k d) → GatheredSoFar p (k + 1) bytes'
   step p k bytes bytes' d h is slice e =
       let E = element images t (part_of p) in
       let grown : up_to (k + 1) ≡ up_to k ++ d ∷ [] = more k ∙ ap (λ x. up_to k ++ x ∷ []) is in
       record {
-        slices = subst (All (IsSlice (size_of t))) (sym grown) (All-append (IsSlice (size_of t)) (up_to k) (d ∷ []) h.slices (all_one (IsSlice (size_of t)) d slice));
+        slices = subst (All (IsSlice (size_of t))) (sym grown)
+            (All-append (IsSlice (size_of t)) (up_to k) (d ∷ []) h.slices (all_one (IsSlice (size_of t)) d slice));
         whole = h.whole;
         sum =
             e
             ∙ ap (λ x. plus x (weighed p k d)) h.sum
             ∙ plus_assoc E (parity_of p (size_of t) (up_to k)) (weighed p k d)
-            ∙ ap (plus E) (sym (of_one_more p (size_of t) k (up_to k) d (length-map-range_with_len read_slice 0 k) slice) ∙ ap (parity_of p (size_of t)) (sym grown));
+            ∙ ap (plus E) (sym (of_one_more p (size_of t) k (up_to k) d (length-map-range_with_len read_slice 0 k) slice)
+            ∙ ap (parity_of p (size_of t)) (sym grown));
       }
 
   -- one more slice that is read
-  pub gathered_more : (p : Parity) (k : ℕ) (bytes bytes' : List ℕ) → GatheredSoFar p k bytes → reads_slice t.at.index c k ≡ true → IsSlice (size_of t) (element images t (Slice k)) → bytes' ≡ plus bytes (weighed p k (element images t (Slice k))) → GatheredSoFar p (k + 1) bytes'
+  pub gathered_more : (p : Parity) (k : ℕ) (bytes bytes' : List ℕ) → GatheredSoFar p k bytes → reads_slice t.at.index c k ≡ true
+      → IsSlice (size_of t) (element images t (Slice k)) → bytes' ≡ plus bytes (weighed p k (element images t (Slice k))) → GatheredSoFar p (k + 1) bytes'
   gathered_more p k bytes bytes' h reads slice e = step p k bytes bytes' (element images t (Slice k)) h (is_read k reads) slice e
 
   -- one more that isn't

@@ -1,5 +1,6 @@
 -- What a loop over the candidates keeps.
-use Rattle.std.proofs.Common.{◌≡◌, ℕ, ◌+◌, ◌^◌, ◌<◌, ◌≤◌, ◌⊎◌, Bool, true, false, cond, List, [], ◌∷◌, ◌++◌, length, take, drop, get_or, slice_get, Option, Some, None, IfSome, IsSomeAnd, refl, sym, ap, ◌∙◌, subst, arith, inl, inr, length-take, length-append}
+use Rattle.std.proofs.Common.{◌≡◌, ℕ, ◌+◌, ◌^◌, ◌<◌, ◌≤◌, ◌⊎◌, Bool, true, false, cond, List, [], ◌∷◌, ◌++◌, length, take, drop, get_or, slice_get, Option}
+use Rattle.std.proofs.Common.{Some, None, IfSome, IsSomeAnd, refl, sym, ap, ◌∙◌, subst, arith, inl, inr, length-take, length-append}
 use Rattle.std.proofs.lemmas.Bool.{cases_lt}
 use Rattle.std.proofs.lemmas.List.{take_more, take_all, take-append-drop, drop_more, get_or_append_left}
 use Rattle.std.proofs.lemmas.List.Elements.{filter-append, filter_map-append}
@@ -45,7 +46,8 @@ all_last P xs y all h j d lt = elim (cases_lt j (length xs)) [
 
 module _ (images : List (List ℕ)) (t : Target) where
   pub passing-append : (cs ds : List Candidate) → passing_of images t (cs ++ ds) ≡ passing_of images t cs ++ passing_of images t ds
-  passing-append cs ds = ap (filter (passes t.setting t.want)) (filter_map-append (reading images t) cs ds) ∙ filter-append (passes t.setting t.want) (filter_map (reading images t) cs) (filter_map (reading images t) ds)
+  passing-append cs ds = ap (filter (passes t.setting t.want)) (filter_map-append (reading images t) cs ds)
+      ∙ filter-append (passes t.setting t.want) (filter_map (reading images t) cs) (filter_map (reading images t) ds)
 
   pub reading_stands : (c : Candidate) → stands t c ≡ true → reading images t c ≡ Some (value_of images t c)
   reading_stands c e = ap (λ (b : Bool). cond b (Some (value_of images t c)) None) e
@@ -57,12 +59,14 @@ module _ (images : List (List ℕ)) (t : Target) where
   one_before : (o : Option (List ℕ)) (cs : List Candidate) → List (List ℕ)
   one_before o cs = filter (passes t.setting t.want) (cons_option o (filter_map (reading images t) cs))
 
-  pub passes_first : (c : Candidate) (cs : List Candidate) (bytes : List ℕ) → reading images t c ≡ Some bytes → passes t.setting t.want bytes ≡ true → passing_of images t (c ∷ cs) ≡ bytes ∷ passing_of images t cs
+  pub passes_first : (c : Candidate) (cs : List Candidate) (bytes : List ℕ) → reading images t c ≡ Some bytes → passes t.setting t.want bytes ≡ true
+      → passing_of images t (c ∷ cs) ≡ bytes ∷ passing_of images t cs
   passes_first c cs bytes e test =
       ap (λ o. filter (passes t.setting t.want) (cons_option o (filter_map (reading images t) cs))) e
       ∙ ap (λ b. cond b (bytes ∷ passing_of images t cs) (passing_of images t cs)) test
 
-  pub differs_alone : (c : Candidate) (bytes : List ℕ) → reading images t c ≡ Some bytes → passes t.setting t.want bytes ≡ false → passing_of images t (c ∷ []) ≡ []
+  pub differs_alone : (c : Candidate) (bytes : List ℕ) → reading images t c ≡ Some bytes → passes t.setting t.want bytes ≡ false
+      → passing_of images t (c ∷ []) ≡ []
   differs_alone c bytes e test =
       ap (λ o. filter (passes t.setting t.want) (cons_option o [])) e
       ∙ ap (λ (b : Bool). cond b (bytes ∷ []) []) test
@@ -96,7 +100,8 @@ module _ (images : List (List ℕ)) (t : Target) where
   pub differs_not : (c : Candidate) → passing_of images t (c ∷ []) ≡ [] → Passes images t c → ⊥
   differs_not c none h = passes_not (reading images t c) none h
     where
-      passes_not : (o : Option (List ℕ)) → filter (passes t.setting t.want) (cons_option o []) ≡ [] → IsSomeAnd o (λ bytes. passes t.setting t.want bytes ≡ true) → ⊥
+      passes_not : (o : Option (List ℕ)) → filter (passes t.setting t.want) (cons_option o []) ≡ []
+          → IsSomeAnd o (λ bytes. passes t.setting t.want bytes ≡ true) → ⊥
       passes_not None e h = absurd h
       passes_not (Some bytes) e h =
           let first : bytes ∷ [] ≡ [] = sym (ap (λ b. cond b (bytes ∷ []) []) h) ∙ e in
@@ -117,13 +122,15 @@ at_place cs j k c d is le lt =
     let same : j ≡ k = omega (arith, le, lt) in
     ap (λ n. get_or cs n d) same ∙ get_or_from_slice_get cs k c d is
 
-take_one_more : (images : List (List ℕ)) (t : Target) (cs : List Candidate) (k : ℕ) (c : Candidate) → slice_get cs k ≡ Some c → k < length cs → passing_of images t (take (k + 1) cs) ≡ passing_of images t (take k cs) ++ passing_of images t (c ∷ [])
+take_one_more : (images : List (List ℕ)) (t : Target) (cs : List Candidate) (k : ℕ) (c : Candidate) → slice_get cs k ≡ Some c → k < length cs
+    → passing_of images t (take (k + 1) cs) ≡ passing_of images t (take k cs) ++ passing_of images t (c ∷ [])
 take_one_more images t cs k c is lt =
     ap (passing_of images t) (take_more cs k c lt)
     ∙ passing-append images t (take k cs) (get_or cs k c ∷ [])
     ∙ ap (λ x. passing_of images t (take k cs) ++ passing_of images t (x ∷ [])) (get_or_from_slice_get cs k c c is)
 
-cause_calm : (t : Target) (before now after : Seen) (failed : Option ℕ) → CauseSoFar t before now failed → NoneFailed now.account after.account → CauseSoFar t before after failed
+cause_calm : (t : Target) (before now after : Seen) (failed : Option ℕ) → CauseSoFar t before now failed → NoneFailed now.account after.account
+    → CauseSoFar t before after failed
 cause_calm t before now after None h calm = none_more before.account now.account after.account h calm
 cause_calm t before now after (Some s) h calm = (
   h.0,
@@ -135,7 +142,9 @@ cause_calm t before now after (Some s) h calm = (
 )
 
 -- one more candidate, which stands and doesn't pass, or doesn't stand
-pub tried_calm : (t : Target) (before now after : Seen) (failed : Option ℕ) (k : ℕ) (c : Candidate) → TriedSoFar t before now failed k → slice_get (candidates t) k ≡ Some c → k < length (candidates t) → NoneFailed now.account after.account → ((images : List (List ℕ)) → before.held ≡ Some images → passing_of images t (c ∷ []) ≡ []) → TriedSoFar t before after failed (k + 1)
+pub tried_calm : (t : Target) (before now after : Seen) (failed : Option ℕ) (k : ℕ) (c : Candidate) → TriedSoFar t before now failed k
+    → slice_get (candidates t) k ≡ Some c → k < length (candidates t) → NoneFailed now.account after.account
+    → ((images : List (List ℕ)) → before.held ≡ Some images → passing_of images t (c ∷ []) ≡ []) → TriedSoFar t before after failed (k + 1)
 tried_calm t before now after failed k c h is lt calm none = record {
   later = omega (arith, h.later, calm.faults);
   cause = cause_calm t before now after failed h.cause calm;
@@ -153,7 +162,9 @@ tried_calm t before now after failed k c h is lt calm none = record {
 }
 
 -- one more candidate, of which a read failed
-pub tried_failed : (t : Target) (before now after : Seen) (failed : Option ℕ) (k s : ℕ) (c : Candidate) → TriedSoFar t before now failed k → slice_get (candidates t) k ≡ Some c → k < length (candidates t) → k + 1 < 2 ^ 64 → now.sure ≡ before.sure → stands t c ≡ true → IsMissed t c s now after → TriedSoFar t before after (Some s) (k + 1)
+pub tried_failed : (t : Target) (before now after : Seen) (failed : Option ℕ) (k s : ℕ) (c : Candidate) → TriedSoFar t before now failed k
+    → slice_get (candidates t) k ≡ Some c → k < length (candidates t) → k + 1 < 2 ^ 64 → now.sure ≡ before.sure → stands t c ≡ true
+    → IsMissed t c s now after → TriedSoFar t before after (Some s) (k + 1)
 tried_failed t before now after failed k s c h is lt short sure standing fault =
     let m : Range = fault.0 in
     let one : OneFailed m now.account after.account = fault.1.one in
@@ -168,7 +179,8 @@ tried_failed t before now after failed k s c h is lt short sure standing fault =
         omega (arith, one.fresh),
         fault.1.read,
       );
-      only = subst (All (λ missed. Any (IsOf t missed) (candidates t))) (sym one.missed) (all_last (λ missed. Any (IsOf t missed) (candidates t)) now.account.missed m h.only (k, c, lt, get_or_from_slice_get (candidates t) k c c is, here));
+      only = subst (All (λ missed. Any (IsOf t missed) (candidates t))) (sym one.missed)
+          (all_last (λ missed. Any (IsOf t missed) (candidates t)) now.account.missed m h.only (k, c, lt, get_or_from_slice_get (candidates t) k c c is, here));
       enough = λ images e.
           let more = ap length (take_one_more images t (candidates t) k c is lt) in
           let parts = length-append (passing_of images t (take k (candidates t))) (passing_of images t (c ∷ [])) in
@@ -179,12 +191,15 @@ tried_failed t before now after failed k s c h is lt short sure standing fault =
           omega (arith, more, parts, single, all, taken, so_far, one.fresh, short);
       each = λ images e j d below p. subst (Any (λ missed. IsOf t missed (get_or (candidates t) j d))) (sym one.missed) (elim (cases_lt j k) [
         | inl earlier ↦ any_before (λ missed. IsOf t missed (get_or (candidates t) j d)) now.account.missed (m ∷ []) (h.each images e j d earlier p)
-        | inr there ↦ any_last (λ missed. IsOf t missed (get_or (candidates t) j d)) now.account.missed m (subst (IsOf t m) (sym (at_place (candidates t) j k c d is there below)) here)
+        | inr there ↦ any_last (λ missed. IsOf t missed (get_or (candidates t) j d)) now.account.missed m
+            (subst (IsOf t m) (sym (at_place (candidates t) j k c d is there below)) here)
       ]);
     }
 
 -- a read failed that isn't of the next candidate
-pub tried_missed : (t : Target) (before now after : Seen) (failed : Option ℕ) (k s : ℕ) (m : Range) → TriedSoFar t before now failed k → k < 2 ^ 64 → now.sure ≡ before.sure → Any (λ c. (stands t c ≡ true) × IsOf t m c) (candidates t) → ReadFailed m now after → m.slot ≡ s → TriedSoFar t before after (Some s) k
+pub tried_missed : (t : Target) (before now after : Seen) (failed : Option ℕ) (k s : ℕ) (m : Range) → TriedSoFar t before now failed k → k < 2 ^ 64
+    → now.sure ≡ before.sure → Any (λ c. (stands t c ≡ true) × IsOf t m c) (candidates t) → ReadFailed m now after → m.slot ≡ s
+    → TriedSoFar t before after (Some s) k
 tried_missed t before now after failed k s m h short sure of fault slot =
     let one : OneFailed m now.account after.account = fault.one in
     let some : Any (IsOf t m) (candidates t) = (of.0, of.1, of.2, of.3, of.4.1) in
@@ -198,17 +213,20 @@ tried_missed t before now after failed k s m h short sure of fault slot =
         omega (arith, one.fresh),
         fault.read,
       );
-      only = subst (All (λ missed. Any (IsOf t missed) (candidates t))) (sym one.missed) (all_last (λ missed. Any (IsOf t missed) (candidates t)) now.account.missed m h.only some);
+      only = subst (All (λ missed. Any (IsOf t missed) (candidates t))) (sym one.missed)
+          (all_last (λ missed. Any (IsOf t missed) (candidates t)) now.account.missed m h.only some);
       enough = λ images e.
           let all = at_most_all images t (take k (candidates t)) in
           let taken = length-take k (candidates t) in
           let so_far = h.enough images e in
           omega (arith, all, taken, so_far, one.fresh, short);
-      each = λ images e j d below p. subst (Any (λ missed. IsOf t missed (get_or (candidates t) j d))) (sym one.missed) (any_before (λ missed. IsOf t missed (get_or (candidates t) j d)) now.account.missed (m ∷ []) (h.each images e j d below p));
+      each = λ images e j d below p. subst (Any (λ missed. IsOf t missed (get_or (candidates t) j d))) (sym one.missed)
+          (any_before (λ missed. IsOf t missed (get_or (candidates t) j d)) now.account.missed (m ∷ []) (h.each images e j d below p));
     }
 
 -- all were tried
-pub all_lost : (t : Target) (before now : Seen) (k : ℕ) → before.account.fresh ≡ 0 → length (candidates t) ≤ k → TriedSoFar t before now None k → NoneFailed before.account now.account × IfSome before.held (λ images. slice_get (passing images t) 0 ≡ None)
+pub all_lost : (t : Target) (before now : Seen) (k : ℕ) → before.account.fresh ≡ 0 → length (candidates t) ≤ k → TriedSoFar t before now None k
+    → NoneFailed before.account now.account × IfSome before.held (λ images. slice_get (passing images t) 0 ≡ None)
 all_lost t before now k fresh le h = (
   h.cause,
   told before.held (λ images. slice_get (passing images t) 0 ≡ None) (λ images e.
@@ -233,15 +251,18 @@ all_unread t before now k s le h = record {
   some = h.cause.4;
   enough = told before.held (λ images. length (passing images t) ≤ now.account.fresh) (λ images e.
       subst (λ cs. length (passing_of images t cs) ≤ now.account.fresh) (take_all k (candidates t) le) (h.enough images e));
-  each = told before.held (λ images. All (λ candidate. Passes images t candidate → Any (λ missed. IsOf t missed candidate) now.account.missed) (candidates t)) (λ images e j d lt p. h.each images e j d (omega (arith, lt, le)) p);
+  each = told before.held (λ images. All (λ candidate. Passes images t candidate → Any (λ missed. IsOf t missed candidate) now.account.missed)
+      (candidates t)) (λ images e j d lt p. h.each images e j d (omega (arith, lt, le)) p);
 }
 
-pub all_ended : (t : Target) (before now : Seen) (failed : Option ℕ) (k : ℕ) (slot : List ℕ) → before.account.fresh ≡ 0 → length (candidates t) ≤ k → TriedSoFar t before now failed k → FitsOutcome t before now slot (ended_outcome failed)
+pub all_ended : (t : Target) (before now : Seen) (failed : Option ℕ) (k : ℕ) (slot : List ℕ) → before.account.fresh ≡ 0 → length (candidates t) ≤ k
+    → TriedSoFar t before now failed k → FitsOutcome t before now slot (ended_outcome failed)
 all_ended t before now None k slot fresh le h = all_lost t before now k fresh le h
 all_ended t before now (Some s) k slot fresh le h = all_unread t before now k s le h
 
 -- no more reads failed
-pub tried_still : (t : Target) (before now after : Seen) (failed : Option ℕ) (k : ℕ) → TriedSoFar t before now failed k → NoneFailed now.account after.account → TriedSoFar t before after failed k
+pub tried_still : (t : Target) (before now after : Seen) (failed : Option ℕ) (k : ℕ) → TriedSoFar t before now failed k
+    → NoneFailed now.account after.account → TriedSoFar t before after failed k
 tried_still t before now after failed k h calm = record {
   later = omega (arith, h.later, calm.faults);
   cause = cause_calm t before now after failed h.cause calm;
@@ -254,7 +275,9 @@ tried_still t before now after failed k h calm = record {
 pub began_on : {before a b : Seen} → OnlyReads a b → BeganAt before a → BeganAt before b
 began_on reads is = record { fresh = is.fresh; held = same_held reads ∙ is.held; sure = same_sure reads ∙ is.sure }
 
-split_at : (images : List (List ℕ)) (t : Target) (k : ℕ) (c : Candidate) (bytes : List ℕ) → slice_get (candidates t) k ≡ Some c → k < length (candidates t) → reading images t c ≡ Some bytes → passes t.setting t.want bytes ≡ true → passing images t ≡ passing_of images t (take k (candidates t)) ++ bytes ∷ passing_of images t (drop (k + 1) (candidates t))
+split_at : (images : List (List ℕ)) (t : Target) (k : ℕ) (c : Candidate) (bytes : List ℕ) → slice_get (candidates t) k ≡ Some c
+    → k < length (candidates t) → reading images t c ≡ Some bytes → passes t.setting t.want bytes ≡ true → passing images t
+    ≡ passing_of images t (take k (candidates t)) ++ bytes ∷ passing_of images t (drop (k + 1) (candidates t))
 split_at images t k c bytes is lt reads test =
     let cs = candidates t in
     let rest : drop k cs ≡ c ∷ drop (k + 1) cs = drop_more cs k c lt ∙ ap (λ x. x ∷ drop (k + 1) cs) (get_or_from_slice_get cs k c c is) in
@@ -267,7 +290,10 @@ first_of [] bytes ys e = refl
 first_of (x ∷ xs) bytes ys e = absurd (omega (arith, e))
 
 -- a candidate at any place passes after a read that failed
-pub later_passes : (t : Target) (before now after : Seen) (s k m : ℕ) (c : Candidate) (slot : List ℕ) → TriedSoFar t before now (Some s) k → slice_get (candidates t) m ≡ Some c → m < length (candidates t) → NoneFailed now.account after.account → stands t c ≡ true → passes t.setting t.want (take (size_of t) slot) ≡ true → ((images : List (List ℕ)) → before.held ≡ Some images → value_of images t c ≡ take (size_of t) slot) → FitsOutcome t before after slot outcome.Later
+pub later_passes : (t : Target) (before now after : Seen) (s k m : ℕ) (c : Candidate) (slot : List ℕ) → TriedSoFar t before now (Some s) k
+    → slice_get (candidates t) m ≡ Some c → m < length (candidates t) → NoneFailed now.account after.account → stands t c ≡ true
+    → passes t.setting t.want (take (size_of t) slot) ≡ true
+    → ((images : List (List ℕ)) → before.held ≡ Some images → value_of images t c ≡ take (size_of t) slot) → FitsOutcome t before after slot outcome.Later
 later_passes t before now after s k m c slot h is lt calm standing test value =
     let bytes : List ℕ = take (size_of t) slot in
     let cause = cause_calm t before now after (Some s) h.cause calm in
@@ -280,10 +306,19 @@ later_passes t before now after s k m c slot h is lt calm standing test value =
           let before_it = passing_of images t (take m (candidates t)) in
           let behind = passing_of images t (drop (m + 1) (candidates t)) in
           let split = split_at images t m c bytes is lt (reading_stands images t c standing ∙ ap Some (value images e)) test in
-          subst (λ xs. Contains xs bytes) (sym split) (length before_it, omega (arith, length-append before_it (bytes ∷ behind)), get_or-append_seam before_it bytes behind bytes));
+          subst (λ xs. Contains xs bytes) (sym split) (
+            length before_it,
+            omega (arith, length-append before_it (bytes ∷ behind)),
+            get_or-append_seam
+                before_it bytes behind bytes,
+          ));
     }
 
-pub one_passes : (t : Target) (before now after : Seen) (failed : Option ℕ) (k : ℕ) (c : Candidate) (slot : List ℕ) → before.account.fresh ≡ 0 → TriedSoFar t before now failed k → slice_get (candidates t) k ≡ Some c → k < length (candidates t) → NoneFailed now.account after.account → stands t c ≡ true → passes t.setting t.want (take (size_of t) slot) ≡ true → ((images : List (List ℕ)) → before.held ≡ Some images → value_of images t c ≡ take (size_of t) slot) → FitsOutcome t before after slot (passed_outcome failed)
+pub one_passes : (t : Target) (before now after : Seen) (failed : Option ℕ) (k : ℕ) (c : Candidate) (slot : List ℕ) → before.account.fresh ≡ 0
+    → TriedSoFar t before now failed k → slice_get (candidates t) k ≡ Some c → k < length (candidates t) → NoneFailed now.account after.account
+    → stands t c ≡ true → passes t.setting t.want (take (size_of t) slot) ≡ true
+    → ((images : List (List ℕ)) → before.held ≡ Some images → value_of images t c ≡ take (size_of t) slot)
+    → FitsOutcome t before after slot (passed_outcome failed)
 one_passes t before now after None k c slot fresh h is lt calm standing test value =
     let bytes : List ℕ = take (size_of t) slot in
     record {
@@ -292,9 +327,12 @@ one_passes t before now after None k c slot fresh h is lt calm standing test val
       first = told before.held (λ images. slice_get (passing images t) 0 ≡ Some bytes) (λ images e.
           let split = split_at images t k c bytes is lt (reading_stands images t c standing ∙ ap Some (value images e)) test in
           let so_far = h.enough images e in
-          subst (λ xs. slice_get xs 0 ≡ Some bytes) (sym split) (first_of (passing_of images t (take k (candidates t))) bytes (passing_of images t (drop (k + 1) (candidates t))) (omega (arith, so_far, h.cause.fresh, fresh))));
+          subst (λ xs. slice_get xs 0 ≡ Some bytes) (sym split)
+          (first_of (passing_of images t (take k (candidates t))) bytes (passing_of images t (drop (k + 1) (candidates t)))
+          (omega (arith, so_far, h.cause.fresh, fresh))));
     }
-one_passes t before now after (Some s) k c slot fresh h is lt calm standing test value = later_passes t before now after s k k c slot h is lt calm standing test value
+one_passes t before now after (Some s) k c slot fresh h is lt calm standing test value = later_passes t before now after s k k c slot h is lt calm
+    standing test value
 
 -- ---- what is accepted, where all candidates are read
 
@@ -306,19 +344,22 @@ module _ (images : List (List ℕ)) (t : Target) where
   module _ (k : ℕ) (c : Candidate) (is : slice_get (candidates t) k ≡ Some c) (lt : k < length (candidates t)) (standing : stands t c ≡ true) (so_far : passing_of images t (take k (candidates t)) ≡ []) where
     -- one more that doesn't pass
     pub none_then : passes t.setting t.want (value_of images t c) ≡ false → passing_of images t (take (k + 1) (candidates t)) ≡ []
-    none_then test = take_one_more images t (candidates t) k c is lt ∙ ap (λ xs. xs ++ passing_of images t (c ∷ [])) so_far ∙ differs_alone images t c (value_of images t c) (reading_stands images t c standing) test
+    none_then test = take_one_more images t (candidates t) k c is lt ∙ ap (λ xs. xs ++ passing_of images t (c ∷ [])) so_far
+        ∙ differs_alone images t c (value_of images t c) (reading_stands images t c standing) test
 
     -- the first that passes
     pub first_then : passes t.setting t.want (value_of images t c) ≡ true → slice_get (passing images t) 0 ≡ Some (value_of images t c)
     first_then test =
         let behind = passing_of images t (drop (k + 1) (candidates t)) in
-        ap (λ xs. slice_get xs 0) (split_at images t k c (value_of images t c) is lt (reading_stands images t c standing) test ∙ ap (λ xs. xs ++ value_of images t c ∷ behind) so_far)
+        ap (λ xs. slice_get xs 0) (split_at images t k c (value_of images t c) is lt (reading_stands images t c standing) test
+        ∙ ap (λ xs. xs ++ value_of images t c ∷ behind) so_far)
 
   -- none of them passes
   pub none_of_all : (k : ℕ) → length (candidates t) ≤ k → passing_of images t (take k (candidates t)) ≡ [] → passing images t ≡ []
   none_of_all k le none = ap (passing_of images t) (sym (take_all k (candidates t) le)) ∙ none
 
-  fails_in : (cs : List Candidate) (c : Candidate) → passing_of images t cs ≡ [] → In c cs → stands t c ≡ true → passes t.setting t.want (value_of images t c) ≡ false
+  fails_in : (cs : List Candidate) (c : Candidate) → passing_of images t cs ≡ [] → In c cs → stands t c ≡ true
+      → passes t.setting t.want (value_of images t c) ≡ false
   fails_in [] c none i standing = absurd i
   fails_in (d ∷ cs) c none i standing =
       let parts = nothing_left (passing_of images t (d ∷ [])) (passing_of images t cs) (sym (passing-append images t (d ∷ []) cs) ∙ none) in
@@ -328,9 +369,11 @@ module _ (images : List (List ℕ)) (t : Target) where
       here true test none standing = let one = sym (passes_first images t c [] (value_of images t c) (reading_stands images t c standing) test) ∙ none in cc
       here false test none standing = refl
 
-      by : (d ≡ c) ⊎ In c cs → passing_of images t (d ∷ []) ≡ [] → (In c cs → stands t c ≡ true → passes t.setting t.want (value_of images t c) ≡ false) → passes t.setting t.want (value_of images t c) ≡ false
+      by : (d ≡ c) ⊎ In c cs → passing_of images t (d ∷ []) ≡ []
+          → (In c cs → stands t c ≡ true → passes t.setting t.want (value_of images t c) ≡ false) → passes t.setting t.want (value_of images t c) ≡ false
       by (inl same) none rest = here (passes t.setting t.want (value_of images t c)) refl (subst (λ e. passing_of images t (e ∷ []) ≡ []) same none) standing
       by (inr j) none rest = rest j standing
 
-  pub fails_where_none : (c : Candidate) → passing images t ≡ [] → In c (candidates t) → stands t c ≡ true → passes t.setting t.want (value_of images t c) ≡ false
+  pub fails_where_none : (c : Candidate) → passing images t ≡ [] → In c (candidates t) → stands t c ≡ true
+      → passes t.setting t.want (value_of images t c) ≡ false
   fails_where_none c none i standing = fails_in (candidates t) c none i standing

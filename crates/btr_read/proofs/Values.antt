@@ -1,5 +1,6 @@
 -- What the value of a candidate hangs on.
-use Rattle.std.proofs.Common.{◌≡◌, ◌≢◌, ℕ, ◌-◌, ◌<◌, ◌≤◌, Bool, true, false, cond, ◌&&◌, List, [], ◌∷◌, length, get_or, set, Option, Some, None, refl, sym, ap, ◌∙◌, subst, inl, inr, arith}
+use Rattle.std.proofs.Common.{◌≡◌, ◌≢◌, ℕ, ◌-◌, ◌<◌, ◌≤◌, Bool, true, false, cond, ◌&&◌, List, [], ◌∷◌, length, get_or, set, Option, Some, None, refl, sym, ap}
+use Rattle.std.proofs.Common.{◌∙◌, subst, inl, inr, arith}
 use Rattle.std.proofs.lemmas.Bool.{cases_eq}
 use Rattle.std.proofs.lemmas.List.{same_lists, length-set, get_or-set_same, get_or-set_other}
 use Rattle.std.specs.List.{All, Contains, filter_map, cons_option, list_any}
@@ -42,7 +43,8 @@ module _ (images : List (List ℕ)) (t : Target) (c : Candidate) (whole : AreWho
       let below : k < slice_count t = omega (arith, lt, length-rs images t c) in
       subst (IsSlice (size_of t)) (sym (at_slice images t c k d below)) (by (reads_slice t.at.index c k) refl below)
     where
-      by : (b : Bool) → reads_slice t.at.index c k ≡ b → k < slice_count t → IsSlice (size_of t) (cond (reads_slice t.at.index c k) (element images t (Slice k)) (zeros (size_of t)))
+      by : (b : Bool) → reads_slice t.at.index c k ≡ b → k < slice_count t
+          → IsSlice (size_of t) (cond (reads_slice t.at.index c k) (element images t (Slice k)) (zeros (size_of t)))
       by true e below = subst (IsSlice (size_of t)) (sym (is_read images t c k e)) (part_whole (Slice k) (slice_in (slice_count t) t.at.index c k below e))
       by false e below = subst (IsSlice (size_of t)) (sym (isnt_read images t c k e)) (zeros_slice (size_of t))
 
@@ -58,7 +60,8 @@ module _ (images : List (List ℕ)) (t : Target) (c : Candidate) (whole : AreWho
   parity_whole parity.Q = weighted_slice (size_of t) 0 (read_slices images t c) rows_whole
 
   left_whole : (p : Parity) → Uses p c → IsSlice (size_of t) (left p)
-  left_whole p uses = plus_slice (size_of t) (element images t (part_of p)) (parity_of p (size_of t) (read_slices images t c)) (part_whole (part_of p) (parity_in (slice_count t) t.at.index p c uses)) (parity_whole p)
+  left_whole p uses = plus_slice (size_of t) (element images t (part_of p)) (parity_of p (size_of t) (read_slices images t c))
+      (part_whole (part_of p) (parity_in (slice_count t) t.at.index p c uses)) (parity_whole p)
 
 -- a slice of a row with P and Q is one of 62
 below_62 : (t : Target) (i : ℕ) → IsTarget t.setting t.chunk t.at → t.chunk.profile ≡ Raid6 → i < slice_count t → i ≤ 62
@@ -84,7 +87,8 @@ value_is_the_one images t (ByBoth j) is rebuilt whole =
     let q = gathered images t (ByBoth j) whole parity.Q tt in
     let ne : t.at.index ≢ j = λ e. rebuilt.2 (sym e) in
     let pair = pair_is_one (size_of t) t.at.index j S W (below_62 t t.at.index is rebuilt.0 is.position.index) (below_62 t j is rebuilt.0 rebuilt.1) ne (left_whole images t (ByBoth j) whole parity.P tt) (left_whole images t (ByBoth j) whole parity.Q tt) in
-    subst (IsTheOne (size_of t) (Solves images t (ByBoth j))) (sym (by_both images t j S W pair.0 is.position.index rebuilt.1 ne p q pair.1)) (one_by_both images t j S W pair.0 is.position.index rebuilt.1 ne p q pair.1)
+    subst (IsTheOne (size_of t) (Solves images t (ByBoth j))) (sym (by_both images t j S W pair.0 is.position.index rebuilt.1 ne p q pair.1))
+    (one_by_both images t j S W pair.0 is.position.index rebuilt.1 ne p q pair.1)
 
 -- ---- the ranges
 
@@ -101,7 +105,8 @@ range_in t (q ∷ ps) part m (inl same) e =
 range_in t (q ∷ ps) part m (inr i) e = in_more m (range_of t q) (filter_map (range_of t) ps) (range_in t ps part m i e)
 
 -- lists that agree but for one place are the same once that place is set
-same_set : (xs ys : List (List ℕ)) (i : ℕ) (X : List ℕ) → length xs ≡ length ys → ((s : ℕ) (d : List ℕ) → s < length xs → s ≢ i → get_or xs s d ≡ get_or ys s d) → set xs i X ≡ set ys i X
+same_set : (xs ys : List (List ℕ)) (i : ℕ) (X : List ℕ) → length xs ≡ length ys
+    → ((s : ℕ) (d : List ℕ) → s < length xs → s ≢ i → get_or xs s d ≡ get_or ys s d) → set xs i X ≡ set ys i X
 same_set xs ys i X len h = same_lists (set xs i X) (set ys i X) (length-set xs i X ∙ len ∙ sym (length-set ys i X)) (λ s d below.
     let within : s < length xs = omega (arith, below, length-set xs i X) in
     let within' : s < length ys = omega (arith, within, len) in
@@ -117,7 +122,8 @@ module _ (images others : List (List ℕ)) (t : Target) (c : Candidate) (agree :
   same_part : (part : Part) → In part (parts_read (slice_count t) t.at.index c) → element images t part ≡ element others t part
   same_part part i = by (range_of t part) refl
     where
-      by : (o : Option Range) → range_of t part ≡ o → option_map_or (λ range. bytes_of images range.slot range.off range.len) o [] ≡ option_map_or (λ range. bytes_of others range.slot range.off range.len) o []
+      by : (o : Option Range) → range_of t part ≡ o → option_map_or (λ range. bytes_of images range.slot range.off range.len) o []
+          ≡ option_map_or (λ range. bytes_of others range.slot range.off range.len) o []
       by None e = refl
       by (Some m) e = agree m (at_in m (ranges_of t c) (range_in t (parts_read (slice_count t) t.at.index c) part m i e))
 
@@ -125,16 +131,19 @@ module _ (images others : List (List ℕ)) (t : Target) (c : Candidate) (agree :
   even = length-slices images t c ∙ sym (length-slices others t c)
 
   -- slices that are read are the same
-  same_slice : (s : ℕ) (d : List ℕ) → s < length (slices images t) → reads_slice t.at.index c s ≡ true → get_or (slices images t) s d ≡ get_or (slices others t) s d
+  same_slice : (s : ℕ) (d : List ℕ) → s < length (slices images t) → reads_slice t.at.index c s ≡ true → get_or (slices images t) s d
+      ≡ get_or (slices others t) s d
   same_slice s d lt reads =
       let below : s < slice_count t = omega (arith, lt, length-slices images t c) in
       at_element images t c s d below ∙ same_part (Slice s) (slice_in (slice_count t) t.at.index c s below reads) ∙ sym (at_element others t c s d below)
 
   -- so are all with others in the places of those that aren't
-  same_with_one : ((s : ℕ) → s ≢ t.at.index → reads_slice t.at.index c s ≡ true) → (X : List ℕ) → set (slices images t) t.at.index X ≡ set (slices others t) t.at.index X
+  same_with_one : ((s : ℕ) → s ≢ t.at.index → reads_slice t.at.index c s ≡ true) → (X : List ℕ) → set (slices images t) t.at.index X
+      ≡ set (slices others t) t.at.index X
   same_with_one reads X = same_set (slices images t) (slices others t) t.at.index X even (λ s d lt ne. same_slice s d lt (reads s ne))
 
-  same_with_two : (j : ℕ) → ((s : ℕ) → s ≢ t.at.index → s ≢ j → reads_slice t.at.index c s ≡ true) → (X Y : List ℕ) → set (set (slices images t) j Y) t.at.index X ≡ set (set (slices others t) j Y) t.at.index X
+  same_with_two : (j : ℕ) → ((s : ℕ) → s ≢ t.at.index → s ≢ j → reads_slice t.at.index c s ≡ true) → (X Y : List ℕ)
+      → set (set (slices images t) j Y) t.at.index X ≡ set (set (slices others t) j Y) t.at.index X
   same_with_two j reads X Y =
       let mine = set (slices images t) j Y in
       let theirs = set (slices others t) j Y in
@@ -144,8 +153,10 @@ module _ (images others : List (List ℕ)) (t : Target) (c : Candidate) (agree :
         | inl e ↦
             let at : j < length (slices images t) = omega (arith, e, within) in
             let at' : j < length (slices others t) = omega (arith, at, even) in
-            ap (λ n. get_or mine n d) e ∙ get_or-set_same (slices images t) j Y d at ∙ sym (ap (λ n. get_or theirs n d) e ∙ get_or-set_same (slices others t) j Y d at')
-        | inr ne_j ↦ get_or-set_other (slices images t) j s Y d ne_j ∙ same_slice s d within (reads s ne ne_j) ∙ sym (get_or-set_other (slices others t) j s Y d ne_j)
+            ap (λ n. get_or mine n d) e ∙ get_or-set_same (slices images t) j Y d at
+            ∙ sym (ap (λ n. get_or theirs n d) e ∙ get_or-set_same (slices others t) j Y d at')
+        | inr ne_j ↦ get_or-set_other (slices images t) j s Y d ne_j ∙ same_slice s d within (reads s ne ne_j)
+            ∙ sym (get_or-set_other (slices others t) j s Y d ne_j)
       ])
 
 pub value_by_ranges : ValueByRanges

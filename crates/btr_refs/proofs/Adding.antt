@@ -1,5 +1,6 @@
 -- Findings that are added to a set, some after others.
-use Rattle.std.proofs.Common.{◌≡◌, ℕ, ◌+◌, ◌<◌, Bool, true, false, ◌||◌, List, [], ◌∷◌, ◌++◌, length, take, get_or, filter_map, flat_map, Option, Some, None, Result, Ok, Err, OnOk, refl, sym, ap, ◌∙◌}
+use Rattle.std.proofs.Common.{◌≡◌, ℕ, ◌+◌, ◌<◌, Bool, true, false, ◌||◌, List, [], ◌∷◌, ◌++◌, length, take, get_or, filter_map, flat_map, Option, Some, None}
+use Rattle.std.proofs.Common.{Result, Ok, Err, OnOk, refl, sym, ap, ◌∙◌}
 use Rattle.std.proofs.lemmas.Grind.{flat_map-append}
 use Rattle.std.proofs.lemmas.List.{take_more, append-nil}
 use Rattle.std.proofs.lemmas.List.Elements.{filter_map-append}
@@ -53,16 +54,20 @@ module _ {X : Type 0} (rule : X → Option Finding) (xs : List X) where
   one_rule (Some finding) = refl
 
   -- a rule's findings on some things, one thing more
-  pub adds_more : (i : ℕ) (d : X) (a b c : FoundSet) → i < length xs → Adds (filter_map rule (take i xs)) a b → Adds (option_to_list (rule (get_or xs i d))) b c → Adds (filter_map rule (take (i + 1) xs)) a c
+  pub adds_more : (i : ℕ) (d : X) (a b c : FoundSet) → i < length xs → Adds (filter_map rule (take i xs)) a b
+      → Adds (option_to_list (rule (get_or xs i d))) b c → Adds (filter_map rule (take (i + 1) xs)) a c
   adds_more i d a b c below before here =
       adds_as (filter_map rule (take i xs) ++ option_to_list (rule (get_or xs i d))) (filter_map rule (take (i + 1) xs)) a c
-      (sym (ap (filter_map rule) (take_more xs i d below) ∙ filter_map-append rule (take i xs) (get_or xs i d ∷ []) ∙ ap (λ l. filter_map rule (take i xs) ++ l) (one_rule (rule (get_or xs i d)))))
+      (sym (ap (filter_map rule) (take_more xs i d below) ∙ filter_map-append rule (take i xs) (get_or xs i d ∷ [])
+      ∙ ap (λ l. filter_map rule (take i xs) ++ l) (one_rule (rule (get_or xs i d)))))
       (adds_then (filter_map rule (take i xs)) (option_to_list (rule (get_or xs i d))) a b c before here)
 
 module _ {X : Type 0} (rule : X → List Finding) (xs : List X) where
   -- the same where a thing may have several
-  pub adds_more_of : (i : ℕ) (d : X) (a b c : FoundSet) → i < length xs → Adds (flat_map rule (take i xs)) a b → Adds (rule (get_or xs i d)) b c → Adds (flat_map rule (take (i + 1) xs)) a c
+  pub adds_more_of : (i : ℕ) (d : X) (a b c : FoundSet) → i < length xs → Adds (flat_map rule (take i xs)) a b → Adds (rule (get_or xs i d)) b c
+      → Adds (flat_map rule (take (i + 1) xs)) a c
   adds_more_of i d a b c below before here =
       adds_as (flat_map rule (take i xs) ++ rule (get_or xs i d)) (flat_map rule (take (i + 1) xs)) a c
-      (sym (ap (flat_map rule) (take_more xs i d below) ∙ flat_map-append rule (take i xs) (get_or xs i d ∷ []) ∙ ap (λ l. flat_map rule (take i xs) ++ l) (append-nil (rule (get_or xs i d)))))
+      (sym (ap (flat_map rule) (take_more xs i d below) ∙ flat_map-append rule (take i xs) (get_or xs i d ∷ [])
+      ∙ ap (λ l. flat_map rule (take i xs) ++ l) (append-nil (rule (get_or xs i d)))))
       (adds_then (flat_map rule (take i xs)) (rule (get_or xs i d)) a b c before here)

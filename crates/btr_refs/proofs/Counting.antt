@@ -1,5 +1,6 @@
 -- References, one more at a time.
-use Rattle.std.proofs.Common.{◌≡◌, ℕ, ◌+◌, Bool, true, false, cond, ◌||◌, List, [], ◌∷◌, ◌++◌, Some, None, refl, sym, ap, ◌∙◌, subst, append_assoc, append-nil, arith}
+use Rattle.std.proofs.Common.{◌≡◌, ℕ, ◌+◌, Bool, true, false, cond, ◌||◌, List, [], ◌∷◌, ◌++◌, Some, None, refl, sym, ap, ◌∙◌, subst, append_assoc, append-nil}
+use Rattle.std.proofs.Common.{arith}
 use Rattle.std.proofs.lemmas.Bool.{false≢true}
 use Rattle.std.proofs.lemmas.Cmp.{then_total, on_total, nat_cmp_total}
 use Rattle.std.proofs.lemmas.List.Folds.{list_any-append}
@@ -18,7 +19,9 @@ use Rattle.btr_refs.specs.Counts.{Counted, CountsLaw, RefCounts, Counts, count_i
 use Rattle.btr_refs.proofs.Sets.{both_equal}
 
 pub ref_total : IsTotalOrder ref_cmp
-ref_total = then_total (on_total (λ key. key.addr) nat_cmp_total) (then_total (on_total (λ key. key.kind) nat_cmp_total) (then_total (on_total (λ key. key.root) nat_cmp_total) (then_total (on_total (λ key. key.objectid) nat_cmp_total) (on_total (λ key. key.offset) nat_cmp_total))))
+ref_total = then_total (on_total (λ key. key.addr) nat_cmp_total)
+    (then_total (on_total (λ key. key.kind) nat_cmp_total) (then_total (on_total (λ key. key.root) nat_cmp_total)
+    (then_total (on_total (λ key. key.objectid) nat_cmp_total) (on_total (λ key. key.offset) nat_cmp_total))))
 
 -- references that compare as equal are one
 pub ref_exact : CmpEqualImpliesEq ref_cmp
@@ -48,7 +51,8 @@ same_swaps a b = (eq_by_cmp_equiv ref_total).symm a b
 -- what isn't met is met 0 times
 unmet-zero : (refs : List Counted) (one : RefKey) → is_met refs one ≡ false → sum_of refs one ≡ 0
 unmet-zero [] one unmet = refl
-unmet-zero (ref ∷ refs) one unmet = sum_by-cons (λ (other : Counted). cond (same_ref one other.key) other.count 0) ref refs ∙ by (same_ref one ref.key) unmet (unmet-zero refs one)
+unmet-zero (ref ∷ refs) one unmet = sum_by-cons (λ (other : Counted). cond (same_ref one other.key) other.count 0) ref refs
+    ∙ by (same_ref one ref.key) unmet (unmet-zero refs one)
   where
     by : (b : Bool) → (b || is_met refs one) ≡ false → (is_met refs one ≡ false → sum_of refs one ≡ 0) → cond b ref.count 0 + sum_of refs one ≡ 0
     by true is rest = absurd (false≢true (sym is))
@@ -80,10 +84,12 @@ Counts-more refs old new key count total is total-is more one =
     none false = refl
 
     by : (b : Bool) → same_ref key one ≡ b → same_ref one key ≡ same_ref key one
-        → cond b (Some total) (found_at old one) ≡ cond (is_met refs one || (same_ref one key || false)) (Some (sum_of refs one + cond (same_ref one key) count 0)) None
+        → cond b (Some total) (found_at old one) ≡ cond (is_met refs one || (same_ref one key || false))
+        (Some (sum_of refs one + cond (same_ref one key) count 0)) None
     by true at swaps =
         ap Some total-is ∙ ap (λ n. Some (n + count)) (count-is refs old is key ∙ ap (sum_of refs) (same_is key one at))
-        ∙ sym (ap (λ b. cond (is_met refs one || (b || false)) (Some (sum_of refs one + cond b count 0)) None) (swaps ∙ at) ∙ ap (λ b. cond b (Some (sum_of refs one + count)) None) (whole (is_met refs one)))
+        ∙ sym (ap (λ b. cond (is_met refs one || (b || false)) (Some (sum_of refs one + cond b count 0)) None) (swaps ∙ at)
+        ∙ ap (λ b. cond b (Some (sum_of refs one + count)) None) (whole (is_met refs one)))
     by false apart swaps =
         is one
         ∙ sym (ap (λ b. cond (is_met refs one || (b || false)) (Some (sum_of refs one + cond b count 0)) None) (swaps ∙ apart)
@@ -95,23 +101,27 @@ cond_twice true x y z = refl
 cond_twice false x y z = refl
 
 -- what is at a key once another one has a value
-insert-get : (entries : List (RefKey × ℕ)) (key : RefKey) (count : ℕ) (one : RefKey) → lookup (is_at (ref_cmp one)) (insert_entry ref_cmp entries key count) ≡ cond (same_ref one key) (Some count) (lookup (is_at (ref_cmp one)) entries)
+insert-get : (entries : List (RefKey × ℕ)) (key : RefKey) (count : ℕ) (one : RefKey)
+    → lookup (is_at (ref_cmp one)) (insert_entry ref_cmp entries key count) ≡ cond (same_ref one key) (Some count) (lookup (is_at (ref_cmp one)) entries)
 insert-get [] key count one = refl
 insert-get (entry ∷ entries) key count one = by (ref_cmp key entry.0) refl (insert-get entries key count one)
   where
     apart : (b : Bool) → same_ref one entry.0 ≡ b → ref_cmp key entry.0 ≡ Greater
-        → cond b (Some entry.1) (cond (same_ref one key) (Some count) (lookup (is_at (ref_cmp one)) entries)) ≡ cond (same_ref one key) (Some count) (cond b (Some entry.1) (lookup (is_at (ref_cmp one)) entries))
+        → cond b (Some entry.1) (cond (same_ref one key) (Some count) (lookup (is_at (ref_cmp one)) entries))
+        ≡ cond (same_ref one key) (Some count) (cond b (Some entry.1) (lookup (is_at (ref_cmp one)) entries))
     apart true is above =
         sym (ap (λ b. cond b (Some count) (Some entry.1)) (same_swaps one key ∙ ap (same_ref key) (same_is one entry.0 is) ∙ ap is_eq above))
     apart false is above = refl
 
     by : (r : Ordering) → ref_cmp key entry.0 ≡ r
         → lookup (is_at (ref_cmp one)) (insert_entry ref_cmp entries key count) ≡ cond (same_ref one key) (Some count) (lookup (is_at (ref_cmp one)) entries)
-        → lookup (is_at (ref_cmp one)) (match_ordering r ((key, count) ∷ entry ∷ entries) ((entry.0, count) ∷ entries) (entry ∷ insert_entry ref_cmp entries key count)) ≡ cond (same_ref one key) (Some count) (lookup (is_at (ref_cmp one)) (entry ∷ entries))
+        → lookup (is_at (ref_cmp one)) (match_ordering r ((key, count) ∷ entry ∷ entries) ((entry.0, count) ∷ entries)
+        (entry ∷ insert_entry ref_cmp entries key count)) ≡ cond (same_ref one key) (Some count) (lookup (is_at (ref_cmp one)) (entry ∷ entries))
     by Less is rest = refl
     by Equal is rest =
         cond_twice (same_ref one entry.0) (Some count) (Some entry.1) (lookup (is_at (ref_cmp one)) entries)
-        ∙ ap (λ b. cond b (Some count) (cond (same_ref one entry.0) (Some entry.1) (lookup (is_at (ref_cmp one)) entries))) (ap (same_ref one) (sym (ref_exact key entry.0 is)))
+        ∙ ap (λ b. cond b (Some count) (cond (same_ref one entry.0) (Some entry.1) (lookup (is_at (ref_cmp one)) entries)))
+        (ap (same_ref one) (sym (ref_exact key entry.0 is)))
     by Greater is rest =
         ap (λ o. cond (same_ref one entry.0) (Some entry.1) o) rest
         ∙ apart (same_ref one entry.0) refl is
@@ -123,7 +133,8 @@ counts_on done (ref ∷ refs) counts is =
     let more : Counts (done ++ ref ∷ []) (counted counts ref) =
     Counts-more done counts (counted counts ref) ref.key ref.count (count_in counts ref.key + ref.count) is refl
     (λ one. insert-get counts ref.key (count_in counts ref.key + ref.count) one ∙ ap (λ b. cond b (Some (count_in counts ref.key + ref.count)) (found_at counts one)) (same_swaps one ref.key)) in
-    subst (λ l. Counts l (counted_all (counted counts ref) refs)) (append_assoc done (ref ∷ []) refs) (counts_on (done ++ ref ∷ []) refs (counted counts ref) more)
+    subst (λ l. Counts l (counted_all (counted counts ref) refs)) (append_assoc done (ref ∷ []) refs)
+    (counts_on (done ++ ref ∷ []) refs (counted counts ref) more)
 
 pub counts_law : CountsLaw
 counts_law refs = counts_on [] refs [] (λ one. refl)

@@ -1,5 +1,6 @@
 -- What is kept of items, one more at a time.
-use Rattle.std.proofs.Common.{◌≡◌, ℕ, Bool, true, false, ◌&&◌, List, [], ◌∷◌, ◌++◌, Result, Ok, Err, if◌then◌else◌, refl, sym, ap, ◌∙◌, subst, append_assoc, append-nil}
+use Rattle.std.proofs.Common.{◌≡◌, ℕ, Bool, true, false, ◌&&◌, List, [], ◌∷◌, ◌++◌, Result, Ok, Err, if◌then◌else◌, refl, sym, ap, ◌∙◌, subst, append_assoc}
+use Rattle.std.proofs.Common.{append-nil}
 use Rattle.std.proofs.lemmas.List.Sums.{fold-append}
 use Rattle.std.specs.List.{list_all}
 use Rattle.btr_base.specs.Key.{last_key}
@@ -34,8 +35,10 @@ kept_none kept = ap (kept_as kept.nodesize kept.refs) (append-nil kept.extents)
 
 kept_one : (kept : Kept) (item : TreeItem) (items : List TreeItem) → all_kept (kept_with kept item) items ≡ all_kept kept (item ∷ items)
 kept_one kept item items =
-    ap (λ refs. kept_as kept.nodesize refs ((kept.extents ++ extent_in kept.nodesize item.key item.body) ++ extents_in kept.nodesize items)) (sym (fold-append counted kept.refs (refs_in item.key item.body) (stored_in items)))
-    ∙ ap (kept_as kept.nodesize (counted_all kept.refs (stored_in (item ∷ items)))) (append_assoc kept.extents (extent_in kept.nodesize item.key item.body) (extents_in kept.nodesize items))
+    ap (λ refs. kept_as kept.nodesize refs ((kept.extents ++ extent_in kept.nodesize item.key item.body) ++ extents_in kept.nodesize items))
+    (sym (fold-append counted kept.refs (refs_in item.key item.body) (stored_in items)))
+    ∙ ap (kept_as kept.nodesize (counted_all kept.refs (stored_in (item ∷ items))))
+    (append_assoc kept.extents (extent_in kept.nodesize item.key item.body) (extents_in kept.nodesize items))
 
 abbrev id_kept : Kept → Kept
 id_kept kept = kept
@@ -59,13 +62,15 @@ module _ (B : Map) where
     pub formed : list_all formed_item (steps_of marks) ≡ true
     pub all : kept ≡ all_kept from (steps_of marks)
 
-  ends : (marks : List (Mark Want TreeItem)) (ending : Result (Unit {0}) fate.Fault) (from kept : Kept) → (fold_run kept_step id_kept B from (run marks ending)).ending ≡ Ok kept → Ends marks ending from kept
+  ends : (marks : List (Mark Want TreeItem)) (ending : Result (Unit {0}) fate.Fault) (from kept : Kept)
+      → (fold_run kept_step id_kept B from (run marks ending)).ending ≡ Ok kept → Ends marks ending from kept
   ends [] (Ok u) from kept is = record { ended = refl; formed = refl; all = ok_is from kept is ∙ sym (kept_none from) }
   ends [] (Err f) from kept is = absurd (not_both f kept is)
   ends (Wants w ∷ marks) ending from kept is = let rest = ends marks ending from kept is in record { ended = rest.ended; formed = rest.formed; all = rest.all }
   ends (Does item ∷ marks) ending from kept is = by (formed_item item) refl (ends marks ending (kept_with from item) kept)
     where
-      by : (b : Bool) → formed_item item ≡ b → ((fold_run kept_step id_kept B (kept_with from item) (run marks ending)).ending ≡ Ok kept → Ends marks ending (kept_with from item) kept) → Ends (Does item ∷ marks) ending from kept
+      by : (b : Bool) → formed_item item ≡ b → ((fold_run kept_step id_kept B (kept_with from item) (run marks ending)).ending ≡ Ok kept
+          → Ends marks ending (kept_with from item) kept) → Ends (Does item ∷ marks) ending from kept
       by true formed more =
           let goes : kept_step from item ≡ Go (kept_with from item) = ap (λ (b : Bool). if b then Go (kept_with from item) else Broken) formed in
           let rest = more (subst (λ (r : Run Want fate.Fault ⊥ Kept). r.ending ≡ Ok kept) (fold_go kept_step id_kept B from (kept_with from item) item (run marks ending) goes) is) in
@@ -76,14 +81,16 @@ module _ (B : Map) where
           }
       by false formed more =
           let breaks : kept_step from item ≡ Broken = ap (λ (b : Bool). if b then Go (kept_with from item) else Broken) formed in
-          absurd (not_both (fate.Malformed item.leaf) kept (subst (λ (r : Run Want fate.Fault ⊥ Kept). r.ending ≡ Ok kept) (fold_broken kept_step id_kept B from item (run marks ending) breaks) is))
+          absurd (not_both (fate.Malformed item.leaf) kept (subst (λ (r : Run Want fate.Fault ⊥ Kept). r.ending ≡ Ok kept)
+          (fold_broken kept_step id_kept B from item (run marks ending) breaks) is))
 
   both_true : (a b : Bool) → (a && b) ≡ true → (a ≡ true) × (b ≡ true)
   both_true true b e = (refl, e)
   both_true false b e = cc
 
   -- where all items have their form, all is kept
-  keeps : (marks : List (Mark Want TreeItem)) (from : Kept) → list_all formed_item (steps_of marks) ≡ true → (fold_run kept_step id_kept B from (run marks (Ok tt))).ending ≡ Ok (all_kept from (steps_of marks))
+  keeps : (marks : List (Mark Want TreeItem)) (from : Kept) → list_all formed_item (steps_of marks) ≡ true
+      → (fold_run kept_step id_kept B from (run marks (Ok tt))).ending ≡ Ok (all_kept from (steps_of marks))
   keeps [] from all = ap answered (sym (kept_none from))
   keeps (Wants w ∷ marks) from all = keeps marks from all
   keeps (Does item ∷ marks) from all =
@@ -93,7 +100,8 @@ module _ (B : Map) where
       ∙ keeps marks (kept_with from item) both.1 ∙ ap answered (kept_one from item (steps_of marks))
 
   -- a tree that comes to its end, and whose items have their forms, is collected
-  pub collected_all : (nodesize : ℕ) (root : RootPlace) → (exec B (range first_key last_key root)).ending ≡ Ok tt → list_all formed_item (steps_of (exec B (range first_key last_key root)).marks) ≡ true
+  pub collected_all : (nodesize : ℕ) (root : RootPlace) → (exec B (range first_key last_key root)).ending ≡ Ok tt
+      → list_all formed_item (steps_of (exec B (range first_key last_key root)).marks) ≡ true
       → (exec B (stored_of nodesize root)).ending ≡ Ok (all_kept (nothing_kept nodesize) (steps_of (exec B (range first_key last_key root)).marks))
   collected_all nodesize root ended all =
       let items = exec B (range first_key last_key root) in

@@ -1,5 +1,6 @@
 -- Runs of sectors of which each sector is left to the first that has it.
-use Rattle.std.proofs.Common.{◌≡◌, ◌≢◌, ℕ, zero, suc, ◌+◌, ◌-◌, ◌*◌, ◌<◌, ◌≤◌, max, min, Bool, true, false, ◌||◌, cond, ◌⊎◌, List, [], ◌∷◌, ◌++◌, length, get_or, set, take, drop, refl, sym, ap, subst, inl, inr, append_assoc, ◌∙◌, arith}
+use Rattle.std.proofs.Common.{◌≡◌, ◌≢◌, ℕ, zero, suc, ◌+◌, ◌-◌, ◌*◌, ◌<◌, ◌≤◌, max, min, Bool, true, false, ◌||◌, cond, ◌⊎◌, List, [], ◌∷◌, ◌++◌, length}
+use Rattle.std.proofs.Common.{get_or, set, take, drop, refl, sym, ap, subst, inl, inr, append_assoc, ◌∙◌, arith}
 use Rattle.std.proofs.lemmas.Bool.{cases_lt, true≢false, false≢true}
 use Rattle.std.proofs.lemmas.Bool.Decides.{nat_tests}
 use Rattle.std.proofs.lemmas.Cmp.{tied_itself}
@@ -19,7 +20,8 @@ use Rattle.btr_refs.specs.declared.sector_run.SectorRun.{SectorRun}
 use Rattle.btr_refs.specs.Findings.{finding_cmp, is_one_of, is_same}
 use Rattle.btr_refs.specs.Runs.{IsKept, each_once, is_rule, met_by, no_run, reaching, without}
 use Rattle.btr_refs.specs.Sectors.{IsWithin, run_findings, runs_findings, sector_finding}
-use Rattle.btr_refs.proofs.SectorRuns.{all_lines, is_line, is_line_join, is_line_none, is_line_part, lines, lines_cmp, none_before, rule_cmp, rule_tied, same_rule}
+use Rattle.btr_refs.proofs.SectorRuns.{all_lines, is_line, is_line_join, is_line_none, is_line_part, lines, lines_cmp, none_before, rule_cmp, rule_tied}
+use Rattle.btr_refs.proofs.SectorRuns.{same_rule}
 use Rattle.btr_refs.proofs.Sets.{all-weaker, finding_total}
 
 -- what runs are sorted by
@@ -37,7 +39,8 @@ rising_behind first (run ∷ runs) sorted = (
   sorted 0 first (omega arith) (omega arith),
   rising_behind run runs (λ k d from below.
       let one : suc k + 1 ≡ suc (k + 1) = omega arith in
-      subst (λ n. is_lt (finding_cmp (key_of (get_or (first ∷ run ∷ runs) n d)) (key_of (get_or (run ∷ runs) k d))) ≡ false) one (sorted (suc k) d (omega arith) (omega (arith, below)))),
+      subst (λ n. is_lt (finding_cmp (key_of (get_or (first ∷ run ∷ runs) n d)) (key_of (get_or (run ∷ runs) k d))) ≡ false) one
+      (sorted (suc k) d (omega arith) (omega (arith, below)))),
 )
 
 pub rising : (runs : List SectorRun) → IsSortedByKey key_of finding_cmp runs → Rising (key_of no_run) runs
@@ -128,7 +131,8 @@ module _ (earlier run : SectorRun) where
   met_few = by_same (met ≤ run.count) (λ e. let is : met ≡ min run.count (end - run.first) = met_same e in omega (arith, is)) (λ e. let is : met ≡ 0 = met_other e in omega (arith, is))
 
   -- that it doesn't come before the earlier one says where it begins
-  begins : is_lt (finding_cmp (key_of run) (key_of earlier)) ≡ false → is_lt (ordering_then (rule_cmp run.rule earlier.rule) (nat_cmp run.first earlier.first)) ≡ false
+  begins : is_lt (finding_cmp (key_of run) (key_of earlier)) ≡ false
+      → is_lt (ordering_then (rule_cmp run.rule earlier.rule) (nat_cmp run.first earlier.first)) ≡ false
   begins up = sym (ap is_lt (lines_cmp run.rule earlier.rule run.first earlier.first)) ∙ up
 
   tied_rules : same ≡ true → is_eq (rule_cmp run.rule earlier.rule) ≡ true
@@ -137,7 +141,8 @@ module _ (earlier run : SectorRun) where
       ap (λ rule. is_eq (rule_cmp rule earlier.rule)) (sym is) ∙ rule_tied earlier.rule earlier.rule ∙ ap (λ rule. is_rule earlier.rule rule) is ∙ e
 
   begins_behind : same ≡ true → is_lt (finding_cmp (key_of run) (key_of earlier)) ≡ false → earlier.first ≤ run.first
-  begins_behind e up = ge_from_not_lt run.first earlier.first (not_less_tied (rule_cmp run.rule earlier.rule) (nat_cmp run.first earlier.first) (tied_rules e) (begins up))
+  begins_behind e up = ge_from_not_lt run.first earlier.first
+      (not_less_tied (rule_cmp run.rule earlier.rule) (nat_cmp run.first earlier.first) (tied_rules e) (begins up))
 
   -- the rule of another run comes behind
   reverse_is : (p q : Ordering) → p ≡ ordering_reverse q → is_eq p ≡ is_eq q
@@ -149,7 +154,8 @@ module _ (earlier run : SectorRun) where
   rule_behind e up =
       let turned : rule_cmp run.rule earlier.rule ≡ ordering_reverse (rule_cmp earlier.rule run.rule) = finding_total.antisymm (sector_finding run.rule 0) (sector_finding earlier.rule 0) in
       let apart : is_eq (rule_cmp run.rule earlier.rule) ≡ false = reverse_is (rule_cmp run.rule earlier.rule) (rule_cmp earlier.rule run.rule) turned ∙ rule_tied earlier.rule run.rule ∙ e in
-      finding_total.antisymm (sector_finding earlier.rule 0) (sector_finding run.rule 0) ∙ ap ordering_reverse (greater_of (rule_cmp run.rule earlier.rule) (nat_cmp run.first earlier.first) apart (begins up))
+      finding_total.antisymm (sector_finding earlier.rule 0) (sector_finding run.rule 0)
+      ∙ ap ordering_reverse (greater_of (rule_cmp run.rule earlier.rule) (nat_cmp run.first earlier.first) apart (begins up))
 
   module _ (one : Finding) where
     abbrev here : Bool
@@ -184,10 +190,12 @@ module _ (earlier run : SectorRun) where
     abbrev reached : Bool
     reached = is_one_of (run_findings (reaching earlier run)) one
 
-    longer_is : same ≡ true → is_lt (finding_cmp (key_of run) (key_of earlier)) ≡ false → (here || there) ≡ ((here || there) || is_line run.rule run.first (max run.count (end - run.first)) one)
+    longer_is : same ≡ true → is_lt (finding_cmp (key_of run) (key_of earlier)) ≡ false → (here || there)
+        ≡ ((here || there) || is_line run.rule run.first (max run.count (end - run.first)) one)
     longer_is e up = by (cases_lt run.count (end - run.first))
       where
-        by : (run.count < end - run.first) ⊎ (end - run.first ≤ run.count) → (here || there) ≡ ((here || there) || is_line run.rule run.first (max run.count (end - run.first)) one)
+        by : (run.count < end - run.first) ⊎ (end - run.first ≤ run.count) → (here || there)
+            ≡ ((here || there) || is_line run.rule run.first (max run.count (end - run.first)) one)
         by (inl below) =
             let is : max run.count (end - run.first) ≡ end - run.first = omega (arith, below) in
             ap (λ b. b || there)
@@ -206,15 +214,18 @@ module _ (earlier run : SectorRun) where
         (λ e. or_twice here there ∙ ap (λ r. (here || there) || is_one_of (run_findings r) one) (sym (reaching_other e)))
 
   left_behind : is_lt (finding_cmp (key_of run) (key_of earlier)) ≡ false → AllByRecursion (Behind earlier) (run_findings (without earlier run))
-  left_behind up = all_lines (Behind earlier) run.rule (run.first + met) (run.count - met) (λ j from below i under. by_same (finding_cmp (sector_finding earlier.rule (i * 4096)) (sector_finding run.rule (j * 4096)) ≡ Less)
+  left_behind up = all_lines (Behind earlier) run.rule (run.first + met) (run.count - met)
+      (λ j from below i under. by_same (finding_cmp (sector_finding earlier.rule (i * 4096)) (sector_finding run.rule (j * 4096)) ≡ Less)
       (λ e.
       let is : met ≡ min run.count (end - run.first) = met_same e in
       let ordered : i < j = omega (arith, is, from, below, under) in
-      ap (λ rule. finding_cmp (sector_finding rule (i * 4096)) (sector_finding run.rule (j * 4096))) (same_rule earlier.rule run.rule e) ∙ lines_ascend run.rule i j ordered)
+      ap (λ rule. finding_cmp (sector_finding rule (i * 4096)) (sector_finding run.rule (j * 4096))) (same_rule earlier.rule run.rule e)
+      ∙ lines_ascend run.rule i j ordered)
       (λ e.
       lines_cmp earlier.rule run.rule (i * 4096) (j * 4096) ∙ ap (λ r. ordering_then r (nat_cmp (i * 4096) (j * 4096))) (rule_behind e up)))
 
-  behind_longer : (one : Finding) → is_lt (finding_cmp (key_of run) (key_of earlier)) ≡ false → 0 < run.count → Behind (reaching earlier run) one → Behind earlier one
+  behind_longer : (one : Finding) → is_lt (finding_cmp (key_of run) (key_of earlier)) ≡ false → 0 < run.count → Behind (reaching earlier run) one
+      → Behind earlier one
   behind_longer one up some behind i under = by_same (finding_cmp (sector_finding earlier.rule (i * 4096)) one ≡ Less)
       (λ e.
       let at : Behind longer one = subst (λ r. Behind r one) (reaching_same e) behind in
@@ -226,12 +237,14 @@ module _ (earlier run : SectorRun) where
       finding_total.trans (sector_finding earlier.rule (i * 4096)) (sector_finding run.rule (0 * 4096)) one before (at 0 (omega (arith, some))))
 
   -- the sectors that are left come before what comes behind all that it reaches
-  before_behind : (one : Finding) → Behind (reaching earlier run) one → (j : ℕ) → j < run.first + run.count → finding_cmp (sector_finding run.rule (j * 4096)) one ≡ Less
+  before_behind : (one : Finding) → Behind (reaching earlier run) one → (j : ℕ) → j < run.first + run.count
+      → finding_cmp (sector_finding run.rule (j * 4096)) one ≡ Less
   before_behind one behind j below = by_same (finding_cmp (sector_finding run.rule (j * 4096)) one ≡ Less)
       (λ e. let at : Behind longer one = subst (λ r. Behind r one) (reaching_same e) behind in at j (omega (arith, below)))
       (λ e. let at : Behind run one = subst (λ r. Behind r one) (reaching_other e) behind in at j below)
 
-runs_is : (run : SectorRun) (runs : List SectorRun) (one : Finding) → is_one_of (runs_findings (run ∷ runs)) one ≡ (is_one_of (run_findings run) one || is_one_of (runs_findings runs) one)
+runs_is : (run : SectorRun) (runs : List SectorRun) (one : Finding) → is_one_of (runs_findings (run ∷ runs)) one
+    ≡ (is_one_of (run_findings run) one || is_one_of (runs_findings runs) one)
 runs_is run runs one = list_any-append (is_same one) (run_findings run) (runs_findings runs)
 
 regroup : (e w r n x y : Bool) → (e || w) ≡ (e || r) → (e || r) ≡ ((e || r) || n) → (n || x) ≡ (n || y) → (e || (w || x)) ≡ (e || (r || y))
@@ -241,16 +254,19 @@ regroup e w r n x y left reached more =
 
 -- all sectors are left that were there
 still_there : (earlier : SectorRun) (key : Finding) (runs : List SectorRun) (one : Finding) → key_of earlier ≡ key → Rising key runs
-    → (is_one_of (run_findings earlier) one || is_one_of (runs_findings (each_once earlier runs)) one) ≡ (is_one_of (run_findings earlier) one || is_one_of (runs_findings runs) one)
+    → (is_one_of (run_findings earlier) one || is_one_of (runs_findings (each_once earlier runs)) one)
+    ≡ (is_one_of (run_findings earlier) one || is_one_of (runs_findings runs) one)
 still_there earlier key [] one is up = refl
 still_there earlier key (run ∷ runs) one is up =
     let up0 : is_lt (finding_cmp (key_of run) (key_of earlier)) ≡ false = ap (λ k. is_lt (finding_cmp (key_of run) k)) is ∙ up.0 in
     ap (λ b. is_one_of (run_findings earlier) one || b) (runs_is (without earlier run) (each_once (reaching earlier run) runs) one)
-    ∙ regroup (here earlier run one) (left earlier run one) (there earlier run one) (reached earlier run one) (is_one_of (runs_findings (each_once (reaching earlier run) runs)) one) (is_one_of (runs_findings runs) one)
+    ∙ regroup (here earlier run one) (left earlier run one) (there earlier run one) (reached earlier run one)
+    (is_one_of (runs_findings (each_once (reaching earlier run) runs)) one) (is_one_of (runs_findings runs) one)
     (left_is earlier run one up0) (reached_is earlier run one up0) (still_there (reaching earlier run) (key_of run) runs one (key_reaching earlier run) up.1)
     ∙ ap (λ b. is_one_of (run_findings earlier) one || b) (sym (runs_is run runs one))
 
-pub once_same : (runs : List SectorRun) (one : Finding) → IsSortedByKey key_of finding_cmp runs → is_one_of (runs_findings (each_once no_run runs)) one ≡ is_one_of (runs_findings runs) one
+pub once_same : (runs : List SectorRun) (one : Finding) → IsSortedByKey key_of finding_cmp runs
+    → is_one_of (runs_findings (each_once no_run runs)) one ≡ is_one_of (runs_findings runs) one
 once_same runs one sorted = still_there no_run (key_of no_run) runs one refl (rising runs sorted)
 
 -- lists of findings one behind the other
@@ -258,7 +274,8 @@ all_append : (P : Finding → Type 0) (xs ys : List Finding) → AllByRecursion 
 all_append P [] ys first second = second
 all_append P (x ∷ xs) ys first second = (first.0, all_append P xs ys first.1 second)
 
-sorted_append : (xs ys : List Finding) → IsStrictlySortedBy finding_cmp xs → IsStrictlySortedBy finding_cmp ys → AllByRecursion (λ x. AllByRecursion (λ y. finding_cmp x y ≡ Less) ys) xs → IsStrictlySortedBy finding_cmp (xs ++ ys)
+sorted_append : (xs ys : List Finding) → IsStrictlySortedBy finding_cmp xs → IsStrictlySortedBy finding_cmp ys
+    → AllByRecursion (λ x. AllByRecursion (λ y. finding_cmp x y ≡ Less) ys) xs → IsStrictlySortedBy finding_cmp (xs ++ ys)
 unfolding IsStrictlySortedBy
 sorted_append [] ys first second apart = second
 sorted_append (x ∷ xs) ys first second apart = (all_append (λ y. finding_cmp x y ≡ Less) xs ys first.0 apart.0, sorted_append xs ys first.1 second apart.1)
@@ -266,8 +283,11 @@ sorted_append (x ∷ xs) ys first second apart = (all_append (λ y. finding_cmp 
 lines_sorted : (rule : SectorRule) (first count : ℕ) → IsStrictlySortedBy finding_cmp (lines rule first count)
 unfolding IsStrictlySortedBy
 lines_sorted rule first zero = tt
-lines_sorted rule first (suc count) =
-    (all_lines (λ y. finding_cmp (sector_finding rule (first * 4096)) y ≡ Less) rule (first + 1) count (λ j from below. lines_ascend rule first j (omega (arith, from))), lines_sorted rule (first + 1) count)
+lines_sorted rule first (suc count) = (
+  all_lines (λ y. finding_cmp (sector_finding rule (first * 4096)) y ≡ Less) rule (first + 1) count
+      (λ j from below. lines_ascend rule first j (omega (arith, from))),
+  lines_sorted rule (first + 1) count,
+)
 
 all_kept : (run : SectorRun) (runs : List SectorRun) → All IsKept (run ∷ runs) → IsKept run
 all_kept run runs all = all 0 run (omega arith)
@@ -286,10 +306,12 @@ ascending earlier key (run ∷ runs) is up kept =
     let apart = all_lines (λ x. AllByRecursion (λ y. finding_cmp x y ≡ Less) rest) run.rule (run.first + met_by earlier run) (run.count - met_by earlier run)
     (λ j from below. all-weaker (Behind longer) (λ y. finding_cmp (sector_finding run.rule (j * 4096)) y ≡ Less) (λ y h. before_behind earlier run y h j (omega (arith, below, few))) rest more.0) in (
       all_append (Behind earlier) (run_findings (without earlier run)) rest (left_behind earlier run up0) behind,
-      sorted_append (run_findings (without earlier run)) rest (lines_sorted run.rule (run.first + met_by earlier run) (run.count - met_by earlier run)) more.1 apart,
+      sorted_append (run_findings (without earlier run)) rest
+          (lines_sorted run.rule (run.first + met_by earlier run) (run.count - met_by earlier run)) more.1 apart,
     )
 
-pub once_sorted : (runs : List SectorRun) → IsSortedByKey key_of finding_cmp runs → All IsKept runs → IsStrictlySortedBy finding_cmp (runs_findings (each_once no_run runs))
+pub once_sorted : (runs : List SectorRun) → IsSortedByKey key_of finding_cmp runs → All IsKept runs
+    → IsStrictlySortedBy finding_cmp (runs_findings (each_once no_run runs))
 once_sorted runs sorted kept = (ascending no_run (key_of no_run) runs refl (rising runs sorted) (recursion_from_All IsKept runs kept)).1
 
 -- they stay within the addresses
@@ -310,7 +332,9 @@ reaching_within earlier run first second = by_same earlier run (IsWithin (reachi
 
 -- one run more is left
 pub once_more : (earlier d : SectorRun) (list : List SectorRun) (i : ℕ) → i < length list
-    → take (i + 1) (set list i (without earlier (get_or list i d))) ++ each_once (reaching earlier (get_or list i d)) (drop (i + 1) (set list i (without earlier (get_or list i d)))) ≡ take i list ++ each_once earlier (drop i list)
+    → take (i + 1) (set list i (without earlier (get_or list i d)))
+    ++ each_once (reaching earlier (get_or list i d)) (drop (i + 1) (set list i (without earlier (get_or list i d)))) ≡ take i list
+    ++ each_once earlier (drop i list)
 once_more earlier d list i below =
     let run = get_or list i d in
     let left = without earlier run in
@@ -325,6 +349,7 @@ any_made [] one = refl
 any_made (run ∷ runs) one = runs_is run runs one ∙ ap (λ b. is_one_of (run_findings run) one || b) (any_made runs one)
 
 -- in whatever order they stand
-pub same_permuted : (runs sorted : List SectorRun) (one : Finding) → IsPermutation runs sorted → is_one_of (runs_findings sorted) one ≡ is_one_of (runs_findings runs) one
+pub same_permuted : (runs sorted : List SectorRun) (one : Finding) → IsPermutation runs sorted → is_one_of (runs_findings sorted) one
+    ≡ is_one_of (runs_findings runs) one
 same_permuted runs sorted one moved =
     any_made sorted one ∙ sym (list_any-IsPermutation (λ run. is_one_of (run_findings run) one) runs sorted moved) ∙ sym (any_made runs one)

@@ -13,4 +13,5 @@ use Rattle.btr_refs.specs.declared.ref_key.RefKey.{RefKey}
 pub packed_same : (old new : BTreeMap RefKey ℕ) → IsOrdered ref_cmp old → IsFromIterResult ref_cmp old.entries new → new.entries ≡ old.entries
 packed_same old new ordered from =
     btree_map_from_get ref_total new old from.1 ordered
-    (λ q. from.0 q ∙ update_all_none (eq_by_cmp_equiv ref_total) (eq_by_cmp ref_cmp) (λ x y. refl) old.entries q (IsDistinct-from_sorted ref_cmp (keys old) ordered)) ref_exact
+    (λ q. from.0 q ∙ update_all_none (eq_by_cmp_equiv ref_total) (eq_by_cmp ref_cmp) (λ x y. refl) old.entries q
+    (IsDistinct-from_sorted ref_cmp (keys old) ordered)) ref_exact

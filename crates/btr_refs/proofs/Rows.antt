@@ -1,5 +1,6 @@
 -- Rows that are put into a set, one after another.
-use Rattle.std.proofs.Common.{◌≡◌, ℕ, ◌+◌, ◌<◌, Bool, true, false, cond, ◌||◌, List, [], ◌∷◌, ◌++◌, length, take, get_or, Option, Some, None, filter_map, eqb, refl, sym, ap, ◌∙◌, arith}
+use Rattle.std.proofs.Common.{◌≡◌, ℕ, ◌+◌, ◌<◌, Bool, true, false, cond, ◌||◌, List, [], ◌∷◌, ◌++◌, length, take, get_or, Option, Some, None, filter_map, eqb}
+use Rattle.std.proofs.Common.{refl, sym, ap, ◌∙◌, arith}
 use Rattle.std.proofs.lemmas.Bool.Decides.{nat_tests}
 use Rattle.std.proofs.lemmas.List.Folds.{list_any-append, list_any_more}
 use Rattle.std.specs.BTreeMap.{is_at}
@@ -20,17 +21,20 @@ or_swaps false true c = refl
 or_swaps false false c = refl
 
 -- the first of what is left was put
-pub row_more : {X : Type 0} (rule : X → Option Finding) (one : Finding) (x : X) (rest all : List X) (put : Bool) (more less first : Bool) → all ≡ x ∷ rest → more ≡ (is_row rule one x || less) → (list_any (is_row rule one) all || less) ≡ (put || first)
+pub row_more : {X : Type 0} (rule : X → Option Finding) (one : Finding) (x : X) (rest all : List X) (put : Bool) (more less first : Bool) → all
+    ≡ x ∷ rest → more ≡ (is_row rule one x || less) → (list_any (is_row rule one) all || less) ≡ (put || first)
     → (list_any (is_row rule one) rest || more) ≡ (put || first)
 row_more rule one x rest all put more less first is has before =
-    ap (λ b. list_any (is_row rule one) rest || b) has ∙ sym (or_swaps (is_row rule one x) (list_any (is_row rule one) rest) less) ∙ ap (λ l. list_any (is_row rule one) l || less) (sym is) ∙ before
+    ap (λ b. list_any (is_row rule one) rest || b) has ∙ sym (or_swaps (is_row rule one x) (list_any (is_row rule one) rest) less)
+    ∙ ap (λ l. list_any (is_row rule one) l || less) (sym is) ∙ before
 
 -- the findings of a rule on some things
 pub rows-any : {X : Type 0} (rule : X → Option Finding) (one : Finding) (xs : List X) → is_one_of (filter_map rule xs) one ≡ list_any (is_row rule one) xs
 rows-any rule one [] = refl
 rows-any rule one (x ∷ xs) = by (rule x) (rows-any rule one xs)
   where
-    by : (o : Option Finding) → is_one_of (filter_map rule xs) one ≡ list_any (is_row rule one) xs → is_one_of (cons_option o (filter_map rule xs)) one ≡ (is_shown one o || list_any (is_row rule one) xs)
+    by : (o : Option Finding) → is_one_of (filter_map rule xs) one ≡ list_any (is_row rule one) xs
+        → is_one_of (cons_option o (filter_map rule xs)) one ≡ (is_shown one o || list_any (is_row rule one) xs)
     by None rest = rest
     by (Some finding) rest = ap (λ b. is_same one finding || b) rest
 
@@ -50,7 +54,8 @@ module _ (forward stored : RefCounts) (extents : List Extent) (one : Finding) wh
       let f : Bool = list_any (is_row (ref_count forward stored) one) (keys_of forward) in
       let s : Bool = list_any (is_row (ref_count forward stored) one) (keys_of stored) in
       is-second ∙ ap (λ b. s || b) is-first ∙ or_two f s empty
-      ∙ ap (λ b. b || empty) (sym (rows-any (ref_count forward stored) one (keys_of forward ++ keys_of stored) ∙ list_any-append (is_row (ref_count forward stored) one) (keys_of forward) (keys_of stored)))
+      ∙ ap (λ b. b || empty) (sym (rows-any (ref_count forward stored) one (keys_of forward ++ keys_of stored)
+      ∙ list_any-append (is_row (ref_count forward stored) one) (keys_of forward) (keys_of stored)))
 
   -- the rows of the extents, and of the references where there is none
   pub total_rows : (empty first second : Bool)

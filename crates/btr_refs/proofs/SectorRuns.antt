@@ -1,5 +1,6 @@
 -- Runs of sectors, cut and joined, and how the findings on sectors compare.
-use Rattle.std.proofs.Common.{◌≡◌, ℕ, zero, suc, ◌+◌, ◌-◌, ◌*◌, ◌/◌, ◌%◌, ◌^◌, ◌<◌, ◌≤◌, Bool, true, false, ◌&&◌, ◌||◌, List, [], ◌∷◌, ◌++◌, map, eqb, refl, sym, ap, ◌∙◌, arith}
+use Rattle.std.proofs.Common.{◌≡◌, ℕ, zero, suc, ◌+◌, ◌-◌, ◌*◌, ◌/◌, ◌%◌, ◌^◌, ◌<◌, ◌≤◌, Bool, true, false, ◌&&◌, ◌||◌, List, [], ◌∷◌, ◌++◌, map, eqb, refl}
+use Rattle.std.proofs.Common.{sym, ap, ◌∙◌, arith}
 use Rattle.std.proofs.lemmas.Bool.Decides.{nat_tests}
 use Rattle.std.proofs.lemmas.List.{map-append}
 use Rattle.std.proofs.lemmas.List.Folds.{list_any-append}
@@ -26,7 +27,8 @@ range_join first zero b =
 range_join first (suc a) b =
     let more : suc a + b ≡ suc (a + b) = omega arith in
     let next : first + 1 + a ≡ first + suc a = omega arith in
-    ap (range_with_len first) more ∙ ap (λ l. first ∷ l) (range_join (first + 1) a b) ∙ ap (λ n. first ∷ (range_with_len (first + 1) a ++ range_with_len n b)) next
+    ap (range_with_len first) more ∙ ap (λ l. first ∷ l) (range_join (first + 1) a b)
+    ∙ ap (λ n. first ∷ (range_with_len (first + 1) a ++ range_with_len n b)) next
 
 -- two runs, one behind the other, are one
 pub lines_join : (rule : SectorRule) (first a b : ℕ) → lines rule first (a + b) ≡ lines rule first a ++ lines rule (first + a) b
@@ -35,7 +37,8 @@ lines_join rule first a b =
     ∙ map-append (λ i. sector_finding rule (i * 4096)) (range_with_len first a) (range_with_len (first + a) b)
 
 -- what holds of each sector holds of the findings
-pub all_lines : (P : Finding → Type 0) (rule : SectorRule) (first count : ℕ) → ((i : ℕ) → first ≤ i → i < first + count → P (sector_finding rule (i * 4096))) → AllByRecursion P (lines rule first count)
+pub all_lines : (P : Finding → Type 0) (rule : SectorRule) (first count : ℕ)
+    → ((i : ℕ) → first ≤ i → i < first + count → P (sector_finding rule (i * 4096))) → AllByRecursion P (lines rule first count)
 all_lines P rule first zero each = tt
 all_lines P rule first (suc count) each =
     (each first (omega arith) (omega arith), all_lines P rule (first + 1) count (λ i from below. each i (omega (arith, from)) (omega (arith, below))))
@@ -44,7 +47,8 @@ all_lines P rule first (suc count) each =
 abbrev pub is_line : SectorRule → ℕ → ℕ → Finding → Bool
 is_line rule first count one = is_one_of (lines rule first count) one
 
-pub is_line_join : (rule : SectorRule) (first a b : ℕ) (one : Finding) → is_line rule first (a + b) one ≡ (is_line rule first a one || is_line rule (first + a) b one)
+pub is_line_join : (rule : SectorRule) (first a b : ℕ) (one : Finding) → is_line rule first (a + b) one
+    ≡ (is_line rule first a one || is_line rule (first + a) b one)
 is_line_join rule first a b one =
     ap (λ l. is_one_of l one) (lines_join rule first a b) ∙ list_any-append (is_same one) (lines rule first a) (lines rule (first + a) b)
 
@@ -157,7 +161,8 @@ tied_number x y = grind (arith, nat_tests)
 
 pub rule_tied : (a b : SectorRule) → is_eq (rule_cmp a b) ≡ is_rule a b
 rule_tied (Missing tree inode) (Missing tree' inode') =
-    both_tied (nat_cmp tree tree') (nat_cmp inode inode') ∙ ap (λ b. b && is_eq (nat_cmp inode inode')) (tied_number tree tree') ∙ ap (λ b. eqb tree tree' && b) (tied_number inode inode')
+    both_tied (nat_cmp tree tree') (nat_cmp inode inode') ∙ ap (λ b. b && is_eq (nat_cmp inode inode')) (tied_number tree tree')
+    ∙ ap (λ b. eqb tree tree' && b) (tied_number inode inode')
 rule_tied Overlap Overlap = refl
 rule_tied Stray Stray = refl
 rule_tied Lost Lost = refl
@@ -185,7 +190,8 @@ first_of_two Greater q a b = refl
 
 pub none_before : (rule : SectorRule) (first : ℕ) → is_lt (finding_cmp (sector_finding rule first) (sector_finding (Missing 0 0) 0)) ≡ false
 none_before (Missing tree inode) first =
-    first_of_two (nat_cmp tree 0) _ (never_below tree) (first_of_two (nat_cmp inode 0) _ (never_below inode) (first_of_two (nat_cmp first 0) _ (never_below first) refl))
+    first_of_two (nat_cmp tree 0) _ (never_below tree) (first_of_two (nat_cmp inode 0) _ (never_below inode)
+    (first_of_two (nat_cmp first 0) _ (never_below first) refl))
 none_before Overlap first = refl
 none_before Stray first = refl
 none_before Lost first = refl

@@ -34,7 +34,8 @@ module _ {K : Type 0} (R : K → K → Ordering) (o : IsTotalOrder R) where
   sorted-insert [] k s = (tt, tt)
   sorted-insert (x ∷ xs) k s = by (R k x) refl (sorted-insert xs k s.1)
     where
-      by : (r : Ordering) → R k x ≡ r → IsStrictlySortedBy R (insert_key R xs k) → IsStrictlySortedBy R (match_ordering r (k ∷ x ∷ xs) (x ∷ xs) (x ∷ insert_key R xs k))
+      by : (r : Ordering) → R k x ≡ r → IsStrictlySortedBy R (insert_key R xs k)
+          → IsStrictlySortedBy R (match_ordering r (k ∷ x ∷ xs) (x ∷ xs) (x ∷ insert_key R xs k))
       by Less is rest = ((is, all-weaker (λ y. R x y ≡ Less) (λ y. R k y ≡ Less) (λ y below. o.trans k x y is below) xs s.0), s)
       by Equal is rest = s
       by Greater is rest = (all-insert (λ y. R x y ≡ Less) R k xs (o.antisymm x k ∙ ap ordering_reverse is) s.0, rest)
@@ -54,7 +55,9 @@ module _ {K : Type 0} (R : K → K → Ordering) (o : IsTotalOrder R) where
   any-insert q [] k = refl
   any-insert q (x ∷ xs) k = by (R k x) refl (any-insert q xs k)
     where
-      by : (r : Ordering) → R k x ≡ r → list_any (λ y. is_eq (R q y)) (insert_key R xs k) ≡ (is_eq (R q k) || list_any (λ y. is_eq (R q y)) xs) → list_any (λ y. is_eq (R q y)) (match_ordering r (k ∷ x ∷ xs) (x ∷ xs) (x ∷ insert_key R xs k)) ≡ (is_eq (R q k) || list_any (λ y. is_eq (R q y)) (x ∷ xs))
+      by : (r : Ordering) → R k x ≡ r → list_any (λ y. is_eq (R q y)) (insert_key R xs k) ≡ (is_eq (R q k) || list_any (λ y. is_eq (R q y)) xs)
+          → list_any (λ y. is_eq (R q y)) (match_ordering r (k ∷ x ∷ xs) (x ∷ xs) (x ∷ insert_key R xs k))
+          ≡ (is_eq (R q k) || list_any (λ y. is_eq (R q y)) (x ∷ xs))
       by Less is rest = refl
       by Equal is rest =
           or_twice (is_eq (R q x)) (list_any (λ y. is_eq (R q y)) xs)
@@ -108,7 +111,8 @@ all-in_order : (P : Finding → Type 0) (findings : List Finding) → AllByRecur
 all-in_order P [] all = tt
 all-in_order P (finding ∷ findings) all = all-insert P finding_cmp finding (in_order findings) all.0 (all-in_order P findings all.1)
 
-pub first_in_order : (first : Finding) (rest : List Finding) → AllByRecursion (λ y. finding_cmp first y ≡ Less) rest → in_order (first ∷ rest) ≡ first ∷ in_order rest
+pub first_in_order : (first : Finding) (rest : List Finding) → AllByRecursion (λ y. finding_cmp first y ≡ Less) rest → in_order (first ∷ rest)
+    ≡ first ∷ in_order rest
 first_in_order first rest below = first_is first (in_order rest) (all-in_order (λ y. finding_cmp first y ≡ Less) rest below)
 
 -- there are no more of them in order
@@ -116,7 +120,8 @@ length-insert : (k : Finding) (xs : List Finding) → length (insert_key finding
 length-insert k [] = omega arith
 length-insert k (x ∷ xs) = by (finding_cmp k x) (length-insert k xs)
   where
-    by : (r : Ordering) → length (insert_key finding_cmp xs k) ≤ suc (length xs) → length (match_ordering r (k ∷ x ∷ xs) (x ∷ xs) (x ∷ insert_key finding_cmp xs k)) ≤ suc (length (x ∷ xs))
+    by : (r : Ordering) → length (insert_key finding_cmp xs k) ≤ suc (length xs)
+        → length (match_ordering r (k ∷ x ∷ xs) (x ∷ xs) (x ∷ insert_key finding_cmp xs k)) ≤ suc (length (x ∷ xs))
     by Less rest = omega arith
     by Equal rest = omega arith
     by Greater rest = omega (arith, rest)

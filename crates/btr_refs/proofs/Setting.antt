@@ -1,5 +1,6 @@
 -- Sets of findings that grow.
-use Rattle.std.proofs.Common.{◌≡◌, ℕ, ◌+◌, ◌*◌, Bool, true, false, ◌||◌, List, [], ◌∷◌, ◌++◌, map, Result, Ok, Err, IfOk, refl, sym, ap, ◌∙◌, arith, append_assoc}
+use Rattle.std.proofs.Common.{◌≡◌, ℕ, ◌+◌, ◌*◌, Bool, true, false, ◌||◌, List, [], ◌∷◌, ◌++◌, map, Result, Ok, Err, IfOk, refl, sym, ap, ◌∙◌, arith}
+use Rattle.std.proofs.Common.{append_assoc}
 use Rattle.std.proofs.lemmas.List.{map-append}
 use Rattle.std.proofs.lemmas.List.FromFn.{map-range_with_len_more}
 use Rattle.std.proofs.lemmas.List.Folds.{list_any-append}
@@ -45,7 +46,8 @@ single_put old new runs finding keys one =
     ∙ ap (λ b. is_same one finding || b) (sym (list_any-append (is_same one) old.keys (runs_findings runs)))
 
 -- a run was
-pub run_put : (single : BTreeSet Finding) (old new : List SectorRun) (run : SectorRun) (findings : List Finding) → runs_findings new ≡ runs_findings old ++ run_findings run → run_findings run ≡ findings
+pub run_put : (single : BTreeSet Finding) (old new : List SectorRun) (run : SectorRun) (findings : List Finding) → runs_findings new
+    ≡ runs_findings old ++ run_findings run → run_findings run ≡ findings
     → Adds findings (found_set single old) (found_set single new)
 run_put single old new run findings more is one =
     list_any-append (is_same one) single.keys (runs_findings new)
@@ -54,13 +56,15 @@ run_put single old new run findings more is one =
     ∙ or_last (is_one_of single.keys one) (is_one_of (runs_findings old) one) (is_one_of findings one)
     ∙ ap (λ b. is_one_of findings one || b) (sym (list_any-append (is_same one) single.keys (runs_findings old)))
 
-findings_more : (rule : SectorRule) (start i : ℕ) → sector_findings rule start (i + 1) ≡ sector_findings rule start i ++ sector_finding rule (shown_sum (start + i * 4096)) ∷ []
+findings_more : (rule : SectorRule) (start i : ℕ) → sector_findings rule start (i + 1) ≡ sector_findings rule start i
+    ++ sector_finding rule (shown_sum (start + i * 4096)) ∷ []
 findings_more rule start i =
     ap (map (λ addr. sector_finding rule (shown_sum addr))) (map-range_with_len_more (λ k. start + k * 4096) 0 i i (omega arith))
     ∙ map-append (λ addr. sector_finding rule (shown_sum addr)) (sectors start i) ((start + i * 4096) ∷ [])
 
 -- the finding on one sector more was
-pub sectors_more : (rule : SectorRule) (start i : ℕ) (finding : Finding) (old now new : FoundSet) → finding ≡ sector_finding rule (shown_sum (start + i * 4096)) → Adds (sector_findings rule start i) old now
+pub sectors_more : (rule : SectorRule) (start i : ℕ) (finding : Finding) (old now new : FoundSet) → finding
+    ≡ sector_finding rule (shown_sum (start + i * 4096)) → Adds (sector_findings rule start i) old now
     → ((one : Finding) → has new one ≡ (is_same one finding || has now one)) → Adds (sector_findings rule start (i + 1)) old new
 sectors_more rule start i finding old now new is before here one =
     here one

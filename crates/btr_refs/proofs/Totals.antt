@@ -1,5 +1,6 @@
 -- The references to the extent at an address, among references in order.
-use Rattle.std.proofs.Common.{◌≡◌, ℕ, zero, suc, ◌+◌, ◌<◌, ◌==◌, ◌&&◌, not, Bool, true, false, cond, [], ◌∷◌, filter, sum_by, refl, sym, ap, ◌∙◌, eqb-true, zero-add, arith}
+use Rattle.std.proofs.Common.{◌≡◌, ℕ, zero, suc, ◌+◌, ◌<◌, ◌==◌, ◌&&◌, not, Bool, true, false, cond, [], ◌∷◌, filter, sum_by, refl, sym, ap, ◌∙◌, eqb-true}
+use Rattle.std.proofs.Common.{zero-add, arith}
 use Rattle.std.proofs.lemmas.List.Sums.{sum_by-cons}
 use Rattle.std.specs.BTreeMap.Range.{range_contains}
 use Rattle.std.specs.Cmp.{nat_cmp_is}
@@ -35,7 +36,8 @@ tail_le key =
 begins : (addr : ℕ) (key : RefKey) → (key.addr == addr) ≡ true → is_le (ref_cmp (first_at addr) key) ≡ true
 begins addr key e = ap (λ o. is_le (ordering_then o (tail_of key))) (sym (nat_cmp_is addr key.addr Equal (sym (eqb-true key.addr addr e)))) ∙ tail_le key
 
-pub ref_within : (addr : ℕ) (key : RefKey) → (key.addr == addr) ≡ true → (next : ℕ) → next ≡ addr + 1 → range_contains ref_cmp (Included (first_at addr)) (Excluded (first_at next)) key ≡ true
+pub ref_within : (addr : ℕ) (key : RefKey) → (key.addr == addr) ≡ true → (next : ℕ) → next ≡ addr + 1
+    → range_contains ref_cmp (Included (first_at addr)) (Excluded (first_at next)) key ≡ true
 ref_within addr key e next is =
     let same : key.addr ≡ addr = eqb-true key.addr addr e in
     let below : key.addr < next = omega (arith, same, is) in

@@ -33,7 +33,8 @@ module _ {K : Type 0} (cmp : K → K → Ordering) (exact : CmpEqualImpliesEq cm
   any_more [] k = refl
   any_more (x ∷ keys) k = by (cmp k x) refl (any_more keys k)
     where
-      by : (r : Ordering) → cmp k x ≡ r → list_any p (insert_key cmp keys k) ≡ (p k || list_any p keys) → list_any p (match_ordering r (k ∷ x ∷ keys) (x ∷ keys) (x ∷ insert_key cmp keys k)) ≡ (p k || list_any p (x ∷ keys))
+      by : (r : Ordering) → cmp k x ≡ r → list_any p (insert_key cmp keys k) ≡ (p k || list_any p keys)
+          → list_any p (match_ordering r (k ∷ x ∷ keys) (x ∷ keys) (x ∷ insert_key cmp keys k)) ≡ (p k || list_any p (x ∷ keys))
       by Less is rest = refl
       by Equal is rest = or_twice (p x) (list_any p keys) ∙ ap (λ y. p y || (p x || list_any p keys)) (sym (exact k x is))
       by Greater is rest = ap (λ b. p x || b) rest ∙ or_swap (p x) (p k) (list_any p keys)
@@ -65,7 +66,8 @@ module _ (p : ℕ → Used → Bool) where
   abbrev any_kept : Uses → Bool
   any_kept uses = list_any of_block uses.tree_blocks || list_any of_data uses.data_extents
 
-  kept_more : (old : Uses) (addr : ℕ) (what : Used) → (list_any of_block (blocks_with old.tree_blocks addr what) || list_any of_data (data_with old.data_extents addr what)) ≡ (p addr what || any_kept old)
+  kept_more : (old : Uses) (addr : ℕ) (what : Used) → (list_any of_block (blocks_with old.tree_blocks addr what) || list_any of_data
+      (data_with old.data_extents addr what)) ≡ (p addr what || any_kept old)
   kept_more old addr (TreeBlock level) =
       ap (λ b. b || list_any of_data old.data_extents) (any_more block_cmp block_exact of_block old.tree_blocks (record { addr = addr; level = level }))
       ∙ or_assoc (p addr (TreeBlock level)) (list_any of_block old.tree_blocks) (list_any of_data old.data_extents)

@@ -16,8 +16,10 @@ one_more : (i : ℕ) → i + 1 ≡ suc i
 one_more i = omega arith
 
 -- the children up to one more are those before it, and then that one
-pub child_more : (from : Origin) (level lower : ℕ) (link : Link) (ps : List KeyPointer) (i addr : ℕ) (old now new : Uses) → i < length ps → HoldsAt (λ pointer. pointer.addr ≡ addr) ps i → link ≡ tree_link from → lower ≡ level - 1
-    → now ≡ fold with_use old (map (child_use from level) (take i ps)) → new ≡ with_use now (block_use addr link lower) → new ≡ fold with_use old (map (child_use from level) (take (i + 1) ps))
+pub child_more : (from : Origin) (level lower : ℕ) (link : Link) (ps : List KeyPointer) (i addr : ℕ) (old now new : Uses) → i < length ps
+    → HoldsAt (λ pointer. pointer.addr ≡ addr) ps i → link ≡ tree_link from → lower ≡ level - 1
+    → now ≡ fold with_use old (map (child_use from level) (take i ps)) → new ≡ with_use now (block_use addr link lower) → new
+    ≡ fold with_use old (map (child_use from level) (take (i + 1) ps))
 child_more from level lower link ps i addr old now new below holds links lowers before is =
     let at : KeyPointer = slice_index_or ps i none in
     let done : List Use = map (child_use from level) (take i ps) in

@@ -1,7 +1,7 @@
 // What items of an extent tree store.
 use btr_base::{Key, Memory};
-use btr_blocks::Body;
 use btr_items::{ExtentFlags, Link, item};
+use btr_make_blocks::Body;
 use btr_refs::{RefKey, Stored, count_in};
 use btr_walk::{Folder, Found, Took};
 use std::alloc::{AllocError, Global};

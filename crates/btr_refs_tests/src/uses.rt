@@ -1,7 +1,7 @@
 // What blocks use.
 use super::stores::{DATA, file};
-use btr_blocks::{Body, Form, Items, Tree};
 use btr_items::{Link, item};
+use btr_make_blocks::{Body, Form, Items, Tree};
 use btr_rack::{MemRack, Rack};
 use btr_refs::{BlockUse, DataUse, Forward, RefKey, count_in};
 use btr_volume::TreeRoot;

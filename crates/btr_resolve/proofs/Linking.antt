@@ -27,7 +27,8 @@ use Rattle.btr_read.specs.declared.want.Want.{Want}
 use Rattle.btr_refs.specs.Forward.{Use, begin_of, data_use, extent_uses, file_link, item_uses, leaf_uses, node_uses, origin_of, shape_uses}
 use Rattle.btr_tour.specs.Program.{TourProg, items_until_fault, tour_prog}
 use Rattle.btr_tour.specs.Tour as tour
-use Rattle.btr_tour.specs.Tour.{Reached, blocks_met, child_spots, child_tour, block_tour, first_key, items_met, meets_keys, node_tour, place_of, tour_at, under, whole}
+use Rattle.btr_tour.specs.Tour.{Reached, blocks_met, child_spots, child_tour, block_tour, first_key, items_met, meets_keys, node_tour, place_of, tour_at, under}
+use Rattle.btr_tour.specs.Tour.{whole}
 use Rattle.btr_tour.proofs.Programs.{marks_law}
 use Rattle.btr_tour.proofs.Ranges.{stops_law}
 use Rattle.btr_volume.specs.Lookup.{formed}
@@ -216,7 +217,8 @@ module _ (B : Map) (addr : ℕ) (tree : TreeRoot) (P : Owner → Type 0) (item :
   formed_all false r met h = tt
   formed_all true (Err f) met h = tt
   formed_all true (Ok fields) met h =
-      owner_all (nat_le (end_in met item.key.objectid) item.key.offset) (position_in addr item.key.offset fields) _ (λ position is. h fields position refl refl is)
+      owner_all (nat_le (end_in met item.key.objectid) item.key.offset) (position_in addr item.key.offset fields) _
+      (λ position is. h fields position refl refl is)
 
 module _ (by_address : ℕ → Bool) (leaf : Reached) (item : TreeItem) where
   abbrev link : ℕ → Link

@@ -1,7 +1,7 @@
 // The names of owners, and their paths.
 use super::scene::{Content, DATA, FRONT, Row, Scene, TREES, add};
-use btr_blocks::{Items, bodies};
 use btr_items::item;
+use btr_make_blocks::{Items, bodies};
 use btr_volume::Stop;
 use btr_walk::TreeFault;
 use std::alloc::Global;

@@ -1,7 +1,7 @@
 // Which extents have an address, in which trees.
 use super::scene::{Content, DATA, FRONT, MIDDLE, Row, Scene, TREES, add, part};
-use btr_blocks::Items;
 use btr_items::{Shape, item};
+use btr_make_blocks::Items;
 use btr_volume::Stop;
 use btr_walk::TreeFault;
 use std::alloc::Global;

@@ -5,9 +5,9 @@ ghost use Rattle.btr_read.specs.Serves.{Serves};
 ghost use Rattle.btr_read.specs.Store.{free_count};
 
 use btr_base::SumKind;
-use btr_blocks::{Body, Form, Items, Tree, bodies};
 use btr_chunk::{Chunk, ChunkTable, Stripe};
 use btr_items::{FileExtent, RootItem, Shape, item};
+use btr_make_blocks::{Body, Form, Items, Tree, bodies};
 use btr_rack::{MemOut, MemRack, Rack};
 use btr_read::Store;
 use btr_resolve::resolve;

@@ -24,11 +24,13 @@ use Rattle.btr_listing.proofs.Numbers.{is_other}
 use Rattle.btr_restore.proofs.Rans.{ran_halt, ran_then, ran_wrote, row_halt, row_then, wrote_none}
 
 -- the way up, and then a value
-pub wrote_up : (plan : RestorePlan) (counts : Counts) (x y : Outside) (r : Result (Unit {0}) TheStop) → Wrote (row plan Up (Return tt)) x y r → Wrote (row plan Up (Return counts)) x y (ended_with counts r)
+pub wrote_up : (plan : RestorePlan) (counts : Counts) (x y : Outside) (r : Result (Unit {0}) TheStop) → Wrote (row plan Up (Return tt)) x y r
+    → Wrote (row plan Up (Return counts)) x y (ended_with counts r)
 wrote_up plan counts x y (Ok u) w = row_then _ _ _ _ _ _ _ w (wrote_none counts y)
 wrote_up plan counts x y (Err t) w = row_halt _ _ _ _ _ _ w
 
-pub stands_up : (dry : Bool) (n : ℕ) (old new : Sink) (r : Result (Unit {0}) TheStop) → (dry ≡ false → OnOk r (new ≡ left old)) → Stands dry (n + 1) old → StandsIf dry n new r
+pub stands_up : (dry : Bool) (n : ℕ) (old new : Sink) (r : Result (Unit {0}) TheStop) → (dry ≡ false → OnOk r (new ≡ left old))
+    → Stands dry (n + 1) old → StandsIf dry n new r
 stands_up dry n old new (Ok u) after h = λ d.
     let is = after d in
     let was = h d in
@@ -36,7 +38,8 @@ stands_up dry n old new (Ok u) after h = λ d.
 stands_up dry n old new (Err t) after h = tt
 
 -- the listing of one of some places
-pub listing_is : (plan : RestorePlan) (s : Super) (sums : Option TreeRoot) (frames below : ℕ) → frames ≡ below + 1 → listing_in plan s sums frames ≡ directory plan s sums below
+pub listing_is : (plan : RestorePlan) (s : Super) (sums : Option TreeRoot) (frames below : ℕ) → frames ≡ below + 1 → listing_in plan s sums frames
+    ≡ directory plan s sums below
 listing_is plan s sums frames below e = ap (listing_in plan s sums) (e ∙ step below)
   where
     step : (k : ℕ) → k + 1 ≡ suc k
@@ -46,7 +49,8 @@ listing_is plan s sums frames below e = ap (listing_in plan s sums) (e ∙ step 
 pub stands_over : (dry : Bool) (n : ℕ) (s : Sink) (treated : Treated) → treated ≡ Over → StandsAfter dry n s (Ok treated) → Stands dry n s
 stands_over dry n s treated is h = subst (λ (x : Treated). StandsAfter dry n s (Ok x)) is h
 
-pub stands_within : (dry : Bool) (n : ℕ) (s : Sink) (treated : Treated) (tree : TreeRoot) (dirid : ℕ) → treated ≡ Within tree dirid → StandsAfter dry n s (Ok treated) → Stands dry (n + 1) s
+pub stands_within : (dry : Bool) (n : ℕ) (s : Sink) (treated : Treated) (tree : TreeRoot) (dirid : ℕ) → treated ≡ Within tree dirid
+    → StandsAfter dry n s (Ok treated) → Stands dry (n + 1) s
 stands_within dry n s treated tree dirid is h = subst (λ (x : Treated). StandsAfter dry n s (Ok x)) is h
 
 -- there are places for all directories that may still be entered
@@ -64,7 +68,8 @@ room_above depth zero most deep is shallow h = absurd (cc (sym is ∙ shallow))
 room_above depth (suc below) most deep is shallow h = omega arith
 
 -- a directory is entered only where there is a place for it
-pub some_place : (n : ℕ) (deep : Bool) (treated : Treated) (tree : TreeRoot) (dirid : ℕ) → (n ≡ 0 → deep ≡ true) → treated ≡ Within tree dirid → (deep ≡ true → IsOver (Ok treated)) → 0 < n
+pub some_place : (n : ℕ) (deep : Bool) (treated : Treated) (tree : TreeRoot) (dirid : ℕ) → (n ≡ 0 → deep ≡ true) → treated ≡ Within tree dirid
+    → (deep ≡ true → IsOver (Ok treated)) → 0 < n
 some_place zero deep treated tree dirid empty is flat = absurd (subst (λ (x : Treated). IsOver (Ok x)) is (flat (empty refl)))
 some_place (suc n) deep treated tree dirid empty is flat = omega arith
 
@@ -95,24 +100,33 @@ module _ (plan : RestorePlan) (s : Super) (sums : Option TreeRoot) (k : ℕ) (de
   entry_halts t h = ran_halt (first_part (is_deep k)) then_part x y y t (as_first (Err t) h)
 
   pub entry_over : (after : Counts) → Ran (first_part deep) x y (Ok (journey.Over after)) → Whole (Ok after) y
-  entry_over after h = ran_then (first_part (is_deep k)) then_part x y y (journey.Over after) (Ok after) (as_first (Ok (journey.Over after)) h) (ran_wrote (Return after) y.rack y.vol y.out y.out (Ok after) h.ready (wrote_none after y.out))
+  entry_over after h = ran_then (first_part (is_deep k)) then_part x y y (journey.Over after) (Ok after) (as_first (Ok (journey.Over after)) h)
+      (ran_wrote (Return after) y.rack y.vol y.out y.out (Ok after) h.ready (wrote_none after y.out))
 
-  pub entry_within : (inner : TreeRoot) (ino : ℕ) (after : Counts) (r : Result Counts TheStop) → Ran (first_part deep) x y (Ok (journey.Within inner ino after)) → Ran (then_part (journey.Within inner ino after)) y z r → Whole r z
-  entry_within inner ino after r h g = ran_then (first_part (is_deep k)) then_part x y z (journey.Within inner ino after) r (as_first (Ok (journey.Within inner ino after)) h) g
+  pub entry_within : (inner : TreeRoot) (ino : ℕ) (after : Counts) (r : Result Counts TheStop)
+      → Ran (first_part deep) x y (Ok (journey.Within inner ino after)) → Ran (then_part (journey.Within inner ino after)) y z r → Whole r z
+  entry_within inner ino after r h g = ran_then (first_part (is_deep k)) then_part x y z (journey.Within inner ino after) r
+      (as_first (Ok (journey.Within inner ino after)) h) g
 
 -- what is in a directory, and the way up
 module _ (plan : RestorePlan) (s : Super) (sums : Option TreeRoot) (frames below : ℕ) (is : frames ≡ below + 1) (inner : TreeRoot) (dirid : ℕ) (path : List ℕ) (counts : Counts) (x y : World) where
   abbrev up : Counts → Program Step Counts
   up after = row plan Up (Return after)
 
-  as_listed : (r : Result Counts TheStop) → Ran (directory plan s sums below inner dirid path counts) x y r → Ran (listing_in plan s sums frames inner dirid path counts) x y r
+  as_listed : (r : Result Counts TheStop) → Ran (directory plan s sums below inner dirid path counts) x y r
+      → Ran (listing_in plan s sums frames inner dirid path counts) x y r
   as_listed r h = subst (λ (l : Listing). Ran (l inner dirid path counts) x y r) (sym (listing_is plan s sums frames below is)) h
 
-  pub within_halts : (t : TheStop) → Ran (directory plan s sums below inner dirid path counts) x y (Err t) → Ran (journey.listed_in plan s sums (listing_in plan s sums frames) path (journey.Within inner dirid counts)) x y (Err t)
+  pub within_halts : (t : TheStop) → Ran (directory plan s sums below inner dirid path counts) x y (Err t)
+      → Ran (journey.listed_in plan s sums (listing_in plan s sums frames) path (journey.Within inner dirid counts)) x y (Err t)
   within_halts t h = ran_halt (listing_in plan s sums frames inner dirid path counts) up x y y t (as_listed (Err t) h)
 
-  pub within_up : (after : Counts) (z : Outside) (r : Result (Unit {0}) TheStop) → Ran (directory plan s sums below inner dirid path counts) x y (Ok after) → Wrote (row plan Up (Return tt)) y.out z r → Ran (journey.listed_in plan s sums (listing_in plan s sums frames) path (journey.Within inner dirid counts)) x (world y.rack y.vol z) (ended_with after r)
-  within_up after z r h w = ran_then (listing_in plan s sums frames inner dirid path counts) up x y (world y.rack y.vol z) after (ended_with after r) (as_listed (Ok after) h)
+  pub within_up : (after : Counts) (z : Outside) (r : Result (Unit {0}) TheStop)
+      → Ran (directory plan s sums below inner dirid path counts) x y (Ok after) → Wrote (row plan Up (Return tt)) y.out z r
+      → Ran (journey.listed_in plan s sums (listing_in plan s sums frames) path (journey.Within inner dirid counts)) x (world y.rack y.vol z)
+      (ended_with after r)
+  within_up after z r h w = ran_then (listing_in plan s sums frames inner dirid path counts) up x y (world y.rack y.vol z) after (ended_with after r)
+      (as_listed (Ok after) h)
       (ran_wrote (up after) y.rack y.vol y.out z (ended_with after r) h.ready (wrote_up plan after y.out z r w))
 
 pub deep_is : (n : ℕ) → (n == 0) ≡ is_deep n

@@ -28,16 +28,19 @@ text_then (Some text) xs ys = ap Some (append_assoc text (text_of xs) (text_of y
 
 -- one run after another, whichever want could not be read
 module _ {W F A C U : Type 0} {I : Type 0} (Bs : I → W → Result (List ℕ) F) (One Is : U → W → Type 0) (p : Prog W F Step A) (k : A → Prog W F Step C) where
-  pub goes_on : (a : A) (done more : List Step) (ans : Result C (Halt F U)) → Goes One part [] Bs p done (Ok a) → Goes Is part [] Bs (k a) more ans → Goes Is part [] Bs (bind p k) (done ++ more) ans
+  pub goes_on : (a : A) (done more : List Step) (ans : Result C (Halt F U)) → Goes One part [] Bs p done (Ok a) → Goes Is part [] Bs (k a) more ans
+      → Goes Is part [] Bs (bind p k) (done ++ more) ans
   goes_on a done more ans h g = goes_then Bs Is part [] p k h.0 a done more ans h.1 h.2 (goes_alone Bs Is part (wants_of h.0.marks) (k a) more ans g)
 
 module _ {A C : Type 0} (p : Program Step A) (k : A → Program Step C) (s s' s'' : Sink) (told told' told'' : Option (List ℕ)) where
-  pub emits_then : (a : A) (answer : Result C (Halt Fault UnreadBlock)) → Emits p s s' told told' (Ok a) → Emits (k a) s' s'' told' told'' answer → Emits (bind p k) s s'' told told'' answer
+  pub emits_then : (a : A) (answer : Result C (Halt Fault UnreadBlock)) → Emits p s s' told told' (Ok a) → Emits (k a) s' s'' told' told'' answer
+      → Emits (bind p k) s s'' told told'' answer
   emits_then a answer h g = record {
     done = h.done ++ g.done;
     sink = g.sink ∙ (ap (λ x. fold sink_after x g.done) h.sink ∙ sym (fold-append sink_after s h.done g.done));
     text = g.text ∙ (ap (λ x. text_after x g.done) h.text ∙ text_then told h.done g.done);
-    goes = λ layout old new Bs. goes_on Bs (unread_by layout old new) (unread_by layout old new) p k a h.done g.done answer (h.goes layout old new Bs) (g.goes layout old new Bs);
+    goes = λ layout old new Bs. goes_on Bs (unread_by layout old new) (unread_by layout old new) p k a h.done g.done answer (h.goes layout old new Bs)
+        (g.goes layout old new Bs);
   }
 
   pub emits_halt : (halt : Halt Fault UnreadBlock) → Emits p s s' told told' (Err halt) → Emits (bind p k) s s' told told' (Err halt)

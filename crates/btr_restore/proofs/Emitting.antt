@@ -42,7 +42,8 @@ module _ {A : Type 0} where
   emits_none a s told = record { done = []; sink = refl; text = text_none told; goes = λ layout old new Bs. (run [] (Ok a), refl, (refl, refl)) }
 
   -- a line that was put whole, and one that was cut
-  pub emits_line : (text : List ℕ) (a : A) (s : Sink) (told told' : Option (List ℕ)) → Adds told told' text → Emits (Emit (Line text) (Return a)) s s told told' (Ok a)
+  pub emits_line : (text : List ℕ) (a : A) (s : Sink) (told told' : Option (List ℕ)) → Adds told told' text
+      → Emits (Emit (Line text) (Return a)) s s told told' (Ok a)
   emits_line text a s told told' h = record {
     done = Line text ∷ [];
     sink = refl;
@@ -50,7 +51,8 @@ module _ {A : Type 0} where
     goes = λ layout old new Bs. goes_step Bs (unread_by layout old new) part [] (Line text) (Return a) [] (Ok a) (run [] (Ok a), refl, (refl, refl));
   }
 
-  pub breaks_line : (text : List ℕ) (p : Program Step A) (s : Sink) (told told' : Option (List ℕ)) → ((n : ℕ) × Adds told told' (take n text)) → Emits (Emit (Line text) p) s s told told' (Err Broke)
+  pub breaks_line : (text : List ℕ) (p : Program Step A) (s : Sink) (told told' : Option (List ℕ)) → ((n : ℕ) × Adds told told' (take n text))
+      → Emits (Emit (Line text) p) s s told told' (Err Broke)
   breaks_line text p s told told' h = record {
     done = Line (take h.0 text) ∷ [];
     sink = refl;
@@ -59,10 +61,12 @@ module _ {A : Type 0} where
   }
 
 -- a refusal breaks the run off
-pub as_out : {A : Type 0} (P : Result A (Halt Fault UnreadBlock) → Type 0) (stop : Stop) (e : SinkError) → stop ≡ stops_out e → P (Err Broke) → P (Err (stop_halt stop))
+pub as_out : {A : Type 0} (P : Result A (Halt Fault UnreadBlock) → Type 0) (stop : Stop) (e : SinkError) → stop ≡ stops_out e → P (Err Broke)
+    → P (Err (stop_halt stop))
 as_out {A} P stop e is h = subst (λ (x : Halt Fault UnreadBlock). P (Err x)) (sym (ap stop_halt is ∙ broke_out e)) h
 
-pub as_sink : {A : Type 0} (P : Result A (Halt Fault UnreadBlock) → Type 0) (stop : Stop) (e : SinkError) → stop ≡ stops_sink e → P (Err Broke) → P (Err (stop_halt stop))
+pub as_sink : {A : Type 0} (P : Result A (Halt Fault UnreadBlock) → Type 0) (stop : Stop) (e : SinkError) → stop ≡ stops_sink e → P (Err Broke)
+    → P (Err (stop_halt stop))
 as_sink {A} P stop e is h = subst (λ (x : Halt Fault UnreadBlock). P (Err x)) (sym (ap stop_halt is ∙ broke_sink e)) h
 
 -- a line that is put only where lines are asked for
@@ -74,9 +78,11 @@ module _ (b : Bool) (text : List ℕ) (s : Sink) where
   untold told e = subst (λ x. Emits (cond x (Emit (Line text) (Return tt)) (Return tt)) s s told told (Ok tt)) e (emits_none tt s told)
 
   pub told_whole : (told told' : Option (List ℕ)) → true ≡ b → Adds told told' text → Emits Told s s told told' (Ok tt)
-  told_whole told told' e h = subst (λ x. Emits (cond x (Emit (Line text) (Return tt)) (Return tt)) s s told told' (Ok tt)) e (emits_line text tt s told told' h)
+  told_whole told told' e h = subst (λ x. Emits (cond x (Emit (Line text) (Return tt)) (Return tt)) s s told told' (Ok tt)) e
+      (emits_line text tt s told told' h)
 
-  pub told_broke : (told told' : Option (List ℕ)) (stop : Stop) (error : SinkError) → true ≡ b → stop ≡ stops_out error → ((n : ℕ) × Adds told told' (take n text)) → Emits Told s s told told' (Err (stop_halt stop))
+  pub told_broke : (told told' : Option (List ℕ)) (stop : Stop) (error : SinkError) → true ≡ b → stop ≡ stops_out error
+      → ((n : ℕ) × Adds told told' (take n text)) → Emits Told s s told told' (Err (stop_halt stop))
   told_broke told told' stop error e is h =
       as_out (λ answer. Emits Told s s told told' answer) stop error is
       (subst (λ x. Emits (cond x (Emit (Line text) (Return tt)) (Return tt)) s s told told' (Err Broke)) e (breaks_line text (Return tt) s told told' h))

@@ -1,5 +1,6 @@
 -- The table of the chunk tree has all chunks of the system array, so blocks that the array finds the table finds at the same places.
-use Rattle.std.proofs.Common.{◌≡◌, ◌⊎◌, inl, inr, ℕ, ◌+◌, ◌<◌, Bool, true, false, cond, ◌&&◌, ◌||◌, leb, ltb, length, List, [], ◌∷◌, Option, Some, None, Result, Ok, Err, refl, sym, ap, ◌∙◌, subst, arith}
+use Rattle.std.proofs.Common.{◌≡◌, ◌⊎◌, inl, inr, ℕ, ◌+◌, ◌<◌, Bool, true, false, cond, ◌&&◌, ◌||◌, leb, ltb, length, List, [], ◌∷◌, Option, Some, None, Result}
+use Rattle.std.proofs.Common.{Ok, Err, refl, sym, ap, ◌∙◌, subst, arith}
 use Rattle.std.specs.Prelude.{Contains}
 use Rattle.std.specs.List.{list_any}
 use Rattle.std.proofs.lemmas.Bool.Decides.{nat_tests}
@@ -23,7 +24,8 @@ use Rattle.btr_walk.specs.Folds.{next_prog, folded_over}
 use Rattle.btr_walk.specs.Range.{range}
 use Rattle.btr_volume.specs.Maps.{array_layout}
 use Rattle.btr_volume.specs.Start.{Images, Start, layout_by}
-use Rattle.btr_volume.specs.Table.{TableResult, first_key, chunk_root, is_chunk, if_added, with_chunk, with_item, table_next, table_step, whole_table, table_scan}
+use Rattle.btr_volume.specs.Table.{TableResult, first_key, chunk_root, is_chunk, if_added, with_chunk, with_item, table_next, table_step, whole_table}
+use Rattle.btr_volume.specs.Table.{table_scan}
 use Rattle.btr_base.specs.Key.{last_key}
 use Rattle.btr_restore.specs.Committed.{Commit, IsHonest, IsCommittedTable, committed}
 
@@ -32,7 +34,8 @@ abbrev pub Extends : List Chunk → List Chunk → Type 0
 Extends chunks more = (addr : ℕ) (c : Chunk) → chunk_at chunks addr ≡ Some c → chunk_at more addr ≡ Some c
 
 -- two ranges that hold one number meet
-both_hold : (a len b other addr : ℕ) → ranges_meet a len b other ≡ false → (leb b addr && ltb addr (b + other)) ≡ true → (leb a addr && ltb addr (a + len)) ≡ false
+both_hold : (a len b other addr : ℕ) → ranges_meet a len b other ≡ false → (leb b addr && ltb addr (b + other)) ≡ true
+    → (leb a addr && ltb addr (a + len)) ≡ false
 both_hold a len b other addr apart there = grind (arith, nat_tests)
 
 first_false : (a b : Bool) → (a || b) ≡ false → a ≡ false
@@ -47,7 +50,8 @@ module _ (chunk : Chunk) (addr : ℕ) where
   apart_one : (c : Chunk) → chunks_meet chunk c ≡ false → holds c addr ≡ true → holds chunk addr ≡ false
   apart_one c apart there =
       both_hold chunk.start chunk.length c.start c.length addr
-      (first_false (ranges_meet chunk.start chunk.length c.start c.length) (list_any (λ s. list_any (stripes_meet (stripe_length chunk) s (stripe_length c)) c.stripes) chunk.stripes) apart) there
+      (first_false (ranges_meet chunk.start chunk.length c.start c.length)
+      (list_any (λ s. list_any (stripes_meet (stripe_length chunk) s (stripe_length c)) c.stripes) chunk.stripes) apart) there
 
   -- a chunk apart from others holds no address that they hold
   apart_all : (xs : List Chunk) (c : Chunk) → list_any (chunks_meet chunk) xs ≡ false → chunk_at xs addr ≡ Some c → holds chunk addr ≡ false
@@ -74,7 +78,9 @@ module _ (chunk : Chunk) (addr : ℕ) where
       ]
 
 -- adding keeps what is there
-added_by : (chunks : List Chunk) (chunk : Chunk) (new : List Chunk) (same over full : Bool) → (over ≡ false → list_any (chunks_meet chunk) chunks ≡ false) → cond same (Ok chunks) (cond over (Err Overlap) (cond full (Err Chunks) (Ok (placed chunk chunks)))) ≡ Ok new → Extends chunks new
+added_by : (chunks : List Chunk) (chunk : Chunk) (new : List Chunk) (same over full : Bool)
+    → (over ≡ false → list_any (chunks_meet chunk) chunks ≡ false)
+    → cond same (Ok chunks) (cond over (Err Overlap) (cond full (Err Chunks) (Ok (placed chunk chunks)))) ≡ Ok new → Extends chunks new
 added_by chunks chunk new true over full apart is addr c there = let e : chunks ≡ new = cc in ap (λ xs. chunk_at xs addr) (sym e) ∙ there
 added_by chunks chunk new false true full apart is addr c there = absurd (cc)
 added_by chunks chunk new false false true apart is addr c there = absurd (cc)
@@ -84,9 +90,11 @@ added_by chunks chunk new false false false apart is addr c there =
 
 added_extends : (chunks : List Chunk) (chunk : Chunk) (new : List Chunk) → added chunks chunk ≡ Ok new → Extends chunks new
 added_extends chunks chunk new is =
-    added_by chunks chunk new (list_any (same_chunk chunk) chunks) (overlaps chunks chunk) (leb 65536 (length chunks)) (λ e. last_false (some_meet (stripe_length chunk) chunk.stripes) (list_any (chunks_meet chunk) chunks) e) is
+    added_by chunks chunk new (list_any (same_chunk chunk) chunks) (overlaps chunks chunk) (leb 65536 (length chunks))
+    (λ e. last_false (some_meet (stripe_length chunk) chunk.stripes) (list_any (chunks_meet chunk) chunks) e) is
 
-if_added_extends : (chunks : List Chunk) (chunk : Chunk) (new : List Chunk) (start : ℕ) (r : Result (List Chunk) AddFault) → added chunks chunk ≡ r → if_added start r ≡ Ok new → Extends chunks new
+if_added_extends : (chunks : List Chunk) (chunk : Chunk) (new : List Chunk) (start : ℕ) (r : Result (List Chunk) AddFault) → added chunks chunk ≡ r
+    → if_added start r ≡ Ok new → Extends chunks new
 if_added_extends chunks chunk new start (Ok xs) e is = let f : xs ≡ new = cc in added_extends chunks chunk new (e ∙ ap Ok f)
 if_added_extends chunks chunk new start (Err Overlap) e is = absurd (cc)
 if_added_extends chunks chunk new start (Err Chunks) e is = absurd (cc)
@@ -98,7 +106,8 @@ with_chunk_extends chunks new start (Err (chunk_fault.Stripes n)) is = absurd (c
 with_chunk_extends chunks new start (Err chunk_fault.Bad) is = absurd (cc)
 with_chunk_extends chunks new start (Err chunk_fault.Memory) is = absurd (cc)
 
-with_item_by : (chunks new : List Chunk) (item : TreeItem) (b : Bool) → cond b (with_chunk chunks item.key.offset (chunk_of item.key.offset item.body)) (Ok chunks) ≡ Ok new → Extends chunks new
+with_item_by : (chunks new : List Chunk) (item : TreeItem) (b : Bool)
+    → cond b (with_chunk chunks item.key.offset (chunk_of item.key.offset item.body)) (Ok chunks) ≡ Ok new → Extends chunks new
 with_item_by chunks new item true is = with_chunk_extends chunks new item.key.offset (chunk_of item.key.offset item.body) is
 with_item_by chunks new item false is = λ addr c there. let e : chunks ≡ new = cc in ap (λ xs. chunk_at xs addr) (sym e) ∙ there
 
@@ -109,11 +118,15 @@ module _ (B : BlockMap Want Fault) (table : List Chunk) where
   abbrev Comes : Prog Want Fault ⊥ TableResult → Type 0
   Comes p = (exec B p).ending ≡ Ok (Ok table)
 
-  given_extends : (chunks : List Chunk) (x : Result (List ℕ) Fault) (k : List ℕ → Prog Want Fault TreeItem (Unit {0})) → ((b : List ℕ) → Comes (scan chunks (k b)) → Extends chunks table) → (given x (λ b. exec B (scan chunks (k b)))).ending ≡ Ok (Ok table) → Extends chunks table
+  given_extends : (chunks : List Chunk) (x : Result (List ℕ) Fault) (k : List ℕ → Prog Want Fault TreeItem (Unit {0}))
+      → ((b : List ℕ) → Comes (scan chunks (k b)) → Extends chunks table) → (given x (λ b. exec B (scan chunks (k b)))).ending ≡ Ok (Ok table)
+      → Extends chunks table
   given_extends chunks (Ok b) k h is = h b is
   given_extends chunks (Err f) k h is = absurd (cc)
 
-  item_extends : (chunks : List Chunk) (item : TreeItem) (r : TableResult) (p : Prog Want Fault TreeItem (Unit {0})) → with_item chunks item ≡ r → ((more : List Chunk) → Comes (scan more p) → Extends more table) → Comes (bind (next_prog item.leaf (table_next r)) (go_on (λ more. scan more p))) → Extends chunks table
+  item_extends : (chunks : List Chunk) (item : TreeItem) (r : TableResult) (p : Prog Want Fault TreeItem (Unit {0})) → with_item chunks item ≡ r
+      → ((more : List Chunk) → Comes (scan more p) → Extends more table)
+      → Comes (bind (next_prog item.leaf (table_next r)) (go_on (λ more. scan more p))) → Extends chunks table
   item_extends chunks item (Ok more) p e h is = λ addr c there. h more is addr c (with_item_by chunks more item (is_chunk item.key) e addr c there)
   item_extends chunks item (Err refusal) p e h is = absurd (cc)
 
@@ -124,14 +137,17 @@ module _ (B : BlockMap Want Fault) (table : List Chunk) where
   scan_extends (Need w k) chunks is = given_extends chunks (B w) k (λ b. scan_extends (k b) chunks) is
   scan_extends (Emit item p) chunks is = item_extends chunks item (with_item chunks item) p refl (λ more. scan_extends p more) is
 
-pub table_extends : (B : BlockMap Want Fault) (start : Start) (table : List Chunk) → (exec B (table_scan start)).ending ≡ Ok (Ok table) → Extends start.array table
+pub table_extends : (B : BlockMap Want Fault) (start : Start) (table : List Chunk) → (exec B (table_scan start)).ending ≡ Ok (Ok table)
+    → Extends start.array table
 table_extends B start table is = scan_extends B table (range first_key last_key (chunk_root start.sup)) start.array is
 
 no_member : (x : List ℕ) → Contains [] x → ⊥
 no_member x h = let below : h.0 < 0 = h.1 in omega (arith, below)
 
 module _ (images : Images) (start : Start) (table : List Chunk) (want : Want) (candidate : List ℕ) where
-  same_candidates : (o : Option Chunk) → (o ≡ None ⊎ chunk_at table (addr_of want) ≡ o) → Contains (passing_for images (sought_in (array_layout start) want o)) candidate → Contains (passing_for images (sought (layout_by start table) want)) candidate
+  same_candidates : (o : Option Chunk) → (o ≡ None ⊎ chunk_at table (addr_of want) ≡ o)
+      → Contains (passing_for images (sought_in (array_layout start) want o)) candidate
+      → Contains (passing_for images (sought (layout_by start table) want)) candidate
   same_candidates None e h = absurd (no_member candidate h)
   same_candidates (Some c) (inl e) h = absurd (cc)
   same_candidates (Some c) (inr e) h = subst (λ o. Contains (passing_for images (sought_in (layout_by start table) want o)) candidate) (sym e) h
@@ -141,10 +157,13 @@ module _ (images : Images) (start : Start) (table : List Chunk) (want : Want) (c
   none_or (Some c) f = inr (f c refl)
 
   -- candidates by the array are candidates by the table
-  pub table_candidates : Extends start.array table → Contains (passing_for images (sought (array_layout start) want)) candidate → Contains (passing_for images (sought (layout_by start table) want)) candidate
+  pub table_candidates : Extends start.array table → Contains (passing_for images (sought (array_layout start) want)) candidate
+      → Contains (passing_for images (sought (layout_by start table) want)) candidate
   table_candidates extends h = same_candidates (chunk_at start.array (addr_of want)) (none_or (chunk_at start.array (addr_of want)) (extends (addr_of want))) h
 
 -- images that are honest by the table are so by the array
-pub array_honest : (C : Commit) (images : Images) (start : Start) (table : List Chunk) → IsCommittedTable C images start table → IsHonest C images (layout_by start table) → IsHonest C images (array_layout start)
+pub array_honest : (C : Commit) (images : Images) (start : Start) (table : List Chunk) → IsCommittedTable C images start table
+    → IsHonest C images (layout_by start table) → IsHonest C images (array_layout start)
 array_honest C images start table stands honest want bytes candidate is there =
-    honest want bytes candidate is (table_candidates images start table want candidate (table_extends (committed C images (array_layout start)) start table stands) there)
+    honest want bytes candidate is (table_candidates images start table want candidate
+    (table_extends (committed C images (array_layout start)) start table stands) there)

@@ -52,20 +52,27 @@ each_all P [] f = tt
 each_all P (w ∷ ws) f = (f w, each_all P ws f)
 
 -- a lookup that was answered by the images is one where blocks may come to more
-pub goes_look : {A : Type 0} (layout : Layout) (sure : Sure) (images : List (List ℕ)) (Is : UnreadBlock → Want → Type 0) (p : Lookup A) (ans : Result A (Halt fate.Fault UnreadBlock)) → Follows {S = ⊥} Is no_part [] (exec (fate.fate images layout) p) [] ans → Goes Is part [] (maps_of layout sure images) (quiet {S = Step} p) [] ans
+pub goes_look : {A : Type 0} (layout : Layout) (sure : Sure) (images : List (List ℕ)) (Is : UnreadBlock → Want → Type 0) (p : Lookup A)
+    (ans : Result A (Halt fate.Fault UnreadBlock)) → Follows {S = ⊥} Is no_part [] (exec (fate.fate images layout) p) [] ans
+    → Goes Is part [] (maps_of layout sure images) (quiet {S = Step} p) [] ans
 goes_look layout sure images Is p ans f = (
   exec (fate.fate images layout) (quiet {S = Step} p),
-  goes_some (maps_of layout sure images) (fate.fate images layout) (quiet {S = Step} p) (each_all (λ w. (i : ℕ) × (maps_of layout sure images i w ≡ fate.fate images layout w)) (needs (fate.fate images layout) (quiet {S = Step} p)) (λ w. (0, first_map layout sure images w))),
+  goes_some (maps_of layout sure images) (fate.fate images layout) (quiet {S = Step} p)
+      (each_all (λ w. (i : ℕ) × (maps_of layout sure images i w ≡ fate.fate images layout w)) (needs (fate.fate images layout) (quiet {S = Step} p))
+      (λ w. (0, first_map layout sure images w))),
   follows_quiet Is part [] (fate.fate images layout) p [] ans f,
 )
 
 -- less may be said of the want that could not be read
-pub goes_as : {A : Type 0} (One Is : UnreadBlock → Want → Type 0) (Bs : ℕ → Map) (p : Program Step A) (done : List Step) (ans : Result A (Halt fate.Fault UnreadBlock)) → ((u : UnreadBlock) (w : Want) → One u w → Is u w) → Goes One part [] Bs p done ans → Goes Is part [] Bs p done ans
+pub goes_as : {A : Type 0} (One Is : UnreadBlock → Want → Type 0) (Bs : ℕ → Map) (p : Program Step A) (done : List Step)
+    (ans : Result A (Halt fate.Fault UnreadBlock)) → ((u : UnreadBlock) (w : Want) → One u w → Is u w) → Goes One part [] Bs p done ans
+    → Goes Is part [] Bs p done ans
 goes_as One Is Bs p done ans f h = (h.0, h.1, follows_as One Is f part [] h.0 done ans h.2)
 
 module _ {A : Type 0} where
   -- a call that reads nothing, beside a rack
-  pub does_emits : (layout : Layout) (rack : Seen) (p : Program Step A) (s s' : Sink) (told told' : Option (List ℕ)) (ans : Result A (Halt fate.Fault UnreadBlock)) → Emits p s s' told told' ans → Does layout p (scene rack s told) (scene rack s' told') ans
+  pub does_emits : (layout : Layout) (rack : Seen) (p : Program Step A) (s s' : Sink) (told told' : Option (List ℕ))
+      (ans : Result A (Halt fate.Fault UnreadBlock)) → Emits p s s' told told' ans → Does layout p (scene rack s told) (scene rack s' told') ans
   does_emits layout rack p s s' told told' ans e = record {
     done = e.done;
     sink = e.sink;
@@ -74,20 +81,23 @@ module _ {A : Type 0} where
   }
 
   -- a lookup, which does no step
-  pub does_look : (layout : Layout) (old new : Seen) (p : Lookup A) (s : Sink) (told : Option (List ℕ)) (result : Result A TreeFault) → Looks layout old new p result → Does layout (quiet p) (scene old s told) (scene new s told) (answer_of result)
+  pub does_look : (layout : Layout) (old new : Seen) (p : Lookup A) (s : Sink) (told : Option (List ℕ)) (result : Result A TreeFault)
+      → Looks layout old new p result → Does layout (quiet p) (scene old s told) (scene new s told) (answer_of result)
   does_look layout old new p s told result l = record {
     done = [];
     sink = refl;
     text = text_none told;
     content = record {
       calls = calls_as (λ sure h f.
-          if_map (λ images. Follows {S = ⊥} (unread_by layout old new) no_part [] (exec (fate.fate images layout) p) [] (answer_of result)) (λ images. Goes (unread_by layout old new) part [] (maps_of layout sure images) (quiet p) [] (answer_of result)) h
+          if_map (λ images. Follows {S = ⊥} (unread_by layout old new) no_part [] (exec (fate.fate images layout) p) [] (answer_of result))
+          (λ images. Goes (unread_by layout old new) part [] (maps_of layout sure images) (quiet p) [] (answer_of result)) h
           (λ images g. goes_look layout sure images (unread_by layout old new) p (answer_of result) g) f) l.calls;
     };
   }
 
   module _ {C : Type 0} (layout layout' : Layout) (same : layout' ≡ layout) (p : Program Step A) (k : A → Program Step C) (x y z : Scene) where
-    pub does_then : (a : A) (ans : Result C (Halt fate.Fault UnreadBlock)) → OnlyReads x.rack y.rack → Does layout p x y (Ok a) → Does layout' (k a) y z ans → Does layout (bind p k) x z ans
+    pub does_then : (a : A) (ans : Result C (Halt fate.Fault UnreadBlock)) → OnlyReads x.rack y.rack → Does layout p x y (Ok a)
+        → Does layout' (k a) y z ans → Does layout (bind p k) x z ans
     does_then a ans reads h g =
         let g' = subst (λ (l : Layout). Does l (k a) y z ans) same g in
         record {
@@ -96,9 +106,13 @@ module _ {A : Type 0} where
           text = g'.text ∙ (ap (λ t. text_after t g'.done) h.text ∙ text_then x.text h.done g'.done);
           content = record {
             calls = calls_then (λ sure held f f'.
-                if_both (λ images. Goes (unread_by layout x.rack y.rack) part [] (maps_of layout sure images) p h.done (Ok a)) (λ images. Goes (unread_by layout y.rack z.rack) part [] (maps_of layout sure images) (k a) g'.done ans) (λ images. Goes (unread_by layout x.rack z.rack) part [] (maps_of layout sure images) (bind p k) (h.done ++ g'.done) ans) held
-                (λ images one two. goes_on (maps_of layout sure images) (unread_by layout x.rack y.rack) (unread_by layout x.rack z.rack) p k a h.done g'.done ans one
-                (goes_as (unread_by layout y.rack z.rack) (unread_by layout x.rack z.rack) (maps_of layout sure images) (k a) g'.done ans (λ u w i. since layout layout refl reads u w i) two)) f f')
+                if_both (λ images. Goes (unread_by layout x.rack y.rack) part [] (maps_of layout sure images) p h.done (Ok a))
+                (λ images. Goes (unread_by layout y.rack z.rack) part [] (maps_of layout sure images) (k a) g'.done ans)
+                (λ images. Goes (unread_by layout x.rack z.rack) part [] (maps_of layout sure images) (bind p k) (h.done ++ g'.done) ans) held
+                (λ images one two. goes_on (maps_of layout sure images) (unread_by layout x.rack y.rack) (unread_by layout x.rack z.rack) p k a h.done
+                g'.done ans one
+                (goes_as (unread_by layout y.rack z.rack) (unread_by layout x.rack z.rack) (maps_of layout sure images) (k a) g'.done ans
+                (λ u w i. since layout layout refl reads u w i) two)) f f')
                 h.content.calls g'.content.calls;
           };
         }
@@ -110,7 +124,8 @@ module _ {A : Type 0} where
       text = h.text;
       content = record {
         calls = calls_as (λ sure held f.
-            if_map (λ images. Goes (unread_by layout x.rack y.rack) part [] (maps_of layout sure images) p h.done (Err halt)) (λ images. Goes (unread_by layout x.rack y.rack) part [] (maps_of layout sure images) (bind p k) h.done (Err halt)) held
+            if_map (λ images. Goes (unread_by layout x.rack y.rack) part [] (maps_of layout sure images) p h.done (Err halt))
+            (λ images. Goes (unread_by layout x.rack y.rack) part [] (maps_of layout sure images) (bind p k) h.done (Err halt)) held
             (λ images g. goes_halt (maps_of layout sure images) (unread_by layout x.rack y.rack) part [] p k 0 h.done halt g) f) h.content.calls;
       };
     }

@@ -33,7 +33,8 @@ module _ (plan : RestorePlan) (dest : List ℕ) (images : Images) (start : Start
   Cut = cut (volume_map start (fate images)) There
 
   cut_here : Here ≡ Cut
-  cut_here = cut_law (volume_map start (fate images)) (volume_map start (committed C images)) (journey plan dest start) (first_within plan dest images start C table honest closed)
+  cut_here = cut_law (volume_map start (fate images)) (volume_map start (committed C images)) (journey plan dest start)
+      (first_within plan dest images start C table honest closed)
 
   -- the want at which the run is cut is lost
   lost_at : (m : Loses (volume_map start (fate images)) There Cut) → m.fault ≡ Lost (addr_of (want_of m.want))
@@ -59,7 +60,8 @@ module _ (plan : RestorePlan) (dest : List ℕ) (images : Images) (start : Start
             ∙ ap (λ e. outcome_by (steps_of m.before) e) (m.ending ∙ ap Err is));
       }
 
-  short_or : Each (λ w. IsWhole (volume_map start (fate images) w)) (wants_of There.marks) ⊎ Loses (volume_map start (fate images)) There Cut → (AreWhole plan dest images start C → ⊥) → StopsShort plan dest images start C (outcome Here)
+  short_or : Each (λ w. IsWhole (volume_map start (fate images) w)) (wants_of There.marks) ⊎ Loses (volume_map start (fate images)) There Cut
+      → (AreWhole plan dest images start C → ⊥) → StopsShort plan dest images start C (outcome Here)
   short_or (inl whole) not_whole = absurd (not_whole whole)
   short_or (inr m) not_whole = stops_short m
 

@@ -47,12 +47,14 @@ first_choice images start (Late table want) = choices-zero images (layout_by sta
 
 module _ (plan : RestorePlan) (dest : List ℕ) (images : Images) (start : Start) (C : Commit) where
   -- a want may come to the same by each choice, but for its bytes where there is no test
-  pub alike_there : (n : ℕ) (want : VolumeWant) → IsAlike (is_plain (want_of want)) (volume_map start (committed_choices C images n) want) (volume_map start (committed C images) want)
+  pub alike_there : (n : ℕ) (want : VolumeWant) → IsAlike (is_plain (want_of want)) (volume_map start (committed_choices C images n) want)
+      (volume_map start (committed C images) want)
   alike_there n (Early want) = choices_alike C images n want (array_layout start)
   alike_there n (Late table want) = choices_alike C images n want (layout_by start table)
 
   -- a want that the images lack is lost
-  pub lost_there : (n : ℕ) (want : VolumeWant) (f : Fault) → EndsInOrder (volume_map start (committed C images) want) → volume_map start (choices images n) want ≡ Err f → f ≡ Lost (addr_of (want_of want))
+  pub lost_there : (n : ℕ) (want : VolumeWant) (f : Fault) → EndsInOrder (volume_map start (committed C images) want)
+      → volume_map start (choices images n) want ≡ Err f → f ≡ Lost (addr_of (want_of want))
   lost_there n (Early want) f well is = lacked_lost C images n want (array_layout start) f well is
   lost_there n (Late table want) f well is = lacked_lost C images n want (layout_by start table) f well is
 
@@ -93,16 +95,22 @@ module _ (plan : RestorePlan) (dest : List ℕ) (images : Images) (start : Start
       let there : VolumeWant → Type 0 = λ want. IsIn C (want_of want) in
       let within : VolumeWant → Type 0 = λ want. (n : ℕ) → Within n want in
       both_wants (λ fault. Err (refusal_of fault)) within B D scan rest
-      (each_as (λ w. IsIn C w) (λ w. within (Early w)) (λ w is n. choices_within C images n w (array_layout start) (array_honest C images start table closed.stands honest) is) (needs B scan) (early_wants (λ fault. Err (refusal_of fault)) there B D scan rest closed.holds))
-      (λ t is. each_as (λ w. IsIn C w) (λ w. within (Late t w)) (λ w inside n. choices_within C images n w (layout_by start t) (subst (λ t. IsHonest C images (layout_by start t)) (the_table t is) honest) inside) (needs (D t) (rest t)) (late_wants (λ fault. Err (refusal_of fault)) there B D scan rest t is closed.holds))
+      (each_as (λ w. IsIn C w) (λ w. within (Early w)) (λ w is n. choices_within C images n w (array_layout start)
+      (array_honest C images start table closed.stands honest) is) (needs B scan)
+      (early_wants (λ fault. Err (refusal_of fault)) there B D scan rest closed.holds))
+      (λ t is. each_as (λ w. IsIn C w) (λ w. within (Late t w))
+      (λ w inside n. choices_within C images n w (layout_by start t) (subst (λ t. IsHonest C images (layout_by start t)) (the_table t is) honest)
+      inside) (needs (D t) (rest t)) (late_wants (λ fault. Err (refusal_of fault)) there B D scan rest t is closed.holds))
 
   -- of each want of the committed journey the first candidates have the committed bytes, or none
-  pub first_within : Each (λ want. IsWithin (volume_map start (fate images) want) (volume_map start (committed C images) want)) (needs (volume_map start (committed C images)) (journey plan dest start))
+  pub first_within : Each (λ want. IsWithin (volume_map start (fate images) want) (volume_map start (committed C images) want))
+      (needs (volume_map start (committed C images)) (journey plan dest start))
   first_within =
       each_as (λ want. (n : ℕ) → Within n want) (λ want. IsWithin (volume_map start (fate images) want) (volume_map start (committed C images) want))
       (λ want h. subst (λ r. IsWithin r (volume_map start (committed C images) want)) (first_choice images start want) (h 0))
       (needs (volume_map start (committed C images)) (journey plan dest start)) all_within
 
   -- the wants of the committed journey are mapped
-  pub all_well : Each (λ want. EndsInOrder (volume_map start (committed C images) want)) (needs (volume_map start (committed C images)) (journey plan dest start))
+  pub all_well : Each (λ want. EndsInOrder (volume_map start (committed C images) want))
+      (needs (volume_map start (committed C images)) (journey plan dest start))
   all_well = well_needs (λ fault. IsTrue (is_lost fault)) (volume_map start (committed C images)) (journey plan dest start) closed.well

@@ -1,5 +1,6 @@
 -- Over honest images, what is found of a want is the committed block.
-use Rattle.std.proofs.Common.{◌≡◌, inl, inr, ℕ, ◌<◌, Bool, true, false, cond, ltb, length, List, [], ◌∷◌, Option, Some, None, Result, Ok, Err, refl, sym, ap, subst, arith}
+use Rattle.std.proofs.Common.{◌≡◌, inl, inr, ℕ, ◌<◌, Bool, true, false, cond, ltb, length, List, [], ◌∷◌, Option, Some, None, Result, Ok, Err, refl, sym, ap}
+use Rattle.std.proofs.Common.{subst, arith}
 use Rattle.std.specs.Prelude.{IsSome, Contains, slice_get}
 use Rattle.std.proofs.lemmas.Bool.Decides.{nat_tests}
 use Rattle.std.proofs.lemmas.Option.{slice_get-get_or}
@@ -53,7 +54,12 @@ module _ (n addr : ℕ) where
       none_chosen : (b c : Bool) → slice_get {X = List ℕ} [] (cond b n 0) ≡ slice_get [] (cond c 0 0)
       none_chosen b c = refl
   alike_chosen (x ∷ xs) =
-      inr (refl, whole_chosen x xs (ltb n (length (x ∷ xs))) refl, subst (λ o. IsWhole (or_lost addr o)) (sym (zero_chosen (ltb 0 (length (x ∷ xs))) (x ∷ xs))) tt)
+      inr (
+        refl,
+        whole_chosen x xs (ltb n (length (x ∷ xs))) refl,
+        subst (λ o. IsWhole (or_lost addr o))
+            (sym (zero_chosen (ltb 0 (length (x ∷ xs))) (x ∷ xs))) tt,
+      )
 
   module _ (xs : List (List ℕ)) (o : Option (List ℕ)) where
     alike_by : (plain : Bool) → IsAlike plain (or_lost addr (cond plain (chosen n xs) o)) (or_lost addr (cond plain (chosen 0 xs) o))
@@ -61,7 +67,9 @@ module _ (n addr : ℕ) where
     alike_by false = inl refl
 
     -- what is found first is what is committed
-    within_by : (plain : Bool) (found : Option (List ℕ)) → slice_get xs 0 ≡ found → (plain ≡ false → IsSome o) → ((bytes candidate : List ℕ) → o ≡ Some bytes → Contains xs candidate → candidate ≡ bytes) → IsWithin (or_lost addr (cond plain (chosen n xs) found)) (or_lost addr (cond plain (chosen n xs) o))
+    within_by : (plain : Bool) (found : Option (List ℕ)) → slice_get xs 0 ≡ found → (plain ≡ false → IsSome o)
+        → ((bytes candidate : List ℕ) → o ≡ Some bytes → Contains xs candidate → candidate ≡ bytes)
+        → IsWithin (or_lost addr (cond plain (chosen n xs) found)) (or_lost addr (cond plain (chosen n xs) o))
     within_by true found is there honest = within_self (or_lost addr (chosen n xs))
     within_by false None is there honest = tt
     within_by false (Some bytes) is there honest = ap (or_lost addr) (the_bytes o bytes (there refl) (λ b e. honest b bytes e (first_stands xs bytes is)))
@@ -71,7 +79,8 @@ module _ (C : Commit) (images : Images) (n : ℕ) (want : Want) where
   alike_of (Err f) = inl refl
   alike_of (Ok t) = alike_by n (addr_of want) (passing images t) (C want) (is_plain want)
 
-  within_of : (x : Result Target Fault) → IsIn C want → ((bytes candidate : List ℕ) → C want ≡ Some bytes → Contains (passing_for images x) candidate → candidate ≡ bytes) → IsWithin (choice_of images n want x) (committed_of C images n want x)
+  within_of : (x : Result Target Fault) → IsIn C want → ((bytes candidate : List ℕ) → C want ≡ Some bytes → Contains (passing_for images x) candidate
+      → candidate ≡ bytes) → IsWithin (choice_of images n want x) (committed_of C images n want x)
   within_of (Err f) there honest = tt
   within_of (Ok t) there honest = within_by n (addr_of want) (passing images t) (C want) (is_plain want) (slice_get (passing images t) 0) refl there honest
 

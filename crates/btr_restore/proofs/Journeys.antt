@@ -31,7 +31,9 @@ use Rattle.btr_listing.specs.Step as step
 use Rattle.btr_listing.proofs.Decidings.{decided_shows}
 use Rattle.btr_files.proofs.Plains.{always, same, Shows, if_shows, looks_shows, each_shows, scan_shows, tree_shows, entries_show, alike_pieces, content_shows}
 use Rattle.btr_restore.specs.Committed.{want_of}
-use Rattle.btr_restore.specs.Journey.{Listing, Treated, Over, Within, has_no_sums, row, told, put, pieces, unverified, closed, written, entered, empty, done_about, rules_of, treated, listed_in, treat, listed, directory, restored, sums_lookup, from_root, listing, journey, most_depth}
+use Rattle.btr_restore.specs.Journey.{Listing, Treated, Over, Within, has_no_sums, row, told, put, pieces, unverified, closed, written, entered, empty}
+use Rattle.btr_restore.specs.Journey.{done_about, rules_of, treated, listed_in, treat, listed, directory, restored, sums_lookup, from_root, listing, journey}
+use Rattle.btr_restore.specs.Journey.{most_depth}
 
 abbrev any : (s : Step) → always s s
 any s = tt
@@ -72,9 +74,11 @@ module _ (plan : RestorePlan) (s : Super) (sums : Option TreeRoot) where
   closed_shows : (path : List ℕ) (counts : Counts) (plain : Bool) → Restores (closed plan path counts plain)
   closed_shows path counts plain =
       let last : Program Step Treated = unverified plain path (Return (Over (with_file counts))) in
-      row_shows Done (told plan (codes "file") path last) (told_shows (codes "file") path last (unverified_shows plain path (Return (Over (with_file counts))) tt))
+      row_shows Done (told plan (codes "file") path last) (told_shows (codes "file") path last
+      (unverified_shows plain path (Return (Over (with_file counts))) tt))
 
-  written_shows : (tree : TreeRoot) (ino : ℕ) (name path : List ℕ) (inode : Inode) (counts : Counts) → Restores (written plan s sums tree ino name path inode counts)
+  written_shows : (tree : TreeRoot) (ino : ℕ) (name path : List ℕ) (inode : Inode) (counts : Counts)
+      → Restores (written plan s sums tree ino name path inode counts)
   written_shows tree ino name path inode counts =
       row_shows (File name) (bind (pieces plan s sums tree ino inode) (closed plan path counts))
       (shows_bind always any is_plain (pieces plan s sums tree ino inode) (closed plan path counts) (pieces_show tree ino inode) (closed_shows path counts))
@@ -111,7 +115,9 @@ module _ (plan : RestorePlan) (s : Super) (sums : Option TreeRoot) where
   listed_shows : (deep : Bool) (below : Listing) → Lists below → Lists (listed plan s sums deep below)
   listed_shows deep below h tree dirid path counts =
       each_shows always any (treat plan s sums deep below tree dirid path) counts (entries tree dirid)
-      (λ c entry. shows_bind always any is_plain (treated plan s sums (met_in deep tree dirid path entry) c) (listed_in plan s sums below (path_in path entry.name)) (treated_shows (met_in deep tree dirid path entry) c) (inside_shows below h (path_in path entry.name)))
+      (λ c entry. shows_bind always any is_plain (treated plan s sums (met_in deep tree dirid path entry) c)
+      (listed_in plan s sums below (path_in path entry.name)) (treated_shows (met_in deep tree dirid path entry) c)
+      (inside_shows below h (path_in path entry.name)))
       (entries_show tree dirid)
 
   tops_show : (n : ℕ) → Lists (directory plan s sums n)
@@ -123,7 +129,8 @@ module _ (plan : RestorePlan) (dest : List ℕ) (s : Super) where
   restored_shows tree sums =
       let inside = directory plan s sums most_depth tree tree.dirid [] no_counts in
       row_shows plan s sums (step.Start dest) _
-      (shows_bind always any is_plain inside (λ counts. Emit (Line (counts_line counts)) (Return counts)) (tops_show plan s sums most_depth tree tree.dirid [] no_counts) (λ counts. tt))
+      (shows_bind always any is_plain inside (λ counts. Emit (Line (counts_line counts)) (Return counts))
+      (tops_show plan s sums most_depth tree tree.dirid [] no_counts) (λ counts. tt))
 
   sums_show : Shows same (sums_lookup plan s)
   sums_show = if_shows same plan.dry (Return None) (tree_of s 7) tt (tree_shows s 7)
@@ -142,5 +149,6 @@ journey_blind plan dest start =
     let inside = listing plan dest start.sup in
     let last : Counts → Program Step (Result Counts OpenFault) = λ counts. Return (Ok counts) in
     shows_blind always plain (journey plan dest start)
-    (shows_staged always any plain (λ fault. Err (refusal_of fault)) (quiet (table_scan start)) (λ table. bind inside last) (shows_quiet same always is_plain (table_scan start) (scan_shows start))
+    (shows_staged always any plain (λ fault. Err (refusal_of fault)) (quiet (table_scan start)) (λ table. bind inside last)
+    (shows_quiet same always is_plain (table_scan start) (scan_shows start))
     (λ table. shows_bind always any is_plain inside last (listing_shows plan dest start.sup) (λ counts. tt)))

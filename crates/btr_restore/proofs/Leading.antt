@@ -25,7 +25,8 @@ module _ {W F : Type 0} where
   Leads K s c (Need w k) = (bytes : List ℕ) → Leads K s c (k bytes)
   Leads K s c (Emit step p) = Takes s step × Leads K (sink_after s step) (counted c step) p
 
-  pub leads_bind : {A C : Type 0} (J : Claim A) (K : Claim C) (s : Sink) (c : Counts) (p : Prog W F Step A) (k : A → Prog W F Step C) → Leads J s c p → ((t : Sink) (d : Counts) (a : A) → J t d a → Leads K t d (k a)) → Leads K s c (bind p k)
+  pub leads_bind : {A C : Type 0} (J : Claim A) (K : Claim C) (s : Sink) (c : Counts) (p : Prog W F Step A) (k : A → Prog W F Step C) → Leads J s c p
+      → ((t : Sink) (d : Counts) (a : A) → J t d a → Leads K t d (k a)) → Leads K s c (bind p k)
   leads_bind J K s c (Return a) k h g = g s c a h
   leads_bind J K s c (Stop f) k h g = tt
   leads_bind J K s c (Need w l) k h g = λ bytes. leads_bind J K s c (l bytes) k (h bytes) g
@@ -38,19 +39,22 @@ module _ {W F : Type 0} where
   leads_quiet K s c (Need w k) h = λ bytes. leads_quiet K s c (k bytes) h
   leads_quiet K s c (Emit step p) h = absurd step
 
-  pub leads_looks : {A C : Type 0} (K : Claim C) (s : Sink) (c : Counts) (p : Prog W F ⊥ A) (k : A → Prog W F Step C) → ((a : A) → Leads K s c (k a)) → Leads K s c (bind (quiet p) k)
+  pub leads_looks : {A C : Type 0} (K : Claim C) (s : Sink) (c : Counts) (p : Prog W F ⊥ A) (k : A → Prog W F Step C) → ((a : A) → Leads K s c (k a))
+      → Leads K s c (bind (quiet p) k)
   leads_looks K s c p k h =
       leads_bind (λ t d a. (t ≡ s) × (d ≡ c)) K s c (quiet p) k (leads_quiet (λ t d a. (t ≡ s) × (d ≡ c)) s c p (λ a. (refl, refl)))
       (λ t d a e. subst (λ x. Leads K x d (k a)) (sym e.0) (subst (λ x. Leads K s x (k a)) (sym e.1) (h a)))
 
   -- a lookup does no step, and something holds of its value
-  pub leads_found : {A C : Type 0} (K : Claim C) (s : Sink) (c : Counts) (p : Prog W F ⊥ A) (k : A → Prog W F Step C) (Q : A → Type 0) → Gives Q p → ((a : A) → Q a → Leads K s c (k a)) → Leads K s c (bind (quiet p) k)
+  pub leads_found : {A C : Type 0} (K : Claim C) (s : Sink) (c : Counts) (p : Prog W F ⊥ A) (k : A → Prog W F Step C) (Q : A → Type 0) → Gives Q p
+      → ((a : A) → Q a → Leads K s c (k a)) → Leads K s c (bind (quiet p) k)
   leads_found K s c (Return a) k Q g h = h a g
   leads_found K s c (Stop f) k Q g h = tt
   leads_found K s c (Need w l) k Q g h = λ bytes. leads_found K s c (l bytes) k Q (g bytes) h
   leads_found K s c (Emit step p) k Q g h = absurd step
 
-  pub leads_if : {A : Type 0} (K : Claim A) (s : Sink) (c : Counts) (b : Bool) (p q : Prog W F Step A) → (b ≡ true → Leads K s c p) → (b ≡ false → Leads K s c q) → Leads K s c (cond b p q)
+  pub leads_if : {A : Type 0} (K : Claim A) (s : Sink) (c : Counts) (b : Bool) (p q : Prog W F Step A) → (b ≡ true → Leads K s c p)
+      → (b ≡ false → Leads K s c q) → Leads K s c (cond b p q)
   leads_if K s c true p q h g = h refl
   leads_if K s c false p q h g = g refl
 
@@ -65,12 +69,14 @@ module _ {W F : Type 0} where
     Either s c (Ok x) = inv s c x
     Either s c (Err x) = inv s c x
 
-    leads_on : (k : C → Prog W F Step C) (s : Sink) (c : Counts) (r : Result C C) → ((x : C) → inv s c x → Leads inv s c (k x)) → Either s c r → Leads inv s c (go_on k r)
+    leads_on : (k : C → Prog W F Step C) (s : Sink) (c : Counts) (r : Result C C) → ((x : C) → inv s c x → Leads inv s c (k x)) → Either s c r
+        → Leads inv s c (go_on k r)
     leads_on k s c (Ok x) h e = h x e
     leads_on k s c (Err x) h e = e
 
     -- what holds before each step of another program is treated, and after it, holds in the end
-    pub leads_each : ((s : Sink) (c : Counts) (x : C) (t : T) → inv s c x → Leads inv s c (treat x t)) → (s : Sink) (c : Counts) (x : C) (p : Prog W F T (Unit {0})) → inv s c x → Leads inv s c (thread step_by last_by x p)
+    pub leads_each : ((s : Sink) (c : Counts) (x : C) (t : T) → inv s c x → Leads inv s c (treat x t))
+        → (s : Sink) (c : Counts) (x : C) (p : Prog W F T (Unit {0})) → inv s c x → Leads inv s c (thread step_by last_by x p)
     leads_each h s c x (Return u) i = i
     leads_each h s c x (Stop f) i = tt
     leads_each h s c x (Need w k) i = λ bytes. leads_each h s c x (k bytes) i
@@ -95,7 +101,8 @@ module _ {W F A I : Type 0} (maps : I → BlockMap W F) (K : Claim A) where
   abbrev pub IsLed : Sink → Counts → Run W F Step A → Type 0
   IsLed s c r = TakesAll s (steps_of r.marks) × IfValue r.ending (λ a. K (fold sink_after s (steps_of r.marks)) (fold counted c (steps_of r.marks)) a)
 
-  led_given : (s : Sink) (c : Counts) (x : Result (List ℕ) F) (k : List ℕ → Prog W F Step A) (q : Run W F Step A) → ((bytes : List ℕ) (t : Run W F Step A) → GoesTo maps (k bytes) t → IsLed s c t) → goes_given x (λ bytes. GoesTo maps (k bytes)) q → IsLed s c q
+  led_given : (s : Sink) (c : Counts) (x : Result (List ℕ) F) (k : List ℕ → Prog W F Step A) (q : Run W F Step A)
+      → ((bytes : List ℕ) (t : Run W F Step A) → GoesTo maps (k bytes) t → IsLed s c t) → goes_given x (λ bytes. GoesTo maps (k bytes)) q → IsLed s c q
   led_given s c (Ok bytes) k q h g = h bytes q g
   led_given s c (Err f) k q h g = subst (λ r. IsLed s c r) (sym g) (tt, tt)
 

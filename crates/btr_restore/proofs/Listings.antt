@@ -46,24 +46,32 @@ use Rattle.btr_restore.proofs.Stopping.{stop_cause_since}
 
 -- facts of calls in a row, over one layout
 module _ (layout : Layout) (a b c : Seen) where
-  pub both_then : (P : Map → (ℕ → Map) → Type 0) (Q : Map → Type 0) (R : Map → (ℕ → Map) → Type 0) → ((B : Map) (Bs : ℕ → Map) → ((w : Want) → Bs 0 w ≡ B w) → P B Bs → Q B → R B Bs) → TellsBoth layout a b P → Tells layout b c Q → TellsBoth layout a c R
+  pub both_then : (P : Map → (ℕ → Map) → Type 0) (Q : Map → Type 0) (R : Map → (ℕ → Map) → Type 0)
+      → ((B : Map) (Bs : ℕ → Map) → ((w : Want) → Bs 0 w ≡ B w) → P B Bs → Q B → R B Bs) → TellsBoth layout a b P → Tells layout b c Q → TellsBoth layout a c R
   both_then P Q R f one two = calls_then (λ sure held p q.
-      if_both (λ images. P (fate images layout) (maps_of layout sure images)) (λ images. Q (fate images layout)) (λ images. R (fate images layout) (maps_of layout sure images)) held
+      if_both (λ images. P (fate images layout) (maps_of layout sure images)) (λ images. Q (fate images layout))
+      (λ images. R (fate images layout) (maps_of layout sure images)) held
       (λ images h g. f (fate images layout) (maps_of layout sure images) (first_map layout sure images) h g) p q) one two.calls
 
-  pub both_all : (P : Map → (ℕ → Map) → Type 0) (Q : (ℕ → Map) → Type 0) (R : Map → (ℕ → Map) → Type 0) → ((B : Map) (Bs : ℕ → Map) → ((w : Want) → Bs 0 w ≡ B w) → P B Bs → Q Bs → R B Bs) → TellsBoth layout a b P → TellsAll layout b c Q → TellsBoth layout a c R
+  pub both_all : (P : Map → (ℕ → Map) → Type 0) (Q : (ℕ → Map) → Type 0) (R : Map → (ℕ → Map) → Type 0)
+      → ((B : Map) (Bs : ℕ → Map) → ((w : Want) → Bs 0 w ≡ B w) → P B Bs → Q Bs → R B Bs) → TellsBoth layout a b P → TellsAll layout b c Q
+      → TellsBoth layout a c R
   both_all P Q R f one two = calls_then (λ sure held p q.
-      if_both (λ images. P (fate images layout) (maps_of layout sure images)) (λ images. Q (maps_of layout sure images)) (λ images. R (fate images layout) (maps_of layout sure images)) held
+      if_both (λ images. P (fate images layout) (maps_of layout sure images)) (λ images. Q (maps_of layout sure images))
+      (λ images. R (fate images layout) (maps_of layout sure images)) held
       (λ images h g. f (fate images layout) (maps_of layout sure images) (first_map layout sure images) h g) p q) one two.calls
 
 pub all_of : (layout : Layout) (a b : Seen) (R : (ℕ → Map) → Type 0) → TellsBoth layout a b (λ B Bs. R Bs) → TellsAll layout a b R
 all_of layout a b R t = record { calls = t }
 
-pub both_none : (layout : Layout) (a : Seen) (P : Map → (ℕ → Map) → Type 0) → ((B : Map) (Bs : ℕ → Map) → ((w : Want) → Bs 0 w ≡ B w) → P B Bs) → TellsBoth layout a a P
-both_none layout a P f = calls_none (λ sure. if_some (λ images. P (fate images layout) (maps_of layout sure images)) a.held (λ images. f (fate images layout) (maps_of layout sure images) (first_map layout sure images)))
+pub both_none : (layout : Layout) (a : Seen) (P : Map → (ℕ → Map) → Type 0) → ((B : Map) (Bs : ℕ → Map) → ((w : Want) → Bs 0 w ≡ B w) → P B Bs)
+    → TellsBoth layout a a P
+both_none layout a P f = calls_none (λ sure. if_some (λ images. P (fate images layout) (maps_of layout sure images)) a.held
+    (λ images. f (fate images layout) (maps_of layout sure images) (first_map layout sure images)))
 
 -- a directory, below which so many more may be entered, entry by entry
-pub directory_is : (plan : RestorePlan) (s : Super) (sums : Option TreeRoot) (k : ℕ) (tree : TreeRoot) (dirid : ℕ) (path : List ℕ) (counts : Counts) → each (treat_in plan s sums k tree dirid path) counts (entries tree dirid) ≡ directory plan s sums k tree dirid path counts
+pub directory_is : (plan : RestorePlan) (s : Super) (sums : Option TreeRoot) (k : ℕ) (tree : TreeRoot) (dirid : ℕ) (path : List ℕ) (counts : Counts)
+    → each (treat_in plan s sums k tree dirid path) counts (entries tree dirid) ≡ directory plan s sums k tree dirid path counts
 directory_is plan s sums zero tree dirid path counts = refl
 directory_is plan s sums (suc n) tree dirid path counts = refl
 
@@ -75,11 +83,13 @@ module _ (treat : Counts → DirEntry → Program Step Counts) (B : Map) (Bs : �
   last = last_of treat
 
   -- nothing is done yet
-  pub left_first : (counts : Counts) (dir : Dir) (p : Program DirEntry (Unit {0})) → dir_left B dir ≡ p → IsDirOn B [] dir → LeftOf treat (each treat counts p) B Bs counts dir []
+  pub left_first : (counts : Counts) (dir : Dir) (p : Program DirEntry (Unit {0})) → dir_left B dir ≡ p → IsDirOn B [] dir
+      → LeftOf treat (each treat counts p) B Bs counts dir []
   left_first counts dir p is on = record {
     seen = [];
     so_far = so_far_more (GoesTo Bs (each treat counts p)) (GoesTo Bs (each treat counts p)) (Left treat Bs counts (exec B (dir_left B dir))) [] [] []
-        (λ q h. goes_thread Bs (body_of treat) last counts p (exec B p) q (goes_some Bs B p (each_all (λ w. (i : ℕ) × (Bs i w ≡ B w)) (needs B p) (λ w. (0, zeroth w))))
+        (λ q h. goes_thread Bs (body_of treat) last counts p (exec B p) q
+        (goes_some Bs B p (each_all (λ w. (i : ℕ) × (Bs i w ≡ B w)) (needs B p) (λ w. (0, zeroth w))))
         (subst (λ (x : Program DirEntry (Unit {0})). Left treat Bs counts (exec B x) q) is h))
         (so_far_none (GoesTo Bs (each treat counts p)));
     on = on;
@@ -90,7 +100,8 @@ module _ (treat : Counts → DirEntry → Program Step Counts) (B : Map) (Bs : �
     Whole = GoesTo Bs whole
 
     -- an entry was met
-    pub met_next : (dir dir' : Dir) (entry : DirEntry) (done : List Step) → (l : LeftOf treat whole B Bs counts dir done) → GivesEntry B l.seen dir dir' entry → MetOf treat whole B Bs counts entry dir' done
+    pub met_next : (dir dir' : Dir) (entry : DirEntry) (done : List Step) → (l : LeftOf treat whole B Bs counts dir done)
+        → GivesEntry B l.seen dir dir' entry → MetOf treat whole B Bs counts entry dir' done
     met_next dir dir' entry done l g = record {
       seen = l.seen ++ g.past;
       so_far = so_far_past Body last Whole l.seen g.past done counts (exec B (dir_left B dir)) (first (Does entry) (exec B (dir_left B dir'))) g.is l.so_far;
@@ -102,38 +113,51 @@ module _ (treat : Counts → DirEntry → Program Step Counts) (B : Map) (Bs : �
       rest = exec B (dir_left B dir')
 
       -- an entry was met and treated wholly
-      pub left_next : (Is : UnreadBlock → Want → Type 0) (counts' : Counts) → MetOf treat whole B Bs counts entry dir' done → Goes Is part [] Bs (treat counts entry) more (Ok counts') → LeftOf treat whole B Bs counts' dir' (done ++ more)
+      pub left_next : (Is : UnreadBlock → Want → Type 0) (counts' : Counts) → MetOf treat whole B Bs counts entry dir' done
+          → Goes Is part [] Bs (treat counts entry) more (Ok counts') → LeftOf treat whole B Bs counts' dir' (done ++ more)
       left_next Is counts' l t =
           let b : Run Want Fault Step (Result Counts Counts) = with_value {S = Step} Bs Ok t.0 in
           record {
             seen = l.seen ++ wants_of b.marks;
-            so_far = so_far_step Body last rest.marks rest.ending Is part Whole l.seen done more counts counts' entry b (goes_value Bs Ok (treat counts entry) t.0 t.1)
+            so_far = so_far_step Body last rest.marks rest.ending Is part Whole l.seen done more counts counts' entry b
+                (goes_value Bs Ok (treat counts entry) t.0 t.1)
                 (follows_alone Is part l.seen b more (Ok (Ok counts')) (follows_value Is part [] Ok t.0 counts' more t.2)) l.so_far;
             on = rest_more B l.seen (wants_of b.marks) dir'.rest l.on;
           }
 
       -- an entry was met and not treated to its end
-      pub left_halts : (Is : UnreadBlock → Want → Type 0) (halt : Halt Fault UnreadBlock) → MetOf treat whole B Bs counts entry dir' done → Goes Is part [] Bs (treat counts entry) more (Err halt) → Goes Is part [] Bs whole (done ++ more) (Err halt)
+      pub left_halts : (Is : UnreadBlock → Want → Type 0) (halt : Halt Fault UnreadBlock) → MetOf treat whole B Bs counts entry dir' done
+          → Goes Is part [] Bs (treat counts entry) more (Err halt) → Goes Is part [] Bs whole (done ++ more) (Err halt)
       left_halts Is halt l t =
           let b : Run Want Fault Step (Result Counts Counts) = with_value {S = Step} Bs Ok t.0 in
-          so_far_halts Body last rest.marks rest.ending Is part Whole l.seen done more counts entry b halt (λ st. some_run Bs 0 (body_of treat) last st rest.marks rest.ending)
+          so_far_halts Body last rest.marks rest.ending Is part Whole l.seen done more counts entry b halt
+          (λ st. some_run Bs 0 (body_of treat) last st rest.marks rest.ending)
           (λ st. threads_map Bs 0 (body_of treat) last st rest.marks rest.ending) (goes_value Bs Ok (treat counts entry) t.0 t.1)
           (follows_alone Is part l.seen b more (Err halt) (follows_halt Is part [] t.0 (λ x. run [] (Ok (Ok x))) more halt t.2)) l.so_far
 
     -- the entries came to a fault, and to their end
-    pub left_fault : (Is : UnreadBlock → Want → Type 0) (dir : Dir) (done : List Step) (halt : Halt Fault UnreadBlock) → (l : LeftOf treat whole B Bs counts dir done) → Follows Is no_part l.seen (exec B (dir_left B dir)) [] (Err halt) → Goes Is part [] Bs whole done (Err halt)
+    pub left_fault : (Is : UnreadBlock → Want → Type 0) (dir : Dir) (done : List Step) (halt : Halt Fault UnreadBlock)
+        → (l : LeftOf treat whole B Bs counts dir done) → Follows Is no_part l.seen (exec B (dir_left B dir)) [] (Err halt)
+        → Goes Is part [] Bs whole done (Err halt)
     left_fault Is dir done halt l f =
-        so_far_cursor Body last (λ st r. (some_run Bs 0 (body_of treat) last st r.marks r.ending, threads_map Bs 0 (body_of treat) last st r.marks r.ending)) Is part Whole l.seen done counts (exec B (dir_left B dir)) halt f l.so_far
+        so_far_cursor Body last (λ st r. (
+          some_run Bs 0 (body_of treat) last st r.marks r.ending,
+          threads_map Bs 0 (body_of treat) last st r.marks
+              r.ending,
+        )) Is part Whole l.seen done counts (exec B (dir_left B dir)) halt f l.so_far
 
-    pub left_ended : (Is : UnreadBlock → Want → Type 0) (dir : Dir) (done : List Step) → (l : LeftOf treat whole B Bs counts dir done) → Follows Is no_part l.seen (exec B (dir_left B dir)) [] (Ok tt) → Goes Is part [] Bs whole done (Ok counts)
+    pub left_ended : (Is : UnreadBlock → Want → Type 0) (dir : Dir) (done : List Step) → (l : LeftOf treat whole B Bs counts dir done)
+        → Follows Is no_part l.seen (exec B (dir_left B dir)) [] (Ok tt) → Goes Is part [] Bs whole done (Ok counts)
     left_ended Is dir done l f =
         let r = exec B (dir_left B dir) in
         let last_mark = so_far_last Body last r.ending Whole done counts r.marks l.seen (sym f.0) l.so_far in
-        so_far_ended Body last Is part Whole (l.seen ++ last_mark.0) done counts tt (subst (λ (e : Result (Unit {0}) Fault). SoFar Whole (ThreadsTo Body last counts [] e) (l.seen ++ last_mark.0) done) f.1 last_mark.1)
+        so_far_ended Body last Is part Whole (l.seen ++ last_mark.0) done counts tt
+        (subst (λ (e : Result (Unit {0}) Fault). SoFar Whole (ThreadsTo Body last counts [] e) (l.seen ++ last_mark.0) done) f.1 last_mark.1)
 
 -- a listing, call by call
 module _ (treat : Counts → DirEntry → Program Step Counts) (x : World) where
-  pub listed_first : (counts : Counts) (dir : Dir) (p : Program DirEntry (Unit {0})) → IsReady x.rack x.vol → ((B : Map) → dir_left B dir ≡ p) → ((B : Map) → IsDirOn B [] dir) → Listed treat (each treat counts p) x x counts dir
+  pub listed_first : (counts : Counts) (dir : Dir) (p : Program DirEntry (Unit {0})) → IsReady x.rack x.vol → ((B : Map) → dir_left B dir ≡ p)
+      → ((B : Map) → IsDirOn B [] dir) → Listed treat (each treat counts p) x x counts dir
   listed_first counts dir p ready is on = record {
     reads = reads_self x.rack;
     volume = same_self x.vol;
@@ -141,7 +165,8 @@ module _ (treat : Counts → DirEntry → Program Step Counts) (x : World) where
     done = [];
     sink = refl;
     text = text_none x.out.text;
-    content = both_none x.vol.store.layout x.rack (λ B Bs. LeftOf treat (each treat counts p) B Bs counts dir []) (λ B Bs z. left_first treat B Bs z counts dir p (is B) (on B));
+    content = both_none x.vol.store.layout x.rack (λ B Bs. LeftOf treat (each treat counts p) B Bs counts dir [])
+        (λ B Bs z. left_first treat B Bs z counts dir p (is B) (on B));
     sink_calls = refl;
     out_calls = refl;
   }
@@ -153,7 +178,8 @@ module _ (treat : Counts → DirEntry → Program Step Counts) (x : World) where
     abbrev Next : Layout → Result (Option DirRow) TreeFault → Map → Type 0
     Next L result B = IsNextEntry (unread_by L y.rack rack) B dir dir' name result
 
-    over : (result : Result (Option DirRow) TreeFault) → Tells y.vol.store.layout y.rack rack (Next y.vol.store.layout result) → Tells layout y.rack rack (Next layout result)
+    over : (result : Result (Option DirRow) TreeFault) → Tells y.vol.store.layout y.rack rack (Next y.vol.store.layout result)
+        → Tells layout y.rack rack (Next layout result)
     over result t = subst (λ (L : Layout). Tells L y.rack rack (Next L result)) l.volume.store.layout t
 
     abbrev Was : Map → (ℕ → Map) → Type 0
@@ -163,7 +189,8 @@ module _ (treat : Counts → DirEntry → Program Step Counts) (x : World) where
     earlier u w i = since layout layout refl l.reads u w i
 
     -- it came to a fault
-    pub listed_fault : (f : TreeFault) → HasCause {A = Option DirRow} y.vol.store.layout y.rack rack (Err f) → Tells y.vol.store.layout y.rack rack (Next y.vol.store.layout (Err f)) → Ran whole x (world rack vol y.out) (Err (stop.Tree f))
+    pub listed_fault : (f : TreeFault) → HasCause {A = Option DirRow} y.vol.store.layout y.rack rack (Err f)
+        → Tells y.vol.store.layout y.rack rack (Next y.vol.store.layout (Err f)) → Ran whole x (world rack vol y.out) (Err (stop.Tree f))
     listed_fault f cause t = record {
       reads = reads_then l.reads reads;
       volume = same_then l.volume same;
@@ -173,9 +200,11 @@ module _ (treat : Counts → DirEntry → Program Step Counts) (x : World) where
         sink = l.sink;
         text = l.text;
         content = all_of layout x.rack rack (λ Bs. Goes (unread_by layout x.rack rack) part [] Bs whole l.done (Err (halt_of f)))
-            (both_then layout x.rack y.rack rack Was (Next layout (Err f)) (λ B Bs. Goes (unread_by layout x.rack rack) part [] Bs whole l.done (Err (halt_of f)))
+            (both_then layout x.rack y.rack rack Was (Next layout (Err f))
+            (λ B Bs. Goes (unread_by layout x.rack rack) part [] Bs whole l.done (Err (halt_of f)))
             (λ B Bs z p q. left_fault treat B Bs z whole counts (unread_by layout x.rack rack) dir l.done (halt_of f) p
-            (follows_as (unread_by layout y.rack rack) (unread_by layout x.rack rack) earlier no_part p.seen (exec B (dir_left B dir)) [] (Err (halt_of f)) (q p.seen p.on)))
+            (follows_as (unread_by layout y.rack rack) (unread_by layout x.rack rack) earlier no_part p.seen (exec B (dir_left B dir)) []
+            (Err (halt_of f)) (q p.seen p.on)))
             l.content (over (Err f) t));
       };
       cause = cause_since rack layout y.vol.store.layout f l.volume.store.layout l.reads cause;
@@ -184,7 +213,8 @@ module _ (treat : Counts → DirEntry → Program Step Counts) (x : World) where
     }
 
     -- the listing came to its end
-    pub listed_end : (result : Result (Option DirRow) TreeFault) → result ≡ Ok None → Tells y.vol.store.layout y.rack rack (Next y.vol.store.layout result) → Ran whole x (world rack vol y.out) (Ok counts)
+    pub listed_end : (result : Result (Option DirRow) TreeFault) → result ≡ Ok None
+        → Tells y.vol.store.layout y.rack rack (Next y.vol.store.layout result) → Ran whole x (world rack vol y.out) (Ok counts)
     listed_end result is t = record {
       reads = reads_then l.reads reads;
       volume = same_then l.volume same;
@@ -196,7 +226,8 @@ module _ (treat : Counts → DirEntry → Program Step Counts) (x : World) where
         content = all_of layout x.rack rack (λ Bs. Goes (unread_by layout x.rack rack) part [] Bs whole l.done (Ok counts))
             (both_then layout x.rack y.rack rack Was (Next layout (Ok None)) (λ B Bs. Goes (unread_by layout x.rack rack) part [] Bs whole l.done (Ok counts))
             (λ B Bs z p q. left_ended treat B Bs z whole counts (unread_by layout x.rack rack) dir l.done p
-            (follows_as (unread_by layout y.rack rack) (unread_by layout x.rack rack) earlier no_part p.seen (exec B (dir_left B dir)) [] (Ok tt) (q p.seen p.on)))
+            (follows_as (unread_by layout y.rack rack) (unread_by layout x.rack rack) earlier no_part p.seen (exec B (dir_left B dir)) [] (Ok tt)
+            (q p.seen p.on)))
             l.content (over (Ok None) (subst (λ r. Tells y.vol.store.layout y.rack rack (Next y.vol.store.layout r)) is t)));
       };
       cause = tt;
@@ -209,7 +240,9 @@ module _ (treat : Counts → DirEntry → Program Step Counts) (x : World) where
       entry = named_row row name
 
       met : TellsBoth layout x.rack rack (λ B Bs. MetOf treat whole B Bs counts entry dir' l.done)
-      met = both_then layout x.rack y.rack rack Was (Next layout (Ok (Some row))) (λ B Bs. MetOf treat whole B Bs counts entry dir' l.done) (λ B Bs zth p q. met_next treat B Bs zth whole counts dir dir' entry l.done p (q p.seen p.on)) l.content (over (Ok (Some row)) (subst (λ r. Tells y.vol.store.layout y.rack rack (Next y.vol.store.layout r)) is t))
+      met = both_then layout x.rack y.rack rack Was (Next layout (Ok (Some row))) (λ B Bs. MetOf treat whole B Bs counts entry dir' l.done)
+          (λ B Bs zth p q. met_next treat B Bs zth whole counts dir dir' entry l.done p (q p.seen p.on)) l.content
+          (over (Ok (Some row)) (subst (λ r. Tells y.vol.store.layout y.rack rack (Next y.vol.store.layout r)) is t))
 
       abbrev deeper : vol.store.layout ≡ layout
       deeper = same.store.layout ∙ l.volume.store.layout
@@ -223,9 +256,12 @@ module _ (treat : Counts → DirEntry → Program Step Counts) (x : World) where
         done = l.done ++ r.did.done;
         sink = r.did.sink ∙ (ap (λ s. fold sink_after s r.did.done) l.sink ∙ sym (fold-append sink_after x.out.sink l.done r.did.done));
         text = r.did.text ∙ (ap (λ u. text_after u r.did.done) l.text ∙ text_then x.out.text l.done r.did.done);
-        content = both_all layout x.rack rack z.rack (λ B Bs. MetOf treat whole B Bs counts entry dir' l.done) (λ Bs. Goes (unread_by layout rack z.rack) part [] Bs (treat counts entry) r.did.done (Ok counts')) (λ B Bs. LeftOf treat whole B Bs counts' dir' (l.done ++ r.did.done))
+        content = both_all layout x.rack rack z.rack (λ B Bs. MetOf treat whole B Bs counts entry dir' l.done)
+            (λ Bs. Goes (unread_by layout rack z.rack) part [] Bs (treat counts entry) r.did.done (Ok counts'))
+            (λ B Bs. LeftOf treat whole B Bs counts' dir' (l.done ++ r.did.done))
             (λ B Bs zth m g. left_next treat B Bs zth whole counts entry dir' l.done r.did.done (unread_by layout rack z.rack) counts' m g) met
-            (subst (λ (L : Layout). TellsAll L rack z.rack (λ Bs. Goes (unread_by L rack z.rack) part [] Bs (treat counts entry) r.did.done (Ok counts'))) deeper r.did.content);
+            (subst (λ (L : Layout). TellsAll L rack z.rack (λ Bs. Goes (unread_by L rack z.rack) part [] Bs (treat counts entry) r.did.done
+            (Ok counts'))) deeper r.did.content);
         sink_calls = r.sink_calls ∙ l.sink_calls;
         out_calls = r.out_calls ∙ l.out_calls;
       }
@@ -241,10 +277,14 @@ module _ (treat : Counts → DirEntry → Program Step Counts) (x : World) where
           sink = r.did.sink ∙ (ap (λ v. fold sink_after v r.did.done) l.sink ∙ sym (fold-append sink_after x.out.sink l.done r.did.done));
           text = r.did.text ∙ (ap (λ u. text_after u r.did.done) l.text ∙ text_then x.out.text l.done r.did.done);
           content = all_of layout x.rack z.rack (λ Bs. Goes (unread_by layout x.rack z.rack) part [] Bs whole (l.done ++ r.did.done) (Err (stop_halt s)))
-              (both_all layout x.rack rack z.rack (λ B Bs. MetOf treat whole B Bs counts entry dir' l.done) (λ Bs. Goes (unread_by layout rack z.rack) part [] Bs (treat counts entry) r.did.done (Err (stop_halt s))) (λ B Bs. Goes (unread_by layout x.rack z.rack) part [] Bs whole (l.done ++ r.did.done) (Err (stop_halt s)))
+              (both_all layout x.rack rack z.rack (λ B Bs. MetOf treat whole B Bs counts entry dir' l.done)
+              (λ Bs. Goes (unread_by layout rack z.rack) part [] Bs (treat counts entry) r.did.done (Err (stop_halt s)))
+              (λ B Bs. Goes (unread_by layout x.rack z.rack) part [] Bs whole (l.done ++ r.did.done) (Err (stop_halt s)))
               (λ B Bs zth m g. left_halts treat B Bs zth whole counts entry dir' l.done r.did.done (unread_by layout x.rack z.rack) (stop_halt s) m
-              (goes_as (unread_by layout rack z.rack) (unread_by layout x.rack z.rack) Bs (treat counts entry) r.did.done (Err (stop_halt s)) (λ u w i. since layout layout refl (reads_then l.reads reads) u w i) g)) met
-              (subst (λ (L : Layout). TellsAll L rack z.rack (λ Bs. Goes (unread_by L rack z.rack) part [] Bs (treat counts entry) r.did.done (Err (stop_halt s)))) deeper r.did.content));
+              (goes_as (unread_by layout rack z.rack) (unread_by layout x.rack z.rack) Bs (treat counts entry) r.did.done (Err (stop_halt s))
+              (λ u w i. since layout layout refl (reads_then l.reads reads) u w i) g)) met
+              (subst (λ (L : Layout). TellsAll L rack z.rack
+              (λ Bs. Goes (unread_by L rack z.rack) part [] Bs (treat counts entry) r.did.done (Err (stop_halt s)))) deeper r.did.content));
         };
         cause = stop_cause_since {C = Counts} z.rack layout vol.store.layout (Err s) deeper (reads_then l.reads reads) r.cause;
         sink_calls = subst (λ a. SinkCounts {A = Counts} a z.out.sink_calls (Err s)) l.sink_calls r.sink_calls;

@@ -1,5 +1,6 @@
 -- The steps of the journey are in order.
-use Rattle.std.proofs.Common.{◌≡◌, ℕ, zero, suc, ◌+◌, ◌-◌, ◌<◌, Bool, true, false, cond, ◌||◌, List, [], Option, Some, None, Result, Ok, Err, refl, sym, ap, ◌∙◌, subst, arith}
+use Rattle.std.proofs.Common.{◌≡◌, ℕ, zero, suc, ◌+◌, ◌-◌, ◌<◌, Bool, true, false, cond, ◌||◌, List, [], Option, Some, None, Result, Ok, Err, refl, sym, ap}
+use Rattle.std.proofs.Common.{◌∙◌, subst, arith}
 use Rattle.std.specs.Prelude.{codes}
 use Rattle.btr_items.specs.declared.inode.Inode.{Inode}
 use Rattle.btr_chunk.specs.declared.chunk.Chunk.{Chunk}
@@ -30,7 +31,9 @@ use Rattle.btr_listing.specs.Lines.{path_in, line, no_counts, with_dir, with_fil
 use Rattle.btr_listing.specs.Step.{Step, Dir, Up, File, Done, Line}
 use Rattle.btr_listing.specs.Step as step
 use Rattle.btr_listing.proofs.Decidings.{decided_fits}
-use Rattle.btr_restore.specs.Journey.{Listing, Treated, Over, Within, has_no_sums, row, told, skip, put, pieces, unverified, closed, written, entered, empty, done_about, rules_of, treated, listed_in, treat, listed, directory, restored, sums_lookup, from_root, listing, journey, most_depth}
+use Rattle.btr_restore.specs.Journey.{Listing, Treated, Over, Within, has_no_sums, row, told, skip, put, pieces, unverified, closed, written, entered, empty}
+use Rattle.btr_restore.specs.Journey.{done_about, rules_of, treated, listed_in, treat, listed, directory, restored, sums_lookup, from_root, listing, journey}
+use Rattle.btr_restore.specs.Journey.{most_depth}
 use Rattle.btr_restore.specs.Orderly.{begins_with, IfCounts, OrderlyLaw}
 use Rattle.btr_restore.specs.Restoring.{sink_after}
 use Rattle.btr_restore.proofs.Leading.{Claim, Leads, leads_bind, leads_found, leads_looks, leads_quiet, leads_if, leads_each, leads_renamed, IfValue, led}
@@ -61,7 +64,8 @@ module _ (plan : RestorePlan) (s : Super) (sums : Option TreeRoot) (wet : plan.d
   abbrev Ends : {A : Type 0} → Claim A → Sink → Counts → Program Step A → Type 0
   Ends K t c p = Leads K t c p
 
-  row_leads : {A : Type 0} (K : Claim A) (t : Sink) (c : Counts) (step : Step) (rest : Program Step A) → Ends K t c (Emit step rest) → Ends K t c (row plan step rest)
+  row_leads : {A : Type 0} (K : Claim A) (t : Sink) (c : Counts) (step : Step) (rest : Program Step A) → Ends K t c (Emit step rest)
+      → Ends K t c (row plan step rest)
   row_leads K t c step rest h = leads_if K t c plan.dry rest (Emit step rest) (λ e. absurd (dry e)) (λ e. h)
     where
       dry : plan.dry ≡ true → ⊥
@@ -72,38 +76,48 @@ module _ (plan : RestorePlan) (s : Super) (sums : Option TreeRoot) (wet : plan.d
   counted_same c false e = refl
 
   -- a line that says nothing of a skipped entry changes no count
-  line_leads : {A : Type 0} (K : Claim A) (t : Sink) (c : Counts) (text : List ℕ) (rest : Program Step A) → begins_with (codes "skip ") text ≡ false → Ends K t c rest → Ends K t c (Emit (Line text) rest)
+  line_leads : {A : Type 0} (K : Claim A) (t : Sink) (c : Counts) (text : List ℕ) (rest : Program Step A) → begins_with (codes "skip ") text ≡ false
+      → Ends K t c rest → Ends K t c (Emit (Line text) rest)
   line_leads K t c text rest other h = (tt, subst (λ d. Ends K t d rest) (sym (counted_same c (begins_with (codes "skip ") text) other)) h)
 
-  told_leads : {A : Type 0} (K : Claim A) (t : Sink) (c : Counts) (word path : List ℕ) (rest : Program Step A) → begins_with (codes "skip ") (line word path) ≡ false → Ends K t c rest → Ends K t c (told plan word path rest)
+  told_leads : {A : Type 0} (K : Claim A) (t : Sink) (c : Counts) (word path : List ℕ) (rest : Program Step A)
+      → begins_with (codes "skip ") (line word path) ≡ false → Ends K t c rest → Ends K t c (told plan word path rest)
   told_leads K t c word path rest other h =
       leads_if K t c (plan.verbose || plan.dry) (Emit (Line (line word path)) rest) rest (λ e. line_leads K t c (line word path) rest other h) (λ e. h)
 
-  skip_leads : (deep : Bool) (d : ℕ) (t : Sink) (c : Counts) (cause path : List ℕ) (counts : Counts) → At d t → counts ≡ c → Ends (Comes deep d) t c (skip cause path counts)
+  skip_leads : (deep : Bool) (d : ℕ) (t : Sink) (c : Counts) (cause path : List ℕ) (counts : Counts) → At d t → counts ≡ c
+      → Ends (Comes deep d) t c (skip cause path counts)
   skip_leads deep d t c cause path counts at same = (tt, (at, ap with_skip same))
 
-  put_leads : (d : ℕ) (counts : Counts) (t : Sink) (c : Counts) (plain : Bool) (p : Piece) → Writes d counts t c plain → Ends (Writes d counts) t c (put plain p)
+  put_leads : (d : ℕ) (counts : Counts) (t : Sink) (c : Counts) (plain : Bool) (p : Piece) → Writes d counts t c plain
+      → Ends (Writes d counts) t c (put plain p)
   put_leads d counts t c plain (Bytes bytes summed) h = (h.0.stage, (record { stage = h.0.stage; depth = h.0.depth }, h.1))
   put_leads d counts t c plain (Gap n) h = (h.0.stage, (record { stage = h.0.stage; depth = h.0.depth }, h.1))
 
-  pieces_lead : (d : ℕ) (counts : Counts) (t : Sink) (c : Counts) (tree : TreeRoot) (ino : ℕ) (inode : Inode) → Writes d counts t c false → Ends (Writes d counts) t c (pieces plan s sums tree ino inode)
+  pieces_lead : (d : ℕ) (counts : Counts) (t : Sink) (c : Counts) (tree : TreeRoot) (ino : ℕ) (inode : Inode) → Writes d counts t c false
+      → Ends (Writes d counts) t c (pieces plan s sums tree ino inode)
   pieces_lead d counts t c tree ino inode h =
       leads_if (Writes d counts) t c plan.dry (Return false) _ (λ e. h)
-      (λ e. leads_each (Writes d counts) put (λ t c plain p i. put_leads d counts t c plain p i) t c false (content (kind_in s) sums (has_no_sums inode) inode.size tree ino) h)
+      (λ e. leads_each (Writes d counts) put (λ t c plain p i. put_leads d counts t c plain p i) t c false
+      (content (kind_in s) sums (has_no_sums inode) inode.size tree ino) h)
 
-  closed_leads : (deep : Bool) (d : ℕ) (t : Sink) (c : Counts) (path : List ℕ) (counts : Counts) (plain : Bool) → Writes d counts t c plain → Ends (Comes deep d) t c (closed plan path counts plain)
+  closed_leads : (deep : Bool) (d : ℕ) (t : Sink) (c : Counts) (path : List ℕ) (counts : Counts) (plain : Bool) → Writes d counts t c plain
+      → Ends (Comes deep d) t c (closed plan path counts plain)
   closed_leads deep d t c path counts plain h =
       let last : Program Step Treated = unverified plain path (Return (Over (with_file counts))) in
       let after : At d (sink_after t Done) = record { stage = refl; depth = h.0.depth } in
       row_leads (Comes deep d) t c Done (told plan (codes "file") path last) (
         h.0.stage,
         told_leads (Comes deep d) (sink_after t Done) (with_file c) (codes "file") path last refl
-            (leads_if (Comes deep d) (sink_after t Done) (with_file c) plain (Emit (Line (line (codes "unverified") path)) (Return (Over (with_file counts)))) (Return (Over (with_file counts)))
-            (λ is. line_leads (Comes deep d) (sink_after t Done) (with_file c) (line (codes "unverified") path) (Return (Over (with_file counts))) refl (after, ap with_file h.1))
+            (leads_if (Comes deep d) (sink_after t Done) (with_file c) plain
+            (Emit (Line (line (codes "unverified") path)) (Return (Over (with_file counts)))) (Return (Over (with_file counts)))
+            (λ is. line_leads (Comes deep d) (sink_after t Done) (with_file c) (line (codes "unverified") path) (Return (Over (with_file counts)))
+            refl (after, ap with_file h.1))
             (λ is. (after, ap with_file h.1))),
       )
 
-  written_leads : (deep : Bool) (d : ℕ) (t : Sink) (c : Counts) (tree : TreeRoot) (ino : ℕ) (name path : List ℕ) (inode : Inode) (counts : Counts) → is_bad name ≡ false → At d t → counts ≡ c → Ends (Comes deep d) t c (written plan s sums tree ino name path inode counts)
+  written_leads : (deep : Bool) (d : ℕ) (t : Sink) (c : Counts) (tree : TreeRoot) (ino : ℕ) (name path : List ℕ) (inode : Inode) (counts : Counts)
+      → is_bad name ≡ false → At d t → counts ≡ c → Ends (Comes deep d) t c (written plan s sums tree ino name path inode counts)
   written_leads deep d t c tree ino name path inode counts good at same =
       row_leads (Comes deep d) t c (File name) (bind (pieces plan s sums tree ino inode) (closed plan path counts)) (
         (at.stage, good),
@@ -117,7 +131,8 @@ module _ (plan : RestorePlan) (s : Super) (sums : Option TreeRoot) (wet : plan.d
     deeper : (name : List ℕ) → At (d + 1) (sink_after t (Dir name))
     deeper name = record { stage = at.stage; depth = ap (λ n. n + 1) at.depth }
 
-    entered_leads : (name path : List ℕ) (tree : TreeRoot) (dirid : ℕ) (counts : Counts) → deep ≡ false → d < 512 → is_bad name ≡ false → counts ≡ c → Ends (Comes deep d) t c (entered plan name path tree dirid counts)
+    entered_leads : (name path : List ℕ) (tree : TreeRoot) (dirid : ℕ) (counts : Counts) → deep ≡ false → d < 512 → is_bad name ≡ false → counts ≡ c
+        → Ends (Comes deep d) t c (entered plan name path tree dirid counts)
     entered_leads name path tree dirid counts high low good same =
         let last : Program Step Treated = Return (Within tree dirid (with_dir counts)) in
         row_leads (Comes deep d) t c (Dir name) (told plan (codes "dir") path last) (
@@ -153,9 +168,11 @@ module _ (plan : RestorePlan) (s : Super) (sums : Option TreeRoot) (wet : plan.d
 
   -- listings of directories so deep
   abbrev Lists : ℕ → Listing → Type 0
-  Lists d below = (tree : TreeRoot) (dirid : ℕ) (path : List ℕ) (t : Sink) (c counts : Counts) → At d t → counts ≡ c → Ends (Stands d) t c (below tree dirid path counts)
+  Lists d below = (tree : TreeRoot) (dirid : ℕ) (path : List ℕ) (t : Sink) (c counts : Counts) → At d t → counts ≡ c
+      → Ends (Stands d) t c (below tree dirid path counts)
 
-  inside_leads : (deep : Bool) (d : ℕ) (below : Listing) → (deep ≡ false → Lists (d + 1) below) → (path : List ℕ) (t : Sink) (c : Counts) (came : Treated) → Comes deep d t c came → Ends (Stands d) t c (listed_in plan s sums below path came)
+  inside_leads : (deep : Bool) (d : ℕ) (below : Listing) → (deep ≡ false → Lists (d + 1) below)
+      → (path : List ℕ) (t : Sink) (c : Counts) (came : Treated) → Comes deep d t c came → Ends (Stands d) t c (listed_in plan s sums below path came)
   inside_leads deep d below h path t c (Over counts) i = i
   inside_leads deep d below h path t c (Within tree dirid counts) i =
       let up : Counts → Program Step Counts = λ after. row plan Up (Return after) in
@@ -165,11 +182,14 @@ module _ (plan : RestorePlan) (s : Super) (sums : Option TreeRoot) (wet : plan.d
         (record { stage = j.0.stage; depth = ap (λ n. n - 1) j.0.depth ∙ (omega arith) }, j.1),
       ))
 
-  listed_leads : (deep : Bool) (d : ℕ) (below : Listing) → (deep ≡ false → d < 512) → (deep ≡ false → Lists (d + 1) below) → Lists d (listed plan s sums deep below)
+  listed_leads : (deep : Bool) (d : ℕ) (below : Listing) → (deep ≡ false → d < 512) → (deep ≡ false → Lists (d + 1) below)
+      → Lists d (listed plan s sums deep below)
   listed_leads deep d below low h tree dirid path t c counts at same =
       leads_each (Stands d) (treat plan s sums deep below tree dirid path)
-      (λ u e counts entry i. leads_bind (Comes deep d) (Stands d) u e (treated plan s sums (met_in deep tree dirid path entry) counts) (listed_in plan s sums below (path_in path entry.name))
-      (treated_leads (met_in deep tree dirid path entry) d u e i.0 low counts i.1) (λ v f came j. inside_leads deep d below h (path_in path entry.name) v f came j))
+      (λ u e counts entry i. leads_bind (Comes deep d) (Stands d) u e (treated plan s sums (met_in deep tree dirid path entry) counts)
+      (listed_in plan s sums below (path_in path entry.name))
+      (treated_leads (met_in deep tree dirid path entry) d u e i.0 low counts i.1)
+      (λ v f came j. inside_leads deep d below h (path_in path entry.name) v f came j))
       t c counts (entries tree dirid) (at, same)
 
   tops_lead : (n d : ℕ) → d + n ≡ 512 → Lists d (directory plan s sums n)
@@ -182,7 +202,8 @@ Ended s c (Ok counts) = Stands 0 s c counts
 Ended s c (Err refusal) = Unit {0}
 
 module _ (plan : RestorePlan) (dest : List ℕ) (start : Start) (wet : plan.dry ≡ false) where
-  abbrev restored_leads : (t : Sink) → t.stage ≡ NotStarted → (tree : TreeRoot) (sums : Option TreeRoot) → Leads (Stands 0) t no_counts (restored plan dest start.sup tree sums)
+  abbrev restored_leads : (t : Sink) → t.stage ≡ NotStarted → (tree : TreeRoot) (sums : Option TreeRoot)
+      → Leads (Stands 0) t no_counts (restored plan dest start.sup tree sums)
   restored_leads t fresh tree sums =
       let s = start.sup in
       let begun : Sink = sink_after t (step.Start dest) in
@@ -206,16 +227,22 @@ module _ (plan : RestorePlan) (dest : List ℕ) (start : Start) (wet : plan.dry 
       let rest : List Chunk → Program Step (Result Counts OpenFault) = λ table. bind inside last in
       let Same : Claim TableResult = λ u e found. (u ≡ t) × (e ≡ no_counts) in
       let listed = leads_bind (Stands 0) Ended t no_counts inside last (leads_looks (Stands 0) t no_counts (tree_of start.sup plan.root) (from_root plan dest start.sup) (root_leads t fresh)) (λ u e counts h. h) in
-      leads_bind Same Ended t no_counts (renamed Early (quiet (table_scan start))) (unless_refused (λ fault. Err (refusal_of fault)) (λ (table : List Chunk). renamed (Late table) (rest table)))
+      leads_bind Same Ended t no_counts (renamed Early (quiet (table_scan start)))
+      (unless_refused (λ fault. Err (refusal_of fault)) (λ (table : List Chunk). renamed (Late table) (rest table)))
       (leads_renamed Early Same t no_counts (quiet (table_scan start)) (leads_quiet Same t no_counts (table_scan start) (λ found. (refl, refl))))
-      (λ u e found same. subst (λ x. Leads Ended x e (unless_refused (λ fault. Err (refusal_of fault)) (λ (table : List Chunk). renamed (Late table) (rest table)) found)) (sym same.0)
-      (subst (λ x. Leads Ended t x (unless_refused (λ fault. Err (refusal_of fault)) (λ (table : List Chunk). renamed (Late table) (rest table)) found)) (sym same.1) (on found listed)))
+      (λ u e found same. subst (λ x. Leads Ended x e (unless_refused (λ fault. Err (refusal_of fault))
+      (λ (table : List Chunk). renamed (Late table) (rest table)) found)) (sym same.0)
+      (subst (λ x. Leads Ended t x (unless_refused (λ fault. Err (refusal_of fault)) (λ (table : List Chunk). renamed (Late table) (rest table))
+      found)) (sym same.1) (on found listed)))
     where
-      on : (found : TableResult) → Leads Ended t no_counts (bind (listing plan dest start.sup) (λ counts. Return (Ok counts))) → Leads Ended t no_counts (unless_refused (λ fault. Err (refusal_of fault)) (λ (table : List Chunk). renamed (Late table) (bind (listing plan dest start.sup) (λ counts. Return (Ok counts)))) found)
+      on : (found : TableResult) → Leads Ended t no_counts (bind (listing plan dest start.sup) (λ counts. Return (Ok counts)))
+          → Leads Ended t no_counts (unless_refused (λ fault. Err (refusal_of fault))
+          (λ (table : List Chunk). renamed (Late table) (bind (listing plan dest start.sup) (λ counts. Return (Ok counts)))) found)
       on (Ok table) h = leads_renamed (Late table) Ended t no_counts (bind (listing plan dest start.sup) (λ counts. Return (Ok counts))) h
       on (Err fault) h = tt
 
-counts_of : (P : Counts → Type 0) (e : Result (Result Counts OpenFault) Fault) (K : Result Counts OpenFault → Type 0) → ((counts : Counts) → K (Ok counts) → P counts) → IfValue e K → IfCounts e P
+counts_of : (P : Counts → Type 0) (e : Result (Result Counts OpenFault) Fault) (K : Result Counts OpenFault → Type 0)
+    → ((counts : Counts) → K (Ok counts) → P counts) → IfValue e K → IfCounts e P
 counts_of P (Ok (Ok counts)) K f h = f counts h
 counts_of P (Ok (Err refusal)) K f h = tt
 counts_of P (Err fault) K f h = tt

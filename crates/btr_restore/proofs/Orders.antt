@@ -32,17 +32,23 @@ module _ (plan : RestorePlan) (dest : List ℕ) (images : Images) (start : Start
   abbrev Needs : List VolumeWant
   Needs = needs (volume_map start (committed C images)) (journey plan dest start)
 
-  all_alike : Each (λ want. (j : ℕ) → IsAlike (plain want) (volume_map start (committed_choices C images j) want) (volume_map start (committed C images) want)) Needs
-  all_alike = each_of (λ want. (j : ℕ) → IsAlike (plain want) (volume_map start (committed_choices C images j) want) (volume_map start (committed C images) want)) (λ want j. alike_there plan dest images start C j want) Needs
+  all_alike : Each (λ want. (j : ℕ) → IsAlike (plain want) (volume_map start (committed_choices C images j) want)
+      (volume_map start (committed C images) want)) Needs
+  all_alike = each_of (λ want. (j : ℕ) → IsAlike (plain want) (volume_map start (committed_choices C images j) want)
+      (volume_map start (committed C images) want)) (λ want j. alike_there plan dest images start C j want) Needs
 
-  some_within : Each (λ want. (i : ℕ) → (j : ℕ) × IsWithin (volume_map start (choices images i) want) (volume_map start (committed_choices C images j) want)) Needs
+  some_within : Each (λ want. (i : ℕ) → (j : ℕ) × IsWithin (volume_map start (choices images i) want)
+      (volume_map start (committed_choices C images j) want)) Needs
   some_within =
       each_as (λ want. (n : ℕ) → IsWithin (volume_map start (choices images n) want) (volume_map start (committed_choices C images n) want))
       (λ want. (i : ℕ) → (j : ℕ) × IsWithin (volume_map start (choices images i) want) (volume_map start (committed_choices C images j) want))
       (λ want h i. (i, h i)) Needs (all_within plan dest images start C table honest closed)
 
   module _ (old new : Seen) (done : List Step) (answer : Answer) where
-    dropped : (q r : Run VolumeWant Fault Step (Result Counts OpenFault)) → GoesTo (λ j. volume_map start (committed_choices C images j)) (journey plan dest start) q → (m : Drops (λ i. volume_map start (choices images i)) q r) → done ≡ steps_of m.before → answer ≡ Err (halt_fault m.fault) → LostAt plan dest images start C done answer
+    dropped : (q r : Run VolumeWant Fault Step (Result Counts OpenFault))
+        → GoesTo (λ j. volume_map start (committed_choices C images j)) (journey plan dest start) q
+        → (m : Drops (λ i. volume_map start (choices images i)) q r) → done ≡ steps_of m.before → answer ≡ Err (halt_fault m.fault)
+        → LostAt plan dest images start C done answer
     dropped q r goes m steps is =
         let wants = (blind_law plain (λ j. volume_map start (committed_choices C images j)) (volume_map start (committed C images)) (journey plan dest start) q (journey_blind plan dest start) all_alike goes).0 in
         let well : EndsInOrder (volume_map start (committed C images) m.want) =
@@ -65,12 +71,16 @@ module _ (plan : RestorePlan) (dest : List ℕ) (images : Images) (start : Start
     abbrev Carried : Type 0
     Carried = Follows plan dest start old new (committed_choices C images) done answer ⊎ LostAt plan dest images start C done answer
 
-    carried : Goes (unread_in start old new) part [] (λ j. volume_map start (committed_choices C images j)) (journey plan dest start) done answer ⊎ ((q : Run VolumeWant Fault Step (Result Counts OpenFault)) × (r : Run VolumeWant Fault Step (Result Counts OpenFault)) × GoesTo (λ j. volume_map start (committed_choices C images j)) (journey plan dest start) q × (m : Drops (λ i. volume_map start (choices images i)) q r) × (done ≡ steps_of m.before) × (answer ≡ Err (halt_fault m.fault))) → Carried
+    carried : Goes (unread_in start old new) part [] (λ j. volume_map start (committed_choices C images j)) (journey plan dest start) done answer
+        ⊎ ((q : Run VolumeWant Fault Step (Result Counts OpenFault)) × (r : Run VolumeWant Fault Step (Result Counts OpenFault))
+        × GoesTo (λ j. volume_map start (committed_choices C images j)) (journey plan dest start) q
+        × (m : Drops (λ i. volume_map start (choices images i)) q r) × (done ≡ steps_of m.before) × (answer ≡ Err (halt_fault m.fault))) → Carried
     carried (inl h) = inl h
     carried (inr h) = inr (dropped h.0 h.1 h.2 h.3 h.4 h.5)
 
 pub committed_order : CommittedOrder
 committed_order plan dest images start C table old new done answer honest closed follows =
     carried plan dest images start C table honest closed old new done answer
-    (goes_held 0 (λ i. volume_map start (choices images i)) (λ j. volume_map start (committed_choices C images j)) (unread_in start old new) part [] (journey plan dest start) done (λ (w : VolumeWant). is_plain (want_of w)) (volume_map start (committed C images)) answer
+    (goes_held 0 (λ i. volume_map start (choices images i)) (λ j. volume_map start (committed_choices C images j)) (unread_in start old new) part []
+    (journey plan dest start) done (λ (w : VolumeWant). is_plain (want_of w)) (volume_map start (committed C images)) answer
     (journey_blind plan dest start) (all_alike plan dest images start C table honest closed) (some_within plan dest images start C table honest closed) follows)

@@ -1,5 +1,6 @@
 -- Calls of restore one after another.
-use Rattle.std.proofs.Common.{◌≡◌, ℕ, Bool, true, false, cond, List, [], ◌∷◌, ◌++◌, Option, Some, None, Result, Ok, Err, refl, sym, ap, ◌∙◌, subst, append-nil, arith}
+use Rattle.std.proofs.Common.{◌≡◌, ℕ, Bool, true, false, cond, List, [], ◌∷◌, ◌++◌, Option, Some, None, Result, Ok, Err, refl, sym, ap, ◌∙◌, subst, append-nil}
+use Rattle.std.proofs.Common.{arith}
 use Rattle.btr_prog.specs.Answers.{Broke}
 use Rattle.btr_prog.specs.Prog.{Return, Stop, Emit, run, bind}
 use Rattle.btr_prog.specs.Quiet.{quiet}
@@ -113,7 +114,8 @@ module _ {A : Type 0} (p : Lookup A) (old new : Seen) (vol after : Volume) (x : 
     out_calls = refl;
   }
 
-  pub ran_fault : (f : TreeFault) → IsReady old vol → Looked p old vol new after (Err f) → Ran (quiet p) (world old vol x) (world new after x) (Err (stop.Tree f))
+  pub ran_fault : (f : TreeFault) → IsReady old vol → Looked p old vol new after (Err f)
+      → Ran (quiet p) (world old vol x) (world new after x) (Err (stop.Tree f))
   ran_fault f ready looked = record {
     reads = looked.reads;
     volume = looked.volume;
@@ -171,9 +173,11 @@ module _ {C : Type 0} (b : Bool) (step : Step) (rest : Program Step C) where
 
 -- the calls of the sink and the lines that come before the rest of a program that reads too
 module _ {C : Type 0} (b : Bool) (step : Step) (rest : Program Step C) (rack : Seen) (vol : Volume) (x y : Outside) (z : World) (r : Result C TheStop) where
-  pub row_ran : IsReady rack vol → Wrote (unless b step rest b) x y (Ok tt) → Ran rest (world rack vol y) z r → Ran (cond b rest (Emit step rest)) (world rack vol x) z r
+  pub row_ran : IsReady rack vol → Wrote (unless b step rest b) x y (Ok tt) → Ran rest (world rack vol y) z r
+      → Ran (cond b rest (Emit step rest)) (world rack vol x) z r
   row_ran ready w h = subst (λ (p : Program Step C). Ran p (world rack vol x) z r) (unless_bind b step rest b)
-      (ran_then (unless b step rest b) (λ u. rest) (world rack vol x) (world rack vol y) z tt r (ran_wrote (unless b step rest b) rack vol x y (Ok tt) ready w) h)
+      (ran_then (unless b step rest b) (λ u. rest) (world rack vol x) (world rack vol y) z tt r
+      (ran_wrote (unless b step rest b) rack vol x y (Ok tt) ready w) h)
 
 -- nothing is done
 pub wrote_none : {A : Type 0} (a : A) (x : Outside) → Wrote (Return a) x x (Ok a)
@@ -198,7 +202,8 @@ module _ {A : Type 0} (p q : Program Step A) (x y : World) (r : Result A TheStop
   ran_else false e h = h
 
 -- want of memory, before anything was done
-pub ran_memory : {A : Type 0} (p : Program Step A) (rack : Seen) (vol : Volume) (x : Outside) → IsReady rack vol → Ran p (world rack vol x) (world rack vol x) (Err stop.Memory)
+pub ran_memory : {A : Type 0} (p : Program Step A) (rack : Seen) (vol : Volume) (x : Outside) → IsReady rack vol
+    → Ran p (world rack vol x) (world rack vol x) (Err stop.Memory)
 ran_memory p rack vol x ready = ran_wrote p rack vol x x (Err stop.Memory) ready (wrote_memory p x)
 
 -- a step of the sink that was done, and one that was broken off
@@ -215,7 +220,8 @@ module _ {A : Type 0} (step : Step) (s s' : Sink) (told : Option (List ℕ)) whe
     goes = λ layout old new Bs. goes_step Bs (unread_by layout old new) part [] step (Return v) [] (Ok v) (run [] (Ok v), refl, (refl, refl));
   }
 
-  pub emits_part : (t : Step) (n : ℕ) (p : Program Step A) → part step n ≡ Some t → text_of (t ∷ []) ≡ [] → s' ≡ sink_after s t → Emits (Emit step p) s s' told told (Err Broke)
+  pub emits_part : (t : Step) (n : ℕ) (p : Program Step A) → part step n ≡ Some t → text_of (t ∷ []) ≡ [] → s' ≡ sink_after s t
+      → Emits (Emit step p) s s' told told (Err Broke)
   emits_part t n p cut silent is = record {
     done = t ∷ [];
     sink = is;

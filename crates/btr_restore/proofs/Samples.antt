@@ -1,6 +1,7 @@
 -- Two small journeys that compute. In the first volume stands one symbolic link; in the second a file of a hole, two inline bytes, zeros up
 -- to the next extent, and three bytes of a sector without a checksum.
-use Rattle.std.proofs.Common.{◌≡◌, ℕ, zero, suc, ◌+◌, ◌*◌, ◌/◌, ◌%◌, List, [], ◌∷◌, ◌++◌, map, length, replicate, Some, None, Result, Ok, Err, refl, true, false, cond}
+use Rattle.std.proofs.Common.{◌≡◌, ℕ, zero, suc, ◌+◌, ◌*◌, ◌/◌, ◌%◌, List, [], ◌∷◌, ◌++◌, map, length, replicate, Some, None, Result, Ok, Err, refl, true}
+use Rattle.std.proofs.Common.{false, cond}
 use Rattle.std.specs.Prelude.{codes, nat_eq}
 use Rattle.btr_base.specs.declared.key.Key.{Key}
 use Rattle.btr_base.specs.declared.kind.SumKind.TheVariants.{Crc32c}
@@ -192,7 +193,8 @@ folders =
     ∷ []
 
 abbrev folder_blocks : VolumeWant → Result (List ℕ) Fault
-folder_blocks want = cond (nat_eq (addr_of (want_of want)) 2) (Ok (leaf_of roots)) (cond (nat_eq (addr_of (want_of want)) 3) (Ok (leaf_of folders)) (blocks want))
+folder_blocks want = cond (nat_eq (addr_of (want_of want)) 2) (Ok (leaf_of roots))
+    (cond (nat_eq (addr_of (want_of want)) 3) (Ok (leaf_of folders)) (blocks want))
 
 folder_steps : steps folder_blocks (journey loud (codes "out") start)
     ≡ step.Start (codes "out") ∷ step.Dir (codes "d") ∷ Line (codes "dir /d\n") ∷ step.Up ∷ Line (codes "skip snapshot /s\n")

@@ -30,7 +30,8 @@ each_same : {W : Type 0} (B : BlockMap W Fault) (ws : List W) → Each (λ w. (n
 each_same B [] = tt
 each_same B (w ∷ ws) = ((λ n. refl), each_same B ws)
 
-same_by : (r : Run VolumeWant Fault Step (Result Counts OpenFault)) (Is : UnreadBlock → VolumeWant → Type 0) (done : List Step) (ending : Ending) → run_follows Is part [] r done (answer_by ending) → outcome_by done ending ≡ outcome r
+same_by : (r : Run VolumeWant Fault Step (Result Counts OpenFault)) (Is : UnreadBlock → VolumeWant → Type 0) (done : List Step) (ending : Ending)
+    → run_follows Is part [] r done (answer_by ending) → outcome_by done ending ≡ outcome r
 same_by r Is done (Ok value) follows = ap (λ ss. outcome_by ss (Ok value)) follows.0 ∙ ap (λ e. outcome_by (steps_of r.marks) e) (sym follows.1)
 same_by r Is done (Err fault) follows = ap (λ ss. outcome_by ss (Err fault)) follows.0 ∙ ap (λ e. outcome_by (steps_of r.marks) e) (sym follows.1)
 
@@ -39,7 +40,8 @@ settled plan dest images start old new done ending begun none follows =
     let B = volume_map start (fate images) in
     let here = exec B (journey plan dest start) in
     let one : follows.0 ≡ here = goes_one (λ (n : ℕ). B) B (journey plan dest start) follows.0 (each_same B (needs B (journey plan dest start))) follows.1 in
-    same_by here (unread_in start old new) done ending (subst (λ (r : Run VolumeWant Fault Step (Result Counts OpenFault)). run_follows (unread_in start old new) part [] r done (answer_by ending)) one follows.2)
+    same_by here (unread_in start old new) done ending (subst
+    (λ (r : Run VolumeWant Fault Step (Result Counts OpenFault)). run_follows (unread_in start old new) part [] r done (answer_by ending)) one follows.2)
     ∙ sym (ap (from_start plan dest images) begun ∙ ap (λ d. unless_diverged d (outcome here)) none)
 
 module _ (plan : RestorePlan) (dest : List ℕ) (start : Start) (old new : Seen) where
@@ -56,19 +58,24 @@ module _ (plan : RestorePlan) (dest : List ℕ) (start : Start) (old new : Seen)
       goes_value (λ n. maps n (layout_by start table)) Ok (listing plan dest start.sup) h.0 h.1,
       follows_value (unread_by (layout_by start table) old new) part [] Ok h.0 counts done h.2,
     )
-    whole done (Err halt) h = goes_halt (λ n. maps n (layout_by start table)) (unread_by (layout_by start table) old new) part [] (listing plan dest start.sup) (λ counts. Return (Ok counts)) 0 done halt h
+    whole done (Err halt) h = goes_halt (λ n. maps n (layout_by start table)) (unread_by (layout_by start table) old new) part []
+        (listing plan dest start.sup) (λ counts. Return (Ok counts)) 0 done halt h
 
   pub opened_then : OpenedThen plan dest start old new
   opened_then maps table done answer scanned listed =
-      goes_staged (λ fault. Err (refusal_of fault)) (unread_in start old new) part (λ n. maps n (array_layout start)) (λ n table. maps n (layout_by start table)) (quiet (table_scan start)) (λ (t : List Chunk). rest) table [] done (opened answer)
-      (goes_quiet (unread_by (array_layout start) old new) part [] (λ n. maps n (array_layout start)) (table_scan start) [] (Ok (Ok table)) scanned) (whole maps table done answer listed)
+      goes_staged (λ fault. Err (refusal_of fault)) (unread_in start old new) part (λ n. maps n (array_layout start))
+      (λ n table. maps n (layout_by start table)) (quiet (table_scan start)) (λ (t : List Chunk). rest) table [] done (opened answer)
+      (goes_quiet (unread_by (array_layout start) old new) part [] (λ n. maps n (array_layout start)) (table_scan start) [] (Ok (Ok table)) scanned)
+      (whole maps table done answer listed)
 
   pub open_refused : OpenRefused plan dest start old new
   open_refused maps fault scanned =
-      goes_staged_refused (λ fault. Err (refusal_of fault)) (unread_in start old new) part (λ n. maps n (array_layout start)) (λ n table. maps n (layout_by start table)) (quiet (table_scan start)) (λ (t : List Chunk). rest) fault []
+      goes_staged_refused (λ fault. Err (refusal_of fault)) (unread_in start old new) part (λ n. maps n (array_layout start))
+      (λ n table. maps n (layout_by start table)) (quiet (table_scan start)) (λ (t : List Chunk). rest) fault []
       (goes_quiet (unread_by (array_layout start) old new) part [] (λ n. maps n (array_layout start)) (table_scan start) [] (Ok (Err fault)) scanned)
 
   pub open_halted : OpenHalted plan dest start old new
   open_halted maps halt scanned =
-      goes_staged_halt (λ fault. Err (refusal_of fault)) (unread_in start old new) part (λ n. maps n (array_layout start)) (λ n table. maps n (layout_by start table)) (quiet (table_scan start)) (λ (t : List Chunk). rest) 0 [] halt
+      goes_staged_halt (λ fault. Err (refusal_of fault)) (unread_in start old new) part (λ n. maps n (array_layout start))
+      (λ n table. maps n (layout_by start table)) (quiet (table_scan start)) (λ (t : List Chunk). rest) 0 [] halt
       (goes_quiet (unread_by (array_layout start) old new) part [] (λ n. maps n (array_layout start)) (table_scan start) [] (Err halt) scanned)

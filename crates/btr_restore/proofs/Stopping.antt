@@ -19,7 +19,8 @@ pub outs_then : {A C : Type 0} (a b c : CallAccount) (v : A) (r : Result C TheSt
 outs_then a b c v r e h = subst (λ (x : CallAccount). OutCounts x c r) e h
 
 -- what lies behind a stop of a later call
-pub stop_cause_since : {C : Type 0} {a b : Seen} (c : Seen) (layout layout' : Layout) (r : Result C TheStop) → layout' ≡ layout → OnlyReads a b → StopCause layout' b c r → StopCause layout a c r
+pub stop_cause_since : {C : Type 0} {a b : Seen} (c : Seen) (layout layout' : Layout) (r : Result C TheStop) → layout' ≡ layout → OnlyReads a b
+    → StopCause layout' b c r → StopCause layout a c r
 stop_cause_since c layout layout' (Ok v) e reads h = tt
 stop_cause_since c layout layout' (Err (stop.NoTree id)) e reads h = tt
 stop_cause_since c layout layout' (Err (stop.Tree f)) e reads h = cause_since c layout layout' f e reads h
@@ -95,10 +96,12 @@ pub sink_stops : (A : Type 0) (s : TheStop) (e : SinkError) → s ≡ stops_sink
 sink_stops A s Failed is = subst (λ (x : TheStop). StopsOutside {A = A} (Err x)) (sym is) tt
 sink_stops A s NoMemory is = subst (λ (x : TheStop). StopsOutside {A = A} (Err x)) (sym is) tt
 
-pub outs_of_out : (T A : Type 0) (a b : CallAccount) (s : TheStop) (e : SinkError) → s ≡ stops_out e → Counts {T = T} a b (Err e) → OutCounts {A = A} a b (Err s)
+pub outs_of_out : (T A : Type 0) (a b : CallAccount) (s : TheStop) (e : SinkError) → s ≡ stops_out e → Counts {T = T} a b (Err e)
+    → OutCounts {A = A} a b (Err s)
 outs_of_out T A a b s Failed is h = subst (λ (x : TheStop). OutCounts {A = A} a b (Err x)) (sym is) h
 outs_of_out T A a b s NoMemory is h = subst (λ (x : TheStop). OutCounts {A = A} a b (Err x)) (sym is) h.1
 
-pub sinks_of_sink : (T A : Type 0) (a b : CallAccount) (s : TheStop) (e : SinkError) → s ≡ stops_sink e → Counts {T = T} a b (Err e) → SinkCounts {A = A} a b (Err s)
+pub sinks_of_sink : (T A : Type 0) (a b : CallAccount) (s : TheStop) (e : SinkError) → s ≡ stops_sink e → Counts {T = T} a b (Err e)
+    → SinkCounts {A = A} a b (Err s)
 sinks_of_sink T A a b s Failed is h = subst (λ (x : TheStop). SinkCounts {A = A} a b (Err x)) (sym is) h
 sinks_of_sink T A a b s NoMemory is h = subst (λ (x : TheStop). SinkCounts {A = A} a b (Err x)) (sym is) h.1

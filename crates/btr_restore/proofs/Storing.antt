@@ -31,7 +31,8 @@ left_whole (Some t) (Wants w ∷ ms) leaves = leaves
 left_whole (Some t) (Does s ∷ ms) leaves = absurd (cc leaves.1)
 
 -- what follows a run may as well have been broken off there
-pub broken : {W A U : Type 0} (Is : U → W → Type 0) (r : Run W fate.Fault Step A) (done : List Step) (answer : Result A (Halt fate.Fault U)) → Follows Is part [] r done answer → Follows Is part [] r done (Err Broke)
+pub broken : {W A U : Type 0} (Is : U → W → Type 0) (r : Run W fate.Fault Step A) (done : List Step) (answer : Result A (Halt fate.Fault U))
+    → Follows Is part [] r done answer → Follows Is part [] r done (Err Broke)
 broken {W} {A} {U} Is r done answer = of answer
   where
     all : done ≡ steps_of r.marks → Breaks part (λ (ws : List W). Unit {0}) r done
@@ -43,20 +44,23 @@ broken {W} {A} {U} Is r done answer = of answer
     of (Err (halt_unread u)) f = record { before = f.before; behind = f.behind; left = f.left; place = f.place; steps = f.steps; leaves = left_whole f.left f.behind f.leaves; holds = tt }
     of (Err Broke) f = f
 
-does_broken : {A : Type 0} (layout : Layout) (p : Program Step A) (x y : Scene) (answer : Result A (Halt fate.Fault UnreadBlock)) → Did layout p x y answer → Did layout p x y (Err Broke)
+does_broken : {A : Type 0} (layout : Layout) (p : Program Step A) (x y : Scene) (answer : Result A (Halt fate.Fault UnreadBlock))
+    → Did layout p x y answer → Did layout p x y (Err Broke)
 does_broken layout p x y answer h = record {
   done = h.done;
   sink = h.sink;
   text = h.text;
   content = record {
     calls = calls_as (λ sure held f.
-        if_map (λ images. Goes (unread_by layout x.rack y.rack) part [] (maps_of layout sure images) p h.done answer) (λ images. Goes (unread_by layout x.rack y.rack) part [] (maps_of layout sure images) p h.done (Err Broke)) held
+        if_map (λ images. Goes (unread_by layout x.rack y.rack) part [] (maps_of layout sure images) p h.done answer)
+        (λ images. Goes (unread_by layout x.rack y.rack) part [] (maps_of layout sure images) p h.done (Err Broke)) held
         (λ images g. (g.0, g.1, broken (unread_by layout x.rack y.rack) g.0 h.done answer g.2)) f) h.content.calls;
   };
 }
 
 -- the sink failed behind another stop
-pub sink_behind : (A : Type 0) (a b c : CallAccount) (s : TheStop) → s ≢ stop.Sink → SinkCounts {A = A} a b (Err s) → Counts {T = Unit {0}} b c (Err Failed) → SinkCounts {A = A} a c (Err stop.Sink)
+pub sink_behind : (A : Type 0) (a b c : CallAccount) (s : TheStop) → s ≢ stop.Sink → SinkCounts {A = A} a b (Err s)
+    → Counts {T = Unit {0}} b c (Err Failed) → SinkCounts {A = A} a c (Err stop.Sink)
 sink_behind A a b c (stop.NoTree id) other h f = subst (λ (x : CallAccount). Counts {T = Unit {0}} x c (Err Failed)) h f
 sink_behind A a b c (stop.Tree fault) other h f = subst (λ (x : CallAccount). Counts {T = Unit {0}} x c (Err Failed)) h f
 sink_behind A a b c (stop.Deletion id) other h f = subst (λ (x : CallAccount). Counts {T = Unit {0}} x c (Err Failed)) h f

@@ -51,7 +51,8 @@ module _ (job : Job) (entry : Entry) (counts : Counts) (s : Super) where
   -- an entry, by what is looked up under the rules of restore
   module _ (rules : Rules) (of_plan : rules ≡ rules_of job.plan) (old : Seen) (vol : Volume) (same : s ≡ vol.sup) (new : Seen) (after : Volume)
       (x : Outside) (ready : IsReady old vol) where
-    as_rules : (r : Result Decision TreeFault) → Looked (decided rules vol.sup (met_by entry)) old vol new after r → Looked (decided (rules_of job.plan) s (met_by entry)) old vol new after r
+    as_rules : (r : Result Decision TreeFault) → Looked (decided rules vol.sup (met_by entry)) old vol new after r
+        → Looked (decided (rules_of job.plan) s (met_by entry)) old vol new after r
     as_rules r h =
         subst (λ (t : Super). Looked (decided (rules_of job.plan) t (met_by entry)) old vol new after r) (sym same)
         (subst (λ (k : Rules). Looked (decided k vol.sup (met_by entry)) old vol new after r) of_plan h)

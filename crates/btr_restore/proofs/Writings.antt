@@ -33,7 +33,8 @@ use Rattle.btr_files.specs.declared.file.FileBytes.{FileBytes}
 use Rattle.btr_files.specs.declared.piece.Piece.{Piece as Lending}
 use Rattle.btr_files.specs.Content.{Piece}
 use Rattle.btr_files.specs.Maps.{TellsAll}
-use Rattle.btr_files.specs.Streaming.{Begins, FileGoes, GivesPiece, EndsBy, IsFileOn, IsNextPiece, IsReading, Streamed, inline_of, piece_of, todo_prog, without_file}
+use Rattle.btr_files.specs.Streaming.{Begins, FileGoes, GivesPiece, EndsBy, IsFileOn, IsNextPiece, IsReading, Streamed, inline_of, piece_of, todo_prog}
+use Rattle.btr_files.specs.Streaming.{without_file}
 use Rattle.btr_files.specs.Sums.{kind_in}
 use Rattle.btr_files.proofs.Nextward.{rest_more}
 use Rattle.btr_files.proofs.Onwards.{then_some}
@@ -70,7 +71,8 @@ module _ (Bs : ℕ → Map) where
   some_puts : (st : Bool) (q : Run Want Fault Piece (Unit {0})) → Puts Bs st q (some st q)
   some_puts st q = threads_map Bs 0 (put_of) last st q.marks q.ending
 
-  past_in : (ws : List Want) (st : Bool) (q : Run Want Fault Piece (Unit {0})) (r : Run Want Fault Step Bool) → Puts Bs st q r → Puts Bs st (prepend (want_marks ws) q) (prepend (want_marks ws) r)
+  past_in : (ws : List Want) (st : Bool) (q : Run Want Fault Piece (Unit {0})) (r : Run Want Fault Step Bool) → Puts Bs st q r
+      → Puts Bs st (prepend (want_marks ws) q) (prepend (want_marks ws) r)
   past_in [] st q r h = h
   past_in (w ∷ ws) st q r h = (prepend (want_marks ws) r, refl, past_in ws st q r h)
 
@@ -83,7 +85,8 @@ module _ (Bs : ℕ → Map) where
       let p = file.progress in
       then_some kind file.source Bs (todo_prog kind file.source p.at p.end (inline_of (met_last (Bs 0) p.rest)) p.todo) (exec (Bs 0) (rest_left (Bs 0) p.rest))
 
-  pub left_first : (kind : SumKind) (file : FileBytes) (plain : Bool) (p : Program Piece (Unit {0})) → Begins kind file p → IsFileOn (Bs 0) [] file → LeftToPut (each put plain p) kind Bs plain file []
+  pub left_first : (kind : SumKind) (file : FileBytes) (plain : Bool) (p : Program Piece (Unit {0})) → Begins kind file p → IsFileOn (Bs 0) [] file
+      → LeftToPut (each put plain p) kind Bs plain file []
   left_first kind file plain p begins on = record {
     seen = [];
     so_far = so_far_more (GoesTo Bs (each put plain p)) (GoesTo Bs (each put plain p)) (PutsLeft kind Bs plain file) [] [] []
@@ -96,7 +99,8 @@ module _ (Bs : ℕ → Map) where
     Whole = GoesTo Bs whole
 
     -- a piece was given
-    pub piece_next : (file' : FileBytes) (piece : Piece) → (l : LeftToPut whole kind Bs plain file done) → GivesPiece kind Bs l.seen file file' piece → PieceToPut whole kind Bs plain piece file' done
+    pub piece_next : (file' : FileBytes) (piece : Piece) → (l : LeftToPut whole kind Bs plain file done) → GivesPiece kind Bs l.seen file file' piece
+        → PieceToPut whole kind Bs plain piece file' done
     piece_next file' piece l g =
         let ws = want_marks {S = Step} g.past in
         let more = so_far_more Whole (PutsLeft kind Bs plain file) (PutsFrom kind Bs plain piece file') l.seen done ws
@@ -104,25 +108,30 @@ module _ (Bs : ℕ → Map) where
         record {
           seen = l.seen ++ g.past;
           so_far = subst (λ (x : List Want). SoFar Whole (PutsFrom kind Bs plain piece file') (l.seen ++ x) done) (wants_back g.past)
-              (subst (λ (x : List Step). SoFar Whole (PutsFrom kind Bs plain piece file') (l.seen ++ wants_of ws) x) (ap (λ (x : List Step). done ++ x) (steps_back g.past) ∙ append-nil done) more);
+              (subst (λ (x : List Step). SoFar Whole (PutsFrom kind Bs plain piece file') (l.seen ++ wants_of ws) x)
+              (ap (λ (x : List Step). done ++ x) (steps_back g.past) ∙ append-nil done) more);
           on = g.on;
         }
 
     -- the file came to a fault
-    pub file_fault : (Is : UnreadBlock → Want → Type 0) (halt : Halt Fault UnreadBlock) → (l : LeftToPut whole kind Bs plain file done) → EndsBy kind Is Bs l.seen file (Err halt) → Goes Is part [] Bs whole done (Err halt)
+    pub file_fault : (Is : UnreadBlock → Want → Type 0) (halt : Halt Fault UnreadBlock) → (l : LeftToPut whole kind Bs plain file done)
+        → EndsBy kind Is Bs l.seen file (Err halt) → Goes Is part [] Bs whole done (Err halt)
     file_fault Is halt l e =
         let c = cursor_halts Body last (λ st q. (some st q, some_puts st q)) Is part l.seen plain e.0 halt e.2 in
         subst (λ (x : List Step). Answers Is part Whole x (Err halt)) (append-nil done)
         (so_far_ends Is part Whole (PutsLeft kind Bs plain file) l.seen done [] (Err halt) l.so_far (c.0, (e.0, e.1, c.1), c.2))
 
     -- a run without pieces puts none
-    no_more : (ms : List (Mark Want Piece)) (e : Result (Unit {0}) Fault) → [] ≡ steps_of ms → e ≡ Ok tt → (r : Run Want Fault Step Bool) × ThreadsTo Body last plain ms e r × ([] ≡ steps_of r.marks) × (r.ending ≡ Ok plain)
-    no_more [] e n i = subst (λ (x : Result (Unit {0}) Fault). (r : Run Want Fault Step Bool) × ThreadsTo Body last plain [] x r × ([] ≡ steps_of r.marks) × (r.ending ≡ Ok plain)) (sym i) (run [] (Ok plain), refl, refl, refl)
+    no_more : (ms : List (Mark Want Piece)) (e : Result (Unit {0}) Fault) → [] ≡ steps_of ms → e ≡ Ok tt → (r : Run Want Fault Step Bool)
+        × ThreadsTo Body last plain ms e r × ([] ≡ steps_of r.marks) × (r.ending ≡ Ok plain)
+    no_more [] e n i = subst (λ (x : Result (Unit {0}) Fault). (r : Run Want Fault Step Bool) × ThreadsTo Body last plain [] x r
+        × ([] ≡ steps_of r.marks) × (r.ending ≡ Ok plain)) (sym i) (run [] (Ok plain), refl, refl, refl)
     no_more (Wants w ∷ ms) e n i = let g = no_more ms e n i in (first (Wants w) g.0, (g.0, refl, g.1), g.2, g.3)
     no_more (Does p ∷ ms) e n i = cc
 
     -- the file came to its end
-    pub file_end : (Is : UnreadBlock → Want → Type 0) → (l : LeftToPut whole kind Bs plain file done) → EndsBy kind Is Bs l.seen file (Ok tt) → Goes Is part [] Bs whole done (Ok plain)
+    pub file_end : (Is : UnreadBlock → Want → Type 0) → (l : LeftToPut whole kind Bs plain file done) → EndsBy kind Is Bs l.seen file (Ok tt)
+        → Goes Is part [] Bs whole done (Ok plain)
     file_end Is l e =
         let c = no_more e.0.marks e.0.ending e.2.0 e.2.1 in
         subst (λ (x : List Step). Answers Is part Whole x (Ok plain)) (append-nil done)
@@ -130,16 +139,19 @@ module _ (Bs : ℕ → Map) where
 
     module _ (piece : Piece) (more : List Step) (Is : UnreadBlock → Want → Type 0) where
       module _ (q : Run Want Fault Piece (Unit {0})) where
-        treated : (st : Bool) (marks : List (Mark Want Step)) (x : Result (Result Bool Bool) Fault) (r : Run Want Fault Step Bool) → x ≡ Ok (Ok st) → Puts Bs st q r → AfterTo marks x (GoOnTo (λ st'. Puts Bs st' q)) (prepend marks r)
+        treated : (st : Bool) (marks : List (Mark Want Step)) (x : Result (Result Bool Bool) Fault) (r : Run Want Fault Step Bool) → x ≡ Ok (Ok st)
+            → Puts Bs st q r → AfterTo marks x (GoOnTo (λ st'. Puts Bs st' q)) (prepend marks r)
         treated st marks x r i h = subst (λ y. AfterTo marks y (GoOnTo (λ st'. Puts Bs st' q)) (prepend marks r)) (sym i) (r, refl, h)
 
-        after_some : (marks : List (Mark Want Step)) (x : Result (Result Bool Bool) Fault) → AfterTo marks x (GoOnTo (λ st'. Puts Bs st' q)) (after marks x (go_on_run (λ st'. some st' q)))
+        after_some : (marks : List (Mark Want Step)) (x : Result (Result Bool Bool) Fault)
+            → AfterTo marks x (GoOnTo (λ st'. Puts Bs st' q)) (after marks x (go_on_run (λ st'. some st' q)))
         after_some marks (Ok (Ok st)) = (some st q, refl, some_puts st q)
         after_some marks (Ok (Err y)) = (run [] (Ok y), refl, refl)
         after_some marks (Err f) = refl
 
       -- the piece was put
-      pub piece_put : (plain' : Bool) → PieceToPut whole kind Bs plain piece file done → Goes Is part [] Bs (put plain piece) more (Ok plain') → LeftToPut whole kind Bs plain' file (done ++ more)
+      pub piece_put : (plain' : Bool) → PieceToPut whole kind Bs plain piece file done → Goes Is part [] Bs (put plain piece) more (Ok plain')
+          → LeftToPut whole kind Bs plain' file (done ++ more)
       piece_put plain' l t =
           let b : Run Want Fault Step (Result Bool Bool) = with_value {S = Step} Bs Ok t.0 in
           let f = follows_value Is part [] Ok t.0 plain' more t.2 in
@@ -152,19 +164,26 @@ module _ (Bs : ℕ → Map) where
           }
 
       -- the piece was not put
-      pub piece_halts : (halt : Halt Fault UnreadBlock) → PieceToPut whole kind Bs plain piece file done → Goes Is part [] Bs (put plain piece) more (Err halt) → Goes Is part [] Bs whole (done ++ more) (Err halt)
+      pub piece_halts : (halt : Halt Fault UnreadBlock) → PieceToPut whole kind Bs plain piece file done
+          → Goes Is part [] Bs (put plain piece) more (Err halt) → Goes Is part [] Bs whole (done ++ more) (Err halt)
       piece_halts halt l t =
           let b : Run Want Fault Step (Result Bool Bool) = with_value {S = Step} Bs Ok t.0 in
           let f = some_file kind file in
           let g = follows_alone Is part l.seen b more (Err halt) (follows_halt Is part [] t.0 (λ x. run [] (Ok (Ok x))) more halt t.2) in
-          so_far_ends Is part Whole (PutsFrom kind Bs plain piece file) l.seen done more (Err halt) l.so_far
-          (after b.marks b.ending (go_on_run (λ st'. some st' f.0)), (f.0, f.1, (b, goes_value Bs Ok (put plain piece) t.0 t.1, after_some f.0 b.marks b.ending)), follows_halt Is part l.seen b (go_on_run (λ st'. some st' f.0)) more halt g)
+          so_far_ends Is part Whole (PutsFrom kind Bs plain piece file) l.seen done more (Err halt) l.so_far (
+            after b.marks b.ending (go_on_run (λ st'. some st' f.0)),
+            (f.0, f.1, (b, goes_value Bs Ok (put plain piece) t.0 t.1, after_some f.0 b.marks b.ending)),
+            follows_halt Is part l.seen b
+                (go_on_run (λ st'. some st' f.0)) more halt g,
+          )
 
 -- facts of calls in a row, over one layout
-all_then : (layout : Layout) (a b c : Seen) (P Q R : (ℕ → Map) → Type 0) → ((Bs : ℕ → Map) → P Bs → Q Bs → R Bs) → TellsAll layout a b P → TellsAll layout b c Q → TellsAll layout a c R
+all_then : (layout : Layout) (a b c : Seen) (P Q R : (ℕ → Map) → Type 0) → ((Bs : ℕ → Map) → P Bs → Q Bs → R Bs) → TellsAll layout a b P
+    → TellsAll layout b c Q → TellsAll layout a c R
 all_then layout a b c P Q R f one two = record {
   calls = calls_then (λ sure held p q.
-      if_both (λ images. P (maps_of layout sure images)) (λ images. Q (maps_of layout sure images)) (λ images. R (maps_of layout sure images)) held (λ images h g. f (maps_of layout sure images) h g) p q) one.calls two.calls;
+      if_both (λ images. P (maps_of layout sure images)) (λ images. Q (maps_of layout sure images)) (λ images. R (maps_of layout sure images)) held
+      (λ images h g. f (maps_of layout sure images) h g) p q) one.calls two.calls;
 }
 
 -- the writing of a file, call by call
@@ -184,8 +203,10 @@ module _ (whole : Program Step Bool) (x y : World) (plain : Bool) (file file' : 
   same_layout : y.vol.store.layout ≡ layout
   same_layout = sym (base_layout y.vol.store file.loan) ∙ l.others.layout
 
-  over : (result : Result (Option Lending) TreeFault) → TellsAll y.vol.store.layout y.rack rack (Next y.vol.store.layout y.vol.sup result) → TellsAll layout y.rack rack (Next layout x.vol.sup result)
-  over result t = subst (λ (v : Super). TellsAll layout y.rack rack (Next layout v result)) l.sup (subst (λ (L : Layout). TellsAll L y.rack rack (Next L y.vol.sup result)) same_layout t)
+  over : (result : Result (Option Lending) TreeFault) → TellsAll y.vol.store.layout y.rack rack (Next y.vol.store.layout y.vol.sup result)
+      → TellsAll layout y.rack rack (Next layout x.vol.sup result)
+  over result t = subst (λ (v : Super). TellsAll layout y.rack rack (Next layout v result)) l.sup
+      (subst (λ (L : Layout). TellsAll L y.rack rack (Next L y.vol.sup result)) same_layout t)
 
   earlier : (u : UnreadBlock) (w : Want) → unread_by layout y.rack rack u w → unread_by layout x.rack rack u w
   earlier u w i = since layout layout refl l.reads u w i
@@ -193,11 +214,13 @@ module _ (whole : Program Step Bool) (x y : World) (plain : Bool) (file file' : 
   apart : SameLoans (without_file y.vol.store file) (without_file vol.store file') → SameLoans x.vol.store (without_file vol.store file')
   apart o = record { layout = o.layout ∙ l.others.layout; loans = o.loans ∙ l.others.loans }
 
-  streamed : (result other : Result (Option Lending) TreeFault) → result ≡ other → Streamed y.vol vol file file' y.rack rack result → Streamed y.vol vol file file' y.rack rack other
+  streamed : (result other : Result (Option Lending) TreeFault) → result ≡ other → Streamed y.vol vol file file' y.rack rack result
+      → Streamed y.vol vol file file' y.rack rack other
   streamed result other e n = subst (λ r. Streamed y.vol vol file file' y.rack rack r) e n
 
   -- it came to a fault
-  pub writing_fault : (f : TreeFault) (result : Result (Option Lending) TreeFault) → result ≡ Err f → Streamed y.vol vol file file' y.rack rack result → HasCause {A = Option Lending} y.vol.store.layout y.rack rack (Err f) → WasWritten whole x (world rack vol y.out) file' (Err (stop.Tree f))
+  pub writing_fault : (f : TreeFault) (result : Result (Option Lending) TreeFault) → result ≡ Err f → Streamed y.vol vol file file' y.rack rack result
+      → HasCause {A = Option Lending} y.vol.store.layout y.rack rack (Err f) → WasWritten whole x (world rack vol y.out) file' (Err (stop.Tree f))
   writing_fault f result is m cause =
       let n = streamed result (Err f) is m in
       record {
@@ -209,7 +232,8 @@ module _ (whole : Program Step Bool) (x y : World) (plain : Bool) (file file' : 
           done = l.done;
           sink = l.sink;
           text = l.text;
-          content = all_then layout x.rack y.rack rack Was (Next layout x.vol.sup (Err f)) (λ Bs. Goes (unread_by layout x.rack rack) part [] Bs whole l.done (Err (halt_of f)))
+          content = all_then layout x.rack y.rack rack Was (Next layout x.vol.sup (Err f))
+              (λ Bs. Goes (unread_by layout x.rack rack) part [] Bs whole l.done (Err (halt_of f)))
               (λ Bs p q. file_fault Bs whole kind plain file l.done (unread_by layout x.rack rack) (halt_of f) p
               (let e = q p.seen p.on in (e.0, e.1, follows_as (unread_by layout y.rack rack) (unread_by layout x.rack rack) earlier no_part p.seen e.0 [] (Err (halt_of f)) e.2)))
               l.content (over (Err f) n.content);
@@ -220,7 +244,8 @@ module _ (whole : Program Step Bool) (x y : World) (plain : Bool) (file file' : 
       }
 
   -- it came to its end
-  pub writing_end : (result : Result (Option Lending) TreeFault) → result ≡ Ok None → Streamed y.vol vol file file' y.rack rack result → WasWritten whole x (world rack vol y.out) file' (Ok plain)
+  pub writing_end : (result : Result (Option Lending) TreeFault) → result ≡ Ok None → Streamed y.vol vol file file' y.rack rack result
+      → WasWritten whole x (world rack vol y.out) file' (Ok plain)
   writing_end result is m =
       let n = streamed result (Ok None) is m in
       record {
@@ -232,7 +257,8 @@ module _ (whole : Program Step Bool) (x y : World) (plain : Bool) (file file' : 
           done = l.done;
           sink = l.sink;
           text = l.text;
-          content = all_then layout x.rack y.rack rack Was (Next layout x.vol.sup (Ok None)) (λ Bs. Goes (unread_by layout x.rack rack) part [] Bs whole l.done (Ok plain))
+          content = all_then layout x.rack y.rack rack Was (Next layout x.vol.sup (Ok None))
+              (λ Bs. Goes (unread_by layout x.rack rack) part [] Bs whole l.done (Ok plain))
               (λ Bs p q. file_end Bs whole kind plain file l.done (unread_by layout x.rack rack) p
               (let e = q p.seen p.on in (e.0, e.1, follows_as (unread_by layout y.rack rack) (unread_by layout x.rack rack) earlier no_part p.seen e.0 [] (Ok tt) e.2)))
               l.content (over (Ok None) n.content);
@@ -251,9 +277,12 @@ module _ (whole : Program Step Bool) (x y : World) (plain : Bool) (file file' : 
     Met Bs = PieceToPut whole kind Bs plain (piece_of piece) file' l.done
 
     met : TellsAll layout x.rack rack Met
-    met = all_then layout x.rack y.rack rack Was (Next layout x.vol.sup (Ok (Some piece))) Met (λ Bs p q. piece_next Bs whole kind plain file l.done file' (piece_of piece) p (q p.seen p.on)) l.content (over (Ok (Some piece)) n.content)
+    met = all_then layout x.rack y.rack rack Was (Next layout x.vol.sup (Ok (Some piece))) Met
+        (λ Bs p q. piece_next Bs whole kind plain file l.done file' (piece_of piece) p (q p.seen p.on)) l.content (over (Ok (Some piece)) n.content)
 
-    put_with : {R : (ℕ → Map) → Type 0} (r : Result Bool TheStop) (w : Wrote (put plain (piece_of piece)) y.out z r) → ((Bs : ℕ → Map) → Met Bs → Goes (unread_by layout x.rack rack) part [] Bs (put plain (piece_of piece)) w.did.done (ended r) → R Bs) → TellsAll layout x.rack rack R
+    put_with : {R : (ℕ → Map) → Type 0} (r : Result Bool TheStop) (w : Wrote (put plain (piece_of piece)) y.out z r)
+        → ((Bs : ℕ → Map) → Met Bs → Goes (unread_by layout x.rack rack) part [] Bs (put plain (piece_of piece)) w.did.done (ended r) → R Bs)
+        → TellsAll layout x.rack rack R
     put_with {R} r w f = record { calls = calls_as (λ sure h p. if_map (λ images. Met (maps_of layout sure images)) (λ images. R (maps_of layout sure images)) h (λ images m. f (maps_of layout sure images) m (w.did.goes layout x.rack rack (maps_of layout sure images))) p) met.calls }
 
     pub writing_on : (plain' : Bool) → Wrote (put plain (piece_of piece)) y.out z (Ok plain') → IsWriting whole x (world rack vol z) plain' file'
@@ -265,7 +294,8 @@ module _ (whole : Program Step Bool) (x y : World) (plain : Bool) (file file' : 
       done = l.done ++ w.did.done;
       sink = w.did.sink ∙ (ap (λ v. fold sink_after v w.did.done) l.sink ∙ sym (fold-append sink_after x.out.sink l.done w.did.done));
       text = w.did.text ∙ (ap (λ u. text_after u w.did.done) l.text ∙ text_then x.out.text l.done w.did.done);
-      content = put_with (Ok plain') w (λ Bs m g. piece_put Bs whole kind plain file' l.done (piece_of piece) w.did.done (unread_by layout x.rack rack) plain' m g);
+      content = put_with (Ok plain') w (λ Bs m g. piece_put Bs whole kind plain file' l.done (piece_of piece) w.did.done
+          (unread_by layout x.rack rack) plain' m g);
       sink_calls = w.sink_calls ∙ l.sink_calls;
       out_calls = w.out_calls ∙ l.out_calls;
     }
@@ -280,7 +310,8 @@ module _ (whole : Program Step Bool) (x y : World) (plain : Bool) (file file' : 
         done = l.done ++ w.did.done;
         sink = w.did.sink ∙ (ap (λ v. fold sink_after v w.did.done) l.sink ∙ sym (fold-append sink_after x.out.sink l.done w.did.done));
         text = w.did.text ∙ (ap (λ u. text_after u w.did.done) l.text ∙ text_then x.out.text l.done w.did.done);
-        content = put_with (Err t) w (λ Bs m g. piece_halts Bs whole kind plain file' l.done (piece_of piece) w.did.done (unread_by layout x.rack rack) (stop_halt t) m g);
+        content = put_with (Err t) w (λ Bs m g. piece_halts Bs whole kind plain file' l.done (piece_of piece) w.did.done
+            (unread_by layout x.rack rack) (stop_halt t) m g);
       };
       cause = no_cause {A = Bool} layout x.rack rack (Err t) w.stops;
       sink_calls = subst (λ a. SinkCounts {A = Bool} a z.sink_calls (Err t)) l.sink_calls w.sink_calls;
@@ -288,7 +319,8 @@ module _ (whole : Program Step Bool) (x y : World) (plain : Bool) (file file' : 
     }
 
 -- a file begins
-pub writing_first : (x : World) (file : FileBytes) (p : Program Piece (Unit {0})) → IsReading x.rack x.vol.store file → without_file x.vol.store file ≡ x.vol.store → Begins (kind_in x.vol.sup) file p → ((B : Map) → IsFileOn B [] file) → IsWriting (each put false p) x x false file
+pub writing_first : (x : World) (file : FileBytes) (p : Program Piece (Unit {0})) → IsReading x.rack x.vol.store file → without_file x.vol.store file
+    ≡ x.vol.store → Begins (kind_in x.vol.sup) file p → ((B : Map) → IsFileOn B [] file) → IsWriting (each put false p) x x false file
 writing_first x file p reading same begins on = record {
   reads = reads_self x.rack;
   sup = refl;
@@ -298,15 +330,19 @@ writing_first x file p reading same begins on = record {
   sink = refl;
   text = text_none x.out.text;
   content = record {
-    calls = calls_none (λ sure. if_some (λ images. LeftToPut (each put false p) (kind_in x.vol.sup) (maps_of x.vol.store.layout sure images) false file []) x.rack.held
-        (λ images. left_first (maps_of x.vol.store.layout sure images) (kind_in x.vol.sup) file false p begins (on (maps_of x.vol.store.layout sure images 0))));
+    calls = calls_none (λ sure. if_some (λ images. LeftToPut (each put false p) (kind_in x.vol.sup) (maps_of x.vol.store.layout sure images) false
+        file []) x.rack.held
+        (λ images. left_first (maps_of x.vol.store.layout sure images) (kind_in x.vol.sup) file false p begins
+        (on (maps_of x.vol.store.layout sure images 0))));
   };
   sink_calls = refl;
   out_calls = refl;
 }
 
 -- a file was written wholly and is given back
-pub writing_over : (whole : Program Step Bool) (x y : World) (vol : Volume) (file : FileBytes) (r : Result Bool TheStop) → IsReady x.rack x.vol → WasWritten whole x y file r → vol.sup ≡ y.vol.sup → SameLoans (without_file y.vol.store file) vol.store → Serves y.rack vol.store → Ran whole x (world y.rack vol y.out) r
+pub writing_over : (whole : Program Step Bool) (x y : World) (vol : Volume) (file : FileBytes) (r : Result Bool TheStop) → IsReady x.rack x.vol
+    → WasWritten whole x y file r → vol.sup ≡ y.vol.sup → SameLoans (without_file y.vol.store file) vol.store → Serves y.rack vol.store
+    → Ran whole x (world y.rack vol y.out) r
 writing_over whole x y vol file r ready w sup back serves =
     let same : SameVolume x.vol vol = record { sup = sup ∙ w.sup; store = record { layout = back.layout ∙ w.others.layout; loans = back.loans ∙ w.others.loans } } in
     record {

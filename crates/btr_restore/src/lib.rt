@@ -12,8 +12,6 @@ mod lookups;
 mod restoring;
 mod rows;
 mod telling;
-#[cfg(test)]
-mod tests;
 mod treated;
 mod treating;
 mod writing;

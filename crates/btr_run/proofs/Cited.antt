@@ -25,13 +25,37 @@ images_there [] at [] old new named reads = absurd reads.0
 images_there [] at (first ∷ more) old new named reads = omega (arith, ap (λ (r : Read). r.images) reads.1)
 images_there (Volume ∷ left) at words old new named reads = absurd named
 images_there (Word this ∷ left) at words old new named reads =
-    omega (arith, images_there left (at + length reads.0) reads.1 reads.2 new named reads.5, ap (λ (l : Words). length l) reads.3, length-append reads.0 reads.1)
+    omega (
+      arith,
+      images_there left (at + length reads.0) reads.1 reads.2 new named reads.5,
+      ap (λ (l : Words). length l) reads.3,
+      length-append
+          reads.0 reads.1,
+    )
 images_there (Number ∷ left) at words old new named reads =
-    omega (arith, images_there left (at + length reads.0) reads.1 reads.2 new named reads.5, ap (λ (l : Words). length l) reads.3, length-append reads.0 reads.1)
+    omega (
+      arith,
+      images_there left (at + length reads.0) reads.1 reads.2 new named reads.5,
+      ap (λ (l : Words). length l) reads.3,
+      length-append
+          reads.0 reads.1,
+    )
 images_there (Destination ∷ left) at words old new named reads =
-    omega (arith, images_there left (at + length reads.0) reads.1 reads.2 new named reads.5, ap (λ (l : Words). length l) reads.3, length-append reads.0 reads.1)
+    omega (
+      arith,
+      images_there left (at + length reads.0) reads.1 reads.2 new named reads.5,
+      ap (λ (l : Words). length l) reads.3,
+      length-append
+          reads.0 reads.1,
+    )
 images_there (File ∷ left) at words old new named reads =
-    omega (arith, images_there left (at + length reads.0) reads.1 reads.2 new named reads.5, ap (λ (l : Words). length l) reads.3, length-append reads.0 reads.1)
+    omega (
+      arith,
+      images_there left (at + length reads.0) reads.1 reads.2 new named reads.5,
+      ap (λ (l : Words). length l) reads.3,
+      length-append
+          reads.0 reads.1,
+    )
 
 -- or the end of the words
 images_within : (left : List Part) (at : ℕ) (words : Words) (old new : Read) → Reads left at words old new → new.images ≤ at + length words

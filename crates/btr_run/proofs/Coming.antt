@@ -17,7 +17,8 @@ use Rattle.btr_restore.specs.Running.{Outside}
 use Rattle.btr_listing.specs.Step.{Step, Line}
 use Rattle.btr_text.proofs.Writing.{adds_nothing, adds_twice}
 use Rattle.btr_run.specs.Answers.{error_line, answer_of}
-use Rattle.btr_run.specs.Outcomes.{Outcome, Shown, refused, showing, text_steps, due_after, IsPut, IsNoFault, Shows, IsFirstPart, Stands, StandsPartly, CallFailed}
+use Rattle.btr_run.specs.Outcomes.{Outcome, Shown, refused, showing, text_steps, due_after, IsPut, IsNoFault, Shows, IsFirstPart, Stands, StandsPartly}
+use Rattle.btr_run.specs.Outcomes.{CallFailed}
 use Rattle.btr_run.specs.Outcomes.{OneFailed, How, Whole, SinkFailed, OutFailed, Wanted, HasEnded, Comes, HasFirstPart, MayEnd, IsPrinted}
 use Rattle.btr_run.specs.declared.answer.Answer.{Answer}
 use Rattle.btr_run.specs.declared.answer.Answer.TheVariants.{SinkFault, OutFault, Memory}

@@ -2,8 +2,8 @@
 use Rattle.std.proofs.Common.{◌≡◌, inl, inr, ℕ, Bool, List, [], Option, Some, None, IsSomeAnd, Result, Ok, Err, refl, sym, ap, ◌∙◌, subst}
 use Rattle.std.specs.Option.{IfSome}
 use Rattle.btr_chunk.specs.declared.stripe.Stripe.{Stripe}
-use Rattle.btr_mend.specs.declared.mended.MendFault.{MendFault}
-use Rattle.btr_mend.specs.declared.mended.MendFault.TheVariants as mend
+use Rattle.btr_scrub_copies.specs.declared.mended.MendFault.{MendFault}
+use Rattle.btr_scrub_copies.specs.declared.mended.MendFault.TheVariants as mend
 use Rattle.btr_prog.specs.Answers.{Follows, no_part}
 use Rattle.btr_prog.specs.Prog.{exec}
 use Rattle.btr_rack.specs.Rack.{OnlyReads, Seen}

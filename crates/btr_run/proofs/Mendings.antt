@@ -3,8 +3,8 @@ use Rattle.std.proofs.Common.{◌≡◌, ◌≢◌, ◌⊎◌, inl, inr, ⊎_eli
 use Rattle.std.proofs.Common.{subst, arith}
 use Rattle.std.specs.Option.{IfSome}
 use Rattle.std.proofs.lemmas.List.{append-nil}
-use Rattle.btr_mend.specs.Writes.{IsStopped, IsTorn, Leaves, Write, write_on}
-use Rattle.btr_mend.specs.declared.mended.MendFault.{MendFault}
+use Rattle.btr_scrub_copies.specs.Writes.{IsStopped, IsTorn, Leaves, Write, write_on}
+use Rattle.btr_scrub_copies.specs.declared.mended.MendFault.{MendFault}
 use Rattle.btr_rack.specs.Rack.{NoneFailed, OnlyReads, Rose, Seen, Steady}
 use Rattle.btr_scrub.specs.declared.tally.Tally.{Tally}
 use Rattle.btr_volume.specs.Opening.{SuperUnread}

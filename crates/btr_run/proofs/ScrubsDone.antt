@@ -5,9 +5,9 @@ use Rattle.std.specs.Option.{IfSome}
 use Rattle.std.specs.List.{All}
 use Rattle.std.specs.Prelude.{IsSomeAnd, OnOk}
 use Rattle.btr_check.specs.Running.{OfReading}
-use Rattle.btr_mend.specs.Writes.{AccountsMend, FailsAt, IsStopped, Leaves, Write, write_on, writes_if}
-use Rattle.btr_mend.specs.declared.mended.MendFault.{MendFault}
-use Rattle.btr_mend.specs.declared.mended.MendFault.TheVariants as mend
+use Rattle.btr_scrub_copies.specs.Writes.{AccountsMend, FailsAt, IsStopped, Leaves, Write, write_on, writes_if}
+use Rattle.btr_scrub_copies.specs.declared.mended.MendFault.{MendFault}
+use Rattle.btr_scrub_copies.specs.declared.mended.MendFault.TheVariants as mend
 use Rattle.btr_prog.specs.Answers.{Follows, no_part}
 use Rattle.btr_prog.specs.Prog.{exec, wants_of}
 use Rattle.btr_rack.specs.Rack.{OnlyReads, Seen, Steady}
@@ -23,10 +23,11 @@ use Rattle.btr_scrub.specs.Plain.{plain_among}
 use Rattle.btr_scrub.specs.Repair.{blocks, effect_of_ending, effect_unless, first_missing, meeting, met, writes}
 use Rattle.btr_scrub.specs.Right.{Committed, IsRepairable, StandsFor}
 use Rattle.btr_scrub.specs.Scrubbed.{IsSafe, called}
-use Rattle.btr_mend.specs.Syncing.{plain}
+use Rattle.btr_scrub_copies.specs.Syncing.{plain}
 use Rattle.btr_scrub.specs.Scrubbing.{IsOfScrub, Works}
 use Rattle.btr_scrub.specs.Units.{Met, units_in}
-use Rattle.btr_scrub.specs.Whole.{Goes, Listed, ListedCounts, ListedWrites, Listing, Refused, ScrubsAll, Stopped, first_tally, listed_count_for, listed_writes_for}
+use Rattle.btr_scrub.specs.Whole.{Goes, Listed, ListedCounts, ListedWrites, Listing, Refused, ScrubsAll, Stopped, first_tally, listed_count_for}
+use Rattle.btr_scrub.specs.Whole.{listed_writes_for}
 use Rattle.btr_scrub.specs.Whole as whole
 use Rattle.btr_scrub.specs.declared.tally.Tally.{Tally}
 use Rattle.btr_chunk.specs.Table.{IsTable}

@@ -52,7 +52,8 @@ of_rack None number images told = (images, refl)
 of_rack (Some volume) number images told = ap (λ i. showing (tried_shown number i)) (sym told)
 
 -- a trial's text, of which a first part stands behind the lines of the volume
-behind_lines : (number : ℕ) (t : Images) (old mid new : Option (List ℕ)) → Adds old mid (volume_text number) → (n : ℕ) × Adds mid new (take n (trial_text (trial_of t number)))
+behind_lines : (number : ℕ) (t : Images) (old mid new : Option (List ℕ)) → Adds old mid (volume_text number) → (n : ℕ)
+    × Adds mid new (take n (trial_text (trial_of t number)))
     → (n : ℕ) × Adds old new (take n (volume_text number ++ trial_text (trial_of t number)))
 behind_lines number t old mid new lines part = (
   length (volume_text number) + part.0,
@@ -119,7 +120,8 @@ module _ (volume : Option Images) (number : ℕ) (sink : Sink) (calls : CallAcco
     where
       of : (r : Result ℕ Stop) → Ends (trial_of t number) mid new between after r → AnswersTo r answer → TriesTo old new before after answer
       of (Ok count) ends due =
-          put_so t is old new before after (Ok tt) (adds_twice old mid new (volume_text number) (trial_text (trial_of t number)) lines ends.1) (ends.2 ∙ same) answer
+          put_so t is old new before after (Ok tt) (adds_twice old mid new (volume_text number) (trial_text (trial_of t number)) lines ends.1)
+          (ends.2 ∙ same) answer
           (due ∙ ap found ends.0)
       of (Err stops.Out) ends due =
           put_so t is old new before after (Err Failed) (behind_lines number t old mid new lines ends.0)

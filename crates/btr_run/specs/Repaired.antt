@@ -1,6 +1,6 @@
 -- What a scrub that writes leaves of the images.
 use Rattle.std.specs.Prelude.{◌≡◌, ◌⊎◌, ℕ, ◌≤◌, Bool, true, List, [], drop, length, map, All, Option, Some, IfErr, IfSome, Result, Ok, Err}
-use Rattle.btr_mend.specs.Writes.{IsStopped}
+use Rattle.btr_scrub_copies.specs.Writes.{IsStopped}
 use Rattle.btr_rack.specs.Rack.{Seen, Shelf, Slot, Steady}
 use Rattle.btr_scrub.specs.Repair.{blocks}
 use Rattle.btr_scrub.specs.Right.{Committed, IsRepairable, StandsFor}

@@ -2,7 +2,7 @@
 use Rattle.std.specs.Prelude.{◌≡◌, ℕ, Bool, true, List, [], ◌++◌, codes, Option, Some, None, Result, Ok, Err}
 use Rattle.std.specs.Fmt.{decimal}
 use Rattle.btr_chunk.specs.declared.stripe.Stripe.{Stripe}
-use Rattle.btr_mend.specs.Writes.{Write}
+use Rattle.btr_scrub_copies.specs.Writes.{Write}
 use Rattle.btr_read.specs.Fate.{Fault}
 use Rattle.btr_scrub.specs.Filesystem as scrubbed
 use Rattle.btr_scrub.specs.Repair.{effect, first_missing, meeting, stood_tally, tally}

@@ -1,7 +1,7 @@
 // The commands.
 ghost use Rattle.std.specs.Prelude.{◌≡◌, ◌<◌, true, length, map};
 ghost use Rattle.std.specs.String.{string_bytes};
-ghost use Rattle.btr_mend.specs.Writes.{AreWritable};
+ghost use Rattle.btr_scrub_copies.specs.Writes.{AreWritable};
 ghost use Rattle.btr_rack.specs.Sink.{NotStarted};
 ghost use Rattle.btr_run.specs.Answers.{answer_of};
 ghost use Rattle.btr_run.specs.Commands.{HasWords, IsFit, opens_to_write};

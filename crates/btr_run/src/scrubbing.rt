@@ -1,6 +1,6 @@
 // The command `scrub start`.
 ghost use Rattle.std.specs.Prelude.{◌≡◌, ◌≢◌, ◌<◌, ℕ, [], true, length, IfSome, Some};
-ghost use Rattle.btr_mend.specs.Writes.{AreWritable};
+ghost use Rattle.btr_scrub_copies.specs.Writes.{AreWritable};
 ghost use Rattle.btr_rack.specs.Rack.{Steady};
 ghost use Rattle.btr_text.specs.Pieces.{text_of};
 ghost use Rattle.btr_run.specs.Agreeing.{AreAgreed, IsScrubbedOrUnread, ScrubsAgreed};

@@ -1,9 +1,9 @@
 // Checks where calls on an image or on the output fail.
 use crate::answers::answers;
-use btr_calls::{CallFault, Failing, Told, call, call_where};
 use btr_make::{RowVolume, row};
 use btr_rack::MemRack;
 use btr_run::Answer;
+use btr_test_calls::{CallFault, Failing, Told, call, call_where};
 use std::alloc::Global;
 use std::process::Abort;
 

@@ -7,9 +7,9 @@ mod together;
 mod trees;
 
 use crate::answers::answers;
-use btr_calls::{CallFault, call};
 use btr_make::{RowVolume, row, seal};
 use btr_rack::MemRack;
+use btr_test_calls::{CallFault, call};
 use std::alloc::Global;
 use std::process::Abort;
 

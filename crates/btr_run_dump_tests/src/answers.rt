@@ -1,6 +1,6 @@
 // What `run` tells.
-use btr_calls::{CallFault, call};
 use btr_rack::MemRack;
+use btr_test_calls::{CallFault, call};
 use std::alloc::Global;
 use std::process::Abort;
 

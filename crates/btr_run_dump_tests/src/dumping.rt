@@ -1,9 +1,9 @@
 // Rows of the commands that show trees, worked out by hand, over small volumes.
 use crate::answers::answers;
-use btr_calls::{CallFault, Failing, call, call_where};
 use btr_make::{RowVolume, make, row, seal};
 use btr_rack::MemRack;
 use btr_run::Answer;
+use btr_test_calls::{CallFault, Failing, call, call_where};
 use std::alloc::Global;
 use std::process::Abort;
 

@@ -1,7 +1,7 @@
 // Restores that go past what is broken, and streams of what stands, by the words of the command line.
 use super::restoring::restores;
-use btr_calls::CallFault;
 use btr_make::{RowVolume, row};
+use btr_test_calls::CallFault;
 
 // A volume, and the words, the text and the exit status of a call on it, and whether a file is left unfinished.
 const ROWS: &[(RowVolume, &[&str], &[u8], u8, bool)] = &[

@@ -1,9 +1,9 @@
 // The commands that came after `restore`, over images that somebody damaged on purpose.
 use crate::hostile::{DAMAGED, LEFT_OUT, edited, in_leaf};
 use crate::restoring::{restores, restores_rows};
-use btr_calls::CallFault;
 use btr_make::{RowVolume, row};
 use btr_rack::MemRack;
+use btr_test_calls::CallFault;
 use std::alloc::{AllocError, Global};
 use std::process::Abort;
 

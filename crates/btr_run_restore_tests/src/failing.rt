@@ -1,9 +1,9 @@
 // Restores, streams and owners where one call fails, of the destination, of an image or of the
 // output: each in turn, up to the first that isn't made.
-use btr_calls::{CallFault, Failing, Told, call, call_where, five_files};
 use btr_make::{RowVolume, row};
 use btr_rack::MemRack;
 use btr_run::Answer;
+use btr_test_calls::{CallFault, Failing, Told, call, call_where, five_files};
 use std::alloc::Global;
 use std::process::Abort;
 

@@ -1,9 +1,9 @@
 // Restores from images that somebody damaged on purpose: one edit each, with the checksum made right again.
 use crate::restoring::{restores, restores_rows};
-use btr_calls::{CallFault, Failing, Told, call, call_where, five_files};
 use btr_make::{RowVolume, row, seal};
 use btr_rack::MemRack;
 use btr_run::Answer;
+use btr_test_calls::{CallFault, Failing, Told, call, call_where, five_files};
 use std::alloc::{AllocError, Global};
 use std::process::Abort;
 

@@ -1,7 +1,7 @@
 // Restores by the words of the command line, into memory.
-use btr_calls::{CallFault, Told, call, five_files};
 use btr_make::{RowVolume, row};
 use btr_rack::MemRack;
+use btr_test_calls::{CallFault, Told, call, five_files};
 use std::alloc::Global;
 use std::process::Abort;
 

@@ -1,9 +1,9 @@
 // Restores that end before their end: a block is lost or can't be read, or the destination fails.
 use crate::restoring::restores;
-use btr_calls::{CallFault, Failing, call_where};
 use btr_make::{RowVolume, row};
 use btr_rack::MemRack;
 use btr_run::Answer;
+use btr_test_calls::{CallFault, Failing, call_where};
 use std::alloc::Global;
 use std::process::Abort;
 

@@ -1,9 +1,9 @@
 // A scrub makes as many writes as there are wrong ranges: the next one, which would fail, isn't
 // made.
 use crate::mending::{differing_page, scrub};
-use btr_calls::CallFault;
 use btr_make::{RowVolume, row, spoil};
 use btr_rack::MemRack;
+use btr_test_calls::CallFault;
 use std::alloc::Global;
 
 // A volume, its images, those that are spoiled, how many writes mend them, and the text.

@@ -1,8 +1,8 @@
 // Scrubs of damaged images, after which each byte is right again, or none has changed.
 use crate::scrubbing::turn;
-use btr_calls::{CallFault, Told, call, five_files};
 use btr_make::{RowVolume, row, spoil};
 use btr_rack::MemRack;
+use btr_test_calls::{CallFault, Told, call, five_files};
 use std::alloc::{AllocError, Global};
 use std::process::Abort;
 

@@ -1,8 +1,8 @@
 // Scrubs by the words of the command line, over images in memory.
 use crate::answers::answers;
-use btr_calls::CallFault;
 use btr_make::{RowVolume, row, seal};
 use btr_rack::MemRack;
+use btr_test_calls::CallFault;
 use std::alloc::Global;
 use std::process::Abort;
 

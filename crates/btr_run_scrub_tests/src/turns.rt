@@ -1,9 +1,9 @@
 // A full stripe of RAID6 both of whose slices of data are bad, stopped at each call: what is rebuilt is stored before the parities that it was rebuilt by
 // are written.
 use crate::mending::{differing_page, restores_all, scrub};
-use btr_calls::{CallFault, Told};
 use btr_make::{RowVolume, row};
 use btr_rack::MemRack;
+use btr_test_calls::{CallFault, Told};
 use std::alloc::Global;
 use std::process::Abort;
 

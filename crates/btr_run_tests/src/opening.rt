@@ -1,9 +1,9 @@
 // Filesystems that aren't opened, by the first reason.
 use crate::answers::answers;
-use btr_calls::{CallFault, call, super_of};
 use btr_make::{RowVolume, put_super, row};
 use btr_rack::MemRack;
 use btr_super::Super;
+use btr_test_calls::{CallFault, call, super_of};
 use std::alloc::Global;
 use std::process::Abort;
 

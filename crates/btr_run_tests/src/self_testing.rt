@@ -3,10 +3,10 @@
 ghost use Rattle.std.specs.Prelude.{IfOk};
 ghost use Rattle.btr_make.specs.Shelf.{IsReady};
 
-use btr_calls::{CallFault, Failing, call_making};
 use btr_make::{Builder, Given, Maker, make, spoil};
 use btr_rack::MemRack;
 use btr_run::Answer;
+use btr_test_calls::{CallFault, Failing, call_making};
 use std::alloc::Global;
 use std::process::Abort;
 

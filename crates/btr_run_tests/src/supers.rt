@@ -1,10 +1,10 @@
 // Rows of `super`, worked out by hand, over images in memory.
 use crate::answers::answers;
-use btr_calls::{CallFault, Failing, call, call_where};
 use btr_make::{put_super, seal};
 use btr_rack::{MemRack, Rack};
 use btr_run::Answer;
 use btr_super::Super;
+use btr_test_calls::{CallFault, Failing, call, call_where};
 use std::alloc::{AllocError, Global};
 use std::process::Abort;
 

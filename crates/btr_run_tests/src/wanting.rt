@@ -2,9 +2,9 @@
 ghost use Rattle.std.specs.Prelude.{None, true, false};
 ghost use Rattle.btr_rack.specs.CallsLaws.{unsure_calm};
 
-use btr_calls::{CallFault, called, words};
 use btr_rack::{MemRack, MemTree, Out, Rack, RackError, SinkError};
 use btr_run::Answer;
+use btr_test_calls::{CallFault, called, words};
 
 // A rack in which each opening wants memory. All else is the inner rack's.
 #[derive(Drop)]

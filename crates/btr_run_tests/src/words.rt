@@ -1,7 +1,7 @@
 // Words that are no sentence: the number of the first that no sentence has at its place.
 use crate::answers::answers;
-use btr_calls::CallFault;
 use btr_rack::MemRack;
+use btr_test_calls::CallFault;
 use std::alloc::Global;
 use std::process::Abort;
 

@@ -1,5 +1,6 @@
 -- What is written in one chunk leaves the others.
-use Rattle.std.proofs.Common.{◌≡◌, ℕ, zero, suc, ◌+◌, ◌*◌, ◌/◌, ◌<◌, ◌≤◌, Bool, true, false, cond, eqb, List, [], ◌∷◌, map, length, take, slice_get, All, Option, Some, None, is_none, IsSome, is_some, IsSomeAnd, refl, sym, ap, ◌∙◌, subst, inl, inr, arith}
+use Rattle.std.proofs.Common.{◌≡◌, ℕ, zero, suc, ◌+◌, ◌*◌, ◌/◌, ◌<◌, ◌≤◌, Bool, true, false, cond, eqb, List, [], ◌∷◌, map, length, take, slice_get, All}
+use Rattle.std.proofs.Common.{Option, Some, None, is_none, IsSome, is_some, IsSomeAnd, refl, sym, ap, ◌∙◌, subst, inl, inr, arith}
 use Rattle.std.proofs.lemmas.Bool.{false≢true, and_parts, cases_order, eqb-true}
 use Rattle.std.proofs.lemmas.List.Elements.{All-append, All-nil}
 use Rattle.std.proofs.lemmas.Option.{same_Some}
@@ -22,23 +23,24 @@ use Rattle.btr_read.specs.Layout.{HaveOwnSlots, Layout, device_in}
 use Rattle.btr_read.specs.declared.device.Device.{Device}
 use Rattle.btr_read.specs.declared.want.Want.{Want}
 use Rattle.btr_read.proofs.Ones.{in_below}
-use Rattle.btr_mend.specs.Blocks.{accepted, bad_parts, block_writes, is_lost}
-use Rattle.btr_mend.proofs.Syncs.{passing_filter}
-use Rattle.btr_mend.specs.Writes.{Images, Write, write_on, writes_if}
-use Rattle.btr_mend.proofs.Copied.{has_mirror}
-use Rattle.btr_row.specs.Rows.{Row, parities, parity_writes, range_in_element, row_writes}
+use Rattle.btr_scrub_copies.specs.Blocks.{accepted, bad_parts, block_writes, is_lost}
+use Rattle.btr_scrub_copies.proofs.Syncs.{passing_filter}
+use Rattle.btr_scrub_copies.specs.Writes.{Images, Write, write_on, writes_if}
+use Rattle.btr_scrub_copies.proofs.Copied.{has_mirror}
+use Rattle.btr_scrub_row.specs.Rows.{Row, parities, parity_writes, range_in_element, row_writes}
 use Rattle.btr_scrub.specs.Devices.{HaveLengths}
 use Rattle.btr_scrub.specs.Glue.{In}
 use Rattle.btr_scrub.specs.Leaves.{KeepsOutside}
 use Rattle.btr_scrub.specs.Order.{IsSought, targets}
 use Rattle.btr_scrub.specs.Places.{IsOfElement}
 use Rattle.btr_scrub.specs.Repair.{covers, first_missing, is_in_chunk, is_in_row, is_missing, missing_stripes, row_of, rows_in}
-use Rattle.btr_scrub.specs.Scrubbing.{blocks_count, blocks_in, blocks_writes, chunk_count_for, chunk_writes_for, all_writes_for, count_block, count_row, count_row_of, counted, rows_count, rows_writes}
+use Rattle.btr_scrub.specs.Scrubbing.{blocks_count, blocks_in, blocks_writes, chunk_count_for, chunk_writes_for, all_writes_for, count_block, count_row}
+use Rattle.btr_scrub.specs.Scrubbing.{count_row_of, counted, rows_count, rows_writes}
 use Rattle.btr_scrub.specs.declared.tally.Tally.{Tally}
 use Rattle.btr_scrub.proofs.Agreeing.{Alike, copies_alike, of_mapped, writes_alike}
 use Rattle.btr_scrub.proofs.Blockwise.{none_first, none_flat, none_passes, of_targets}
 use Rattle.btr_scrub.proofs.CopyWrites.{same_element, written_byte}
-use Rattle.btr_row.proofs.Elements.{range_stands, stands_on}
+use Rattle.btr_scrub_row.proofs.Elements.{range_stands, stands_on}
 use Rattle.btr_scrub.proofs.Places.{is_at}
 use Rattle.btr_scrub.proofs.Positions.{IsCopyByte, is_sought, of_range, on_stripe}
 use Rattle.btr_scrub.proofs.RowAgreeing.{RowAlike, flat_same, fold_same, row_writes_alike}
@@ -59,12 +61,14 @@ pub record InChunk (layout : Layout) (i slot off : ℕ) : Type 0 where
   pub stripe : ℕ
   pub lies : LiesIn layout.chunks (record { devid = devid; offset = off }) i stripe
 
-pub one_chunk : (layout : Layout) (i j slot off : ℕ) → IsTable layout.chunks → HaveOwnSlots layout.devices → InChunk layout i slot off → InChunk layout j slot off → i ≡ j
+pub one_chunk : (layout : Layout) (i j slot off : ℕ) → IsTable layout.chunks → HaveOwnSlots layout.devices → InChunk layout i slot off
+    → InChunk layout j slot off → i ≡ j
 one_chunk layout i j slot off table own a b =
     let devid : a.devid ≡ b.devid = own a.devid b.devid a.device b.device a.given b.given (a.same_slot ∙ sym b.same_slot) in
     (stripes_apart layout.chunks (record { devid = a.devid; offset = off }) i j a.stripe b.stripe table a.lies (subst (λ d. LiesIn layout.chunks (record { devid = d; offset = off }) j b.stripe) (sym devid) b.lies)).0
 
-pub copy_in_chunk : (layout : Layout) (t : Target) (slot off : ℕ) → IsTable layout.chunks → (is : IsSought layout t) → IsCopyByte layout t slot off → InChunk layout is.number slot off
+pub copy_in_chunk : (layout : Layout) (t : Target) (slot off : ℕ) → IsTable layout.chunks → (is : IsSought layout t) → IsCopyByte layout t slot off
+    → InChunk layout is.number slot off
 copy_in_chunk layout t slot off table is b =
     let place = place_at t.chunk (Mirror b.copy) t.at in
     let on = on_stripe layout t (Mirror b.copy) table is b.has in
@@ -77,7 +81,8 @@ copy_in_chunk layout t slot off table is b =
       lies = record { chunk = t.chunk; there = is.there; stripe = on.stripe; stripe_there = on.there; inside = record { device = on.devid; begin = omega (arith, on.begin, b.offset); end = omega (arith, on.end, b.offset, b.below) } };
     }
 
-pub element_in_chunk : (layout : Layout) (row : Row) (q : Part) (slot off : ℕ) → IsTable layout.chunks → (e : IsOfElement layout row q slot off) → InChunk layout e.number slot off
+pub element_in_chunk : (layout : Layout) (row : Row) (q : Part) (slot off : ℕ) → IsTable layout.chunks → (e : IsOfElement layout row q slot off)
+    → InChunk layout e.number slot off
 element_in_chunk layout row q slot off table e =
     let a = is_at layout row q slot off table e in
     record { devid = a.stripe.devid; device = a.device; given = a.given; same_slot = a.same_slot; stripe = stripe_of row.chunk.profile (length row.chunk.stripes) q (record { row = row.number; index = 0; rest = 0 }); lies = a.lies }
@@ -90,7 +95,8 @@ sum_same f g xs h = fold_same (λ a x. a + f x) (λ a x. a + g x) xs 0 (λ x i z
 count_same : {X : Type 0} (f g : X → Bool) (xs : List X) → ((x : X) → In x xs → f x ≡ g x) → count_by f xs ≡ count_by g xs
 count_same f g xs h = sum_same (λ x. cond (f x) 1 0) (λ x. cond (g x) 1 0) xs (λ x i. ap (λ b. cond b 1 0) (h x i))
 
-pub flat_short : {X : Type 0} (images : Images) (f : X → List Write) (xs : List X) → ((x : X) → In x xs → All (Short images) (f x)) → All (Short images) (flat_map f xs)
+pub flat_short : {X : Type 0} (images : Images) (f : X → List Write) (xs : List X) → ((x : X) → In x xs → All (Short images) (f x))
+    → All (Short images) (flat_map f xs)
 flat_short images f [] h = All-nil (Short images)
 flat_short images f (x ∷ xs) h = All-append (Short images) (f x) (flat_map f xs) (h x (inl refl)) (flat_short images f xs (λ y i. h y (inr i)))
 
@@ -119,7 +125,12 @@ module _ (kept : KeptColumns) (layout : Layout) (table : IsTable layout.chunks) 
   start_same : (t : Target) (is : IsSought layout t) → t.chunk.start ≡ chunk.start → (is.number ≡ number) × (t.chunk ≡ chunk)
   start_same t is e = elim (cases_order is.number number) [
     | inl same ↦ (same, same_Some t.chunk chunk (sym is.there ∙ ap (slice_get layout.chunks) same ∙ there))
-    | inr (inl before) ↦ absurd (omega (arith, (table.apart is.number number t.chunk chunk before is.there there).0, e, (facts t.chunk (table.sound is.number t.chunk is.there).0).some))
+    | inr (inl before) ↦ absurd (omega (
+      arith,
+      (table.apart is.number number t.chunk chunk before is.there there).0,
+      e,
+      (facts t.chunk (table.sound is.number t.chunk is.there).0).some,
+    ))
     | inr (inr after) ↦ absurd (omega (arith, (table.apart number is.number chunk t.chunk after there is.there).0, e, (facts chunk sound).some))
   ]
 
@@ -143,7 +154,8 @@ module _ (kept : KeptColumns) (layout : Layout) (table : IsTable layout.chunks) 
     pub blocks : (t : Target) → In t row.blocks → IsBlockOf layout row t
 
   -- an element stands, as no device is missing
-  pub element_stands : (r : ℕ) (q : Part) → mirrors chunk ≡ None → r * 65536 + 65536 ≤ stripe_length chunk → HasPart chunk.profile (length chunk.stripes) q → IsSome (range_in_element layout (row_of kept (targets layout wants) chunk r) q 0 65536)
+  pub element_stands : (r : ℕ) (q : Part) → mirrors chunk ≡ None → r * 65536 + 65536 ≤ stripe_length chunk
+      → HasPart chunk.profile (length chunk.stripes) q → IsSome (range_in_element layout (row_of kept (targets layout wants) chunk r) q 0 65536)
   element_stands r q parity inside has =
       let at0 : Elements = record { row = r; index = 0; rest = 0 } in
       let p = placed_part chunk q at0 sound has (record { index = data_count-some chunk.profile (length chunk.stripes) (facts chunk sound).count; inside = omega (arith, inside) }) in
@@ -188,10 +200,13 @@ module _ (kept : KeptColumns) (layout : Layout) (table : IsTable layout.chunks) 
 
   module _ (images : Images) (lengths : HaveLengths images layout) where
     -- each byte that is written lies in the chunk
-    pub chunk_byte : (slot off : ℕ) → list_any (λ (w : Write). covers slot off w.range) (chunk_writes_for kept layout chunk wants images) ≡ true → InChunk layout number slot off
+    pub chunk_byte : (slot off : ℕ) → list_any (λ (w : Write). covers slot off w.range) (chunk_writes_for kept layout chunk wants images) ≡ true
+        → InChunk layout number slot off
     chunk_byte slot off h = by (mirrors chunk) refl h
       where
-        by : (o : Option ℕ) → mirrors chunk ≡ o → list_any (λ (w : Write). covers slot off w.range) (cond (is_none o) (rows_writes layout (rows_in kept (targets layout wants) chunk) images) (blocks_writes (blocks_in layout chunk wants) images)) ≡ true → InChunk layout number slot off
+        by : (o : Option ℕ) → mirrors chunk ≡ o → list_any (λ (w : Write). covers slot off w.range)
+            (cond (is_none o) (rows_writes layout (rows_in kept (targets layout wants) chunk) images)
+            (blocks_writes (blocks_in layout chunk wants) images)) ≡ true → InChunk layout number slot off
         by None parity h =
             let f = any_flat (λ (w : Write). covers slot off w.range) (row_writes images layout) (rows_in kept (targets layout wants) chunk) h in
             let of = of_rows parity f.0 f.1 in
@@ -208,18 +223,22 @@ module _ (kept : KeptColumns) (layout : Layout) (table : IsTable layout.chunks) 
     pub chunk_short : All (Short images) (chunk_writes_for kept layout chunk wants images)
     chunk_short = by (mirrors chunk) refl
       where
-        by : (o : Option ℕ) → mirrors chunk ≡ o → All (Short images) (cond (is_none o) (rows_writes layout (rows_in kept (targets layout wants) chunk) images) (blocks_writes (blocks_in layout chunk wants) images))
+        by : (o : Option ℕ) → mirrors chunk ≡ o → All (Short images)
+            (cond (is_none o) (rows_writes layout (rows_in kept (targets layout wants) chunk) images) (blocks_writes (blocks_in layout chunk wants) images))
         by None parity = flat_short images (row_writes images layout) (rows_in kept (targets layout wants) chunk) (λ row i. let of = of_rows parity row i in row_short layout row table of.is images lengths of.blocks)
-        by (Some n) copies = flat_short images (block_writes images) (blocks_in layout chunk wants) (λ t i. block_short images layout lengths t (of_chunk t i).is)
+        by (Some n) copies = flat_short images (block_writes images) (blocks_in layout chunk wants)
+            (λ t i. block_short images layout lengths t (of_chunk t i).is)
 
     -- what is told of a block counts the same
-    pub block_counts_alike : (write : Bool) (images' : Images) (t : Target) (tally : Tally) → Alike images images' t → count_block images' write tally t ≡ count_block images write tally t
+    pub block_counts_alike : (write : Bool) (images' : Images) (t : Target) (tally : Tally) → Alike images images' t
+        → count_block images' write tally t ≡ count_block images write tally t
     block_counts_alike write images' t tally a = ap (counted tally) (
         ap (λ ps. record { bad = length ps; repaired = length (writes_if write (block_writes images' t)); lost = is_none (accepted images' t) }) a.bad
         ∙ ap (λ w. record { bad = length (bad_parts images t); repaired = length (writes_if write w); lost = is_none (accepted images' t) }) (writes_alike images images' t a)
         ∙ ap (λ o. record { bad = length (bad_parts images t); repaired = length (writes_if write (block_writes images t)); lost = is_none o }) a.accepted)
 
-    pub row_counts_alike : (write : Bool) (images' : Images) (row : Row) (tally : Tally) → RowAlike images images' layout row → count_row images' layout write tally row ≡ count_row images layout write tally row
+    pub row_counts_alike : (write : Bool) (images' : Images) (row : Row) (tally : Tally) → RowAlike images images' layout row
+        → count_row images' layout write tally row ≡ count_row images layout write tally row
     row_counts_alike write images' row tally a =
         let bad = sum_same (λ t. length (bad_parts images' t)) (λ t. length (bad_parts images t)) row.blocks (λ t i. ap length (a.blocks t i).bad) in
         let repaired = sum_same (λ t. length (block_writes images' t)) (λ t. length (block_writes images t)) row.blocks (λ t i. ap length (writes_alike images images' t (a.blocks t i))) in
@@ -232,36 +251,49 @@ module _ (kept : KeptColumns) (layout : Layout) (table : IsTable layout.chunks) 
         ∙ ap (λ n. record { bad = sum_by (λ t. length (bad_parts images t)) row.blocks; repaired = cond write (sum_by (λ t. length (block_writes images t)) row.blocks) 0; lost = count_by (is_lost images) row.blocks; parity = n }) parity)
 
     -- nothing of the chunk was written: what is to be written and counted there is as before
-    pub chunk_stays : (write : Bool) (images' : Images) (ranges : List Range) → KeepsOutside ranges images images' → ((slot off : ℕ) → InChunk layout number slot off → list_any (covers slot off) ranges ≡ false)
-        → (chunk_writes_for kept layout chunk wants images' ≡ chunk_writes_for kept layout chunk wants images) × ((x : Tally) → chunk_count_for kept layout write chunk wants images' x ≡ chunk_count_for kept layout write chunk wants images x)
+    pub chunk_stays : (write : Bool) (images' : Images) (ranges : List Range) → KeepsOutside ranges images images'
+        → ((slot off : ℕ) → InChunk layout number slot off → list_any (covers slot off) ranges ≡ false)
+        → (chunk_writes_for kept layout chunk wants images' ≡ chunk_writes_for kept layout chunk wants images)
+        × ((x : Tally) → chunk_count_for kept layout write chunk wants images' x ≡ chunk_count_for kept layout write chunk wants images x)
     chunk_stays write images' ranges keeps free = (by_writes (mirrors chunk) refl, λ x. by_counts x (mirrors chunk) refl)
       where
         each_row : (parity : mirrors chunk ≡ None) (r : Row) → In r (rows_in kept (targets layout wants) chunk) → RowAlike images images' layout r
         each_row parity r i =
             let of = of_rows parity r i in
             row_stays layout r table of.is images lengths images' ranges of.blocks keeps
-            (λ q slot off e. free slot off (subst (λ k. InChunk layout k slot off) (number_same e.number of.is.chunk_number r.chunk e.there of.is.there ∙ of.number_is) (element_in_chunk layout r q slot off table e)))
+            (λ q slot off e. free slot off (subst (λ k. InChunk layout k slot off)
+            (number_same e.number of.is.chunk_number r.chunk e.there of.is.there ∙ of.number_is) (element_in_chunk layout r q slot off table e)))
 
         each_block : (n : ℕ) → mirrors chunk ≡ Some n → (t : Target) → In t (blocks_in layout chunk wants) → Alike images images' t
         each_block n copies t i =
             let of = of_chunk t i in
             let has : mirrors t.chunk ≡ Some n = ap mirrors of.chunk_is ∙ copies in
             copies_alike images images' t n has (λ k lt. same_element images images' layout ranges t (Mirror k) lengths of.is keeps
-            (λ slot off c. free slot off (subst (λ j. InChunk layout j slot off) of.number_is (copy_in_chunk layout t slot off table of.is (byte t of.is n k has lt slot off (range_of t (Mirror k)) refl c)))))
+            (λ slot off c. free slot off (subst (λ j. InChunk layout j slot off) of.number_is
+            (copy_in_chunk layout t slot off table of.is (byte t of.is n k has lt slot off (range_of t (Mirror k)) refl c)))))
           where
-            byte : (t : Target) → IsSought layout t → (n k : ℕ) → mirrors t.chunk ≡ Some n → k < n → (slot off : ℕ) (o : Option Range) → range_of t (Mirror k) ≡ o → IsSomeAnd o (λ range. covers slot off range ≡ true) → IsCopyByte layout t slot off
+            byte : (t : Target) → IsSought layout t → (n k : ℕ) → mirrors t.chunk ≡ Some n → k < n → (slot off : ℕ) (o : Option Range)
+                → range_of t (Mirror k) ≡ o → IsSomeAnd o (λ range. covers slot off range ≡ true) → IsCopyByte layout t slot off
             byte t is n k has lt slot off None e c = absurd c
             byte t is n k has lt slot off (Some range) e c = of_range layout t k slot off range is (has_mirror t n k has lt) e c
 
-        by_writes : (o : Option ℕ) → mirrors chunk ≡ o → cond (is_none o) (rows_writes layout (rows_in kept (targets layout wants) chunk) images') (blocks_writes (blocks_in layout chunk wants) images')
+        by_writes : (o : Option ℕ) → mirrors chunk ≡ o → cond (is_none o) (rows_writes layout (rows_in kept (targets layout wants) chunk) images')
+            (blocks_writes (blocks_in layout chunk wants) images')
             ≡ cond (is_none o) (rows_writes layout (rows_in kept (targets layout wants) chunk) images) (blocks_writes (blocks_in layout chunk wants) images)
-        by_writes None parity = flat_same (row_writes images' layout) (row_writes images layout) (rows_in kept (targets layout wants) chunk) (λ r i. row_writes_alike images images' layout r (each_row parity r i))
-        by_writes (Some n) copies = flat_same (block_writes images') (block_writes images) (blocks_in layout chunk wants) (λ t i. writes_alike images images' t (each_block n copies t i))
+        by_writes None parity = flat_same (row_writes images' layout) (row_writes images layout) (rows_in kept (targets layout wants) chunk)
+            (λ r i. row_writes_alike images images' layout r (each_row parity r i))
+        by_writes (Some n) copies = flat_same (block_writes images') (block_writes images) (blocks_in layout chunk wants)
+            (λ t i. writes_alike images images' t (each_block n copies t i))
 
-        by_counts : (x : Tally) (o : Option ℕ) → mirrors chunk ≡ o → cond (is_none o) (rows_count layout write (rows_in kept (targets layout wants) chunk) images' x) (blocks_count write (blocks_in layout chunk wants) images' x)
-            ≡ cond (is_none o) (rows_count layout write (rows_in kept (targets layout wants) chunk) images x) (blocks_count write (blocks_in layout chunk wants) images x)
-        by_counts x None parity = fold_same (count_row images' layout write) (count_row images layout write) (rows_in kept (targets layout wants) chunk) x (λ r i z. row_counts_alike write images' r z (each_row parity r i))
-        by_counts x (Some n) copies = fold_same (count_block images' write) (count_block images write) (blocks_in layout chunk wants) x (λ t i z. block_counts_alike write images' t z (each_block n copies t i))
+        by_counts : (x : Tally) (o : Option ℕ) → mirrors chunk ≡ o
+            → cond (is_none o) (rows_count layout write (rows_in kept (targets layout wants) chunk) images' x)
+            (blocks_count write (blocks_in layout chunk wants) images' x)
+            ≡ cond (is_none o) (rows_count layout write (rows_in kept (targets layout wants) chunk) images x)
+            (blocks_count write (blocks_in layout chunk wants) images x)
+        by_counts x None parity = fold_same (count_row images' layout write) (count_row images layout write)
+            (rows_in kept (targets layout wants) chunk) x (λ r i z. row_counts_alike write images' r z (each_row parity r i))
+        by_counts x (Some n) copies = fold_same (count_block images' write) (count_block images write) (blocks_in layout chunk wants) x
+            (λ t i z. block_counts_alike write images' t z (each_block n copies t i))
 
 -- ---- the chunks before one
 
@@ -270,8 +302,10 @@ module _ (kept : KeptColumns) (layout : Layout) (table : IsTable layout.chunks) 
   before_short = flat_short images (λ c. chunk_writes_for kept layout c wants images) (take number layout.chunks)
       (λ c i. let j = in_take number layout.chunks c i in chunk_short kept layout table own none j.0 c j.2 wants images lengths)
 
-  before_free : (slot off : ℕ) → InChunk layout number slot off → list_any (covers slot off) (map (λ (w : Write). w.range) (all_writes_for kept layout (take number layout.chunks) wants images)) ≡ false
-  before_free slot off b = by (list_any (covers slot off) (map (λ (w : Write). w.range) (all_writes_for kept layout (take number layout.chunks) wants images))) refl
+  before_free : (slot off : ℕ) → InChunk layout number slot off
+      → list_any (covers slot off) (map (λ (w : Write). w.range) (all_writes_for kept layout (take number layout.chunks) wants images)) ≡ false
+  before_free slot off b = by (list_any (covers slot off) (map (λ (w : Write). w.range)
+      (all_writes_for kept layout (take number layout.chunks) wants images))) refl
     where
       by : (c : Bool) → list_any (covers slot off) (map (λ (w : Write). w.range) (all_writes_for kept layout (take number layout.chunks) wants images)) ≡ c
           → list_any (covers slot off) (map (λ (w : Write). w.range) (all_writes_for kept layout (take number layout.chunks) wants images)) ≡ false
@@ -285,11 +319,14 @@ module _ (kept : KeptColumns) (layout : Layout) (table : IsTable layout.chunks) 
           absurd (omega (arith, same, j.1))
 
 -- what was written in the chunks before one leaves what is to be written and counted there
-pub chunk_unmoved : (kept : KeptColumns) (layout : Layout) (write : Bool) (wants : List Want) (held : Option Images) (number : ℕ) (chunk : Chunk) → IsTable layout.chunks → HaveOwnSlots layout.devices → first_missing layout ≡ None → slice_get layout.chunks number ≡ Some chunk
+pub chunk_unmoved : (kept : KeptColumns) (layout : Layout) (write : Bool) (wants : List Want) (held : Option Images) (number : ℕ) (chunk : Chunk)
+    → IsTable layout.chunks → HaveOwnSlots layout.devices → first_missing layout ≡ None → slice_get layout.chunks number ≡ Some chunk
     → ((images : Images) → held ≡ Some images → HaveLengths images layout)
-    → IsUnmoved layout write (all_writes_for kept layout (take number layout.chunks) wants) (chunk_writes_for kept layout chunk wants) (chunk_count_for kept layout write chunk wants) held
+    → IsUnmoved layout write (all_writes_for kept layout (take number layout.chunks) wants) (chunk_writes_for kept layout chunk wants)
+    (chunk_count_for kept layout write chunk wants) held
 chunk_unmoved kept layout write wants held number chunk table own none there lengths images e =
     let ws = all_writes_for kept layout (take number layout.chunks) wants images in
     let l = lengths images e in
     chunk_stays kept layout table own none number chunk there wants images l write (fold write_on images (writes_if write ws)) (map (λ (w : Write). w.range) ws)
-    (shorts_keep_if write images ws (before_short kept layout table own none wants images l number chunk there)) (before_free kept layout table own none wants images l number chunk there)
+    (shorts_keep_if write images ws (before_short kept layout table own none wants images l number chunk there))
+    (before_free kept layout table own none wants images l number chunk there)

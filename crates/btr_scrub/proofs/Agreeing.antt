@@ -12,8 +12,8 @@ use Rattle.btr_read.specs.declared.candidate.Candidate.{Candidate}
 use Rattle.btr_read.specs.declared.candidate.Candidate.TheVariants.{Read}
 use Rattle.btr_read.proofs.Ones.{in_below}
 use Rattle.btr_read.proofs.Order.{in_ways, with_copies}
-use Rattle.btr_mend.specs.Blocks.{accepted, are_accepted, bad_parts, block_writes, copy_writes, is_good, is_sound, own_parts}
-use Rattle.btr_mend.specs.Writes.{Images}
+use Rattle.btr_scrub_copies.specs.Blocks.{accepted, are_accepted, bad_parts, block_writes, copy_writes, is_good, is_sound, own_parts}
+use Rattle.btr_scrub_copies.specs.Writes.{Images}
 use Rattle.btr_scrub.specs.Glue.{In}
 
 -- two tests that agree on all of a list pass the same

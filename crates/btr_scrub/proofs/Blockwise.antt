@@ -1,5 +1,7 @@
 -- The blocks of a chunk with copies, one after another.
-use Rattle.std.proofs.Common.{◌≡◌, ◌⊎◌, ℕ, zero, suc, ◌+◌, ◌<◌, ◌≤◌, Bool, true, false, cond, leb, ltb, List, [], ◌∷◌, ◌++◌, map, length, All, get_or, slice_get, Option, Some, None, IsSome, is_none, is_some, Result, Ok, Err, IsOk, refl, sym, ap, ◌∙◌, subst, inl, inr, arith, append_assoc, append-nil}
+use Rattle.std.proofs.Common.{◌≡◌, ◌⊎◌, ℕ, zero, suc, ◌+◌, ◌<◌, ◌≤◌, Bool, true, false, cond, leb, ltb, List, [], ◌∷◌, ◌++◌, map, length, All, get_or}
+use Rattle.std.proofs.Common.{slice_get, Option, Some, None, IsSome, is_none, is_some, Result, Ok, Err, IsOk, refl, sym, ap, ◌∙◌, subst, inl, inr, arith}
+use Rattle.std.proofs.Common.{append_assoc, append-nil}
 use Rattle.std.proofs.lemmas.Bool.{false≢true, and_parts, cases_order, eq-eqb, eqb-true, leb-true, ltb-true}
 use Rattle.std.proofs.lemmas.List.Elements.{filter-append, filter_map-append}
 use Rattle.std.proofs.lemmas.Grind.{flat_map-append}
@@ -19,10 +21,10 @@ use Rattle.btr_read.specs.Fate.{Fault, sought}
 use Rattle.btr_read.specs.Layout.{AreOpen, HaveOwnSlots, Layout, device_in}
 use Rattle.btr_read.specs.Want.{addr_of, len_of}
 use Rattle.btr_read.specs.declared.want.Want.{Want}
-use Rattle.btr_mend.specs.Blocks.{accepted, bad_parts, block_writes}
-use Rattle.btr_mend.specs.Mending.{IsCopied}
-use Rattle.btr_mend.specs.declared.mended.MendFault.{MendFault}
-use Rattle.btr_mend.specs.Writes.{Images, Write, write_on, writes_if}
+use Rattle.btr_scrub_copies.specs.Blocks.{accepted, bad_parts, block_writes}
+use Rattle.btr_scrub_copies.specs.Mending.{IsCopied}
+use Rattle.btr_scrub_copies.specs.declared.mended.MendFault.{MendFault}
+use Rattle.btr_scrub_copies.specs.Writes.{Images, Write, write_on, writes_if}
 use Rattle.btr_scrub.specs.Glue.{In}
 use Rattle.btr_scrub.specs.Order.{AreApart, IsSought, targets}
 use Rattle.btr_scrub.specs.Repair.{first_missing, is_in_chunk, is_missing, missing_stripes, ok_or_none}
@@ -34,7 +36,7 @@ use Rattle.btr_scrub.proofs.Scrubbing.{IsUnmoved, scrubs_as, scrubs_cut, scrubs_
 use Rattle.btr_chunk.proofs.Rule.{facts}
 use Rattle.btr_read.proofs.Fates.{sought_of}
 use Rattle.btr_scrub.proofs.Positions.{is_sought, on_stripe}
-use Rattle.btr_row.proofs.Elements.{range_stands, stands_on}
+use Rattle.btr_scrub_row.proofs.Elements.{range_stands, stands_on}
 use Rattle.btr_scrub.proofs.Survival.{some_of}
 use Rattle.btr_scrub.proofs.CopyWrites.{AreCopied, all_fit, behind_alike}
 use Rattle.btr_scrub.proofs.Agreeing.{writes_alike}
@@ -48,7 +50,8 @@ pub record IsUnderway (layout : Layout) (write : Bool) (chunk : Chunk) (wants le
   pub from : chunk.start ≤ end
   pub sound : (t : Target) → In t (targets layout past) → IsSought layout t × (t.chunk ≡ chunk) × (addr_of t.want + size_of t ≤ end)
   pub apart : AreApart layout end left
-  pub done : Scrubs {A = Unit {0}} layout write (blocks_writes (targets layout past)) (blocks_count write (targets layout past)) marks marks' old new tally tally' (Ok tt)
+  pub done : Scrubs {A = Unit {0}} layout write (blocks_writes (targets layout past)) (blocks_count write (targets layout past)) marks marks' old new
+      tally tally' (Ok tt)
 
 -- ---- lists
 
@@ -74,14 +77,16 @@ pub of_targets : (layout : Layout) (t : Target) (wants : List Want) → In t (ta
 of_targets layout t [] i = absurd i
 of_targets layout t (want ∷ wants) i = by (sought layout want) refl i (of_targets layout t wants)
   where
-    by : (r : Result Target Fault) → sought layout want ≡ r → In t (cons_option (ok_or_none r) (targets layout wants)) → (In t (targets layout wants) → (w : Want) × In w wants × (sought layout w ≡ Ok t))
+    by : (r : Result Target Fault) → sought layout want ≡ r → In t (cons_option (ok_or_none r) (targets layout wants))
+        → (In t (targets layout wants) → (w : Want) × In w wants × (sought layout w ≡ Ok t))
         → (w : Want) × In w (want ∷ wants) × (sought layout w ≡ Ok t)
     by (Err f) e i rest = let r = rest i in (r.0, inr r.1, r.2)
     by (Ok u) e (inl same) rest = (want, inl refl, e ∙ ap Ok same)
     by (Ok u) e (inr j) rest = let r = rest j in (r.0, inr r.1, r.2)
 
 -- the targets with one more
-pub one_target : (layout : Layout) (past : List Want) (want : Want) (t : Target) (rest : List Want) → sought layout want ≡ Ok t → targets layout (past ++ want ∷ rest) ≡ targets layout past ++ t ∷ targets layout rest
+pub one_target : (layout : Layout) (past : List Want) (want : Want) (t : Target) (rest : List Want) → sought layout want ≡ Ok t
+    → targets layout (past ++ want ∷ rest) ≡ targets layout past ++ t ∷ targets layout rest
 one_target layout past want t rest e =
     filter_map-append (λ w. ok_or_none (sought layout w)) past (want ∷ rest)
     ∙ ap (λ r. targets layout past ++ cons_option (ok_or_none r) (targets layout rest)) e
@@ -123,40 +128,56 @@ module _ (layout : Layout) (table : IsTable layout.chunks) (number : ℕ) (chunk
             | inl same ↦
                 let chunks : t.chunk ≡ chunk = same_Some t.chunk chunk (sym is.there ∙ ap (slice_get layout.chunks) same ∙ there) in
                 absurd (omega (arith, behind, (inside_of t is).1, start, ap (λ (c : Chunk). c.length) chunks))
-            | inr (inl before) ↦ absurd (omega (arith, (table.apart is.number number t.chunk chunk before is.there there).0, (inside_of t is).0, (inside_of t is).1, start))
+            | inr (inl before) ↦ absurd (omega (
+              arith,
+              (table.apart is.number number t.chunk chunk before is.there there).0,
+              (inside_of t is).0,
+              (inside_of t is).1,
+              start,
+            ))
             | inr (inr after) ↦ absurd (omega (arith, (table.apart number is.number chunk t.chunk after there is.there).0, some_length, start))
           ]
 
   -- the blocks of the chunk are those that are past
-  pub blocks_are : (past left : List Want) → ((t : Target) → In t (targets layout past) → t.chunk ≡ chunk) → ((want : Want) → In want left → chunk.start + chunk.length ≤ addr_of want) → blocks_in layout chunk (past ++ left) ≡ targets layout past
+  pub blocks_are : (past left : List Want) → ((t : Target) → In t (targets layout past) → t.chunk ≡ chunk)
+      → ((want : Want) → In want left → chunk.start + chunk.length ≤ addr_of want) → blocks_in layout chunk (past ++ left) ≡ targets layout past
   blocks_are past left inside behind =
       ap (filter (is_in_chunk chunk)) (filter_map-append (λ w. ok_or_none (sought layout w)) past left)
       ∙ filter-append (is_in_chunk chunk) (targets layout past) (targets layout left)
-      ∙ ap (λ xs. xs ++ filter (is_in_chunk chunk) (targets layout left)) (filter_all (is_in_chunk chunk) (targets layout past) (λ t i. eq-eqb t.chunk.start chunk.start (ap (λ (c : Chunk). c.start) (inside t i))))
+      ∙ ap (λ xs. xs ++ filter (is_in_chunk chunk) (targets layout left))
+      (filter_all (is_in_chunk chunk) (targets layout past) (λ t i. eq-eqb t.chunk.start chunk.start (ap (λ (c : Chunk). c.start) (inside t i))))
       ∙ ap (λ xs. targets layout past ++ xs) (filter_none (is_in_chunk chunk) (targets layout left) (λ t i. let w = of_targets layout t left i in
-      behind_not t (is_sought layout w.0 t w.2) (subst (λ x. chunk.start + chunk.length ≤ addr_of x) (sym (sought_of layout w.0 t w.2).want_is) (behind w.0 w.1))))
+      behind_not t (is_sought layout w.0 t w.2) (subst (λ x. chunk.start + chunk.length ≤ addr_of x) (sym (sought_of layout w.0 t w.2).want_is)
+      (behind w.0 w.1))))
       ∙ append-nil (targets layout past)
 
   -- the blocks of the chunk are those that are past, this one, and those of the rest
-  pub blocks_begin : (past : List Want) (want : Want) (t : Target) (rest : List Want) → ((t : Target) → In t (targets layout past) → t.chunk ≡ chunk) → t.chunk ≡ chunk → sought layout want ≡ Ok t
+  pub blocks_begin : (past : List Want) (want : Want) (t : Target) (rest : List Want) → ((t : Target) → In t (targets layout past) → t.chunk ≡ chunk)
+      → t.chunk ≡ chunk → sought layout want ≡ Ok t
       → blocks_in layout chunk (past ++ want ∷ rest) ≡ targets layout past ++ t ∷ blocks_in layout chunk rest
   blocks_begin past want t rest inside mine e =
       ap (filter (is_in_chunk chunk)) (one_target layout past want t rest e)
       ∙ filter-append (is_in_chunk chunk) (targets layout past) (t ∷ targets layout rest)
-      ∙ ap (λ xs. xs ++ filter (is_in_chunk chunk) (t ∷ targets layout rest)) (filter_all (is_in_chunk chunk) (targets layout past) (λ u i. eq-eqb u.chunk.start chunk.start (ap (λ (c : Chunk). c.start) (inside u i))))
-      ∙ ap (λ b. targets layout past ++ cond b (t ∷ blocks_in layout chunk rest) (blocks_in layout chunk rest)) (eq-eqb t.chunk.start chunk.start (ap (λ (c : Chunk). c.start) mine))
+      ∙ ap (λ xs. xs ++ filter (is_in_chunk chunk) (t ∷ targets layout rest))
+      (filter_all (is_in_chunk chunk) (targets layout past) (λ u i. eq-eqb u.chunk.start chunk.start (ap (λ (c : Chunk). c.start) (inside u i))))
+      ∙ ap (λ b. targets layout past ++ cond b (t ∷ blocks_in layout chunk rest) (blocks_in layout chunk rest))
+      (eq-eqb t.chunk.start chunk.start (ap (λ (c : Chunk). c.start) mine))
 
 -- ---- one block more
 
 -- lists of writes for blocks, one more
 writes_more : (images : Images) (ts : List Target) (t : Target) → blocks_writes ts images ++ block_writes images t ≡ blocks_writes (ts ++ t ∷ []) images
-writes_more images ts t = ap (λ ws. blocks_writes ts images ++ ws) (sym (append-nil (block_writes images t))) ∙ sym (flat_map-append (block_writes images) ts (t ∷ []))
+writes_more images ts t = ap (λ ws. blocks_writes ts images ++ ws) (sym (append-nil (block_writes images t)))
+    ∙ sym (flat_map-append (block_writes images) ts (t ∷ []))
 
-writes_rest : (images : Images) (ts : List Target) (t : Target) (us : List Target) → (blocks_writes ts images ++ block_writes images t) ++ blocks_writes us images ≡ blocks_writes (ts ++ t ∷ us) images
-writes_rest images ts t us = append_assoc (blocks_writes ts images) (block_writes images t) (blocks_writes us images) ∙ sym (flat_map-append (block_writes images) ts (t ∷ us))
+writes_rest : (images : Images) (ts : List Target) (t : Target) (us : List Target) → (blocks_writes ts images ++ block_writes images t)
+    ++ blocks_writes us images ≡ blocks_writes (ts ++ t ∷ us) images
+writes_rest images ts t us = append_assoc (blocks_writes ts images) (block_writes images t) (blocks_writes us images)
+    ∙ sym (flat_map-append (block_writes images) ts (t ∷ us))
 
 -- images have the lengths of the devices
-pub have_lengths : (rack : Seen) (layout : Layout) (images : Images) → IsRack rack → AreOpen rack.slots layout.devices → rack.held ≡ Some images → HaveLengths images layout
+pub have_lengths : (rack : Seen) (layout : Layout) (images : Images) → IsRack rack → AreOpen rack.slots layout.devices → rack.held ≡ Some images
+    → HaveLengths images layout
 have_lengths rack layout images is open' held devid device given =
     let o = open' devid device given in
     let sized : map length images ≡ map (λ (slot : Slot). slot.len) rack.slots = told rack.held (λ images. map length images ≡ map (λ (slot : Slot). slot.len) rack.slots) images held is.sized in
@@ -166,13 +187,15 @@ have_lengths rack layout images is open' held devid device given =
     sym one ∙ ap (λ xs. get_or xs device.slot 0) sized ∙ two ∙ o.len
 
 -- whether they are done or not, writes that fit keep all but their ranges
-pub keeps_if : (write : Bool) (images : Images) (ws : List Write) → All (Fits images) ws → KeepsOutside (map (λ (w : Write). w.range) ws) images (fold write_on images (writes_if write ws))
+pub keeps_if : (write : Bool) (images : Images) (ws : List Write) → All (Fits images) ws
+    → KeepsOutside (map (λ (w : Write). w.range) ws) images (fold write_on images (writes_if write ws))
 keeps_if true images ws fit = writes_keep_the_rest images ws fit
 keeps_if false images ws fit = record { count = refl; lengths = λ slot. refl; bytes = λ slot off e. refl }
 
 module _ (layout : Layout) (write : Bool) (chunk : Chunk) (n : ℕ) (copies : mirrors chunk ≡ Some n) (table : IsTable layout.chunks) (own : HaveOwnSlots layout.devices) where
   -- what is told of a block stays when those before it are mended
-  unmoved : (past : List Want) (end : ℕ) (held : Option Images) (t : Target) → ((u : Target) → In u (targets layout past) → IsSought layout u × (u.chunk ≡ chunk) × (addr_of u.want + size_of u ≤ end))
+  unmoved : (past : List Want) (end : ℕ) (held : Option Images) (t : Target)
+      → ((u : Target) → In u (targets layout past) → IsSought layout u × (u.chunk ≡ chunk) × (addr_of u.want + size_of u ≤ end))
       → IsSought layout t → t.chunk ≡ chunk → end ≤ addr_of t.want → ((images : Images) → held ≡ Some images → HaveLengths images layout)
       → IsUnmoved layout write (blocks_writes (targets layout past)) (λ images. block_writes images t) (λ images tally. count_block images write tally t) held
   unmoved past end held t sound is mine behind lengths images e =
@@ -208,13 +231,15 @@ pub none_passes : {X : Type 0} (p : X → Bool) (xs : List X) (i : ℕ) (x : X) 
 none_passes p [] i x e at = cc
 none_passes p (y ∷ xs) i x e at = by (p y) refl e i at (none_passes p xs)
   where
-    by : (b : Bool) → p y ≡ b → cond b (y ∷ filter p xs) (filter p xs) ≡ [] → (i : ℕ) → slice_get (y ∷ xs) i ≡ Some x → ((i : ℕ) (x : _) → filter p xs ≡ [] → slice_get xs i ≡ Some x → p x ≡ false) → p x ≡ false
+    by : (b : Bool) → p y ≡ b → cond b (y ∷ filter p xs) (filter p xs) ≡ [] → (i : ℕ) → slice_get (y ∷ xs) i ≡ Some x
+        → ((i : ℕ) (x : _) → filter p xs ≡ [] → slice_get xs i ≡ Some x → p x ≡ false) → p x ≡ false
     by true q e i at rest = cc
     by false q e zero at rest = ap p (sym (same_Some y x at)) ∙ q
     by false q e (suc i) at rest = rest i x e at
 
 -- each part of a block stands where no device is missing
-pub part_is_given : (layout : Layout) (t : Target) (part : Part) → IsTable layout.chunks → IsSought layout t → HasPart t.chunk.profile (length t.chunk.stripes) part → first_missing layout ≡ None → IsSome (range_of t part)
+pub part_is_given : (layout : Layout) (t : Target) (part : Part) → IsTable layout.chunks → IsSought layout t
+    → HasPart t.chunk.profile (length t.chunk.stripes) part → first_missing layout ≡ None → IsSome (range_of t part)
 part_is_given layout t part table is has none =
     let on = on_stripe layout t part table is has in
     let place = place_at t.chunk part t.at in
@@ -245,7 +270,8 @@ pub ok_of : (r : Result Target Fault) → IsOk r → (t : Target) × (r ≡ Ok t
 ok_of (Ok t) h = (t, refl)
 ok_of (Err f) h = absurd (false≢true h)
 
-pub next_block : (layout : Layout) (table : IsTable layout.chunks) (number : ℕ) (chunk : Chunk) (there : slice_get layout.chunks number ≡ Some chunk) (end : ℕ) (want : Want) (rest : List Want)
+pub next_block : (layout : Layout) (table : IsTable layout.chunks) (number : ℕ) (chunk : Chunk) (there : slice_get layout.chunks number ≡ Some chunk)
+    (end : ℕ) (want : Want) (rest : List Want)
     → chunk.start ≤ end → AreApart layout end (want ∷ rest) → addr_of want < chunk.start + chunk.length → IsNext layout chunk end want rest
 next_block layout table number chunk there end want rest from apart below =
     let t = ok_of (sought layout want) apart.1 in
@@ -264,7 +290,8 @@ next_block layout table number chunk there end want rest from apart below =
       apart = apart.2;
     }
 
-pub next_copied : (layout : Layout) (table : IsTable layout.chunks) (chunk : Chunk) (end : ℕ) (want : Want) (rest : List Want) → IsSome (mirrors chunk) → first_missing layout ≡ None → IsNext layout chunk end want rest → IsCopied layout want
+pub next_copied : (layout : Layout) (table : IsTable layout.chunks) (chunk : Chunk) (end : ℕ) (want : Want) (rest : List Want)
+    → IsSome (mirrors chunk) → first_missing layout ≡ None → IsNext layout chunk end want rest → IsCopied layout want
 next_copied layout table chunk end want rest copies none next = record {
   target = next.target;
   is_sought = next.is_sought;
@@ -285,24 +312,33 @@ module _ (layout : Layout) (write : Bool) (table : IsTable layout.chunks) (own :
         later [] begins apart = tt
         later (w ∷ ws) begins apart = (begins, apart.1, apart.2)
 
-    pub chunk_mended : (left' : List Want) → IsPastChunk layout chunk wants left' → left' ≡ left → Scrubs {A = Unit {0}} layout write (blocks_writes (blocks_in layout chunk wants)) (blocks_count write (blocks_in layout chunk wants)) m m' a b tally tally' (Ok tt)
+    pub chunk_mended : (left' : List Want) → IsPastChunk layout chunk wants left' → left' ≡ left
+        → Scrubs {A = Unit {0}} layout write (blocks_writes (blocks_in layout chunk wants)) (blocks_count write (blocks_in layout chunk wants)) m m' a
+        b tally tally' (Ok tt)
     chunk_mended left' past same =
         let are : blocks_in layout chunk wants ≡ targets layout h.past = ap (blocks_in layout chunk) h.split ∙ blocks_are layout table number chunk there h.past left (λ t i. (h.sound t i).1)
         (λ w i. all_behind layout (chunk.start + chunk.length) left (subst (AreApart layout (chunk.start + chunk.length)) same past.behind) w i) in
         subst (λ ts. Scrubs {A = Unit {0}} layout write (blocks_writes ts) (blocks_count write ts) m m' a b tally tally' (Ok tt)) (sym are) h.done
 
     module _ (lengths : (images : Images) → a.held ≡ Some images → HaveLengths images layout) (want : Want) (rest : List Want) (is : left ≡ want ∷ rest) (next : IsNext layout chunk h.end want rest) (m'' : List Bool) (z : Seen) (tally'' : Tally) where
-      same_before : IsUnmoved layout write (blocks_writes (targets layout h.past)) (λ images. block_writes images next.target) (λ images tally. count_block images write tally next.target) a.held
+      same_before : IsUnmoved layout write (blocks_writes (targets layout h.past)) (λ images. block_writes images next.target)
+          (λ images tally. count_block images write tally next.target) a.held
       same_before =
           let n = some_of (mirrors chunk) copies in
           unmoved layout write chunk n.0 n.1 table own h.past h.end a.held next.target h.sound next.is next.mine next.behind lengths
 
-      both_done : (r : Result (Unit {0}) MendFault) → Scrubs {A = Unit {0}} layout write (λ images. block_writes images next.target) (λ images tally. count_block images write tally next.target) m' m'' b z tally' tally'' r
-          → Scrubs {A = Unit {0}} layout write (λ images. blocks_writes (targets layout h.past) images ++ block_writes images next.target) (λ images y. count_block images write (blocks_count write (targets layout h.past) images y) next.target) m m'' a z tally tally'' r
-      both_done r one = scrubs_then layout write (Unit {0}) (Unit {0}) (blocks_writes (targets layout h.past)) (λ images. block_writes images next.target) (blocks_count write (targets layout h.past)) (λ images tally. count_block images write tally next.target) m m' m'' a b z tally tally' tally'' tt r same_before h.done one
+      both_done : (r : Result (Unit {0}) MendFault) → Scrubs {A = Unit {0}} layout write (λ images. block_writes images next.target)
+          (λ images tally. count_block images write tally next.target) m' m'' b z tally' tally'' r
+          → Scrubs {A = Unit {0}} layout write (λ images. blocks_writes (targets layout h.past) images ++ block_writes images next.target)
+          (λ images y. count_block images write (blocks_count write (targets layout h.past) images y) next.target) m m'' a z tally tally'' r
+      both_done r one = scrubs_then layout write (Unit {0}) (Unit {0}) (blocks_writes (targets layout h.past))
+          (λ images. block_writes images next.target) (blocks_count write (targets layout h.past))
+          (λ images tally. count_block images write tally next.target) m m' m'' a b z tally tally' tally'' tt r same_before h.done one
 
       -- one more is past
-      pub underway_more : Scrubs {A = Unit {0}} layout write (λ images. block_writes images next.target) (λ images tally. count_block images write tally next.target) m' m'' b z tally' tally'' (Ok tt) → IsUnderway layout write chunk wants rest m m'' a z tally tally''
+      pub underway_more : Scrubs {A = Unit {0}} layout write (λ images. block_writes images next.target)
+          (λ images tally. count_block images write tally next.target) m' m'' b z tally' tally'' (Ok tt)
+          → IsUnderway layout write chunk wants rest m m'' a z tally tally''
       underway_more one =
           let ts : targets layout (h.past ++ want ∷ []) ≡ targets layout h.past ++ next.target ∷ [] = one_target layout h.past want next.target [] next.is_sought in
           record {
@@ -312,26 +348,38 @@ module _ (layout : Layout) (write : Bool) (table : IsTable layout.chunks) (own :
             from = omega (arith, next.from);
             sound = λ t i. elim (in_append t (targets layout h.past) (next.target ∷ []) (subst (In t) ts i)) [
               | inl j ↦ let s = h.sound t j in (s.0, s.1, omega (arith, s.2, next.behind, next.ends))
-              | inr (inl e) ↦ subst (λ u. IsSought layout u × (u.chunk ≡ chunk) × (addr_of u.want + size_of u ≤ addr_of want + len_of layout.setting want)) e (next.is, next.mine, omega (arith, next.ends))
+              | inr (inl e) ↦ subst (λ u. IsSought layout u × (u.chunk ≡ chunk)
+                  × (addr_of u.want + size_of u ≤ addr_of want + len_of layout.setting want)) e (next.is, next.mine, omega (arith, next.ends))
               | inr (inr j) ↦ absurd j
             ];
             apart = next.apart;
             done = subst (λ us. Scrubs {A = Unit {0}} layout write (blocks_writes us) (blocks_count write us) m m'' a z tally tally'' (Ok tt)) (sym ts)
-                (scrubs_as layout write (λ images. blocks_writes (targets layout h.past) images ++ block_writes images next.target) (blocks_writes (targets layout h.past ++ next.target ∷ []))
-                (λ images y. count_block images write (blocks_count write (targets layout h.past) images y) next.target) (blocks_count write (targets layout h.past ++ next.target ∷ [])) m m'' a z tally tally'' (Ok tt)
-                (λ images e. (writes_more images (targets layout h.past) next.target, sym (fold_append (count_block images write) tally (targets layout h.past) (next.target ∷ [])))) (both_done (Ok tt) one));
+                (scrubs_as layout write (λ images. blocks_writes (targets layout h.past) images ++ block_writes images next.target)
+                (blocks_writes (targets layout h.past ++ next.target ∷ []))
+                (λ images y. count_block images write (blocks_count write (targets layout h.past) images y) next.target)
+                (blocks_count write (targets layout h.past ++ next.target ∷ [])) m m'' a z tally tally'' (Ok tt)
+                (λ images e. (
+                  writes_more images (targets layout h.past) next.target,
+                  sym
+                      (fold_append (count_block images write) tally (targets layout h.past) (next.target ∷ [])),
+                )) (both_done (Ok tt) one));
           }
 
       -- it came to a halt
-      pub underway_cut : (fault : MendFault) → Scrubs {A = Unit {0}} layout write (λ images. block_writes images next.target) (λ images tally. count_block images write tally next.target) m' m'' b z tally' tally'' (Err fault)
-          → Scrubs {A = Unit {0}} layout write (blocks_writes (blocks_in layout chunk wants)) (blocks_count write (blocks_in layout chunk wants)) m m'' a z tally tally'' (Err fault)
+      pub underway_cut : (fault : MendFault) → Scrubs {A = Unit {0}} layout write (λ images. block_writes images next.target)
+          (λ images tally. count_block images write tally next.target) m' m'' b z tally' tally'' (Err fault)
+          → Scrubs {A = Unit {0}} layout write (blocks_writes (blocks_in layout chunk wants)) (blocks_count write (blocks_in layout chunk wants)) m
+          m'' a z tally tally'' (Err fault)
       underway_cut fault one =
           let us = blocks_in layout chunk rest in
           let are : blocks_in layout chunk wants ≡ targets layout h.past ++ next.target ∷ us =
           ap (blocks_in layout chunk) (h.split ∙ ap (λ ws. h.past ++ ws) is) ∙ blocks_begin layout table number chunk there h.past want next.target rest (λ t i. (h.sound t i).1) next.mine next.is_sought in
           let ts = targets layout h.past ++ next.target ∷ us in
           subst (λ ts. Scrubs {A = Unit {0}} layout write (blocks_writes ts) (blocks_count write ts) m m'' a z tally tally'' (Err fault)) (sym are)
-          (scrubs_as layout write (λ images. (blocks_writes (targets layout h.past) images ++ block_writes images next.target) ++ blocks_writes us images) (blocks_writes ts) (blocks_count write ts) (blocks_count write ts) m m'' a z tally tally'' (Err fault)
+          (scrubs_as layout write (λ images. (blocks_writes (targets layout h.past) images ++ block_writes images next.target)
+          ++ blocks_writes us images) (blocks_writes ts) (blocks_count write ts) (blocks_count write ts) m m'' a z tally tally'' (Err fault)
           (λ images e. (writes_rest images (targets layout h.past) next.target us, refl))
-          (scrubs_cut layout write (Unit {0}) (Unit {0}) (λ images. blocks_writes (targets layout h.past) images ++ block_writes images next.target) (blocks_writes us)
-          (λ images y. count_block images write (blocks_count write (targets layout h.past) images y) next.target) (blocks_count write ts) m m'' a z tally tally'' fault (both_done (Err fault) one)))
+          (scrubs_cut layout write (Unit {0}) (Unit {0}) (λ images. blocks_writes (targets layout h.past) images ++ block_writes images next.target)
+          (blocks_writes us)
+          (λ images y. count_block images write (blocks_count write (targets layout h.past) images y) next.target) (blocks_count write ts) m m'' a z
+          tally tally'' fault (both_done (Err fault) one)))

@@ -1,5 +1,6 @@
 -- The chunks of a table, one after another, and the scan of each.
-use Rattle.std.proofs.Common.{◌≡◌, ℕ, suc, ◌+◌, ◌-◌, List, [], ◌∷◌, drop, slice_get, Contains, Option, Some, None, Result, sym, ap, ◌∙◌, subst, add-one, drop-cons}
+use Rattle.std.proofs.Common.{◌≡◌, ℕ, suc, ◌+◌, ◌-◌, List, [], ◌∷◌, drop, slice_get, Contains, Option, Some, None, Result, sym, ap, ◌∙◌, subst, add-one}
+use Rattle.std.proofs.Common.{drop-cons}
 use Rattle.std.proofs.lemmas.Option.{get_or_from_slice_get, slice_get_within}
 use Rattle.btr_chunk.specs.declared.chunk.Chunk.{Chunk}
 use Rattle.btr_prog.specs.Answers.{Follows, no_part}
@@ -47,15 +48,18 @@ chunk_first s sums extents chunks i chunk e = ap (in_chunks s sums extents) (dro
 
 -- the range of a chunk's extents, by its span
 pub range_of_span : (span : Span) (chunk : Chunk) (root : RootPlace) → span ≡ span_of chunk
-    → range (key span.start 0 0) (key (span.start + span.length - 1) 255 last) root ≡ range (key chunk.start 0 0) (key (chunk.start + chunk.length - 1) 255 last) root
+    → range (key span.start 0 0) (key (span.start + span.length - 1) 255 last) root
+    ≡ range (key chunk.start 0 0) (key (chunk.start + chunk.length - 1) 255 last) root
 range_of_span span chunk root e = ap (λ (s : Span). range (key s.start 0 0) (key (s.start + s.length - 1) 255 last) root) e
 
 no_leaf : (store : Blocks) (scan : Scan) → scan.leaf ≡ None → without_leaf store scan ≡ store
 no_leaf store scan e = ap (λ l. base store (loan_of l)) e
 
 -- a scan that was made for a chunk came to its end, and gave its leaf back
-pub gathers_scan : (s : Super) (sums : Option TreeRoot) (chunk : Chunk) (x y : Scene) (scan scan' : Scan) (r : Result ℕ TheStop) (after : Volume) (p : RangeProg)
-    → Scanned s sums chunk x y scan scan' r → s ≡ x.vol.sup → after.sup ≡ y.vol.sup → SameLoans (without_leaf y.vol.store scan') after.store → Serves y.rack after.store → scan.leaf ≡ None → ((B : Map) → left_of B x.vol.store scan ≡ p)
+pub gathers_scan : (s : Super) (sums : Option TreeRoot) (chunk : Chunk) (x y : Scene) (scan scan' : Scan) (r : Result ℕ TheStop) (after : Volume)
+    (p : RangeProg)
+    → Scanned s sums chunk x y scan scan' r → s ≡ x.vol.sup → after.sup ≡ y.vol.sup → SameLoans (without_leaf y.vol.store scan') after.store
+    → Serves y.rack after.store → scan.leaf ≡ None → ((B : Map) → left_of B x.vol.store scan ≡ p)
     → Gathers (items_met s sums chunk 0 p) x (scene y.rack after y.list) r
 gathers_scan s sums chunk x y scan scan' r after p h same sup back serves none program = record {
   reads = h.reads;
@@ -63,7 +67,10 @@ gathers_scan s sums chunk x y scan scan' r after p h same sup back serves none p
   serves = serves;
   done = h.done;
   lists = h.lists;
-  content = drawn x.vol.store.layout (λ B. Follows (unread_by x.vol.store.layout x.rack y.rack) no_part [] (exec B (items_met s sums chunk 0 (left_of B x.vol.store scan))) h.done (ended r)) (λ B. Follows (unread_by x.vol.store.layout x.rack y.rack) no_part [] (exec B (items_met s sums chunk 0 p)) h.done (ended r))
-      (λ B f. subst (λ q. Follows (unread_by x.vol.store.layout x.rack y.rack) no_part [] (exec B (items_met s sums chunk 0 q)) h.done (ended r)) (program B) f) h.content;
+  content = drawn x.vol.store.layout (λ B. Follows (unread_by x.vol.store.layout x.rack y.rack) no_part []
+      (exec B (items_met s sums chunk 0 (left_of B x.vol.store scan))) h.done (ended r))
+      (λ B. Follows (unread_by x.vol.store.layout x.rack y.rack) no_part [] (exec B (items_met s sums chunk 0 p)) h.done (ended r))
+      (λ B f. subst (λ q. Follows (unread_by x.vol.store.layout x.rack y.rack) no_part [] (exec B (items_met s sums chunk 0 q)) h.done (ended r))
+      (program B) f) h.content;
   cause = h.cause;
 }

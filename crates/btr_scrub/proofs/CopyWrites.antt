@@ -1,5 +1,6 @@
 -- The writes of blocks with copies leave the bytes of the blocks behind them.
-use Rattle.std.proofs.Common.{◌≡◌, ℕ, ◌+◌, ◌<◌, ◌≤◌, Bool, true, false, not, cond, ◌&&◌, List, [], ◌∷◌, map, length, All, slice_get, Option, Some, None, IsSome, is_some, IsSomeAnd, refl, sym, ap, ◌∙◌, subst, inl, inr, arith}
+use Rattle.std.proofs.Common.{◌≡◌, ℕ, ◌+◌, ◌<◌, ◌≤◌, Bool, true, false, not, cond, ◌&&◌, List, [], ◌∷◌, map, length, All, slice_get, Option, Some, None, IsSome}
+use Rattle.std.proofs.Common.{is_some, IsSomeAnd, refl, sym, ap, ◌∙◌, subst, inl, inr, arith}
 use Rattle.std.proofs.lemmas.Bool.{false≢true}
 use Rattle.std.proofs.lemmas.List.Elements.{All-append, All-cons, All-nil}
 use Rattle.std.proofs.lemmas.Option.{same_Some}
@@ -21,17 +22,17 @@ use Rattle.btr_read.specs.declared.device.Device.{Device}
 use Rattle.btr_read.proofs.Ones.{in_below}
 use Rattle.btr_read.proofs.Order.{in_ways, with_copies}
 use Rattle.btr_read.proofs.Pieces.{length-slice_range}
-use Rattle.btr_mend.specs.Blocks.{accepted, bad_parts, block_writes, copy_writes, is_sound, own_parts, written_over}
-use Rattle.btr_mend.proofs.Syncs.{passing_filter}
-use Rattle.btr_mend.specs.Writes.{Images, Write}
-use Rattle.btr_mend.proofs.Copied.{has_mirror}
+use Rattle.btr_scrub_copies.specs.Blocks.{accepted, bad_parts, block_writes, copy_writes, is_sound, own_parts, written_over}
+use Rattle.btr_scrub_copies.proofs.Syncs.{passing_filter}
+use Rattle.btr_scrub_copies.specs.Writes.{Images, Write}
+use Rattle.btr_scrub_copies.proofs.Copied.{has_mirror}
 use Rattle.btr_scrub.specs.Devices.{HaveLengths}
 use Rattle.btr_scrub.specs.Glue.{In}
 use Rattle.btr_scrub.specs.Leaves.{Fits, KeepsOutside}
 use Rattle.btr_scrub.specs.Order.{IsSought}
 use Rattle.btr_scrub.specs.Repair.{covers}
 use Rattle.btr_scrub.proofs.Agreeing.{Alike, copies_alike, of_mapped}
-use Rattle.btr_row.proofs.Elements.{range_stands, stands_on}
+use Rattle.btr_scrub_row.proofs.Elements.{range_stands, stands_on}
 use Rattle.btr_scrub.proofs.Positions.{IsCopyByte, of_range, shares}
 use Rattle.btr_scrub.proofs.Staying.{covered, range_same}
 use Rattle.btr_scrub.proofs.Writes.{any_filter_map, any_flat, any_map, mapped}
@@ -45,7 +46,8 @@ pub record IsThere (images : Images) (t : Target) (part : Part) (range : Range) 
   pub is : range ≡ range_in device.slot (place_at t.chunk part t.at).offset (size_of t)
   pub within : (place_at t.chunk part t.at).offset + size_of t ≤ length (image_of images device.slot)
 
-pub is_there : (images : Images) (layout : Layout) (t : Target) (part : Part) (range : Range) → HaveLengths images layout → IsSought layout t → range_of t part ≡ Some range → IsThere images t part range
+pub is_there : (images : Images) (layout : Layout) (t : Target) (part : Part) (range : Range) → HaveLengths images layout → IsSought layout t
+    → range_of t part ≡ Some range → IsThere images t part range
 is_there images layout t part range lengths is e =
     let place = place_at t.chunk part t.at in
     let s = stands_on place.offset (size_of t) (device_in t.devices place.devid) (ap is_some e) in
@@ -59,13 +61,15 @@ is_there images layout t part range lengths is e =
     }
 
 -- its bytes
-pub element_is : (images : Images) (t : Target) (part : Part) (range : Range) → range_of t part ≡ Some range → element images t part ≡ bytes_of images range.slot range.off range.len
+pub element_is : (images : Images) (t : Target) (part : Part) (range : Range) → range_of t part ≡ Some range → element images t part
+    ≡ bytes_of images range.slot range.off range.len
 element_is images t part range e = ap (λ (o : Option Range). option_map_or (λ range. bytes_of images range.slot range.off range.len) o []) e
 
 long_bytes : (images : Images) (slot off len : ℕ) → off + len ≤ length (image_of images slot) → length (bytes_of images slot off len) ≡ len
 long_bytes images slot off len within = length-slice_range (image_of images slot) off (off + len) within ∙ omega arith
 
-pub long_element : (images : Images) (layout : Layout) (t : Target) (part : Part) → HaveLengths images layout → IsSought layout t → IsSome (range_of t part) → length (element images t part) ≡ size_of t
+pub long_element : (images : Images) (layout : Layout) (t : Target) (part : Part) → HaveLengths images layout → IsSought layout t
+    → IsSome (range_of t part) → length (element images t part) ≡ size_of t
 long_element images layout t part lengths is some = by (range_of t part) refl some
   where
     by : (o : Option Range) → range_of t part ≡ o → IsSome o → length (element images t part) ≡ size_of t
@@ -76,12 +80,15 @@ long_element images layout t part lengths is some = by (range_of t part) refl so
         ∙ long_bytes images there.device.slot (place_at t.chunk part t.at).offset (size_of t) there.within
 
 -- the same bytes, where none of a range's bytes is covered
-pub same_element : (images images' : Images) (layout : Layout) (ranges : List Range) (t : Target) (part : Part) → HaveLengths images layout → IsSought layout t → KeepsOutside ranges images images'
-    → ((slot off : ℕ) → IsSomeAnd (range_of t part) (λ range. covers slot off range ≡ true) → list_any (covers slot off) ranges ≡ false) → element images' t part ≡ element images t part
+pub same_element : (images images' : Images) (layout : Layout) (ranges : List Range) (t : Target) (part : Part) → HaveLengths images layout
+    → IsSought layout t → KeepsOutside ranges images images'
+    → ((slot off : ℕ) → IsSomeAnd (range_of t part) (λ range. covers slot off range ≡ true) → list_any (covers slot off) ranges ≡ false)
+    → element images' t part ≡ element images t part
 same_element images images' layout ranges t part lengths is keeps free = by (range_of t part) refl
   where
     by : (o : Option Range) → range_of t part ≡ o → element images' t part ≡ element images t part
-    by None e = ap (λ (o : Option Range). option_map_or (λ range. bytes_of images' range.slot range.off range.len) o []) e ∙ sym (ap (λ (o : Option Range). option_map_or (λ range. bytes_of images range.slot range.off range.len) o []) e)
+    by None e = ap (λ (o : Option Range). option_map_or (λ range. bytes_of images' range.slot range.off range.len) o []) e
+        ∙ sym (ap (λ (o : Option Range). option_map_or (λ range. bytes_of images range.slot range.off range.len) o []) e)
     by (Some range) e =
         let there = is_there images layout t part range lengths is e in
         let slot = there.device.slot in
@@ -97,17 +104,22 @@ same_element images images' layout ranges t part lengths is keeps free = by (ran
 -- ---- what is accepted
 
 -- the first that passes is the reading of a candidate
-pub first_of : (images : Images) (t : Target) (cs : List Candidate) (bytes : List ℕ) → slice_get (filter (passes t.setting t.want) (filter_map (reading images t) cs)) 0 ≡ Some bytes → (c : Candidate) × In c cs × (reading images t c ≡ Some bytes)
+pub first_of : (images : Images) (t : Target) (cs : List Candidate) (bytes : List ℕ)
+    → slice_get (filter (passes t.setting t.want) (filter_map (reading images t) cs)) 0 ≡ Some bytes → (c : Candidate) × In c cs
+    × (reading images t c ≡ Some bytes)
 first_of images t [] bytes e = cc
 first_of images t (c ∷ cs) bytes e = by (reading images t c) refl e (first_of images t cs bytes)
   where
-    by : (o : Option (List ℕ)) → reading images t c ≡ o → slice_get (filter (passes t.setting t.want) (cons_option o (filter_map (reading images t) cs))) 0 ≡ Some bytes
-        → (slice_get (filter (passes t.setting t.want) (filter_map (reading images t) cs)) 0 ≡ Some bytes → (d : Candidate) × In d cs × (reading images t d ≡ Some bytes))
+    by : (o : Option (List ℕ)) → reading images t c ≡ o → slice_get
+        (filter (passes t.setting t.want) (cons_option o (filter_map (reading images t) cs))) 0 ≡ Some bytes
+        → (slice_get (filter (passes t.setting t.want) (filter_map (reading images t) cs)) 0 ≡ Some bytes → (d : Candidate) × In d cs
+        × (reading images t d ≡ Some bytes))
         → (d : Candidate) × In d (c ∷ cs) × (reading images t d ≡ Some bytes)
     by None r e rest = let s = rest e in (s.0, inr s.1, s.2)
     by (Some x) r e rest = or (passes t.setting t.want x) e
       where
-        or : (b : Bool) → slice_get (cond b (x ∷ filter (passes t.setting t.want) (filter_map (reading images t) cs)) (filter (passes t.setting t.want) (filter_map (reading images t) cs))) 0 ≡ Some bytes
+        or : (b : Bool) → slice_get (cond b (x ∷ filter (passes t.setting t.want) (filter_map (reading images t) cs))
+            (filter (passes t.setting t.want) (filter_map (reading images t) cs))) 0 ≡ Some bytes
             → (d : Candidate) × In d (c ∷ cs) × (reading images t d ≡ Some bytes)
         or true e = (c, inl refl, r ∙ e)
         or false e = let s = rest e in (s.0, inr s.1, s.2)
@@ -120,7 +132,8 @@ module _ (images : Images) (layout : Layout) (lengths : HaveLengths images layou
     long_reading : (k : ℕ) (bytes : List ℕ) → reading images t (Read (Mirror k)) ≡ Some bytes → length bytes ≡ size_of t
     long_reading k bytes e = by (is_some (range_of t (Mirror k))) refl e
       where
-        by : (b : Bool) → is_some (range_of t (Mirror k)) ≡ b → cond (b && true) (Some (element images t (Mirror k))) None ≡ Some bytes → length bytes ≡ size_of t
+        by : (b : Bool) → is_some (range_of t (Mirror k)) ≡ b → cond (b && true) (Some (element images t (Mirror k))) None ≡ Some bytes → length bytes
+            ≡ size_of t
         by true s e = ap length (sym (same_Some (element images t (Mirror k)) bytes e)) ∙ long_element images layout t (Mirror k) lengths is s
         by false s e = cc
 
@@ -157,7 +170,8 @@ module _ (images : Images) (layout : Layout) (lengths : HaveLengths images layou
     pub written_byte : (slot off : ℕ) → list_any (λ (w : Write). covers slot off w.range) (block_writes images t) ≡ true → IsCopyByte layout t slot off
     written_byte slot off h = by (accepted images t) h
       where
-        by : (o : Option (List ℕ)) → list_any (λ (w : Write). covers slot off w.range) (option_map_or (written_over images t) o []) ≡ true → IsCopyByte layout t slot off
+        by : (o : Option (List ℕ)) → list_any (λ (w : Write). covers slot off w.range) (option_map_or (written_over images t) o []) ≡ true
+            → IsCopyByte layout t slot off
         by None h = absurd (false≢true h)
         by (Some bytes) h =
             let f = any_filter_map (λ (w : Write). covers slot off w.range) (λ part. option_map (λ (range : Range). record { range = range; bytes = bytes }) (range_of t part)) (bad_parts images t) h in
@@ -165,7 +179,8 @@ module _ (images : Images) (layout : Layout) (lengths : HaveLengths images layou
             let k = of_mapped Mirror f.0 (range_with_len 0 n) (subst (In f.0) own bad.0) in
             let w = f.2.0 in
             let m = mapped (λ (range : Range). record { range = range; bytes = bytes }) (range_of t f.0) w f.2.1 in
-            of_range layout t k.0 slot off m.0 is (has_mirror t n k.0 has (in_below n k.0 k.1)) (ap (range_of t) k.2 ∙ m.1) (ap (λ (w : Write). covers slot off w.range) m.2 ∙ f.2.2)
+            of_range layout t k.0 slot off m.0 is (has_mirror t n k.0 has (in_below n k.0 k.1)) (ap (range_of t) k.2 ∙ m.1)
+            (ap (λ (w : Write). covers slot off w.range) m.2 ∙ f.2.2)
 
   -- blocks with copies, each of which has a position
   abbrev pub AreCopied : List Target → Type 0
@@ -179,11 +194,13 @@ module _ (images : Images) (layout : Layout) (lengths : HaveLengths images layou
 
   module _ (table : IsTable layout.chunks) (own_slots : HaveOwnSlots layout.devices) where
     -- a byte of a block that lies behind others isn't written for them
-    free_byte : (ts : List Target) (u : Target) → AreCopied ts → IsSought layout u → ((t : Target) → In t ts → addr_of t.want + size_of t ≤ addr_of u.want) → (slot off : ℕ) → IsCopyByte layout u slot off
+    free_byte : (ts : List Target) (u : Target) → AreCopied ts → IsSought layout u
+        → ((t : Target) → In t ts → addr_of t.want + size_of t ≤ addr_of u.want) → (slot off : ℕ) → IsCopyByte layout u slot off
         → list_any (covers slot off) (map (λ (w : Write). w.range) (flat_map (block_writes images) ts)) ≡ false
     free_byte ts u are us before slot off b = by (list_any (covers slot off) (map (λ (w : Write). w.range) (flat_map (block_writes images) ts))) refl
       where
-        by : (c : Bool) → list_any (covers slot off) (map (λ (w : Write). w.range) (flat_map (block_writes images) ts)) ≡ c → list_any (covers slot off) (map (λ (w : Write). w.range) (flat_map (block_writes images) ts)) ≡ false
+        by : (c : Bool) → list_any (covers slot off) (map (λ (w : Write). w.range) (flat_map (block_writes images) ts)) ≡ c
+            → list_any (covers slot off) (map (λ (w : Write). w.range) (flat_map (block_writes images) ts)) ≡ false
         by false e = e
         by true e =
             let any : list_any (λ (w : Write). covers slot off w.range) (flat_map (block_writes images) ts) ≡ true = sym (any_map (covers slot off) (λ (w : Write). w.range) (flat_map (block_writes images) ts)) ∙ e in
@@ -193,12 +210,15 @@ module _ (images : Images) (layout : Layout) (lengths : HaveLengths images layou
             absurd (omega (arith, s.same, s.below, before f.0 f.1))
 
     -- so what is told of it stays, whatever of those writes is done
-    pub behind_alike : (ts : List Target) (u : Target) → AreCopied ts → IsSought layout u → (n : ℕ) → mirrors u.chunk ≡ Some n → ((t : Target) → In t ts → addr_of t.want + size_of t ≤ addr_of u.want)
+    pub behind_alike : (ts : List Target) (u : Target) → AreCopied ts → IsSought layout u → (n : ℕ) → mirrors u.chunk ≡ Some n
+        → ((t : Target) → In t ts → addr_of t.want + size_of t ≤ addr_of u.want)
         → (images' : Images) → KeepsOutside (map (λ (w : Write). w.range) (flat_map (block_writes images) ts)) images images' → Alike images images' u
     behind_alike ts u are us n has before images' keeps =
-        copies_alike images images' u n has (λ k lt. same_element images images' layout (map (λ (w : Write). w.range) (flat_map (block_writes images) ts)) u (Mirror k) lengths us keeps
+        copies_alike images images' u n has (λ k lt. same_element images images' layout
+        (map (λ (w : Write). w.range) (flat_map (block_writes images) ts)) u (Mirror k) lengths us keeps
         (λ slot off c. free_byte ts u are us before slot off (byte k lt slot off (range_of u (Mirror k)) refl c)))
       where
-        byte : (k : ℕ) → k < n → (slot off : ℕ) (o : Option Range) → range_of u (Mirror k) ≡ o → IsSomeAnd o (λ range. covers slot off range ≡ true) → IsCopyByte layout u slot off
+        byte : (k : ℕ) → k < n → (slot off : ℕ) (o : Option Range) → range_of u (Mirror k) ≡ o → IsSomeAnd o (λ range. covers slot off range ≡ true)
+            → IsCopyByte layout u slot off
         byte k lt slot off None e c = absurd c
         byte k lt slot off (Some range) e c = of_range layout u k slot off range us (has_mirror u n k has lt) e c

@@ -1,5 +1,6 @@
 -- Flagging the images on which a block doesn't pass.
-use Rattle.std.proofs.Common.{◌≡◌, ℕ, ◌+◌, ◌<◌, ◌≤◌, Bool, true, false, cond, ◌&&◌, ◌||◌, not, eqb, leb, List, [], ◌∷◌, ◌++◌, length, map, set, get_or, Option, Some, None, IfSome, IsNone, IsOk, IsOkAnd, Result, Ok, Err, refl, sym, ap, ◌∙◌, subst, arith}
+use Rattle.std.proofs.Common.{◌≡◌, ℕ, ◌+◌, ◌<◌, ◌≤◌, Bool, true, false, cond, ◌&&◌, ◌||◌, not, eqb, leb, List, [], ◌∷◌, ◌++◌, length, map, set, get_or, Option}
+use Rattle.std.proofs.Common.{Some, None, IfSome, IsNone, IsOk, IsOkAnd, Result, Ok, Err, refl, sym, ap, ◌∙◌, subst, arith}
 use Rattle.std.proofs.Math.Bool.{or-false}
 use Rattle.std.proofs.lemmas.Bool.{eq-eqb, eqb-true, false≢true}
 use Rattle.std.proofs.lemmas.List.{append_assoc, append-nil}
@@ -24,13 +25,13 @@ use Rattle.btr_read.specs.declared.setting.Setting.{Setting}
 use Rattle.btr_read.specs.declared.want.Want.{Want}
 use Rattle.btr_read.specs.declared.want.Want.TheVariants.{Block, Plain, Sector, Tree}
 use Rattle.btr_read.proofs.Slots.{IsReadable, readable}
-use Rattle.btr_mend.proofs.Copied.{has_mirror}
-use Rattle.btr_row.proofs.Accepted.{the_target}
+use Rattle.btr_scrub_copies.proofs.Copied.{has_mirror}
+use Rattle.btr_scrub_row.proofs.Accepted.{the_target}
 use Rattle.btr_read.proofs.Fates.{sought_of}
-use Rattle.btr_mend.specs.Blocks.{is_good}
-use Rattle.btr_mend.specs.Writes.{AccountsMend, Images}
-use Rattle.btr_mend.specs.declared.mended.MendFault.{MendFault}
-use Rattle.btr_mend.specs.declared.mended.MendFault.TheVariants.{Image, Memory}
+use Rattle.btr_scrub_copies.specs.Blocks.{is_good}
+use Rattle.btr_scrub_copies.specs.Writes.{AccountsMend, Images}
+use Rattle.btr_scrub_copies.specs.declared.mended.MendFault.{MendFault}
+use Rattle.btr_scrub_copies.specs.declared.mended.MendFault.TheVariants.{Image, Memory}
 use Rattle.btr_scrub.specs.Doubts.{fails_at, fails_on, failing, is_on}
 use Rattle.btr_scrub.specs.Judged.{Flags, FlagsBlock, HasOwn, IsOfPart}
 use Rattle.btr_scrub.specs.Leaves.{LiesInStripe}

@@ -31,13 +31,16 @@ module _ {W F S : Type 0} (B : BlockMap W F) where
   ends_looks (Emit s p) k Q h = absurd s
 
   -- a program, and then another by its value
-  pub ends_bind : {A C : Type 0} (p : Prog W F S A) (k : A → Prog W F S C) (Q : List S → A → Type 0) (R : List S → C → Type 0) → Ends p Q → ((a : A) → Ends (k a) (λ ys c. (xs : List S) → Q xs a → R (xs ++ ys) c)) → Ends (bind p k) R
+  pub ends_bind : {A C : Type 0} (p : Prog W F S A) (k : A → Prog W F S C) (Q : List S → A → Type 0) (R : List S → C → Type 0) → Ends p Q
+      → ((a : A) → Ends (k a) (λ ys c. (xs : List S) → Q xs a → R (xs ++ ys) c)) → Ends (bind p k) R
   ends_bind (Return a) k Q R h g = λ c e. g a c e [] (h a refl)
   ends_bind (Stop f) k Q R h g = λ c e. absurd (not_ok f c e)
   ends_bind (Need w f) k Q R h g = λ c e. by (B w) refl c e (λ bytes i. ends_bind (f bytes) k Q R i g)
     where
-      by : (r : Result (List ℕ) F) → B w ≡ r → (c : _) → (given r (λ bytes. exec B (bind (f bytes) k))).ending ≡ Ok c → ((bytes : List ℕ) → Ends (f bytes) Q → Ends (bind (f bytes) k) R) → R (steps_of (given r (λ bytes. exec B (bind (f bytes) k))).marks) c
-      by (Ok bytes) q c e rest = rest bytes (λ a d. subst (λ x. (given x (λ bytes. exec B (f bytes))).ending ≡ Ok a → Q (steps_of (given x (λ bytes. exec B (f bytes))).marks) a) q (h a) d) c e
+      by : (r : Result (List ℕ) F) → B w ≡ r → (c : _) → (given r (λ bytes. exec B (bind (f bytes) k))).ending ≡ Ok c
+          → ((bytes : List ℕ) → Ends (f bytes) Q → Ends (bind (f bytes) k) R) → R (steps_of (given r (λ bytes. exec B (bind (f bytes) k))).marks) c
+      by (Ok bytes) q c e rest = rest bytes (λ a d. subst (λ x. (given x (λ bytes. exec B (f bytes))).ending ≡ Ok a
+          → Q (steps_of (given x (λ bytes. exec B (f bytes))).marks) a) q (h a) d) c e
       by (Err x) q c e rest = absurd (not_ok x c e)
   ends_bind (Emit s p) k Q R h g = ends_bind p k (λ xs a. Q (s ∷ xs) a) (λ zs c. R (s ∷ zs) c) h (λ a c e xs q. g a c e (s ∷ xs) q)
 
@@ -61,14 +64,18 @@ module _ {W F S T St : Type 0} (B : BlockMap W F) (treat : St → T → Prog W F
   once st s is = ends_bind B (treat st s) (λ st'. Return (Ok st')) (λ ys st'. (xs : List S) → Inv xs st → Inv (xs ++ ys) st') (kept st) (one st s is)
       (λ st' r e ys q. subst (kept st (ys ++ [])) (same_ok (Ok st') r e) (λ xs i. subst (λ zs. Inv (xs ++ zs) st') (sym (append-nil ys)) (q xs i)))
 
-  pub each_ends : (p : Prog W F T (Unit {0})) → Yields Is p → (st : St) → Ends B (thread body (λ st u. st) st p) (λ ys st'. (xs : List S) → Inv xs st → Inv (xs ++ ys) st')
+  pub each_ends : (p : Prog W F T (Unit {0})) → Yields Is p → (st : St)
+      → Ends B (thread body (λ st u. st) st p) (λ ys st'. (xs : List S) → Inv xs st → Inv (xs ++ ys) st')
   each_ends (Return u) y st = λ r e xs i. subst (λ s. Inv (xs ++ []) s) (same_ok st r e) (subst (λ zs. Inv zs st) (sym (append-nil xs)) i)
   each_ends (Stop f) y st = λ r e. absurd (not_ok f r e)
-  each_ends (Need w k) y st = ends_need B w (λ bytes. thread body (λ st u. st) st (k bytes)) (λ ys st'. (xs : List S) → Inv xs st → Inv (xs ++ ys) st') (λ bytes. each_ends (k bytes) (y bytes) st)
+  each_ends (Need w k) y st = ends_need B w (λ bytes. thread body (λ st u. st) st (k bytes))
+      (λ ys st'. (xs : List S) → Inv xs st → Inv (xs ++ ys) st') (λ bytes. each_ends (k bytes) (y bytes) st)
   each_ends (Emit s p) y st =
-      ends_bind B (body st s) (go_on (λ st'. thread body (λ st u. st) st' p)) (kept st) (λ ys st'. (xs : List S) → Inv xs st → Inv (xs ++ ys) st') (once st s y.0) (λ r. then r (λ st'. each_ends p y.1 st'))
+      ends_bind B (body st s) (go_on (λ st'. thread body (λ st u. st) st' p)) (kept st) (λ ys st'. (xs : List S) → Inv xs st → Inv (xs ++ ys) st')
+      (once st s y.0) (λ r. then r (λ st'. each_ends p y.1 st'))
     where
       then : (r : Result St St) → ((st' : St) → Ends B (thread body (λ st u. st) st' p) (λ ys st''. (xs : List S) → Inv xs st' → Inv (xs ++ ys) st''))
-          → Ends B (go_on (λ st'. thread body (λ st u. st) st' p) r) (λ ys st''. (zs : List S) → kept st zs r → (xs : List S) → Inv xs st → Inv (xs ++ (zs ++ ys)) st'')
+          → Ends B (go_on (λ st'. thread body (λ st u. st) st' p) r)
+          (λ ys st''. (zs : List S) → kept st zs r → (xs : List S) → Inv xs st → Inv (xs ++ (zs ++ ys)) st'')
       then (Ok st') rest = λ st'' e zs q xs i. subst (λ l. Inv l st'') (append_assoc xs zs _) (rest st' st'' e (xs ++ zs) (q xs i))
       then (Err r) rest = λ st'' e zs q. absurd q

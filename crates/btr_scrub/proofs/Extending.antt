@@ -20,7 +20,8 @@ module _ (s : Super) (sums : Option TreeRoot) (chunk : Chunk) (end : ℕ) where
     pub extent_malformed : is_malformed s end extent ≡ true → extent_met s sums chunk end leaf (Some extent) ≡ Stop (Malformed leaf)
     extent_malformed e = ap (λ b. cond b (Stop (Malformed leaf)) judged) e
 
-    pub extent_crosses : is_malformed s end extent ≡ false → is_crossing chunk extent ≡ true → extent_met s sums chunk end leaf (Some extent) ≡ Stop (Crosses extent.addr)
+    pub extent_crosses : is_malformed s end extent ≡ false → is_crossing chunk extent ≡ true → extent_met s sums chunk end leaf (Some extent)
+        ≡ Stop (Crosses extent.addr)
     extent_crosses e h = ap (λ b. cond b (Stop (Malformed leaf)) judged) e ∙ ap (λ b. cond b (Stop (Crosses extent.addr)) blocks) h
 
     pub extent_gives : is_malformed s end extent ≡ false → is_crossing chunk extent ≡ false → extent_met s sums chunk end leaf (Some extent) ≡ blocks
@@ -29,7 +30,8 @@ module _ (s : Super) (sums : Option TreeRoot) (chunk : Chunk) (end : ℕ) where
   pub item_other : (item : TreeItem) → is_extent item.key ≡ false → item_met s sums chunk end item ≡ Return end
   item_other item e = ap (λ b. cond b (extent_met s sums chunk end item.leaf (extent_of s item)) (Return end)) e
 
-  pub item_extent : (item : TreeItem) (found : Option Extent) (leaf : ℕ) → is_extent item.key ≡ true → extent_of s item ≡ found → item.leaf ≡ leaf → item_met s sums chunk end item ≡ extent_met s sums chunk end leaf found
+  pub item_extent : (item : TreeItem) (found : Option Extent) (leaf : ℕ) → is_extent item.key ≡ true → extent_of s item ≡ found → item.leaf ≡ leaf
+      → item_met s sums chunk end item ≡ extent_met s sums chunk end leaf found
   item_extent item found leaf e is at =
       ap (λ b. cond b (extent_met s sums chunk end item.leaf (extent_of s item)) (Return end)) e
       ∙ ap (extent_met s sums chunk end item.leaf) is

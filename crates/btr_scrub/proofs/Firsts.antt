@@ -1,5 +1,6 @@
 -- The first of some elements that passes a test.
-use Rattle.std.proofs.Common.{◌≡◌, ℕ, suc, ◌+◌, Bool, true, false, cond, List, [], ◌∷◌, ◌++◌, drop, slice_get, Some, None, refl, sym, ap, ◌∙◌, add-one, drop-cons}
+use Rattle.std.proofs.Common.{◌≡◌, ℕ, suc, ◌+◌, Bool, true, false, cond, List, [], ◌∷◌, ◌++◌, drop, slice_get, Some, None, refl, sym, ap, ◌∙◌, add-one}
+use Rattle.std.proofs.Common.{drop-cons}
 use Rattle.std.proofs.lemmas.Option.{get_or_from_slice_get, slice_get_within}
 use Rattle.std.specs.List.{filter, flat_map}
 use Rattle.std.specs.Option.{option_map}
@@ -18,7 +19,8 @@ found_here p xs i x e hit =
     ∙ ap (λ b. slice_get (cond b (x ∷ filter p (drop (i + 1) xs)) (filter p (drop (i + 1) xs))) 0) hit
 
 -- one that doesn't is passed over
-pub passed_over : {X : Type 0} (p : X → Bool) (xs : List X) (i : ℕ) (x : X) → slice_get xs i ≡ Some x → p x ≡ false → filter p (drop i xs) ≡ filter p (drop (i + 1) xs)
+pub passed_over : {X : Type 0} (p : X → Bool) (xs : List X) (i : ℕ) (x : X) → slice_get xs i ≡ Some x → p x ≡ false → filter p (drop i xs)
+    ≡ filter p (drop (i + 1) xs)
 passed_over p xs i x e miss =
     ap (filter p) (drop_one xs i x e)
     ∙ ap (λ b. cond b (x ∷ filter p (drop (i + 1) xs)) (filter p (drop (i + 1) xs))) miss
@@ -32,9 +34,11 @@ none_of : {X Y : Type 0} (f : X → Y) (xs ys : List X) → None ≡ option_map 
 none_of f [] ys e = refl
 none_of f (x ∷ xs) ys e = cc
 
-pub flat_here : {X Y Z : Type 0} (f : Y → Z) (g : X → List Y) (xs : List X) (i : ℕ) (x : X) (z : Z) → slice_get xs i ≡ Some x → Some z ≡ option_map f (slice_get (g x) 0)
+pub flat_here : {X Y Z : Type 0} (f : Y → Z) (g : X → List Y) (xs : List X) (i : ℕ) (x : X) (z : Z) → slice_get xs i ≡ Some x → Some z
+    ≡ option_map f (slice_get (g x) 0)
     → Some z ≡ option_map f (slice_get (flat_map g (drop i xs)) 0)
-flat_here f g xs i x z e some = first_of f (g x) (flat_map g (drop (i + 1) xs)) z some ∙ sym (ap (λ ys. option_map f (slice_get (flat_map g ys) 0)) (drop_one xs i x e))
+flat_here f g xs i x z e some = first_of f (g x) (flat_map g (drop (i + 1) xs)) z some
+    ∙ sym (ap (λ ys. option_map f (slice_get (flat_map g ys) 0)) (drop_one xs i x e))
 
 pub flat_over : {X Y Z : Type 0} (f : Y → Z) (g : X → List Y) (xs : List X) (i : ℕ) (x : X) → slice_get xs i ≡ Some x → None ≡ option_map f (slice_get (g x) 0)
     → flat_map g (drop i xs) ≡ flat_map g (drop (i + 1) xs)

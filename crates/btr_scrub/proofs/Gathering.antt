@@ -25,7 +25,8 @@ use Rattle.btr_volume.specs.declared.stop.Stop.{Stop as TheStop}
 use Rattle.btr_volume.specs.declared.stop.Stop.TheVariants as stop
 use Rattle.btr_volume.specs.declared.volume.Volume.{Volume}
 use Rattle.btr_walk.proofs.Joined.{drawn, joined, unread_on}
-use Rattle.btr_scrub.specs.Gathering.{Gathers, IsCrossing, Lists, ListsUnits, Reaches, Scene, TreeCause, StopCause, checked_among, count_met, ended, scene, stop_halt}
+use Rattle.btr_scrub.specs.Gathering.{Gathers, IsCrossing, Lists, ListsUnits, Reaches, Scene, TreeCause, StopCause, checked_among, count_met, ended, scene}
+use Rattle.btr_scrub.specs.Gathering.{stop_halt}
 use Rattle.btr_scrub.specs.Listed.{AddsTo, IsList, kept_wants}
 use Rattle.btr_scrub.specs.Plain.{plain_among}
 use Rattle.btr_scrub.specs.Units.{Checked, Meeting, Met, Unchecked}
@@ -54,15 +55,18 @@ pub lists_then : (x y z : Gathered) (done more : List Met) → Lists x y done �
 lists_then x y z done more h g = record {
   is_list = g.is_list;
   kind = g.kind ∙ h.kind;
-  wants = g.wants ∙ ap (λ q. q ++ checked_among more) h.wants ∙ append_assoc (kept_wants x.list) (checked_among done) (checked_among more) ∙ ap (λ q. kept_wants x.list ++ q) (sym (among-append done more));
+  wants = g.wants ∙ ap (λ q. q ++ checked_among more) h.wants ∙ append_assoc (kept_wants x.list) (checked_among done) (checked_among more)
+      ∙ ap (λ q. kept_wants x.list ++ q) (sym (among-append done more));
   unchecked = g.unchecked ∙ ap (λ n. fold count_met n more) h.unchecked ∙ sym (count-append x.unchecked done more);
-  plain = g.plain ∙ ap (λ q. q ++ plain_among more) h.plain ∙ append_assoc x.plain (plain_among done) (plain_among more) ∙ ap (λ q. x.plain ++ q) (sym (plain-append done more));
+  plain = g.plain ∙ ap (λ q. q ++ plain_among more) h.plain ∙ append_assoc x.plain (plain_among done) (plain_among more)
+      ∙ ap (λ q. x.plain ++ q) (sym (plain-append done more));
 }
 
 pub lists_added : (x y : Gathered) (want : Want) → AddsTo x.list y.list want → y.unchecked ≡ x.unchecked → y.plain ≡ x.plain → Lists x y (Checked want ∷ [])
 lists_added x y want a same plain = record { is_list = a.is_list; kind = a.kind; wants = a.wants; unchecked = same; plain = plain ∙ sym (append-nil x.plain) }
 
-pub lists_counted : (x y : Gathered) (addr : ℕ) → IsList x.list → y.list ≡ x.list → y.unchecked ≡ next_count x.unchecked → y.plain ≡ x.plain ++ addr ∷ [] → Lists x y (Unchecked addr ∷ [])
+pub lists_counted : (x y : Gathered) (addr : ℕ) → IsList x.list → y.list ≡ x.list → y.unchecked ≡ next_count x.unchecked → y.plain ≡ x.plain
+    ++ addr ∷ [] → Lists x y (Unchecked addr ∷ [])
 lists_counted x y addr is same count plain = record {
   is_list = subst IsList (sym same) is;
   kind = ap (λ l. l.kind) same;
@@ -80,7 +84,8 @@ pub same_self : (vol : Volume) → SameVolume vol vol
 same_self vol = record { sup = refl; store = record { layout = refl; loans = refl } }
 
 -- what lies behind a fault of a later call
-tree_cause_since : {a b : Seen} (c : Seen) (layout layout' : Layout) (f : TreeFault) → layout' ≡ layout → OnlyReads a b → TreeCause layout' b c f → TreeCause layout a c f
+tree_cause_since : {a b : Seen} (c : Seen) (layout layout' : Layout) (f : TreeFault) → layout' ≡ layout → OnlyReads a b → TreeCause layout' b c f
+    → TreeCause layout a c f
 tree_cause_since c layout layout' (tree.Lost x) e reads h = cause_since c layout layout' (tree.Lost x) e reads h
 tree_cause_since c layout layout' (tree.Unread x slot) e reads h = cause_since c layout layout' (tree.Unread x slot) e reads h
 tree_cause_since c layout layout' (tree.Unmapped x) e reads h = cause_since c layout layout' (tree.Unmapped x) e reads h
@@ -96,7 +101,8 @@ tree_cause layout a b (tree.Crosses x) h = inl h
 tree_cause layout a b (tree.Malformed x) h = tt
 
 -- what lies behind a stop of a later call
-pub stop_cause_since : {C : Type 0} {a b : Seen} (c : Seen) (layout layout' : Layout) (r : Result C TheStop) → layout' ≡ layout → OnlyReads a b → StopCause layout' b c r → StopCause layout a c r
+pub stop_cause_since : {C : Type 0} {a b : Seen} (c : Seen) (layout layout' : Layout) (r : Result C TheStop) → layout' ≡ layout → OnlyReads a b
+    → StopCause layout' b c r → StopCause layout a c r
 stop_cause_since c layout layout' (Ok v) e reads h = tt
 stop_cause_since c layout layout' (Err (stop.NoTree id)) e reads h = tt
 stop_cause_since c layout layout' (Err (stop.Tree f)) e reads h = tree_cause_since c layout layout' f e reads h
@@ -134,68 +140,80 @@ gathers_value a x is serves = record {
   serves = serves;
   done = [];
   lists = lists_none x.list is;
-  content = unread_on x.vol.store.layout (λ B. Follows {S = Met} (unread_by x.vol.store.layout x.rack x.rack) no_part [] (run [] (Ok a)) [] (Ok a)) (λ B. (refl, refl));
+  content = unread_on x.vol.store.layout (λ B. Follows {S = Met} (unread_by x.vol.store.layout x.rack x.rack) no_part [] (run [] (Ok a)) [] (Ok a))
+      (λ B. (refl, refl));
   cause = tt;
 }
 
 -- one block was met
-pub gathers_met : (m : Met) (rack : Seen) (vol : Volume) (x y : Gathered) → Lists x y (m ∷ []) → Serves rack vol.store → Gathers {A = Unit {0}} (Emit m (Return tt)) (scene rack vol x) (scene rack vol y) (Ok tt)
+pub gathers_met : (m : Met) (rack : Seen) (vol : Volume) (x y : Gathered) → Lists x y (m ∷ []) → Serves rack vol.store
+    → Gathers {A = Unit {0}} (Emit m (Return tt)) (scene rack vol x) (scene rack vol y) (Ok tt)
 gathers_met m rack vol x y l serves = record {
   reads = reads_none rack;
   volume = same_self vol;
   serves = serves;
   done = m ∷ [];
   lists = l;
-  content = unread_on vol.store.layout (λ B. Follows (unread_by vol.store.layout rack rack) no_part [] (exec B (Emit m (Return tt))) (m ∷ []) (Ok tt)) (λ B. (refl, refl));
+  content = unread_on vol.store.layout (λ B. Follows (unread_by vol.store.layout rack rack) no_part [] (exec B (Emit m (Return tt))) (m ∷ []) (Ok tt))
+      (λ B. (refl, refl));
   cause = tt;
 }
 
 -- no memory was had
-pub gathers_memory : {A : Type 0} (p : Meeting A) (rack : Seen) (vol : Volume) (l m : Gathered) → Serves rack vol.store → Gathers p (scene rack vol l) (scene rack vol m) (Err stop.Memory)
+pub gathers_memory : {A : Type 0} (p : Meeting A) (rack : Seen) (vol : Volume) (l m : Gathered) → Serves rack vol.store
+    → Gathers p (scene rack vol l) (scene rack vol m) (Err stop.Memory)
 gathers_memory p rack vol l m serves = record {
   reads = reads_none rack;
   volume = same_self vol;
   serves = serves;
   done = [];
   lists = tt;
-  content = unread_on vol.store.layout (λ B. Follows (unread_by vol.store.layout rack rack) no_part [] (exec B p) [] (Err Broke)) (λ B. broke_here (unread_by vol.store.layout rack rack) no_part [] (exec B p));
+  content = unread_on vol.store.layout (λ B. Follows (unread_by vol.store.layout rack rack) no_part [] (exec B p) [] (Err Broke))
+      (λ B. broke_here (unread_by vol.store.layout rack rack) no_part [] (exec B p));
   cause = tt;
 }
 
 -- a rule was broken
-pub gathers_malformed : {A : Type 0} (leaf : ℕ) (x : Scene) → Serves x.rack x.vol.store → Gathers {A = A} (Stop (fate.Malformed leaf)) x x (Err (stop.Tree (tree.Malformed leaf)))
+pub gathers_malformed : {A : Type 0} (leaf : ℕ) (x : Scene) → Serves x.rack x.vol.store
+    → Gathers {A = A} (Stop (fate.Malformed leaf)) x x (Err (stop.Tree (tree.Malformed leaf)))
 gathers_malformed {A} leaf x serves = record {
   reads = reads_none x.rack;
   volume = same_self x.vol;
   serves = serves;
   done = [];
   lists = tt;
-  content = unread_on x.vol.store.layout (λ B. Follows {S = Met} {A = A} (unread_by x.vol.store.layout x.rack x.rack) no_part [] (run [] (Err (fate.Malformed leaf))) [] (Err (halt_of (tree.Malformed leaf)))) (λ B. (refl, refl));
+  content = unread_on x.vol.store.layout (λ B. Follows {S = Met} {A = A} (unread_by x.vol.store.layout x.rack x.rack) no_part []
+      (run [] (Err (fate.Malformed leaf))) [] (Err (halt_of (tree.Malformed leaf)))) (λ B. (refl, refl));
   cause = tt;
 }
 
 -- a lookup, which meets nothing
 module _ {A : Type 0} (p : Lookup A) (old new : Seen) (vol after : Volume) (list : Gathered) where
-  pub gathers_found : (a : A) → IsList list.list → Serves new after.store → OnlyReads old new → SameVolume vol after → Looks vol.store.layout old new p (Ok a) → Gathers (quiet p) (scene old vol list) (scene new after list) (Ok a)
+  pub gathers_found : (a : A) → IsList list.list → Serves new after.store → OnlyReads old new → SameVolume vol after
+      → Looks vol.store.layout old new p (Ok a) → Gathers (quiet p) (scene old vol list) (scene new after list) (Ok a)
   gathers_found a is serves reads same l = record {
     reads = reads;
     volume = same;
     serves = serves;
     done = [];
     lists = lists_none list is;
-    content = drawn vol.store.layout (λ B. Follows {S = ⊥} (unread_by vol.store.layout old new) no_part [] (exec B p) [] (Ok a)) (λ B. Follows {S = Met} (unread_by vol.store.layout old new) no_part [] (exec B (quiet p)) [] (Ok a))
+    content = drawn vol.store.layout (λ B. Follows {S = ⊥} (unread_by vol.store.layout old new) no_part [] (exec B p) [] (Ok a))
+        (λ B. Follows {S = Met} (unread_by vol.store.layout old new) no_part [] (exec B (quiet p)) [] (Ok a))
         (λ B f. follows_quiet (unread_by vol.store.layout old new) no_part [] B p [] (Ok a) f) l;
     cause = tt;
   }
 
-  pub gathers_fault : (f : TreeFault) → Serves new after.store → OnlyReads old new → SameVolume vol after → HasCause {A = A} vol.store.layout old new (Err f) → Looks vol.store.layout old new p (Err f) → Gathers (quiet p) (scene old vol list) (scene new after list) (Err (stop.Tree f))
+  pub gathers_fault : (f : TreeFault) → Serves new after.store → OnlyReads old new → SameVolume vol after
+      → HasCause {A = A} vol.store.layout old new (Err f) → Looks vol.store.layout old new p (Err f)
+      → Gathers (quiet p) (scene old vol list) (scene new after list) (Err (stop.Tree f))
   gathers_fault f serves reads same cause l = record {
     reads = reads;
     volume = same;
     serves = serves;
     done = [];
     lists = tt;
-    content = drawn vol.store.layout (λ B. Follows {S = ⊥} (unread_by vol.store.layout old new) no_part [] (exec B p) [] (Err (halt_of f))) (λ B. Follows {S = Met} (unread_by vol.store.layout old new) no_part [] (exec B (quiet p)) [] (Err (halt_of f)))
+    content = drawn vol.store.layout (λ B. Follows {S = ⊥} (unread_by vol.store.layout old new) no_part [] (exec B p) [] (Err (halt_of f)))
+        (λ B. Follows {S = Met} (unread_by vol.store.layout old new) no_part [] (exec B (quiet p)) [] (Err (halt_of f)))
         (λ B g. follows_quiet (unread_by vol.store.layout old new) no_part [] B p [] (Err (halt_of f)) g) l;
     cause = tree_cause vol.store.layout old new f cause;
   }
@@ -212,11 +230,14 @@ module _ {A C : Type 0} (p : Meeting A) (k : A → Meeting C) (x y : Scene) wher
         serves = g.serves;
         done = h.done ++ g.done;
         lists = on_ok r (λ l. lists_then x.list y.list z.list h.done g.done h.lists l) g.lists;
-        content = joined (λ B. Follows (unread_by layout x.rack y.rack) no_part [] (exec B p) h.done (Ok a)) (λ B. Follows (unread_by y.vol.store.layout y.rack z.rack) no_part [] (exec B (k a)) g.done (ended r)) (λ B. Follows (unread_by layout x.rack z.rack) no_part [] (exec B (bind p k)) (h.done ++ g.done) (ended r)) same
+        content = joined (λ B. Follows (unread_by layout x.rack y.rack) no_part [] (exec B p) h.done (Ok a))
+            (λ B. Follows (unread_by y.vol.store.layout y.rack z.rack) no_part [] (exec B (k a)) g.done (ended r))
+            (λ B. Follows (unread_by layout x.rack z.rack) no_part [] (exec B (bind p k)) (h.done ++ g.done) (ended r)) same
             (λ B f t. subst (λ q. Follows (unread_by layout x.rack z.rack) no_part [] q (h.done ++ g.done) (ended r)) (sym (exec-bind B p k))
             (follows_then (unread_by layout x.rack z.rack) no_part [] (exec B p) a (λ v. exec B (k v)) h.done g.done (ended r) f
             (follows_alone (unread_by layout x.rack z.rack) no_part (wants_of (exec B p).marks) (exec B (k a)) g.done (ended r)
-            (follows_as (unread_by y.vol.store.layout y.rack z.rack) (unread_by layout x.rack z.rack) (since layout y.vol.store.layout same h.reads) no_part [] (exec B (k a)) g.done (ended r) t))))
+            (follows_as (unread_by y.vol.store.layout y.rack z.rack) (unread_by layout x.rack z.rack) (since layout y.vol.store.layout same h.reads)
+            no_part [] (exec B (k a)) g.done (ended r) t))))
             h.content g.content;
         cause = stop_cause_since z.rack layout y.vol.store.layout r same h.reads g.cause;
       }
@@ -228,8 +249,10 @@ module _ {A C : Type 0} (p : Meeting A) (k : A → Meeting C) (x y : Scene) wher
     serves = h.serves;
     done = h.done;
     lists = tt;
-    content = drawn x.vol.store.layout (λ B. Follows (unread_by x.vol.store.layout x.rack y.rack) no_part [] (exec B p) h.done (Err (stop_halt s))) (λ B. Follows (unread_by x.vol.store.layout x.rack y.rack) no_part [] (exec B (bind p k)) h.done (Err (stop_halt s)))
-        (λ B f. subst (λ q. Follows (unread_by x.vol.store.layout x.rack y.rack) no_part [] q h.done (Err (stop_halt s))) (sym (exec-bind B p k)) (follows_halt (unread_by x.vol.store.layout x.rack y.rack) no_part [] (exec B p) (λ v. exec B (k v)) h.done (stop_halt s) f)) h.content;
+    content = drawn x.vol.store.layout (λ B. Follows (unread_by x.vol.store.layout x.rack y.rack) no_part [] (exec B p) h.done (Err (stop_halt s)))
+        (λ B. Follows (unread_by x.vol.store.layout x.rack y.rack) no_part [] (exec B (bind p k)) h.done (Err (stop_halt s)))
+        (λ B f. subst (λ q. Follows (unread_by x.vol.store.layout x.rack y.rack) no_part [] q h.done (Err (stop_halt s))) (sym (exec-bind B p k))
+        (follows_halt (unread_by x.vol.store.layout x.rack y.rack) no_part [] (exec B p) (λ v. exec B (k v)) h.done (stop_halt s) f)) h.content;
     cause = cause_kept A C x.vol.store.layout x.rack y.rack s h.cause;
   }
 
@@ -243,7 +266,8 @@ reaches_none p x is serves = record {
   serves = serves;
   done = [];
   lists = lists_none x.list is;
-  content = unread_on x.vol.store.layout (λ B. (before : List (Mark Want Met)) × (exec B p ≡ prepend before (exec B p)) × ([] ≡ steps_of before)) (λ B. ([], refl, refl));
+  content = unread_on x.vol.store.layout (λ B. (before : List (Mark Want Met)) × (exec B p ≡ prepend before (exec B p)) × ([] ≡ steps_of before))
+      (λ B. ([], refl, refl));
 }
 
 module _ {A C : Type 0} (p : Meeting C) (q : Meeting A) (k : A → Meeting C) (x y : Scene) (h : Reaches p (bind q k) x y) where
@@ -257,7 +281,9 @@ module _ {A C : Type 0} (p : Meeting C) (q : Meeting A) (k : A → Meeting C) (x
         serves = g.serves;
         done = h.done ++ g.done;
         lists = lists_then x.list y.list z.list h.done g.done h.lists g.lists;
-        content = joined (λ B. (before : List (Mark Want Met)) × (exec B p ≡ prepend before (exec B (bind q k))) × (h.done ≡ steps_of before)) (λ B. Follows (unread_by y.vol.store.layout y.rack z.rack) no_part [] (exec B q) g.done (Ok a)) (λ B. (before : List (Mark Want Met)) × (exec B p ≡ prepend before (exec B (k a))) × (h.done ++ g.done ≡ steps_of before)) h.volume.store.layout
+        content = joined (λ B. (before : List (Mark Want Met)) × (exec B p ≡ prepend before (exec B (bind q k))) × (h.done ≡ steps_of before))
+            (λ B. Follows (unread_by y.vol.store.layout y.rack z.rack) no_part [] (exec B q) g.done (Ok a))
+            (λ B. (before : List (Mark Want Met)) × (exec B p ≡ prepend before (exec B (k a))) × (h.done ++ g.done ≡ steps_of before)) h.volume.store.layout
             (λ B b f. (
               b.0 ++ (exec B q).marks,
               b.1 ∙ ap (prepend b.0) (exec-bind B q k ∙ after-ok (exec B q) a (λ v. exec B (k v)) f.1) ∙ prepend-prepend b.0 (exec B q).marks (exec B (k a)),
@@ -276,25 +302,30 @@ reaches_ends p q x y z r h g =
       serves = g.serves;
       done = h.done ++ g.done;
       lists = on_ok r (λ l. lists_then x.list y.list z.list h.done g.done h.lists l) g.lists;
-      content = joined (λ B. (before : List (Mark Want Met)) × (exec B p ≡ prepend before (exec B q)) × (h.done ≡ steps_of before)) (λ B. Follows (unread_by y.vol.store.layout y.rack z.rack) no_part [] (exec B q) g.done (ended r)) (λ B. Follows (unread_by layout x.rack z.rack) no_part [] (exec B p) (h.done ++ g.done) (ended r)) same
+      content = joined (λ B. (before : List (Mark Want Met)) × (exec B p ≡ prepend before (exec B q)) × (h.done ≡ steps_of before))
+          (λ B. Follows (unread_by y.vol.store.layout y.rack z.rack) no_part [] (exec B q) g.done (ended r))
+          (λ B. Follows (unread_by layout x.rack z.rack) no_part [] (exec B p) (h.done ++ g.done) (ended r)) same
           (λ B b f. subst (λ d. Follows (unread_by layout x.rack z.rack) no_part [] (exec B p) (d ++ g.done) (ended r)) (sym b.2)
           (subst (λ t. Follows (unread_by layout x.rack z.rack) no_part [] t (steps_of b.0 ++ g.done) (ended r)) (sym b.1)
           (follows_behind (unread_by layout x.rack z.rack) no_part [] b.0 (exec B q) g.done (ended r)
           (follows_alone (unread_by layout x.rack z.rack) no_part (wants_of b.0) (exec B q) g.done (ended r)
-          (follows_as (unread_by y.vol.store.layout y.rack z.rack) (unread_by layout x.rack z.rack) (since layout y.vol.store.layout same h.reads) no_part [] (exec B q) g.done (ended r) f)))))
+          (follows_as (unread_by y.vol.store.layout y.rack z.rack) (unread_by layout x.rack z.rack) (since layout y.vol.store.layout same h.reads)
+          no_part [] (exec B q) g.done (ended r) f)))))
           h.content g.content;
       cause = stop_cause_since z.rack layout y.vol.store.layout r same h.reads g.cause;
     }
 
 -- an extent crosses
-pub gathers_crossing : {A : Type 0} (addr : ℕ) (x : Scene) → Serves x.rack x.vol.store → IsCrossing x.vol.store.layout addr → Gathers {A = A} (Stop (fate.Crosses addr)) x x (Err (stop.Tree (tree.Crosses addr)))
+pub gathers_crossing : {A : Type 0} (addr : ℕ) (x : Scene) → Serves x.rack x.vol.store → IsCrossing x.vol.store.layout addr
+    → Gathers {A = A} (Stop (fate.Crosses addr)) x x (Err (stop.Tree (tree.Crosses addr)))
 gathers_crossing {A} addr x serves crosses = record {
   reads = reads_none x.rack;
   volume = same_self x.vol;
   serves = serves;
   done = [];
   lists = tt;
-  content = unread_on x.vol.store.layout (λ B. Follows {S = Met} {A = A} (unread_by x.vol.store.layout x.rack x.rack) no_part [] (run [] (Err (fate.Crosses addr))) [] (Err (halt_of (tree.Crosses addr)))) (λ B. (refl, refl));
+  content = unread_on x.vol.store.layout (λ B. Follows {S = Met} {A = A} (unread_by x.vol.store.layout x.rack x.rack) no_part []
+      (run [] (Err (fate.Crosses addr))) [] (Err (halt_of (tree.Crosses addr)))) (λ B. (refl, refl));
   cause = inr crosses;
 }
 
@@ -310,12 +341,14 @@ gathers_no_tree {A} id x serves = record {
   serves = serves;
   done = [];
   lists = tt;
-  content = unread_on x.vol.store.layout (λ B. Follows {S = Met} {A = A} (unread_by x.vol.store.layout x.rack x.rack) no_part [] (run [] (Err (fate.NoTree id))) [] (Err (stop_halt (stop.NoTree id)))) (λ B. (refl, refl));
+  content = unread_on x.vol.store.layout (λ B. Follows {S = Met} {A = A} (unread_by x.vol.store.layout x.rack x.rack) no_part []
+      (run [] (Err (fate.NoTree id))) [] (Err (stop_halt (stop.NoTree id)))) (λ B. (refl, refl));
   cause = tt;
 }
 
 -- what was listed behind an empty list
-pub lists_units : (p : Meeting (Unit {0})) (x y : Scene) → kept_wants x.list.list ≡ [] → x.list.unchecked ≡ 0 → x.list.plain ≡ [] → Gathers p x y (Ok tt) → ListsUnits p x.vol.store.layout x.rack y.rack (Ok y.list)
+pub lists_units : (p : Meeting (Unit {0})) (x y : Scene) → kept_wants x.list.list ≡ [] → x.list.unchecked ≡ 0 → x.list.plain ≡ []
+    → Gathers p x y (Ok tt) → ListsUnits p x.vol.store.layout x.rack y.rack (Ok y.list)
 lists_units p x y none zero no_plain g = record {
   done = g.done;
   lists = record {
@@ -332,5 +365,6 @@ pub lists_no_units : (p : Meeting (Unit {0})) (x y : Scene) (s : TheStop) → Ga
 lists_no_units p x y s g = record { done = g.done; lists = tt; content = g.content; cause = cause_kept (Unit {0}) Gathered x.vol.store.layout x.rack y.rack s g.cause }
 
 -- the superblock and the layout as they were before calls that left them
-pub gathers_as : {A : Type 0} (p : Super → Layout → Meeting A) (s t : Super) (layout layout' : Layout) (x y : Scene) (r : Result A TheStop) → t ≡ s → layout' ≡ layout → Gathers (p t layout') x y r → Gathers (p s layout) x y r
+pub gathers_as : {A : Type 0} (p : Super → Layout → Meeting A) (s t : Super) (layout layout' : Layout) (x y : Scene) (r : Result A TheStop) → t ≡ s
+    → layout' ≡ layout → Gathers (p t layout') x y r → Gathers (p s layout) x y r
 gathers_as p s t layout layout' x y r e h g = subst (λ l. Gathers (p s l) x y r) h (subst (λ u. Gathers (p u layout') x y r) e g)

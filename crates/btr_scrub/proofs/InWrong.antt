@@ -1,5 +1,6 @@
 -- Each range that is written lies in a wrong element, or is a copy that isn't the committed one.
-use Rattle.std.proofs.Common.{◌≡◌, ◌⊎◌, ℕ, ◌+◌, ◌*◌, ◌/◌, ◌<◌, ◌≤◌, Bool, true, false, not, cond, ◌&&◌, List, [], ◌∷◌, map, length, slice_get, Option, Some, None, is_none, IsNone, IfSome, refl, sym, ap, ◌∙◌, subst, inl, inr, arith}
+use Rattle.std.proofs.Common.{◌≡◌, ◌⊎◌, ℕ, ◌+◌, ◌*◌, ◌/◌, ◌<◌, ◌≤◌, Bool, true, false, not, cond, ◌&&◌, List, [], ◌∷◌, map, length, slice_get, Option, Some}
+use Rattle.std.proofs.Common.{None, is_none, IsNone, IfSome, refl, sym, ap, ◌∙◌, subst, inl, inr, arith}
 use Rattle.std.proofs.lemmas.Bool.{false≢true, and_parts}
 use Rattle.std.proofs.lemmas.Option.{same_Some}
 use Rattle.std.specs.List.{cons_option, filter_map, flat_map, range_with_len}
@@ -17,10 +18,11 @@ use Rattle.btr_read.specs.Cause.{LiesIn}
 use Rattle.btr_read.specs.Layout.{HaveOwnSlots, Layout}
 use Rattle.btr_read.specs.declared.want.Want.{Want}
 use Rattle.btr_read.proofs.Ones.{in_below}
-use Rattle.btr_mend.specs.Blocks.{accepted, bad_parts, block_writes, is_sound, own_parts, written_over}
-use Rattle.btr_mend.proofs.Syncs.{passing_filter}
-use Rattle.btr_mend.specs.Writes.{Images, Write}
-use Rattle.btr_row.specs.Rows.{Row, column_of, differing, differs, element_with, is_decided, parities, parity_writes, range_in_element, row_writes, sector_write}
+use Rattle.btr_scrub_copies.specs.Blocks.{accepted, bad_parts, block_writes, is_sound, own_parts, written_over}
+use Rattle.btr_scrub_copies.proofs.Syncs.{passing_filter}
+use Rattle.btr_scrub_copies.specs.Writes.{Images, Write}
+use Rattle.btr_scrub_row.specs.Rows.{Row, column_of, differing, differs, element_with, is_decided, parities, parity_writes, range_in_element, row_writes}
+use Rattle.btr_scrub_row.specs.Rows.{sector_write}
 use Rattle.btr_scrub.specs.Devices.{HaveLengths}
 use Rattle.btr_scrub.specs.Glue.{In}
 use Rattle.btr_scrub.specs.Order.{AreApart, IsSought, targets}
@@ -44,7 +46,8 @@ pub of_filter_map : {X Y : Type 0} (g : X → Option Y) (y : Y) (xs : List X) �
 of_filter_map g y [] i = absurd i
 of_filter_map g y (x ∷ xs) i = by (g x) refl i (of_filter_map g y xs)
   where
-    by : (o : Option _) → g x ≡ o → In y (cons_option o (filter_map g xs)) → (In y (filter_map g xs) → (z : _) × In z xs × (g z ≡ Some y)) → (z : _) × In z (x ∷ xs) × (g z ≡ Some y)
+    by : (o : Option _) → g x ≡ o → In y (cons_option o (filter_map g xs)) → (In y (filter_map g xs) → (z : _) × In z xs × (g z ≡ Some y)) → (z : _)
+        × In z (x ∷ xs) × (g z ≡ Some y)
     by None e i rest = let r = rest i in (r.0, inr r.1, r.2)
     by (Some z) e (inl same) rest = (x, inl refl, e ∙ ap Some same)
     by (Some z) e (inr j) rest = let r = rest j in (r.0, inr r.1, r.2)
@@ -77,7 +80,8 @@ over_part images t w i = by (accepted images t) refl i
         let m = mapped (λ (range : Range). record { range = range; bytes = bytes }) (range_of t f.0) w f.2 in
         record { bytes = bytes; accepts = e; part = f.0; own = bad.0; unsound = not_bad (is_sound images t f.0) bad.1; range = m.1 ∙ ap Some (ap (λ (v : Write). v.range) m.2) }
 
-module _ (kept : KeptColumns) (images : Images) (layout : Layout) (C : Committed) (wants : List Want) (table : IsTable layout.chunks) (own : HaveOwnSlots layout.devices) (none : first_missing layout ≡ None) (lengths : HaveLengths images layout)
+module _ (kept : KeptColumns) (images : Images) (layout : Layout) (C : Committed) (wants : List Want) (table : IsTable layout.chunks)
+    (own : HaveOwnSlots layout.devices) (none : first_missing layout ≡ None) (lengths : HaveLengths images layout)
     (had : CanBeHad kept images layout C wants) (apart : AreApart layout 0 wants) where
   abbrev ts : List Target
   ts = targets layout wants
@@ -118,7 +122,9 @@ module _ (kept : KeptColumns) (images : Images) (layout : Layout) (C : Committed
         let len : w.range.len ≡ size_of t = ap (λ (x : Range). x.len) same in (
           part.Slice t.at.index,
           has,
-          bad_block_is_wrong images layout C row t sound among (right_there kept images layout C wants table own none lengths had apart number chunk there r parity inside t among).0 (ap (is_sound images t) slice ∙ o.unsound),
+          bad_block_is_wrong images layout C row t sound among
+              (right_there kept images layout C wants table own none lengths had apart number chunk there r parity inside t among).0
+              (ap (is_sound images t) slice ∙ o.unsound),
           subst (λ x. IfSome x (LiesIn w.range)) (sym e.element) (record { slot = ap (λ (x : Range). x.slot) same; from = omega (arith, off); to = omega (arith, off, len, block.lies.inside) }),
         )
 
@@ -136,7 +142,9 @@ module _ (kept : KeptColumns) (images : Images) (layout : Layout) (C : Committed
         let whole : range_in_element layout row q (column * 4096) 4096 ≡ Some w.range = m.1 ∙ ap Some (ap (λ (v : Write). v.range) m.2) in (
           q,
           has.0,
-          differing_parity_is_wrong images layout C row q column sound (λ t j. (right_there kept images layout C wants table own none lengths had apart number chunk there r parity inside t j).1) (is_parity q has.1) few both.0 both.1,
+          differing_parity_is_wrong images layout C row q column sound
+              (λ t j. (right_there kept images layout C wants table own none lengths had apart number chunk there r parity inside t j).1)
+              (is_parity q has.1) few both.0 both.1,
           sector_inside layout row table of.is q column w.range has.0 few whole,
         )
 
@@ -150,19 +158,31 @@ module _ (kept : KeptColumns) (images : Images) (layout : Layout) (C : Committed
 
   -- a range lies in a wrong element of a full stripe, or is a copy that isn't the committed one
   abbrev pub IsWrong : Range → Type 0
-  IsWrong range = ((chunk : Chunk) × In chunk layout.chunks × ((row : Row) × In row (rows_in kept ts chunk) × LiesInWrong images layout C row range)) ⊎ ((t : Target) × In t ts × IsOfWrongCopy images C range t)
+  IsWrong range = ((chunk : Chunk) × In chunk layout.chunks × ((row : Row) × In row (rows_in kept ts chunk) × LiesInWrong images layout C row range))
+      ⊎ ((t : Target) × In t ts × IsOfWrongCopy images C range t)
 
-  in_chunk : (number : ℕ) (chunk : Chunk) → slice_get layout.chunks number ≡ Some chunk → In chunk layout.chunks → (w : Write) → In w (chunk_writes_for kept layout chunk wants images) → IsWrong w.range
+  in_chunk : (number : ℕ) (chunk : Chunk) → slice_get layout.chunks number ≡ Some chunk → In chunk layout.chunks → (w : Write)
+      → In w (chunk_writes_for kept layout chunk wants images) → IsWrong w.range
   in_chunk number chunk there among w i = by (mirrors chunk) refl i
     where
-      by : (o : Option ℕ) → mirrors chunk ≡ o → In w (cond (is_none o) (rows_writes layout (rows_in kept ts chunk) images) (blocks_writes (blocks_in layout chunk wants) images)) → IsWrong w.range
+      by : (o : Option ℕ) → mirrors chunk ≡ o → In w (cond (is_none o) (rows_writes layout (rows_in kept ts chunk) images)
+          (blocks_writes (blocks_in layout chunk wants) images)) → IsWrong w.range
       by None parity i =
           let n = stripe_length chunk / 65536 in
           let f = of_flat (row_writes images layout) w (rows_in kept ts chunk) i in
           let listed : rows_in kept ts chunk ≡ map (row_of kept ts chunk) (range_with_len 0 n) = ap (λ o. cond (is_none o) (map (row_of kept ts chunk) (range_with_len 0 n)) []) parity in
           let r = of_mapped (row_of kept ts chunk) f.0 (range_with_len 0 n) (subst (In f.0) listed f.1) in
           let lt = in_below n r.0 r.1 in
-          inl (chunk, among, (f.0, f.1, subst (λ row. LiesInWrong images layout C row w.range) r.2 (wrong_row number chunk there r.0 parity (omega (arith, lt)) w (subst (λ row. In w (row_writes images layout row)) (sym r.2) f.2))))
+          inl (
+            chunk,
+            among,
+            (
+              f.0,
+              f.1,
+              subst (λ row. LiesInWrong images layout C row w.range) r.2
+                  (wrong_row number chunk there r.0 parity (omega (arith, lt)) w (subst (λ row. In w (row_writes images layout row)) (sym r.2) f.2)),
+            ),
+          )
       by (Some n) copies i =
           let f = of_flat (block_writes images) w (blocks_in layout chunk wants) i in
           let of = of_chunk kept layout table own none number chunk there wants f.0 f.1 in

@@ -1,5 +1,6 @@
 -- Wherever the mending of a full stripe is cut short, its blocks can be had.
-use Rattle.std.proofs.Common.{◌≡◌, ◌⊎◌, ℕ, ◌+◌, ◌-◌, ◌*◌, ◌<◌, ◌≤◌, Bool, true, false, not, cond, ◌&&◌, ◌||◌, List, [], ◌∷◌, length, get_or, slice_range, slice_get, All, Option, Some, None, IsSome, is_some, IsNone, IsSomeAnd, refl, sym, ap, ◌∙◌, subst, inl, inr, arith}
+use Rattle.std.proofs.Common.{◌≡◌, ◌⊎◌, ℕ, ◌+◌, ◌-◌, ◌*◌, ◌<◌, ◌≤◌, Bool, true, false, not, cond, ◌&&◌, ◌||◌, List, [], ◌∷◌, length, get_or, slice_range}
+use Rattle.std.proofs.Common.{slice_get, All, Option, Some, None, IsSome, is_some, IsNone, IsSomeAnd, refl, sym, ap, ◌∙◌, subst, inl, inr, arith}
 use Rattle.std.proofs.lemmas.Bool.{cases_lt, false≢true}
 use Rattle.std.proofs.lemmas.List.{get_or_past, get_or-set_same}
 use Rattle.std.proofs.lemmas.Option.{same_Some}
@@ -25,12 +26,12 @@ use Rattle.btr_read.specs.declared.want.Want.{Want}
 use Rattle.btr_read.proofs.Order.{in_candidates}
 use Rattle.btr_read.proofs.Trials.{fails_where_none}
 use Rattle.btr_read.proofs.Values.{value_by_ranges}
-use Rattle.btr_mend.specs.Blocks.{accepted, block_writes, is_good}
-use Rattle.btr_mend.specs.Writes.{AreAmong, Images, IsStopped, Write, ranges_of, write_on}
-use Rattle.btr_mend.proofs.Syncs.{passing_filter}
-use Rattle.btr_row.specs.Rows.{Row, parities, parities_writes, parity_writes, range_in_element, rebuilt_writes}
-use Rattle.btr_row.proofs.Judges.{writes_one, written_at}
-use Rattle.btr_row.proofs.Pasted.{at_range, length-pasted, pasted-within, range_pasted}
+use Rattle.btr_scrub_copies.specs.Blocks.{accepted, block_writes, is_good}
+use Rattle.btr_scrub_copies.specs.Writes.{AreAmong, Images, IsStopped, Write, ranges_of, write_on}
+use Rattle.btr_scrub_copies.proofs.Syncs.{passing_filter}
+use Rattle.btr_scrub_row.specs.Rows.{Row, parities, parities_writes, parity_writes, range_in_element, rebuilt_writes}
+use Rattle.btr_scrub_row.proofs.Judges.{writes_one, written_at}
+use Rattle.btr_scrub_row.proofs.Pasted.{at_range, length-pasted, pasted-within, range_pasted}
 use Rattle.btr_scrub.specs.Devices.{HaveLengths}
 use Rattle.btr_scrub.specs.Glue.{In, IsInRow, LiesInRow}
 use Rattle.btr_scrub.specs.Keeping.{FillsPlace, FirstTurnKeepsBlocks, HasWayBeside, IsHad, IsRowAmong, SecondTurnKeepsBlocks, Withstands}
@@ -96,13 +97,15 @@ keeps_then rs qs a b c among one two = record {
 lengths_after : (layout : Layout) (rs : List Range) (a b : Images) → KeepsOutside rs a b → HaveLengths a layout → HaveLengths b layout
 lengths_after layout rs a b keeps have devid device e = keeps.lengths device.slot ∙ have devid device e
 
-short_after : (images now : Images) (ws : List Write) → ((slot : ℕ) → length (image_of now slot) ≡ length (image_of images slot)) → All (Short images) ws → All (Short now) ws
+short_after : (images now : Images) (ws : List Write) → ((slot : ℕ) → length (image_of now slot) ≡ length (image_of images slot))
+    → All (Short images) ws → All (Short now) ws
 short_after images now ws same all i d lt = let s = all i d lt in record { short = s.short; within = omega (arith, s.within, same (get_or ws i d).range.slot) }
 
 -- ---- a block that can be had
 
 -- a candidate that passes
-had_by : (images : Images) (t : Target) (c : Candidate) → In c (candidates t) → stands t c ≡ true → passes t.setting t.want (value_of images t c) ≡ true → IsHad images t
+had_by : (images : Images) (t : Target) (c : Candidate) → In c (candidates t) → stands t c ≡ true → passes t.setting t.want (value_of images t c)
+    ≡ true → IsHad images t
 had_by images t c i stand pass = by (passing images t) refl
   where
     by : (xs : List (List ℕ)) → passing images t ≡ xs → IsSome (slice_get (passing images t) 0)
@@ -132,7 +135,8 @@ byte_written images slot off bytes k fits below = elim (cases_lt slot (length im
     nothing : length (image_of images slot) ≡ 0 → ⊥
     nothing none = omega (arith, none, fits, below)
 
-same_address : (one other base base' rest rest' off from from' : ℕ) → one ≡ base + rest → other ≡ base' + rest' → base ≡ base' → from ≡ from' → from + rest ≤ off → from' + rest' ≤ off
+same_address : (one other base base' rest rest' off from from' : ℕ) → one ≡ base + rest → other ≡ base' + rest' → base ≡ base' → from ≡ from' → from
+    + rest ≤ off → from' + rest' ≤ off
     → one + (off - (from + rest)) ≡ other + (off - (from' + rest'))
 same_address one other base base' rest rest' off from from' a b same begin le le' = omega (arith, a, b, same, begin, le, le')
 
@@ -168,10 +172,12 @@ module _ (images : Images) (layout : Layout) (wants : List Want) (row : Row) (he
   among t i = of_filter (is_in_row row.chunk row.number) t ts (subst (In t) here.is_row.made i)
 
   rebuilt_short : All (Short images) (rebuilt_writes images layout row)
-  rebuilt_short = left_short images (rebuilt_writes images layout row) (parities_writes images layout row) (row_short layout row here.table of.is images here.lengths of.blocks)
+  rebuilt_short = left_short images (rebuilt_writes images layout row) (parities_writes images layout row)
+      (row_short layout row here.table of.is images here.lengths of.blocks)
 
   parities_short : All (Short images) (parities_writes images layout row)
-  parities_short = right_short images (rebuilt_writes images layout row) (parities_writes images layout row) (row_short layout row here.table of.is images here.lengths of.blocks)
+  parities_short = right_short images (rebuilt_writes images layout row) (parities_writes images layout row)
+      (row_short layout row here.table of.is images here.lengths of.blocks)
 
   abbrev after : Images
   after = fold write_on images (rebuilt_writes images layout row)
@@ -231,25 +237,29 @@ module _ (images : Images) (layout : Layout) (wants : List Want) (row : Row) (he
         (subst (λ o. IsSomeAnd o (λ range. covers slot off range ≡ true)) (sym own.block) c)
 
     -- what is written for it
-    writes_are : block_writes images t ≡ option_map_or (λ bytes. cond (not (is_good images t (Slice t.at.index))) (written_at place bytes ∷ []) []) (accepted images t) []
+    writes_are : block_writes images t ≡ option_map_or (λ bytes. cond (not (is_good images t (Slice t.at.index))) (written_at place bytes ∷ []) [])
+        (accepted images t) []
     writes_are = writes_one images t no_copies place own.block
 
     -- lies in its place
     written_there : (slot off : ℕ) → list_any (covers slot off) (ranges_of (block_writes images t)) ≡ true → covers slot off place ≡ true
-    written_there slot off h = by (accepted images t) (not (is_good images t (Slice t.at.index))) (subst (λ ws. list_any (covers slot off) (ranges_of ws) ≡ true) writes_are h)
+    written_there slot off h = by (accepted images t) (not (is_good images t (Slice t.at.index)))
+        (subst (λ ws. list_any (covers slot off) (ranges_of ws) ≡ true) writes_are h)
       where
         first : (b : Bool) → (b || false) ≡ true → b ≡ true
         first true e = refl
         first false e = e
 
-        by : (o : Option (List ℕ)) (b : Bool) → list_any (covers slot off) (ranges_of (option_map_or (λ bytes. cond b (written_at place bytes ∷ []) []) o [])) ≡ true → covers slot off place ≡ true
+        by : (o : Option (List ℕ)) (b : Bool) → list_any (covers slot off)
+            (ranges_of (option_map_or (λ bytes. cond b (written_at place bytes ∷ []) []) o [])) ≡ true → covers slot off place ≡ true
         by None b h = absurd (false≢true h)
         by (Some bytes) true h = first (covers slot off place) h
         by (Some bytes) false h = absurd (false≢true h)
 
     -- where it passes nothing is
     good_unwritten : is_good images t (Slice t.at.index) ≡ true → block_writes images t ≡ []
-    good_unwritten good = writes_are ∙ ap (λ b. option_map_or (λ bytes. cond (not b) (written_at place bytes ∷ []) []) (accepted images t) []) good ∙ by (accepted images t)
+    good_unwritten good = writes_are ∙ ap (λ b. option_map_or (λ bytes. cond (not b) (written_at place bytes ∷ []) []) (accepted images t) []) good
+        ∙ by (accepted images t)
       where
         by : (o : Option (List ℕ)) → option_map_or (λ bytes. cond (not true) (written_at place bytes ∷ []) []) o [] ≡ []
         by None = refl
@@ -266,7 +276,8 @@ module _ (images : Images) (layout : Layout) (wants : List Want) (row : Row) (he
       ∙ ap (λ n. row.chunk.start + (data_count row.chunk.profile (length row.chunk.stripes) * n + t.at.index) * 65536 + t.at.rest) b.number
 
   -- blocks that have a byte in common are the same
-  shared : (t u : Target) (i : In t row.blocks) (j : In u row.blocks) (slot off : ℕ) → covers slot off (place t i) ≡ true → covers slot off (place u j) ≡ true → t ≡ u
+  shared : (t u : Target) (i : In t row.blocks) (j : In u row.blocks) (slot off : ℕ) → covers slot off (place t i) ≡ true
+      → covers slot off (place u j) ≡ true → t ≡ u
   shared t u i j slot off c d =
       let a = covering slot off (place t i) c in
       let b = covering slot off (place u j) d in
@@ -277,10 +288,12 @@ module _ (images : Images) (layout : Layout) (wants : List Want) (row : Row) (he
       let begin : (own t i).off ≡ (own u j).off = ap (λ (r : Range). r.off) ranges in
       same_block layout wants 0 t u (off - ((own t i).off + t.at.rest)) (off - ((own u j).off + u.at.rest)) here.apart (among t i) (among u j)
       (omega (arith, a.1, a.2)) (omega (arith, b.1, b.2))
-      (same_address (addr_of t.want) (addr_of u.want) (base t.at.index) (base u.at.index) t.at.rest u.at.rest off (own t i).off (own u j).off (address t i) (address u j) (ap base index) begin a.1 b.1)
+      (same_address (addr_of t.want) (addr_of u.want) (base t.at.index) (base u.at.index) t.at.rest u.at.rest off (own t i).off (own u j).off
+      (address t i) (address u j) (ap base index) begin a.1 b.1)
 
   -- a byte of a block that is written is written for it alone
-  written_for : (t : Target) (i : In t row.blocks) (slot off : ℕ) → covers slot off (place t i) ≡ true → list_any (covers slot off) (ranges_of (rebuilt_writes images layout row)) ≡ true
+  written_for : (t : Target) (i : In t row.blocks) (slot off : ℕ) → covers slot off (place t i) ≡ true
+      → list_any (covers slot off) (ranges_of (rebuilt_writes images layout row)) ≡ true
       → list_any (covers slot off) (ranges_of (block_writes images t)) ≡ true
   written_for t i slot off c h =
       let any : list_any (λ (w : Write). covers slot off w.range) (rebuilt_writes images layout row) ≡ true = sym (any_map (covers slot off) (λ (w : Write). w.range) (rebuilt_writes images layout row)) ∙ h in
@@ -330,7 +343,8 @@ module _ (images : Images) (layout : Layout) (wants : List Want) (row : Row) (he
     covered_there k lt = covered (own t i).slot ((own t i).off + t.at.rest) (size_of t) ((own t i).off + t.at.rest + k) (omega arith) (omega (arith, lt))
 
     -- its own write brings the bytes
-    own_write : (now : Images) → SameLengths now → block_writes images t ≡ written_at (place t i) f.bytes ∷ [] → Holds (fold write_on now (block_writes images t))
+    own_write : (now : Images) → SameLengths now → block_writes images t ≡ written_at (place t i) f.bytes ∷ []
+        → Holds (fold write_on now (block_writes images t))
     own_write now same is k lt =
         let slot = (own t i).slot in
         let off = (own t i).off + t.at.rest in
@@ -357,16 +371,20 @@ module _ (images : Images) (layout : Layout) (wants : List Want) (row : Row) (he
         keeps : KeepsOutside (ranges_of (block_writes images u)) now (fold write_on now (block_writes images u))
         keeps = shorts_keep now (block_writes images u) (short_after images now (block_writes images u) same (short_of u j))
 
-        of_itself : t ≡ u → list_any (covers slot (off + k)) (ranges_of (block_writes images u)) ≡ true → ((block_writes images t ≡ []) × (f.bytes ≡ element images t (Slice t.at.index))) ⊎ (block_writes images t ≡ written_at (place t i) f.bytes ∷ [])
+        of_itself : t ≡ u → list_any (covers slot (off + k)) (ranges_of (block_writes images u)) ≡ true
+            → ((block_writes images t ≡ []) × (f.bytes ≡ element images t (Slice t.at.index))) ⊎ (block_writes images t ≡ written_at (place t i) f.bytes ∷ [])
             → byte_at (fold write_on now (block_writes images u)) slot (off + k) ≡ get_or f.bytes k 0
-        of_itself is h (inl none) = absurd (false≢true (subst (λ ws. list_any (covers slot (off + k)) (ranges_of ws) ≡ true) (ap (block_writes images) (sym is) ∙ none.0) h))
+        of_itself is h (inl none) = absurd (false≢true (subst (λ ws. list_any (covers slot (off + k)) (ranges_of ws) ≡ true)
+            (ap (block_writes images) (sym is) ∙ none.0) h))
         of_itself is h (inr one) = ap (λ u. byte_at (fold write_on now (block_writes images u)) slot (off + k)) (sym is) ∙ own_write now same one k lt
 
-        by : (b : Bool) → list_any (covers slot (off + k)) (ranges_of (block_writes images u)) ≡ b → byte_at (fold write_on now (block_writes images u)) slot (off + k) ≡ get_or f.bytes k 0
+        by : (b : Bool) → list_any (covers slot (off + k)) (ranges_of (block_writes images u)) ≡ b
+            → byte_at (fold write_on now (block_writes images u)) slot (off + k) ≡ get_or f.bytes k 0
         by false e = keeps.bytes slot (off + k) e ∙ holds k lt
         by true e = of_itself (shared t u i j slot (off + k) (covered_there k lt) (written_there u j slot (off + k) e)) e f.from
 
-    all_more : (now : Images) (us : List Target) → ((u : Target) → In u us → In u row.blocks) → SameLengths now → Holds now → Holds (fold write_on now (flat_map (block_writes images) us))
+    all_more : (now : Images) (us : List Target) → ((u : Target) → In u us → In u row.blocks) → SameLengths now → Holds now
+        → Holds (fold write_on now (flat_map (block_writes images) us))
     all_more now [] each same holds = holds
     all_more now (u ∷ us) each same holds =
         let j = each u (inl refl) in
@@ -375,7 +393,8 @@ module _ (images : Images) (layout : Layout) (wants : List Want) (row : Row) (he
         (all_more next us (λ v k. each v (inr k)) (lengths_then now (block_writes images u) same (short_of u j)) (one_more now u j same holds))
 
     -- so they stand there behind all
-    all_written : (now : Images) (us : List Target) → ((u : Target) → In u us → In u row.blocks) → In t us → SameLengths now → block_writes images t ≡ written_at (place t i) f.bytes ∷ [] → Holds (fold write_on now (flat_map (block_writes images) us))
+    all_written : (now : Images) (us : List Target) → ((u : Target) → In u us → In u row.blocks) → In t us → SameLengths now → block_writes images t
+        ≡ written_at (place t i) f.bytes ∷ [] → Holds (fold write_on now (flat_map (block_writes images) us))
     all_written now [] each j same is = absurd j
     all_written now (u ∷ us) each (inl e) same is =
         let next = fold write_on now (block_writes images u) in
@@ -391,12 +410,14 @@ module _ (images : Images) (layout : Layout) (wants : List Want) (row : Row) (he
     stands_first is k lt =
         let slot = (own t i).slot in
         let off = (own t i).off + t.at.rest in
-        sym (ap (λ xs. get_or xs k 0) (is ∙ element_is images t (Slice t.at.index) (place t i) (own t i).block) ∙ at_range (image_of images slot) off (size_of t) k 0 lt)
+        sym (ap (λ xs. get_or xs k 0) (is ∙ element_is images t (Slice t.at.index) (place t i) (own t i).block)
+        ∙ at_range (image_of images slot) off (size_of t) k 0 lt)
 
     holds : Holds after
     holds = by f.from
       where
-        by : ((block_writes images t ≡ []) × (f.bytes ≡ element images t (Slice t.at.index))) ⊎ (block_writes images t ≡ written_at (place t i) f.bytes ∷ []) → Holds after
+        by : ((block_writes images t ≡ []) × (f.bytes ≡ element images t (Slice t.at.index)))
+            ⊎ (block_writes images t ≡ written_at (place t i) f.bytes ∷ []) → Holds after
         by (inl none) = all_more images row.blocks (λ u j. j) (λ slot. refl) (stands_first none.1)
         by (inr one) = all_written images row.blocks (λ u j. j) i (λ slot. refl) one
 
@@ -409,31 +430,39 @@ module _ (images : Images) (layout : Layout) (wants : List Want) (row : Row) (he
         element_is after t (Slice t.at.index) (place t i) (own t i).block
         ∙ ap (λ n. slice_range image off (off + n)) (sym f.long)
         ∙ range_same image (pasted image off f.bytes) off (off + length f.bytes) fits (length-pasted image off f.bytes fits)
-        (λ k from to. ap (λ j. get_or image j 0) (omega (arith, from)) ∙ holds (k - off) (omega (arith, from, to, f.long)) ∙ sym (pasted-within image off f.bytes fits k 0 from to))
+        (λ k from to. ap (λ j. get_or image j 0) (omega (arith, from)) ∙ holds (k - off) (omega (arith, from, to, f.long))
+        ∙ sym (pasted-within image off f.bytes fits k 0 from to))
         ∙ range_pasted image off f.bytes fits
 
   -- ---- the first turn
 
   -- what stands at the place of a block that passes there stays
-  good_stays : (stored : Images) (t : Target) (i : In t row.blocks) → KeepsOutside (ranges_of (rebuilt_writes images layout row)) images stored → is_good images t (Slice t.at.index) ≡ true → is_good stored t (Slice t.at.index) ≡ true
+  good_stays : (stored : Images) (t : Target) (i : In t row.blocks) → KeepsOutside (ranges_of (rebuilt_writes images layout row)) images stored
+      → is_good images t (Slice t.at.index) ≡ true → is_good stored t (Slice t.at.index) ≡ true
   good_stays stored t i keeps good =
-      ap (passes t.setting t.want) (same_element images stored layout (ranges_of (rebuilt_writes images layout row)) t (Slice t.at.index) here.lengths (block t i).is keeps free) ∙ good
+      ap (passes t.setting t.want) (same_element images stored layout (ranges_of (rebuilt_writes images layout row)) t (Slice t.at.index) here.lengths
+      (block t i).is keeps free) ∙ good
     where
       none_there : (slot off : ℕ) → covers slot off (place t i) ≡ true → list_any (covers slot off) (ranges_of (rebuilt_writes images layout row)) ≡ true → ⊥
-      none_there slot off c h = false≢true (subst (λ ws. list_any (covers slot off) (ranges_of ws) ≡ true) (good_unwritten t i good) (written_for t i slot off c h))
+      none_there slot off c h = false≢true (subst (λ ws. list_any (covers slot off) (ranges_of ws) ≡ true) (good_unwritten t i good)
+          (written_for t i slot off c h))
 
-      free : (slot off : ℕ) → IsSomeAnd (range_of t (Slice t.at.index)) (λ range. covers slot off range ≡ true) → list_any (covers slot off) (ranges_of (rebuilt_writes images layout row)) ≡ false
+      free : (slot off : ℕ) → IsSomeAnd (range_of t (Slice t.at.index)) (λ range. covers slot off range ≡ true)
+          → list_any (covers slot off) (ranges_of (rebuilt_writes images layout row)) ≡ false
       free slot off c = by (list_any (covers slot off) (ranges_of (rebuilt_writes images layout row))) refl
         where
-          by : (b : Bool) → list_any (covers slot off) (ranges_of (rebuilt_writes images layout row)) ≡ b → list_any (covers slot off) (ranges_of (rebuilt_writes images layout row)) ≡ false
+          by : (b : Bool) → list_any (covers slot off) (ranges_of (rebuilt_writes images layout row)) ≡ b
+              → list_any (covers slot off) (ranges_of (rebuilt_writes images layout row)) ≡ false
           by false e = e
           by true e = absurd (none_there slot off (subst (λ o. IsSomeAnd o (λ range. covers slot off range ≡ true)) (own t i).block c) e)
 
   -- a way beside the writes gives the same
-  way_stays : (stored : Images) (t : Target) (i : In t row.blocks) (h : HasWayBeside images layout row t) → KeepsOutside (ranges_of (rebuilt_writes images layout row)) images stored → value_of stored t h.way ≡ value_of images t h.way
+  way_stays : (stored : Images) (t : Target) (i : In t row.blocks) (h : HasWayBeside images layout row t)
+      → KeepsOutside (ranges_of (rebuilt_writes images layout row)) images stored → value_of stored t h.way ≡ value_of images t h.way
   way_stays stored t i h keeps = value_by_ranges stored images t h.way bytes
     where
-      bytes : (range : Range) → Contains (read.ranges_of t h.way) range → bytes_of stored range.slot range.off range.len ≡ bytes_of images range.slot range.off range.len
+      bytes : (range : Range) → Contains (read.ranges_of t h.way) range → bytes_of stored range.slot range.off range.len
+          ≡ bytes_of images range.slot range.off range.len
       bytes range c =
           let from = of_filter_map (range_of t) range (parts_read (slice_count t) t.at.index h.way) (in_of range (read.ranges_of t h.way) c) in
           sym (element_is stored t from.0 range from.2)
@@ -441,7 +470,8 @@ module _ (images : Images) (layout : Layout) (wants : List Want) (row : Row) (he
           (λ slot off d. h.beside range slot off c (subst (λ o. IsSomeAnd o (λ range. covers slot off range ≡ true)) from.2 d))
           ∙ element_is images t from.0 range from.2
 
-  first_keeps : (left stored : Images) (waits : List Range) (t : Target) → IsStopped (rebuilt_writes images layout row) images left → AreAmong waits (ranges_of (rebuilt_writes images layout row)) → KeepsOutside waits left stored
+  first_keeps : (left stored : Images) (waits : List Range) (t : Target) → IsStopped (rebuilt_writes images layout row) images left
+      → AreAmong waits (ranges_of (rebuilt_writes images layout row)) → KeepsOutside waits left stored
       → In t row.blocks → Withstands images layout row t → IsHad stored t
   first_keeps left stored waits t stopped among keeps i w =
       let all = keeps_then (ranges_of (rebuilt_writes images layout row)) waits images left stored among (stopped_keeps images left (rebuilt_writes images layout row) rebuilt_short stopped) keeps in
@@ -454,7 +484,8 @@ module _ (images : Images) (layout : Layout) (wants : List Want) (row : Row) (he
   -- ---- the second turn
 
   -- no parity is written over a block
-  apart_from_parities : (t : Target) (i : In t row.blocks) (slot off : ℕ) → covers slot off (place t i) ≡ true → list_any (covers slot off) (ranges_of (parities_writes images layout row)) ≡ true → ⊥
+  apart_from_parities : (t : Target) (i : In t row.blocks) (slot off : ℕ) → covers slot off (place t i) ≡ true
+      → list_any (covers slot off) (ranges_of (parities_writes images layout row)) ≡ true → ⊥
   apart_from_parities t i slot off c h =
       let any : list_any (λ (w : Write). covers slot off w.range) (parities_writes images layout row) ≡ true = sym (any_map (covers slot off) (λ (w : Write). w.range) (parities_writes images layout row)) ∙ h in
       let f = any_flat (λ (w : Write). covers slot off w.range) (parity_writes images layout row) (parities row.chunk.profile) any in
@@ -466,25 +497,32 @@ module _ (images : Images) (layout : Layout) (wants : List Want) (row : Row) (he
       by q e (inl p) = false≢true (sym (e ∙ ap is_slice p))
       by q e (inr p) = false≢true (sym (e ∙ ap is_slice p))
 
-  second_keeps : (left stored : Images) (waits : List Range) (t : Target) → IsStopped (parities_writes images layout row) after left → AreAmong waits (ranges_of (parities_writes images layout row)) → KeepsOutside waits left stored
+  second_keeps : (left stored : Images) (waits : List Range) (t : Target) → IsStopped (parities_writes images layout row) after left
+      → AreAmong waits (ranges_of (parities_writes images layout row)) → KeepsOutside waits left stored
       → In t row.blocks → IsHad images t → FillsPlace images t → is_good stored t (Slice t.at.index) ≡ true
   second_keeps left stored waits t stopped among keeps i had fills =
       let f = final t i had fills in
       let short = short_after images after (parities_writes images layout row) rebuilt_keeps.lengths parities_short in
       let all = keeps_then (ranges_of (parities_writes images layout row)) waits after left stored among (stopped_keeps after left (parities_writes images layout row) short stopped) keeps in
       ap (passes t.setting t.want)
-      (same_element after stored layout (ranges_of (parities_writes images layout row)) t (Slice t.at.index) (lengths_after layout (ranges_of (rebuilt_writes images layout row)) images after rebuilt_keeps here.lengths) (block t i).is all free ∙ element_after t i f)
+      (same_element after stored layout (ranges_of (parities_writes images layout row)) t (Slice t.at.index)
+      (lengths_after layout (ranges_of (rebuilt_writes images layout row)) images after rebuilt_keeps here.lengths) (block t i).is all free
+      ∙ element_after t i f)
       ∙ f.pass
     where
-      free : (slot off : ℕ) → IsSomeAnd (range_of t (Slice t.at.index)) (λ range. covers slot off range ≡ true) → list_any (covers slot off) (ranges_of (parities_writes images layout row)) ≡ false
+      free : (slot off : ℕ) → IsSomeAnd (range_of t (Slice t.at.index)) (λ range. covers slot off range ≡ true)
+          → list_any (covers slot off) (ranges_of (parities_writes images layout row)) ≡ false
       free slot off c = by (list_any (covers slot off) (ranges_of (parities_writes images layout row))) refl
         where
-          by : (b : Bool) → list_any (covers slot off) (ranges_of (parities_writes images layout row)) ≡ b → list_any (covers slot off) (ranges_of (parities_writes images layout row)) ≡ false
+          by : (b : Bool) → list_any (covers slot off) (ranges_of (parities_writes images layout row)) ≡ b
+              → list_any (covers slot off) (ranges_of (parities_writes images layout row)) ≡ false
           by false e = e
           by true e = absurd (apart_from_parities t i slot off (subst (λ o. IsSomeAnd o (λ range. covers slot off range ≡ true)) (place_is t i) c) e)
 
 pub first_turn_keeps_blocks : FirstTurnKeepsBlocks
-first_turn_keeps_blocks images left stored layout wants row waits t here stopped among keeps i w = first_keeps images layout wants row here left stored waits t stopped among keeps i w
+first_turn_keeps_blocks images left stored layout wants row waits t here stopped among keeps i w = first_keeps images layout wants row here left
+    stored waits t stopped among keeps i w
 
 pub second_turn_keeps_blocks : SecondTurnKeepsBlocks
-second_turn_keeps_blocks images left stored layout wants row waits t here stopped among keeps i had fills = second_keeps images layout wants row here left stored waits t stopped among keeps i had fills
+second_turn_keeps_blocks images left stored layout wants row waits t here stopped among keeps i had fills = second_keeps images layout wants row here
+    left stored waits t stopped among keeps i had fills

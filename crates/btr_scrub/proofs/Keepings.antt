@@ -1,5 +1,6 @@
 -- The columns whose parities are kept.
-use Rattle.std.proofs.Common.{◌≡◌, ℕ, zero, suc, ◌+◌, ◌*◌, ◌/◌, ◌<◌, ◌≤◌, Bool, true, false, ◌||◌, List, [], ◌∷◌, length, take, get_or, set, Some, slice_get, refl, sym, ap, ◌∙◌, inl, inr, arith}
+use Rattle.std.proofs.Common.{◌≡◌, ℕ, zero, suc, ◌+◌, ◌*◌, ◌/◌, ◌<◌, ◌≤◌, Bool, true, false, ◌||◌, List, [], ◌∷◌, length, take, get_or, set, Some, slice_get}
+use Rattle.std.proofs.Common.{refl, sym, ap, ◌∙◌, inl, inr, arith}
 use Rattle.std.proofs.Math.Nat.{div-mul-le_self, mul-le-mul_right}
 use Rattle.std.proofs.lemmas.Bool.{cases_lt, or_from, or_left, or_right}
 use Rattle.std.proofs.lemmas.List.{get_or-set_other, get_or-set_same}
@@ -27,7 +28,9 @@ row_inside row slice d len lt fits =
     omega (arith, rows, whole, lt)
 
 -- one more column
-pub set_done : (old now : List Bool) (n k : ℕ) (b : Bool) (f : ℕ → Bool) → n < length now → ((k : ℕ) → k < n → get_or now k false ≡ (get_or old k false || f k)) → b ≡ (get_or old n false || f n) → k < n + 1 → get_or (set now n b) k false ≡ (get_or old k false || f k)
+pub set_done : (old now : List Bool) (n k : ℕ) (b : Bool) (f : ℕ → Bool) → n < length now
+    → ((k : ℕ) → k < n → get_or now k false ≡ (get_or old k false || f k)) → b ≡ (get_or old n false || f n) → k < n + 1
+    → get_or (set now n b) k false ≡ (get_or old k false || f k)
 set_done old now n k b f within before here lt = elim (cases_lt k n) [
   | inl below ↦ get_or-set_other now n k b false (λ e. absurd (omega (arith, e, below))) ∙ before k below
   | inr there ↦

@@ -1,5 +1,6 @@
 -- Lists of checked blocks.
-use Rattle.std.proofs.Common.{◌≡◌, ℕ, zero, suc, ◌+◌, ◌-◌, ◌*◌, ◌^◌, ◌<◌, ◌≤◌, List, [], ◌∷◌, ◌++◌, length, take, drop, Option, Some, None, Result, Ok, Err, OnOk, IsSomeAnd, refl, sym, ap, ◌∙◌, subst, arith, append_assoc, append-nil, length-append}
+use Rattle.std.proofs.Common.{◌≡◌, ℕ, zero, suc, ◌+◌, ◌-◌, ◌*◌, ◌^◌, ◌<◌, ◌≤◌, List, [], ◌∷◌, ◌++◌, length, take, drop, Option, Some, None, Result, Ok, Err}
+use Rattle.std.proofs.Common.{OnOk, IsSomeAnd, refl, sym, ap, ◌∙◌, subst, arith, append_assoc, append-nil, length-append}
 use Rattle.std.proofs.Math.Nat.{suc-mul}
 use Rattle.std.proofs.lemmas.List.{drop-append-le, length-drop, length-take-le, nil_from_length, take-append-drop, take-append-le, take-take}
 use Rattle.btr_base.specs.Sum.{sum_from, sum_size, stored_sum}
@@ -11,7 +12,8 @@ use Rattle.btr_scrub.specs.declared.run.Run.{Run}
 use Rattle.btr_scrub.specs.declared.run.RunKind.{RunKind}
 use Rattle.btr_scrub.specs.declared.run.RunKind.TheVariants.{TreeBlock, Sectors}
 use Rattle.btr_scrub.specs.declared.run.TreeMark.{TreeMark}
-use Rattle.btr_scrub.specs.Listed.{AddsTo, AreRuns, Begins, FewBytes, IsList, IsRun, Kept, Lengthens, all_sectors, all_trees, kept_wants, run_wants, sectors_from, sectors_of, tree_from, trees_of, wants_of}
+use Rattle.btr_scrub.specs.Listed.{AddsTo, AreRuns, Begins, FewBytes, IsList, IsRun, Kept, Lengthens, all_sectors, all_trees, kept_wants, run_wants}
+use Rattle.btr_scrub.specs.Listed.{sectors_from, sectors_of, tree_from, trees_of, wants_of}
 
 -- the counts of runs one behind another
 pub sectors_both : (runs more : List Run) → all_sectors (runs ++ more) ≡ all_sectors runs + all_sectors more
@@ -57,7 +59,8 @@ module _ (kind : SumKind) where
       ∙ ap (λ ws. Sector addr (stored_sum kind xs) ∷ ws) (sectors_longer n (addr + 4096) (drop size xs) s rest)
 
   -- one sector more
-  pub sectors_more : (n addr : ℕ) (xs s : List ℕ) → length xs ≡ n * sum_size kind → sectors_from kind addr (suc n) (xs ++ s) ≡ sectors_from kind addr n xs ++ Sector (addr + n * 4096) (stored_sum kind s) ∷ []
+  pub sectors_more : (n addr : ℕ) (xs s : List ℕ) → length xs ≡ n * sum_size kind → sectors_from kind addr (suc n) (xs ++ s)
+      ≡ sectors_from kind addr n xs ++ Sector (addr + n * 4096) (stored_sum kind s) ∷ []
   sectors_more zero addr xs s h =
       let none : length xs ≡ 0 = h ∙ omega arith in
       let here : addr ≡ addr + 0 * 4096 = omega arith in
@@ -74,12 +77,14 @@ module _ (kind : SumKind) where
       ∙ ap (λ ws. Sector addr (stored_sum kind xs) ∷ ws) (sectors_more n (addr + 4096) (drop size xs) s rest)
       ∙ ap (λ a. Sector addr (stored_sum kind xs) ∷ (sectors_from kind (addr + 4096) n (drop size xs) ++ Sector a (stored_sum kind s) ∷ [])) behind
 
-  run_longer : (addr : ℕ) (k : RunKind) (xs s : List ℕ) (ms ts : List TreeMark) → sectors_of k * sum_size kind ≤ length xs → trees_of k ≤ length ms → run_wants kind addr k (xs ++ s) (ms ++ ts) ≡ run_wants kind addr k xs ms
+  run_longer : (addr : ℕ) (k : RunKind) (xs s : List ℕ) (ms ts : List TreeMark) → sectors_of k * sum_size kind ≤ length xs → trees_of k ≤ length ms
+      → run_wants kind addr k (xs ++ s) (ms ++ ts) ≡ run_wants kind addr k xs ms
   run_longer addr TreeBlock xs s ms ts h g = tree_longer addr ms ts g
   run_longer addr (Sectors n) xs s ms ts h g = sectors_longer n addr xs s h
 
   -- the blocks of runs one behind another
-  pub wants_both : (runs more : List Run) (xs s : List ℕ) (ms ts : List TreeMark) → length xs ≡ all_sectors runs * sum_size kind → length ms ≡ all_trees runs → wants_of kind (runs ++ more) (xs ++ s) (ms ++ ts) ≡ wants_of kind runs xs ms ++ wants_of kind more s ts
+  pub wants_both : (runs more : List Run) (xs s : List ℕ) (ms ts : List TreeMark) → length xs ≡ all_sectors runs * sum_size kind → length ms
+      ≡ all_trees runs → wants_of kind (runs ++ more) (xs ++ s) (ms ++ ts) ≡ wants_of kind runs xs ms ++ wants_of kind more s ts
   wants_both [] more xs s ms ts h g =
       let none : length xs ≡ 0 = h ∙ omega arith in
       ap (λ ys. wants_of kind more (ys ++ s) (ms ++ ts)) (nil_from_length xs none) ∙ ap (λ ns. wants_of kind more s (ns ++ ts)) (nil_from_length ms g)
@@ -104,9 +109,11 @@ abbrev pub made : SumKind → List Run → List ℕ → List TreeMark → Kept
 made kind runs sums marks = record { kind = kind; runs = runs; sums = sums; marks = marks }
 
 -- lists with the same parts are the same
-pub same_kept : (new : Kept) (kind : SumKind) (runs : List Run) (sums : List ℕ) (marks : List TreeMark) → new.kind ≡ kind → new.runs ≡ runs → new.sums ≡ sums → new.marks ≡ marks → new ≡ made kind runs sums marks
+pub same_kept : (new : Kept) (kind : SumKind) (runs : List Run) (sums : List ℕ) (marks : List TreeMark) → new.kind ≡ kind → new.runs ≡ runs → new.sums
+    ≡ sums → new.marks ≡ marks → new ≡ made kind runs sums marks
 same_kept new kind runs sums marks a b c d =
-    ap (λ k. made k new.runs new.sums new.marks) a ∙ ap (λ r. made kind r new.sums new.marks) b ∙ ap (λ s. made kind runs s new.marks) c ∙ ap (λ m. made kind runs sums m) d
+    ap (λ k. made k new.runs new.sums new.marks) a ∙ ap (λ r. made kind r new.sums new.marks) b ∙ ap (λ s. made kind runs s new.marks) c
+    ∙ ap (λ m. made kind runs sums m) d
 
 -- runs one behind another
 pub runs_both : (runs more : List Run) → AreRuns runs → AreRuns more → AreRuns (runs ++ more)
@@ -144,7 +151,8 @@ module _ (old : Kept) (is : IsList old) where
           marks_fit = omega (arith, trees, marks, is.marks_fit);
         };
         kind = refl;
-        wants = ap (λ xs. wants_of old.kind (old.runs ++ run ∷ []) xs (old.marks ++ mark ∷ [])) (sym (append-nil old.sums)) ∙ wants_both old.kind old.runs (run ∷ []) old.sums [] old.marks (mark ∷ []) is.sums_fit is.marks_fit;
+        wants = ap (λ xs. wants_of old.kind (old.runs ++ run ∷ []) xs (old.marks ++ mark ∷ [])) (sym (append-nil old.sums))
+            ∙ wants_both old.kind old.runs (run ∷ []) old.sums [] old.marks (mark ∷ []) is.sums_fit is.marks_fit;
       })
 
   -- a sector behind the others, which begins a run
@@ -173,7 +181,9 @@ module _ (old : Kept) (is : IsList old) where
       })
 
   -- a sector behind the others, by which the last run is longer
-  pub sector_grown : (new : Kept) (before : List Run) (run longer : Run) (addr : ℕ) (bytes : List ℕ) → addr < 2 ^ 64 → sum_size old.kind ≤ length bytes → Lengthens run addr longer → old.runs ≡ before ++ run ∷ [] → new.kind ≡ old.kind → new.runs ≡ before ++ longer ∷ [] → new.sums ≡ old.sums ++ take (sum_size old.kind) bytes → new.marks ≡ old.marks → AddsTo old new (Sector addr (stored_sum old.kind bytes))
+  pub sector_grown : (new : Kept) (before : List Run) (run longer : Run) (addr : ℕ) (bytes : List ℕ) → addr < 2 ^ 64
+      → sum_size old.kind ≤ length bytes → Lengthens run addr longer → old.runs ≡ before ++ run ∷ [] → new.kind ≡ old.kind → new.runs ≡ before
+      ++ longer ∷ [] → new.sums ≡ old.sums ++ take (sum_size old.kind) bytes → new.marks ≡ old.marks → AddsTo old new (Sector addr (stored_sum old.kind bytes))
   sector_grown new before run longer addr bytes small many l b k r s m =
       let size = sum_size old.kind in
       let sum = take size bytes in
@@ -225,7 +235,8 @@ module _ (old : Kept) (is : IsList old) where
         };
         kind = refl;
         wants = new_is
-            ∙ sym (append_assoc (wants_of old.kind before xs old.marks) (sectors_from old.kind run.addr n ys) (Sector (run.addr + n * 4096) (stored_sum old.kind sum) ∷ []))
+            ∙ sym (append_assoc (wants_of old.kind before xs old.marks) (sectors_from old.kind run.addr n ys)
+            (Sector (run.addr + n * 4096) (stored_sum old.kind sum) ∷ []))
             ∙ ap (λ q. q ++ Sector (run.addr + n * 4096) (stored_sum old.kind sum) ∷ []) (sym old_is)
             ∙ ap (λ q. kept_wants old ++ Sector q (stored_sum old.kind sum) ∷ []) (sym l.next)
             ∙ ap (λ q. kept_wants old ++ Sector addr (sum_from old.kind q) ∷ []) (take-take size size bytes (omega arith));
@@ -234,23 +245,31 @@ module _ (old : Kept) (is : IsList old) where
 -- the calls that put blocks behind the others
 module _ {E : Type 0} (result : Result (Unit {0}) E) (old : Kept) (is : IsList old) where
   pub tree_pushed : (mid inner : Kept) (marks : List TreeMark) (addr generation level : ℕ) → Begins old mid (record { addr = addr; kind = TreeBlock }) → inner ≡ mid → OnOk result (marks ≡ inner.marks ++ record { generation = generation; level = level } ∷ []) → OnOk result (AddsTo old (made inner.kind inner.runs inner.sums marks) (Tree addr generation level))
-  tree_pushed mid inner marks addr generation level b same h = on_ok result (λ m. tree_added old is (made inner.kind inner.runs inner.sums marks) addr generation level
+  tree_pushed mid inner marks addr generation level b same h = on_ok result
+      (λ m. tree_added old is (made inner.kind inner.runs inner.sums marks) addr generation level
       (ap (λ (k : Kept). k.kind) same ∙ b.kind) (ap (λ (k : Kept). k.runs) same ∙ b.runs) (ap (λ (k : Kept). k.sums) same ∙ b.sums) (m ∙ ap (λ q. q ++ record { generation = generation; level = level } ∷ []) (ap (λ (k : Kept). k.marks) same ∙ b.marks))) h
 
   pub sector_begun : (mid inner : Kept) (sums bytes : List ℕ) (addr : ℕ) → addr < 2 ^ 64 → length bytes ≡ 32 → Begins old mid (record { addr = addr; kind = Sectors 1 }) → inner ≡ mid → OnOk result (sums ≡ inner.sums ++ take (sum_size inner.kind) bytes) → OnOk result (AddsTo old (made inner.kind inner.runs sums inner.marks) (Sector addr (stored_sum old.kind bytes)))
   sector_begun mid inner sums bytes addr small long b same h = on_ok result (λ s.
       let kind : inner.kind ≡ old.kind = ap (λ (k : Kept). k.kind) same ∙ b.kind in
       let few = size_few old.kind in
-      sector_added old is (made inner.kind inner.runs sums inner.marks) addr bytes small (omega (arith, few, long)) kind (ap (λ (k : Kept). k.runs) same ∙ b.runs)
-      (s ∙ ap (λ q. q ++ take (sum_size inner.kind) bytes) (ap (λ (k : Kept). k.sums) same ∙ b.sums) ∙ ap (λ q. old.sums ++ take (sum_size q) bytes) kind) (ap (λ (k : Kept). k.marks) same ∙ b.marks)) h
+      sector_added old is (made inner.kind inner.runs sums inner.marks) addr bytes small (omega (arith, few, long)) kind
+      (ap (λ (k : Kept). k.runs) same ∙ b.runs)
+      (s ∙ ap (λ q. q ++ take (sum_size inner.kind) bytes) (ap (λ (k : Kept). k.sums) same ∙ b.sums)
+      ∙ ap (λ q. old.sums ++ take (sum_size q) bytes) kind) (ap (λ (k : Kept). k.marks) same ∙ b.marks)) h
 
-  pub sector_lengthened : (kind : SumKind) (runs : List Run) (last : Option Run) (sums : List ℕ) (marks : List TreeMark) (longer : Run) (new bytes : List ℕ) (addr : ℕ) → addr < 2 ^ 64 → length bytes ≡ 32 → made kind (runs ++ option_to_list last) sums marks ≡ old → IsSomeAnd last (λ run. Lengthens run addr longer) → OnOk result (new ≡ sums ++ take (sum_size kind) bytes) → OnOk result (AddsTo old (made kind (runs ++ longer ∷ []) new marks) (Sector addr (stored_sum old.kind bytes)))
+  pub sector_lengthened : (kind : SumKind) (runs : List Run) (last : Option Run) (sums : List ℕ) (marks : List TreeMark) (longer : Run)
+      (new bytes : List ℕ) (addr : ℕ) → addr < 2 ^ 64 → length bytes ≡ 32 → made kind (runs ++ option_to_list last) sums marks ≡ old
+      → IsSomeAnd last (λ run. Lengthens run addr longer) → OnOk result (new ≡ sums ++ take (sum_size kind) bytes)
+      → OnOk result (AddsTo old (made kind (runs ++ longer ∷ []) new marks) (Sector addr (stored_sum old.kind bytes)))
   sector_lengthened kind runs None sums marks longer new bytes addr small long same l h = absurd l
   sector_lengthened kind runs (Some run) sums marks longer new bytes addr small long same l h = on_ok result (λ s.
       let few = size_few old.kind in
       let k : kind ≡ old.kind = ap (λ (q : Kept). q.kind) same in
-      sector_grown old is (made kind (runs ++ longer ∷ []) new marks) runs run longer addr bytes small (omega (arith, few, long)) l (sym (ap (λ (q : Kept). q.runs) same)) k refl
-      (s ∙ ap (λ q. q ++ take (sum_size kind) bytes) (ap (λ (q : Kept). q.sums) same) ∙ ap (λ q. old.sums ++ take (sum_size q) bytes) k) (ap (λ (q : Kept). q.marks) same)) h
+      sector_grown old is (made kind (runs ++ longer ∷ []) new marks) runs run longer addr bytes small (omega (arith, few, long)) l
+      (sym (ap (λ (q : Kept). q.runs) same)) k refl
+      (s ∙ ap (λ q. q ++ take (sum_size kind) bytes) (ap (λ (q : Kept). q.sums) same) ∙ ap (λ q. old.sums ++ take (sum_size q) bytes) k)
+      (ap (λ (q : Kept). q.marks) same)) h
 
 -- each run has a sector, or is a tree block
 runs_few : (runs : List Run) → AreRuns runs → length runs ≤ all_sectors runs + all_trees runs

@@ -1,5 +1,6 @@
 -- One full stripe more of a chunk with parity: those between have no checked block.
-use Rattle.std.proofs.Common.{◌≡◌, ◌⊎◌, ℕ, ◌+◌, ◌-◌, ◌*◌, ◌<◌, ◌≤◌, Bool, true, false, ◌&&◌, eqb, List, [], ◌∷◌, ◌++◌, map, length, All, slice_get, Option, Some, None, Result, Ok, refl, sym, ap, ◌∙◌, subst, inl, inr, arith, append-nil}
+use Rattle.std.proofs.Common.{◌≡◌, ◌⊎◌, ℕ, ◌+◌, ◌-◌, ◌*◌, ◌<◌, ◌≤◌, Bool, true, false, ◌&&◌, eqb, List, [], ◌∷◌, ◌++◌, map, length, All, slice_get, Option}
+use Rattle.std.proofs.Common.{Some, None, Result, Ok, refl, sym, ap, ◌∙◌, subst, inl, inr, arith, append-nil}
 use Rattle.std.proofs.lemmas.Bool.{eq-eqb}
 use Rattle.std.proofs.lemmas.Grind.{flat_map-append}
 use Rattle.std.proofs.lemmas.List.{map-append}
@@ -13,10 +14,10 @@ use Rattle.btr_read.specs.Fate.{Fault, sought}
 use Rattle.btr_read.specs.Layout.{HaveOwnSlots, Layout}
 use Rattle.btr_read.specs.declared.want.Want.{Want}
 use Rattle.btr_read.proofs.Ones.{in_below}
-use Rattle.btr_mend.specs.Blocks.{block_writes}
-use Rattle.btr_mend.specs.Writes.{Images, Write, write_on, writes_if}
-use Rattle.btr_row.specs.Mending.{IsRowOf, IsOn, is_at, mended_row}
-use Rattle.btr_row.specs.Rows.{Row, parities, parity_writes, row_writes}
+use Rattle.btr_scrub_copies.specs.Blocks.{block_writes}
+use Rattle.btr_scrub_copies.specs.Writes.{Images, Write, write_on, writes_if}
+use Rattle.btr_scrub_row.specs.Mending.{IsRowOf, IsOn, is_at, mended_row}
+use Rattle.btr_scrub_row.specs.Rows.{Row, parities, parity_writes, row_writes}
 use Rattle.btr_scrub.specs.Devices.{HaveLengths}
 use Rattle.btr_scrub.specs.Glue.{In}
 use Rattle.btr_scrub.specs.Order.{AreApart, IsSought, targets}
@@ -52,45 +53,57 @@ parities_none images layout row (q ∷ qs) e =
 
 pub empty_writes : (images : Images) (layout : Layout) (row : Row) → row.blocks ≡ [] → row_writes images layout row ≡ []
 empty_writes images layout row e =
-    ap (λ bs. flat_map (block_writes images) bs ++ flat_map (parity_writes images layout row) (parities row.chunk.profile)) e ∙ parities_none images layout row (parities row.chunk.profile) e
+    ap (λ bs. flat_map (block_writes images) bs ++ flat_map (parity_writes images layout row) (parities row.chunk.profile)) e
+    ∙ parities_none images layout row (parities row.chunk.profile) e
 
-pub empty_count : (images : Images) (layout : Layout) (write : Bool) (tally : Tally) (row : Row) → row.blocks ≡ [] → count_row images layout write tally row ≡ tally
+pub empty_count : (images : Images) (layout : Layout) (write : Bool) (tally : Tally) (row : Row) → row.blocks ≡ []
+    → count_row images layout write tally row ≡ tally
 empty_count images layout write tally row e = ap (λ bs. count_row_of bs tally (mended_row images layout row write)) e
 
 -- rows of which each is empty
 empties_writes : (images : Images) (layout : Layout) (rs : List Row) → ((r : Row) → In r rs → r.blocks ≡ []) → rows_writes layout rs images ≡ []
 empties_writes images layout [] h = refl
-empties_writes images layout (r ∷ rs) h = ap (λ ws. ws ++ rows_writes layout rs images) (empty_writes images layout r (h r (inl refl))) ∙ empties_writes images layout rs (λ q i. h q (inr i))
+empties_writes images layout (r ∷ rs) h = ap (λ ws. ws ++ rows_writes layout rs images) (empty_writes images layout r (h r (inl refl)))
+    ∙ empties_writes images layout rs (λ q i. h q (inr i))
 
-empties_count : (images : Images) (layout : Layout) (write : Bool) (tally : Tally) (rs : List Row) → ((r : Row) → In r rs → r.blocks ≡ []) → rows_count layout write rs images tally ≡ tally
+empties_count : (images : Images) (layout : Layout) (write : Bool) (tally : Tally) (rs : List Row) → ((r : Row) → In r rs → r.blocks ≡ [])
+    → rows_count layout write rs images tally ≡ tally
 empties_count images layout write tally [] h = refl
-empties_count images layout write tally (r ∷ rs) h = ap (λ t. rows_count layout write rs images t) (empty_count images layout write tally r (h r (inl refl))) ∙ empties_count images layout write tally rs (λ q i. h q (inr i))
+empties_count images layout write tally (r ∷ rs) h = ap (λ t. rows_count layout write rs images t)
+    (empty_count images layout write tally r (h r (inl refl))) ∙ empties_count images layout write tally rs (λ q i. h q (inr i))
 
 -- ---- one chunk with parity
 
 module _ (kept : KeptColumns) (layout : Layout) (table : IsTable layout.chunks) (own : HaveOwnSlots layout.devices) (given : first_missing layout ≡ None) (number : ℕ) (chunk : Chunk) (there : slice_get layout.chunks number ≡ Some chunk) (parity : mirrors chunk ≡ None) (wants : List Want) where
   -- rows from q on up to n, all of them empty
-  pub more_rows : (q n : ℕ) → q ≤ n → ((k : ℕ) → q ≤ k → k < n → (row_of kept (targets layout wants) chunk k).blocks ≡ []) → (images : Images) → rows_writes layout (rows_to kept (targets layout wants) chunk n) images ≡ rows_writes layout (rows_to kept (targets layout wants) chunk q) images
+  pub more_rows : (q n : ℕ) → q ≤ n → ((k : ℕ) → q ≤ k → k < n → (row_of kept (targets layout wants) chunk k).blocks ≡ []) → (images : Images)
+      → rows_writes layout (rows_to kept (targets layout wants) chunk n) images ≡ rows_writes layout (rows_to kept (targets layout wants) chunk q) images
   more_rows q n le empty images =
       let d = n - q in
       let whole : n ≡ q + d = omega (arith, le) in
       let from_q : 0 + q ≡ q = omega arith in
       let parts : rows_to kept (targets layout wants) chunk n ≡ rows_to kept (targets layout wants) chunk q ++ map (row_of kept (targets layout wants) chunk) (range_with_len q d) =
       ap (rows_to kept (targets layout wants) chunk) whole ∙ ap (map (row_of kept (targets layout wants) chunk)) (range_split 0 q d) ∙ map-append (row_of kept (targets layout wants) chunk) (range_with_len 0 q) (range_with_len (0 + q) d) ∙ ap (λ k. rows_to kept (targets layout wants) chunk q ++ map (row_of kept (targets layout wants) chunk) (range_with_len k d)) from_q in
-      ap (λ rs. rows_writes layout rs images) parts ∙ flat_map-append (row_writes images layout) (rows_to kept (targets layout wants) chunk q) (map (row_of kept (targets layout wants) chunk) (range_with_len q d))
-      ∙ ap (λ ws. rows_writes layout (rows_to kept (targets layout wants) chunk q) images ++ ws) (empties_writes images layout (map (row_of kept (targets layout wants) chunk) (range_with_len q d))
+      ap (λ rs. rows_writes layout rs images) parts ∙ flat_map-append (row_writes images layout) (rows_to kept (targets layout wants) chunk q)
+      (map (row_of kept (targets layout wants) chunk) (range_with_len q d))
+      ∙ ap (λ ws. rows_writes layout (rows_to kept (targets layout wants) chunk q) images ++ ws)
+      (empties_writes images layout (map (row_of kept (targets layout wants) chunk) (range_with_len q d))
       (λ r i. let k = of_mapped (row_of kept (targets layout wants) chunk) r (range_with_len q d) i in let b = in_range q d k.0 k.1 in subst (λ (x : Row). x.blocks ≡ []) k.2 (empty k.0 b.0 (omega (arith, b.1, le)))))
       ∙ append-nil (rows_writes layout (rows_to kept (targets layout wants) chunk q) images)
 
-  pub more_counts : (write : Bool) (q n : ℕ) → q ≤ n → ((k : ℕ) → q ≤ k → k < n → (row_of kept (targets layout wants) chunk k).blocks ≡ []) → (images : Images) (x : Tally) → rows_count layout write (rows_to kept (targets layout wants) chunk n) images x ≡ rows_count layout write (rows_to kept (targets layout wants) chunk q) images x
+  pub more_counts : (write : Bool) (q n : ℕ) → q ≤ n → ((k : ℕ) → q ≤ k → k < n → (row_of kept (targets layout wants) chunk k).blocks ≡ [])
+      → (images : Images) (x : Tally) → rows_count layout write (rows_to kept (targets layout wants) chunk n) images x
+      ≡ rows_count layout write (rows_to kept (targets layout wants) chunk q) images x
   more_counts write q n le empty images x =
       let d = n - q in
       let whole : n ≡ q + d = omega (arith, le) in
       let from_q : 0 + q ≡ q = omega arith in
       let parts : rows_to kept (targets layout wants) chunk n ≡ rows_to kept (targets layout wants) chunk q ++ map (row_of kept (targets layout wants) chunk) (range_with_len q d) =
       ap (rows_to kept (targets layout wants) chunk) whole ∙ ap (map (row_of kept (targets layout wants) chunk)) (range_split 0 q d) ∙ map-append (row_of kept (targets layout wants) chunk) (range_with_len 0 q) (range_with_len (0 + q) d) ∙ ap (λ k. rows_to kept (targets layout wants) chunk q ++ map (row_of kept (targets layout wants) chunk) (range_with_len k d)) from_q in
-      ap (λ rs. rows_count layout write rs images x) parts ∙ fold_append (count_row images layout write) x (rows_to kept (targets layout wants) chunk q) (map (row_of kept (targets layout wants) chunk) (range_with_len q d))
-      ∙ empties_count images layout write (rows_count layout write (rows_to kept (targets layout wants) chunk q) images x) (map (row_of kept (targets layout wants) chunk) (range_with_len q d))
+      ap (λ rs. rows_count layout write rs images x) parts ∙ fold_append (count_row images layout write) x
+      (rows_to kept (targets layout wants) chunk q) (map (row_of kept (targets layout wants) chunk) (range_with_len q d))
+      ∙ empties_count images layout write (rows_count layout write (rows_to kept (targets layout wants) chunk q) images x)
+      (map (row_of kept (targets layout wants) chunk) (range_with_len q d))
       (λ r i. let k = of_mapped (row_of kept (targets layout wants) chunk) r (range_with_len q d) i in let b = in_range q d k.0 k.1 in subst (λ (x : Row). x.blocks ≡ []) k.2 (empty k.0 b.0 (omega (arith, b.1, le))))
 
   -- ---- one row more
@@ -112,7 +125,8 @@ module _ (kept : KeptColumns) (layout : Layout) (table : IsTable layout.chunks) 
 
   module _ (q : ℕ) (past left' : List Want) (r : ℕ) (mine : List Want) (n : IsNextRow q past left' r mine) where
     parts : targets layout wants ≡ targets layout past ++ (targets layout mine ++ targets layout left')
-    parts = ap (targets layout) n.split ∙ filter_map-append (λ w. ok_or_none (sought layout w)) past (mine ++ left') ∙ ap (λ ts. targets layout past ++ ts) (filter_map-append (λ w. ok_or_none (sought layout w)) mine left')
+    parts = ap (targets layout) n.split ∙ filter_map-append (λ w. ok_or_none (sought layout w)) past (mine ++ left')
+        ∙ ap (λ ts. targets layout past ++ ts) (filter_map-append (λ w. ok_or_none (sought layout w)) mine left')
 
     sought_is : (ws : List Want) (t : Target) → In t (targets layout ws) → IsSought layout t
     sought_is ws t i = let w = of_targets layout t ws i in is_sought layout w.0 t w.2
@@ -130,7 +144,8 @@ module _ (kept : KeptColumns) (layout : Layout) (table : IsTable layout.chunks) 
     -- a row between has no block
     between_empty : (k : ℕ) → q ≤ k → k < r → (row_of kept (targets layout wants) chunk k).blocks ≡ []
     between_empty k from to =
-        filter_none (is_in_row chunk k) (targets layout wants) (λ t i. by t (in_append t (targets layout past) (targets layout mine ++ targets layout left') (subst (In t) parts i)))
+        filter_none (is_in_row chunk k) (targets layout wants)
+        (λ t i. by t (in_append t (targets layout past) (targets layout mine ++ targets layout left') (subst (In t) parts i)))
       where
         by : (t : Target) → In t (targets layout past) ⊎ In t (targets layout mine ++ targets layout left') → is_in_row chunk k t ≡ false
         by t (inl i) = row_is_not layout table number chunk there parity k t (sought_is past t i) (λ c e. omega (arith, e, (n.before t i).1, from))
@@ -143,34 +158,47 @@ module _ (kept : KeptColumns) (layout : Layout) (table : IsTable layout.chunks) 
     row_blocks : (row_of kept (targets layout wants) chunk r).blocks ≡ targets layout mine
     row_blocks =
         ap (filter (is_in_row chunk r)) parts ∙ filter-append (is_in_row chunk r) (targets layout past) (targets layout mine ++ targets layout left')
-        ∙ ap (λ ts. ts ++ filter (is_in_row chunk r) (targets layout mine ++ targets layout left')) (filter_none (is_in_row chunk r) (targets layout past) (λ t i. row_is_not layout table number chunk there parity r t (sought_is past t i) (λ c e. omega (arith, e, (n.before t i).1, n.later))))
+        ∙ ap (λ ts. ts ++ filter (is_in_row chunk r) (targets layout mine ++ targets layout left'))
+        (filter_none (is_in_row chunk r) (targets layout past)
+        (λ t i. row_is_not layout table number chunk there parity r t (sought_is past t i) (λ c e. omega (arith, e, (n.before t i).1, n.later))))
         ∙ filter-append (is_in_row chunk r) (targets layout mine) (targets layout left')
         ∙ ap (λ ts. ts ++ filter (is_in_row chunk r) (targets layout left')) (filter_all (is_in_row chunk r) (targets layout mine) (λ t i. let m = mine_is t i in ap (λ b. b && eqb t.at.row r) (eq-eqb t.chunk.start chunk.start (ap (λ (c : Chunk). c.start) m.0)) ∙ eq-eqb t.at.row r m.1))
-        ∙ ap (λ ts. targets layout mine ++ ts) (filter_none (is_in_row chunk r) (targets layout left') (λ t i. row_is_not layout table number chunk there parity r t (sought_is left' t i) (λ c e. omega (arith, e, n.behind t i c))))
+        ∙ ap (λ ts. targets layout mine ++ ts) (filter_none (is_in_row chunk r) (targets layout left')
+        (λ t i. row_is_not layout table number chunk there parity r t (sought_is left' t i) (λ c e. omega (arith, e, n.behind t i c))))
         ∙ append-nil (targets layout mine)
 
-    last_row : rows_to kept (targets layout wants) chunk (r + 1) ≡ rows_to kept (targets layout wants) chunk r ++ row_of kept (targets layout wants) chunk r ∷ []
+    last_row : rows_to kept (targets layout wants) chunk (r + 1) ≡ rows_to kept (targets layout wants) chunk r
+        ++ row_of kept (targets layout wants) chunk r ∷ []
     last_row =
         let z : 0 + r ≡ r = omega arith in
-        ap (map (row_of kept (targets layout wants) chunk)) (range_split 0 r 1) ∙ map-append (row_of kept (targets layout wants) chunk) (range_with_len 0 r) (range_with_len (0 + r) 1)
+        ap (map (row_of kept (targets layout wants) chunk)) (range_split 0 r 1)
+        ∙ map-append (row_of kept (targets layout wants) chunk) (range_with_len 0 r) (range_with_len (0 + r) 1)
         ∙ ap (λ k. rows_to kept (targets layout wants) chunk r ++ row_of kept (targets layout wants) chunk k ∷ []) z
 
-    pub writes_with : (images : Images) → rows_writes layout (rows_to kept (targets layout wants) chunk q) images ++ row_writes images layout (row_of kept (targets layout wants) chunk r) ≡ rows_writes layout (rows_to kept (targets layout wants) chunk (r + 1)) images
+    pub writes_with : (images : Images) → rows_writes layout (rows_to kept (targets layout wants) chunk q) images
+        ++ row_writes images layout (row_of kept (targets layout wants) chunk r) ≡ rows_writes layout (rows_to kept (targets layout wants) chunk (r + 1)) images
     writes_with images =
         let row = row_of kept (targets layout wants) chunk r in
         ap (λ ws. ws ++ row_writes images layout row) (sym (more_rows q r n.later between_empty images))
         ∙ ap (λ ws. rows_writes layout (rows_to kept (targets layout wants) chunk r) images ++ ws) (sym (append-nil (row_writes images layout row)))
-        ∙ sym (flat_map-append (row_writes images layout) (rows_to kept (targets layout wants) chunk r) (row ∷ [])) ∙ ap (λ rs. rows_writes layout rs images) (sym last_row)
+        ∙ sym (flat_map-append (row_writes images layout) (rows_to kept (targets layout wants) chunk r) (row ∷ []))
+        ∙ ap (λ rs. rows_writes layout rs images) (sym last_row)
 
-    pub counts_with : (write : Bool) (images : Images) (x : Tally) → count_row images layout write (rows_count layout write (rows_to kept (targets layout wants) chunk q) images x) (row_of kept (targets layout wants) chunk r) ≡ rows_count layout write (rows_to kept (targets layout wants) chunk (r + 1)) images x
+    pub counts_with : (write : Bool) (images : Images) (x : Tally)
+        → count_row images layout write (rows_count layout write (rows_to kept (targets layout wants) chunk q) images x)
+        (row_of kept (targets layout wants) chunk r) ≡ rows_count layout write (rows_to kept (targets layout wants) chunk (r + 1)) images x
     counts_with write images x =
         let row = row_of kept (targets layout wants) chunk r in
         ap (λ y. count_row images layout write y row) (sym (more_counts write q r n.later between_empty images x))
-        ∙ sym (fold_append (count_row images layout write) x (rows_to kept (targets layout wants) chunk r) (row ∷ [])) ∙ ap (λ rs. rows_count layout write rs images x) (sym last_row)
+        ∙ sym (fold_append (count_row images layout write) x (rows_to kept (targets layout wants) chunk r) (row ∷ []))
+        ∙ ap (λ rs. rows_count layout write rs images x) (sym last_row)
 
     -- ---- the row, as it is to be mended
 
-    pub counts_row : (write : Bool) (images : Images) (x : Tally) → counted_row x (length (row_of kept (targets layout wants) chunk r).blocks) (mended_row images layout (row_of kept (targets layout wants) chunk r) write) ≡ count_row images layout write x (row_of kept (targets layout wants) chunk r)
+    pub counts_row : (write : Bool) (images : Images) (x : Tally)
+        → counted_row x (length (row_of kept (targets layout wants) chunk r).blocks)
+        (mended_row images layout (row_of kept (targets layout wants) chunk r) write)
+        ≡ count_row images layout write x (row_of kept (targets layout wants) chunk r)
     counts_row write images x =
         let row = row_of kept (targets layout wants) chunk r in
         let e : row.blocks ≡ n.head ∷ n.tail = row_blocks ∙ n.some_block in
@@ -178,7 +206,9 @@ module _ (kept : KeptColumns) (layout : Layout) (table : IsTable layout.chunks) 
 
     -- what is told of it stays when the rows before it are mended
     pub unmoved_row : (write : Bool) (held : Option Images) → ((images : Images) → held ≡ Some images → HaveLengths images layout)
-        → IsUnmoved layout write (rows_writes layout (rows_to kept (targets layout wants) chunk q)) (λ images. row_writes images layout (row_of kept (targets layout wants) chunk r)) (λ images x. count_row images layout write x (row_of kept (targets layout wants) chunk r)) held
+        → IsUnmoved layout write (rows_writes layout (rows_to kept (targets layout wants) chunk q))
+        (λ images. row_writes images layout (row_of kept (targets layout wants) chunk r))
+        (λ images x. count_row images layout write x (row_of kept (targets layout wants) chunk r)) held
     unmoved_row write held lengths images e =
         let row = row_of kept (targets layout wants) chunk r in
         let ws = rows_writes layout (rows_to kept (targets layout wants) chunk q) images in
@@ -186,29 +216,44 @@ module _ (kept : KeptColumns) (layout : Layout) (table : IsTable layout.chunks) 
         let l = lengths images e in
         let here = row_is kept layout table own given number chunk there wants r parity n.fits in
         let alike = row_stays layout row table here.is images l after (map (λ (w : Write). w.range) ws) here.blocks (shorts_keep_if write images ws (flat_short images (row_writes images layout) (rows_to kept (targets layout wants) chunk q) (λ x i. short x i images l)))
-        (λ part slot off o. free images slot off part o) in
-        (row_writes_alike images after layout row alike, λ x. row_counts_alike kept layout table own given number chunk there wants images l write after row x alike)
+        (λ part slot off o. free images slot off part o) in (
+          row_writes_alike images after layout row alike,
+          λ x. row_counts_alike kept layout table own given number chunk there wants images l write
+              after row x alike,
+        )
       where
         below_fits : (k : ℕ) → k < q → k * 65536 + 65536 ≤ stripe_length chunk
         below_fits k lt = omega (arith, lt, n.later, n.fits)
 
-        short : (x : Row) → In x (rows_to kept (targets layout wants) chunk q) → (images : Images) → HaveLengths images layout → All (Short images) (row_writes images layout x)
+        short : (x : Row) → In x (rows_to kept (targets layout wants) chunk q) → (images : Images) → HaveLengths images layout
+            → All (Short images) (row_writes images layout x)
         short x i images l =
             let k = of_mapped (row_of kept (targets layout wants) chunk) x (range_with_len 0 q) i in
             let of = row_is kept layout table own given number chunk there wants k.0 parity (below_fits k.0 (in_below q k.0 k.1)) in
-            subst (λ (y : Row). All (Short images) (row_writes images layout y)) k.2 (row_short layout (row_of kept (targets layout wants) chunk k.0) table of.is images l of.blocks)
+            subst (λ (y : Row). All (Short images) (row_writes images layout y)) k.2
+            (row_short layout (row_of kept (targets layout wants) chunk k.0) table of.is images l of.blocks)
 
-        written_there : (images : Images) (slot off : ℕ) (x : Row) → In x (rows_to kept (targets layout wants) chunk q) → list_any (λ (w : Write). covers slot off w.range) (row_writes images layout x) ≡ true → (k : ℕ) × (k < q) × ((p : Part) × IsOfElement layout (row_of kept (targets layout wants) chunk k) p slot off)
+        written_there : (images : Images) (slot off : ℕ) (x : Row) → In x (rows_to kept (targets layout wants) chunk q)
+            → list_any (λ (w : Write). covers slot off w.range) (row_writes images layout x) ≡ true → (k : ℕ) × (k < q)
+            × ((p : Part) × IsOfElement layout (row_of kept (targets layout wants) chunk k) p slot off)
         written_there images slot off x i h =
             let k = of_mapped (row_of kept (targets layout wants) chunk) x (range_with_len 0 q) i in
             let lt = in_below q k.0 k.1 in
-            let of = row_is kept layout table own given number chunk there wants k.0 parity (below_fits k.0 lt) in
-            (k.0, lt, written_row layout (row_of kept (targets layout wants) chunk k.0) table of.is images slot off of.blocks (subst (λ (y : Row). list_any (λ (w : Write). covers slot off w.range) (row_writes images layout y) ≡ true) (sym k.2) h))
+            let of = row_is kept layout table own given number chunk there wants k.0 parity (below_fits k.0 lt) in (
+              k.0,
+              lt,
+              written_row layout (row_of kept (targets layout wants) chunk k.0) table of.is images slot off of.blocks
+                  (subst (λ (y : Row). list_any (λ (w : Write). covers slot off w.range) (row_writes images layout y) ≡ true) (sym k.2) h),
+            )
 
-        free : (images : Images) (slot off : ℕ) (part : Part) → IsOfElement layout (row_of kept (targets layout wants) chunk r) part slot off → list_any (covers slot off) (map (λ (w : Write). w.range) (rows_writes layout (rows_to kept (targets layout wants) chunk q) images)) ≡ false
-        free images slot off part o = by (list_any (covers slot off) (map (λ (w : Write). w.range) (rows_writes layout (rows_to kept (targets layout wants) chunk q) images))) refl
+        free : (images : Images) (slot off : ℕ) (part : Part) → IsOfElement layout (row_of kept (targets layout wants) chunk r) part slot off
+            → list_any (covers slot off) (map (λ (w : Write). w.range) (rows_writes layout (rows_to kept (targets layout wants) chunk q) images)) ≡ false
+        free images slot off part o = by (list_any (covers slot off)
+            (map (λ (w : Write). w.range) (rows_writes layout (rows_to kept (targets layout wants) chunk q) images))) refl
           where
-            by : (c : Bool) → list_any (covers slot off) (map (λ (w : Write). w.range) (rows_writes layout (rows_to kept (targets layout wants) chunk q) images)) ≡ c → list_any (covers slot off) (map (λ (w : Write). w.range) (rows_writes layout (rows_to kept (targets layout wants) chunk q) images)) ≡ false
+            by : (c : Bool) → list_any (covers slot off) (map (λ (w : Write). w.range)
+                (rows_writes layout (rows_to kept (targets layout wants) chunk q) images)) ≡ c
+                → list_any (covers slot off) (map (λ (w : Write). w.range) (rows_writes layout (rows_to kept (targets layout wants) chunk q) images)) ≡ false
             by false e = e
             by true e =
                 let any : list_any (λ (w : Write). covers slot off w.range) (rows_writes layout (rows_to kept (targets layout wants) chunk q) images) ≡ true = sym (any_map (covers slot off) (λ (w : Write). w.range) (rows_writes layout (rows_to kept (targets layout wants) chunk q) images)) ∙ e in
@@ -221,7 +266,8 @@ module _ (kept : KeptColumns) (layout : Layout) (table : IsTable layout.chunks) 
     all_sought [] h = refl
     all_sought (w ∷ ws) h =
         let t = h w (inl refl) in
-        ap (λ r. r ∷ map (sought layout) ws) t.1 ∙ ap (λ rs. Ok t.0 ∷ rs) (all_sought ws (λ v i. h v (inr i))) ∙ sym (ap (λ r. map is_at (cons_option (ok_or_none r) (targets layout ws))) t.1)
+        ap (λ r. r ∷ map (sought layout) ws) t.1 ∙ ap (λ rs. Ok t.0 ∷ rs) (all_sought ws (λ v i. h v (inr i)))
+        ∙ sym (ap (λ r. map is_at (cons_option (ok_or_none r) (targets layout ws))) t.1)
 
     -- the row of the blocks that were collected
     pub is_row_of : IsRowOf layout chunk.start r mine (row_of kept (targets layout wants) chunk r)

@@ -1,5 +1,6 @@
 -- One full stripe of the table, as it was mended.
-use Rattle.std.proofs.Common.{◌≡◌, ℕ, ◌+◌, ◌*◌, ◌≤◌, count_by, get_or, is_none, Bool, true, false, leb, cond, List, [], length, slice_get, Option, Some, None, IfSome, IsSomeAnd, is_some, Result, Ok, Err, refl, sym, ap, ◌∙◌, subst, inl, inr, arith}
+use Rattle.std.proofs.Common.{◌≡◌, ℕ, ◌+◌, ◌*◌, ◌≤◌, count_by, get_or, is_none, Bool, true, false, leb, cond, List, [], length, slice_get, Option, Some, None}
+use Rattle.std.proofs.Common.{IfSome, IsSomeAnd, is_some, Result, Ok, Err, refl, sym, ap, ◌∙◌, subst, inl, inr, arith}
 use Rattle.std.proofs.lemmas.List.{length-map}
 use Rattle.std.proofs.lemmas.Option.{same_Some, slice_get_within}
 use Rattle.std.specs.List.{Any}
@@ -24,36 +25,39 @@ use Rattle.btr_read.specs.Serves.{Serves}
 use Rattle.btr_read.specs.Store.{Blocks, SameLoans}
 use Rattle.btr_read.specs.Want.{addr_of, len_of}
 use Rattle.btr_read.specs.declared.want.Want.{Want}
-use Rattle.btr_mend.specs.Syncing.{IsSyncOr, plain}
-use Rattle.btr_mend.specs.Writes.{AreWritable, Images, Write, writes_if}
-use Rattle.btr_mend.specs.declared.mended.MendFault.{MendFault}
-use Rattle.btr_row.specs.Mending.{AreKept, HasRoom, IsFullStripe, IsOfRow, IsOn, IsRow, IsRowOf, MendsRow, is_at, mended_row}
-use Rattle.btr_row.specs.Rows.{Row, range_in_element, row_writes}
-use Rattle.btr_row.specs.declared.buffer.RowBuffer.{RowBuffer}
-use Rattle.btr_row.specs.declared.mended.MendedRow.{MendedRow}
+use Rattle.btr_scrub_copies.specs.Syncing.{IsSyncOr, plain}
+use Rattle.btr_scrub_copies.specs.Writes.{AreWritable, Images, Write, writes_if}
+use Rattle.btr_scrub_copies.specs.declared.mended.MendFault.{MendFault}
+use Rattle.btr_scrub_row.specs.Mending.{AreKept, HasRoom, IsFullStripe, IsOfRow, IsOn, IsRow, IsRowOf, MendsRow, is_at, mended_row}
+use Rattle.btr_scrub_row.specs.Rows.{Row, range_in_element, row_writes}
+use Rattle.btr_scrub_row.specs.declared.buffer.RowBuffer.{RowBuffer}
+use Rattle.btr_scrub_row.specs.declared.mended.MendedRow.{MendedRow}
 use Rattle.btr_scrub.specs.Leaves.{LiesInStripe}
 use Rattle.btr_scrub.specs.Repair.{first_missing}
 use Rattle.btr_scrub.specs.Scrubbing.{CanMend, HasRooms, IsOfScrub, Scrubs, counted_row}
 use Rattle.btr_scrub.specs.declared.tally.Tally.{Tally}
-use Rattle.btr_mend.proofs.Turning.{strands_same}
-use Rattle.btr_row.proofs.Elements.{range_stands, stands_on}
+use Rattle.btr_scrub_copies.proofs.Turning.{strands_same}
+use Rattle.btr_scrub_row.proofs.Elements.{range_stands, stands_on}
 use Rattle.btr_scrub.proofs.Positions.{find_at}
 use Rattle.btr_scrub.proofs.Scrubbing.{does_fault, does_value, does_weaker, tell, told}
 use Rattle.btr_scrub.proofs.Lists.{all_from, all_in}
 use Rattle.btr_scrub.proofs.Some.{any_at}
 
 -- the number of its chunk
-pub chunk_number : (layout : Layout) (start number : ℕ) (row : Row) → IsFullStripe layout start number row → (i : ℕ) × (slice_get layout.chunks i ≡ Some row.chunk)
+pub chunk_number : (layout : Layout) (start number : ℕ) (row : Row) → IsFullStripe layout start number row → (i : ℕ)
+    × (slice_get layout.chunks i ≡ Some row.chunk)
 chunk_number layout start number row is = let f = find_at (λ c. holds c start) layout.chunks row.chunk is.chunk in (f.0, f.1)
 
-pub has_room : (layout : Layout) (buffer : RowBuffer) (start number : ℕ) (wants : List Want) (row : Row) → HasRooms layout buffer → IsRowOf layout start number wants row → HasRoom buffer (length row.chunk.stripes)
+pub has_room : (layout : Layout) (buffer : RowBuffer) (start number : ℕ) (wants : List Want) (row : Row) → HasRooms layout buffer
+    → IsRowOf layout start number wants row → HasRoom buffer (length row.chunk.stripes)
 has_room layout buffer start number wants row rooms is = let n = chunk_number layout start number row is.stripe in rooms n.0 row.chunk n.1 is.stripe.parity
 
 pub as_many : (layout : Layout) (start number : ℕ) (wants : List Want) (row : Row) → IsRowOf layout start number wants row → length wants ≡ length row.blocks
 as_many layout start number wants row is = sym (length-map wants (sought layout)) ∙ ap length is.blocks ∙ length-map row.blocks is_at
 
 -- some blocks' row, whose kept columns are those that are flagged
-pub flagged : (layout : Layout) (start number : ℕ) (wants : List Want) (flags : List Bool) → IsRow layout start number wants → (row : Row) × IsRowOf layout start number wants row × AreKept flags row
+pub flagged : (layout : Layout) (start number : ℕ) (wants : List Want) (flags : List Bool) → IsRow layout start number wants → (row : Row)
+    × IsRowOf layout start number wants row × AreKept flags row
 flagged layout start number wants flags h =
     let r = h.row in
     let s = h.is.stripe in
@@ -68,7 +72,8 @@ flagged layout start number wants flags h =
     )
 
 -- behind a call that left the slots, the layout and the loans all blocks can be mended still
-pub still_ready : (write : Bool) (a b : Seen) (old new : Blocks) (m n : List Bool) → CanMend write a old m → Serves b new → SameLoans old new → b.slots ≡ a.slots → length n ≡ length m → CanMend write b new n
+pub still_ready : (write : Bool) (a b : Seen) (old new : Blocks) (m n : List Bool) → CanMend write a old m → Serves b new → SameLoans old new
+    → b.slots ≡ a.slots → length n ≡ length m → CanMend write b new n
 still_ready write a b old new m n can serves same slots long = record {
   serves = serves;
   room = subst (λ l. 2 ≤ count_by is_none l) (sym same.loans) can.room;
@@ -79,7 +84,8 @@ still_ready write a b old new m n can serves same slots long = record {
 }
 
 -- a range in an element lies in a stripe of the table
-pub row_in_stripe : (layout : Layout) (start number : ℕ) (row : Row) (range : Range) → IsTable layout.chunks → IsFullStripe layout start number row → IsOfRow layout row range → LiesInStripe layout range
+pub row_in_stripe : (layout : Layout) (start number : ℕ) (row : Row) (range : Range) → IsTable layout.chunks → IsFullStripe layout start number row
+    → IsOfRow layout row range → LiesInStripe layout range
 row_in_stripe layout start number row range table is of = by (range_in_element layout row of.part 0 65536) refl of.lies
   where
     pick : (b : Bool) (outer : Range) → LiesIn range outer → IfSome (cond b (Some outer) None) (LiesIn range)
@@ -109,9 +115,11 @@ row_in_stripe layout start number row range table is of = by (range_in_element l
           from = omega (arith, h.from, off, offset);
           to = omega (arith, h.to, off, len, offset, is.inside, is.number_is);
         })) in
-        any_at (λ chunk. Any (λ (stripe : Stripe). IfSome (range_on stripe.offset (stripe_length chunk) (device_in layout.devices stripe.devid)) (LiesIn range)) chunk.stripes) layout.chunks n.0 row.chunk
+        any_at (λ chunk. Any (λ (stripe : Stripe). IfSome (range_on stripe.offset (stripe_length chunk) (device_in layout.devices stripe.devid))
+        (LiesIn range)) chunk.stripes) layout.chunks n.0 row.chunk
         (slice_get_within layout.chunks n.0 row.chunk n.1) n.1
-        (any_at (λ (stripe : Stripe). IfSome (range_on stripe.offset (stripe_length row.chunk) (device_in layout.devices stripe.devid)) (LiesIn range)) row.chunk.stripes k p.stripe (slice_get_within row.chunk.stripes k p.stripe p.there) p.there whole)
+        (any_at (λ (stripe : Stripe). IfSome (range_on stripe.offset (stripe_length row.chunk) (device_in layout.devices stripe.devid))
+        (LiesIn range)) row.chunk.stripes k p.stripe (slice_get_within row.chunk.stripes k p.stripe p.there) p.there whole)
 
 -- it was mended, and counted
 module _ (layout : Layout) (write : Bool) (row : Row) (m n : List Bool) (a b : Seen) (in_stripe : (range : Range) → IsOfRow layout row range → LiesInStripe layout range) where
@@ -122,20 +130,27 @@ module _ (layout : Layout) (write : Bool) (row : Row) (m n : List Bool) (a b : S
   in_scrub range (inl sync) = inl sync
   in_scrub range (inr of) = inr (in_stripe range of)
 
-  pub scrubs_row : (tally tally' : Tally) (mended : MendedRow) → MendsRow layout row write m n a b (Ok mended) → tally' ≡ counted_row tally (length row.blocks) mended
-      → Scrubs {A = Unit {0}} layout write (λ images. row_writes images layout row) (λ images tally. counted_row tally (length row.blocks) (mended_row images layout row write)) m n a b tally tally' (Ok (tt {0}))
+  pub scrubs_row : (tally tally' : Tally) (mended : MendedRow) → MendsRow layout row write m n a b (Ok mended) → tally'
+      ≡ counted_row tally (length row.blocks) mended
+      → Scrubs {A = Unit {0}} layout write (λ images. row_writes images layout row)
+      (λ images tally. counted_row tally (length row.blocks) (mended_row images layout row write)) m n a b tally tally' (Ok (tt {0}))
   scrubs_row tally tally' mended h e = record {
-    does = does_value (IsOfScrub layout) the_writes [] [] (plain a) (plain b) mended tt (does_weaker (IsSyncOr (IsOfRow layout row)) (IsOfScrub layout) the_writes [] [] (plain a) (plain b) (Ok mended) in_scrub h.does);
+    does = does_value (IsOfScrub layout) the_writes [] [] (plain a) (plain b) mended tt
+        (does_weaker (IsSyncOr (IsOfRow layout row)) (IsOfScrub layout) the_writes [] [] (plain a) (plain b) (Ok mended) in_scrub h.does);
     marked = h.marked;
     stranded = h.stranded;
-    counts = tell a.held (λ images. tally' ≡ counted_row tally (length row.blocks) (mended_row images layout row write)) (λ images held. e ∙ ap (counted_row tally (length row.blocks)) (told a.held (λ images. mended ≡ mended_row images layout row write) images held h.counts));
+    counts = tell a.held (λ images. tally' ≡ counted_row tally (length row.blocks) (mended_row images layout row write))
+        (λ images held. e ∙ ap (counted_row tally (length row.blocks))
+        (told a.held (λ images. mended ≡ mended_row images layout row write) images held h.counts));
     unwritten = h.unwritten;
   }
 
   pub scrubs_row_not : (tally : Tally) (fault : MendFault) → MendsRow layout row write m n a b (Err fault)
-      → Scrubs {A = Unit {0}} layout write (λ images. row_writes images layout row) (λ images tally. counted_row tally (length row.blocks) (mended_row images layout row write)) m n a b tally tally (Err fault)
+      → Scrubs {A = Unit {0}} layout write (λ images. row_writes images layout row)
+      (λ images tally. counted_row tally (length row.blocks) (mended_row images layout row write)) m n a b tally tally (Err fault)
   scrubs_row_not tally fault h = record {
-    does = does_fault {A = MendedRow} {B = Unit {0}} (IsOfScrub layout) the_writes [] [] (plain a) (plain b) fault (does_weaker {A = MendedRow} (IsSyncOr (IsOfRow layout row)) (IsOfScrub layout) the_writes [] [] (plain a) (plain b) (Err fault) in_scrub h.does);
+    does = does_fault {A = MendedRow} {B = Unit {0}} (IsOfScrub layout) the_writes [] [] (plain a) (plain b) fault
+        (does_weaker {A = MendedRow} (IsSyncOr (IsOfRow layout row)) (IsOfScrub layout) the_writes [] [] (plain a) (plain b) (Err fault) in_scrub h.does);
     marked = h.marked;
     stranded = strands_same MendedRow (Unit {0}) fault a.never_synced b.never_synced h.stranded;
     counts = tt;

@@ -1,5 +1,6 @@
 -- A sector of a data extent.
-use Rattle.std.proofs.Common.{◌≡◌, ℕ, suc, ◌+◌, ◌<◌, ◌≤◌, Bool, true, false, cond, List, [], ◌∷◌, ◌++◌, drop, length, take, Option, Some, None, Result, Ok, Err, refl, sym, ap, ◌∙◌, subst, arith, length-append}
+use Rattle.std.proofs.Common.{◌≡◌, ℕ, suc, ◌+◌, ◌<◌, ◌≤◌, Bool, true, false, cond, List, [], ◌∷◌, ◌++◌, drop, length, take, Option, Some, None, Result, Ok, Err}
+use Rattle.std.proofs.Common.{refl, sym, ap, ◌∙◌, subst, arith, length-append}
 use Rattle.std.specs.Prelude.{◌-◌, ◌/◌, ◌*◌, replicate}
 use Rattle.std.proofs.lemmas.List.{length-replicate, take-append-le, take-take}
 use Rattle.btr_base.specs.Sum.{stored_sum, sum_from, sum_size}
@@ -60,11 +61,13 @@ module _ (B : Map) (kind : SumKind) (addr : ℕ) (sum : Sum) where
   covered true bytes h = (bytes, let e : stored_sum kind bytes ≡ sum = cc in sym e)
   covered false bytes h = cc
 
-  in_run : (item : TreeItem) (r : Result SumRun ItemFault) → (exec B (formed {S = ⊥} item r (λ run. Return (sum_in kind addr item.body run)))).ending ≡ Ok (Some sum) → Stored
+  in_run : (item : TreeItem) (r : Result SumRun ItemFault) → (exec B (formed {S = ⊥} item r (λ run. Return (sum_in kind addr item.body run)))).ending
+      ≡ Ok (Some sum) → Stored
   in_run item (Ok run) h = covered (covers run addr) (drop ((addr - run.start) / 4096 * sum_size kind) item.body) h
   in_run item (Err f) h = cc
 
-  in_item : (item : TreeItem) (b : Bool) → (exec B (cond b (formed {S = ⊥} item (sum_run_of kind item.key item.body) (λ run. Return (sum_in kind addr item.body run))) (Return None))).ending ≡ Ok (Some sum) → Stored
+  in_item : (item : TreeItem) (b : Bool) → (exec B (cond b (formed {S = ⊥} item (sum_run_of kind item.key item.body)
+      (λ run. Return (sum_in kind addr item.body run))) (Return None))).ending ≡ Ok (Some sum) → Stored
   in_item item true h = in_run item (sum_run_of kind item.key item.body) h
   in_item item false h = cc
 
@@ -72,7 +75,8 @@ module _ (B : Map) (kind : SumKind) (addr : ℕ) (sum : Sum) where
   in_found None h = cc
   in_found (Some item) h = in_item item (is_sums item.key) h
 
-  behind : (ms : List (Mark Want ⊥)) (e : Result (Option TreeItem) fate.Fault) → (after ms e (λ found. exec B (sum_found kind addr found))).ending ≡ Ok (Some sum) → Stored
+  behind : (ms : List (Mark Want ⊥)) (e : Result (Option TreeItem) fate.Fault) → (after ms e (λ found. exec B (sum_found kind addr found))).ending
+      ≡ Ok (Some sum) → Stored
   behind ms (Ok found) h = in_found found h
   behind ms (Err f) h = cc
 
@@ -87,8 +91,10 @@ abbrev met_of : ℕ → Option Sum → Meeting (Unit {0})
 met_of addr found = Emit (sector_met addr found) (Return tt)
 
 -- a sector was listed with the checksum that was looked up
-pub gathers_sector : (s : Super) (sums : Option TreeRoot) (addr : ℕ) (old new : Seen) (vol vol' : Volume) (x y : Gathered) (sum : Sum) → length sum.bytes ≡ 32 → Serves new vol'.store → OnlyReads old new → SameVolume vol vol'
-    → Looks vol.store.layout old new (sum_at (kind_in s) sums addr) (Ok (Some sum)) → AddsTo x.list y.list (Sector addr (stored_sum (kind_in s) sum.bytes)) → y.unchecked ≡ x.unchecked → y.plain ≡ x.plain
+pub gathers_sector : (s : Super) (sums : Option TreeRoot) (addr : ℕ) (old new : Seen) (vol vol' : Volume) (x y : Gathered) (sum : Sum)
+    → length sum.bytes ≡ 32 → Serves new vol'.store → OnlyReads old new → SameVolume vol vol'
+    → Looks vol.store.layout old new (sum_at (kind_in s) sums addr) (Ok (Some sum))
+    → AddsTo x.list y.list (Sector addr (stored_sum (kind_in s) sum.bytes)) → y.unchecked ≡ x.unchecked → y.plain ≡ x.plain
     → Gathers (sector s sums addr) (scene old vol x) (scene new vol' y) (Ok tt)
 gathers_sector s sums addr old new vol vol' x y sum long serves reads same l added count plain =
     let layout = vol.store.layout in
@@ -101,7 +107,8 @@ gathers_sector s sums addr old new vol vol' x y sum long serves reads same l add
       serves = serves;
       done = met;
       lists = lists_added x y (Sector addr (stored_sum kind sum.bytes)) added count plain;
-      content = drawn layout (λ B. Follows {S = ⊥} (unread_by layout old new) no_part [] (exec B p) [] (Ok (Some sum))) (λ B. Follows (unread_by layout old new) no_part [] (exec B (sector s sums addr)) met (Ok tt))
+      content = drawn layout (λ B. Follows {S = ⊥} (unread_by layout old new) no_part [] (exec B p) [] (Ok (Some sum)))
+          (λ B. Follows (unread_by layout old new) no_part [] (exec B (sector s sums addr)) met (Ok tt))
           (λ B f.
           let stored = is_stored B kind addr sum sums f.1 in
           subst (λ r. Follows (unread_by layout old new) no_part [] r met (Ok tt)) (sym (exec-bind B (quiet p) (met_of addr)))
@@ -112,7 +119,8 @@ gathers_sector s sums addr old new vol vol' x y sum long serves reads same l add
     }
 
 -- one sector more
-pub sectors_first : (s : Super) (sums : Option TreeRoot) (count addr i : ℕ) → i < count → sectors s sums (count - i) (addr + i * 4096) ≡ bind (sector s sums (addr + i * 4096)) (λ u. sectors s sums (count - (i + 1)) (addr + (i + 1) * 4096))
+pub sectors_first : (s : Super) (sums : Option TreeRoot) (count addr i : ℕ) → i < count → sectors s sums (count - i) (addr + i * 4096)
+    ≡ bind (sector s sums (addr + i * 4096)) (λ u. sectors s sums (count - (i + 1)) (addr + (i + 1) * 4096))
 sectors_first s sums count addr i lt =
     let more : count - i ≡ suc (count - (i + 1)) = omega (arith, lt) in
     let next : addr + i * 4096 + 4096 ≡ addr + (i + 1) * 4096 = omega arith in

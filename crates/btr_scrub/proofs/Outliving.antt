@@ -1,5 +1,6 @@
 -- Whatever stands in the ranges of the writes, each checked block can be had.
-use Rattle.std.proofs.Common.{◌≡◌, ◌≢◌, ◌⊎◌, ℕ, zero, suc, ◌+◌, ◌*◌, ◌/◌, ◌<◌, ◌≤◌, Bool, true, false, not, cond, ◌&&◌, eqb, List, [], ◌∷◌, map, slice_get, Option, Some, None, is_none, is_some, IsSomeAnd, refl, sym, ap, ◌∙◌, subst, inl, inr, arith, Result, Ok, Err}
+use Rattle.std.proofs.Common.{◌≡◌, ◌≢◌, ◌⊎◌, ℕ, zero, suc, ◌+◌, ◌*◌, ◌/◌, ◌<◌, ◌≤◌, Bool, true, false, not, cond, ◌&&◌, eqb, List, [], ◌∷◌, map, slice_get}
+use Rattle.std.proofs.Common.{Option, Some, None, is_none, is_some, IsSomeAnd, refl, sym, ap, ◌∙◌, subst, inl, inr, arith, Result, Ok, Err}
 use Rattle.std.proofs.lemmas.Bool.{false≢true, and_from, cases_lt, eq-eqb}
 use Rattle.std.proofs.lemmas.Option.{same_Some}
 use Rattle.std.specs.List.{cons_option, list_any, range_with_len}
@@ -22,11 +23,11 @@ use Rattle.btr_read.specs.declared.want.Want.{Want}
 use Rattle.btr_read.proofs.Fates.{sought_of}
 use Rattle.btr_read.proofs.Ones.{in_below}
 use Rattle.btr_read.proofs.Order.{in_candidates, with_copies}
-use Rattle.btr_mend.specs.Blocks.{accepted, bad_parts, block_writes, is_sound, own_parts, written_over}
-use Rattle.btr_mend.proofs.Syncs.{passing_filter}
-use Rattle.btr_mend.specs.Writes.{Images, Write}
-use Rattle.btr_mend.proofs.Copied.{has_mirror}
-use Rattle.btr_row.specs.Rows.{row_writes}
+use Rattle.btr_scrub_copies.specs.Blocks.{accepted, bad_parts, block_writes, is_sound, own_parts, written_over}
+use Rattle.btr_scrub_copies.proofs.Syncs.{passing_filter}
+use Rattle.btr_scrub_copies.specs.Writes.{Images, Write}
+use Rattle.btr_scrub_copies.proofs.Copied.{has_mirror}
+use Rattle.btr_scrub_row.specs.Rows.{row_writes}
 use Rattle.btr_scrub.specs.Devices.{HaveLengths}
 use Rattle.btr_scrub.specs.Glue.{In}
 use Rattle.btr_scrub.specs.Leaves.{KeepsOutside}
@@ -50,10 +51,12 @@ use Rattle.btr_scrub.proofs.Writes.{any_filter_map, any_flat, any_map, mapped, r
 use Rattle.btr_scrub.specs.Plain.{KeptColumns}
 
 -- blocks that are apart and have an address in common are the same
-pub same_block : (layout : Layout) (wants : List Want) (end : ℕ) (t u : Target) (one other : ℕ) → AreApart layout end wants → In t (targets layout wants) → In u (targets layout wants)
+pub same_block : (layout : Layout) (wants : List Want) (end : ℕ) (t u : Target) (one other : ℕ) → AreApart layout end wants
+    → In t (targets layout wants) → In u (targets layout wants)
     → one < size_of t → other < size_of u → addr_of t.want + one ≡ addr_of u.want + other → t ≡ u
 same_block layout [] end t u one other apart i j lt below same = absurd i
-same_block layout (w ∷ ws) end t u one other apart i j lt below same = by (sought layout w) refl i j (λ k l. same_block layout ws (addr_of w + len_of layout.setting w) t u one other apart.2 k l lt below same)
+same_block layout (w ∷ ws) end t u one other apart i j lt below same = by (sought layout w) refl i j
+    (λ k l. same_block layout ws (addr_of w + len_of layout.setting w) t u one other apart.2 k l lt below same)
   where
     -- the first ends before the others
     before : (v x : Target) → sought layout w ≡ Ok v → In x (targets layout ws) → addr_of v.want + size_of v ≤ addr_of x.want
@@ -64,15 +67,23 @@ same_block layout (w ∷ ws) end t u one other apart i j lt below same = by (sou
         let size : size_of v ≡ len_of layout.setting w = ap (λ g. len_of g v.want) first.setting_is ∙ ap (len_of layout.setting) first.want_is in
         omega (arith, begin, size, all_behind layout (addr_of w + len_of layout.setting w) ws apart.2 o.0 o.1, ap addr_of (sought_of layout o.0 x o.2).want_is)
 
-    by : (r : Result Target Fault) → sought layout w ≡ r → In t (cons_option (ok_or_none r) (targets layout ws)) → In u (cons_option (ok_or_none r) (targets layout ws)) → (In t (targets layout ws) → In u (targets layout ws) → t ≡ u) → t ≡ u
+    by : (r : Result Target Fault) → sought layout w ≡ r → In t (cons_option (ok_or_none r) (targets layout ws))
+        → In u (cons_option (ok_or_none r) (targets layout ws)) → (In t (targets layout ws) → In u (targets layout ws) → t ≡ u) → t ≡ u
     by (Err f) s i j rest = rest i j
     by (Ok v) s (inl e) (inl f) rest = sym e ∙ f
     by (Ok v) s (inl e) (inr j) rest = absurd (omega (arith, same, lt, subst (λ (x : Target). addr_of x.want + size_of x ≤ addr_of u.want) e (before v u s j)))
-    by (Ok v) s (inr i) (inl f) rest = absurd (omega (arith, same, below, subst (λ (x : Target). addr_of x.want + size_of x ≤ addr_of t.want) f (before v t s i)))
+    by (Ok v) s (inr i) (inl f) rest = absurd (omega (
+      arith,
+      same,
+      below,
+      subst (λ (x : Target). addr_of x.want + size_of x ≤ addr_of t.want) f
+          (before v t s i),
+    ))
     by (Ok v) s (inr i) (inr j) rest = rest i j
 
 -- a byte of a block is of one copy
-same_copy : (layout : Layout) (t : Target) (slot off : ℕ) → IsTable layout.chunks → HaveOwnSlots layout.devices → (is : IsSought layout t) → (b c : IsCopyByte layout t slot off) → b.copy ≡ c.copy
+same_copy : (layout : Layout) (t : Target) (slot off : ℕ) → IsTable layout.chunks → HaveOwnSlots layout.devices → (is : IsSought layout t)
+    → (b c : IsCopyByte layout t slot off) → b.copy ≡ c.copy
 same_copy layout t slot off table own is b c =
     let p = place_at t.chunk (Mirror b.copy) t.at in
     let q = place_at t.chunk (Mirror c.copy) t.at in
@@ -94,7 +105,8 @@ at_member [] i x e = cc
 at_member (y ∷ xs) zero x e = inl (same_Some y x e)
 at_member (y ∷ xs) (suc i) x e = inr (at_member xs i x e)
 
-module _ (kept : KeptColumns) (images : Images) (layout : Layout) (C : Committed) (wants : List Want) (table : IsTable layout.chunks) (own : HaveOwnSlots layout.devices) (none : first_missing layout ≡ None) (lengths : HaveLengths images layout)
+module _ (kept : KeptColumns) (images : Images) (layout : Layout) (C : Committed) (wants : List Want) (table : IsTable layout.chunks)
+    (own : HaveOwnSlots layout.devices) (none : first_missing layout ≡ None) (lengths : HaveLengths images layout)
     (had : CanBeHad kept images layout C wants) (apart : AreApart layout 0 wants) where
   abbrev ts : List Target
   ts = targets layout wants
@@ -129,10 +141,13 @@ module _ (kept : KeptColumns) (images : Images) (layout : Layout) (C : Committed
     inside : row * 65536 + 65536 ≤ stripe_length chunk
     written : list_any (covered_at slot off) (row_writes images layout (row_of kept ts chunk row)) ≡ true
 
-  for_chunk : (slot off number : ℕ) (chunk : Chunk) → slice_get layout.chunks number ≡ Some chunk → list_any (covered_at slot off) (chunk_writes_for kept layout chunk wants images) ≡ true → ForCopies slot off ⊎ ForRow slot off
+  for_chunk : (slot off number : ℕ) (chunk : Chunk) → slice_get layout.chunks number ≡ Some chunk
+      → list_any (covered_at slot off) (chunk_writes_for kept layout chunk wants images) ≡ true → ForCopies slot off ⊎ ForRow slot off
   for_chunk slot off number chunk there h = by (mirrors chunk) refl h
     where
-      by : (o : Option ℕ) → mirrors chunk ≡ o → list_any (covered_at slot off) (cond (is_none o) (rows_writes layout (rows_in kept ts chunk) images) (blocks_writes (blocks_in layout chunk wants) images)) ≡ true → ForCopies slot off ⊎ ForRow slot off
+      by : (o : Option ℕ) → mirrors chunk ≡ o → list_any (covered_at slot off)
+          (cond (is_none o) (rows_writes layout (rows_in kept ts chunk) images) (blocks_writes (blocks_in layout chunk wants) images)) ≡ true
+          → ForCopies slot off ⊎ ForRow slot off
       by None parity h =
           let n = stripe_length chunk / 65536 in
           let f = any_flat (covered_at slot off) (row_writes images layout) (rows_in kept ts chunk) h in
@@ -188,7 +203,8 @@ module _ (kept : KeptColumns) (images : Images) (layout : Layout) (C : Committed
     fits = omega (arith, row_fits layout table is.number t.chunk is.there parity (addr_of t.want) is.held, ap (λ (e : Elements). e.row) is.at)
 
     mine : In t (row_of kept ts t.chunk t.at.row).blocks
-    mine = in_filter (is_in_row t.chunk t.at.row) t ts among (and_from (eqb t.chunk.start t.chunk.start) (eqb t.at.row t.at.row) (eq-eqb t.chunk.start t.chunk.start refl) (eq-eqb t.at.row t.at.row refl))
+    mine = in_filter (is_in_row t.chunk t.at.row) t ts among
+        (and_from (eqb t.chunk.start t.chunk.start) (eqb t.at.row t.at.row) (eq-eqb t.chunk.start t.chunk.start refl) (eq-eqb t.at.row t.at.row refl))
 
     some_blocks : (bs : List Target) → In t bs → bs ≢ []
     some_blocks [] i e = i
@@ -199,7 +215,8 @@ module _ (kept : KeptColumns) (images : Images) (layout : Layout) (C : Committed
         let n = stripe_length t.chunk / 65536 in
         let listed : rows_in kept ts t.chunk ≡ map (row_of kept ts t.chunk) (range_with_len 0 n) = ap (λ o. cond (is_none o) (map (row_of kept ts t.chunk) (range_with_len 0 n)) []) parity in
         had.rows t.chunk (row_of kept ts t.chunk t.at.row) (at_member layout.chunks is.number t.chunk is.there)
-        (subst (In (row_of kept ts t.chunk t.at.row)) (sym listed) (in_map (row_of kept ts t.chunk) t.at.row (range_with_len 0 n) (below_in 0 n t.at.row (omega arith) (omega (arith, fits)))))
+        (subst (In (row_of kept ts t.chunk t.at.row)) (sym listed)
+        (in_map (row_of kept ts t.chunk) t.at.row (range_with_len 0 n) (below_in 0 n t.at.row (omega arith) (omega (arith, fits)))))
         (some_blocks (row_of kept ts t.chunk t.at.row).blocks mine)
 
     row_outlives : (left : Images) → KeepsOutside ranges images left → StandsFor left C t
@@ -240,7 +257,8 @@ module _ (kept : KeptColumns) (images : Images) (layout : Layout) (C : Committed
               sym (copy_of_range layout t j.0 slot off m.0 is mirror there cover)
               ∙ same_copy layout t slot off table own is (of_range layout t j.0 slot off m.0 is mirror there cover) (byte slot off c)
               ∙ copy_of_range layout t k slot off range is (has_mirror t n k has lt) whole c in
-              not_bad (is_sound images t f.0) bad.1 (ap (is_sound images t) (sym j.2 ∙ ap Mirror same) ∙ right_is_sound kept images layout C wants table own none lengths had t among is (Mirror k) bytes e right)
+              not_bad (is_sound images t f.0) bad.1 (ap (is_sound images t) (sym j.2 ∙ ap Mirror same)
+              ∙ right_is_sound kept images layout C wants table own none lengths had t among is (Mirror k) bytes e right)
 
       -- nor those of any other
       not_written : (slot off : ℕ) → covers slot off range ≡ true → ForCopies slot off ⊎ ForRow slot off → ⊥
@@ -263,7 +281,8 @@ module _ (kept : KeptColumns) (images : Images) (layout : Layout) (C : Committed
           by true e = absurd (not_written slot off c (for_what slot off e))
 
       stays : (left : Images) → KeepsOutside ranges images left → element left t (Mirror k) ≡ element images t (Mirror k)
-      stays left keeps = same_element images left layout ranges t (Mirror k) lengths is keeps (λ slot off c. free slot off (subst (λ o. IsSomeAnd o (λ range. covers slot off range ≡ true)) whole c))
+      stays left keeps = same_element images left layout ranges t (Mirror k) lengths is keeps
+          (λ slot off c. free slot off (subst (λ o. IsSomeAnd o (λ range. covers slot off range ≡ true)) whole c))
 
     copies_outlive : (left : Images) → KeepsOutside ranges images left → StandsFor left C t
     copies_outlive left keeps =
@@ -273,7 +292,9 @@ module _ (kept : KeptColumns) (images : Images) (layout : Layout) (C : Committed
         let right : C t.want ≡ Some (element images t (Mirror j.0)) = a.2 ∙ ap (λ part. Some (element images t part)) (sym j.2) in
         let given = part_is_given layout t (Mirror j.0) table is (has_mirror t n j.0 has lt) none in
         let r = some_of (range_of t (Mirror j.0)) given in
-        any_in (λ c. (stands t c ≡ true) × (C t.want ≡ Some (value_of left t c))) (candidates t) (Read (Mirror j.0)) (in_candidates t (Read (Mirror j.0)) (subst (In (Read (Mirror j.0))) (sym (with_copies t n has)) (in_map (λ copy. Read (Mirror copy)) j.0 (range_with_len 0 n) j.1)))
+        any_in (λ c. (stands t c ≡ true) × (C t.want ≡ Some (value_of left t c))) (candidates t) (Read (Mirror j.0))
+        (in_candidates t (Read (Mirror j.0)) (subst (In (Read (Mirror j.0))) (sym (with_copies t n has))
+        (in_map (λ copy. Read (Mirror copy)) j.0 (range_with_len 0 n) j.1)))
         (ap (λ b. b && true) given, right ∙ ap Some (sym (stays j.0 lt right r.0 r.1 left keeps)))
 
   -- ---- all blocks

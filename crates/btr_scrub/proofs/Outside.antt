@@ -1,10 +1,11 @@
 -- Whatever failed, nothing changes but the ranges of the writes.
-use Rattle.std.proofs.Common.{◌≡◌, ℕ, zero, suc, Bool, true, false, ◌||◌, List, [], ◌∷◌, ◌++◌, map, All, Some, IsSomeAnd, Result, Ok, Err, refl, sym, ◌∙◌, subst, inl, inr, arith}
+use Rattle.std.proofs.Common.{◌≡◌, ℕ, zero, suc, Bool, true, false, ◌||◌, List, [], ◌∷◌, ◌++◌, map, All, Some, IsSomeAnd, Result, Ok, Err, refl, sym, ◌∙◌}
+use Rattle.std.proofs.Common.{subst, inl, inr, arith}
 use Rattle.std.proofs.lemmas.Option.{same_Some}
 use Rattle.std.specs.List.{fold, list_any}
 use Rattle.btr_rack.specs.declared.place.Place.{Place as Range}
-use Rattle.btr_mend.specs.Writes.{Images, IsStopped, IsTorn, Leaves, Write, write_on, writes_if}
-use Rattle.btr_mend.specs.declared.mended.MendFault.{MendFault}
+use Rattle.btr_scrub_copies.specs.Writes.{Images, IsStopped, IsTorn, Leaves, Write, write_on, writes_if}
+use Rattle.btr_scrub_copies.specs.declared.mended.MendFault.{MendFault}
 use Rattle.btr_scrub.specs.Leaves.{KeepsOutside}
 use Rattle.btr_scrub.specs.Repair.{covers}
 use Rattle.btr_scrub.specs.Scrubbing.{chunk_writes_for}
@@ -32,7 +33,8 @@ none_of_append slot off [] ys e = (refl, e)
 none_of_append slot off (x ∷ xs) ys e = by (covers slot off x.range) e (none_of_append slot off xs ys)
   where
     by : (b : Bool) → (b || list_any (covers slot off) (ranges (xs ++ ys))) ≡ false
-        → (list_any (covers slot off) (ranges (xs ++ ys)) ≡ false → (list_any (covers slot off) (ranges xs) ≡ false) × (list_any (covers slot off) (ranges ys) ≡ false))
+        → (list_any (covers slot off) (ranges (xs ++ ys)) ≡ false → (list_any (covers slot off) (ranges xs) ≡ false)
+        × (list_any (covers slot off) (ranges ys) ≡ false))
         → ((b || list_any (covers slot off) (ranges xs)) ≡ false) × (list_any (covers slot off) (ranges ys) ≡ false)
     by true e rest = absurd (false≢true (sym e))
     by false e rest = rest e
@@ -41,7 +43,8 @@ first_false : (a b : Bool) → (a || b) ≡ false → (a || false) ≡ false
 first_false true b e = e
 first_false false b e = refl
 
-torn_keeps : (images left : Images) (before behind : List Write) → All (Short images) (before ++ behind) → IsTorn behind (fold write_on images before) left → KeepsOutside (ranges (before ++ behind)) images left
+torn_keeps : (images left : Images) (before behind : List Write) → All (Short images) (before ++ behind)
+    → IsTorn behind (fold write_on images before) left → KeepsOutside (ranges (before ++ behind)) images left
 torn_keeps images left before [] all t = absurd t
 torn_keeps images left before (w ∷ behind) all t =
     let done = shorts_keep images before (left_short images before (w ∷ behind) all) in
@@ -66,7 +69,8 @@ stopped_keeps images left ws all s =
       | inr part ↦ torn_keeps images left s.before s.behind shorts part
     ])
 
-pub stopped_if : (write : Bool) (images left : Images) (ws : List Write) → All (Short images) ws → IsStopped (writes_if write ws) images left → KeepsOutside (ranges ws) images left
+pub stopped_if : (write : Bool) (images left : Images) (ws : List Write) → All (Short images) ws → IsStopped (writes_if write ws) images left
+    → KeepsOutside (ranges ws) images left
 stopped_if true images left ws all s = stopped_keeps images left ws all s
 stopped_if false images left ws all s =
     let none = stopped_keeps images left [] (λ i d below. absurd (omega (arith, below))) s in
@@ -78,11 +82,14 @@ works_keep_the_rest layout write wants plain count old new t u result images lef
     shorts : All (Short images) (listed_writes_for layout wants plain images)
     shorts = flat_short images (λ c. chunk_writes_for (listed_columns layout wants plain images) layout c wants images) layout.chunks (λ c i. let j = at_in c layout.chunks i in chunk_short (listed_columns layout wants plain images) layout table own given j.0 c j.1 wants images lengths)
 
-    by : (r : Result (Unit {0}) MendFault) → Leaves (λ images. writes_if write (listed_writes_for layout wants plain images)) old.held new.held r → KeepsOutside (ranges (listed_writes_for layout wants plain images)) images left
+    by : (r : Result (Unit {0}) MendFault) → Leaves (λ images. writes_if write (listed_writes_for layout wants plain images)) old.held new.held r
+        → KeepsOutside (ranges (listed_writes_for layout wants plain images)) images left
     by (Ok x) l =
         let after : new.held ≡ Some (fold write_on images (writes_if write (listed_writes_for layout wants plain images))) = subst (λ o. Leaves {A = Unit {0}} {E = MendFault} (λ images. writes_if write (listed_writes_for layout wants plain images)) o new.held (Ok x)) held l in
-        subst (KeepsOutside (ranges (listed_writes_for layout wants plain images)) images) (same_Some (fold write_on images (writes_if write (listed_writes_for layout wants plain images))) left (sym after ∙ is))
+        subst (KeepsOutside (ranges (listed_writes_for layout wants plain images)) images)
+        (same_Some (fold write_on images (writes_if write (listed_writes_for layout wants plain images))) left (sym after ∙ is))
         (shorts_keep_if write images (listed_writes_for layout wants plain images) shorts)
     by (Err e) l =
         let stopped : IsSomeAnd new.held (IsStopped (writes_if write (listed_writes_for layout wants plain images)) images) = subst (λ o. Leaves {A = Unit {0}} {E = MendFault} (λ images. writes_if write (listed_writes_for layout wants plain images)) o new.held (Err e)) held l in
-        stopped_if write images left (listed_writes_for layout wants plain images) shorts (subst (λ o. IsSomeAnd o (IsStopped (writes_if write (listed_writes_for layout wants plain images)) images)) is stopped)
+        stopped_if write images left (listed_writes_for layout wants plain images) shorts
+        (subst (λ o. IsSomeAnd o (IsStopped (writes_if write (listed_writes_for layout wants plain images)) images)) is stopped)

@@ -1,5 +1,6 @@
 -- Lists in pages.
-use Rattle.std.proofs.Common.{◌≡◌, ℕ, zero, suc, ◌+◌, ◌-◌, ◌*◌, ◌/◌, ◌%◌, ◌<◌, ◌≤◌, List, [], ◌∷◌, ◌++◌, length, Some, None, Result, Ok, Err, OnOk, OnErr, drop, set, slice_get, take, Vec, refl, sym, ap, ◌∙◌, subst, arith, append_assoc, append-nil, length-append}
+use Rattle.std.proofs.Common.{◌≡◌, ℕ, zero, suc, ◌+◌, ◌-◌, ◌*◌, ◌/◌, ◌%◌, ◌<◌, ◌≤◌, List, [], ◌∷◌, ◌++◌, length, Some, None, Result, Ok, Err, OnOk, OnErr, drop}
+use Rattle.std.proofs.Common.{set, slice_get, take, Vec, refl, sym, ap, ◌∙◌, subst, arith, append_assoc, append-nil, length-append}
 use Rattle.std.proofs.Math.Seq.{take-suc}
 use Rattle.std.proofs.lemmas.List.{get_or-drop, length-drop, take_more_set}
 use Rattle.std.proofs.lemmas.Option.{get_or_from_slice_get, same_Some, slice_get_within}
@@ -35,44 +36,52 @@ get_right (x ∷ xs) ys i =
 
 module _ {T : Type 0} where
   -- an item of a page
-  pub in_page : (full : List (Vec T Global)) (last : List T) (page : Vec T Global) (k rest : ℕ) → AreFull full → slice_get full k ≡ Some page → rest < 4096 → slice_get (items_in full last) (k * 4096 + rest) ≡ slice_get page.items rest
+  pub in_page : (full : List (Vec T Global)) (last : List T) (page : Vec T Global) (k rest : ℕ) → AreFull full → slice_get full k ≡ Some page
+      → rest < 4096 → slice_get (items_in full last) (k * 4096 + rest) ≡ slice_get page.items rest
   in_page [] last page k rest h e lt = absurd (none_some e)
     where
       none_some : None ≡ Some page → ⊥
       none_some e = cc
   in_page (p ∷ ps) last page zero rest h e lt =
       let on : 0 * 4096 + rest ≡ rest = omega arith in
-      ap (slice_get (p.items ++ items_in ps last)) on ∙ get_left p.items (items_in ps last) rest (omega (arith, lt, h.0)) ∙ ap (λ (v : Vec T Global). slice_get v.items rest) (same_Some p page e)
+      ap (slice_get (p.items ++ items_in ps last)) on ∙ get_left p.items (items_in ps last) rest (omega (arith, lt, h.0))
+      ∙ ap (λ (v : Vec T Global). slice_get v.items rest) (same_Some p page e)
   in_page (p ∷ ps) last page (suc k) rest h e lt =
       let on : suc k * 4096 + rest ≡ length p.items + (k * 4096 + rest) = omega (arith, h.0) in
       ap (slice_get (p.items ++ items_in ps last)) on ∙ get_right p.items (items_in ps last) (k * 4096 + rest) ∙ in_page ps last page k rest h.1 e lt
 
   -- an item behind the pages
-  pub behind_pages : (full : List (Vec T Global)) (last : List T) (i : ℕ) → AreFull full → slice_get (items_in full last) (length full * 4096 + i) ≡ slice_get last i
+  pub behind_pages : (full : List (Vec T Global)) (last : List T) (i : ℕ) → AreFull full → slice_get (items_in full last) (length full * 4096 + i)
+      ≡ slice_get last i
   behind_pages [] last i h = ap (slice_get last) (omega arith)
   behind_pages (p ∷ ps) last i h =
       let on : suc (length ps) * 4096 + i ≡ length p.items + (length ps * 4096 + i) = omega (arith, h.0) in
       ap (slice_get (p.items ++ items_in ps last)) on ∙ get_right p.items (items_in ps last) (length ps * 4096 + i) ∙ behind_pages ps last i h.1
 
   -- the last page was put to the others, or not for want of memory
-  pub made_full : {E : Type 0} (full full' : List (Vec T Global)) (page : Vec T Global) (result : Result (Unit {0}) E) → AreFull full → OnOk result (full' ≡ full ++ page ∷ []) → OnErr result (full' ≡ full) → length page.items ≡ 4096 → AreFull full'
+  pub made_full : {E : Type 0} (full full' : List (Vec T Global)) (page : Vec T Global) (result : Result (Unit {0}) E) → AreFull full
+      → OnOk result (full' ≡ full ++ page ∷ []) → OnErr result (full' ≡ full) → length page.items ≡ 4096 → AreFull full'
   made_full full full' page (Ok u) h grown refused long = subst AreFull (sym grown) (turned_full full page h long)
   made_full full full' page (Err e) h grown refused long = subst AreFull (sym refused) h
 
-  pub made_same : {E : Type 0} (full full' : List (Vec T Global)) (page next : Vec T Global) (result : Result (Unit {0}) E) → OnOk result (full' ≡ full ++ page ∷ []) → next.items ≡ [] → OnOk result (items_in full' next.items ≡ items_in full page.items)
+  pub made_same : {E : Type 0} (full full' : List (Vec T Global)) (page next : Vec T Global) (result : Result (Unit {0}) E)
+      → OnOk result (full' ≡ full ++ page ∷ []) → next.items ≡ [] → OnOk result (items_in full' next.items ≡ items_in full page.items)
   made_same full full' page next (Ok u) grown none = ap (λ xs. items_in xs next.items) grown ∙ ap (items_in (full ++ page ∷ [])) none ∙ turned full page
   made_same full full' page next (Err e) grown none = tt
 
-  pub pushed_on : {E : Type 0} (full : List (Vec T Global)) (last last' all : List T) (item : T) (result : Result (Unit {0}) E) → items_in full last ≡ all → OnOk result (last' ≡ last ++ item ∷ []) → OnOk result (items_in full last' ≡ all ++ item ∷ [])
+  pub pushed_on : {E : Type 0} (full : List (Vec T Global)) (last last' all : List T) (item : T) (result : Result (Unit {0}) E) → items_in full last
+      ≡ all → OnOk result (last' ≡ last ++ item ∷ []) → OnOk result (items_in full last' ≡ all ++ item ∷ [])
   pushed_on full last last' all item (Ok u) is grown = ap (items_in full) grown ∙ pushed full last (item ∷ []) ∙ ap (λ xs. xs ++ item ∷ []) is
   pushed_on full last last' all item (Err e) is grown = tt
 
-  pub page_read : (full : List (Vec T Global)) (last : List T) (page : Vec T Global) (i : ℕ) → AreFull full → slice_get full (i / 4096) ≡ Some page → slice_get (items_in full last) i ≡ slice_get page.items (i % 4096)
+  pub page_read : (full : List (Vec T Global)) (last : List T) (page : Vec T Global) (i : ℕ) → AreFull full → slice_get full (i / 4096) ≡ Some page
+      → slice_get (items_in full last) i ≡ slice_get page.items (i % 4096)
   page_read full last page i h e =
       let is : i ≡ i / 4096 * 4096 + i % 4096 = omega arith in
       ap (slice_get (items_in full last)) is ∙ in_page full last page (i / 4096) (i % 4096) h e (omega arith)
 
-  pub behind_read : (full : List (Vec T Global)) (last : List T) (n i : ℕ) → AreFull full → n ≡ length full → n ≤ i / 4096 → slice_get (items_in full last) i ≡ slice_get last (i - n * 4096)
+  pub behind_read : (full : List (Vec T Global)) (last : List T) (n i : ℕ) → AreFull full → n ≡ length full → n ≤ i / 4096
+      → slice_get (items_in full last) i ≡ slice_get last (i - n * 4096)
   behind_read full last n i h e le =
       let is : i ≡ length full * 4096 + (i - n * 4096) = omega (arith, e, le) in
       ap (slice_get (items_in full last)) is ∙ behind_pages full last (i - n * 4096) h
@@ -81,13 +90,15 @@ module _ {T : Type 0} where
   pub counted : (full : List (Vec T Global)) (last : List T) → length (items_in full last) ≡ length (items_in full []) + length last
   counted full last = ap length (pushed full [] last) ∙ length-append (items_in full []) last
 
-  pub made_fewer : {E : Type 0} (full full' : List (Vec T Global)) (last next : List T) (result : Result (Unit {0}) E) → OnErr result (full' ≡ full) → next ≡ [] → OnErr result (length (items_in full' next) ≤ length (items_in full last))
+  pub made_fewer : {E : Type 0} (full full' : List (Vec T Global)) (last next : List T) (result : Result (Unit {0}) E) → OnErr result (full' ≡ full)
+      → next ≡ [] → OnErr result (length (items_in full' next) ≤ length (items_in full last))
   made_fewer full full' last next (Ok u) refused none = tt
   made_fewer full full' last next (Err e) refused none =
       let is : length (items_in full' next) ≡ length (items_in full []) = ap (λ xs. length (items_in xs next)) refused ∙ ap (λ xs. length (items_in full xs)) none in
       omega (arith, is, counted full last)
 
-  pub one_more : {E : Type 0} (full : List (Vec T Global)) (last last' : List T) (item : T) (result : Result (Unit {0}) E) (len : ℕ) → length (items_in full last) ≤ len → OnOk result (last' ≡ last ++ item ∷ []) → OnErr result (last' ≡ last) → length (items_in full last') ≤ len + 1
+  pub one_more : {E : Type 0} (full : List (Vec T Global)) (last last' : List T) (item : T) (result : Result (Unit {0}) E) (len : ℕ)
+      → length (items_in full last) ≤ len → OnOk result (last' ≡ last ++ item ∷ []) → OnErr result (last' ≡ last) → length (items_in full last') ≤ len + 1
   one_more full last last' item (Ok u) len le grown refused =
       let is : length (items_in full last') ≡ length (items_in full last) + 1 = ap (λ xs. length (items_in full xs)) grown ∙ ap length (pushed full last (item ∷ [])) ∙ length-append (items_in full last) (item ∷ []) in
       omega (arith, is, le)
@@ -101,7 +112,8 @@ module _ {T : Type 0} where
       omega (arith, more, both, h.0)
 
 -- one item more is copied
-pub copied_more : {T : Type 0} (out items : List T) (at i : ℕ) (x : T) → i < length out → take i out ≡ take i (drop at items) → slice_get items (at + i) ≡ Some x → take (i + 1) (set out i x) ≡ take (i + 1) (drop at items)
+pub copied_more : {T : Type 0} (out items : List T) (at i : ℕ) (x : T) → i < length out → take i out ≡ take i (drop at items)
+    → slice_get items (at + i) ≡ Some x → take (i + 1) (set out i x) ≡ take (i + 1) (drop at items)
 copied_more out items at i x lt same e =
     let there = slice_get_within items (at + i) x e in
     let long = length-drop at items in

@@ -1,5 +1,6 @@
 -- Bytes that are written over others.
-use Rattle.std.proofs.Common.{◌≡◌, ◌⊎◌, ℕ, suc, ◌+◌, ◌<◌, ◌≤◌, Bool, true, false, ◌&&◌, ◌||◌, leb, ltb, List, [], ◌∷◌, map, length, get_or, set, refl, sym, ap, ◌∙◌, subst, inl, inr, arith}
+use Rattle.std.proofs.Common.{◌≡◌, ◌⊎◌, ℕ, suc, ◌+◌, ◌<◌, ◌≤◌, Bool, true, false, ◌&&◌, ◌||◌, leb, ltb, List, [], ◌∷◌, map, length, get_or, set, refl, sym, ap}
+use Rattle.std.proofs.Common.{◌∙◌, subst, inl, inr, arith}
 use Rattle.std.proofs.lemmas.Bool.{false≢true, cases_eq, cases_lt, eq-eqb, le-leb, lt-ltb}
 use Rattle.std.proofs.lemmas.List.{length-set, get_or-set_same, get_or-set_other, set_past}
 use Rattle.std.specs.List.{fold, list_any}
@@ -7,8 +8,8 @@ use Rattle.btr_rack.specs.Rack.{image_of, pasted, written}
 use Rattle.btr_rack.specs.declared.place.Place.{Place as Range}
 use Rattle.btr_scrub.specs.Leaves.{KeepsOutside, WritesKeepTheRest}
 use Rattle.btr_scrub.specs.Repair.{covers}
-use Rattle.btr_mend.specs.Writes.{Images, Write, write_on}
-use Rattle.btr_row.proofs.Pasted.{length-pasted, pasted-outside}
+use Rattle.btr_scrub_copies.specs.Writes.{Images, Write, write_on}
+use Rattle.btr_scrub_row.proofs.Pasted.{length-pasted, pasted-outside}
 
 -- a byte that a range doesn't cover lies outside
 pub not_covered : (slot off : ℕ) (range : Range) → covers slot off range ≡ false → range.slot ≡ slot → (off < range.off) ⊎ (range.off + range.len ≤ off)
@@ -26,10 +27,12 @@ not_covered slot off range e same = elim (cases_lt off range.off) [
 ]
 
 -- the image in a slot, after one in a slot was replaced
-pub image_set : (images : Images) (slot s : ℕ) (new : List ℕ) → (length new ≡ length (image_of images slot)) → length (image_of (set images slot new) s) ≡ length (image_of images s)
+pub image_set : (images : Images) (slot s : ℕ) (new : List ℕ) → (length new ≡ length (image_of images slot))
+    → length (image_of (set images slot new) s) ≡ length (image_of images s)
 image_set images slot s new long = elim (cases_eq s slot) [
   | inl e ↦ elim (cases_lt slot (length images)) [
-    | inl lt ↦ ap (λ k. length (get_or (set images slot new) k [])) e ∙ ap length (get_or-set_same images slot new [] lt) ∙ long ∙ ap (λ k. length (get_or images k [])) (sym e)
+    | inl lt ↦ ap (λ k. length (get_or (set images slot new) k [])) e ∙ ap length (get_or-set_same images slot new [] lt) ∙ long
+        ∙ ap (λ k. length (get_or images k [])) (sym e)
     | inr le ↦ ap (λ xs. length (get_or xs s [])) (set_past images slot new le)
   ]
   | inr ne ↦ ap length (get_or-set_other images slot s new [] ne)
@@ -50,7 +53,9 @@ one_write images range bytes long within =
           | inl lt ↦
               ap (λ k. get_or (get_or (set images range.slot new) k []) off 0) same
               ∙ ap (λ xs. get_or xs off 0) (get_or-set_same images range.slot new [] lt)
-              ∙ pasted-outside image range.off bytes fits off 0 (subst (λ n. (off < range.off) ⊎ (range.off + n ≤ off)) (sym long) (not_covered slot off range (first_false (covers slot off range) e) (sym same)))
+              ∙ pasted-outside image range.off bytes fits off 0
+              (subst (λ n. (off < range.off) ⊎ (range.off + n ≤ off)) (sym long)
+              (not_covered slot off range (first_false (covers slot off range) e) (sym same)))
               ∙ ap (λ k. get_or (get_or images k []) off 0) (sym same)
           | inr le ↦ ap (λ xs. get_or (get_or xs slot []) off 0) (set_past images range.slot new le)
         ]
@@ -74,7 +79,8 @@ pub keeps_none : (images : Images) → KeepsOutside [] images images
 keeps_none images = record { count = refl; lengths = λ slot. refl; bytes = λ slot off e. refl }
 
 -- one range and then others
-pub keeps_more : (range : Range) (ranges : List Range) (a b c : Images) → KeepsOutside (range ∷ []) a b → KeepsOutside ranges b c → KeepsOutside (range ∷ ranges) a c
+pub keeps_more : (range : Range) (ranges : List Range) (a b c : Images) → KeepsOutside (range ∷ []) a b → KeepsOutside ranges b c
+    → KeepsOutside (range ∷ ranges) a c
 keeps_more range ranges a b c one more = record {
   count = more.count ∙ one.count;
   lengths = λ slot. more.lengths slot ∙ one.lengths slot;

@@ -1,5 +1,6 @@
 -- Each byte of a device is of one stripe, and of one element, at most.
-use Rattle.std.proofs.Common.{◌≡◌, ℕ, ◌+◌, ◌*◌, ◌<◌, ◌≤◌, true, ◌&&◌, eqb, leb, ltb, length, Option, Some, None, IsSome, IsSomeAnd, slice_get, refl, sym, ap, ◌∙◌, subst, arith}
+use Rattle.std.proofs.Common.{◌≡◌, ℕ, ◌+◌, ◌*◌, ◌<◌, ◌≤◌, true, ◌&&◌, eqb, leb, ltb, length, Option, Some, None, IsSome, IsSomeAnd, slice_get, refl, sym, ap}
+use Rattle.std.proofs.Common.{◌∙◌, subst, arith}
 use Rattle.std.proofs.lemmas.Bool.{and_parts, eqb-true, leb-true, ltb-true}
 use Rattle.std.proofs.lemmas.Option.{same_Some}
 use Rattle.btr_chunk.specs.Chunk.{IsChunk}
@@ -20,8 +21,8 @@ use Rattle.btr_chunk.specs.Apart.{LiesIn}
 use Rattle.btr_chunk.proofs.Apart.{stripes_apart}
 use Rattle.btr_scrub.specs.Places.{ElementsApart, IsOfElement}
 use Rattle.btr_scrub.specs.Repair.{covers}
-use Rattle.btr_row.specs.Rows.{Row, range_in_element}
-use Rattle.btr_row.proofs.Elements.{range_stands, stands_on}
+use Rattle.btr_scrub_row.specs.Rows.{Row, range_in_element}
+use Rattle.btr_scrub_row.proofs.Elements.{range_stands, stands_on}
 
 -- the byte's place on its device, and in its element
 pub record IsAt (layout : Layout) (row : Row) (part : Part) (slot off : ℕ) (number : ℕ) : Type 0 where
@@ -44,7 +45,8 @@ is_some_of : (o : Option Range) (P : Range → Type 0) → IsSomeAnd o P → IsS
 is_some_of None P h = absurd h
 is_some_of (Some r) P h = refl
 
-pub is_at : (layout : Layout) (row : Row) (part : Part) (slot off : ℕ) → IsTable layout.chunks → (e : IsOfElement layout row part slot off) → IsAt layout row part slot off e.number
+pub is_at : (layout : Layout) (row : Row) (part : Part) (slot off : ℕ) → IsTable layout.chunks → (e : IsOfElement layout row part slot off)
+    → IsAt layout row part slot off e.number
 is_at layout row part slot off table e =
     let at0 : Elements = record { row = row.number; index = 0; rest = 0 } in
     let chunk : IsChunk row.chunk = (table.sound e.number row.chunk e.there).0 in

@@ -24,9 +24,11 @@ not_ok r f e h = false≢true (subst IsOk e h)
 pub ends_inside : (chunk : Chunk) (addr len : ℕ) (at : Elements) → elements_of chunk addr len ≡ Ok at → addr + len ≤ chunk.start + chunk.length
 ends_inside chunk addr len at e = by (holds chunk addr) (crosses chunk addr len) refl e
   where
-    by : (h c : Bool) → crosses chunk addr len ≡ c → cond h (cond c (Err map_fault.Crosses) (Ok (position chunk addr))) (Err map_fault.Unmapped) ≡ Ok at → addr + len ≤ chunk.start + chunk.length
+    by : (h c : Bool) → crosses chunk addr len ≡ c → cond h (cond c (Err map_fault.Crosses) (Ok (position chunk addr))) (Err map_fault.Unmapped)
+        ≡ Ok at → addr + len ≤ chunk.start + chunk.length
     by true true fine e = cc
-    by true false fine e = not_above (chunk.start + chunk.length) (addr + len) (left_false (ltb (chunk.start + chunk.length) (addr + len)) (is_striped chunk.profile && ltb 65536 ((addr - chunk.start) % 65536 + len)) fine)
+    by true false fine e = not_above (chunk.start + chunk.length) (addr + len)
+        (left_false (ltb (chunk.start + chunk.length) (addr + len)) (is_striped chunk.profile && ltb 65536 ((addr - chunk.start) % 65536 + len)) fine)
     by false c fine e = cc
 
 module _ (layout : Layout) (from : ℕ) (want : Want) (addr : ℕ) (is : addr ≡ addr_of want) where
@@ -39,7 +41,8 @@ module _ (layout : Layout) (from : ℕ) (want : Want) (addr : ℕ) (is : addr �
     at_chunk : (r : Result Elements MapFault) → r ≡ elements_of chunk addr len → sought layout want ≡ sought_at layout want chunk r
     at_chunk r e =
         ap (λ a. sought_in layout want (chunk_at layout.chunks a)) (sym is) ∙ ap (sought_in layout want) (sym there)
-        ∙ ap (λ a. sought_at layout want chunk (elements_of chunk a (len_of layout.setting want))) (sym is) ∙ ap (λ n. sought_at layout want chunk (elements_of chunk addr n)) (sym long) ∙ ap (sought_at layout want chunk) (sym e)
+        ∙ ap (λ a. sought_at layout want chunk (elements_of chunk a (len_of layout.setting want))) (sym is)
+        ∙ ap (λ n. sought_at layout want chunk (elements_of chunk addr n)) (sym long) ∙ ap (sought_at layout want chunk) (sym e)
 
     pub not_in_chunk : Err map_fault.Unmapped ≡ elements_of chunk addr len → JudgedOne layout from want (Err (tree.Unmapped addr))
     not_in_chunk e =

@@ -1,5 +1,6 @@
 -- Plain sectors in runs.
-use Rattle.std.proofs.Common.{◌≡◌, ℕ, zero, suc, ◌+◌, ◌-◌, ◌*◌, ◌/◌, ◌%◌, ◌<◌, ◌≤◌, Bool, true, false, eqb, ltb, ◌&&◌, ◌||◌, List, [], ◌∷◌, ◌++◌, Option, Some, None, IsSomeAnd, slice_get, length, length-append, refl, sym, ap, ◌∙◌, inl, inr, arith, append_assoc, append-nil}
+use Rattle.std.proofs.Common.{◌≡◌, ℕ, zero, suc, ◌+◌, ◌-◌, ◌*◌, ◌/◌, ◌%◌, ◌<◌, ◌≤◌, Bool, true, false, eqb, ltb, ◌&&◌, ◌||◌, List, [], ◌∷◌, ◌++◌, Option, Some}
+use Rattle.std.proofs.Common.{None, IsSomeAnd, slice_get, length, length-append, refl, sym, ap, ◌∙◌, inl, inr, arith, append_assoc, append-nil}
 use Rattle.std.proofs.lemmas.Bool.{and_left, and_right, or_from, or_left, or_right, cases_eq, cases_lt, cases_order, eq-eqb, le-ltb, lt-ltb, ne_eqb}
 use Rattle.std.proofs.lemmas.Option.{same_Some, slice_get_within}
 use Rattle.std.proofs.lemmas.List.Folds.{list_any-append}
@@ -11,7 +12,8 @@ use Rattle.btr_scrub.specs.declared.plain.PlainRun.{PlainRun}
 -- no sector of a run begins before it
 pub before_run : (n addr x : ℕ) → x < addr → is_plain (run_sectors addr n) x ≡ false
 before_run zero addr x lt = refl
-before_run (suc n) addr x lt = ap (λ b. b || is_plain (run_sectors (addr + 4096) n) x) (ne_eqb addr x (λ e. absurd (omega (arith, e, lt)))) ∙ before_run n (addr + 4096) x (omega (arith, lt))
+before_run (suc n) addr x lt = ap (λ b. b || is_plain (run_sectors (addr + 4096) n) x) (ne_eqb addr x (λ e. absurd (omega (arith, e, lt))))
+    ∙ before_run n (addr + 4096) x (omega (arith, lt))
 
 -- whether one begins at an address
 pub in_run : (n addr x : ℕ) → addr ≤ x → is_plain (run_sectors addr n) x ≡ (eqb ((x - addr) % 4096) 0 && ltb ((x - addr) / 4096) n)
@@ -19,9 +21,11 @@ in_run zero addr x le = sym (and_right (eqb ((x - addr) % 4096) 0) (ltb ((x - ad
 in_run (suc n) addr x le = elim (cases_eq addr x) [
   | inl same ↦
       ap (λ b. b || is_plain (run_sectors (addr + 4096) n) x) (eq-eqb addr x same)
-      ∙ sym (ap (λ b. b && ltb ((x - addr) / 4096) (suc n)) (eq-eqb ((x - addr) % 4096) 0 (omega (arith, same))) ∙ lt-ltb ((x - addr) / 4096) (suc n) (omega (arith, same)))
+      ∙ sym (ap (λ b. b && ltb ((x - addr) / 4096) (suc n)) (eq-eqb ((x - addr) % 4096) 0 (omega (arith, same)))
+      ∙ lt-ltb ((x - addr) / 4096) (suc n) (omega (arith, same)))
   | inr other ↦ ap (λ b. b || is_plain (run_sectors (addr + 4096) n) x) (ne_eqb addr x other) ∙ elim (cases_lt x (addr + 4096)) [
-    | inl near ↦ before_run n (addr + 4096) x near ∙ sym (and_left (eqb ((x - addr) % 4096) 0) (ltb ((x - addr) / 4096) (suc n)) (ne_eqb ((x - addr) % 4096) 0 (λ e. absurd (other (omega (arith, e, near, le))))))
+    | inl near ↦ before_run n (addr + 4096) x near ∙ sym (and_left (eqb ((x - addr) % 4096) 0) (ltb ((x - addr) / 4096) (suc n))
+        (ne_eqb ((x - addr) % 4096) 0 (λ e. absurd (other (omega (arith, e, near, le))))))
     | inr far ↦
         in_run n (addr + 4096) x far
         ∙ ap (λ m. eqb m 0 && ltb ((x - (addr + 4096)) / 4096) n) (omega (arith, far))
@@ -44,10 +48,12 @@ run_more (suc n) addr =
     ap (run_sectors addr) one ∙ ap (λ xs. addr ∷ xs) (run_more n (addr + 4096) ∙ ap (λ a. run_sectors (addr + 4096) n ++ a ∷ []) next)
 
 all_push : (runs : List PlainRun) (run : PlainRun) → all_runs (runs ++ run ∷ []) ≡ all_runs runs ++ run_sectors run.addr run.count
-all_push runs run = flat_map-append (λ (run : PlainRun). run_sectors run.addr run.count) runs (run ∷ []) ∙ ap (λ xs. all_runs runs ++ xs) (append-nil (run_sectors run.addr run.count))
+all_push runs run = flat_map-append (λ (run : PlainRun). run_sectors run.addr run.count) runs (run ∷ [])
+    ∙ ap (λ xs. all_runs runs ++ xs) (append-nil (run_sectors run.addr run.count))
 
 -- the last run has one more sector
-pub lengthened : (runs : List PlainRun) (run longer : PlainRun) (addr : ℕ) → IsNext run addr longer → all_runs (runs ++ longer ∷ []) ≡ all_runs (runs ++ run ∷ []) ++ addr ∷ []
+pub lengthened : (runs : List PlainRun) (run longer : PlainRun) (addr : ℕ) → IsNext run addr longer → all_runs (runs ++ longer ∷ [])
+    ≡ all_runs (runs ++ run ∷ []) ++ addr ∷ []
 lengthened runs run longer addr next =
     all_push runs longer ∙ ap (λ (r : PlainRun). all_runs runs ++ run_sectors r.addr r.count) next.longer_is
     ∙ ap (λ xs. all_runs runs ++ xs) (run_more run.count run.addr ∙ ap (λ a. run_sectors run.addr run.count ++ a ∷ []) (sym next.next))
@@ -55,26 +61,31 @@ lengthened runs run longer addr next =
 
 -- whether a plain sector begins at an address, run by run
 pub run_by_run : (runs more : List PlainRun) (x : ℕ) → is_plain (all_runs (runs ++ more)) x ≡ (is_plain (all_runs runs) x || is_plain (all_runs more) x)
-run_by_run runs more x = ap (λ xs. is_plain xs x) (flat_map-append (λ (run : PlainRun). run_sectors run.addr run.count) runs more) ∙ list_any-append (λ a. eqb a x) (all_runs runs) (all_runs more)
+run_by_run runs more x = ap (λ xs. is_plain xs x) (flat_map-append (λ (run : PlainRun). run_sectors run.addr run.count) runs more)
+    ∙ list_any-append (λ a. eqb a x) (all_runs runs) (all_runs more)
 
 -- the last run of some, where there is one, has one more sector
-pub last_lengthened : (runs : List PlainRun) (last : Option PlainRun) (longer : PlainRun) (addr : ℕ) (now : List ℕ) → all_runs (runs ++ option_to_list last) ≡ now → IsSomeAnd last (λ run. IsNext run addr longer)
+pub last_lengthened : (runs : List PlainRun) (last : Option PlainRun) (longer : PlainRun) (addr : ℕ) (now : List ℕ)
+    → all_runs (runs ++ option_to_list last) ≡ now → IsSomeAnd last (λ run. IsNext run addr longer)
     → all_runs (runs ++ longer ∷ []) ≡ now ++ addr ∷ []
 last_lengthened runs None longer addr now e h = absurd h
 last_lengthened runs (Some run) longer addr now e h = lengthened runs run longer addr h ∙ ap (λ xs. xs ++ addr ∷ []) e
 
 -- a sector is that of some run
-pub found : (runs : List PlainRun) (i : ℕ) (run : PlainRun) (x : ℕ) → slice_get runs i ≡ Some run → is_plain (run_sectors run.addr run.count) x ≡ true → is_plain (all_runs runs) x ≡ true
+pub found : (runs : List PlainRun) (i : ℕ) (run : PlainRun) (x : ℕ) → slice_get runs i ≡ Some run → is_plain (run_sectors run.addr run.count) x ≡ true
+    → is_plain (all_runs runs) x ≡ true
 found [] i run x e h = cc
 found (r ∷ rs) zero run x e h =
     let same : r ≡ run = same_Some r run e in
     list_any-append (λ a. eqb a x) (run_sectors r.addr r.count) (all_runs rs)
     ∙ or_left (is_plain (run_sectors r.addr r.count) x) (is_plain (all_runs rs) x) (ap (λ (r : PlainRun). is_plain (run_sectors r.addr r.count) x) same ∙ h)
 found (r ∷ rs) (suc i) run x e h =
-    list_any-append (λ a. eqb a x) (run_sectors r.addr r.count) (all_runs rs) ∙ or_right (is_plain (run_sectors r.addr r.count) x) (is_plain (all_runs rs) x) (found rs i run x e h)
+    list_any-append (λ a. eqb a x) (run_sectors r.addr r.count) (all_runs rs)
+    ∙ or_right (is_plain (run_sectors r.addr r.count) x) (is_plain (all_runs rs) x) (found rs i run x e h)
 
 -- or of none
-pub none_found : (runs : List PlainRun) (x : ℕ) → ((i : ℕ) (run : PlainRun) → slice_get runs i ≡ Some run → is_plain (run_sectors run.addr run.count) x ≡ false) → is_plain (all_runs runs) x ≡ false
+pub none_found : (runs : List PlainRun) (x : ℕ) → ((i : ℕ) (run : PlainRun) → slice_get runs i ≡ Some run
+    → is_plain (run_sectors run.addr run.count) x ≡ false) → is_plain (all_runs runs) x ≡ false
 none_found [] x h = refl
 none_found (r ∷ rs) x h =
     list_any-append (λ a. eqb a x) (run_sectors r.addr r.count) (all_runs rs)
@@ -82,11 +93,14 @@ none_found (r ∷ rs) x h =
 
 -- only the last run may have it, where there is one
 pub none_but_last : (runs : List PlainRun) (last : Option PlainRun) (now : List ℕ) (x : ℕ) → all_runs (runs ++ option_to_list last) ≡ now
-    → ((i : ℕ) (run : PlainRun) → slice_get runs i ≡ Some run → is_plain (run_sectors run.addr run.count) x ≡ false) → is_plain now x ≡ is_plain (all_runs (option_to_list last)) x
+    → ((i : ℕ) (run : PlainRun) → slice_get runs i ≡ Some run → is_plain (run_sectors run.addr run.count) x ≡ false) → is_plain now x
+    ≡ is_plain (all_runs (option_to_list last)) x
 none_but_last runs last now x e h =
-    ap (λ xs. is_plain xs x) (sym e) ∙ run_by_run runs (option_to_list last) x ∙ ap (λ b. b || is_plain (all_runs (option_to_list last)) x) (none_found runs x h)
+    ap (λ xs. is_plain xs x) (sym e) ∙ run_by_run runs (option_to_list last) x
+    ∙ ap (λ b. b || is_plain (all_runs (option_to_list last)) x) (none_found runs x h)
 
-pub only_last : (run : PlainRun) (last : Option PlainRun) (x : ℕ) → last ≡ Some run → is_plain (all_runs (option_to_list last)) x ≡ is_plain (run_sectors run.addr run.count) x
+pub only_last : (run : PlainRun) (last : Option PlainRun) (x : ℕ) → last ≡ Some run → is_plain (all_runs (option_to_list last)) x
+    ≡ is_plain (run_sectors run.addr run.count) x
 only_last run last x e = ap (λ o. is_plain (all_runs (option_to_list o)) x) e ∙ ap (λ xs. is_plain xs x) (append-nil (run_sectors run.addr run.count))
 
 -- a run that ends at or before an address hasn't it
@@ -107,7 +121,8 @@ end_at [] run = refl
 end_at (r ∷ rs) run = end_at rs run
 
 -- one more run, behind the end of all others
-pub more_rising : (runs : List PlainRun) (run : PlainRun) → AreRising runs → ((i : ℕ) (one : PlainRun) → slice_get runs i ≡ Some one → one.addr + one.count * 4096 ≤ run.addr) → AreRising (runs ++ run ∷ [])
+pub more_rising : (runs : List PlainRun) (run : PlainRun) → AreRising runs
+    → ((i : ℕ) (one : PlainRun) → slice_get runs i ≡ Some one → one.addr + one.count * 4096 ≤ run.addr) → AreRising (runs ++ run ∷ [])
 more_rising runs run h behind i j one other lt e f =
     let within : j < length runs + 1 = omega (arith, slice_get_within (runs ++ run ∷ []) j other f, length-append runs (run ∷ [])) in
     let before : i < length runs = omega (arith, lt, within) in
@@ -135,11 +150,13 @@ begun_rising runs (Some last) addr h le =
     ])
 
 -- only the last of the runs that begin at or before an address may have it
-pub one_decides : (runs : List PlainRun) (x at : ℕ) (run : PlainRun) → AreRising runs → slice_get runs at ≡ Some run → run.addr ≤ x → ((i : ℕ) (one : PlainRun) → at < i → slice_get runs i ≡ Some one → x < one.addr)
+pub one_decides : (runs : List PlainRun) (x at : ℕ) (run : PlainRun) → AreRising runs → slice_get runs at ≡ Some run → run.addr ≤ x
+    → ((i : ℕ) (one : PlainRun) → at < i → slice_get runs i ≡ Some one → x < one.addr)
     → is_plain (all_runs runs) x ≡ is_plain (run_sectors run.addr run.count) x
 one_decides runs x at run h there le above = by (is_plain (run_sectors run.addr run.count) x) refl
   where
-    others : is_plain (run_sectors run.addr run.count) x ≡ false → (i : ℕ) (one : PlainRun) → slice_get runs i ≡ Some one → is_plain (run_sectors one.addr one.count) x ≡ false
+    others : is_plain (run_sectors run.addr run.count) x ≡ false → (i : ℕ) (one : PlainRun) → slice_get runs i ≡ Some one
+        → is_plain (run_sectors one.addr one.count) x ≡ false
     others none i one e = elim (cases_order i at) [
       | inl same ↦ ap (λ (r : PlainRun). is_plain (run_sectors r.addr r.count) x) (same_Some one run (sym e ∙ ap (slice_get runs) same ∙ there)) ∙ none
       | inr (inl before) ↦ behind_run one x (omega (arith, h i at one run before e there, le))

@@ -1,5 +1,6 @@
 -- Where blocks with copies lie.
-use Rattle.std.proofs.Common.{◌≡◌, ℕ, zero, suc, ◌+◌, ◌-◌, ◌*◌, ◌/◌, ◌%◌, ◌<◌, ◌≤◌, Bool, true, false, cond, ◌&&◌, ◌||◌, leb, ltb, List, [], ◌∷◌, length, get_or, slice_get, Option, Some, None, is_some, IsSomeAnd, IfSome, Ok, Err, refl, sym, ap, ◌∙◌, subst, inl, inr, arith}
+use Rattle.std.proofs.Common.{◌≡◌, ℕ, zero, suc, ◌+◌, ◌-◌, ◌*◌, ◌/◌, ◌%◌, ◌<◌, ◌≤◌, Bool, true, false, cond, ◌&&◌, ◌||◌, leb, ltb, List, [], ◌∷◌, length}
+use Rattle.std.proofs.Common.{get_or, slice_get, Option, Some, None, is_some, IsSomeAnd, IfSome, Ok, Err, refl, sym, ap, ◌∙◌, subst, inl, inr, arith}
 use Rattle.std.proofs.lemmas.Bool.{false≢true, and_from, and_parts, leb-true, ltb-true, le-leb, lt-ltb, cases_lt}
 use Rattle.std.proofs.lemmas.Option.{same_Some, slice_get_within}
 use Rattle.std.specs.List.{Any, cons_option, find}
@@ -29,11 +30,11 @@ use Rattle.btr_read.specs.Mirror.{HasMirror}
 use Rattle.btr_read.specs.Want.{addr_of, len_of}
 use Rattle.btr_read.specs.declared.device.Device.{Device}
 use Rattle.btr_read.specs.declared.want.Want.{Want}
-use Rattle.btr_mend.specs.Mending.{IsOfCopy as IsOfMirror}
+use Rattle.btr_scrub_copies.specs.Mending.{IsOfCopy as IsOfMirror}
 use Rattle.btr_scrub.specs.Leaves.{LiesInStripe}
 use Rattle.btr_scrub.specs.Order.{IsSought}
 use Rattle.btr_scrub.specs.Repair.{covers}
-use Rattle.btr_row.proofs.Elements.{range_stands, stands_on}
+use Rattle.btr_scrub_row.proofs.Elements.{range_stands, stands_on}
 use Rattle.btr_scrub.proofs.Places.{covering}
 use Rattle.btr_scrub.proofs.Some.{any_at}
 
@@ -44,16 +45,19 @@ pub find_at : {X : Type 0} (p : X → Bool) (xs : List X) (x : X) → find p xs 
 find_at p [] x e = cc
 find_at p (y ∷ xs) x e = by (p y) refl e (find_at p xs x)
   where
-    by : (b : Bool) → p y ≡ b → cond b (Some y) (find p xs) ≡ Some x → (find p xs ≡ Some x → (i : ℕ) × (slice_get xs i ≡ Some x) × (p x ≡ true)) → (i : ℕ) × (slice_get (y ∷ xs) i ≡ Some x) × (p x ≡ true)
+    by : (b : Bool) → p y ≡ b → cond b (Some y) (find p xs) ≡ Some x → (find p xs ≡ Some x → (i : ℕ) × (slice_get xs i ≡ Some x) × (p x ≡ true))
+        → (i : ℕ) × (slice_get (y ∷ xs) i ≡ Some x) × (p x ≡ true)
     by true t e rest = let same = same_Some y x e in (0, e, ap p (sym same) ∙ t)
     by false t e rest = let r = rest e in (suc r.0, r.1, r.2)
 
 module _ (layout : Layout) (want : Want) (t : Target) where
-  in_chunk : (chunk : Chunk) → (i : ℕ) × (slice_get layout.chunks i ≡ Some chunk) × (holds chunk (addr_of want) ≡ true) → sought_in layout want (Some chunk) ≡ Ok t → IsSought layout t
+  in_chunk : (chunk : Chunk) → (i : ℕ) × (slice_get layout.chunks i ≡ Some chunk) × (holds chunk (addr_of want) ≡ true)
+      → sought_in layout want (Some chunk) ≡ Ok t → IsSought layout t
   in_chunk chunk place e = by (holds chunk (addr_of want)) (crosses chunk (addr_of want) (len_of layout.setting want)) refl e
     where
       by : (h c : Bool) → crosses chunk (addr_of want) (len_of layout.setting want) ≡ c
-          → sought_at layout want chunk (cond h (cond c (Err map_fault.Crosses) (Ok (position chunk (addr_of want)))) (Err map_fault.Unmapped)) ≡ Ok t → IsSought layout t
+          → sought_at layout want chunk (cond h (cond c (Err map_fault.Crosses) (Ok (position chunk (addr_of want)))) (Err map_fault.Unmapped)) ≡ Ok t
+          → IsSought layout t
       by true true fine e = cc
       by true false fine e = let same : record { want = want; setting = layout.setting; chunk = chunk; at = position chunk (addr_of want); devices = layout.devices } ≡ t = cc in subst (IsSought layout) same (record { number = place.0; there = place.1; held = place.2; uncrossed = fine; at = refl; setting = refl; devices = refl })
       by false c fine e = cc
@@ -118,17 +122,21 @@ rows_behind o d k lt =
 abbrev place_in : Bool → ℕ → ℕ → Elements
 place_in b k o = cond b (record { row = o / 65536 / k; index = o / 65536 % k; rest = o % 65536 }) (record { row = 0; index = 0; rest = o })
 
-position_behind : (chunk : Chunk) (addr len d : ℕ) → chunk.start ≤ addr → crosses chunk addr len ≡ false → d < len → IsBehind (position chunk addr) (position chunk (addr + d)) d
+position_behind : (chunk : Chunk) (addr len d : ℕ) → chunk.start ≤ addr → crosses chunk addr len ≡ false → d < len
+    → IsBehind (position chunk addr) (position chunk (addr + d)) d
 position_behind chunk addr len d from fine lt = by (is_striped chunk.profile) fine
   where
     offset : addr + d - chunk.start ≡ addr - chunk.start + d
     offset = omega (arith, from)
 
-    by : (b : Bool) → (ltb (chunk.start + chunk.length) (addr + len) || b && ltb 65536 ((addr - chunk.start) % 65536 + len)) ≡ false → IsBehind (place_in b (data_count chunk.profile (length chunk.stripes)) (addr - chunk.start)) (place_in b (data_count chunk.profile (length chunk.stripes)) (addr + d - chunk.start)) d
+    by : (b : Bool) → (ltb (chunk.start + chunk.length) (addr + len) || b && ltb 65536 ((addr - chunk.start) % 65536 + len)) ≡ false
+        → IsBehind (place_in b (data_count chunk.profile (length chunk.stripes)) (addr - chunk.start))
+        (place_in b (data_count chunk.profile (length chunk.stripes)) (addr + d - chunk.start)) d
     by true fine =
         let small : (addr - chunk.start) % 65536 + len ≤ 65536 = not_above 65536 ((addr - chunk.start) % 65536 + len) (right_false (ltb (chunk.start + chunk.length) (addr + len)) (ltb 65536 ((addr - chunk.start) % 65536 + len)) fine) in
         let k = data_count chunk.profile (length chunk.stripes) in
-        subst (λ o. IsBehind (place_in true k (addr - chunk.start)) (place_in true k o) d) (sym offset) (rows_behind (addr - chunk.start) d k (omega (arith, small, lt)))
+        subst (λ o. IsBehind (place_in true k (addr - chunk.start)) (place_in true k o) d) (sym offset)
+        (rows_behind (addr - chunk.start) d k (omega (arith, small, lt)))
     by false fine = record { row = refl; index = refl; rest = offset }
 
 -- where a byte of a copy lies on its device
@@ -143,7 +151,8 @@ pub record IsCopyByte (layout : Layout) (t : Target) (slot off : ℕ) : Type 0 w
   pub offset : off ≡ (place_at t.chunk (Mirror copy) t.at).offset + behind
 
 -- a byte that a copy's range covers
-pub of_range : (layout : Layout) (t : Target) (copy slot off : ℕ) (range : Range) → IsSought layout t → HasMirror copy t → range_of t (Mirror copy) ≡ Some range → covers slot off range ≡ true → IsCopyByte layout t slot off
+pub of_range : (layout : Layout) (t : Target) (copy slot off : ℕ) (range : Range) → IsSought layout t → HasMirror copy t → range_of t (Mirror copy)
+    ≡ Some range → covers slot off range ≡ true → IsCopyByte layout t slot off
 of_range layout t copy slot off range is has e c =
     let place = place_at t.chunk (Mirror copy) t.at in
     let s = stands_on place.offset (size_of t) (device_in t.devices place.devid) (ap (λ o. is_some o) e) in
@@ -161,7 +170,8 @@ of_range layout t copy slot off range is has e c =
       offset = omega (arith, at.1);
     }
 
-pub copy_of_range : (layout : Layout) (t : Target) (copy slot off : ℕ) (range : Range) (is : IsSought layout t) (has : HasMirror copy t) (e : range_of t (Mirror copy) ≡ Some range) (c : covers slot off range ≡ true) → (of_range layout t copy slot off range is has e c).copy ≡ copy
+pub copy_of_range : (layout : Layout) (t : Target) (copy slot off : ℕ) (range : Range) (is : IsSought layout t) (has : HasMirror copy t)
+    (e : range_of t (Mirror copy) ≡ Some range) (c : covers slot off range ≡ true) → (of_range layout t copy slot off range is has e c).copy ≡ copy
 unfolding of_range
 copy_of_range layout t copy slot off range is has e c = refl
 
@@ -191,7 +201,8 @@ is_of_copy layout t slot off table is b =
       copies = b.has;
       holds = there;
       at = ap (λ part. place_at t.chunk part two) (own_copy t.chunk.profile (length t.chunk.stripes) b.copy two b.has) ∙ place_two
-          ∙ same_place at_one.stripe.devid (place_at t.chunk (Mirror b.copy) t.at).devid (at_one.stripe.offset + two.row * 65536 + two.rest) off (sym devid) (omega (arith, offset, same.row, same.rest, b.offset));
+          ∙ same_place at_one.stripe.devid (place_at t.chunk (Mirror b.copy) t.at).devid (at_one.stripe.offset + two.row * 65536 + two.rest) off
+          (sym devid) (omega (arith, offset, same.row, same.rest, b.offset));
     }
   where
     same_place : (d e a b : ℕ) → d ≡ e → a ≡ b → ◌≡◌ {A = StripePlace} (record { devid = d; offset = a }) (record { devid = e; offset = b })
@@ -212,7 +223,8 @@ pub record Shares (t u : Target) : Type 0 where
   pub under : other < size_of u
   pub same : addr_of t.want + one ≡ addr_of u.want + other
 
-pub shares : (layout : Layout) (t u : Target) (slot off : ℕ) → IsTable layout.chunks → HaveOwnSlots layout.devices → IsSought layout t → IsSought layout u → IsCopyByte layout t slot off → IsCopyByte layout u slot off → Shares t u
+pub shares : (layout : Layout) (t u : Target) (slot off : ℕ) → IsTable layout.chunks → HaveOwnSlots layout.devices → IsSought layout t
+    → IsSought layout u → IsCopyByte layout t slot off → IsCopyByte layout u slot off → Shares t u
 shares layout t u slot off table own is us b c =
     let p = place_at t.chunk (Mirror b.copy) t.at in
     let q = place_at u.chunk (Mirror c.copy) u.at in
@@ -233,7 +245,8 @@ pub record OnStripe (t : Target) (part : Part) : Type 0 where
   pub begin : stripe.offset ≤ (place_at t.chunk part t.at).offset
   pub end : (place_at t.chunk part t.at).offset + size_of t ≤ stripe.offset + stripe_length t.chunk
 
-reaches : (chunk : Chunk) (addr len : ℕ) → IsChunk chunk → holds chunk addr ≡ true → crosses chunk addr len ≡ false → (position chunk addr).row * 65536 + (position chunk addr).rest + len ≤ stripe_length chunk
+reaches : (chunk : Chunk) (addr len : ℕ) → IsChunk chunk → holds chunk addr ≡ true → crosses chunk addr len ≡ false
+    → (position chunk addr).row * 65536 + (position chunk addr).rest + len ≤ stripe_length chunk
 reaches chunk addr len sound held fine = by (is_striped chunk.profile) refl fine
   where
     from : chunk.start ≤ addr
@@ -242,7 +255,9 @@ reaches chunk addr len sound held fine = by (is_striped chunk.profile) refl fine
     below : addr < chunk.start + chunk.length
     below = ltb-true addr (chunk.start + chunk.length) (and_parts (leb chunk.start addr) (ltb addr (chunk.start + chunk.length)) held).1
 
-    by : (b : Bool) → is_striped chunk.profile ≡ b → (ltb (chunk.start + chunk.length) (addr + len) || b && ltb 65536 ((addr - chunk.start) % 65536 + len)) ≡ false → (place_in b (data_count chunk.profile (length chunk.stripes)) (addr - chunk.start)).row * 65536 + (place_in b (data_count chunk.profile (length chunk.stripes)) (addr - chunk.start)).rest + len ≤ stripe_length chunk
+    by : (b : Bool) → is_striped chunk.profile ≡ b → (ltb (chunk.start + chunk.length) (addr + len) || b && ltb 65536
+        ((addr - chunk.start) % 65536 + len)) ≡ false → (place_in b (data_count chunk.profile (length chunk.stripes)) (addr - chunk.start)).row *
+        65536 + (place_in b (data_count chunk.profile (length chunk.stripes)) (addr - chunk.start)).rest + len ≤ stripe_length chunk
     by true striped fine =
         let small : (addr - chunk.start) % 65536 + len ≤ 65536 = not_above 65536 ((addr - chunk.start) % 65536 + len) (right_false (ltb (chunk.start + chunk.length) (addr + len)) (ltb 65536 ((addr - chunk.start) % 65536 + len)) fine) in
         (reaches-rows chunk (addr - chunk.start) len sound striped (omega (arith, from, below)) small).inside
@@ -253,7 +268,8 @@ reaches chunk addr len sound held fine = by (is_striped chunk.profile) refl fine
         let whole : chunk.length / k ≡ chunk.length = ap (λ n. chunk.length / n) one ∙ omega arith in
         omega (arith, from, ends, whole)
 
-pub on_stripe : (layout : Layout) (t : Target) (part : Part) → IsTable layout.chunks → IsSought layout t → HasPart t.chunk.profile (length t.chunk.stripes) part → OnStripe t part
+pub on_stripe : (layout : Layout) (t : Target) (part : Part) → IsTable layout.chunks → IsSought layout t
+    → HasPart t.chunk.profile (length t.chunk.stripes) part → OnStripe t part
 on_stripe layout t part table is has =
     let addr = addr_of t.want in
     let sound = (table.sound is.number t.chunk is.there).0 in
@@ -272,7 +288,8 @@ on_stripe layout t part table is has =
     }
 
 -- a range in a block's part lies in a stripe of the table
-pub in_stripe : (layout : Layout) (t : Target) (part : Part) (range inner : Range) → IsTable layout.chunks → IsSought layout t → HasPart t.chunk.profile (length t.chunk.stripes) part
+pub in_stripe : (layout : Layout) (t : Target) (part : Part) (range inner : Range) → IsTable layout.chunks → IsSought layout t
+    → HasPart t.chunk.profile (length t.chunk.stripes) part
     → range_of t part ≡ Some range → LiesIn inner range → LiesInStripe layout inner
 in_stripe layout t part range inner table is has e lies =
     let on = on_stripe layout t part table is has in
@@ -291,9 +308,11 @@ in_stripe layout t part range inner table is has e lies =
       from = omega (arith, lies.from, off, on.begin);
       to = omega (arith, lies.to, off, len, on.end);
     })) in
-    any_at (λ chunk. Any (λ (stripe : Stripe). IfSome (range_on stripe.offset (stripe_length chunk) (device_in layout.devices stripe.devid)) (LiesIn inner)) chunk.stripes) layout.chunks is.number t.chunk
+    any_at (λ chunk. Any (λ (stripe : Stripe). IfSome (range_on stripe.offset (stripe_length chunk) (device_in layout.devices stripe.devid))
+    (LiesIn inner)) chunk.stripes) layout.chunks is.number t.chunk
     (slice_get_within layout.chunks is.number t.chunk is.there) is.there
-    (any_at (λ (stripe : Stripe). IfSome (range_on stripe.offset (stripe_length t.chunk) (device_in layout.devices stripe.devid)) (LiesIn inner)) t.chunk.stripes on.number on.stripe
+    (any_at (λ (stripe : Stripe). IfSome (range_on stripe.offset (stripe_length t.chunk) (device_in layout.devices stripe.devid)) (LiesIn inner))
+    t.chunk.stripes on.number on.stripe
     (slice_get_within t.chunk.stripes on.number on.stripe on.there) on.there whole)
   where
     by : (b : Bool) (outer : Range) → LiesIn inner outer → IfSome (cond b (Some outer) None) (LiesIn inner)
@@ -319,7 +338,9 @@ pub striped_position : (chunk : Chunk) (addr : ℕ) → is_striped chunk.profile
     → position chunk addr ≡ record { row = (addr - chunk.start) / 65536 / data_count chunk.profile (length chunk.stripes); index = (addr - chunk.start) / 65536 % data_count chunk.profile (length chunk.stripes); rest = (addr - chunk.start) % 65536 }
 striped_position chunk addr striped = rw striped refl
 
-pub striped_fits : (chunk : Chunk) (addr len : ℕ) → is_striped chunk.profile ≡ true → crosses chunk addr len ≡ false → (addr - chunk.start) % 65536 + len ≤ 65536
+pub striped_fits : (chunk : Chunk) (addr len : ℕ) → is_striped chunk.profile ≡ true → crosses chunk addr len ≡ false → (addr - chunk.start) % 65536
+    + len ≤ 65536
 striped_fits chunk addr len striped fine =
     let both : (ltb (chunk.start + chunk.length) (addr + len) || true && ltb 65536 ((addr - chunk.start) % 65536 + len)) ≡ false = ap (λ b. ltb (chunk.start + chunk.length) (addr + len) || b && ltb 65536 ((addr - chunk.start) % 65536 + len)) (sym striped) ∙ fine in
-    not_above 65536 ((addr - chunk.start) % 65536 + len) (right_false (ltb (chunk.start + chunk.length) (addr + len)) (ltb 65536 ((addr - chunk.start) % 65536 + len)) both)
+    not_above 65536 ((addr - chunk.start) % 65536 + len) (right_false (ltb (chunk.start + chunk.length) (addr + len))
+    (ltb 65536 ((addr - chunk.start) % 65536 + len)) both)

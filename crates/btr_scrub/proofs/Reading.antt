@@ -1,5 +1,6 @@
 -- A place in a list of checked blocks.
-use Rattle.std.proofs.Common.{◌≡◌, ◌≢◌, ℕ, zero, suc, ◌+◌, ◌-◌, ◌*◌, ◌^◌, ◌<◌, ◌≤◌, List, [], ◌∷◌, ◌++◌, length, drop, slice_get, Option, Some, None, refl, sym, ap, ◌∙◌, subst, arith}
+use Rattle.std.proofs.Common.{◌≡◌, ◌≢◌, ℕ, zero, suc, ◌+◌, ◌-◌, ◌*◌, ◌^◌, ◌<◌, ◌≤◌, List, [], ◌∷◌, ◌++◌, length, drop, slice_get, Option, Some, None, refl, sym}
+use Rattle.std.proofs.Common.{ap, ◌∙◌, subst, arith}
 use Rattle.std.proofs.Math.Nat.{suc-mul}
 use Rattle.std.proofs.lemmas.List.{drop-drop, length-drop}
 use Rattle.std.proofs.lemmas.Option.{same_Some}
@@ -12,7 +13,8 @@ use Rattle.btr_scrub.specs.declared.run.Run.{Run}
 use Rattle.btr_scrub.specs.declared.run.RunKind.{RunKind}
 use Rattle.btr_scrub.specs.declared.run.RunKind.TheVariants.{TreeBlock, Sectors}
 use Rattle.btr_scrub.specs.declared.run.TreeMark.{TreeMark}
-use Rattle.btr_scrub.specs.Listed.{AreRuns, Gives, IsPast, IsPlace, IsRun, Kept, StandsIn, all_sectors, all_trees, left_in, run_left, run_wants, sectors_from, sectors_of, trees_of, wants_left, wants_of}
+use Rattle.btr_scrub.specs.Listed.{AreRuns, Gives, IsPast, IsPlace, IsRun, Kept, StandsIn, all_sectors, all_trees, left_in, run_left, run_wants, sectors_from}
+use Rattle.btr_scrub.specs.Listed.{sectors_of, trees_of, wants_left, wants_of}
 use Rattle.btr_scrub.proofs.Listing.{times_sum}
 
 -- a list from a place on
@@ -43,7 +45,8 @@ module _ (kind : SumKind) where
   left_start [] sums ms = refl
   left_start (run ∷ runs) sums ms =
       let all : sectors_of run.kind - 0 ≡ sectors_of run.kind = omega arith in
-      ap (λ q. q ++ wants_of kind runs (drop ((sectors_of run.kind - 0) * sum_size kind) sums) (drop (trees_of run.kind) ms)) (run_start run.addr run.kind sums ms)
+      ap (λ q. q ++ wants_of kind runs (drop ((sectors_of run.kind - 0) * sum_size kind) sums) (drop (trees_of run.kind) ms))
+      (run_start run.addr run.kind sums ms)
       ∙ ap (λ n. run_wants kind run.addr run.kind sums ms ++ wants_of kind runs (drop (n * sum_size kind) sums) (drop (trees_of run.kind) ms)) all
 
   past_none : (runs : List Run) → AreRuns runs → IsPast runs 0
@@ -57,7 +60,8 @@ module _ (kind : SumKind) where
   module _ (run : Run) (runs : List Run) (past : ℕ) (sums : List ℕ) where
     -- the first run is a tree block
     pub tree_left : (mark : TreeMark) (ms : List TreeMark) → run.kind ≡ TreeBlock → IsPlace kind (run ∷ runs) past sums (mark ∷ ms)
-        → (wants_left kind (run ∷ runs) past sums (mark ∷ ms) ≡ Tree run.addr mark.generation mark.level ∷ wants_left kind runs past sums ms) × IsPlace kind runs past sums ms
+        → (wants_left kind (run ∷ runs) past sums (mark ∷ ms) ≡ Tree run.addr mark.generation mark.level ∷ wants_left kind runs past sums ms)
+        × IsPlace kind runs past sums ms
     tree_left mark ms e p =
         let size = sum_size kind in
         let none : sectors_of run.kind ≡ 0 = ap sectors_of e in
@@ -65,7 +69,8 @@ module _ (kind : SumKind) where
         let zero_past : past ≡ 0 = omega (arith, none, one, p.is_past) in
         let no_bytes : (0 - past) * size ≡ 0 = let h : 0 - past ≡ 0 = omega arith in ap (λ n. n * size) h ∙ omega arith in
         let left : wants_left kind (run ∷ runs) past sums (mark ∷ ms) ≡ Tree run.addr mark.generation mark.level ∷ wants_of kind runs sums ms =
-        ap (λ k. run_left kind run.addr k past sums (mark ∷ ms) ++ wants_of kind runs (drop ((sectors_of k - past) * size) sums) (drop (trees_of k) (mark ∷ ms))) e
+        ap (λ k. run_left kind run.addr k past sums (mark ∷ ms)
+        ++ wants_of kind runs (drop ((sectors_of k - past) * size) sums) (drop (trees_of k) (mark ∷ ms))) e
         ∙ ap (λ n. Tree run.addr mark.generation mark.level ∷ wants_of kind runs (drop n sums) ms) no_bytes in
         let more : wants_of kind runs sums ms ≡ wants_left kind runs past sums ms = sym (left_start runs sums ms) ∙ ap (λ n. wants_left kind runs n sums ms) (sym zero_past) in
         let count : all_sectors (run ∷ runs) ≡ all_sectors runs = ap (λ n. n + all_sectors runs) none ∙ omega arith in (
@@ -99,7 +104,9 @@ module _ (kind : SumKind) where
       pub sum_left : sum_size kind ≤ length sums
       sum_left = omega (arith, counted, split)
 
-      left_is : wants_left kind (run ∷ runs) past sums ms ≡ Sector (run.addr + past * 4096) (stored_sum kind sums) ∷ (sectors_from kind (run.addr + (past + 1) * 4096) (n - (past + 1)) (drop (sum_size kind) sums) ++ wants_of kind runs (drop ((n - (past + 1)) * sum_size kind) (drop (sum_size kind) sums)) ms)
+      left_is : wants_left kind (run ∷ runs) past sums ms ≡ Sector (run.addr + past * 4096) (stored_sum kind sums) ∷
+          (sectors_from kind (run.addr + (past + 1) * 4096) (n - (past + 1)) (drop (sum_size kind) sums)
+          ++ wants_of kind runs (drop ((n - (past + 1)) * sum_size kind) (drop (sum_size kind) sums)) ms)
       left_is =
           let size = sum_size kind in
           let m = n - (past + 1) in
@@ -108,14 +115,19 @@ module _ (kind : SumKind) where
           let bytes : suc m * size ≡ size + m * size = suc-mul m size ∙ omega arith in
           ap (λ k. run_left kind run.addr k past sums ms ++ wants_of kind runs (drop ((sectors_of k - past) * size) sums) (drop (trees_of k) ms)) e
           ∙ ap (λ q. sectors_from kind (run.addr + past * 4096) q sums ++ wants_of kind runs (drop (q * size) sums) ms) next
-          ∙ ap (λ q. Sector (run.addr + past * 4096) (stored_sum kind sums) ∷ (sectors_from kind q m (drop size sums) ++ wants_of kind runs (drop (suc m * size) sums) ms)) behind
-          ∙ ap (λ q. Sector (run.addr + past * 4096) (stored_sum kind sums) ∷ (sectors_from kind (run.addr + (past + 1) * 4096) m (drop size sums) ++ wants_of kind runs q ms)) (ap (λ q. drop q sums) bytes ∙ sym (drop-drop (m * size) size sums))
+          ∙ ap (λ q. Sector (run.addr + past * 4096) (stored_sum kind sums) ∷
+          (sectors_from kind q m (drop size sums) ++ wants_of kind runs (drop (suc m * size) sums) ms)) behind
+          ∙ ap (λ q. Sector (run.addr + past * 4096) (stored_sum kind sums) ∷
+          (sectors_from kind (run.addr + (past + 1) * 4096) m (drop size sums) ++ wants_of kind runs q ms))
+          (ap (λ q. drop q sums) bytes ∙ sym (drop-drop (m * size) size sums))
 
       marks_left : length ms ≡ all_trees runs
       marks_left = let b : trees_of run.kind ≡ 0 = ap trees_of e in omega (arith, b, p.marks_fit)
 
       -- the last of them
-      pub last_left : past + 1 ≡ n → (wants_left kind (run ∷ runs) past sums ms ≡ Sector (run.addr + past * 4096) (stored_sum kind sums) ∷ wants_left kind runs 0 (drop (sum_size kind) sums) ms) × IsPlace kind runs 0 (drop (sum_size kind) sums) ms
+      pub last_left : past + 1 ≡ n → (wants_left kind (run ∷ runs) past sums ms
+          ≡ Sector (run.addr + past * 4096) (stored_sum kind sums) ∷ wants_left kind runs 0 (drop (sum_size kind) sums) ms)
+          × IsPlace kind runs 0 (drop (sum_size kind) sums) ms
       last_left h =
           let size = sum_size kind in
           let none : n - (past + 1) ≡ 0 = omega (arith, h) in
@@ -123,7 +135,8 @@ module _ (kind : SumKind) where
           let long = length-drop size sums in
           let zeros : (n - (past + 1)) * size ≡ 0 = ap (λ q. q * size) none ∙ no_bytes in (
             left_is
-                ∙ ap (λ q. Sector (run.addr + past * 4096) (stored_sum kind sums) ∷ (sectors_from kind (run.addr + (past + 1) * 4096) q (drop size sums) ++ wants_of kind runs (drop (q * size) (drop size sums)) ms)) none
+                ∙ ap (λ q. Sector (run.addr + past * 4096) (stored_sum kind sums) ∷
+                (sectors_from kind (run.addr + (past + 1) * 4096) q (drop size sums) ++ wants_of kind runs (drop (q * size) (drop size sums)) ms)) none
                 ∙ ap (λ q. Sector (run.addr + past * 4096) (stored_sum kind sums) ∷ wants_of kind runs (drop q (drop size sums)) ms) no_bytes
                 ∙ ap (λ q. Sector (run.addr + past * 4096) (stored_sum kind sums) ∷ q) (sym (left_start runs (drop size sums) ms)),
             record {
@@ -135,7 +148,9 @@ module _ (kind : SumKind) where
           )
 
       -- one that others follow
-      pub next_left : past + 1 ≢ n → (wants_left kind (run ∷ runs) past sums ms ≡ Sector (run.addr + past * 4096) (stored_sum kind sums) ∷ wants_left kind (run ∷ runs) (past + 1) (drop (sum_size kind) sums) ms) × IsPlace kind (run ∷ runs) (past + 1) (drop (sum_size kind) sums) ms
+      pub next_left : past + 1 ≢ n → (wants_left kind (run ∷ runs) past sums ms
+          ≡ Sector (run.addr + past * 4096) (stored_sum kind sums) ∷ wants_left kind (run ∷ runs) (past + 1) (drop (sum_size kind) sums) ms)
+          × IsPlace kind (run ∷ runs) (past + 1) (drop (sum_size kind) sums) ms
       next_left h =
           let size = sum_size kind in
           let long = length-drop size sums in
@@ -143,7 +158,9 @@ module _ (kind : SumKind) where
           let a : sectors_of run.kind ≡ n = ap sectors_of e in
           let times = times_sum past 1 size in
           let all : all_sectors (run ∷ runs) * size ≡ n * size + all_sectors runs * size = ap (λ k. (sectors_of k + all_sectors runs) * size) e ∙ times_sum n (all_sectors runs) size in (
-            left_is ∙ ap (λ k. Sector (run.addr + past * 4096) (stored_sum kind sums) ∷ (run_left kind run.addr k (past + 1) (drop size sums) ms ++ wants_of kind runs (drop ((sectors_of k - (past + 1)) * size) (drop size sums)) (drop (trees_of k) ms))) (sym e),
+            left_is ∙ ap (λ k. Sector (run.addr + past * 4096) (stored_sum kind sums) ∷
+                (run_left kind run.addr k (past + 1) (drop size sums) ms
+                ++ wants_of kind runs (drop ((sectors_of k - (past + 1)) * size) (drop size sums)) (drop (trees_of k) ms))) (sym e),
             record {
               is_past = omega (arith, less, a);
               runs_fit = p.runs_fit;
@@ -178,7 +195,9 @@ module _ (kept : Kept) (run past sum mark : ℕ) where
         let nothing : length (drop mark kept.marks) ≡ 0 = ap length (drop_none kept.marks mark none) in
         omega (arith, place.marks_fit, one, nothing)
 
-    pub at_tree : (m : TreeMark) → r.kind ≡ TreeBlock → slice_get kept.marks mark ≡ Some m → (left_in kept run past sum mark ≡ Tree r.addr m.generation m.level ∷ left_in kept (run + 1) past sum (mark + 1)) × StandsIn kept (run + 1) past sum (mark + 1)
+    pub at_tree : (m : TreeMark) → r.kind ≡ TreeBlock → slice_get kept.marks mark ≡ Some m
+        → (left_in kept run past sum mark ≡ Tree r.addr m.generation m.level ∷ left_in kept (run + 1) past sum (mark + 1))
+        × StandsIn kept (run + 1) past sum (mark + 1)
     at_tree m e is =
         let marks = drop_some kept.marks mark m is in
         let t = tree_left kept.kind r (drop (run + 1) kept.runs) past (drop sum kept.sums) m (drop (mark + 1) kept.marks) e (subst (λ q. IsPlace kept.kind (r ∷ drop (run + 1) kept.runs) past (drop sum kept.sums) q) marks place) in
@@ -198,20 +217,27 @@ module _ (kept : Kept) (run past sum mark : ℕ) where
           let some = size_some kept.kind in
           omega (arith, h, long, some)
 
-      pub at_last : past + 1 ≡ n → (size : ℕ) → size ≡ sum_size kept.kind → (left_in kept run past sum mark ≡ Sector (r.addr + past * 4096) (stored_sum kept.kind (drop sum kept.sums)) ∷ left_in kept (run + 1) 0 (sum + size) mark) × StandsIn kept (run + 1) 0 (sum + size) mark
+      pub at_last : past + 1 ≡ n → (size : ℕ) → size ≡ sum_size kept.kind
+          → (left_in kept run past sum mark ≡ Sector (r.addr + past * 4096) (stored_sum kept.kind (drop sum kept.sums)) ∷ left_in kept (run + 1) 0
+          (sum + size) mark) × StandsIn kept (run + 1) 0 (sum + size) mark
       at_last h size is =
           let t = last_left kept.kind r (drop (run + 1) kept.runs) past (drop sum kept.sums) n (drop mark kept.marks) e place h in
           let bytes : drop (sum_size kept.kind) (drop sum kept.sums) ≡ drop (sum + size) kept.sums = drop-drop (sum_size kept.kind) sum kept.sums ∙ ap (λ q. drop (sum + q) kept.sums) (sym is) in (
-            left_here ∙ t.0 ∙ ap (λ q. Sector (r.addr + past * 4096) (stored_sum kept.kind (drop sum kept.sums)) ∷ wants_left kept.kind (drop (run + 1) kept.runs) 0 q (drop mark kept.marks)) bytes,
+            left_here ∙ t.0 ∙ ap (λ q. Sector (r.addr + past * 4096) (stored_sum kept.kind (drop sum kept.sums)) ∷ wants_left kept.kind
+                (drop (run + 1) kept.runs) 0 q (drop mark kept.marks)) bytes,
             subst (λ q. IsPlace kept.kind (drop (run + 1) kept.runs) 0 q (drop mark kept.marks)) bytes t.1,
           )
 
-      pub at_next : past + 1 ≢ n → (size : ℕ) → size ≡ sum_size kept.kind → (left_in kept run past sum mark ≡ Sector (r.addr + past * 4096) (stored_sum kept.kind (drop sum kept.sums)) ∷ left_in kept run (past + 1) (sum + size) mark) × StandsIn kept run (past + 1) (sum + size) mark
+      pub at_next : past + 1 ≢ n → (size : ℕ) → size ≡ sum_size kept.kind
+          → (left_in kept run past sum mark ≡ Sector (r.addr + past * 4096) (stored_sum kept.kind (drop sum kept.sums)) ∷ left_in kept run (past + 1)
+          (sum + size) mark) × StandsIn kept run (past + 1) (sum + size) mark
       at_next h size is =
           let t = next_left kept.kind r (drop (run + 1) kept.runs) past (drop sum kept.sums) n (drop mark kept.marks) e place h in
           let bytes : drop (sum_size kept.kind) (drop sum kept.sums) ≡ drop (sum + size) kept.sums = drop-drop (sum_size kept.kind) sum kept.sums ∙ ap (λ q. drop (sum + q) kept.sums) (sym is) in (
-            left_here ∙ t.0 ∙ ap (λ q. Sector (r.addr + past * 4096) (stored_sum kept.kind (drop sum kept.sums)) ∷ wants_left kept.kind (r ∷ drop (run + 1) kept.runs) (past + 1) q (drop mark kept.marks)) bytes
-                ∙ ap (λ q. Sector (r.addr + past * 4096) (stored_sum kept.kind (drop sum kept.sums)) ∷ wants_left kept.kind q (past + 1) (drop (sum + size) kept.sums) (drop mark kept.marks)) (sym runs_are),
+            left_here ∙ t.0 ∙ ap (λ q. Sector (r.addr + past * 4096) (stored_sum kept.kind (drop sum kept.sums)) ∷ wants_left kept.kind
+                (r ∷ drop (run + 1) kept.runs) (past + 1) q (drop mark kept.marks)) bytes
+                ∙ ap (λ q. Sector (r.addr + past * 4096) (stored_sum kept.kind (drop sum kept.sums)) ∷ wants_left kept.kind q (past + 1)
+                (drop (sum + size) kept.sums) (drop mark kept.marks)) (sym runs_are),
             subst (λ q. IsPlace kept.kind q (past + 1) (drop (sum + size) kept.sums) (drop mark kept.marks)) (sym runs_are)
                 (subst (λ q. IsPlace kept.kind (r ∷ drop (run + 1) kept.runs) (past + 1) q (drop mark kept.marks)) bytes t.1),
           )

@@ -1,5 +1,6 @@
 -- What is written for a full stripe hangs on the bytes of its elements alone.
-use Rattle.std.proofs.Common.{◌≡◌, ◌⊎◌, ℕ, ◌*◌, ◌<◌, Bool, not, cond, ◌&&◌, ◌||◌, eqb, List, [], ◌∷◌, ◌++◌, map, length, slice_get, set, Option, Some, None, IsNone, is_some, refl, sym, ap, ◌∙◌, subst, inl, inr}
+use Rattle.std.proofs.Common.{◌≡◌, ◌⊎◌, ℕ, ◌*◌, ◌<◌, Bool, not, cond, ◌&&◌, ◌||◌, eqb, List, [], ◌∷◌, ◌++◌, map, length, slice_get, set, Option, Some, None}
+use Rattle.std.proofs.Common.{IsNone, is_some, refl, sym, ap, ◌∙◌, subst, inl, inr}
 use Rattle.std.specs.List.{filter, filter_map, flat_map, fold, list_all, list_any, range_with_len}
 use Rattle.std.specs.Option.{option_map, option_map_or}
 use Rattle.std.specs.Str.{bytes_eq}
@@ -21,10 +22,11 @@ use Rattle.btr_read.specs.declared.candidate.Candidate.{Candidate}
 use Rattle.btr_read.specs.declared.candidate.Candidate.TheVariants.{Read, ByP, ByQ, ByBoth}
 use Rattle.btr_read.proofs.Ones.{in_below}
 use Rattle.btr_read.proofs.Order.{in_ways}
-use Rattle.btr_mend.specs.Blocks.{accepted, block_writes, is_sound, own_parts}
-use Rattle.btr_mend.specs.Writes.{Images}
-use Rattle.btr_row.specs.Rows as rows
-use Rattle.btr_row.specs.Rows.{Row, blocks_at, column_of, differing, differs, element_with, is_decided, meets, parities, parity_writes, range_in_element, row_writes, sector_write, slice_with, slices_with, with_block}
+use Rattle.btr_scrub_copies.specs.Blocks.{accepted, block_writes, is_sound, own_parts}
+use Rattle.btr_scrub_copies.specs.Writes.{Images}
+use Rattle.btr_scrub_row.specs.Rows as rows
+use Rattle.btr_scrub_row.specs.Rows.{Row, blocks_at, column_of, differing, differs, element_with, is_decided, meets, parities, parity_writes, range_in_element}
+use Rattle.btr_scrub_row.specs.Rows.{row_writes, sector_write, slice_with, slices_with, with_block}
 use Rattle.btr_scrub.specs.Glue.{In}
 use Rattle.btr_scrub.proofs.Agreeing.{Alike, filter_map_same, filter_same, of_mapped, writes_alike}
 use Rattle.btr_scrub.proofs.Survival.{of_filter}
@@ -55,7 +57,8 @@ module _ (images images' : Images) (t : Target) (none : mirrors t.chunk ≡ None
   slice_has k lt = (subst IsNone (sym none) refl, lt)
 
   same_slices : slices images' t ≡ slices images t
-  same_slices = map_same (λ k. element images' t (part.Slice k)) (λ k. element images t (part.Slice k)) (range_with_len 0 (slice_count t)) (λ k i. same (part.Slice k) (slice_has k (in_below (slice_count t) k i)))
+  same_slices = map_same (λ k. element images' t (part.Slice k)) (λ k. element images t (part.Slice k)) (range_with_len 0 (slice_count t))
+      (λ k i. same (part.Slice k) (slice_has k (in_below (slice_count t) k i)))
 
   same_p : element images' t part.P ≡ element images t part.P
   same_p = same part.P (subst IsNone (sym none) refl)
@@ -82,9 +85,12 @@ module _ (images images' : Images) (t : Target) (none : mirrors t.chunk ≡ None
 
     both_value : (j : ℕ) → reading images' t (ByBoth j) ≡ reading images t (ByBoth j)
     both_value j = by_value (ByBoth j) (
-        ap (λ ss. the_one (size_of t) (λ X. list_any (λ Y. bytes_eq (parity_p (size_of t) (set (set ss j Y) t.at.index X)) (element images' t part.P) && bytes_eq (parity_q (size_of t) (set (set ss j Y) t.at.index X)) (element images' t part.Q)) (byte_lists (size_of t)))) same_slices
-        ∙ ap (λ p. the_one (size_of t) (λ X. list_any (λ Y. bytes_eq (parity_p (size_of t) (set (set (slices images t) j Y) t.at.index X)) p && bytes_eq (parity_q (size_of t) (set (set (slices images t) j Y) t.at.index X)) (element images' t part.Q)) (byte_lists (size_of t)))) same_p
-        ∙ ap (λ q. the_one (size_of t) (λ X. list_any (λ Y. bytes_eq (parity_p (size_of t) (set (set (slices images t) j Y) t.at.index X)) (element images t part.P) && bytes_eq (parity_q (size_of t) (set (set (slices images t) j Y) t.at.index X)) q) (byte_lists (size_of t)))) same_q)
+        ap (λ ss. the_one (size_of t) (λ X. list_any (λ Y. bytes_eq (parity_p (size_of t) (set (set ss j Y) t.at.index X)) (element images' t part.P)
+        && bytes_eq (parity_q (size_of t) (set (set ss j Y) t.at.index X)) (element images' t part.Q)) (byte_lists (size_of t)))) same_slices
+        ∙ ap (λ p. the_one (size_of t) (λ X. list_any (λ Y. bytes_eq (parity_p (size_of t) (set (set (slices images t) j Y) t.at.index X)) p &&
+        bytes_eq (parity_q (size_of t) (set (set (slices images t) j Y) t.at.index X)) (element images' t part.Q)) (byte_lists (size_of t)))) same_p
+        ∙ ap (λ q. the_one (size_of t) (λ X. list_any (λ Y. bytes_eq (parity_p (size_of t) (set (set (slices images t) j Y) t.at.index X))
+        (element images t part.P) && bytes_eq (parity_q (size_of t) (set (set (slices images t) j Y) t.at.index X)) q) (byte_lists (size_of t)))) same_q)
 
   all : (o : Option ℕ) → mirrors t.chunk ≡ o → ways t ≡ option_map_or copies o (rebuilt t.chunk.profile (slice_count t) t.at.index)
   all o e = ap (λ o. option_map_or copies o (rebuilt t.chunk.profile (slice_count t) t.at.index)) e
@@ -112,7 +118,8 @@ module _ (images images' : Images) (t : Target) (none : mirrors t.chunk ≡ None
   own = ap (λ o. option_map_or (λ copies. map part.Mirror (range_with_len 0 copies)) o (part.Slice t.at.index ∷ [])) none
 
   bads : (q : Part) → In q (part.Slice t.at.index ∷ []) → not (is_sound images' t q) ≡ not (is_sound images t q)
-  bads q (inl e) = subst (λ q. not (is_sound images' t q) ≡ not (is_sound images t q)) e (ap (λ bytes. not (passes t.setting t.want bytes)) (same (part.Slice t.at.index) (slice_has t.at.index index)))
+  bads q (inl e) = subst (λ q. not (is_sound images' t q) ≡ not (is_sound images t q)) e
+      (ap (λ bytes. not (passes t.setting t.want bytes)) (same (part.Slice t.at.index) (slice_has t.at.index index)))
   bads q (inr i) = absurd i
 
   -- a block whose slices and parities are the same
@@ -145,33 +152,43 @@ pub record RowAlike (images images' : Images) (layout : Layout) (row : Row) : Ty
   pub blocks : (t : Target) → In t row.blocks → Alike images images' t
   pub parities : (q : Part) → In q (parities row.chunk.profile) → parity_writes images' layout row q ≡ parity_writes images layout row q
 
-pub row_writes_alike : (images images' : Images) (layout : Layout) (row : Row) → RowAlike images images' layout row → row_writes images' layout row ≡ row_writes images layout row
+pub row_writes_alike : (images images' : Images) (layout : Layout) (row : Row) → RowAlike images images' layout row → row_writes images' layout row
+    ≡ row_writes images layout row
 row_writes_alike images images' layout row a =
-    ap (λ ws. ws ++ flat_map (parity_writes images' layout row) (parities row.chunk.profile)) (flat_same (block_writes images') (block_writes images) row.blocks (λ t i. writes_alike images images' t (a.blocks t i)))
-    ∙ ap (λ ws. flat_map (block_writes images) row.blocks ++ ws) (flat_same (parity_writes images' layout row) (parity_writes images layout row) (parities row.chunk.profile) a.parities)
+    ap (λ ws. ws ++ flat_map (parity_writes images' layout row) (parities row.chunk.profile))
+    (flat_same (block_writes images') (block_writes images) row.blocks (λ t i. writes_alike images images' t (a.blocks t i)))
+    ∙ ap (λ ws. flat_map (block_writes images) row.blocks ++ ws)
+    (flat_same (parity_writes images' layout row) (parity_writes images layout row) (parities row.chunk.profile) a.parities)
 
 module _ (images images' : Images) (layout : Layout) (row : Row) (none : mirrors row.chunk ≡ None)
     (same : (q : Part) → HasPart row.chunk.profile (length row.chunk.stripes) q → rows.element images' layout row q ≡ rows.element images layout row q)
     (blocks : (t : Target) → In t row.blocks → Alike images images' t) where
-  given_same : (t : Target) → In t row.blocks → (bytes : List ℕ) → with_block images' layout (accepted images') bytes t ≡ with_block images layout (accepted images) bytes t
+  given_same : (t : Target) → In t row.blocks → (bytes : List ℕ) → with_block images' layout (accepted images') bytes t
+      ≡ with_block images layout (accepted images) bytes t
   given_same t i bytes = ap (λ o. option_map_or (pasted bytes t.at.rest) o bytes) (blocks t i).accepted
 
   slice_same : (k : ℕ) → k < rows.slice_count row → slice_with images' layout (accepted images') row k ≡ slice_with images layout (accepted images) row k
   slice_same k lt =
       ap (λ bytes. fold (with_block images' layout (accepted images')) bytes (blocks_at row k)) (same (part.Slice k) (subst IsNone (sym none) refl, lt))
-      ∙ fold_same (with_block images' layout (accepted images')) (with_block images layout (accepted images)) (blocks_at row k) (rows.element images layout row (part.Slice k)) (λ t i bytes. given_same t (of_filter (λ u. eqb u.at.index k) t row.blocks i) bytes)
+      ∙ fold_same (with_block images' layout (accepted images')) (with_block images layout (accepted images)) (blocks_at row k)
+      (rows.element images layout row (part.Slice k)) (λ t i bytes. given_same t (of_filter (λ u. eqb u.at.index k) t row.blocks i) bytes)
 
   slices_same : slices_with images' layout (accepted images') row ≡ slices_with images layout (accepted images) row
-  slices_same = map_same (slice_with images' layout (accepted images') row) (slice_with images layout (accepted images) row) (range_with_len 0 (rows.slice_count row)) (λ k i. slice_same k (in_below (rows.slice_count row) k i))
+  slices_same = map_same (slice_with images' layout (accepted images') row) (slice_with images layout (accepted images) row)
+      (range_with_len 0 (rows.slice_count row)) (λ k i. slice_same k (in_below (rows.slice_count row) k i))
 
-  with_same : (q : Part) → (q ≡ part.P) ⊎ (q ≡ part.Q) → element_with images' layout (accepted images') row q ≡ element_with images layout (accepted images) row q
-  with_same q (inl e) = subst (λ q. element_with images' layout (accepted images') row q ≡ element_with images layout (accepted images) row q) (sym e) (ap (parity_p 65536) slices_same)
-  with_same q (inr e) = subst (λ q. element_with images' layout (accepted images') row q ≡ element_with images layout (accepted images) row q) (sym e) (ap (parity_q 65536) slices_same)
+  with_same : (q : Part) → (q ≡ part.P) ⊎ (q ≡ part.Q) → element_with images' layout (accepted images') row q
+      ≡ element_with images layout (accepted images) row q
+  with_same q (inl e) = subst (λ q. element_with images' layout (accepted images') row q ≡ element_with images layout (accepted images) row q) (sym e)
+      (ap (parity_p 65536) slices_same)
+  with_same q (inr e) = subst (λ q. element_with images' layout (accepted images') row q ≡ element_with images layout (accepted images) row q) (sym e)
+      (ap (parity_q 65536) slices_same)
 
   decided_same : (column : ℕ) → is_decided images' layout row column ≡ is_decided images layout row column
   decided_same column =
       ap (λ b. list_any (meets column) row.blocks && (not (row.kept column) && b))
-      (all_same (λ t. not (meets column t) || is_some (accepted images' t)) (λ t. not (meets column t) || is_some (accepted images t)) row.blocks (λ t i. ap (λ o. not (meets column t) || is_some o) (blocks t i).accepted))
+      (all_same (λ t. not (meets column t) || is_some (accepted images' t)) (λ t. not (meets column t) || is_some (accepted images t)) row.blocks
+      (λ t i. ap (λ o. not (meets column t) || is_some o) (blocks t i).accepted))
 
   parity_same : (q : Part) → In q (parities row.chunk.profile) → parity_writes images' layout row q ≡ parity_writes images layout row q
   parity_same q i =
@@ -182,8 +199,10 @@ module _ (images images' : Images) (layout : Layout) (row : Row) (none : mirrors
       λ column. ap (λ xs. not (bytes_eq (column_of column xs) (column_of column (element_with images' layout (accepted images') row q)))) old
       ∙ ap (λ xs. not (bytes_eq (column_of column (rows.element images layout row q)) (column_of column xs))) wanted in
       ap (filter_map (sector_write images' layout row q))
-      (filter_same (λ column. is_decided images' layout row column && differs images' layout row q column) (λ column. is_decided images layout row column && differs images layout row q column) (range_with_len 0 16)
-      (λ column _. ap (λ b. b && differs images' layout row q column) (decided_same column) ∙ ap (λ b. is_decided images layout row column && b) (differ column)))
+      (filter_same (λ column. is_decided images' layout row column && differs images' layout row q column)
+      (λ column. is_decided images layout row column && differs images layout row q column) (range_with_len 0 16)
+      (λ column _. ap (λ b. b && differs images' layout row q column) (decided_same column)
+      ∙ ap (λ b. is_decided images layout row column && b) (differ column)))
       ∙ filter_map_same (sector_write images' layout row q) (sector_write images layout row q) (differing images layout row q)
       (λ column _. ap (λ xs. option_map (λ (range : Range). record { range = range; bytes = column_of column xs }) (range_in_element layout row q (column * 4096) 4096)) wanted)
 

@@ -1,5 +1,6 @@
 -- Which rows a chunk with parity has, and in which one a block lies.
-use Rattle.std.proofs.Common.{◌≡◌, ◌⊎◌, ℕ, zero, suc, ◌+◌, ◌-◌, ◌*◌, ◌/◌, ◌%◌, ◌<◌, ◌≤◌, Bool, true, false, cond, ◌&&◌, eqb, leb, ltb, List, [], ◌∷◌, ◌++◌, map, length, slice_get, Some, None, is_none, Ok, refl, sym, ap, ◌∙◌, subst, inl, inr, arith}
+use Rattle.std.proofs.Common.{◌≡◌, ◌⊎◌, ℕ, zero, suc, ◌+◌, ◌-◌, ◌*◌, ◌/◌, ◌%◌, ◌<◌, ◌≤◌, Bool, true, false, cond, ◌&&◌, eqb, leb, ltb, List, [], ◌∷◌, ◌++◌, map}
+use Rattle.std.proofs.Common.{length, slice_get, Some, None, is_none, Ok, refl, sym, ap, ◌∙◌, subst, inl, inr, arith}
 use Rattle.std.proofs.lemmas.Bool.{and_parts, cases_order, eqb-true, leb-true, ltb-true, and_from, le-leb, lt-ltb}
 use Rattle.std.proofs.lemmas.Nat.{le-div}
 use Rattle.std.proofs.Math.Nat.{div-mul-le_self}
@@ -19,7 +20,7 @@ use Rattle.btr_read.specs.Layout.{Layout}
 use Rattle.btr_read.specs.Want.{addr_of, len_of}
 use Rattle.btr_read.specs.declared.want.Want.{Want}
 use Rattle.btr_read.proofs.Fates.{sought_of}
-use Rattle.btr_row.specs.Rows.{Row}
+use Rattle.btr_scrub_row.specs.Rows.{Row}
 use Rattle.btr_scrub.specs.Glue.{In}
 use Rattle.btr_scrub.specs.Order.{AreApart, IsSought}
 use Rattle.btr_scrub.specs.Repair.{is_in_chunk, is_in_row, row_of, rows_in}
@@ -46,7 +47,8 @@ in_range a (suc n) x (inl e) = (omega (arith, e), omega (arith, e))
 in_range a (suc n) x (inr i) = let r = in_range (a + 1) n x i in (omega (arith, r.0), omega (arith, r.1))
 
 -- blocks that are apart, behind some of them
-pub tail_apart : (layout : Layout) (end : ℕ) (xs ys : List Want) → AreApart layout end (xs ++ ys) → (e : ℕ) × (end ≤ e) × AreApart layout e ys × ((x : Want) → In x xs → addr_of x ≤ e)
+pub tail_apart : (layout : Layout) (end : ℕ) (xs ys : List Want) → AreApart layout end (xs ++ ys) → (e : ℕ) × (end ≤ e) × AreApart layout e ys
+    × ((x : Want) → In x xs → addr_of x ≤ e)
 tail_apart layout end [] ys apart = (end, omega arith, apart, λ x i. absurd i)
 tail_apart layout end (x ∷ xs) ys apart =
     let r = tail_apart layout (addr_of x + len_of layout.setting x) xs ys apart.2 in
@@ -81,7 +83,8 @@ div_mono a b k pos le = le-div (a / k) b k pos (omega (arith, div-mul-le_self a 
 abbrev pub rows_to : KeptColumns → List Target → Chunk → ℕ → List Row
 rows_to kept ts chunk n = map (row_of kept ts chunk) (range_with_len 0 n)
 
-pub all_rows : (kept : KeptColumns) (ts : List Target) (chunk : Chunk) → mirrors chunk ≡ None → rows_in kept ts chunk ≡ rows_to kept ts chunk (stripe_length chunk / 65536)
+pub all_rows : (kept : KeptColumns) (ts : List Target) (chunk : Chunk) → mirrors chunk ≡ None → rows_in kept ts chunk
+    ≡ rows_to kept ts chunk (stripe_length chunk / 65536)
 all_rows kept ts chunk parity = ap (λ o. cond (is_none o) (rows_to kept ts chunk (stripe_length chunk / 65536)) []) parity
 
 module _ (layout : Layout) (table : IsTable layout.chunks) (number : ℕ) (chunk : Chunk) (there : slice_get layout.chunks number ≡ Some chunk) (parity : mirrors chunk ≡ None) where
@@ -115,7 +118,8 @@ module _ (layout : Layout) (table : IsTable layout.chunks) (number : ℕ) (chunk
   pub start_there : chunk_at layout.chunks chunk.start ≡ Some chunk
   start_there =
       find-first (λ c. holds c chunk.start) layout.chunks number chunk there
-      (and_from (leb chunk.start chunk.start) (ltb chunk.start (chunk.start + chunk.length)) (le-leb chunk.start chunk.start (omega arith)) (lt-ltb chunk.start (chunk.start + chunk.length) (omega (arith, (facts chunk (table.sound number chunk there).0).some))))
+      (and_from (leb chunk.start chunk.start) (ltb chunk.start (chunk.start + chunk.length)) (le-leb chunk.start chunk.start (omega arith))
+      (lt-ltb chunk.start (chunk.start + chunk.length) (omega (arith, (facts chunk (table.sound number chunk there).0).some))))
       (λ j c lt e. before j c lt e)
     where
       before : (j : ℕ) (c : Chunk) → j < number → slice_get layout.chunks j ≡ Some c → holds c chunk.start ≡ false
@@ -123,7 +127,12 @@ module _ (layout : Layout) (table : IsTable layout.chunks) (number : ℕ) (chunk
         where
           by : (b : Bool) → holds c chunk.start ≡ b → holds c chunk.start ≡ false
           by false h = h
-          by true h = absurd (omega (arith, ltb-true chunk.start (c.start + c.length) (and_parts (leb c.start chunk.start) (ltb chunk.start (c.start + c.length)) h).1, (table.apart j number c chunk lt e there).0))
+          by true h = absurd (omega (
+            arith,
+            ltb-true chunk.start (c.start + c.length)
+                (and_parts (leb c.start chunk.start) (ltb chunk.start (c.start + c.length)) h).1,
+            (table.apart j number c chunk lt e there).0,
+          ))
 
   -- ---- the row of a block
 
@@ -139,7 +148,8 @@ module _ (layout : Layout) (table : IsTable layout.chunks) (number : ℕ) (chunk
       (same, row ∙ r.1)
 
   -- a block of the chunk has the row of its address
-  pub row_of_block : (w : Want) (t : Target) → sought layout w ≡ Ok t → t.chunk ≡ chunk → (holds chunk (addr_of w) ≡ true) × ((position chunk (addr_of w)).row ≡ t.at.row)
+  pub row_of_block : (w : Want) (t : Target) → sought layout w ≡ Ok t → t.chunk ≡ chunk → (holds chunk (addr_of w) ≡ true)
+      × ((position chunk (addr_of w)).row ≡ t.at.row)
   row_of_block w t e mine =
       let is = is_sought layout w t e in
       let addr : addr_of t.want ≡ addr_of w = ap addr_of (sought_of layout w t e).want_is in
@@ -154,8 +164,18 @@ module _ (layout : Layout) (table : IsTable layout.chunks) (number : ℕ) (chunk
 
       by : (is.number ≡ number) ⊎ ((is.number < number) ⊎ (number < is.number)) → t.chunk ≡ chunk
       by (inl same) = same_Some t.chunk chunk (sym is.there ∙ ap (slice_get layout.chunks) same ∙ there)
-      by (inr (inl lt)) = absurd (omega (arith, (table.apart is.number number t.chunk chunk lt is.there there).0, start, (facts t.chunk (table.sound is.number t.chunk is.there).0).some))
-      by (inr (inr lt)) = absurd (omega (arith, (table.apart number is.number chunk t.chunk lt there is.there).0, start, (facts chunk (table.sound number chunk there).0).some))
+      by (inr (inl lt)) = absurd (omega (
+        arith,
+        (table.apart is.number number t.chunk chunk lt is.there there).0,
+        start,
+        (facts t.chunk (table.sound is.number t.chunk is.there).0).some,
+      ))
+      by (inr (inr lt)) = absurd (omega (
+        arith,
+        (table.apart number is.number chunk t.chunk lt there is.there).0,
+        start,
+        (facts chunk (table.sound number chunk there).0).some,
+      ))
 
   -- whether a block with a position lies in a row
   pub row_is_not : (k : ℕ) (t : Target) → IsSought layout t → (t.chunk ≡ chunk → t.at.row ≡ k → ⊥) → is_in_row chunk k t ≡ false

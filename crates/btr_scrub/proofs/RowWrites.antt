@@ -1,5 +1,6 @@
 -- The writes for a full stripe lie in its elements, and leave those of other rows.
-use Rattle.std.proofs.Common.{◌≡◌, ℕ, ◌+◌, ◌-◌, ◌*◌, ◌<◌, ◌≤◌, true, false, not, ◌&&◌, List, [], ◌∷◌, map, length, drop, slice_get, All, Option, Some, None, IsNone, IsSome, IfSome, IsSomeAnd, refl, sym, ap, ◌∙◌, subst, inl, inr, arith, length-take}
+use Rattle.std.proofs.Common.{◌≡◌, ℕ, ◌+◌, ◌-◌, ◌*◌, ◌<◌, ◌≤◌, true, false, not, ◌&&◌, List, [], ◌∷◌, map, length, drop, slice_get, All, Option, Some, None}
+use Rattle.std.proofs.Common.{IsNone, IsSome, IfSome, IsSomeAnd, refl, sym, ap, ◌∙◌, subst, inl, inr, arith, length-take}
 use Rattle.std.proofs.lemmas.Bool.{false≢true}
 use Rattle.std.proofs.lemmas.List.Elements.{All-append, All-cons, All-nil}
 use Rattle.std.proofs.lemmas.Option.{same_Some}
@@ -22,11 +23,12 @@ use Rattle.btr_read.specs.Layout.{Layout, device_in}
 use Rattle.btr_read.specs.Want.{addr_of}
 use Rattle.btr_read.specs.declared.device.Device.{Device}
 use Rattle.btr_read.proofs.Ones.{in_below}
-use Rattle.btr_mend.specs.Blocks.{accepted, bad_parts, block_writes, is_sound, own_parts, written_over}
-use Rattle.btr_mend.proofs.Syncs.{passing_filter}
-use Rattle.btr_mend.specs.Writes.{Images, Write}
-use Rattle.btr_row.specs.Rows as rows
-use Rattle.btr_row.specs.Rows.{Row, column_of, differing, differs, element_with, is_decided, parities, parity_writes, range_in_element, row_writes, sector_write}
+use Rattle.btr_scrub_copies.specs.Blocks.{accepted, bad_parts, block_writes, is_sound, own_parts, written_over}
+use Rattle.btr_scrub_copies.proofs.Syncs.{passing_filter}
+use Rattle.btr_scrub_copies.specs.Writes.{Images, Write}
+use Rattle.btr_scrub_row.specs.Rows as rows
+use Rattle.btr_scrub_row.specs.Rows.{Row, column_of, differing, differs, element_with, is_decided, parities, parity_writes, range_in_element, row_writes}
+use Rattle.btr_scrub_row.specs.Rows.{sector_write}
 use Rattle.btr_scrub.specs.Devices.{HaveLengths}
 use Rattle.btr_scrub.specs.Glue.{In}
 use Rattle.btr_scrub.specs.Leaves.{KeepsOutside}
@@ -35,7 +37,7 @@ use Rattle.btr_scrub.specs.Places.{IsOfElement}
 use Rattle.btr_scrub.specs.Repair.{covers}
 use Rattle.btr_scrub.proofs.Agreeing.{Alike}
 use Rattle.btr_scrub.proofs.CopyWrites.{same_element}
-use Rattle.btr_row.proofs.Elements.{range_stands, stands_on, stripe-row}
+use Rattle.btr_scrub_row.proofs.Elements.{range_stands, stands_on, stripe-row}
 use Rattle.btr_scrub.proofs.Places.{covering}
 use Rattle.btr_scrub.proofs.Positions.{striped_fits, striped_position}
 use Rattle.btr_scrub.proofs.RowAgreeing.{RowAlike, parity_alike, parity_has, row_alike}
@@ -133,7 +135,8 @@ module _ (layout : Layout) (row : Row) (table : IsTable layout.chunks) (is_row :
       (subst IsNone (sym is_row.parity) refl, (subst (λ c. IsPosition c t.at) of.chunk position).index)
 
   -- a byte of a part of a block is of the part's element
-  pub block_byte : (t : Target) (q : Part) (slot off : ℕ) → IsBlockOf layout row t → HasPart row.chunk.profile (length row.chunk.stripes) q → IsSomeAnd (range_of t q) (λ range. covers slot off range ≡ true) → IsOfElement layout row q slot off
+  pub block_byte : (t : Target) (q : Part) (slot off : ℕ) → IsBlockOf layout row t → HasPart row.chunk.profile (length row.chunk.stripes) q
+      → IsSomeAnd (range_of t q) (λ range. covers slot off range ≡ true) → IsOfElement layout row q slot off
   block_byte t q slot off of has c = by (range_of t q) refl c
     where
       position : IsPosition row.chunk (record { row = row.number; index = t.at.index; rest = t.at.rest })
@@ -157,17 +160,20 @@ module _ (layout : Layout) (row : Row) (table : IsTable layout.chunks) (is_row :
   -- ---- what is written
 
   -- a byte that is written for a block
-  pub written_block : (images : Images) (t : Target) (slot off : ℕ) → IsBlockOf layout row t → list_any (λ (w : Write). covers slot off w.range) (block_writes images t) ≡ true → IsOfElement layout row (part.Slice t.at.index) slot off
+  pub written_block : (images : Images) (t : Target) (slot off : ℕ) → IsBlockOf layout row t
+      → list_any (λ (w : Write). covers slot off w.range) (block_writes images t) ≡ true → IsOfElement layout row (part.Slice t.at.index) slot off
   written_block images t slot off of h = by (accepted images t) h
     where
       own : own_parts t ≡ part.Slice t.at.index ∷ []
-      own = ap (λ o. option_map_or (λ copies. map part.Mirror (range_with_len 0 copies)) o (part.Slice t.at.index ∷ [])) (subst (λ c. mirrors c ≡ None) (sym of.chunk) is_row.parity)
+      own = ap (λ o. option_map_or (λ copies. map part.Mirror (range_with_len 0 copies)) o (part.Slice t.at.index ∷ []))
+          (subst (λ c. mirrors c ≡ None) (sym of.chunk) is_row.parity)
 
       only : (q : Part) → In q (part.Slice t.at.index ∷ []) → part.Slice t.at.index ≡ q
       only q (inl e) = e
       only q (inr i) = absurd i
 
-      by : (o : Option (List ℕ)) → list_any (λ (w : Write). covers slot off w.range) (option_map_or (written_over images t) o []) ≡ true → IsOfElement layout row (part.Slice t.at.index) slot off
+      by : (o : Option (List ℕ)) → list_any (λ (w : Write). covers slot off w.range) (option_map_or (written_over images t) o []) ≡ true
+          → IsOfElement layout row (part.Slice t.at.index) slot off
       by None h = absurd (false≢true h)
       by (Some bytes) h =
           let f = any_filter_map (λ (w : Write). covers slot off w.range) (λ q. option_map (λ (range : Range). record { range = range; bytes = bytes }) (range_of t q)) (bad_parts images t) h in
@@ -181,7 +187,8 @@ module _ (layout : Layout) (row : Row) (table : IsTable layout.chunks) (is_row :
   column_at column few = record { index = is_row.position.index; inside = omega (arith, is_row.position.inside, few) }
 
   -- a sector of an element lies in it
-  pub sector_inside : (q : Part) (column : ℕ) (range : Range) → HasPart row.chunk.profile (length row.chunk.stripes) q → column < 16 → range_in_element layout row q (column * 4096) 4096 ≡ Some range → IfSome (range_in_element layout row q 0 65536) (LiesIn range)
+  pub sector_inside : (q : Part) (column : ℕ) (range : Range) → HasPart row.chunk.profile (length row.chunk.stripes) q → column < 16
+      → range_in_element layout row q (column * 4096) 4096 ≡ Some range → IfSome (range_in_element layout row q 0 65536) (LiesIn range)
   sector_inside q column range has few e =
       let b = begins q has in
       let l = lies q 0 (column * 4096) has (column_at column few) in
@@ -193,17 +200,20 @@ module _ (layout : Layout) (row : Row) (table : IsTable layout.chunks) (is_row :
       subst (λ o. IfSome o (LiesIn range)) (sym b.whole) (record { slot = ap (λ (r : Range). r.slot) same; from = omega (arith, off, l.offset); to = omega (arith, off, len, l.offset, few) })
 
   -- each byte of the writes for a parity lies in its element
-  pub written_parity : (images : Images) (q : Part) (slot off : ℕ) → HasPart row.chunk.profile (length row.chunk.stripes) q → list_any (λ (w : Write). covers slot off w.range) (parity_writes images layout row q) ≡ true → IsOfElement layout row q slot off
+  pub written_parity : (images : Images) (q : Part) (slot off : ℕ) → HasPart row.chunk.profile (length row.chunk.stripes) q
+      → list_any (λ (w : Write). covers slot off w.range) (parity_writes images layout row q) ≡ true → IsOfElement layout row q slot off
   written_parity images q slot off has h =
       let f = any_filter_map (λ (w : Write). covers slot off w.range) (sector_write images layout row q) (differing images layout row q) h in
       let column = f.0 in
       let d = passing_filter (λ column. is_decided images layout row column && differs images layout row q column) column (range_with_len 0 16) f.1 in
       let few : column < 16 = in_below 16 column d.0 in
       let m = mapped (λ (range : Range). record { range = range; bytes = column_of column (element_with images layout (accepted images) row q) }) (range_in_element layout row q (column * 4096) 4096) f.2.0 f.2.1 in
-      in_element q 0 (column * 4096) 4096 slot off m.0 has (column_at column few) (omega (arith, few)) m.1 (ap (λ (w : Write). covers slot off w.range) m.2 ∙ f.2.2)
+      in_element q 0 (column * 4096) 4096 slot off m.0 has (column_at column few) (omega (arith, few)) m.1
+      (ap (λ (w : Write). covers slot off w.range) m.2 ∙ f.2.2)
 
   -- each byte that is written for the row is of one of its elements
-  pub written_row : (images : Images) (slot off : ℕ) → ((t : Target) → In t row.blocks → IsBlockOf layout row t) → list_any (λ (w : Write). covers slot off w.range) (row_writes images layout row) ≡ true
+  pub written_row : (images : Images) (slot off : ℕ) → ((t : Target) → In t row.blocks → IsBlockOf layout row t)
+      → list_any (λ (w : Write). covers slot off w.range) (row_writes images layout row) ≡ true
       → (q : Part) × IsOfElement layout row q slot off
   written_row images slot off of h =
       let W = λ (w : Write). covers slot off w.range in
@@ -217,12 +227,14 @@ module _ (layout : Layout) (row : Row) (table : IsTable layout.chunks) (is_row :
 
   -- ---- the writes have at most as many bytes as their ranges
 
-  flat_short : {X : Type 0} (images : Images) (f : X → List Write) (xs : List X) → ((x : X) → In x xs → All (Short images) (f x)) → All (Short images) (flat_map f xs)
+  flat_short : {X : Type 0} (images : Images) (f : X → List Write) (xs : List X) → ((x : X) → In x xs → All (Short images) (f x))
+      → All (Short images) (flat_map f xs)
   flat_short images f [] h = All-nil (Short images)
   flat_short images f (x ∷ xs) h = All-append (Short images) (f x) (flat_map f xs) (h x (inl refl)) (flat_short images f xs (λ y i. h y (inr i)))
 
   module _ (images : Images) (lengths : HaveLengths images layout) where
-    sector_short : (q : Part) (column : ℕ) → HasPart row.chunk.profile (length row.chunk.stripes) q → column < 16 → (o : Option Range) → range_in_element layout row q (column * 4096) 4096 ≡ o → (others : List Write) → All (Short images) others
+    sector_short : (q : Part) (column : ℕ) → HasPart row.chunk.profile (length row.chunk.stripes) q → column < 16 → (o : Option Range)
+        → range_in_element layout row q (column * 4096) 4096 ≡ o → (others : List Write) → All (Short images) others
         → All (Short images) (cons_option (option_map (λ (range : Range). record { range = range; bytes = column_of column (element_with images layout (accepted images) row q) }) o) others)
     sector_short q column has few None e others rest = rest
     sector_short q column has few (Some range) e others rest =
@@ -239,17 +251,20 @@ module _ (layout : Layout) (row : Row) (table : IsTable layout.chunks) (is_row :
         let image : length (image_of images range.slot) ≡ b.device.len = ap (λ s. length (image_of images s)) slot ∙ lengths place.devid b.device given in
         All-cons (Short images) (record { range = range; bytes = column_of column bytes }) others (record { short = omega (arith, len, length-take (column * 4096 + 4096 - column * 4096) (drop (column * 4096) bytes)); within = omega (arith, off, len, image, inside) }) rest
 
-    sectors_short : (q : Part) → HasPart row.chunk.profile (length row.chunk.stripes) q → (columns : List ℕ) → ((column : ℕ) → In column columns → column < 16) → All (Short images) (filter_map (sector_write images layout row q) columns)
+    sectors_short : (q : Part) → HasPart row.chunk.profile (length row.chunk.stripes) q → (columns : List ℕ)
+        → ((column : ℕ) → In column columns → column < 16) → All (Short images) (filter_map (sector_write images layout row q) columns)
     sectors_short q has [] few = All-nil (Short images)
     sectors_short q has (column ∷ columns) few =
-        sector_short q column has (few column (inl refl)) (range_in_element layout row q (column * 4096) 4096) refl (filter_map (sector_write images layout row q) columns) (sectors_short q has columns (λ k i. few k (inr i)))
+        sector_short q column has (few column (inl refl)) (range_in_element layout row q (column * 4096) 4096) refl
+        (filter_map (sector_write images layout row q) columns) (sectors_short q has columns (λ k i. few k (inr i)))
 
     pub row_short : ((t : Target) → In t row.blocks → IsBlockOf layout row t) → All (Short images) (row_writes images layout row)
     row_short of =
         All-append (Short images) (flat_map (block_writes images) row.blocks) (flat_map (parity_writes images layout row) (parities row.chunk.profile))
         (flat_short images (block_writes images) row.blocks (λ t i. block_short images layout lengths t (of t i).is))
         (flat_short images (parity_writes images layout row) (parities row.chunk.profile) (λ q i. let p = parity_has row.chunk.profile (length row.chunk.stripes) q is_row.parity i in
-        sectors_short q p.0 (differing images layout row q) (λ column j. in_below 16 column (passing_filter (λ column. is_decided images layout row column && differs images layout row q column) column (range_with_len 0 16) j).0)))
+        sectors_short q p.0 (differing images layout row q) (λ column j. in_below 16 column
+        (passing_filter (λ column. is_decided images layout row column && differs images layout row q column) column (range_with_len 0 16) j).0)))
 
     -- ---- what is told of the row, where none of its bytes was written
 
@@ -264,7 +279,8 @@ module _ (layout : Layout) (row : Row) (table : IsTable layout.chunks) (is_row :
             let off = (place_at row.chunk q (record { row = row.number; index = 0; rest = 0 })).offset in
             let long = lengths (place_at row.chunk q (record { row = row.number; index = 0; rest = 0 })).devid b.device b.given in
             ap (λ (o : Option Range). option_map_or (λ range. bytes_of images' range.slot range.off range.len) o []) b.whole
-            ∙ range_same (image_of images' slot) (image_of images slot) off (off + 65536) (omega (arith, b.within, long, keeps.lengths slot)) (sym (keeps.lengths slot)) (λ i from to. keeps.bytes slot i (free q slot i (of_element q has b i from to)))
+            ∙ range_same (image_of images' slot) (image_of images slot) off (off + 65536) (omega (arith, b.within, long, keeps.lengths slot))
+            (sym (keeps.lengths slot)) (λ i from to. keeps.bytes slot i (free q slot i (of_element q has b i from to)))
             ∙ sym (ap (λ (o : Option Range). option_map_or (λ range. bytes_of images range.slot range.off range.len) o []) b.whole)
 
         blocks : (t : Target) → In t row.blocks → Alike images images' t

@@ -1,5 +1,6 @@
 -- The full stripes of a chunk with parity, one after another.
-use Rattle.std.proofs.Common.{◌≡◌, ◌⊎◌, ℕ, ◌+◌, ◌-◌, ◌/◌, ◌<◌, ◌≤◌, Bool, true, false, leb, ltb, List, [], ◌∷◌, ◌++◌, map, length, slice_get, Some, None, Result, Ok, Err, refl, sym, ap, ◌∙◌, subst, inl, inr, arith, append_assoc, append-nil}
+use Rattle.std.proofs.Common.{◌≡◌, ◌⊎◌, ℕ, ◌+◌, ◌-◌, ◌/◌, ◌<◌, ◌≤◌, Bool, true, false, leb, ltb, List, [], ◌∷◌, ◌++◌, map, length, slice_get, Some, None}
+use Rattle.std.proofs.Common.{Result, Ok, Err, refl, sym, ap, ◌∙◌, subst, inl, inr, arith, append_assoc, append-nil}
 use Rattle.std.proofs.lemmas.Bool.{and_parts, cases_eq, leb-true, ltb-true, and_from, le-leb, lt-ltb}
 use Rattle.std.proofs.lemmas.Grind.{flat_map-append}
 use Rattle.std.proofs.lemmas.List.{map-append}
@@ -15,11 +16,11 @@ use Rattle.btr_read.specs.Fate.{sought}
 use Rattle.btr_read.specs.Layout.{HaveOwnSlots, Layout}
 use Rattle.btr_read.specs.Want.{addr_of, len_of}
 use Rattle.btr_read.specs.declared.want.Want.{Want}
-use Rattle.btr_mend.specs.Writes.{Images}
-use Rattle.btr_mend.specs.declared.mended.MendFault.{MendFault}
-use Rattle.btr_mend.specs.declared.mended.MendFault.TheVariants.{Memory}
-use Rattle.btr_row.specs.Mending.{mended_row}
-use Rattle.btr_row.specs.Rows.{row_writes}
+use Rattle.btr_scrub_copies.specs.Writes.{Images}
+use Rattle.btr_scrub_copies.specs.declared.mended.MendFault.{MendFault}
+use Rattle.btr_scrub_copies.specs.declared.mended.MendFault.TheVariants.{Memory}
+use Rattle.btr_scrub_row.specs.Mending.{mended_row}
+use Rattle.btr_scrub_row.specs.Rows.{row_writes}
 use Rattle.btr_scrub.specs.Devices.{HaveLengths}
 use Rattle.btr_scrub.specs.Glue.{In}
 use Rattle.btr_scrub.specs.Order.{AreApart, IsSought, targets}
@@ -28,7 +29,8 @@ use Rattle.btr_scrub.specs.Rowing.{BeginsElse, Collects, row_in}
 use Rattle.btr_scrub.specs.Scrubbing.{BeginsBehind, IsPastChunk, Scrubs, count_row, counted_row, rows_count, rows_writes}
 use Rattle.btr_scrub.specs.declared.tally.Tally.{Tally}
 use Rattle.btr_scrub.proofs.Blockwise.{all_behind, filter_none, in_append, of_targets}
-use Rattle.btr_scrub.proofs.RowNumbers.{all_rows, at_row, held_row, range_split, row_fits, row_is_not, row_of_block, row_there, rows_rise, rows_to, sought_each, tail_apart}
+use Rattle.btr_scrub.proofs.RowNumbers.{all_rows, at_row, held_row, range_split, row_fits, row_is_not, row_of_block, row_there, rows_rise, rows_to, sought_each}
+use Rattle.btr_scrub.proofs.RowNumbers.{tail_apart}
 use Rattle.btr_scrub.proofs.NextRow.{IsNextRow, counts_row, counts_with, mine_is, more_counts, more_rows, unmoved_row, writes_with}
 use Rattle.btr_scrub.proofs.Positions.{is_sought}
 use Rattle.btr_scrub.proofs.Scrubbing.{scrubs_as, scrubs_cut, scrubs_none, scrubs_nothing, scrubs_then}
@@ -46,7 +48,8 @@ module _ (kept : KeptColumns) (layout : Layout) (table : IsTable layout.chunks) 
     pub from : chunk.start ≤ end
     pub apart : AreApart layout end left
     pub ahead : (t : Target) → In t (targets layout left) → t.chunk ≡ chunk → q ≤ t.at.row
-    pub done : Scrubs {A = Unit {0}} layout write (rows_writes layout (rows_to kept (targets layout wants) chunk q)) (rows_count layout write (rows_to kept (targets layout wants) chunk q)) m m' a b tally tally' (Ok tt)
+    pub done : Scrubs {A = Unit {0}} layout write (rows_writes layout (rows_to kept (targets layout wants) chunk q))
+        (rows_count layout write (rows_to kept (targets layout wants) chunk q)) m m' a b tally tally' (Ok tt)
 
   pub rows_first : (write : Bool) (m : List Bool) (a : Seen) (tally : Tally) → AreApart layout chunk.start wants → RowsUnderway write wants m m a a tally tally
   rows_first write m a tally apart = record {
@@ -64,8 +67,10 @@ module _ (kept : KeptColumns) (layout : Layout) (table : IsTable layout.chunks) 
 
   -- ---- which row comes next
 
-  pub next_row : (write : Bool) (left mid left' : List Want) (m m' : List Bool) (a b : Seen) (tally tally' : Tally) (h : RowsUnderway write left m m' a b tally tally') (first : Want) (r : ℕ) (ws : List Want)
-      → left ≡ first ∷ mid → row_in chunk (addr_of first) ≡ Some r → (c : Collects chunk r first mid left' ws) → IsNextRow kept layout table own given number chunk there parity wants h.q h.past left' r ws
+  pub next_row : (write : Bool) (left mid left' : List Want) (m m' : List Bool) (a b : Seen) (tally tally' : Tally)
+      (h : RowsUnderway write left m m' a b tally tally') (first : Want) (r : ℕ) (ws : List Want)
+      → left ≡ first ∷ mid → row_in chunk (addr_of first) ≡ Some r → (c : Collects chunk r first mid left' ws)
+      → IsNextRow kept layout table own given number chunk there parity wants h.q h.past left' r ws
   next_row write left mid left' m m' a b tally tally' h first r ws is in_row c =
       let mine = first ∷ c.more in
       let whole : left ≡ mine ++ left' = is ∙ ap (λ xs. first ∷ xs) c.split in
@@ -106,7 +111,8 @@ module _ (kept : KeptColumns) (layout : Layout) (table : IsTable layout.chunks) 
           let of = row_of_block layout table number chunk there parity w.0 t w.2 mine_too in
           by left' c.next apart w.0 w.1 of.0 of.1
         where
-          by : (xs : List Want) → BeginsElse chunk r xs → AreApart layout e xs → (w : Want) → In w xs → holds chunk (addr_of w) ≡ true → (position chunk (addr_of w)).row ≡ t.at.row → r + 1 ≤ t.at.row
+          by : (xs : List Want) → BeginsElse chunk r xs → AreApart layout e xs → (w : Want) → In w xs → holds chunk (addr_of w) ≡ true
+              → (position chunk (addr_of w)).row ≡ t.at.row → r + 1 ≤ t.at.row
           by [] else apart w i held row = absurd i
           by (v ∷ vs) else apart w i held row =
               let le_v : addr_of v ≤ addr_of w = first_le v vs w apart i in
@@ -152,15 +158,26 @@ module _ (kept : KeptColumns) (layout : Layout) (table : IsTable layout.chunks) 
             let out = all_behind layout (chunk.start + chunk.length) left p.behind w.0 w.1 in
             row_is_not layout table number chunk there parity k t (sought_is left t i) (λ c e. let held = (row_of_block layout table number chunk there parity w.0 t w.2 c).0 in omega (arith, out, ltb-true (addr_of w.0) (chunk.start + chunk.length) (and_parts (leb chunk.start (addr_of w.0)) (ltb (addr_of w.0) (chunk.start + chunk.length)) held).1))
 
-    pub rows_done : IsPastChunk layout chunk wants left → Scrubs {A = Unit {0}} layout write (rows_writes layout (rows_in kept (targets layout wants) chunk)) (rows_count layout write (rows_in kept (targets layout wants) chunk)) m m' a b tally tally' (Ok tt)
+    pub rows_done : IsPastChunk layout chunk wants left → Scrubs {A = Unit {0}} layout write
+        (rows_writes layout (rows_in kept (targets layout wants) chunk)) (rows_count layout write (rows_in kept (targets layout wants) chunk)) m m' a
+        b tally tally' (Ok tt)
     rows_done p =
         let n = stripe_length chunk / 65536 in
-        subst (λ rs. Scrubs {A = Unit {0}} layout write (rows_writes layout rs) (rows_count layout write rs) m m' a b tally tally' (Ok (tt {0}))) (sym (all_rows kept (targets layout wants) chunk parity))
-        (scrubs_as layout write (rows_writes layout (rows_to kept (targets layout wants) chunk h.q)) (rows_writes layout (rows_to kept (targets layout wants) chunk n)) (rows_count layout write (rows_to kept (targets layout wants) chunk h.q)) (rows_count layout write (rows_to kept (targets layout wants) chunk n)) m m' a b tally tally' (Ok (tt {0}))
-        (λ images e. (sym (more_rows kept layout table own given number chunk there parity wants h.q n h.below (λ k le lt. none_later p k le) images), sym (more_counts kept layout table own given number chunk there parity wants write h.q n h.below (λ k le lt. none_later p k le) images tally))) h.done)
+        subst (λ rs. Scrubs {A = Unit {0}} layout write (rows_writes layout rs) (rows_count layout write rs) m m' a b tally tally' (Ok (tt {0})))
+        (sym (all_rows kept (targets layout wants) chunk parity))
+        (scrubs_as layout write (rows_writes layout (rows_to kept (targets layout wants) chunk h.q))
+        (rows_writes layout (rows_to kept (targets layout wants) chunk n))
+        (rows_count layout write (rows_to kept (targets layout wants) chunk h.q))
+        (rows_count layout write (rows_to kept (targets layout wants) chunk n)) m m' a b tally tally' (Ok (tt {0}))
+        (λ images e. (
+          sym (more_rows kept layout table own given number chunk there parity wants h.q n h.below (λ k le lt. none_later p k le) images),
+          sym (more_counts kept layout table own given number chunk there parity wants write h.q n h.below (λ k le lt. none_later p k le) images
+              tally),
+        )) h.done)
 
     -- there was no memory for the blocks of the next row
-    pub rows_short : Scrubs {A = Unit {0}} layout write (rows_writes layout (rows_in kept (targets layout wants) chunk)) (rows_count layout write (rows_in kept (targets layout wants) chunk)) m m' a b tally tally' (Err Memory)
+    pub rows_short : Scrubs {A = Unit {0}} layout write (rows_writes layout (rows_in kept (targets layout wants) chunk))
+        (rows_count layout write (rows_in kept (targets layout wants) chunk)) m m' a b tally tally' (Err Memory)
     rows_short =
         let n = stripe_length chunk / 65536 in
         let d = n - h.q in
@@ -169,26 +186,50 @@ module _ (kept : KeptColumns) (layout : Layout) (table : IsTable layout.chunks) 
         let from_q : 0 + h.q ≡ h.q = omega arith in
         let parts : rows_to kept (targets layout wants) chunk n ≡ rows_to kept (targets layout wants) chunk h.q ++ rest =
         ap (rows_to kept (targets layout wants) chunk) whole ∙ ap (map (row_of kept (targets layout wants) chunk)) (range_split 0 h.q d) ∙ map-append (row_of kept (targets layout wants) chunk) (range_with_len 0 h.q) (range_with_len (0 + h.q) d) ∙ ap (λ k. rows_to kept (targets layout wants) chunk h.q ++ map (row_of kept (targets layout wants) chunk) (range_with_len k d)) from_q in
-        subst (λ rs. Scrubs {A = Unit {0}} layout write (rows_writes layout rs) (rows_count layout write rs) m m' a b tally tally' (Err Memory)) (sym (all_rows kept (targets layout wants) chunk parity ∙ parts))
-        (scrubs_as layout write (λ i. (rows_writes layout (rows_to kept (targets layout wants) chunk h.q) i ++ []) ++ rows_writes layout rest i) (rows_writes layout (rows_to kept (targets layout wants) chunk h.q ++ rest)) (rows_count layout write (rows_to kept (targets layout wants) chunk h.q ++ rest)) (rows_count layout write (rows_to kept (targets layout wants) chunk h.q ++ rest)) m m' a b tally tally' (Err Memory)
-        (λ images e. (ap (λ ws. ws ++ rows_writes layout rest images) (append-nil (rows_writes layout (rows_to kept (targets layout wants) chunk h.q) images)) ∙ sym (flat_map-append (row_writes images layout) (rows_to kept (targets layout wants) chunk h.q) rest), refl))
-        (scrubs_cut layout write (Unit {0}) (Unit {0}) (λ i. rows_writes layout (rows_to kept (targets layout wants) chunk h.q) i ++ []) (rows_writes layout rest) (rows_count layout write (rows_to kept (targets layout wants) chunk h.q)) (rows_count layout write (rows_to kept (targets layout wants) chunk h.q ++ rest)) m m' a b tally tally' Memory
-        (scrubs_then layout write (Unit {0}) (Unit {0}) (rows_writes layout (rows_to kept (targets layout wants) chunk h.q)) (λ i. []) (rows_count layout write (rows_to kept (targets layout wants) chunk h.q)) (λ i y. y) m m' m' a b b tally tally' tally' tt (Err Memory) (λ images e. (refl, λ x. refl)) h.done
+        subst (λ rs. Scrubs {A = Unit {0}} layout write (rows_writes layout rs) (rows_count layout write rs) m m' a b tally tally' (Err Memory))
+        (sym (all_rows kept (targets layout wants) chunk parity ∙ parts))
+        (scrubs_as layout write (λ i. (rows_writes layout (rows_to kept (targets layout wants) chunk h.q) i ++ []) ++ rows_writes layout rest i)
+        (rows_writes layout (rows_to kept (targets layout wants) chunk h.q ++ rest))
+        (rows_count layout write (rows_to kept (targets layout wants) chunk h.q ++ rest))
+        (rows_count layout write (rows_to kept (targets layout wants) chunk h.q ++ rest)) m m' a b tally tally' (Err Memory)
+        (λ images e. (
+          ap (λ ws. ws ++ rows_writes layout rest images)
+              (append-nil (rows_writes layout (rows_to kept (targets layout wants) chunk h.q) images))
+              ∙ sym (flat_map-append (row_writes images layout) (rows_to kept (targets layout wants) chunk h.q) rest),
+          refl,
+        ))
+        (scrubs_cut layout write (Unit {0}) (Unit {0}) (λ i. rows_writes layout (rows_to kept (targets layout wants) chunk h.q) i ++ [])
+        (rows_writes layout rest) (rows_count layout write (rows_to kept (targets layout wants) chunk h.q))
+        (rows_count layout write (rows_to kept (targets layout wants) chunk h.q ++ rest)) m m' a b tally tally' Memory
+        (scrubs_then layout write (Unit {0}) (Unit {0}) (rows_writes layout (rows_to kept (targets layout wants) chunk h.q)) (λ i. [])
+        (rows_count layout write (rows_to kept (targets layout wants) chunk h.q)) (λ i y. y) m m' m' a b b tally tally' tally' tt (Err Memory)
+        (λ images e. (refl, λ x. refl)) h.done
         (scrubs_nothing layout write m' b tally'))))
 
     module _ (lengths : (images : Images) → a.held ≡ Some images → HaveLengths images layout) (left' : List Want) (r : ℕ) (mine : List Want) (n : IsNextRow kept layout table own given number chunk there parity wants h.q h.past left' r mine) (m'' : List Bool) (z : Seen) (tally'' : Tally) where
       both : (e : Result (Unit {0}) MendFault)
-          → Scrubs {A = Unit {0}} layout write (λ images. row_writes images layout (row_of kept (targets layout wants) chunk r)) (λ images x. counted_row x (length (row_of kept (targets layout wants) chunk r).blocks) (mended_row images layout (row_of kept (targets layout wants) chunk r) write)) m' m'' b z tally' tally'' e
-          → Scrubs {A = Unit {0}} layout write (λ images. rows_writes layout (rows_to kept (targets layout wants) chunk h.q) images ++ row_writes images layout (row_of kept (targets layout wants) chunk r)) (λ images x. count_row images layout write (rows_count layout write (rows_to kept (targets layout wants) chunk h.q) images x) (row_of kept (targets layout wants) chunk r)) m m'' a z tally tally'' e
+          → Scrubs {A = Unit {0}} layout write (λ images. row_writes images layout (row_of kept (targets layout wants) chunk r))
+          (λ images x. counted_row x (length (row_of kept (targets layout wants) chunk r).blocks)
+          (mended_row images layout (row_of kept (targets layout wants) chunk r) write)) m' m'' b z tally' tally'' e
+          → Scrubs {A = Unit {0}} layout write (λ images. rows_writes layout (rows_to kept (targets layout wants) chunk h.q) images
+          ++ row_writes images layout (row_of kept (targets layout wants) chunk r))
+          (λ images x. count_row images layout write (rows_count layout write (rows_to kept (targets layout wants) chunk h.q) images x)
+          (row_of kept (targets layout wants) chunk r)) m m'' a z tally tally'' e
       both e one =
           let row = row_of kept (targets layout wants) chunk r in
-          scrubs_then layout write (Unit {0}) (Unit {0}) (rows_writes layout (rows_to kept (targets layout wants) chunk h.q)) (λ images. row_writes images layout row) (rows_count layout write (rows_to kept (targets layout wants) chunk h.q)) (λ images x. count_row images layout write x row) m m' m'' a b z tally tally' tally'' tt e
+          scrubs_then layout write (Unit {0}) (Unit {0}) (rows_writes layout (rows_to kept (targets layout wants) chunk h.q))
+          (λ images. row_writes images layout row) (rows_count layout write (rows_to kept (targets layout wants) chunk h.q))
+          (λ images x. count_row images layout write x row) m m' m'' a b z tally tally' tally'' tt e
           (unmoved_row kept layout table own given number chunk there parity wants h.q h.past left' r mine n write a.held lengths) h.done
-          (scrubs_as layout write (λ images. row_writes images layout row) (λ images. row_writes images layout row) (λ images x. counted_row x (length row.blocks) (mended_row images layout row write)) (λ images x. count_row images layout write x row) m' m'' b z tally' tally'' e
+          (scrubs_as layout write (λ images. row_writes images layout row) (λ images. row_writes images layout row)
+          (λ images x. counted_row x (length row.blocks) (mended_row images layout row write)) (λ images x. count_row images layout write x row)
+          m' m'' b z tally' tally'' e
           (λ images q. (refl, counts_row kept layout table own given number chunk there parity wants h.q h.past left' r mine n write images tally')) one)
 
       -- one row more
-      pub rows_more : Scrubs {A = Unit {0}} layout write (λ images. row_writes images layout (row_of kept (targets layout wants) chunk r)) (λ images x. counted_row x (length (row_of kept (targets layout wants) chunk r).blocks) (mended_row images layout (row_of kept (targets layout wants) chunk r) write)) m' m'' b z tally' tally'' (Ok (tt {0}))
+      pub rows_more : Scrubs {A = Unit {0}} layout write (λ images. row_writes images layout (row_of kept (targets layout wants) chunk r))
+          (λ images x. counted_row x (length (row_of kept (targets layout wants) chunk r).blocks)
+          (mended_row images layout (row_of kept (targets layout wants) chunk r) write)) m' m'' b z tally' tally'' (Ok (tt {0}))
           → RowsUnderway write left' m m'' a z tally tally''
       rows_more one = record {
         past = h.past ++ mine;
@@ -203,15 +244,25 @@ module _ (kept : KeptColumns) (layout : Layout) (table : IsTable layout.chunks) 
         from = n.from;
         apart = n.apart;
         ahead = n.behind;
-        done = scrubs_as layout write (λ images. rows_writes layout (rows_to kept (targets layout wants) chunk h.q) images ++ row_writes images layout (row_of kept (targets layout wants) chunk r)) (rows_writes layout (rows_to kept (targets layout wants) chunk (r + 1)))
-            (λ images x. count_row images layout write (rows_count layout write (rows_to kept (targets layout wants) chunk h.q) images x) (row_of kept (targets layout wants) chunk r)) (rows_count layout write (rows_to kept (targets layout wants) chunk (r + 1))) m m'' a z tally tally'' (Ok (tt {0}))
-            (λ images e. (writes_with kept layout table own given number chunk there parity wants h.q h.past left' r mine n images, counts_with kept layout table own given number chunk there parity wants h.q h.past left' r mine n write images tally)) (both (Ok (tt {0})) one);
+        done = scrubs_as layout write (λ images. rows_writes layout (rows_to kept (targets layout wants) chunk h.q) images
+            ++ row_writes images layout (row_of kept (targets layout wants) chunk r)) (rows_writes layout (rows_to kept (targets layout wants) chunk (r + 1)))
+            (λ images x. count_row images layout write (rows_count layout write (rows_to kept (targets layout wants) chunk h.q) images x)
+            (row_of kept (targets layout wants) chunk r)) (rows_count layout write (rows_to kept (targets layout wants) chunk (r + 1))) m m'' a z
+            tally tally'' (Ok (tt {0}))
+            (λ images e. (
+              writes_with kept layout table own given number chunk there parity wants h.q h.past left' r mine n images,
+              counts_with kept
+                  layout table own given number chunk there parity wants h.q h.past left' r mine n write images tally,
+            )) (both (Ok (tt {0})) one);
       }
 
       -- a halt in it
       pub rows_cut : (fault : MendFault)
-          → Scrubs {A = Unit {0}} layout write (λ images. row_writes images layout (row_of kept (targets layout wants) chunk r)) (λ images x. counted_row x (length (row_of kept (targets layout wants) chunk r).blocks) (mended_row images layout (row_of kept (targets layout wants) chunk r) write)) m' m'' b z tally' tally'' (Err fault)
-          → Scrubs {A = Unit {0}} layout write (rows_writes layout (rows_in kept (targets layout wants) chunk)) (rows_count layout write (rows_in kept (targets layout wants) chunk)) m m'' a z tally tally'' (Err fault)
+          → Scrubs {A = Unit {0}} layout write (λ images. row_writes images layout (row_of kept (targets layout wants) chunk r))
+          (λ images x. counted_row x (length (row_of kept (targets layout wants) chunk r).blocks)
+          (mended_row images layout (row_of kept (targets layout wants) chunk r) write)) m' m'' b z tally' tally'' (Err fault)
+          → Scrubs {A = Unit {0}} layout write (rows_writes layout (rows_in kept (targets layout wants) chunk))
+          (rows_count layout write (rows_in kept (targets layout wants) chunk)) m m'' a z tally tally'' (Err fault)
       rows_cut fault one =
           let row = row_of kept (targets layout wants) chunk r in
           let all = stripe_length chunk / 65536 in
@@ -221,8 +272,19 @@ module _ (kept : KeptColumns) (layout : Layout) (table : IsTable layout.chunks) 
           let from_r : 0 + (r + 1) ≡ r + 1 = omega arith in
           let parts : rows_to kept (targets layout wants) chunk all ≡ rows_to kept (targets layout wants) chunk (r + 1) ++ rest =
           ap (rows_to kept (targets layout wants) chunk) whole ∙ ap (map (row_of kept (targets layout wants) chunk)) (range_split 0 (r + 1) d) ∙ map-append (row_of kept (targets layout wants) chunk) (range_with_len 0 (r + 1)) (range_with_len (0 + (r + 1)) d) ∙ ap (λ k. rows_to kept (targets layout wants) chunk (r + 1) ++ map (row_of kept (targets layout wants) chunk) (range_with_len k d)) from_r in
-          subst (λ rs. Scrubs {A = Unit {0}} layout write (rows_writes layout rs) (rows_count layout write rs) m m'' a z tally tally'' (Err fault)) (sym (all_rows kept (targets layout wants) chunk parity ∙ parts))
-          (scrubs_as layout write (λ i. (rows_writes layout (rows_to kept (targets layout wants) chunk h.q) i ++ row_writes i layout row) ++ rows_writes layout rest i) (rows_writes layout (rows_to kept (targets layout wants) chunk (r + 1) ++ rest)) (rows_count layout write (rows_to kept (targets layout wants) chunk (r + 1) ++ rest)) (rows_count layout write (rows_to kept (targets layout wants) chunk (r + 1) ++ rest)) m m'' a z tally tally'' (Err fault)
-          (λ images e. (ap (λ ws. ws ++ rows_writes layout rest images) (writes_with kept layout table own given number chunk there parity wants h.q h.past left' r mine n images) ∙ sym (flat_map-append (row_writes images layout) (rows_to kept (targets layout wants) chunk (r + 1)) rest), refl))
-          (scrubs_cut layout write (Unit {0}) (Unit {0}) (λ i. rows_writes layout (rows_to kept (targets layout wants) chunk h.q) i ++ row_writes i layout row) (rows_writes layout rest)
-          (λ images x. count_row images layout write (rows_count layout write (rows_to kept (targets layout wants) chunk h.q) images x) row) (rows_count layout write (rows_to kept (targets layout wants) chunk (r + 1) ++ rest)) m m'' a z tally tally'' fault (both (Err fault) one)))
+          subst (λ rs. Scrubs {A = Unit {0}} layout write (rows_writes layout rs) (rows_count layout write rs) m m'' a z tally tally'' (Err fault))
+          (sym (all_rows kept (targets layout wants) chunk parity ∙ parts))
+          (scrubs_as layout write (λ i. (rows_writes layout (rows_to kept (targets layout wants) chunk h.q) i ++ row_writes i layout row)
+          ++ rows_writes layout rest i) (rows_writes layout (rows_to kept (targets layout wants) chunk (r + 1) ++ rest))
+          (rows_count layout write (rows_to kept (targets layout wants) chunk (r + 1) ++ rest))
+          (rows_count layout write (rows_to kept (targets layout wants) chunk (r + 1) ++ rest)) m m'' a z tally tally'' (Err fault)
+          (λ images e. (
+            ap (λ ws. ws ++ rows_writes layout rest images)
+                (writes_with kept layout table own given number chunk there parity wants h.q h.past left' r mine n images)
+                ∙ sym (flat_map-append (row_writes images layout) (rows_to kept (targets layout wants) chunk (r + 1)) rest),
+            refl,
+          ))
+          (scrubs_cut layout write (Unit {0}) (Unit {0}) (λ i. rows_writes layout (rows_to kept (targets layout wants) chunk h.q) i
+          ++ row_writes i layout row) (rows_writes layout rest)
+          (λ images x. count_row images layout write (rows_count layout write (rows_to kept (targets layout wants) chunk h.q) images x) row)
+          (rows_count layout write (rows_to kept (targets layout wants) chunk (r + 1) ++ rest)) m m'' a z tally tally'' fault (both (Err fault) one)))

@@ -8,8 +8,8 @@ use Rattle.btr_read.specs.Candidates.{Target, size_of}
 use Rattle.btr_read.specs.Fate.{fate}
 use Rattle.btr_read.specs.Layout.{HaveOwnSlots, Layout}
 use Rattle.btr_read.specs.declared.want.Want.{Want}
-use Rattle.btr_mend.specs.Writes.{Images, Write}
-use Rattle.btr_row.specs.Rows.{Row}
+use Rattle.btr_scrub_copies.specs.Writes.{Images, Write}
+use Rattle.btr_scrub_row.specs.Rows.{Row}
 use Rattle.btr_scrub.specs.Devices.{HaveLengths}
 use Rattle.btr_scrub.specs.Filesystem.{Filesystem}
 use Rattle.btr_scrub.specs.Gathering.{checked_among}
@@ -17,7 +17,8 @@ use Rattle.btr_scrub.specs.Glue.{In}
 use Rattle.btr_scrub.specs.Leaves.{KeepsOutside}
 use Rattle.btr_scrub.specs.Order.{AreApart, targets}
 use Rattle.btr_scrub.specs.Repair.{blocks, columns_kept, met, ranges, rows, rows_in}
-use Rattle.btr_scrub.specs.Right.{AreBytes, Committed, HasFewWrong, HasRightCopy, IsOfWrongCopy, IsRepairable, LiesInWrong, RangesLieInWrong, RangesMayHoldAnything, StandsFor}
+use Rattle.btr_scrub.specs.Right.{AreBytes, Committed, HasFewWrong, HasRightCopy, IsOfWrongCopy, IsRepairable, LiesInWrong, RangesLieInWrong}
+use Rattle.btr_scrub.specs.Right.{RangesMayHoldAnything, StandsFor}
 use Rattle.btr_scrub.proofs.InWrong.{IsWrong, range_is_wrong}
 use Rattle.btr_scrub.proofs.Lists.{all_from, all_in, any_in, in_flat}
 use Rattle.btr_scrub.proofs.Outliving.{block_outlives}
@@ -25,7 +26,8 @@ use Rattle.btr_scrub.proofs.SoundRows.{CanBeHad}
 use Rattle.btr_scrub.proofs.Told.{writes_beside, targets_met}
 use Rattle.btr_scrub.proofs.Unitwise.{units_apart}
 
-module _ (images : Images) (fs : Filesystem) (table : IsTable fs.layout.chunks) (own : HaveOwnSlots fs.layout.devices) (lengths : HaveLengths images fs.layout) (bytes : AreBytes images)
+module _ (images : Images) (fs : Filesystem) (table : IsTable fs.layout.chunks) (own : HaveOwnSlots fs.layout.devices)
+    (lengths : HaveLengths images fs.layout) (bytes : AreBytes images)
     (node : fs.sup.nodesize ≡ fs.layout.setting.nodesize) (some : 0 < fs.sup.nodesize) where
   abbrev layout : Layout
   layout = fs.layout
@@ -49,7 +51,8 @@ module _ (images : Images) (fs : Filesystem) (table : IsTable fs.layout.chunks) 
       slices = λ t i. all_in (λ (t : Target). IfSome (C t.want) (IsSlice (size_of t))) (blocks images fs) t h.slices (subst (In t) same i);
       copies = λ t i. all_in (HasRightCopy images C) (blocks images fs) t h.copies (subst (In t) same i);
       rows = λ chunk row c i. all_in (λ (row : Row). (row.blocks ≢ []) → HasFewWrong images layout C row) (rows images fs) row h.rows
-          (in_flat (rows_in (columns_kept images fs) (blocks images fs)) chunk row layout.chunks c (subst (λ ts. In row (rows_in (columns_kept images fs) ts chunk)) same i));
+          (in_flat (rows_in (columns_kept images fs) (blocks images fs)) chunk row layout.chunks c
+          (subst (λ ts. In row (rows_in (columns_kept images fs) ts chunk)) same i));
     }
 
   pub may_hold_anything : RangesMayHoldAnything images fs

@@ -58,29 +58,36 @@ module _ (s : Super) (sums : Option TreeRoot) (chunk : Chunk) (B : Map) (store :
     left = items_met s sums chunk end (left_of B old at)
 
     -- the items came to an end or to a fault
-    pub between_ends : (Is : UnreadBlock → Want → Type 0) → Follows Is no_part (wants_of b.before) (exec B (left_of B old at)) [] (Ok tt) → Follows Is no_part [] (exec B (items_met s sums chunk 0 (left_of B store scan))) done (Ok end)
+    pub between_ends : (Is : UnreadBlock → Want → Type 0) → Follows Is no_part (wants_of b.before) (exec B (left_of B old at)) [] (Ok tt)
+        → Follows Is no_part [] (exec B (items_met s sums chunk 0 (left_of B store scan))) done (Ok end)
     between_ends Is f = subst (λ r. Follows Is no_part [] r done (Ok end)) (sym b.is)
         (subst (λ d. Follows Is no_part [] (prepend b.before (exec B left)) d (Ok end)) (append-nil (steps_of b.before) ∙ sym b.steps)
         (follows_behind Is no_part [] b.before (exec B left) [] (Ok end) (each_ends (item_met s sums chunk) B Is (wants_of b.before) end (left_of B old at) f)))
 
-    pub between_halts : (Is : UnreadBlock → Want → Type 0) (f : TreeFault) → Follows Is no_part (wants_of b.before) (exec B (left_of B old at)) [] (Err (halt_of f)) → Follows Is no_part [] (exec B (items_met s sums chunk 0 (left_of B store scan))) done (Err (halt_of f))
+    pub between_halts : (Is : UnreadBlock → Want → Type 0) (f : TreeFault)
+        → Follows Is no_part (wants_of b.before) (exec B (left_of B old at)) [] (Err (halt_of f))
+        → Follows Is no_part [] (exec B (items_met s sums chunk 0 (left_of B store scan))) done (Err (halt_of f))
     between_halts Is f h = subst (λ r. Follows Is no_part [] r done (Err (halt_of f))) (sym b.is)
         (subst (λ d. Follows Is no_part [] (prepend b.before (exec B left)) d (Err (halt_of f))) (append-nil (steps_of b.before) ∙ sym b.steps)
-        (follows_behind Is no_part [] b.before (exec B left) [] (Err (halt_of f)) (each_halts (item_met s sums chunk) B Is (wants_of b.before) end (left_of B old at) (halt_of f) h)))
+        (follows_behind Is no_part [] b.before (exec B left) [] (Err (halt_of f))
+        (each_halts (item_met s sums chunk) B Is (wants_of b.before) end (left_of B old at) (halt_of f) h)))
 
     module _ (item : TreeItem) (gives : GivesItem B (wants_of b.before) old mid at at' item) where
       abbrev past : List (Mark Want Met)
       past = b.before ++ want_marks gives.past
 
       -- an item was met
-      met : exec B (items_met s sums chunk 0 (left_of B store scan)) ≡ prepend past (exec B (bind (item_met s sums chunk end item) (λ e. items_met s sums chunk e (left_of B mid at'))))
+      met : exec B (items_met s sums chunk 0 (left_of B store scan))
+          ≡ prepend past (exec B (bind (item_met s sums chunk end item) (λ e. items_met s sums chunk e (left_of B mid at'))))
       met =
           b.is
           ∙ ap (prepend b.before) (each_gives (item_met s sums chunk) B end (left_of B old at) (left_of B mid at') item gives.past gives.is)
-          ∙ prepend-prepend b.before (want_marks gives.past) (exec B (bind (item_met s sums chunk end item) (λ e. items_met s sums chunk e (left_of B mid at'))))
+          ∙ prepend-prepend b.before (want_marks gives.past)
+          (exec B (bind (item_met s sums chunk end item) (λ e. items_met s sums chunk e (left_of B mid at'))))
 
       past_steps : done ≡ steps_of past
-      past_steps = b.steps ∙ sym (append-nil (steps_of b.before)) ∙ ap (λ d. steps_of b.before ++ d) (sym (steps_back gives.past)) ∙ sym (steps_of-append b.before (want_marks gives.past))
+      past_steps = b.steps ∙ sym (append-nil (steps_of b.before)) ∙ ap (λ d. steps_of b.before ++ d) (sym (steps_back gives.past))
+          ∙ sym (steps_of-append b.before (want_marks gives.past))
 
       past_wants : wants_of past ≡ wants_of b.before ++ gives.past
       past_wants = wants_of-append b.before (want_marks gives.past) ∙ ap (λ w. wants_of b.before ++ w) (wants_back gives.past)
@@ -98,29 +105,38 @@ module _ (s : Super) (sums : Option TreeRoot) (chunk : Chunk) (B : Map) (store :
         abbrev treated : Meeting ℕ
         treated = extent_met s sums chunk end leaf found
 
-        met_extent : exec B (items_met s sums chunk 0 (left_of B store scan)) ≡ prepend past (exec B (bind treated (λ e. items_met s sums chunk e (left_of B mid at'))))
-        met_extent = met ∙ ap (λ q. prepend past (exec B (bind q (λ e. items_met s sums chunk e (left_of B mid at'))))) (item_extent s sums chunk end item found leaf e is stands)
+        met_extent : exec B (items_met s sums chunk 0 (left_of B store scan))
+            ≡ prepend past (exec B (bind treated (λ e. items_met s sums chunk e (left_of B mid at'))))
+        met_extent = met ∙ ap (λ q. prepend past (exec B (bind q (λ e. items_met s sums chunk e (left_of B mid at')))))
+            (item_extent s sums chunk end item found leaf e is stands)
 
         -- one whose blocks were listed
-        pub between_extent : (Is : UnreadBlock → Want → Type 0) (new : Blocks) (end' : ℕ) (more : List Met) → SameLoans mid new → at'.lo ≡ at.lo → at'.hi ≡ at.hi → Follows Is no_part [] (exec B treated) more (Ok end') → Between s sums chunk B store new scan at' end' (done ++ more)
+        pub between_extent : (Is : UnreadBlock → Want → Type 0) (new : Blocks) (end' : ℕ) (more : List Met) → SameLoans mid new → at'.lo ≡ at.lo
+            → at'.hi ≡ at.hi → Follows Is no_part [] (exec B treated) more (Ok end') → Between s sums chunk B store new scan at' end' (done ++ more)
         between_extent Is new end' more same lo hi f =
             let marks = (exec B treated).marks in
             record {
               before = past ++ marks;
               is = met_extent
-                  ∙ ap (prepend past) (exec-bind B treated (λ e. items_met s sums chunk e (left_of B mid at')) ∙ after-ok (exec B treated) end' (λ e. exec B (items_met s sums chunk e (left_of B mid at'))) f.1)
+                  ∙ ap (prepend past) (exec-bind B treated (λ e. items_met s sums chunk e (left_of B mid at'))
+                  ∙ after-ok (exec B treated) end' (λ e. exec B (items_met s sums chunk e (left_of B mid at'))) f.1)
                   ∙ prepend-prepend past marks (exec B (items_met s sums chunk end' (left_of B mid at')))
                   ∙ ap (λ q. prepend (past ++ marks) (exec B (items_met s sums chunk end' q))) (sym (left_same B mid new at' same));
               steps = ap (λ d. d ++ more) past_steps ∙ ap (λ d. steps_of past ++ d) f.0 ∙ sym (steps_of-append past marks);
               on = subst (λ ws. IsOn at'.lo at'.hi B ws at'.place) (sym (wants_of-append past marks))
-                  (on_more at'.lo at'.hi B (wants_of past) (wants_of marks) at'.place (on_as at.lo at.hi at'.lo at'.hi B (wants_of past) at'.place lo hi (subst (λ ws. IsOn at.lo at.hi B ws at'.place) (sym past_wants) gives.on)));
+                  (on_more at'.lo at'.hi B (wants_of past) (wants_of marks) at'.place
+                  (on_as at.lo at.hi at'.lo at'.hi B (wants_of past) at'.place lo hi
+                  (subst (λ ws. IsOn at.lo at.hi B ws at'.place) (sym past_wants) gives.on)));
             }
 
         -- one that ended all
-        pub between_stops : (Is : UnreadBlock → Want → Type 0) (h : Halt fate.Fault UnreadBlock) (more : List Met) → Follows Is no_part [] (exec B treated) more (Err h) → Follows Is no_part [] (exec B (items_met s sums chunk 0 (left_of B store scan))) (done ++ more) (Err h)
+        pub between_stops : (Is : UnreadBlock → Want → Type 0) (h : Halt fate.Fault UnreadBlock) (more : List Met)
+            → Follows Is no_part [] (exec B treated) more (Err h)
+            → Follows Is no_part [] (exec B (items_met s sums chunk 0 (left_of B store scan))) (done ++ more) (Err h)
         between_stops Is h more f =
             subst (λ r. Follows Is no_part [] r (done ++ more) (Err h)) (sym met_extent)
-            (subst (λ d. Follows Is no_part [] (prepend past (exec B (bind treated (λ e. items_met s sums chunk e (left_of B mid at'))))) (d ++ more) (Err h)) (sym past_steps)
+            (subst (λ d. Follows Is no_part [] (prepend past (exec B (bind treated (λ e. items_met s sums chunk e (left_of B mid at'))))) (d ++ more)
+            (Err h)) (sym past_steps)
             (follows_behind Is no_part [] past (exec B (bind treated (λ e. items_met s sums chunk e (left_of B mid at')))) more (Err h)
             (follows_alone Is no_part (wants_of past) (exec B (bind treated (λ e. items_met s sums chunk e (left_of B mid at')))) more (Err h)
             (subst (λ r. Follows Is no_part [] r more (Err h)) (sym (exec-bind B treated (λ e. items_met s sums chunk e (left_of B mid at'))))

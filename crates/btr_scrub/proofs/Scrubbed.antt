@@ -1,5 +1,6 @@
 -- What a call of scrub answers and leaves, from what it did.
-use Rattle.std.proofs.Common.{◌≡◌, ℕ, ◌<◌, ◌≤◌, Bool, true, false, cond, List, [], map, All, Option, Some, None, IfSome, IsSomeAnd, OnOk, Result, Ok, Err, refl, sym, ap, ◌∙◌, subst, inl, inr, arith}
+use Rattle.std.proofs.Common.{◌≡◌, ℕ, ◌<◌, ◌≤◌, Bool, true, false, cond, List, [], map, All, Option, Some, None, IfSome, IsSomeAnd, OnOk, Result, Ok, Err, refl}
+use Rattle.std.proofs.Common.{sym, ap, ◌∙◌, subst, inl, inr, arith}
 use Rattle.std.proofs.lemmas.List.{append-nil}
 use Rattle.std.proofs.lemmas.Option.{same_Some}
 use Rattle.std.specs.List.{fold}
@@ -20,18 +21,19 @@ use Rattle.btr_walk.specs.declared.fault.TreeFault.{TreeFault}
 use Rattle.btr_walk.specs.declared.fault.TreeFault.TheVariants as tree
 use Rattle.btr_volume.specs.declared.stop.Stop.{Stop}
 use Rattle.btr_volume.specs.declared.stop.Stop.TheVariants as stop
-use Rattle.btr_mend.specs.Writes.{AccountsMend, FailsAt, Images, IsStopped, Leaves, Write, write_on, writes_if}
-use Rattle.btr_mend.specs.declared.mended.MendFault.{MendFault}
-use Rattle.btr_mend.specs.declared.mended.MendFault.TheVariants.{Image, Memory}
-use Rattle.btr_mend.proofs.Doing.{stopped_first}
+use Rattle.btr_scrub_copies.specs.Writes.{AccountsMend, FailsAt, Images, IsStopped, Leaves, Write, write_on, writes_if}
+use Rattle.btr_scrub_copies.specs.declared.mended.MendFault.{MendFault}
+use Rattle.btr_scrub_copies.specs.declared.mended.MendFault.TheVariants.{Image, Memory}
+use Rattle.btr_scrub_copies.proofs.Doing.{stopped_first}
 use Rattle.btr_scrub.specs.Devices.{HaveLengths}
 use Rattle.btr_scrub.specs.Gathering.{StopCause, checked_among, count_met, stop_halt}
 use Rattle.btr_scrub.specs.Leaves.{KeepsOutside}
 use Rattle.btr_scrub.specs.Plain.{plain_among}
-use Rattle.btr_scrub.specs.Repair.{Effect, blocks, devid_of, effect, effect_of_ending, effect_unless, first_missing, meeting, stood_tally, stop_of, tally, writes}
+use Rattle.btr_scrub.specs.Repair.{Effect, blocks, devid_of, effect, effect_of_ending, effect_unless, first_missing, meeting, stood_tally, stop_of, tally}
+use Rattle.btr_scrub.specs.Repair.{writes}
 use Rattle.btr_scrub.specs.Right.{AreBytes, Committed, IsRepairable, RangesLieInWrong, RangesMayHoldAnything, StandsFor}
 use Rattle.btr_scrub.specs.Scrubbed.{AnswersAs, Called, HasEffect, IsImageFault, IsLeftBy, IsSafe, IsScrubbed, IsSure, OfImages, ReadsAt}
-use Rattle.btr_mend.specs.Syncing.{plain}
+use Rattle.btr_scrub_copies.specs.Syncing.{plain}
 use Rattle.btr_scrub.specs.Scrubbing.{IsOfScrub, Works}
 use Rattle.btr_scrub.specs.Units.{Met, units_in}
 use Rattle.btr_scrub.specs.Whole.{Goes, Listed, Listing, Refused, ScrubsAll, Stopped, answer_of, first_tally, listed_count_for, listed_writes_for}
@@ -45,10 +47,12 @@ use Rattle.btr_scrub.proofs.Told.{listed_writes}
 use Rattle.btr_scrub.proofs.Working.{some_and}
 
 -- what is said of the images before and behind, where they are told
-of_images : (c : Called) (P : Images → Images → Type 0) → ((images : Images) → c.old.held ≡ Some images → (left : Images) × (c.new.held ≡ Some left)) → ((images left : Images) → c.old.held ≡ Some images → c.new.held ≡ Some left → P images left) → OfImages c P
+of_images : (c : Called) (P : Images → Images → Type 0) → ((images : Images) → c.old.held ≡ Some images → (left : Images) × (c.new.held ≡ Some left))
+    → ((images left : Images) → c.old.held ≡ Some images → c.new.held ≡ Some left → P images left) → OfImages c P
 of_images c P still h = tell c.old.held (λ images. IsSomeAnd c.new.held (P images)) (λ images e. let l = still images e in subst (λ o. IsSomeAnd o (P images)) (sym l.1) (h images l.0 e l.1))
 
-images_of : (c : Called) (P : Images → Images → Type 0) (images : Images) → c.old.held ≡ Some images → OfImages c P → (left : Images) × (c.new.held ≡ Some left) × P images left
+images_of : (c : Called) (P : Images → Images → Type 0) (images : Images) → c.old.held ≡ Some images → OfImages c P → (left : Images)
+    × (c.new.held ≡ Some left) × P images left
 images_of c P images e h = some_and c.new.held (P images) (told c.old.held (λ images. IsSomeAnd c.new.held (P images)) images e h)
 
 rose_behind : (old mid new : ℕ) → old ≤ mid → Rose mid new → Rose old new
@@ -62,7 +66,8 @@ module _ (c : Called) where
   layout = c.fs.layout
 
   -- what was told of the block map, where the call is sure
-  told_map : (P : Map → Type 0) (mid : Seen) → Tells layout c.old mid P → mid.account.faults ≤ c.new.account.faults → IsSure c → IfSome c.old.held (λ images. P (fate images layout))
+  told_map : (P : Map → Type 0) (mid : Seen) → Tells layout c.old mid P → mid.account.faults ≤ c.new.account.faults → IsSure c
+      → IfSome c.old.held (λ images. P (fate images layout))
   told_map P mid tells later (inl steady) = tells.calls.content First (omega (arith, tells.calls.later, later, steady.0), omega (arith, later, steady.1))
   told_map P mid tells later (inr agreed) = tells.calls.content Any agreed
 
@@ -107,14 +112,16 @@ module _ (c : Called) where
 
   module _ (given : first_missing layout ≡ None) where
     -- the effect, by how the listing ends
-    effect_is : (images : Images) (r : Result (Unit {0}) Fault) → (meeting images c.fs).ending ≡ r → effect c.write images c.fs ≡ effect_of_ending c.write images c.fs r
+    effect_is : (images : Images) (r : Result (Unit {0}) Fault) → (meeting images c.fs).ending ≡ r → effect c.write images c.fs
+        ≡ effect_of_ending c.write images c.fs r
     effect_is images r e = ap (effect_unless c.write images c.fs) given ∙ ap (effect_of_ending c.write images c.fs) e
 
     -- ---- the blocks can't be listed
 
     module _ (mid : Seen) (reads : OnlyReads c.old mid) (same : c.new ≡ mid) (why : Stop) (answer : c.result ≡ Err why) where
       -- by a fault of the lookups
-      refused_by : (images left : Images) → c.old.held ≡ Some images → c.new.held ≡ Some left → (f : Fault) → why ≡ stop_of f → (meeting images c.fs).ending ≡ Err f → HasEffect c images left
+      refused_by : (images left : Images) → c.old.held ≡ Some images → c.new.held ≡ Some left → (f : Fault) → why ≡ stop_of f
+          → (meeting images c.fs).ending ≡ Err f → HasEffect c images left
       refused_by images left e g f is ending = record {
         answer = answer ∙ ap Err is ∙ sym (ap (λ (x : Effect). x.answer) (effect_is images (Err f) ending));
         same = left_is mid reads same images left e g ∙ sym (ap (λ (x : Effect). x.images) (effect_is images (Err f) ending));
@@ -124,10 +131,12 @@ module _ (c : Called) where
         abbrev Ended : Stop → Images → Type 0
         Ended s images = Follows (unread_by layout c.old mid) no_part [] (exec (fate images layout) (units_in c.fs.sup layout.chunks)) done (Err (stop_halt s))
 
-        answers_as : (images left : Images) → c.old.held ≡ Some images → c.new.held ≡ Some left → (s : Stop) → why ≡ s → Ended s images → StopCause {A = Tally} layout c.old mid (Err s) → AnswersAs c images left (Err s)
+        answers_as : (images left : Images) → c.old.held ≡ Some images → c.new.held ≡ Some left → (s : Stop) → why ≡ s → Ended s images
+            → StopCause {A = Tally} layout c.old mid (Err s) → AnswersAs c images left (Err s)
         answers_as images left e g (stop.NoTree id) is f k = refused_by images left e g (fates.NoTree id) is f.1
         answers_as images left e g (stop.Tree (tree.Lost a)) is f k = refused_by images left e g (fates.Lost a) is f.1
-        answers_as images left e g (stop.Tree (tree.Unread a slot)) is f k = subst (λ (s : Seen). Rose c.old.account.faults s.account.faults) (sym same) k.1.unread.rose
+        answers_as images left e g (stop.Tree (tree.Unread a slot)) is f k = subst (λ (s : Seen). Rose c.old.account.faults s.account.faults)
+            (sym same) k.1.unread.rose
         answers_as images left e g (stop.Tree (tree.Unmapped a)) is f k = refused_by images left e g (fates.Unmapped a) is f.1
         answers_as images left e g (stop.Tree (tree.Crosses a)) is f k = refused_by images left e g (fates.Crosses a) is f.1
         answers_as images left e g (stop.Tree (tree.Malformed a)) is f k = refused_by images left e g (fates.Malformed a) is f.1
@@ -163,7 +172,8 @@ module _ (c : Called) where
 
         pub stopped : IsScrubbed c
         stopped = record {
-          answers = λ sure. of_images c (λ images left. AnswersAs c images left c.result) (still mid reads same) (λ images left e g. subst (AnswersAs c images left) (sym answer)
+          answers = λ sure. of_images c (λ images left. AnswersAs c images left c.result) (still mid reads same)
+              (λ images left e g. subst (AnswersAs c images left) (sym answer)
               (answers_as images left e g why refl (told c.old.held (Ended why) images e (told_map _ mid tells (later_new mid reads same) sure)) cause));
           left = λ sure. left_by mid reads same (λ images. (effect c.write images c.fs).writes);
           reads = subst (ReadsAt c) (sym answer) (reads_at why cause);
@@ -172,9 +182,11 @@ module _ (c : Called) where
         }
 
     -- a list that is refused
-    pub list_refused : (mid : Seen) → OnlyReads c.old mid → c.new ≡ mid → (f : TreeFault) → c.result ≡ Err (stop.Tree f) → Tells layout c.old mid (λ B. ⊥) → IsScrubbed c
+    pub list_refused : (mid : Seen) → OnlyReads c.old mid → c.new ≡ mid → (f : TreeFault) → c.result ≡ Err (stop.Tree f)
+        → Tells layout c.old mid (λ B. ⊥) → IsScrubbed c
     list_refused mid reads same f answer tells = record {
-      answers = λ sure. of_images c (λ images left. AnswersAs c images left c.result) (still mid reads same) (λ images left e g. absurd (told c.old.held (λ images. ⊥) images e (told_map (λ B. ⊥) mid tells (later_new mid reads same) sure)));
+      answers = λ sure. of_images c (λ images left. AnswersAs c images left c.result) (still mid reads same)
+          (λ images left e g. absurd (told c.old.held (λ images. ⊥) images e (told_map (λ B. ⊥) mid tells (later_new mid reads same) sure)));
       left = λ sure. left_by mid reads same (λ images. (effect c.write images c.fs).writes);
       reads = subst (ReadsAt c) (sym answer) (reads_new mid reads same);
       unwritten = λ w. reads_new mid reads same;
@@ -186,9 +198,12 @@ module _ (c : Called) where
 
     -- ---- the blocks were listed, and mended
 
-    module _ (table : IsTable layout.chunks) (own : HaveOwnSlots layout.devices) (lengths : (images : Images) → c.old.held ≡ Some images → HaveLengths images layout) (mid : Seen) (reads : OnlyReads c.old mid) (done : List Met)
-        (tells : Tells layout c.old mid (λ B. Follows (unread_by layout c.old mid) no_part [] (exec B (units_in c.fs.sup layout.chunks)) done (Ok tt))) (tally' : Tally) (ended : Result (Unit {0}) MendFault)
-        (works : Works layout c.write (listed_writes_for layout (checked_among done) (plain_among done)) (listed_count_for layout c.write (checked_among done) (plain_among done)) mid c.new (first_tally (fold count_met 0 done)) tally' ended)
+    module _ (table : IsTable layout.chunks) (own : HaveOwnSlots layout.devices)
+        (lengths : (images : Images) → c.old.held ≡ Some images → HaveLengths images layout) (mid : Seen) (reads : OnlyReads c.old mid) (done : List Met)
+        (tells : Tells layout c.old mid (λ B. Follows (unread_by layout c.old mid) no_part [] (exec B (units_in c.fs.sup layout.chunks)) done
+        (Ok tt))) (tally' : Tally) (ended : Result (Unit {0}) MendFault)
+        (works : Works layout c.write (listed_writes_for layout (checked_among done) (plain_among done))
+        (listed_count_for layout c.write (checked_among done) (plain_among done)) mid c.new (first_tally (fold count_met 0 done)) tally' ended)
         (says : c.result ≡ answer_of ended tally') where
       abbrev ws : Images → List Write
       ws images = listed_writes_for layout (checked_among done) (plain_among done) images
@@ -197,7 +212,8 @@ module _ (c : Called) where
       Done images = Follows (unread_by layout c.old mid) no_part [] (exec (fate images layout) (units_in c.fs.sup layout.chunks)) done (Ok tt)
 
       done_of : (images : Images) → c.old.held ≡ Some images → IsSure c → Done images
-      done_of images e sure = told c.old.held Done images e (told_map (λ B. Follows (unread_by layout c.old mid) no_part [] (exec B (units_in c.fs.sup layout.chunks)) done (Ok tt)) mid tells works.does.only.later sure)
+      done_of images e sure = told c.old.held Done images e (told_map
+          (λ B. Follows (unread_by layout c.old mid) no_part [] (exec B (units_in c.fs.sup layout.chunks)) done (Ok tt)) mid tells works.does.only.later sure)
 
       mid_held : (images : Images) → c.old.held ≡ Some images → mid.held ≡ Some images
       mid_held images e = ap (λ (s : Seen). s.held) reads.same ∙ e
@@ -225,15 +241,18 @@ module _ (c : Called) where
 
           tally_is : tally' ≡ stood_tally (tally images c.fs c.write)
           tally_is =
-              told mid.held (λ i. tally' ≡ listed_count_for layout c.write (checked_among done) (plain_among done) i (first_tally (fold count_met 0 done))) images (mid_held images e)
-              (subst (λ r. OnOk r (IfSome mid.held (λ i. tally' ≡ listed_count_for layout c.write (checked_among done) (plain_among done) i (first_tally (fold count_met 0 done))))) is works.counts)
+              told mid.held (λ i. tally' ≡ listed_count_for layout c.write (checked_among done) (plain_among done) i
+              (first_tally (fold count_met 0 done))) images (mid_held images e)
+              (subst (λ r. OnOk r (IfSome mid.held (λ i. tally'
+              ≡ listed_count_for layout c.write (checked_among done) (plain_among done) i (first_tally (fold count_met 0 done))))) is works.counts)
               ∙ ap (λ m. listed_count_for layout c.write (checked_among m) (plain_among m) images (first_tally (fold count_met 0 m))) d.0
               ∙ listed_counts images c.fs c.write table
 
           all_done : HasEffect c images left
           all_done = record {
             answer = says ∙ ap (λ r. answer_of r tally') is ∙ ap (λ t. Ok t) tally_is ∙ sym (ap (λ (x : Effect). x.answer) (effect_ok images d));
-            same = done_writes ∙ ap (λ vs. fold write_on images (writes_if c.write vs)) (writes_are images d) ∙ written_or c.write (writes images c.fs) ∙ sym (ap (λ (x : Effect). x.images) (effect_ok images d));
+            same = done_writes ∙ ap (λ vs. fold write_on images (writes_if c.write vs)) (writes_are images d)
+                ∙ written_or c.write (writes images c.fs) ∙ sym (ap (λ (x : Effect). x.images) (effect_ok images d));
           }
 
         answers_by : (r : Result (Unit {0}) MendFault) → ended ≡ r → AnswersAs c images left (answer_of r tally')
@@ -254,11 +273,14 @@ module _ (c : Called) where
             by : (b : Bool) → c.write ≡ b → KeepsOutside (map (λ (w : Write). w.range) (writes_if c.write (ws images))) images left
             by true w =
                 subst (λ b. KeepsOutside (map (λ (w : Write). w.range) (writes_if b (ws images))) images left) (sym w)
-                (works_keep_the_rest layout c.write (checked_among done) (plain_among done) (listed_count_for layout c.write (checked_among done) (plain_among done)) mid c.new (first_tally (fold count_met 0 done)) tally' ended images left
+                (works_keep_the_rest layout c.write (checked_among done) (plain_among done)
+                (listed_count_for layout c.write (checked_among done) (plain_among done)) mid c.new (first_tally (fold count_met 0 done)) tally'
+                ended images left
                 table own given (lengths images e) (mid_held images e) g works)
             by false w =
                 let same : left ≡ images = same_Some left images (sym g ∙ ap (λ (s : Seen). s.held) (works.unwritten w).same ∙ mid_held images e) in
-                subst (λ b. KeepsOutside (map (λ (w : Write). w.range) (writes_if b (ws images))) images left) (sym w) (subst (KeepsOutside [] images) (sym same) (keeps_none images))
+                subst (λ b. KeepsOutside (map (λ (w : Write). w.range) (writes_if b (ws images))) images left) (sym w)
+                (subst (KeepsOutside [] images) (sym same) (keeps_none images))
 
         left_as : IsLeftBy (effect c.write images c.fs).writes images left
         left_as =
@@ -270,7 +292,8 @@ module _ (c : Called) where
       reads_by (Err (Image slot)) = tt
       reads_by (Err Memory) = tt
 
-      image_by : (slot : ℕ) (r : Result (Unit {0}) MendFault) → AccountsMend (IsOfScrub layout) (plain mid) (plain c.new) r → answer_of r tally' ≡ Err (stop.Image slot) → IsImageFault c slot
+      image_by : (slot : ℕ) (r : Result (Unit {0}) MendFault) → AccountsMend (IsOfScrub layout) (plain mid) (plain c.new) r → answer_of r tally'
+          ≡ Err (stop.Image slot) → IsImageFault c slot
       image_by slot (Ok u) a e = cc
       image_by slot (Err (Image other)) f e = record {
         unsure = sym (ap (λ (s : Seen). s.sure) reads.same) ∙ f.failed.unsure;
@@ -289,14 +312,17 @@ module _ (c : Called) where
       told_still : (images : Images) → c.old.held ≡ Some images → (left : Images) × (c.new.held ≡ Some left)
       told_still images e = by ended (subst (λ o. Leaves (λ i. writes_if c.write (ws i)) o c.new.held ended) (mid_held images e) works.does.held)
         where
-          by : (r : Result (Unit {0}) MendFault) → Leaves (λ i. writes_if c.write (ws i)) (Some images) c.new.held r → (left : Images) × (c.new.held ≡ Some left)
+          by : (r : Result (Unit {0}) MendFault) → Leaves (λ i. writes_if c.write (ws i)) (Some images) c.new.held r → (left : Images)
+              × (c.new.held ≡ Some left)
           by (Ok u) l = (fold write_on images (writes_if c.write (ws images)), l)
           by (Err x) l = let k = some_and c.new.held (IsStopped (writes_if c.write (ws images)) images) l in (k.0, k.1)
 
       pub mended : IsScrubbed c
       mended = record {
-        answers = λ sure. of_images c (λ images left. AnswersAs c images left c.result) told_still (λ images left e g. subst (AnswersAs c images left) (sym says) (answers_by images left e g (done_of images e sure) ended refl));
-        left = λ sure. of_images c (λ images left. IsLeftBy (effect c.write images c.fs).writes images left) told_still (λ images left e g. left_as images left e g (done_of images e sure));
+        answers = λ sure. of_images c (λ images left. AnswersAs c images left c.result) told_still
+            (λ images left e g. subst (AnswersAs c images left) (sym says) (answers_by images left e g (done_of images e sure) ended refl));
+        left = λ sure. of_images c (λ images left. IsLeftBy (effect c.write images c.fs).writes images left) told_still
+            (λ images left e g. left_as images left e g (done_of images e sure));
         reads = subst (ReadsAt c) (sym says) (reads_by ended);
         unwritten = λ w. reads_more reads (works.unwritten w);
         image = λ slot e. image_by slot ended works.does.account (sym says ∙ e);
@@ -304,9 +330,11 @@ module _ (c : Called) where
 
   -- ---- scrub as a whole
 
-  module _ (table : IsTable layout.chunks) (own : HaveOwnSlots layout.devices) (lengths : (images : Images) → c.old.held ≡ Some images → HaveLengths images layout)
+  module _ (table : IsTable layout.chunks) (own : HaveOwnSlots layout.devices)
+      (lengths : (images : Images) → c.old.held ≡ Some images → HaveLengths images layout)
       (missing : IfSome (first_missing layout) (λ stripe. (c.result ≡ Err (stop.Missing stripe.devid)) × (c.new ≡ c.old))) (scrubs : first_missing layout ≡ None → ScrubsAll c.fs.sup layout c.write c.old c.new c.result) where
-    goes_on : (given : first_missing layout ≡ None) (mid : Seen) → OnlyReads c.old mid → (done : List Met) (l : Listing) → Goes c.fs.sup layout c.write c.old mid c.new done c.result l → IsScrubbed c
+    goes_on : (given : first_missing layout ≡ None) (mid : Seen) → OnlyReads c.old mid → (done : List Met) (l : Listing)
+        → Goes c.fs.sup layout c.write c.old mid c.new done c.result l → IsScrubbed c
     goes_on given mid reads done (Stopped why) g = stopped given mid reads g.1 why g.0 done g.2 g.3
     goes_on given mid reads done Listed g = mended given table own lengths mid reads done g.0 g.1.tally g.1.ended g.1.works g.1.says
     goes_on given mid reads done (Refused f) g = list_refused given mid reads g.1 f g.0 g.3
@@ -319,7 +347,8 @@ module _ (c : Called) where
         by None is m = let s = scrubs is in goes_on is s.mid s.reads s.done s.listing s.goes
 
     -- the slots stay
-    slots_on : (mid : Seen) → OnlyReads c.old mid → (done : List Met) (l : Listing) → Goes c.fs.sup layout c.write c.old mid c.new done c.result l → c.new.slots ≡ c.old.slots
+    slots_on : (mid : Seen) → OnlyReads c.old mid → (done : List Met) (l : Listing) → Goes c.fs.sup layout c.write c.old mid c.new done c.result l
+        → c.new.slots ≡ c.old.slots
     slots_on mid reads done (Stopped why) g = ap (λ (s : Seen). s.slots) g.1 ∙ ap (λ (s : Seen). s.slots) reads.same
     slots_on mid reads done Listed g = ap (λ (s : Seen). s.slots) g.1.works.does.only.same ∙ ap (λ (s : Seen). s.slots) reads.same
     slots_on mid reads done (Refused f) g = ap (λ (s : Seen). s.slots) g.1 ∙ ap (λ (s : Seen). s.slots) reads.same
@@ -327,21 +356,27 @@ module _ (c : Called) where
     pub slots_stay : c.new.slots ≡ c.old.slots
     slots_stay = by (first_missing layout) refl missing
       where
-        by : (o : Option Stripe) → first_missing layout ≡ o → IfSome o (λ stripe. (c.result ≡ Err (stop.Missing stripe.devid)) × (c.new ≡ c.old)) → c.new.slots ≡ c.old.slots
+        by : (o : Option Stripe) → first_missing layout ≡ o → IfSome o (λ stripe. (c.result ≡ Err (stop.Missing stripe.devid)) × (c.new ≡ c.old))
+            → c.new.slots ≡ c.old.slots
         by (Some stripe) is m = ap (λ (s : Seen). s.slots) m.1
         by None is m = let s = scrubs is in slots_on s.mid s.reads s.done s.listing s.goes
 
   -- and safe
-  module _ (table : IsTable layout.chunks) (own : HaveOwnSlots layout.devices) (lengths : (images : Images) → c.old.held ≡ Some images → HaveLengths images layout) (bytes : (images : Images) → c.old.held ≡ Some images → AreBytes images)
+  module _ (table : IsTable layout.chunks) (own : HaveOwnSlots layout.devices)
+      (lengths : (images : Images) → c.old.held ≡ Some images → HaveLengths images layout)
+      (bytes : (images : Images) → c.old.held ≡ Some images → AreBytes images)
       (node : c.fs.sup.nodesize ≡ c.fs.layout.setting.nodesize) (some : 0 < c.fs.sup.nodesize) (scrubbed : IsScrubbed c) where
-    ranges_keep : (b : Bool) (images left : Images) (vs : List Write) → KeepsOutside (map (λ (w : Write). w.range) (writes_if b vs)) images left → KeepsOutside (map (λ (w : Write). w.range) vs) images left
+    ranges_keep : (b : Bool) (images left : Images) (vs : List Write) → KeepsOutside (map (λ (w : Write). w.range) (writes_if b vs)) images left
+        → KeepsOutside (map (λ (w : Write). w.range) vs) images left
     ranges_keep true images left vs k = k
     ranges_keep false images left vs k = record { count = k.count; lengths = k.lengths; bytes = λ slot off e. k.bytes slot off refl }
 
     pub is_safe : IsSafe c
     is_safe = record {
-      anything = tell c.old.held (λ images. RangesMayHoldAnything images c.fs) (λ images e. may_hold_anything images c.fs table own (lengths images e) (bytes images e) node some);
-      wrong = tell c.old.held (λ images. RangesLieInWrong images c.fs) (λ images e. lie_in_wrong images c.fs table own (lengths images e) (bytes images e) node some);
+      anything = tell c.old.held (λ images. RangesMayHoldAnything images c.fs)
+          (λ images e. may_hold_anything images c.fs table own (lengths images e) (bytes images e) node some);
+      wrong = tell c.old.held (λ images. RangesLieInWrong images c.fs)
+          (λ images e. lie_in_wrong images c.fs table own (lengths images e) (bytes images e) node some);
       left = λ sure. of_images c (λ images left. (C : Committed) → IsRepairable images c.fs C → All (StandsFor left C) (blocks images c.fs))
           (λ images e. let l = images_of c (λ images left. IsLeftBy (effect c.write images c.fs).writes images left) images e (scrubbed.left sure) in (l.0, l.1))
           (λ images left e g C h.
@@ -353,7 +388,8 @@ module _ (c : Called) where
     }
 
 -- what is known of a device that isn't given, by its id alone
-pub lacks : (o : Option Stripe) (devid : ℕ) (old : Seen) → Some devid ≡ option_map devid_of o → IfSome o (λ stripe. (◌≡◌ {A = Result Tally Stop} (Err (stop.Missing devid)) (Err (stop.Missing stripe.devid))) × (old ≡ old))
+pub lacks : (o : Option Stripe) (devid : ℕ) (old : Seen) → Some devid ≡ option_map devid_of o
+    → IfSome o (λ stripe. (◌≡◌ {A = Result Tally Stop} (Err (stop.Missing devid)) (Err (stop.Missing stripe.devid))) × (old ≡ old))
 lacks None devid old e = tt
 lacks (Some stripe) devid old e = (ap (λ d. Err (stop.Missing d)) (same_Some devid stripe.devid e), refl)
 

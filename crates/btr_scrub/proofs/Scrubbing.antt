@@ -1,5 +1,6 @@
 -- Mending one thing after another.
-use Rattle.std.proofs.Common.{◌≡◌, Bool, true, false, List, [], ◌++◌, length, Option, Some, None, IfSome, OnOk, is_none, is_some, Result, Ok, Err, refl, sym, ap, ◌∙◌, subst, inr, arith}
+use Rattle.std.proofs.Common.{◌≡◌, Bool, true, false, List, [], ◌++◌, length, Option, Some, None, IfSome, OnOk, is_none, is_some, Result, Ok, Err, refl, sym}
+use Rattle.std.proofs.Common.{ap, ◌∙◌, subst, inr, arith}
 use Rattle.std.proofs.lemmas.Bool.{false≢true}
 use Rattle.std.proofs.lemmas.Option.{same_Some}
 use Rattle.std.specs.List.{count_by, fold}
@@ -11,15 +12,15 @@ use Rattle.btr_chunk.specs.Table.{IsTable}
 use Rattle.btr_read.specs.Candidates.{Target}
 use Rattle.btr_read.specs.Serves.{Serves}
 use Rattle.btr_read.specs.Store.{Blocks, SameLoans}
-use Rattle.btr_mend.specs.Blocks.{block_writes}
-use Rattle.btr_mend.specs.Mending.{IsOfCopy, Mends, mended_of}
-use Rattle.btr_mend.specs.declared.mended.Mended.{Mended}
-use Rattle.btr_mend.specs.Writes.{AccountsMend, AreWritable, Does, Images, Leaves, Write, writes_if, write_on}
-use Rattle.btr_mend.specs.declared.mended.MendFault.{MendFault}
-use Rattle.btr_mend.specs.declared.mended.MendFault.TheVariants.{Image, Memory}
-use Rattle.btr_mend.specs.Syncing.{Strands, plain}
-use Rattle.btr_mend.proofs.Doing.{does_as, does_as_halt, does_failed, does_halt, does_reads, does_then}
-use Rattle.btr_mend.proofs.Turning.{does_plain, marked_after, same_never, strands_none, strands_same}
+use Rattle.btr_scrub_copies.specs.Blocks.{block_writes}
+use Rattle.btr_scrub_copies.specs.Mending.{IsOfCopy, Mends, mended_of}
+use Rattle.btr_scrub_copies.specs.declared.mended.Mended.{Mended}
+use Rattle.btr_scrub_copies.specs.Writes.{AccountsMend, AreWritable, Does, Images, Leaves, Write, writes_if, write_on}
+use Rattle.btr_scrub_copies.specs.declared.mended.MendFault.{MendFault}
+use Rattle.btr_scrub_copies.specs.declared.mended.MendFault.TheVariants.{Image, Memory}
+use Rattle.btr_scrub_copies.specs.Syncing.{Strands, plain}
+use Rattle.btr_scrub_copies.proofs.Doing.{does_as, does_as_halt, does_failed, does_halt, does_reads, does_then}
+use Rattle.btr_scrub_copies.proofs.Turning.{does_plain, marked_after, same_never, strands_none, strands_same}
 use Rattle.btr_scrub.specs.Leaves.{LiesInStripe}
 use Rattle.btr_scrub.specs.Repair.{first_missing}
 use Rattle.btr_scrub.specs.Scrubbing.{CanMend, IsOfScrub, Scrubs, count_block, counted}
@@ -38,12 +39,14 @@ told o Q images e h = subst (λ o. IfSome o Q) e h
 
 -- ---- what was done
 
-account_weaker : {A : Type 0} (P Q : Range → Type 0) (a b : Seen) (r : Result A MendFault) → ((range : Range) → P range → Q range) → AccountsMend P a b r → AccountsMend Q a b r
+account_weaker : {A : Type 0} (P Q : Range → Type 0) (a b : Seen) (r : Result A MendFault) → ((range : Range) → P range → Q range)
+    → AccountsMend P a b r → AccountsMend Q a b r
 account_weaker P Q a b (Ok x) weak h = h
 account_weaker P Q a b (Err (Image slot)) weak h = record { place = h.place; failed = h.failed; on_slot = h.on_slot; lies = weak h.place h.lies }
 account_weaker P Q a b (Err Memory) weak h = h
 
-pub does_weaker : {A : Type 0} (P Q : Range → Type 0) (f : Images → List Write) (m n : List Bool) (a b : Seen) (r : Result A MendFault) → ((range : Range) → P range → Q range) → Does P f m n a b r → Does Q f m n a b r
+pub does_weaker : {A : Type 0} (P Q : Range → Type 0) (f : Images → List Write) (m n : List Bool) (a b : Seen) (r : Result A MendFault)
+    → ((range : Range) → P range → Q range) → Does P f m n a b r → Does Q f m n a b r
 does_weaker P Q f m n a b r weak h = record { ranges = h.ranges; only = h.only; own = h.own; marked = h.marked; held = h.held; account = account_weaker P Q a b r weak h.account }
 
 account_other : (A B : Type 0) (P : Range → Type 0) (a b : Seen) (f : MendFault) → AccountsMend {A = A} P a b (Err f) → AccountsMend {A = B} P a b (Err f)
@@ -54,32 +57,39 @@ leaves_other : (A B : Type 0) (f : Images → List Write) (a b : Option Images) 
 leaves_other A B f None b e h = h
 leaves_other A B f (Some images) b e h = h
 
-leaves_value : {A B : Type 0} (f : Images → List Write) (a b : Option Images) (x : A) (y : B) → Leaves {A = A} {E = MendFault} f a b (Ok x) → Leaves {A = B} {E = MendFault} f a b (Ok y)
+leaves_value : {A B : Type 0} (f : Images → List Write) (a b : Option Images) (x : A) (y : B) → Leaves {A = A} {E = MendFault} f a b (Ok x)
+    → Leaves {A = B} {E = MendFault} f a b (Ok y)
 leaves_value f None b x y h = h
 leaves_value f (Some images) b x y h = h
 
 -- with another value
-pub does_value : {A B : Type 0} (P : Range → Type 0) (f : Images → List Write) (m n : List Bool) (a b : Seen) (x : A) (y : B) → Does P f m n a b (Ok x) → Does P f m n a b (Ok y)
+pub does_value : {A B : Type 0} (P : Range → Type 0) (f : Images → List Write) (m n : List Bool) (a b : Seen) (x : A) (y : B)
+    → Does P f m n a b (Ok x) → Does P f m n a b (Ok y)
 does_value P f m n a b x y h = record { ranges = h.ranges; only = h.only; own = h.own; marked = h.marked; held = leaves_value f a.held b.held x y h.held; account = h.account }
 
-pub does_fault : {A B : Type 0} (P : Range → Type 0) (f : Images → List Write) (m n : List Bool) (a b : Seen) (e : MendFault) → Does {A = A} P f m n a b (Err e) → Does {A = B} P f m n a b (Err e)
+pub does_fault : {A B : Type 0} (P : Range → Type 0) (f : Images → List Write) (m n : List Bool) (a b : Seen) (e : MendFault)
+    → Does {A = A} P f m n a b (Err e) → Does {A = B} P f m n a b (Err e)
 does_fault {A = A} {B = B} P f m n a b e h = record { ranges = h.ranges; only = h.only; own = h.own; marked = h.marked; held = leaves_other A B f a.held b.held e h.held; account = account_other A B P a b e h.account }
 
 -- the same writes, said otherwise
-pub recast : {A : Type 0} (P : Range → Type 0) (f g : Images → List Write) (m n : List Bool) (a b : Seen) (r : Result A MendFault) → ((images : Images) → a.held ≡ Some images → f images ≡ g images) → Does P f m n a b r → Does P g m n a b r
+pub recast : {A : Type 0} (P : Range → Type 0) (f g : Images → List Write) (m n : List Bool) (a b : Seen) (r : Result A MendFault)
+    → ((images : Images) → a.held ≡ Some images → f images ≡ g images) → Does P f m n a b r → Does P g m n a b r
 recast P f g m n a b (Ok x) e h = does_as P f g m n a b x x e h
 recast {A = A} P f g m n a b (Err x) e h = does_as_halt P A A f g m n a b x e h
 
 -- the images after writes
-pub held_after : {U : Type 0} (P : Range → Type 0) (f : Images → List Write) (m n : List Bool) (a b : Seen) (u : U) (images : Images) → a.held ≡ Some images → Does P f m n a b (Ok u) → b.held ≡ Some (fold write_on images (f images))
+pub held_after : {U : Type 0} (P : Range → Type 0) (f : Images → List Write) (m n : List Bool) (a b : Seen) (u : U) (images : Images) → a.held
+    ≡ Some images → Does P f m n a b (Ok u) → b.held ≡ Some (fold write_on images (f images))
 held_after {U = U} P f m n a b u images e h = subst (λ o. Leaves {A = U} {E = MendFault} f o b.held (Ok u)) e h.held
 
-held_none : {U : Type 0} (P : Range → Type 0) (f : Images → List Write) (m n : List Bool) (a b : Seen) (u : U) → a.held ≡ None → Does P f m n a b (Ok u) → b.held ≡ None
+held_none : {U : Type 0} (P : Range → Type 0) (f : Images → List Write) (m n : List Bool) (a b : Seen) (u : U) → a.held ≡ None
+    → Does P f m n a b (Ok u) → b.held ≡ None
 held_none {U = U} P f m n a b u e h = subst (λ o. Leaves {A = U} {E = MendFault} f o b.held (Ok u)) e h.held
 
 -- two works, of which the other's writes are the same over the images as they were before
 pub does_next : (A U : Type 0) (P : Range → Type 0) (f g : Images → List Write) (m n o : List Bool) (a b c : Seen) (u : U) (r : Result A MendFault)
-    → ((images : Images) → a.held ≡ Some images → g (fold write_on images (f images)) ≡ g images) → Does P f m n a b (Ok u) → Does P g n o b c r → Does P (λ i. f i ++ g i) m o a c r
+    → ((images : Images) → a.held ≡ Some images → g (fold write_on images (f images)) ≡ g images) → Does P f m n a b (Ok u) → Does P g n o b c r
+    → Does P (λ i. f i ++ g i) m o a c r
 does_next A U P f g m n o a b c u r same h k = by a.held refl
   where
     by : (held : Option Images) → a.held ≡ held → Does P (λ i. f i ++ g i) m o a c r
@@ -97,7 +107,8 @@ does_next A U P f g m n o a b c u r same h k = by a.held refl
         (recast P g (λ i. g images) n o b c r (λ images' e'. ap g (same_Some images' (fold write_on images (f images)) (sym e' ∙ some)) ∙ same images e) k))
 
 -- a work that came to a halt, and others to come
-pub does_cut : (A B : Type 0) (P : Range → Type 0) (f g : Images → List Write) (m n : List Bool) (a b : Seen) (e : MendFault) → Does {A = A} P f m n a b (Err e) → Does {A = B} P (λ i. f i ++ g i) m n a b (Err e)
+pub does_cut : (A B : Type 0) (P : Range → Type 0) (f g : Images → List Write) (m n : List Bool) (a b : Seen) (e : MendFault)
+    → Does {A = A} P f m n a b (Err e) → Does {A = B} P (λ i. f i ++ g i) m n a b (Err e)
 does_cut A B P f g m n a b x h = by a.held refl
   where
     by : (held : Option Images) → a.held ≡ held → Does {A = B} P (λ i. f i ++ g i) m n a b (Err x)
@@ -105,8 +116,10 @@ does_cut A B P f g m n a b x h = by a.held refl
         recast {A = B} P (λ i. [] ++ []) (λ i. f i ++ g i) m n a b (Err x) (λ images e'. absurd (none_some images (sym e ∙ e')))
         (does_halt P A B [] [] m n a b x (recast {A = A} P f (λ i. []) m n a b (Err x) (λ images e'. absurd (none_some images (sym e ∙ e'))) h))
     by (Some images) e =
-        recast {A = B} P (λ i. f images ++ g images) (λ i. f i ++ g i) m n a b (Err x) (λ images' e'. ap (λ i. f i ++ g i) (same_Some images images' (sym e ∙ e')))
-        (does_halt P A B (f images) (g images) m n a b x (recast {A = A} P f (λ i. f images) m n a b (Err x) (λ images' e'. ap f (same_Some images' images (sym e' ∙ e))) h))
+        recast {A = B} P (λ i. f images ++ g images) (λ i. f i ++ g i) m n a b (Err x)
+        (λ images' e'. ap (λ i. f i ++ g i) (same_Some images images' (sym e ∙ e')))
+        (does_halt P A B (f images) (g images) m n a b x (recast {A = A} P f (λ i. f images) m n a b (Err x)
+        (λ images' e'. ap f (same_Some images' images (sym e' ∙ e))) h))
 
 -- ---- with counts
 
@@ -117,9 +130,11 @@ if_append false xs ys = refl
 module _ (layout : Layout) (write : Bool) where
   -- what is written and counted, said otherwise
   pub scrubs_as : {A : Type 0} (f g : Images → List Write) (c d : Images → Tally → Tally) (m n : List Bool) (a b : Seen) (t u : Tally) (r : Result A MendFault)
-      → ((images : Images) → a.held ≡ Some images → (f images ≡ g images) × (c images t ≡ d images t)) → Scrubs layout write f c m n a b t u r → Scrubs layout write g d m n a b t u r
+      → ((images : Images) → a.held ≡ Some images → (f images ≡ g images) × (c images t ≡ d images t)) → Scrubs layout write f c m n a b t u r
+      → Scrubs layout write g d m n a b t u r
   scrubs_as {A = A} f g c d m n a b t u r same h = record {
-    does = recast (IsOfScrub layout) (λ i. writes_if write (f i)) (λ i. writes_if write (g i)) [] [] (plain a) (plain b) r (λ images e. ap (writes_if write) (same images e).0) h.does;
+    does = recast (IsOfScrub layout) (λ i. writes_if write (f i)) (λ i. writes_if write (g i)) [] [] (plain a) (plain b) r
+        (λ images e. ap (writes_if write) (same images e).0) h.does;
     marked = h.marked;
     stranded = h.stranded;
     counts = by r h.counts;
@@ -132,13 +147,18 @@ module _ (layout : Layout) (write : Bool) where
 
   -- what was done before leaves what is written and counted next
   abbrev pub IsUnmoved : (f g : Images → List Write) (d : Images → Tally → Tally) → Option Images → Type 0
-  IsUnmoved f g d held = (images : Images) → held ≡ Some images → (g (fold write_on images (writes_if write (f images))) ≡ g images) × ((x : Tally) → d (fold write_on images (writes_if write (f images))) x ≡ d images x)
+  IsUnmoved f g d held = (images : Images) → held ≡ Some images → (g (fold write_on images (writes_if write (f images))) ≡ g images)
+      × ((x : Tally) → d (fold write_on images (writes_if write (f images))) x ≡ d images x)
 
-  pub scrubs_then : (A U : Type 0) (f g : Images → List Write) (c d : Images → Tally → Tally) (m n o : List Bool) (a b z : Seen) (t u v : Tally) (x : U) (r : Result A MendFault)
-      → IsUnmoved f g d a.held → Scrubs layout write f c m n a b t u (Ok x) → Scrubs layout write g d n o b z u v r → Scrubs layout write (λ i. f i ++ g i) (λ i y. d i (c i y)) m o a z t v r
+  pub scrubs_then : (A U : Type 0) (f g : Images → List Write) (c d : Images → Tally → Tally) (m n o : List Bool) (a b z : Seen) (t u v : Tally)
+      (x : U) (r : Result A MendFault)
+      → IsUnmoved f g d a.held → Scrubs layout write f c m n a b t u (Ok x) → Scrubs layout write g d n o b z u v r
+      → Scrubs layout write (λ i. f i ++ g i) (λ i y. d i (c i y)) m o a z t v r
   scrubs_then A U f g c d m n o a b z t u v x r same h k = record {
-    does = recast (IsOfScrub layout) (λ i. writes_if write (f i) ++ writes_if write (g i)) (λ i. writes_if write (f i ++ g i)) [] [] (plain a) (plain z) r (λ images e. if_append write (f images) (g images))
-        (does_next A U (IsOfScrub layout) (λ i. writes_if write (f i)) (λ i. writes_if write (g i)) [] [] [] (plain a) (plain b) (plain z) x r (λ images e. ap (writes_if write) (same images e).0) h.does k.does);
+    does = recast (IsOfScrub layout) (λ i. writes_if write (f i) ++ writes_if write (g i)) (λ i. writes_if write (f i ++ g i)) [] [] (plain a)
+        (plain z) r (λ images e. if_append write (f images) (g images))
+        (does_next A U (IsOfScrub layout) (λ i. writes_if write (f i)) (λ i. writes_if write (g i)) [] [] [] (plain a) (plain b) (plain z) x r
+        (λ images e. ap (writes_if write) (same images e).0) h.does k.does);
     marked = λ all. k.marked (h.marked all);
     stranded = subst (λ never. Strands never z.never_synced r) h.stranded k.stranded;
     counts = by r k.counts;
@@ -155,7 +175,8 @@ module _ (layout : Layout) (write : Bool) where
   pub scrubs_cut : (A B : Type 0) (f g : Images → List Write) (c d : Images → Tally → Tally) (m n : List Bool) (a b : Seen) (t u : Tally) (x : MendFault)
       → Scrubs {A = A} layout write f c m n a b t u (Err x) → Scrubs {A = B} layout write (λ i. f i ++ g i) d m n a b t u (Err x)
   scrubs_cut A B f g c d m n a b t u x h = record {
-    does = recast {A = B} (IsOfScrub layout) (λ i. writes_if write (f i) ++ writes_if write (g i)) (λ i. writes_if write (f i ++ g i)) [] [] (plain a) (plain b) (Err x) (λ images e. if_append write (f images) (g images))
+    does = recast {A = B} (IsOfScrub layout) (λ i. writes_if write (f i) ++ writes_if write (g i)) (λ i. writes_if write (f i ++ g i)) [] [] (plain a)
+        (plain b) (Err x) (λ images e. if_append write (f images) (g images))
         (does_cut A B (IsOfScrub layout) (λ i. writes_if write (f i)) (λ i. writes_if write (g i)) [] [] (plain a) (plain b) x h.does);
     marked = h.marked;
     stranded = strands_same A B x a.never_synced b.never_synced h.stranded;
@@ -164,7 +185,8 @@ module _ (layout : Layout) (write : Bool) where
   }
 
   -- nothing was done
-  pub scrubs_none : {A : Type 0} (marks : List Bool) (a : Seen) (t : Tally) (x : A) → Scrubs {A = A} layout write (λ i. []) (λ i y. y) marks marks a a t t (Ok x)
+  pub scrubs_none : {A : Type 0} (marks : List Bool) (a : Seen) (t : Tally) (x : A)
+      → Scrubs {A = A} layout write (λ i. []) (λ i y. y) marks marks a a t t (Ok x)
   scrubs_none marks a t x = record {
     does = recast (IsOfScrub layout) (λ i. []) (λ i. writes_if write []) [] [] (plain a) (plain a) (Ok x) (λ images e. none write)
         (does_reads (IsOfScrub layout) [] (plain a) (plain a) x (record { same = refl; later = omega arith; same_shut = refl }) (record { faults = refl; fresh = refl; missed = refl; last = refl; opening = refl; shut = refl }));
@@ -179,7 +201,8 @@ module _ (layout : Layout) (write : Bool) where
       none false = refl
 
 -- nothing was done, as there was no memory
-pub scrubs_nothing : (layout : Layout) (write : Bool) (marks : List Bool) (a : Seen) (t : Tally) → Scrubs {A = Unit {0}} layout write (λ i. []) (λ i y. y) marks marks a a t t (Err Memory)
+pub scrubs_nothing : (layout : Layout) (write : Bool) (marks : List Bool) (a : Seen) (t : Tally)
+    → Scrubs {A = Unit {0}} layout write (λ i. []) (λ i y. y) marks marks a a t t (Err Memory)
 scrubs_nothing layout write marks a t = record {
   does = does_failed (IsOfScrub layout) (Unit {0}) (Unit {0}) (λ i. writes_if write []) [] (plain a) (plain a) Memory (record { same = refl; later = omega arith; same_shut = refl }) (record { faults = refl; fresh = refl; missed = refl; last = refl; opening = refl; shut = refl });
   marked = λ all. all;
@@ -201,26 +224,31 @@ module _ (layout : Layout) (write : Bool) (t : Target) (m n : List Bool) (a b : 
   pub scrubs_block : (tally tally' : Tally) (mended : Mended) → Mends t write m n a b (Ok mended) → tally' ≡ counted tally mended
       → Scrubs {A = Unit {0}} layout write (λ images. block_writes images t) (λ images tally. count_block images write tally t) m n a b tally tally' (Ok tt)
   scrubs_block tally tally' mended h e = record {
-    does = does_value (IsOfScrub layout) the_writes [] [] (plain a) (plain b) mended tt (does_plain (IsOfCopy t) (IsOfScrub layout) the_writes m n a b (Ok mended) in_scrub h.does);
+    does = does_value (IsOfScrub layout) the_writes [] [] (plain a) (plain b) mended tt
+        (does_plain (IsOfCopy t) (IsOfScrub layout) the_writes m n a b (Ok mended) in_scrub h.does);
     marked = marked_after (IsOfCopy t) the_writes m n a b (Ok mended) h.does;
     stranded = strands_none {A = Unit {0}} (Ok tt) a.never_synced b.never_synced (same_never (IsOfCopy t) the_writes m n a b (Ok mended) h.does);
-    counts = tell a.held (λ images. tally' ≡ count_block images write tally t) (λ images held. e ∙ ap (counted tally) (told a.held (λ images. mended ≡ mended_of images t write) images held h.counts));
+    counts = tell a.held (λ images. tally' ≡ count_block images write tally t)
+        (λ images held. e ∙ ap (counted tally) (told a.held (λ images. mended ≡ mended_of images t write) images held h.counts));
     unwritten = h.unwritten;
   }
 
   pub scrubs_block_not : (tally : Tally) (fault : MendFault) → Mends t write m n a b (Err fault)
       → Scrubs {A = Unit {0}} layout write (λ images. block_writes images t) (λ images tally. count_block images write tally t) m n a b tally tally (Err fault)
   scrubs_block_not tally fault h = record {
-    does = does_fault {A = Mended} {B = Unit {0}} (IsOfScrub layout) the_writes [] [] (plain a) (plain b) fault (does_plain {A = Mended} (IsOfCopy t) (IsOfScrub layout) the_writes m n a b (Err fault) in_scrub h.does);
+    does = does_fault {A = Mended} {B = Unit {0}} (IsOfScrub layout) the_writes [] [] (plain a) (plain b) fault
+        (does_plain {A = Mended} (IsOfCopy t) (IsOfScrub layout) the_writes m n a b (Err fault) in_scrub h.does);
     marked = marked_after {A = Mended} (IsOfCopy t) the_writes m n a b (Err fault) h.does;
-    stranded = strands_none {A = Unit {0}} (Err fault) a.never_synced b.never_synced (same_never {A = Mended} (IsOfCopy t) the_writes m n a b (Err fault) h.does);
+    stranded = strands_none {A = Unit {0}} (Err fault) a.never_synced b.never_synced
+        (same_never {A = Mended} (IsOfCopy t) the_writes m n a b (Err fault) h.does);
     counts = tt;
     unwritten = h.unwritten;
   }
 
 -- ---- what can be mended can be mended again
 
-pub can_mend_then : (write : Bool) (a b : Seen) (store store' : Blocks) (m n : List Bool) → CanMend write a store m → b.slots ≡ a.slots → SameLoans store store' → Serves b store' → length n ≡ length m → CanMend write b store' n
+pub can_mend_then : (write : Bool) (a b : Seen) (store store' : Blocks) (m n : List Bool) → CanMend write a store m → b.slots ≡ a.slots
+    → SameLoans store store' → Serves b store' → length n ≡ length m → CanMend write b store' n
 can_mend_then write a b store store' m n can slots same serves long = record {
   serves = serves;
   room = omega (arith, can.room, ap (count_by is_none) same.loans);

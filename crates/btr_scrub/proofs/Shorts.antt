@@ -1,5 +1,6 @@
 -- Writes that have at most as many bytes as their ranges change nothing but those.
-use Rattle.std.proofs.Common.{◌≡◌, ◌⊎◌, ℕ, suc, ◌+◌, ◌-◌, ◌<◌, ◌≤◌, Bool, true, false, cond, ◌||◌, List, [], ◌∷◌, map, length, get_or, set, drop, All, Option, Some, None, refl, sym, ap, ◌∙◌, inl, inr, arith, length-take}
+use Rattle.std.proofs.Common.{◌≡◌, ◌⊎◌, ℕ, suc, ◌+◌, ◌-◌, ◌<◌, ◌≤◌, Bool, true, false, cond, ◌||◌, List, [], ◌∷◌, map, length, get_or, set, drop, All, Option}
+use Rattle.std.proofs.Common.{Some, None, refl, sym, ap, ◌∙◌, inl, inr, arith, length-take}
 use Rattle.std.proofs.lemmas.Bool.{cases_eq, cases_lt}
 use Rattle.std.proofs.lemmas.List.{length-set, get_or-set_same, get_or-set_other, set_past}
 use Rattle.std.proofs.lemmas.List.Elements.{All-cons, All-nil}
@@ -16,15 +17,15 @@ use Rattle.btr_read.specs.Solution.{byte_lists, the_one}
 use Rattle.btr_read.specs.declared.candidate.Candidate.{Candidate}
 use Rattle.btr_read.specs.declared.candidate.Candidate.TheVariants.{Read, ByP, ByQ, ByBoth}
 use Rattle.btr_read.proofs.Ones.{all_slices}
-use Rattle.btr_mend.specs.Blocks.{accepted, bad_parts, block_writes, copy_writes, written_over}
-use Rattle.btr_mend.specs.Writes.{Images, Write, write_on, writes_if}
+use Rattle.btr_scrub_copies.specs.Blocks.{accepted, bad_parts, block_writes, copy_writes, written_over}
+use Rattle.btr_scrub_copies.specs.Writes.{Images, Write, write_on, writes_if}
 use Rattle.btr_scrub.specs.Devices.{HaveLengths}
 use Rattle.btr_scrub.specs.Glue.{In}
 use Rattle.btr_scrub.specs.Leaves.{KeepsOutside}
 use Rattle.btr_scrub.specs.Order.{IsSought}
 use Rattle.btr_scrub.specs.Repair.{covers}
 use Rattle.btr_scrub.proofs.CopyWrites.{first_of, is_there}
-use Rattle.btr_row.proofs.Pasted.{length-pasted, pasted-outside}
+use Rattle.btr_scrub_row.proofs.Pasted.{length-pasted, pasted-outside}
 use Rattle.btr_scrub.proofs.Pasting.{image_set, keeps_more, keeps_none, not_covered}
 
 -- a write lies in its image, and has at most as many bytes as its range
@@ -32,7 +33,8 @@ pub record Short (images : Images) (write : Write) : Type 0 where
   pub short : length write.bytes ≤ write.range.len
   pub within : write.range.off + write.range.len ≤ length (image_of images write.range.slot)
 
-pub one_short : (images : Images) (range : Range) (bytes : List ℕ) → length bytes ≤ range.len → range.off + range.len ≤ length (image_of images range.slot) → KeepsOutside (range ∷ []) images (written images range.slot range.off bytes)
+pub one_short : (images : Images) (range : Range) (bytes : List ℕ) → length bytes ≤ range.len → range.off
+    + range.len ≤ length (image_of images range.slot) → KeepsOutside (range ∷ []) images (written images range.slot range.off bytes)
 one_short images range bytes short within =
     let image = image_of images range.slot in
     let new = pasted image range.off bytes in
@@ -61,7 +63,8 @@ one_short images range bytes short within =
     outside off (inl lt) = inl lt
     outside off (inr le) = inr (omega (arith, le, short))
 
-pub shorts_keep : (images : Images) (writes : List Write) → All (Short images) writes → KeepsOutside (map (λ (write : Write). write.range) writes) images (fold write_on images writes)
+pub shorts_keep : (images : Images) (writes : List Write) → All (Short images) writes
+    → KeepsOutside (map (λ (write : Write). write.range) writes) images (fold write_on images writes)
 shorts_keep images [] fit = keeps_none images
 shorts_keep images (write ∷ writes) fit =
     let f = fit 0 write (omega arith) in
@@ -72,7 +75,8 @@ shorts_keep images (write ∷ writes) fit =
     record { short = g.short; within = omega (arith, g.within, one.lengths (get_or writes i d).range.slot) }))
 
 -- whether they are done or not
-pub shorts_keep_if : (write : Bool) (images : Images) (ws : List Write) → All (Short images) ws → KeepsOutside (map (λ (w : Write). w.range) ws) images (fold write_on images (writes_if write ws))
+pub shorts_keep_if : (write : Bool) (images : Images) (ws : List Write) → All (Short images) ws
+    → KeepsOutside (map (λ (w : Write). w.range) ws) images (fold write_on images (writes_if write ws))
 shorts_keep_if true images ws fit = shorts_keep images ws fit
 shorts_keep_if false images ws fit = record { count = refl; lengths = λ slot. refl; bytes = λ slot off e. refl }
 
@@ -96,11 +100,13 @@ range_short images slot off len = omega (arith, length-take (off + len - off) (d
 element_short : (images : Images) (t : Target) (part : Part) → length (element images t part) ≤ size_of t
 element_short images t part = by (device_in t.devices (place_at t.chunk part t.at).devid)
   where
-    or : (b : Bool) (slot off : ℕ) → length (option_map_or (λ (range : Range). bytes_of images range.slot range.off range.len) (cond b (Some (range_in slot off (size_of t))) None) []) ≤ size_of t
+    or : (b : Bool) (slot off : ℕ) → length (option_map_or (λ (range : Range). bytes_of images range.slot range.off range.len)
+        (cond b (Some (range_in slot off (size_of t))) None) []) ≤ size_of t
     or true slot off = range_short images slot off (size_of t)
     or false slot off = omega arith
 
-    by : (o : Option _) → length (option_map_or (λ (range : Range). bytes_of images range.slot range.off range.len) (range_on (place_at t.chunk part t.at).offset (size_of t) o) []) ≤ size_of t
+    by : (o : Option _) → length (option_map_or (λ (range : Range). bytes_of images range.slot range.off range.len)
+        (range_on (place_at t.chunk part t.at).offset (size_of t) o) []) ≤ size_of t
     by None = omega arith
     by (Some device) = or _ device.slot (place_at t.chunk part t.at).offset
 

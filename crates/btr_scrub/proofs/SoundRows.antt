@@ -1,5 +1,6 @@
 -- The full stripes of a filesystem whose blocks can all be had: their blocks are apart, and what is accepted for them is committed.
-use Rattle.std.proofs.Common.{◌≡◌, ◌≢◌, ◌⊎◌, ℕ, ◌+◌, ◌-◌, ◌*◌, ◌/◌, ◌%◌, ◌≤◌, Bool, true, false, cond, eqb, leb, ltb, List, [], ◌∷◌, length, slice_get, All, Option, Some, None, IsSome, IfSome, Result, Ok, Err, IsOk, refl, sym, ap, ◌∙◌, subst, inl, inr, arith}
+use Rattle.std.proofs.Common.{◌≡◌, ◌≢◌, ◌⊎◌, ℕ, ◌+◌, ◌-◌, ◌*◌, ◌/◌, ◌%◌, ◌≤◌, Bool, true, false, cond, eqb, leb, ltb, List, [], ◌∷◌, length, slice_get, All}
+use Rattle.std.proofs.Common.{Option, Some, None, IsSome, IfSome, Result, Ok, Err, IsOk, refl, sym, ap, ◌∙◌, subst, inl, inr, arith}
 use Rattle.std.proofs.lemmas.Bool.{false≢true, and_parts, eqb-true, leb-true}
 use Rattle.std.proofs.lemmas.Option.{same_Some}
 use Rattle.std.proofs.Math.Nat.{div-add-mod}
@@ -19,10 +20,10 @@ use Rattle.btr_read.specs.Layout.{HaveOwnSlots, Layout}
 use Rattle.btr_read.specs.Want.{addr_of, len_of, passes}
 use Rattle.btr_read.specs.declared.want.Want.{Want}
 use Rattle.btr_read.proofs.Fates.{sought_of}
-use Rattle.btr_mend.specs.Blocks.{accepted, is_good, is_sound}
-use Rattle.btr_mend.specs.Writes.{Images}
-use Rattle.btr_mend.proofs.Firsts.{sound_place}
-use Rattle.btr_row.specs.Rows.{Row, blocks_at}
+use Rattle.btr_scrub_copies.specs.Blocks.{accepted, is_good, is_sound}
+use Rattle.btr_scrub_copies.specs.Writes.{Images}
+use Rattle.btr_scrub_copies.proofs.Firsts.{sound_place}
+use Rattle.btr_scrub_row.specs.Rows.{Row, blocks_at}
 use Rattle.btr_scrub.specs.Devices.{HaveLengths}
 use Rattle.btr_scrub.specs.Glue.{In}
 use Rattle.btr_scrub.specs.Order.{AreApart, IsSought, targets}
@@ -46,7 +47,8 @@ pub record CanBeHad (kept : KeptColumns) (images : Images) (layout : Layout) (C 
   pub committed : (t : Target) → In t (targets layout wants) → IsSome (C t.want)
   pub slices : (t : Target) → In t (targets layout wants) → IfSome (C t.want) (IsSlice (size_of t))
   pub copies : (t : Target) → In t (targets layout wants) → HasRightCopy images C t
-  pub rows : (chunk : Chunk) (row : Row) → In chunk layout.chunks → In row (rows_in kept (targets layout wants) chunk) → (row.blocks ≢ []) → HasFewWrong images layout C row
+  pub rows : (chunk : Chunk) (row : Row) → In chunk layout.chunks → In row (rows_in kept (targets layout wants) chunk) → (row.blocks ≢ [])
+      → HasFewWrong images layout C row
 
 -- ---- the blocks of a slice
 
@@ -73,7 +75,8 @@ module _ (layout : Layout) (p q : Target → Bool) (base : ℕ) where
   AreAt ts = (t : Target) → In t ts → p t ≡ true → q t ≡ true → addr_of t.want ≡ base + t.at.rest
 
   -- one more, before others
-  module _ (w : Want) (ws : List Want) (end e : ℕ) (apart : AreApart layout end (w ∷ ws)) (from : (e ≡ 0) ⊎ (base + e ≤ end)) (at : AreAt (targets layout (w ∷ ws)))
+  module _ (w : Want) (ws : List Want) (end e : ℕ) (apart : AreApart layout end (w ∷ ws)) (from : (e ≡ 0) ⊎ (base + e ≤ end))
+      (at : AreAt (targets layout (w ∷ ws)))
       (rest : (f : ℕ) → (f ≡ 0) ⊎ (base + f ≤ addr_of w + len_of layout.setting w) → AreBehind f (filter q (filter p (targets layout ws)))) where
     past : (e ≡ 0) ⊎ (base + e ≤ end) → (e ≡ 0) ⊎ (base + e ≤ addr_of w + len_of layout.setting w)
     past (inl z) = inl z
@@ -100,10 +103,12 @@ module _ (layout : Layout) (p q : Target → Bool) (base : ℕ) where
     of_sought (Err f) s = absurd (false≢true (subst IsOk s apart.1))
     of_sought (Ok t) s = or t s (p t) refl
 
-  pub apart_behind : (wants : List Want) (end e : ℕ) → AreApart layout end wants → (e ≡ 0) ⊎ (base + e ≤ end) → AreAt (targets layout wants) → AreBehind e (filter q (filter p (targets layout wants)))
+  pub apart_behind : (wants : List Want) (end e : ℕ) → AreApart layout end wants → (e ≡ 0) ⊎ (base + e ≤ end) → AreAt (targets layout wants)
+      → AreBehind e (filter q (filter p (targets layout wants)))
   apart_behind [] end e apart from at = tt
   apart_behind (w ∷ ws) end e apart from at =
-      of_sought w ws end e apart from at (λ f g. apart_behind ws (addr_of w + len_of layout.setting w) f apart.2 g (λ u i pe qe. at u (in_more (ok_or_none (sought layout w)) u (targets layout ws) i) pe qe)) (sought layout w) refl
+      of_sought w ws end e apart from at (λ f g. apart_behind ws (addr_of w + len_of layout.setting w) f apart.2 g
+      (λ u i pe qe. at u (in_more (ok_or_none (sought layout w)) u (targets layout ws) i) pe qe)) (sought layout w) refl
 
 -- ---- the row of a number
 
@@ -132,7 +137,8 @@ module _ (kept : KeptColumns) (images : Images) (layout : Layout) (C : Committed
           b.1 ∙ ap Some (sym (all_in (λ other. other ≡ b.0) (passing images t) x mine (first_in (passing images t) x e)))
 
   -- a place of a block that has the committed bytes is sound, where anything is accepted
-  pub right_is_sound : (t : Target) → In t (targets layout wants) → IsSought layout t → (q : Part) (bytes : List ℕ) → accepted images t ≡ Some bytes → C t.want ≡ Some (element images t q) → is_sound images t q ≡ true
+  pub right_is_sound : (t : Target) → In t (targets layout wants) → IsSought layout t → (q : Part) (bytes : List ℕ) → accepted images t ≡ Some bytes
+      → C t.want ≡ Some (element images t q) → is_sound images t q ≡ true
   right_is_sound t among is q bytes e right =
       let committed : C t.want ≡ Some bytes = subst (λ o. IfSome o (λ bytes. C t.want ≡ Some bytes)) e (accepts_right t among) in
       let good : is_good images t q ≡ true = subst (λ o. IfSome o (λ bytes. passes t.setting t.want bytes ≡ true)) right (right_passes t is) in

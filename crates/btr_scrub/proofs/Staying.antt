@@ -1,5 +1,6 @@
 -- Right elements stay.
-use Rattle.std.proofs.Common.{◌≡◌, ◌⊎◌, ℕ, ◌+◌, ◌-◌, ◌<◌, ◌≤◌, Bool, true, false, ◌&&◌, eqb, leb, ltb, List, [], length, get_or, drop, slice_range, slice_get, Option, Some, None, IsSome, IsSomeAnd, is_some, refl, sym, ap, ◌∙◌, subst, inl, inr, arith}
+use Rattle.std.proofs.Common.{◌≡◌, ◌⊎◌, ℕ, ◌+◌, ◌-◌, ◌<◌, ◌≤◌, Bool, true, false, ◌&&◌, eqb, leb, ltb, List, [], length, get_or, drop, slice_range, slice_get}
+use Rattle.std.proofs.Common.{Option, Some, None, IsSome, IsSomeAnd, is_some, refl, sym, ap, ◌∙◌, subst, inl, inr, arith}
 use Rattle.std.proofs.lemmas.Bool.{false≢true, and_from, eq-eqb, le-leb, lt-ltb}
 use Rattle.std.proofs.lemmas.List.{ext_get_or, get_or-take, get_or-drop}
 use Rattle.std.proofs.lemmas.Option.{same_Some}
@@ -18,22 +19,24 @@ use Rattle.btr_read.proofs.Pieces.{length-slice_range}
 use Rattle.btr_scrub.specs.Places.{IsOfElement}
 use Rattle.btr_scrub.specs.Repair.{covers, is_in_row}
 use Rattle.btr_scrub.specs.Right.{Committed, IsRight, committed_for}
-use Rattle.btr_row.specs.Rows.{Row, element_with, range_in_element}
+use Rattle.btr_scrub_row.specs.Rows.{Row, element_with, range_in_element}
 use Rattle.btr_scrub.specs.Staying.{AvoidRight, IsInCopies, IsInWrong, IsRowOf, RightStays, RowOutlivesWrites}
-use Rattle.btr_row.proofs.Elements.{range_stands, stands_on}
+use Rattle.btr_scrub_row.proofs.Elements.{range_stands, stands_on}
 use Rattle.btr_chunk.specs.Apart.{LiesIn}
 use Rattle.btr_chunk.proofs.Apart.{stripes_apart}
 use Rattle.btr_scrub.proofs.Places.{elements_apart, is_at}
 use Rattle.btr_scrub.proofs.Survival.{row_survives}
-use Rattle.btr_mend.specs.Writes.{Images}
+use Rattle.btr_scrub_copies.specs.Writes.{Images}
 
 -- ranges of two lists that have the same bytes there
-pub range_same : (xs ys : List ℕ) (a b : ℕ) → b ≤ length xs → length ys ≡ length xs → ((i : ℕ) → a ≤ i → i < b → get_or xs i 0 ≡ get_or ys i 0) → slice_range xs a b ≡ slice_range ys a b
+pub range_same : (xs ys : List ℕ) (a b : ℕ) → b ≤ length xs → length ys ≡ length xs → ((i : ℕ) → a ≤ i → i < b → get_or xs i 0 ≡ get_or ys i 0)
+    → slice_range xs a b ≡ slice_range ys a b
 range_same xs ys a b le long same =
     let lx = length-slice_range xs a b le in
     ext_get_or 0 (slice_range xs a b) (slice_range ys a b) (lx ∙ sym (length-slice_range ys a b (omega (arith, le, long))))
     (λ i below. let lt : i < b - a = omega (arith, below, lx) in
-    get_or-take (b - a) (drop a xs) i 0 lt ∙ get_or-drop a xs i 0 ∙ same (a + i) (omega arith) (omega (arith, lt)) ∙ sym (get_or-take (b - a) (drop a ys) i 0 lt ∙ get_or-drop a ys i 0))
+    get_or-take (b - a) (drop a xs) i 0 lt ∙ get_or-drop a xs i 0 ∙ same (a + i) (omega arith) (omega (arith, lt))
+    ∙ sym (get_or-take (b - a) (drop a ys) i 0 lt ∙ get_or-drop a ys i 0))
 
 -- an element doesn't hang on the columns whose parities are kept
 kept_apart : (images : Images) (layout : Layout) (given : Target → Option (List ℕ)) (row : Row) (kept : ℕ → Bool) (q : Part)
@@ -43,7 +46,8 @@ kept_apart images layout given row kept (part.Slice i) = refl
 kept_apart images layout given row kept part.P = refl
 kept_apart images layout given row kept part.Q = refl
 
-module _ (images : Images) (layout : Layout) (C : Committed) (blocks : List Target) (table : IsTable layout.chunks) (own : HaveOwnSlots layout.devices) (row : Row) (is_row : IsRowOf layout blocks row) (q : Part)
+module _ (images : Images) (layout : Layout) (C : Committed) (blocks : List Target) (table : IsTable layout.chunks)
+    (own : HaveOwnSlots layout.devices) (row : Row) (is_row : IsRowOf layout blocks row) (q : Part)
     (right : IsRight images layout C row q) (slot off : ℕ) (of : IsOfElement layout row q slot off) where
   -- a byte of a right element lies in no wrong one
   not_wrong : IsInWrong images layout C blocks slot off → ⊥
@@ -76,7 +80,8 @@ module _ (images : Images) (layout : Layout) (C : Committed) (blocks : List Targ
 
 pub covered : (slot off len i : ℕ) → off ≤ i → i < off + len → covers slot i (range_in slot off len) ≡ true
 covered slot off len i le lt =
-    and_from (eqb slot slot && leb off i) (ltb i (off + len)) (and_from (eqb slot slot) (leb off i) (eq-eqb slot slot refl) (le-leb off i le)) (lt-ltb i (off + len) lt)
+    and_from (eqb slot slot && leb off i) (ltb i (off + len)) (and_from (eqb slot slot) (leb off i) (eq-eqb slot slot refl) (le-leb off i le))
+    (lt-ltb i (off + len) lt)
 
 none_or : (o : Option Range) → (IsSome o → (x : Range) × (o ≡ Some x)) × ((b : Bool) → is_some o ≡ b → (o ≡ None) ⊎ IsSome o)
 none_or None = ((λ h. absurd (false≢true h)), λ b e. inl refl)
@@ -87,14 +92,16 @@ right_stays images left layout C blocks row ranges table own lengths is_row avoi
     let place = place_at row.chunk q (record { row = row.number; index = 0; rest = 0 }) in
     let r = range_in_element layout row q 0 65536 in
     elim ((none_or r).1 (is_some r) refl) [
-      | inl none ↦ ap (λ (o : Option Range). option_map_or (λ range. bytes_of left range.slot range.off range.len) o []) none ∙ sym (ap (λ (o : Option Range). option_map_or (λ range. bytes_of images range.slot range.off range.len) o []) none)
+      | inl none ↦ ap (λ (o : Option Range). option_map_or (λ range. bytes_of left range.slot range.off range.len) o []) none
+          ∙ sym (ap (λ (o : Option Range). option_map_or (λ range. bytes_of images range.slot range.off range.len) o []) none)
       | inr some ↦
           let s = stands_on place.offset 65536 (device_in layout.devices place.devid) some in
           let e = range_stands place.offset 65536 (device_in layout.devices place.devid) s.device s.there s.within in
           let slot = s.device.slot in
           let long = lengths place.devid s.device s.there in
           let bytes : bytes_of left slot place.offset 65536 ≡ bytes_of images slot place.offset 65536 =
-          range_same (image_of left slot) (image_of images slot) place.offset (place.offset + 65536) (omega (arith, s.within, long, keeps.lengths slot)) (sym (keeps.lengths slot))
+          range_same (image_of left slot) (image_of images slot) place.offset (place.offset + 65536)
+          (omega (arith, s.within, long, keeps.lengths slot)) (sym (keeps.lengths slot))
           (λ i from to. keeps.bytes slot i (not_in_ranges images layout C blocks table own row is_row q right slot i (record {
             number = is_row.number;
             there = is_row.there;

@@ -1,5 +1,6 @@
 -- What is written beside flags is what is written beside the images in doubt.
-use Rattle.std.proofs.Common.{◌≡◌, ℕ, ◌/◌, Bool, true, false, cond, ◌&&◌, ◌||◌, not, List, [], ◌∷◌, ◌++◌, map, Option, Some, None, is_none, IfSome, OnOk, Result, Err, refl, sym, ap, ◌∙◌, subst, inl, inr}
+use Rattle.std.proofs.Common.{◌≡◌, ℕ, ◌/◌, Bool, true, false, cond, ◌&&◌, ◌||◌, not, List, [], ◌∷◌, ◌++◌, map, Option, Some, None, is_none, IfSome, OnOk}
+use Rattle.std.proofs.Common.{Result, Err, refl, sym, ap, ◌∙◌, subst, inl, inr}
 use Rattle.std.proofs.Math.Path.{fun_ext}
 use Rattle.std.proofs.lemmas.Bool.{false≢true}
 use Rattle.std.specs.List.{filter, list_any, range_with_len}
@@ -9,12 +10,12 @@ use Rattle.btr_rack.specs.Rack.{NoneFailed, OnlyReads, Seen}
 use Rattle.btr_rack.proofs.Reading.{reads_more}
 use Rattle.btr_read.specs.Layout.{Layout}
 use Rattle.btr_read.specs.declared.want.Want.{Want}
-use Rattle.btr_mend.specs.Syncing.{Strands, plain}
-use Rattle.btr_mend.specs.Writes.{AccountsMend, Images, Write, writes_if}
-use Rattle.btr_mend.specs.declared.mended.MendFault.{MendFault}
-use Rattle.btr_mend.specs.declared.mended.MendFault.TheVariants.{Image, Memory}
-use Rattle.btr_mend.proofs.Doing.{does_behind, does_failed}
-use Rattle.btr_mend.proofs.Turning.{reads_plain, strands_none}
+use Rattle.btr_scrub_copies.specs.Syncing.{Strands, plain}
+use Rattle.btr_scrub_copies.specs.Writes.{AccountsMend, Images, Write, writes_if}
+use Rattle.btr_scrub_copies.specs.declared.mended.MendFault.{MendFault}
+use Rattle.btr_scrub_copies.specs.declared.mended.MendFault.TheVariants.{Image, Memory}
+use Rattle.btr_scrub_copies.proofs.Doing.{does_behind, does_failed}
+use Rattle.btr_scrub_copies.proofs.Turning.{reads_plain, strands_none}
 use Rattle.btr_scrub.specs.Doubts.{failing}
 use Rattle.btr_scrub.specs.Glue.{In}
 use Rattle.btr_scrub.specs.Judged.{Suffices, some_parity}
@@ -22,7 +23,8 @@ use Rattle.btr_scrub.specs.Leaves.{LiesInStripe}
 use Rattle.btr_scrub.specs.Order.{targets}
 use Rattle.btr_scrub.specs.Plain.{Failing, KeptColumns, flagged, is_kept, is_surer, is_unsure, slices_of}
 use Rattle.btr_scrub.specs.Repair.{is_in_row, rows_in}
-use Rattle.btr_scrub.specs.Scrubbing.{IsOfScrub, Works, all_count_for, all_writes_for, blocks_count, blocks_in, blocks_writes, chunk_count_for, chunk_writes_for, rows_count, rows_writes}
+use Rattle.btr_scrub.specs.Scrubbing.{IsOfScrub, Works, all_count_for, all_writes_for, blocks_count, blocks_in, blocks_writes, chunk_count_for}
+use Rattle.btr_scrub.specs.Scrubbing.{chunk_writes_for, rows_count, rows_writes}
 use Rattle.btr_scrub.specs.Whole.{listed_columns, listed_count_for, listed_writes_for}
 use Rattle.btr_scrub.specs.declared.tally.Tally.{Tally}
 use Rattle.btr_scrub.proofs.Scrubbing.{told}

@@ -1,5 +1,6 @@
 -- Sums over lists that are taken apart.
-use Rattle.std.proofs.Common.{◌≡◌, ◌≢◌, ℕ, zero, suc, ◌+◌, Bool, true, false, cond, List, [], ◌∷◌, map, length, slice_get, Some, refl, sym, ap, ◌∙◌, inl, inr, arith, zero-add}
+use Rattle.std.proofs.Common.{◌≡◌, ◌≢◌, ℕ, zero, suc, ◌+◌, Bool, true, false, cond, List, [], ◌∷◌, map, length, slice_get, Some, refl, sym, ap, ◌∙◌, inl, inr}
+use Rattle.std.proofs.Common.{arith, zero-add}
 use Rattle.std.proofs.lemmas.List.Sums.{sum_by-append, sum_by-cons}
 use Rattle.std.proofs.lemmas.Option.{same_Some}
 use Rattle.std.specs.List.{filter, flat_map, sum_by}
@@ -30,9 +31,12 @@ sum_filter : {X : Type 0} (f : X → ℕ) (p : X → Bool) (xs : List X) → sum
 sum_filter f p [] = refl
 sum_filter f p (x ∷ xs) = by (p x) refl (sum_filter f p xs)
   where
-    by : (b : Bool) → p x ≡ b → sum_by f (filter p xs) ≡ sum_by (λ y. cond (p y) (f y) 0) xs → sum_by f (cond b (x ∷ filter p xs) (filter p xs)) ≡ sum_by (λ y. cond (p y) (f y) 0) (x ∷ xs)
-    by true e rest = sum_by-cons f x (filter p xs) ∙ ap (λ n. f x + n) rest ∙ ap (λ b. cond b (f x) 0 + sum_by (λ y. cond (p y) (f y) 0) xs) (sym e) ∙ sym (sum_by-cons (λ y. cond (p y) (f y) 0) x xs)
-    by false e rest = rest ∙ sym (zero-add (sum_by (λ y. cond (p y) (f y) 0) xs)) ∙ ap (λ b. cond b (f x) 0 + sum_by (λ y. cond (p y) (f y) 0) xs) (sym e) ∙ sym (sum_by-cons (λ y. cond (p y) (f y) 0) x xs)
+    by : (b : Bool) → p x ≡ b → sum_by f (filter p xs) ≡ sum_by (λ y. cond (p y) (f y) 0) xs → sum_by f (cond b (x ∷ filter p xs) (filter p xs))
+        ≡ sum_by (λ y. cond (p y) (f y) 0) (x ∷ xs)
+    by true e rest = sum_by-cons f x (filter p xs) ∙ ap (λ n. f x + n) rest ∙ ap (λ b. cond b (f x) 0 + sum_by (λ y. cond (p y) (f y) 0) xs) (sym e)
+        ∙ sym (sum_by-cons (λ y. cond (p y) (f y) 0) x xs)
+    by false e rest = rest ∙ sym (zero-add (sum_by (λ y. cond (p y) (f y) 0) xs))
+        ∙ ap (λ b. cond b (f x) 0 + sum_by (λ y. cond (p y) (f y) 0) xs) (sym e) ∙ sym (sum_by-cons (λ y. cond (p y) (f y) 0) x xs)
 
 -- a sum of sums, the other way
 sum_swap : {K X : Type 0} (g : K → X → ℕ) (ks : List K) (xs : List X) → sum_by (λ k. sum_by (g k) xs) ks ≡ sum_by (λ x. sum_by (λ k. g k x) ks) xs
@@ -50,16 +54,23 @@ at_zero [] k i = absurd i
 at_zero (l ∷ ks) k (inl e) = (0, ap Some e)
 at_zero (l ∷ ks) k (inr i) = let r = at_zero ks k i in (suc r.0, r.1)
 
-once_sum : {K : Type 0} (n : ℕ) (p : K → Bool) (ks : List K) (i : ℕ) (k : K) → slice_get ks i ≡ Some k → p k ≡ true → ((j : ℕ) (other : K) → j ≢ i → slice_get ks j ≡ Some other → p other ≡ false) → sum_by (λ k. cond (p k) n 0) ks ≡ n
+once_sum : {K : Type 0} (n : ℕ) (p : K → Bool) (ks : List K) (i : ℕ) (k : K) → slice_get ks i ≡ Some k → p k ≡ true
+    → ((j : ℕ) (other : K) → j ≢ i → slice_get ks j ≡ Some other → p other ≡ false) → sum_by (λ k. cond (p k) n 0) ks ≡ n
 once_sum n p [] i k at is others = cc
 once_sum n p (l ∷ ks) zero k at is others =
     let same : l ≡ k = same_Some l k at in
     sum_by-cons (λ k. cond (p k) n 0) l ks ∙ omega (arith, ap (λ b. cond b n 0) (ap p same ∙ is), sum_zero (λ k. cond (p k) n 0) ks (λ x j. let r = at_zero ks x j in ap (λ b. cond b n 0) (others (suc r.0) x (λ e. omega (arith, e)) r.1)))
 once_sum n p (l ∷ ks) (suc i) k at is others =
-    sum_by-cons (λ k. cond (p k) n 0) l ks ∙ omega (arith, ap (λ b. cond b n 0) (others 0 l (λ e. omega (arith, e)) refl), once_sum n p ks i k at is (λ j other ne found. others (suc j) other (λ e. ne (omega (arith, e))) found))
+    sum_by-cons (λ k. cond (p k) n 0) l ks ∙ omega (
+      arith,
+      ap (λ b. cond b n 0) (others 0 l (λ e. omega (arith, e)) refl),
+      once_sum n p ks i k at is
+          (λ j other ne found. others (suc j) other (λ e. ne (omega (arith, e))) found),
+    )
 
 -- a sum part by part, where each member is in one part
-pub sum_parts : {K X : Type 0} (f : X → ℕ) (p : K → X → Bool) (ks : List K) (xs : List X) → ((x : X) → In x xs → IsOnce (λ k. p k x) ks) → sum_by (λ k. sum_by f (filter (p k) xs)) ks ≡ sum_by f xs
+pub sum_parts : {K X : Type 0} (f : X → ℕ) (p : K → X → Bool) (ks : List K) (xs : List X) → ((x : X) → In x xs → IsOnce (λ k. p k x) ks)
+    → sum_by (λ k. sum_by f (filter (p k) xs)) ks ≡ sum_by f xs
 sum_parts f p ks xs once =
     sum_same (λ k. sum_by f (filter (p k) xs)) (λ k. sum_by (λ x. cond (p k x) (f x) 0) xs) ks (λ k i. sum_filter f (p k) xs)
     ∙ sum_swap (λ k x. cond (p k x) (f x) 0) ks xs
@@ -67,7 +78,8 @@ sum_parts f p ks xs once =
 
 -- a sum part by part, where each member is in one part, or in none if it doesn't pass another test
 pub sum_parts_of : {K X : Type 0} (f : X → ℕ) (p : K → X → Bool) (q : X → Bool) (ks : List K) (xs : List X)
-    → ((x : X) → In x xs → q x ≡ true → IsOnce (λ k. p k x) ks) → ((x : X) (k : K) → q x ≡ false → p k x ≡ false) → sum_by (λ k. sum_by f (filter (p k) xs)) ks ≡ sum_by f (filter q xs)
+    → ((x : X) → In x xs → q x ≡ true → IsOnce (λ k. p k x) ks) → ((x : X) (k : K) → q x ≡ false → p k x ≡ false)
+    → sum_by (λ k. sum_by f (filter (p k) xs)) ks ≡ sum_by f (filter q xs)
 sum_parts_of f p q ks xs once never =
     sum_same (λ k. sum_by f (filter (p k) xs)) (λ k. sum_by (λ x. cond (p k x) (f x) 0) xs) ks (λ k i. sum_filter f (p k) xs)
     ∙ sum_swap (λ k x. cond (p k x) (f x) 0) ks xs

@@ -1,5 +1,6 @@
 -- The blocks of a full stripe as they should be.
-use Rattle.std.proofs.Common.{◌≡◌, ℕ, ◌+◌, ◌-◌, ◌<◌, ◌≤◌, Bool, true, false, cond, eqb, List, [], ◌∷◌, ◌++◌, length, get_or, take, drop, slice_range, Option, Some, None, IsSome, IfSome, IsNone, All, refl, sym, ap, ◌∙◌, subst, inl, inr, arith}
+use Rattle.std.proofs.Common.{◌≡◌, ℕ, ◌+◌, ◌-◌, ◌<◌, ◌≤◌, Bool, true, false, cond, eqb, List, [], ◌∷◌, ◌++◌, length, get_or, take, drop, slice_range, Option}
+use Rattle.std.proofs.Common.{Some, None, IsSome, IfSome, IsNone, All, refl, sym, ap, ◌∙◌, subst, inl, inr, arith}
 use Rattle.std.proofs.lemmas.Bool.{false≢true, eq-eqb, cases_lt}
 use Rattle.std.proofs.lemmas.List.{get_or-take, get_or-drop, get_or_past, same_lists}
 use Rattle.std.proofs.lemmas.List.Elements.{All-append, All-nil, All-take, All-drop}
@@ -19,20 +20,21 @@ use Rattle.btr_read.specs.Layout.{Layout, device_in}
 use Rattle.btr_read.proofs.Pieces.{length-slice_range}
 use Rattle.btr_scrub.specs.Glue.{In, IsNearly, right_bytes}
 use Rattle.btr_scrub.specs.Right.{Committed, HasFewWrong, committed_for}
-use Rattle.btr_row.specs.Rows as rows
-use Rattle.btr_row.specs.Rows.{Row, blocks_at, element, element_with, slice_with, slices_with, with_block}
+use Rattle.btr_scrub_row.specs.Rows as rows
+use Rattle.btr_scrub_row.specs.Rows.{Row, blocks_at, element, element_with, slice_with, slices_with, with_block}
 use Rattle.btr_scrub.specs.Survival.{AreBehind, ElementsAreSlices, IsSoundRow, KeepsRight, RowSurvives}
-use Rattle.btr_row.proofs.Elements.{range_stands, stands_on}
-use Rattle.btr_row.proofs.Pasted.{length-pasted, pasted-below, pasted-within}
+use Rattle.btr_scrub_row.proofs.Elements.{range_stands, stands_on}
+use Rattle.btr_scrub_row.proofs.Pasted.{length-pasted, pasted-below, pasted-within}
 use Rattle.btr_scrub.proofs.Stripes.{any_of, no_mirror, row_gives_blocks}
-use Rattle.btr_mend.specs.Writes.{Images}
+use Rattle.btr_scrub_copies.specs.Writes.{Images}
 
 -- ---- ranges by their bytes
 
 at_range : (xs : List ℕ) (a b i d : ℕ) → i < b - a → get_or (slice_range xs a b) i d ≡ get_or xs (a + i) d
 at_range xs a b i d lt = get_or-take (b - a) (drop a xs) i d lt ∙ get_or-drop a xs i d
 
-pub range_ext : (xs ys : List ℕ) (a b : ℕ) → b ≤ length xs → length xs ≡ length ys → ((i d : ℕ) → a ≤ i → i < b → get_or xs i d ≡ get_or ys i d) → slice_range xs a b ≡ slice_range ys a b
+pub range_ext : (xs ys : List ℕ) (a b : ℕ) → b ≤ length xs → length xs ≡ length ys → ((i d : ℕ) → a ≤ i → i < b → get_or xs i d ≡ get_or ys i d)
+    → slice_range xs a b ≡ slice_range ys a b
 range_ext xs ys a b le long same =
     let lx = length-slice_range xs a b le in
     same_lists (slice_range xs a b) (slice_range ys a b) (lx ∙ sym (length-slice_range ys a b (omega (arith, le, long))))
@@ -44,9 +46,11 @@ range_pasted xs off bytes fits =
     let long = length-slice_range (pasted xs off bytes) off to (omega (arith, fits, length-pasted xs off bytes fits)) in
     same_lists (slice_range (pasted xs off bytes) off to) bytes (long ∙ omega arith)
     (λ i d below. let lt : i < to - off = omega (arith, below, long) in
-    at_range (pasted xs off bytes) off to i d lt ∙ pasted-within xs off bytes fits (off + i) d (omega arith) (omega (arith, lt)) ∙ ap (λ j. get_or bytes j d) (omega arith))
+    at_range (pasted xs off bytes) off to i d lt ∙ pasted-within xs off bytes fits (off + i) d (omega arith) (omega (arith, lt))
+    ∙ ap (λ j. get_or bytes j d) (omega arith))
 
-slice_pasted : (n : ℕ) (xs : List ℕ) (off : ℕ) (bytes : List ℕ) → off + length bytes ≤ n → IsSlice n xs → All (λ b. b < 256) bytes → IsSlice n (pasted xs off bytes)
+slice_pasted : (n : ℕ) (xs : List ℕ) (off : ℕ) (bytes : List ℕ) → off + length bytes ≤ n → IsSlice n xs → All (λ b. b < 256) bytes
+    → IsSlice n (pasted xs off bytes)
 slice_pasted n xs off bytes fits is small = record {
   long = length-pasted xs off bytes (omega (arith, fits, is.long)) ∙ is.long;
   bytes = All-append (λ b. b < 256) (take off xs ++ bytes) (drop (off + length bytes) xs)
@@ -62,35 +66,41 @@ module _ (images : Images) (layout : Layout) (given : Target → Option (List �
     pub inside : t.at.rest + size_of t ≤ 65536
     pub bytes : IfSome (given t) (IsSlice (size_of t))
 
-  one_slice : (t : Target) (o : Option (List ℕ)) (xs : List ℕ) → t.at.rest + size_of t ≤ 65536 → IfSome o (IsSlice (size_of t)) → IsSlice 65536 xs → IsSlice 65536 (option_map_or (pasted xs t.at.rest) o xs)
+  one_slice : (t : Target) (o : Option (List ℕ)) (xs : List ℕ) → t.at.rest + size_of t ≤ 65536 → IfSome o (IsSlice (size_of t)) → IsSlice 65536 xs
+      → IsSlice 65536 (option_map_or (pasted xs t.at.rest) o xs)
   one_slice t None xs inside fits is = is
   one_slice t (Some b) xs inside fits is = slice_pasted 65536 xs t.at.rest b (omega (arith, inside, fits.long)) is fits.bytes
 
-  pub fold_slice : (ts : List Target) (xs : List ℕ) → ((t : Target) → In t ts → Fits t) → IsSlice 65536 xs → IsSlice 65536 (fold (with_block images layout given) xs ts)
+  pub fold_slice : (ts : List Target) (xs : List ℕ) → ((t : Target) → In t ts → Fits t) → IsSlice 65536 xs
+      → IsSlice 65536 (fold (with_block images layout given) xs ts)
   fold_slice [] xs fit is = is
   fold_slice (t ∷ ts) xs fit is =
       let f = fit t (inl refl) in
       fold_slice ts (with_block images layout given xs t) (λ u i. fit u (inr i)) (one_slice t (given t) xs f.inside f.bytes is)
 
   -- blocks behind a place leave what is before it
-  one_keeps : (t : Target) (o : Option (List ℕ)) (xs : List ℕ) (a b : ℕ) → b ≤ t.at.rest → t.at.rest + size_of t ≤ 65536 → IfSome o (IsSlice (size_of t)) → IsSlice 65536 xs
+  one_keeps : (t : Target) (o : Option (List ℕ)) (xs : List ℕ) (a b : ℕ) → b ≤ t.at.rest → t.at.rest + size_of t ≤ 65536
+      → IfSome o (IsSlice (size_of t)) → IsSlice 65536 xs
       → slice_range (option_map_or (pasted xs t.at.rest) o xs) a b ≡ slice_range xs a b
   one_keeps t None xs a b le inside fits is = refl
   one_keeps t (Some bytes) xs a b le inside fits is =
       let within : t.at.rest + length bytes ≤ length xs = omega (arith, inside, fits.long, is.long) in
       let long = length-pasted xs t.at.rest bytes within in
-      range_ext (pasted xs t.at.rest bytes) xs a b (omega (arith, le, within, long)) long (λ i d from to. pasted-below xs t.at.rest bytes within i d (omega (arith, to, le)))
+      range_ext (pasted xs t.at.rest bytes) xs a b (omega (arith, le, within, long)) long
+      (λ i d from to. pasted-below xs t.at.rest bytes within i d (omega (arith, to, le)))
 
   fold_keeps : (ts : List Target) (xs : List ℕ) (a b end : ℕ) → b ≤ end → AreBehind end ts → ((t : Target) → In t ts → Fits t) → IsSlice 65536 xs
       → slice_range (fold (with_block images layout given) xs ts) a b ≡ slice_range xs a b
   fold_keeps [] xs a b end le behind fit is = refl
   fold_keeps (t ∷ ts) xs a b end le behind fit is =
       let f = fit t (inl refl) in
-      fold_keeps ts (with_block images layout given xs t) a b (t.at.rest + size_of t) (omega (arith, le, behind.0)) behind.1 (λ u i. fit u (inr i)) (one_slice t (given t) xs f.inside f.bytes is)
+      fold_keeps ts (with_block images layout given xs t) a b (t.at.rest + size_of t) (omega (arith, le, behind.0)) behind.1 (λ u i. fit u (inr i))
+      (one_slice t (given t) xs f.inside f.bytes is)
       ∙ one_keeps t (given t) xs a b (omega (arith, le, behind.0)) f.inside f.bytes is
 
   -- a block's own place has what is given for it
-  pub fold_block : (ts : List Target) (xs : List ℕ) (end : ℕ) (t : Target) (b : List ℕ) → AreBehind end ts → ((t : Target) → In t ts → Fits t) → IsSlice 65536 xs → In t ts → given t ≡ Some b
+  pub fold_block : (ts : List Target) (xs : List ℕ) (end : ℕ) (t : Target) (b : List ℕ) → AreBehind end ts → ((t : Target) → In t ts → Fits t)
+      → IsSlice 65536 xs → In t ts → given t ≡ Some b
       → slice_range (fold (with_block images layout given) xs ts) t.at.rest (t.at.rest + size_of t) ≡ b
   fold_block [] xs end t b behind fit is i e = absurd i
   fold_block (u ∷ ts) xs end t b behind fit is (inl same) e =
@@ -99,13 +109,15 @@ module _ (images : Images) (layout : Layout) (given : Target → Option (List �
       let here : given u ≡ Some b = ap given same ∙ e in
       let slice : IsSlice (size_of u) b = subst (λ o. IfSome o (IsSlice (size_of u))) here f.bytes in
       let pasted_in : with_block images layout given xs u ≡ pasted xs u.at.rest b = ap (λ o. option_map_or (pasted xs u.at.rest) o xs) here in
-      fold_keeps ts (with_block images layout given xs u) u.at.rest (u.at.rest + size_of u) (u.at.rest + size_of u) (omega arith) behind.1 (λ v j. fit v (inr j)) (one_slice u (given u) xs f.inside f.bytes is)
+      fold_keeps ts (with_block images layout given xs u) u.at.rest (u.at.rest + size_of u) (u.at.rest + size_of u) (omega arith) behind.1
+      (λ v j. fit v (inr j)) (one_slice u (given u) xs f.inside f.bytes is)
       ∙ ap (λ ys. slice_range ys u.at.rest (u.at.rest + size_of u)) pasted_in
       ∙ ap (λ n. slice_range (pasted xs u.at.rest b) u.at.rest (u.at.rest + n)) (sym slice.long)
       ∙ range_pasted xs u.at.rest b (omega (arith, f.inside, slice.long, is.long)))
   fold_block (u ∷ ts) xs end t b behind fit is (inr i) e =
       let f = fit u (inl refl) in
-      fold_block ts (with_block images layout given xs u) (u.at.rest + size_of u) t b behind.1 (λ v j. fit v (inr j)) (one_slice u (given u) xs f.inside f.bytes is) i e
+      fold_block ts (with_block images layout given xs u) (u.at.rest + size_of u) t b behind.1 (λ v j. fit v (inr j))
+      (one_slice u (given u) xs f.inside f.bytes is) i e
 
 -- ---- elements
 
@@ -124,7 +136,8 @@ elements_are_slices images layout row q all lengths h =
     let long = length-slice_range image place.offset (place.offset + 65536) (omega (arith, s.within, lengths place.devid s.device s.there)) in
     let cut : IsSlice 65536 (slice_range image place.offset (place.offset + 65536)) = record {
       long = long ∙ omega arith;
-      bytes = All-take (λ b. b < 256) (place.offset + 65536 - place.offset) (drop place.offset image) (All-drop (λ b. b < 256) place.offset image (bytes_in images s.device.slot all));
+      bytes = All-take (λ b. b < 256) (place.offset + 65536 - place.offset) (drop place.offset image)
+          (All-drop (λ b. b < 256) place.offset image (bytes_in images s.device.slot all));
     } in
     subst (λ (o : Option Range). IsSlice 65536 (option_map_or (λ range. bytes_of images range.slot range.off range.len) o [])) (sym e) cut
 
@@ -174,7 +187,8 @@ module _ (images : Images) (layout : Layout) (C : Committed) (row : Row) (sound 
   slice_there i lt = (subst IsNone (sym sound.parity) refl, lt)
 
   right_slice : (i : ℕ) → i < rows.slice_count row → IsSlice 65536 (slice_with images layout given row i)
-  right_slice i lt = fold_slice images layout given (blocks_at row i) (element images layout row (part.Slice i)) (fits i) (sound.bytes (part.Slice i) (slice_there i lt))
+  right_slice i lt = fold_slice images layout given (blocks_at row i) (element images layout row (part.Slice i)) (fits i)
+      (sound.bytes (part.Slice i) (slice_there i lt))
 
   pub right_is : IsConsistent 65536 (rows.slice_count row) right
   right_is =
@@ -186,7 +200,8 @@ module _ (images : Images) (layout : Layout) (C : Committed) (row : Row) (sound 
         q = refl;
       }
 
-  right_part : (q : Part) → HasPart row.chunk.profile (length row.chunk.stripes) q → element_with images layout given row q ≡ right_bytes (rows.slice_count row) right q
+  right_part : (q : Part) → HasPart row.chunk.profile (length row.chunk.stripes) q → element_with images layout given row q
+      ≡ right_bytes (rows.slice_count row) right q
   right_part (part.Mirror i) has = absurd (no_mirror (mirror_count row.chunk.profile (length row.chunk.stripes)) i sound.parity has)
   right_part (part.Slice i) has = sym (at_slice i [] has.1)
   right_part part.P has = refl
@@ -204,7 +219,8 @@ module _ (images : Images) (layout : Layout) (C : Committed) (row : Row) (sound 
       → slice_range (get_or right.slices t.at.index []) t.at.rest (t.at.rest + size_of t) ≡ b
   block_there t b among lt e =
       ap (λ xs. slice_range xs t.at.rest (t.at.rest + size_of t)) (at_slice t.at.index [] lt)
-      ∙ fold_block images layout given (blocks_at row t.at.index) (element images layout row (part.Slice t.at.index)) 0 t b (sound.spaced t.at.index) (fits t.at.index)
+      ∙ fold_block images layout given (blocks_at row t.at.index) (element images layout row (part.Slice t.at.index)) 0 t b (sound.spaced t.at.index)
+      (fits t.at.index)
       (sound.bytes (part.Slice t.at.index) (slice_there t.at.index lt))
       (in_filter (λ u. eqb u.at.index t.at.index) t row.blocks among (eq-eqb t.at.index t.at.index refl)) e
 
@@ -219,4 +235,5 @@ row_survives images left layout C row t sound few keeps among =
     any_of (λ c. (stands t c ≡ true) × All (λ q. ¬ (Contains (parts_read (slice_count t) t.at.index c) q)) few.wrong × (value_of left t c ≡ bytes))
     (λ c. (stands t c ≡ true) × (C t.want ≡ Some (value_of left t c))) (candidates t)
     (λ c h. (h.0, b.1 ∙ ap Some (sym (h.2 ∙ there))))
-    (row_gives_blocks left layout row (right images layout C row sound) few.wrong t block.in_row block.lies (right_is images layout C row sound) (near images layout C row sound left few keeps))
+    (row_gives_blocks left layout row (right images layout C row sound) few.wrong t block.in_row block.lies (right_is images layout C row sound)
+    (near images layout C row sound left few keeps))

@@ -1,5 +1,6 @@
 -- The counts of a list of all blocks are the tally of the repair.
-use Rattle.std.proofs.Common.{◌≡◌, ◌≢◌, ℕ, zero, suc, ◌+◌, ◌/◌, ◌<◌, Bool, true, false, cond, ◌&&◌, eqb, List, [], ◌∷◌, map, length, slice_get, Option, Some, None, is_none, refl, sym, ap, ◌∙◌, subst, inl, inr, arith}
+use Rattle.std.proofs.Common.{◌≡◌, ◌≢◌, ℕ, zero, suc, ◌+◌, ◌/◌, ◌<◌, Bool, true, false, cond, ◌&&◌, eqb, List, [], ◌∷◌, map, length, slice_get, Option, Some}
+use Rattle.std.proofs.Common.{None, is_none, refl, sym, ap, ◌∙◌, subst, inl, inr, arith}
 use Rattle.std.proofs.lemmas.Bool.{cases_order, eq-eqb, eqb-true, and_from}
 use Rattle.std.proofs.lemmas.List.FromFn.{length-range_with_len}
 use Rattle.std.proofs.lemmas.List.Sums.{sum_by-cons}
@@ -15,10 +16,10 @@ use Rattle.btr_read.specs.Candidates.{Target}
 use Rattle.btr_read.specs.Layout.{Layout}
 use Rattle.btr_read.specs.Want.{addr_of}
 use Rattle.btr_read.specs.declared.want.Want.{Want}
-use Rattle.btr_mend.specs.Blocks.{bad_parts, block_writes, is_lost}
-use Rattle.btr_mend.specs.Writes.{Images, writes_if}
-use Rattle.btr_row.specs.Mending.{mended_row}
-use Rattle.btr_row.specs.Rows.{Row, parities, parity_writes}
+use Rattle.btr_scrub_copies.specs.Blocks.{bad_parts, block_writes, is_lost}
+use Rattle.btr_scrub_copies.specs.Writes.{Images, writes_if}
+use Rattle.btr_scrub_row.specs.Mending.{mended_row}
+use Rattle.btr_scrub_row.specs.Rows.{Row, parities, parity_writes}
 use Rattle.btr_scrub.specs.Gathering.{checked_among, count_met}
 use Rattle.btr_scrub.specs.Glue.{In}
 use Rattle.btr_scrub.specs.Order.{IsSought}
@@ -42,7 +43,8 @@ stood_add : (n m : ℕ) → stood (stood n + m) ≡ stood (n + m)
 stood_add n m = grind arith
 
 -- steps each of which adds to a count add their sum to it
-rises : {X : Type 0} (get : Tally → ℕ) (step : Tally → X → Tally) (f : X → ℕ) (xs : List X) (t : Tally) (n : ℕ) → ((x : X) → In x xs → (u : Tally) (m : ℕ) → get u ≡ stood m → get (step u x) ≡ stood (m + f x)) → get t ≡ stood n
+rises : {X : Type 0} (get : Tally → ℕ) (step : Tally → X → Tally) (f : X → ℕ) (xs : List X) (t : Tally) (n : ℕ)
+    → ((x : X) → In x xs → (u : Tally) (m : ℕ) → get u ≡ stood m → get (step u x) ≡ stood (m + f x)) → get t ≡ stood n
     → get (fold step t xs) ≡ stood (n + sum_by f xs)
 rises get step f [] t n h e = e ∙ ap stood (omega arith)
 rises get step f (x ∷ xs) t n h e =
@@ -60,9 +62,11 @@ module _ (kept : KeptColumns) (images : Images) (layout : Layout) (write : Bool)
   of_chunk of_block of_row chunk = cond (is_none (mirrors chunk)) (sum_by of_row (rows_in kept ts chunk)) (sum_by of_block (filter (is_in_chunk chunk) ts))
 
   abbrev count_chunk : Tally → Chunk → Tally
-  count_chunk u chunk = cond (is_none (mirrors chunk)) (rows_count layout write (rows_in kept ts chunk) images u) (blocks_count write (filter (is_in_chunk chunk) ts) images u)
+  count_chunk u chunk = cond (is_none (mirrors chunk)) (rows_count layout write (rows_in kept ts chunk) images u)
+      (blocks_count write (filter (is_in_chunk chunk) ts) images u)
 
-  chunk_adds : (get : Tally → ℕ) (of_block : Target → ℕ) (of_row : Row → ℕ) → Adds get of_block of_row → (chunk : Chunk) (u : Tally) (m : ℕ) → get u ≡ stood m → get (count_chunk u chunk) ≡ stood (m + of_chunk of_block of_row chunk)
+  chunk_adds : (get : Tally → ℕ) (of_block : Target → ℕ) (of_row : Row → ℕ) → Adds get of_block of_row → (chunk : Chunk) (u : Tally) (m : ℕ) → get u
+      ≡ stood m → get (count_chunk u chunk) ≡ stood (m + of_chunk of_block of_row chunk)
   chunk_adds get of_block of_row adds chunk u m e = by (is_none (mirrors chunk))
     where
       by : (b : Bool) → get (cond b (rows_count layout write (rows_in kept ts chunk) images u) (blocks_count write (filter (is_in_chunk chunk) ts) images u))
@@ -70,8 +74,10 @@ module _ (kept : KeptColumns) (images : Images) (layout : Layout) (write : Bool)
       by true = rises get (count_row images layout write) of_row (rows_in kept ts chunk) u m (λ r i v k e. adds.row v k r e) e
       by false = rises get (count_block images write) of_block (filter (is_in_chunk chunk) ts) u m (λ t i v k e. adds.block v k t e) e
 
-  all_add : (get : Tally → ℕ) (of_block : Target → ℕ) (of_row : Row → ℕ) → Adds get of_block of_row → (chunks : List Chunk) (u : Tally) (m : ℕ) → get u ≡ stood m → get (fold count_chunk u chunks) ≡ stood (m + sum_by (of_chunk of_block of_row) chunks)
-  all_add get of_block of_row adds chunks u m e = rises get count_chunk (of_chunk of_block of_row) chunks u m (λ chunk i v k e. chunk_adds get of_block of_row adds chunk v k e) e
+  all_add : (get : Tally → ℕ) (of_block : Target → ℕ) (of_row : Row → ℕ) → Adds get of_block of_row → (chunks : List Chunk) (u : Tally) (m : ℕ)
+      → get u ≡ stood m → get (fold count_chunk u chunks) ≡ stood (m + sum_by (of_chunk of_block of_row) chunks)
+  all_add get of_block of_row adds chunks u m e = rises get count_chunk (of_chunk of_block of_row) chunks u m
+      (λ chunk i v k e. chunk_adds get of_block of_row adds chunk v k e) e
 
   -- ---- the counts
 
@@ -79,19 +85,22 @@ module _ (kept : KeptColumns) (images : Images) (layout : Layout) (write : Bool)
   in_row f r = sum_by f r.blocks
 
   -- a full stripe without checked blocks adds nothing
-  row_adds : (get : Tally → ℕ) (f : Row → ℕ) → ((u : Tally) (m : ℕ) (r : Row) → get u ≡ stood m → get (counted_row u (length r.blocks) (mended_row images layout r write)) ≡ stood (m + f r)) → ((r : Row) → r.blocks ≡ [] → f r ≡ 0)
+  row_adds : (get : Tally → ℕ) (f : Row → ℕ) → ((u : Tally) (m : ℕ) (r : Row) → get u ≡ stood m
+      → get (counted_row u (length r.blocks) (mended_row images layout r write)) ≡ stood (m + f r)) → ((r : Row) → r.blocks ≡ [] → f r ≡ 0)
       → (u : Tally) (m : ℕ) (r : Row) → get u ≡ stood m → get (count_row images layout write u r) ≡ stood (m + f r)
   row_adds get f some none u m r e = by r.blocks refl
     where
       by : (bs : List Target) → r.blocks ≡ bs → get (count_row_of r.blocks u (mended_row images layout r write)) ≡ stood (m + f r)
       by [] is = ap (λ bs. get (count_row_of bs u (mended_row images layout r write))) is ∙ e ∙ ap stood (omega (arith, none r is))
-      by (b ∷ bs) is = ap (λ bs. get (count_row_of bs u (mended_row images layout r write))) is ∙ sym (ap (λ bs. get (counted_row u (length bs) (mended_row images layout r write))) is) ∙ some u m r e
+      by (b ∷ bs) is = ap (λ bs. get (count_row_of bs u (mended_row images layout r write))) is
+          ∙ sym (ap (λ bs. get (counted_row u (length bs) (mended_row images layout r write))) is) ∙ some u m r e
 
   -- the sum of what is written, where it is written
   abbrev written : Target → ℕ
   written t = length (writes_if write (block_writes images t))
 
-  written_sum : (us : List Target) → cond write (sum_by (λ t. length (block_writes images t)) us) 0 ≡ sum_by (λ t. length (writes_if write (block_writes images t))) us
+  written_sum : (us : List Target) → cond write (sum_by (λ t. length (block_writes images t)) us) 0
+      ≡ sum_by (λ t. length (writes_if write (block_writes images t))) us
   written_sum us = by write
     where
       by : (b : Bool) → cond b (sum_by (λ t. length (block_writes images t)) us) 0 ≡ sum_by (λ t. length (writes_if b (block_writes images t))) us
@@ -111,25 +120,32 @@ module _ (kept : KeptColumns) (images : Images) (layout : Layout) (write : Bool)
   blocks_add : Adds (λ (t : Tally). t.blocks) (λ t. 1) (in_row (λ t. 1))
   blocks_add = record {
     block = λ u m t e. more u.blocks m 1 1 e refl;
-    row = row_adds (λ (t : Tally). t.blocks) (in_row (λ t. 1)) (λ u m r e. more u.blocks m (length r.blocks) (in_row (λ t. 1) r) e (sym (sum_one r.blocks))) (none_in (λ t. 1));
+    row = row_adds (λ (t : Tally). t.blocks) (in_row (λ t. 1))
+        (λ u m r e. more u.blocks m (length r.blocks) (in_row (λ t. 1) r) e (sym (sum_one r.blocks))) (none_in (λ t. 1));
   }
 
   bad_add : Adds (λ (t : Tally). t.bad) (λ t. length (bad_parts images t)) (in_row (λ t. length (bad_parts images t)))
   bad_add = record {
     block = λ u m t e. more u.bad m (length (bad_parts images t)) (length (bad_parts images t)) e refl;
-    row = row_adds (λ (t : Tally). t.bad) (in_row (λ t. length (bad_parts images t))) (λ u m r e. more u.bad m (in_row (λ t. length (bad_parts images t)) r) (in_row (λ t. length (bad_parts images t)) r) e refl) (none_in (λ t. length (bad_parts images t)));
+    row = row_adds (λ (t : Tally). t.bad) (in_row (λ t. length (bad_parts images t)))
+        (λ u m r e. more u.bad m (in_row (λ t. length (bad_parts images t)) r) (in_row (λ t. length (bad_parts images t)) r) e refl)
+        (none_in (λ t. length (bad_parts images t)));
   }
 
   repaired_add : Adds (λ (t : Tally). t.repaired) written (in_row written)
   repaired_add = record {
     block = λ u m t e. more u.repaired m (written t) (written t) e refl;
-    row = row_adds (λ (t : Tally). t.repaired) (in_row written) (λ u m r e. more u.repaired m (cond write (sum_by (λ t. length (block_writes images t)) r.blocks) 0) (in_row written r) e (written_sum r.blocks)) (none_in written);
+    row = row_adds (λ (t : Tally). t.repaired) (in_row written)
+        (λ u m r e. more u.repaired m (cond write (sum_by (λ t. length (block_writes images t)) r.blocks) 0) (in_row written r) e
+        (written_sum r.blocks)) (none_in written);
   }
 
   lost_add : Adds (λ (t : Tally). t.lost) (λ t. cond (is_lost images t) 1 0) (in_row (λ t. cond (is_lost images t) 1 0))
   lost_add = record {
     block = λ u m t e. more u.lost m (cond (is_lost images t) 1 0) (cond (is_lost images t) 1 0) e refl;
-    row = row_adds (λ (t : Tally). t.lost) (in_row (λ t. cond (is_lost images t) 1 0)) (λ u m r e. more u.lost m (in_row (λ t. cond (is_lost images t) 1 0) r) (in_row (λ t. cond (is_lost images t) 1 0) r) e refl) (none_in (λ t. cond (is_lost images t) 1 0));
+    row = row_adds (λ (t : Tally). t.lost) (in_row (λ t. cond (is_lost images t) 1 0))
+        (λ u m r e. more u.lost m (in_row (λ t. cond (is_lost images t) 1 0) r) (in_row (λ t. cond (is_lost images t) 1 0) r) e refl)
+        (none_in (λ t. cond (is_lost images t) 1 0));
   }
 
   abbrev parity_in : Row → ℕ
@@ -155,19 +171,39 @@ module _ (kept : KeptColumns) (images : Images) (layout : Layout) (write : Bool)
   module _ (table : IsTable layout.chunks) (placed : (t : Target) → In t ts → IsSought layout t) where
     -- a block lies in one chunk
     once_chunk : (t : Target) → In t ts → IsOnce (λ chunk. is_in_chunk chunk t) layout.chunks
-    once_chunk t i = (is.number, (t.chunk, is.there, eq-eqb t.chunk.start t.chunk.start refl, λ j other ne found. by j other ne found (is_in_chunk other t) refl))
+    once_chunk t i = (
+      is.number,
+      (
+        t.chunk,
+        is.there,
+        eq-eqb t.chunk.start t.chunk.start refl,
+        λ j other ne found. by j other ne found
+            (is_in_chunk other t) refl,
+      ),
+    )
       where
         is : IsSought layout t
         is = placed t i
 
-        by : (j : ℕ) (other : Chunk) → j ≢ is.number → slice_get layout.chunks j ≡ Some other → (b : Bool) → is_in_chunk other t ≡ b → is_in_chunk other t ≡ false
+        by : (j : ℕ) (other : Chunk) → j ≢ is.number → slice_get layout.chunks j ≡ Some other → (b : Bool) → is_in_chunk other t ≡ b
+            → is_in_chunk other t ≡ false
         by j other ne found false e = e
         by j other ne found true e =
             let start = eqb-true t.chunk.start other.start e in
             elim (cases_order j is.number) [
               | inl equal ↦ absurd (ne equal)
-              | inr (inl before) ↦ absurd (omega (arith, (table.apart j is.number other t.chunk before found is.there).0, (facts other (table.sound j other found).0).some, start))
-              | inr (inr after) ↦ absurd (omega (arith, (table.apart is.number j t.chunk other after is.there found).0, (facts t.chunk (table.sound is.number t.chunk is.there).0).some, start))
+              | inr (inl before) ↦ absurd (omega (
+                arith,
+                (table.apart j is.number other t.chunk before found is.there).0,
+                (facts other (table.sound j other found).0).some,
+                start,
+              ))
+              | inr (inr after) ↦ absurd (omega (
+                arith,
+                (table.apart is.number j t.chunk other after is.there found).0,
+                (facts t.chunk (table.sound is.number t.chunk is.there).0).some,
+                start,
+              ))
             ]
 
     range_at : (a n i : ℕ) → i < n → slice_get (range_with_len a n) i ≡ Some (a + i)
@@ -185,7 +221,16 @@ module _ (kept : KeptColumns) (images : Images) (layout : Layout) (write : Bool)
         n = stripe_length chunk / 65536
 
         once : (t : Target) → In t ts → is_in_chunk chunk t ≡ true → IsOnce (λ k. is_in_row chunk k t) (range_with_len 0 n)
-        once t i e = (t.at.row, (t.at.row, there_is, and_from (is_in_chunk chunk t) (eqb t.at.row t.at.row) e (eq-eqb t.at.row t.at.row refl), λ j other ne found. by j other ne found (eqb t.at.row other) refl))
+        once t i e = (
+          t.at.row,
+          (
+            t.at.row,
+            there_is,
+            and_from (is_in_chunk chunk t) (eqb t.at.row t.at.row) e (eq-eqb t.at.row t.at.row refl),
+            λ j
+                other ne found. by j other ne found (eqb t.at.row other) refl,
+          ),
+        )
           where
             is : IsSought layout t
             is = placed t i
@@ -202,7 +247,8 @@ module _ (kept : KeptColumns) (images : Images) (layout : Layout) (write : Bool)
             there_is : slice_get (range_with_len 0 n) t.at.row ≡ Some t.at.row
             there_is = range_at 0 n t.at.row below ∙ ap Some (omega arith)
 
-            by : (j other : ℕ) → j ≢ t.at.row → slice_get (range_with_len 0 n) j ≡ Some other → (b : Bool) → eqb t.at.row other ≡ b → is_in_row chunk other t ≡ false
+            by : (j other : ℕ) → j ≢ t.at.row → slice_get (range_with_len 0 n) j ≡ Some other → (b : Bool) → eqb t.at.row other ≡ b
+                → is_in_row chunk other t ≡ false
             by j other ne found true q =
                 let lt : j < n = omega (arith, slice_get_within (range_with_len 0 n) j other found, length-range_with_len 0 n) in
                 let equal : other ≡ 0 + j = same_Some other (0 + j) (sym found ∙ range_at 0 n j lt) in
@@ -212,17 +258,22 @@ module _ (kept : KeptColumns) (images : Images) (layout : Layout) (write : Bool)
     chunk_sum : (f : Target → ℕ) (chunk : Chunk) → In chunk layout.chunks → of_chunk f (in_row f) chunk ≡ sum_by f (filter (is_in_chunk chunk) ts)
     chunk_sum f chunk i = let j = at_in chunk layout.chunks i in by j.0 j.1 (mirrors chunk) refl
       where
-        by : (number : ℕ) → slice_get layout.chunks number ≡ Some chunk → (o : Option ℕ) → mirrors chunk ≡ o → cond (is_none o) (sum_by (in_row f) (rows_in kept ts chunk)) (sum_by f (filter (is_in_chunk chunk) ts)) ≡ sum_by f (filter (is_in_chunk chunk) ts)
+        by : (number : ℕ) → slice_get layout.chunks number ≡ Some chunk → (o : Option ℕ) → mirrors chunk ≡ o
+            → cond (is_none o) (sum_by (in_row f) (rows_in kept ts chunk)) (sum_by f (filter (is_in_chunk chunk) ts)) ≡ sum_by f (filter (is_in_chunk chunk) ts)
         by number there None parity = in_rows number chunk there parity f
         by number there (Some n) copies = refl
 
     all_sum : (f : Target → ℕ) → sum_by (of_chunk f (in_row f)) layout.chunks ≡ sum_by f ts
-    all_sum f = sum_same (of_chunk f (in_row f)) (λ chunk. sum_by f (filter (is_in_chunk chunk) ts)) layout.chunks (chunk_sum f) ∙ sum_parts f is_in_chunk layout.chunks ts once_chunk
+    all_sum f = sum_same (of_chunk f (in_row f)) (λ chunk. sum_by f (filter (is_in_chunk chunk) ts)) layout.chunks (chunk_sum f)
+        ∙ sum_parts f is_in_chunk layout.chunks ts once_chunk
 
     parity_sum : sum_by (of_chunk (λ t. 0) parity_in) layout.chunks ≡ sum_by parity_in (flat_map (rows_in kept ts) layout.chunks)
-    parity_sum = sum_same (of_chunk (λ t. 0) parity_in) (λ chunk. sum_by parity_in (rows_in kept ts chunk)) layout.chunks (λ chunk i. by chunk (mirrors chunk) refl) ∙ sym (sum_flat parity_in (rows_in kept ts) layout.chunks)
+    parity_sum = sum_same (of_chunk (λ t. 0) parity_in) (λ chunk. sum_by parity_in (rows_in kept ts chunk)) layout.chunks
+        (λ chunk i. by chunk (mirrors chunk) refl) ∙ sym (sum_flat parity_in (rows_in kept ts) layout.chunks)
       where
-        by : (chunk : Chunk) (o : Option ℕ) → mirrors chunk ≡ o → cond (is_none o) (sum_by parity_in (rows_in kept ts chunk)) (sum_by (λ t. 0) (filter (is_in_chunk chunk) ts)) ≡ sum_by parity_in (rows_in kept ts chunk)
+        by : (chunk : Chunk) (o : Option ℕ) → mirrors chunk ≡ o
+            → cond (is_none o) (sum_by parity_in (rows_in kept ts chunk)) (sum_by (λ t. 0) (filter (is_in_chunk chunk) ts))
+            ≡ sum_by parity_in (rows_in kept ts chunk)
         by chunk None parity = refl
         by chunk (Some n) copies =
             sum_zero (λ t. 0) (filter (is_in_chunk chunk) ts) (λ t i. refl)
@@ -244,23 +295,28 @@ module _ (kept : KeptColumns) (images : Images) (layout : Layout) (write : Bool)
       abbrev all : Tally
       all = fold count_chunk start layout.chunks
 
-      counted_all : (get : Tally → ℕ) (of_block : Target → ℕ) (of_row : Row → ℕ) (n total : ℕ) → Adds get of_block of_row → get start ≡ stood n → n + sum_by (of_chunk of_block of_row) layout.chunks ≡ total → get all ≡ stood total
+      counted_all : (get : Tally → ℕ) (of_block : Target → ℕ) (of_row : Row → ℕ) (n total : ℕ) → Adds get of_block of_row → get start ≡ stood n → n
+          + sum_by (of_chunk of_block of_row) layout.chunks ≡ total → get all ≡ stood total
       counted_all get of_block of_row n total adds e is = all_add get of_block of_row adds layout.chunks start n e ∙ ap stood is
 
       blocks_are : all.blocks ≡ stood (length ts)
       blocks_are = counted_all (λ (t : Tally). t.blocks) (λ t. 1) (in_row (λ t. 1)) 0 (length ts) blocks_add refl (omega (arith, all_sum (λ t. 1), sum_one ts))
 
       bad_are : all.bad ≡ stood (sum_by (λ t. length (bad_parts images t)) ts)
-      bad_are = counted_all (λ (t : Tally). t.bad) (λ t. length (bad_parts images t)) (in_row (λ t. length (bad_parts images t))) 0 (sum_by (λ t. length (bad_parts images t)) ts) bad_add refl (omega (arith, all_sum (λ t. length (bad_parts images t))))
+      bad_are = counted_all (λ (t : Tally). t.bad) (λ t. length (bad_parts images t)) (in_row (λ t. length (bad_parts images t))) 0
+          (sum_by (λ t. length (bad_parts images t)) ts) bad_add refl (omega (arith, all_sum (λ t. length (bad_parts images t))))
 
       repaired_are : all.repaired ≡ stood (cond write (sum_by (λ t. length (block_writes images t)) ts) 0)
-      repaired_are = counted_all (λ (t : Tally). t.repaired) written (in_row written) 0 (cond write (sum_by (λ t. length (block_writes images t)) ts) 0) repaired_add refl (omega (arith, all_sum written, written_sum ts))
+      repaired_are = counted_all (λ (t : Tally). t.repaired) written (in_row written) 0
+          (cond write (sum_by (λ t. length (block_writes images t)) ts) 0) repaired_add refl (omega (arith, all_sum written, written_sum ts))
 
       lost_are : all.lost ≡ stood (count_by (is_lost images) ts)
-      lost_are = counted_all (λ (t : Tally). t.lost) (λ t. cond (is_lost images t) 1 0) (in_row (λ t. cond (is_lost images t) 1 0)) 0 (count_by (is_lost images) ts) lost_add refl (omega (arith, all_sum (λ t. cond (is_lost images t) 1 0)))
+      lost_are = counted_all (λ (t : Tally). t.lost) (λ t. cond (is_lost images t) 1 0) (in_row (λ t. cond (is_lost images t) 1 0)) 0
+          (count_by (is_lost images) ts) lost_add refl (omega (arith, all_sum (λ t. cond (is_lost images t) 1 0)))
 
       parity_are : all.parity ≡ stood (sum_by parity_in (flat_map (rows_in kept ts) layout.chunks))
-      parity_are = counted_all (λ (t : Tally). t.parity) (λ t. 0) parity_in 0 (sum_by parity_in (flat_map (rows_in kept ts) layout.chunks)) parity_add refl (omega (arith, parity_sum))
+      parity_are = counted_all (λ (t : Tally). t.parity) (λ t. 0) parity_in 0 (sum_by parity_in (flat_map (rows_in kept ts) layout.chunks)) parity_add
+          refl (omega (arith, parity_sum))
 
       unchecked_are : all.unchecked ≡ stood unchecked
       unchecked_are = counted_all (λ (t : Tally). t.unchecked) (λ t. 0) (λ r. 0) unchecked unchecked unchecked_add refl (omega (arith, nothing_sum))
@@ -268,12 +324,14 @@ module _ (kept : KeptColumns) (images : Images) (layout : Layout) (write : Bool)
 -- the sectors without a checksum
 unchecked_among : (ms : List Met) (n : ℕ) → fold count_met (stood n) ms ≡ stood (n + count_by is_unchecked ms)
 unchecked_among [] n = ap stood (omega arith)
-unchecked_among (Checked want ∷ ms) n = unchecked_among ms n ∙ ap (λ k. stood (n + k)) (sym (sum_by-cons (λ m. cond (is_unchecked m) 1 0) (Checked want) ms ∙ omega arith))
+unchecked_among (Checked want ∷ ms) n = unchecked_among ms n
+    ∙ ap (λ k. stood (n + k)) (sym (sum_by-cons (λ m. cond (is_unchecked m) 1 0) (Checked want) ms ∙ omega arith))
 unchecked_among (Unchecked addr ∷ ms) n =
     let whole : n + 1 + count_by is_unchecked ms ≡ n + count_by is_unchecked (Unchecked addr ∷ ms) = omega (arith, sum_by-cons (λ m. cond (is_unchecked m) 1 0) (Unchecked addr) ms) in
     ap (λ k. fold count_met k ms) (stood_add n 1) ∙ unchecked_among ms (n + 1) ∙ ap stood whole
 
-same_tally : (a b : Tally) → a.blocks ≡ b.blocks → a.bad ≡ b.bad → a.repaired ≡ b.repaired → a.lost ≡ b.lost → a.parity ≡ b.parity → a.unchecked ≡ b.unchecked → a ≡ b
+same_tally : (a b : Tally) → a.blocks ≡ b.blocks → a.bad ≡ b.bad → a.repaired ≡ b.repaired → a.lost ≡ b.lost → a.parity ≡ b.parity → a.unchecked
+    ≡ b.unchecked → a ≡ b
 same_tally a b blocks bad repaired lost parity unchecked = λ i. record { blocks = blocks i; bad = bad i; repaired = repaired i; lost = lost i; parity = parity i; unchecked = unchecked i }
 
 pub listed_counts : ListedCounts

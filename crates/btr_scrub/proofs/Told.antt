@@ -4,9 +4,9 @@ use Rattle.std.specs.List.{cons_option, filter, filter_map, flat_map}
 use Rattle.btr_chunk.specs.Chunk.{mirrors}
 use Rattle.btr_read.specs.Fate.{sought}
 use Rattle.btr_read.specs.Layout.{Layout}
-use Rattle.btr_mend.specs.Blocks.{block_writes}
-use Rattle.btr_mend.specs.Writes.{Images}
-use Rattle.btr_row.specs.Rows.{row_writes}
+use Rattle.btr_scrub_copies.specs.Blocks.{block_writes}
+use Rattle.btr_scrub_copies.specs.Writes.{Images}
+use Rattle.btr_scrub_row.specs.Rows.{row_writes}
 use Rattle.btr_scrub.specs.Doubts.{failing}
 use Rattle.btr_scrub.specs.Filesystem.{Filesystem}
 use Rattle.btr_scrub.specs.Gathering.{checked_among}

@@ -35,7 +35,8 @@ use Rattle.btr_scrub.proofs.Gathering.{lists_none, lists_then, stop_cause_since,
 use Rattle.btr_scrub.proofs.Scanning.{between_ends, between_extent, between_halts, between_none, between_other, between_stops, same_layout, without_same}
 
 -- what an item says is what comes next
-pub next_by : (s : Super) (Is : UnreadBlock → Want → Type 0) (B : Map) (seen : List Want) (old new : Blocks) (scan scan' : Scan) (next : NextExtent) → Comes s B seen old new scan scan' next → NextBy s Is B seen old new scan scan' (Ok next)
+pub next_by : (s : Super) (Is : UnreadBlock → Want → Type 0) (B : Map) (seen : List Want) (old new : Blocks) (scan scan' : Scan) (next : NextExtent)
+    → Comes s B seen old new scan scan' next → NextBy s Is B seen old new scan scan' (Ok next)
 next_by s Is B seen old new scan scan' End c = absurd c.says
 next_by s Is B seen old new scan scan' Other c = c
 next_by s Is B seen old new scan scan' (Broken leaf) c = c
@@ -49,7 +50,8 @@ item_nears old new (Found extent leaf) h = h
 
 module _ (s : Super) (sums : Option TreeRoot) (chunk : Chunk) (x : Scene) (scan : Scan) where
   -- nothing was met yet
-  pub underway_first : IsReady x.rack x.vol.store scan → IsList x.list.list → ((B : Map) → IsOn scan.lo scan.hi B [] scan.place) → Underway s sums chunk x x scan scan 0
+  pub underway_first : IsReady x.rack x.vol.store scan → IsList x.list.list → ((B : Map) → IsOn scan.lo scan.hi B [] scan.place)
+      → Underway s sums chunk x x scan scan 0
   underway_first ready is on = record {
     reads = reads_none x.rack;
     sup = refl;
@@ -57,10 +59,12 @@ module _ (s : Super) (sums : Option TreeRoot) (chunk : Chunk) (x : Scene) (scan 
     ready = ready;
     done = [];
     lists = lists_none x.list is;
-    content = unread_on x.vol.store.layout (λ B. Between s sums chunk B x.vol.store x.vol.store scan scan 0 []) (λ B. between_none s sums chunk B x.vol.store scan (on B));
+    content = unread_on x.vol.store.layout (λ B. Between s sums chunk B x.vol.store x.vol.store scan scan 0 [])
+        (λ B. between_none s sums chunk B x.vol.store scan (on B));
   }
 
-  module _ (y : Scene) (at at' : Scan) (end : ℕ) (u : Underway s sums chunk x y scan at end) (rack : Seen) (vol : Volume) (sup : vol.sup ≡ y.vol.sup) (reads : OnlyReads y.rack rack)
+  module _ (y : Scene) (at at' : Scan) (end : ℕ) (u : Underway s sums chunk x y scan at end) (rack : Seen) (vol : Volume) (sup : vol.sup ≡ y.vol.sup)
+      (reads : OnlyReads y.rack rack)
       (others : SameLoans (without_leaf y.vol.store at) (without_leaf vol.store at')) (ready : IsReady rack vol.store at') where
     abbrev layout : Layout
     layout = x.vol.store.layout
@@ -92,13 +96,16 @@ module _ (s : Super) (sums : Option TreeRoot) (chunk : Chunk) (x : Scene) (scan 
       ready = ready;
       done = u.done;
       lists = u.lists;
-      content = joined Was (Next (Ok End)) (λ B. Follows (unread_by layout x.rack rack) no_part [] (exec B (items_met s sums chunk 0 (left_of B x.vol.store scan))) u.done (Ok end)) same
-          (λ B b n. between_ends s sums chunk B x.vol.store scan y.vol.store vol.store at at' end u.done b (unread_by layout x.rack rack) (n (wants_of b.before) b.on)) u.content t;
+      content = joined Was (Next (Ok End)) (λ B. Follows (unread_by layout x.rack rack) no_part []
+          (exec B (items_met s sums chunk 0 (left_of B x.vol.store scan))) u.done (Ok end)) same
+          (λ B b n. between_ends s sums chunk B x.vol.store scan y.vol.store vol.store at at' end u.done b (unread_by layout x.rack rack)
+          (n (wants_of b.before) b.on)) u.content t;
       cause = tt;
     }
 
     -- or came to a fault
-    pub scanned_fault : (f : TreeFault) → HasCause {A = NextExtent} y.vol.store.layout y.rack rack (Err f) → Tells y.vol.store.layout y.rack rack (Next (Err f)) → Scanned s sums chunk x (scene rack vol y.list) scan at' (Err (stop.Tree f))
+    pub scanned_fault : (f : TreeFault) → HasCause {A = NextExtent} y.vol.store.layout y.rack rack (Err f)
+        → Tells y.vol.store.layout y.rack rack (Next (Err f)) → Scanned s sums chunk x (scene rack vol y.list) scan at' (Err (stop.Tree f))
     scanned_fault f cause t = record {
       reads = reads_more u.reads reads;
       sup = sup ∙ u.sup;
@@ -106,9 +113,11 @@ module _ (s : Super) (sums : Option TreeRoot) (chunk : Chunk) (x : Scene) (scan 
       ready = ready;
       done = u.done;
       lists = tt;
-      content = joined Was (Next (Err f)) (λ B. Follows (unread_by layout x.rack rack) no_part [] (exec B (items_met s sums chunk 0 (left_of B x.vol.store scan))) u.done (Err (halt_of f))) same
+      content = joined Was (Next (Err f)) (λ B. Follows (unread_by layout x.rack rack) no_part []
+          (exec B (items_met s sums chunk 0 (left_of B x.vol.store scan))) u.done (Err (halt_of f))) same
           (λ B b n. between_halts s sums chunk B x.vol.store scan y.vol.store vol.store at at' end u.done b (unread_by layout x.rack rack) f
-          (follows_as Is (unread_by layout x.rack rack) weaker no_part (wants_of b.before) (exec B (left_of B y.vol.store at)) [] (Err (halt_of f)) (n (wants_of b.before) b.on))) u.content t;
+          (follows_as Is (unread_by layout x.rack rack) weaker no_part (wants_of b.before) (exec B (left_of B y.vol.store at)) [] (Err (halt_of f))
+          (n (wants_of b.before) b.on))) u.content t;
       cause = stop_cause_since {C = ℕ} rack layout y.vol.store.layout (Err (stop.Tree f)) same u.reads (tree_cause y.vol.store.layout y.rack rack f cause);
     }
 
@@ -127,7 +136,8 @@ module _ (s : Super) (sums : Option TreeRoot) (chunk : Chunk) (x : Scene) (scan 
       }
 
       -- one that breaks its form
-      pub scanned_broken : (leaf : ℕ) → Tells y.vol.store.layout y.rack rack (Next (Ok (Broken leaf))) → Scanned s sums chunk x (scene rack vol y.list) scan at' (Err (stop.Tree (tree.Malformed leaf)))
+      pub scanned_broken : (leaf : ℕ) → Tells y.vol.store.layout y.rack rack (Next (Ok (Broken leaf)))
+          → Scanned s sums chunk x (scene rack vol y.list) scan at' (Err (stop.Tree (tree.Malformed leaf)))
       scanned_broken leaf t = record {
         reads = reads_more u.reads reads;
         sup = sup ∙ u.sup;
@@ -135,9 +145,11 @@ module _ (s : Super) (sums : Option TreeRoot) (chunk : Chunk) (x : Scene) (scan 
         ready = ready;
         done = u.done ++ [];
         lists = tt;
-        content = joined Was (Next (Ok (Broken leaf))) (λ B. Follows (unread_by layout x.rack rack) no_part [] (exec B (items_met s sums chunk 0 (left_of B x.vol.store scan))) (u.done ++ []) (Err (halt_of (tree.Malformed leaf)))) same
+        content = joined Was (Next (Ok (Broken leaf))) (λ B. Follows (unread_by layout x.rack rack) no_part []
+            (exec B (items_met s sums chunk 0 (left_of B x.vol.store scan))) (u.done ++ []) (Err (halt_of (tree.Malformed leaf)))) same
             (λ B b n. let c = n (wants_of b.before) b.on in
-            between_stops s sums chunk B x.vol.store scan y.vol.store vol.store at at' end u.done b c.item c.gives None leaf c.says.0 c.says.1 c.says.2 (unread_by layout x.rack rack) (halt_of (tree.Malformed leaf)) [] (refl, refl)) u.content t;
+            between_stops s sums chunk B x.vol.store scan y.vol.store vol.store at at' end u.done b c.item c.gives None leaf c.says.0 c.says.1
+            c.says.2 (unread_by layout x.rack rack) (halt_of (tree.Malformed leaf)) [] (refl, refl)) u.content t;
         cause = tt;
       }
 
@@ -147,7 +159,8 @@ module _ (s : Super) (sums : Option TreeRoot) (chunk : Chunk) (x : Scene) (scan 
 
         -- what is known of the item
         abbrev Here : Map → Type 0
-        Here B = (b : Between s sums chunk B x.vol.store y.vol.store scan at end u.done) × Comes s B (wants_of b.before) y.vol.store vol.store at at' (Found extent leaf)
+        Here B = (b : Between s sums chunk B x.vol.store y.vol.store scan at end u.done)
+            × Comes s B (wants_of b.before) y.vol.store vol.store at at' (Found extent leaf)
 
         here : Tells layout x.rack rack Here
         here = joined Was (Next (Ok (Found extent leaf))) Here same (λ B b n. (b, n (wants_of b.before) b.on)) u.content t
@@ -167,8 +180,10 @@ module _ (s : Super) (sums : Option TreeRoot) (chunk : Chunk) (x : Scene) (scan 
           ready = ready_same rack z.rack vol.store z.vol.store at' g.volume.store g.serves ready;
           done = u.done ++ g.done;
           lists = lists_then x.list y.list z.list u.done g.done u.lists g.lists;
-          content = joined Here (λ B. Follows (unread_by vol.store.layout rack z.rack) no_part [] (exec B treated) g.done (Ok end')) (λ B. Between s sums chunk B x.vol.store z.vol.store scan at' end' (u.done ++ g.done)) deeper
-              (λ B h f. between_extent s sums chunk B x.vol.store scan y.vol.store vol.store at at' end u.done h.0 h.1.item h.1.gives (Some extent) leaf h.1.says.0 h.1.says.1 h.1.says.2 (unread_by vol.store.layout rack z.rack) z.vol.store end' g.done g.volume.store lo hi f) here g.content;
+          content = joined Here (λ B. Follows (unread_by vol.store.layout rack z.rack) no_part [] (exec B treated) g.done (Ok end'))
+              (λ B. Between s sums chunk B x.vol.store z.vol.store scan at' end' (u.done ++ g.done)) deeper
+              (λ B h f. between_extent s sums chunk B x.vol.store scan y.vol.store vol.store at at' end u.done h.0 h.1.item h.1.gives (Some extent)
+              leaf h.1.says.0 h.1.says.1 h.1.says.2 (unread_by vol.store.layout rack z.rack) z.vol.store end' g.done g.volume.store lo hi f) here g.content;
         }
 
         -- an extent whose blocks were not listed to their end
@@ -180,8 +195,12 @@ module _ (s : Super) (sums : Option TreeRoot) (chunk : Chunk) (x : Scene) (scan 
           ready = ready_same rack z.rack vol.store z.vol.store at' g.volume.store g.serves ready;
           done = u.done ++ g.done;
           lists = tt;
-          content = joined Here (λ B. Follows (unread_by vol.store.layout rack z.rack) no_part [] (exec B treated) g.done (Err (stop_halt e))) (λ B. Follows (unread_by layout x.rack z.rack) no_part [] (exec B (items_met s sums chunk 0 (left_of B x.vol.store scan))) (u.done ++ g.done) (Err (stop_halt e))) deeper
-              (λ B h f. between_stops s sums chunk B x.vol.store scan y.vol.store vol.store at at' end u.done h.0 h.1.item h.1.gives (Some extent) leaf h.1.says.0 h.1.says.1 h.1.says.2 (unread_by layout x.rack z.rack) (stop_halt e) g.done
-              (follows_as (unread_by vol.store.layout rack z.rack) (unread_by layout x.rack z.rack) later no_part [] (exec B treated) g.done (Err (stop_halt e)) f)) here g.content;
+          content = joined Here (λ B. Follows (unread_by vol.store.layout rack z.rack) no_part [] (exec B treated) g.done (Err (stop_halt e)))
+              (λ B. Follows (unread_by layout x.rack z.rack) no_part [] (exec B (items_met s sums chunk 0 (left_of B x.vol.store scan)))
+              (u.done ++ g.done) (Err (stop_halt e))) deeper
+              (λ B h f. between_stops s sums chunk B x.vol.store scan y.vol.store vol.store at at' end u.done h.0 h.1.item h.1.gives (Some extent)
+              leaf h.1.says.0 h.1.says.1 h.1.says.2 (unread_by layout x.rack z.rack) (stop_halt e) g.done
+              (follows_as (unread_by vol.store.layout rack z.rack) (unread_by layout x.rack z.rack) later no_part [] (exec B treated) g.done
+              (Err (stop_halt e)) f)) here g.content;
           cause = stop_cause_since {C = ℕ} z.rack layout vol.store.layout (Err e) deeper (reads_more u.reads reads) g.cause;
         }

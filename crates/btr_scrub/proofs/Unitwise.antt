@@ -1,5 +1,7 @@
 -- The checked blocks of a sound filesystem have a position, and are apart.
-use Rattle.std.proofs.Common.{◌≡◌, ◌⊎◌, ℕ, zero, suc, ◌+◌, ◌-◌, ◌*◌, ◌/◌, ◌%◌, ◌^◌, ◌<◌, ◌≤◌, Bool, true, false, not, cond, ◌&&◌, ◌||◌, eqb, leb, ltb, is_some, List, [], ◌∷◌, ◌++◌, map, drop, slice_get, Option, Some, None, Result, Ok, Err, IsOk, refl, sym, ap, ◌∙◌, subst, inl, inr, arith, append-nil}
+use Rattle.std.proofs.Common.{◌≡◌, ◌⊎◌, ℕ, zero, suc, ◌+◌, ◌-◌, ◌*◌, ◌/◌, ◌%◌, ◌^◌, ◌<◌, ◌≤◌, Bool, true, false, not, cond, ◌&&◌, ◌||◌, eqb, leb, ltb, is_some}
+use Rattle.std.proofs.Common.{List, [], ◌∷◌, ◌++◌, map, drop, slice_get, Option, Some, None, Result, Ok, Err, IsOk, refl, sym, ap, ◌∙◌, subst, inl, inr, arith}
+use Rattle.std.proofs.Common.{append-nil}
 use Rattle.std.proofs.lemmas.Bool.{false≢true, and_from, and_parts, eqb-true, leb-true, ltb-true, le-leb, lt-ltb}
 use Rattle.std.proofs.lemmas.List.{drop-drop}
 use Rattle.std.proofs.lemmas.Option.{same_Some}
@@ -35,7 +37,8 @@ use Rattle.btr_volume.specs.declared.root.TreeRoot.{TreeRoot}
 use Rattle.btr_walk.specs.Reading.{Map}
 use Rattle.btr_scrub.specs.Gathering.{checked_among}
 use Rattle.btr_scrub.specs.Order.{AreApart}
-use Rattle.btr_scrub.specs.Units.{Checked, Met, Unchecked, blocks_of, extent_met, extent_of, if_stated, in_chunk, in_chunks, units_in, with_extents, is_crossing, is_extent, is_malformed, item_met, sector, sector_met, sectors, stated_extent}
+use Rattle.btr_scrub.specs.Units.{Checked, Met, Unchecked, blocks_of, extent_met, extent_of, if_stated, in_chunk, in_chunks, units_in, with_extents}
+use Rattle.btr_scrub.specs.Units.{is_crossing, is_extent, is_malformed, item_met, sector, sector_met, sectors, stated_extent}
 use Rattle.btr_scrub.specs.declared.extent.Extent.{Extent}
 use Rattle.btr_items.specs.ExtentItem.{extent_item_of}
 use Rattle.btr_items.specs.Item.{body_fits, form_of, item_fits}
@@ -55,7 +58,8 @@ module _ (lo hi : Key) where
   yields_all addr [] rest y = y
   yields_all addr (item ∷ items) rest y = by (is_within lo hi item) refl (yields_all addr items rest y)
     where
-      by : (b : Bool) → is_within lo hi item ≡ b → Yields Within (emit_all (items_within lo hi addr items) rest) → Yields Within (emit_all (map (tree_item addr) (cond b (item ∷ filter (is_within lo hi) items) (filter (is_within lo hi) items))) rest)
+      by : (b : Bool) → is_within lo hi item ≡ b → Yields Within (emit_all (items_within lo hi addr items) rest)
+          → Yields Within (emit_all (map (tree_item addr) (cond b (item ∷ filter (is_within lo hi) items) (filter (is_within lo hi) items))) rest)
       by true e r = ((and_parts (key_le lo item.key) (key_le item.key hi) e).0, r)
       by false e r = r
 
@@ -64,16 +68,19 @@ module _ (lo hi : Key) where
   yields_leaf spot rest (Some (Leaf items)) y = yields_all spot.addr items rest y
   yields_leaf spot rest (Some (Inner pointers)) y = tt
 
-  yields_over : (child : Spot → RangeProg → RangeProg) → ((spot : Spot) (rest : RangeProg) → Yields Within rest → Yields Within (child spot rest)) → (pointers : List KeyPointer) (up : Option Key) (rest : RangeProg) → Yields Within rest
+  yields_over : (child : Spot → RangeProg → RangeProg) → ((spot : Spot) (rest : RangeProg) → Yields Within rest → Yields Within (child spot rest))
+      → (pointers : List KeyPointer) (up : Option Key) (rest : RangeProg) → Yields Within rest
       → Yields Within (over lo hi child pointers up rest)
   yields_over child h [] up rest y = y
   yields_over child h (p ∷ ps) up rest y = by (meets lo hi p.key (up_of ps up)) (yields_over child h ps up rest y)
     where
-      by : (b : Bool) → Yields Within (over lo hi child ps up rest) → Yields Within (cond b (child (below p (up_of ps up)) (over lo hi child ps up rest)) (over lo hi child ps up rest))
+      by : (b : Bool) → Yields Within (over lo hi child ps up rest)
+          → Yields Within (cond b (child (below p (up_of ps up)) (over lo hi child ps up rest)) (over lo hi child ps up rest))
       by true r = h (below p (up_of ps up)) (over lo hi child ps up rest) r
       by false r = r
 
-  yields_inner : (child : Spot → RangeProg → RangeProg) → ((spot : Spot) (rest : RangeProg) → Yields Within rest → Yields Within (child spot rest)) → (spot : Spot) (rest : RangeProg) (o : Option Node) → Yields Within rest → Yields Within (range_inner lo hi child spot rest o)
+  yields_inner : (child : Spot → RangeProg → RangeProg) → ((spot : Spot) (rest : RangeProg) → Yields Within rest → Yields Within (child spot rest))
+      → (spot : Spot) (rest : RangeProg) (o : Option Node) → Yields Within rest → Yields Within (range_inner lo hi child spot rest o)
   yields_inner child h spot rest None y = tt
   yields_inner child h spot rest (Some (Leaf items)) y = tt
   yields_inner child h spot rest (Some (Inner pointers)) y = yields_over child h pointers spot.up rest y
@@ -91,7 +98,8 @@ module _ (lo hi : Key) where
 -- blocks that have a position, from an address on, each behind the one before, and up to another address
 abbrev pub AreBetween : Layout → ℕ → ℕ → List Want → Type 0
 AreBetween layout from to [] = from ≤ to
-AreBetween layout from to (want ∷ wants) = (from ≤ addr_of want) × IsOk (sought layout want) × AreBetween layout (addr_of want + len_of layout.setting want) to wants
+AreBetween layout from to (want ∷ wants) = (from ≤ addr_of want) × IsOk (sought layout want)
+    × AreBetween layout (addr_of want + len_of layout.setting want) to wants
 
 module _ (layout : Layout) where
   between_from : (a b c : ℕ) (ws : List Want) → a ≤ b → AreBetween layout b c ws → AreBetween layout a c ws
@@ -164,7 +172,8 @@ module _ (s : Super) (layout : Layout) (table : IsTable layout.chunks) (node : s
 
   -- an address in the chunk is held by it
   held_by : (addr : ℕ) → chunk.start ≤ addr → addr < chunk.start + chunk.length → holds chunk addr ≡ true
-  held_by addr from to = and_from (leb chunk.start addr) (ltb addr (chunk.start + chunk.length)) (le-leb chunk.start addr from) (lt-ltb addr (chunk.start + chunk.length) to)
+  held_by addr from to = and_from (leb chunk.start addr) (ltb addr (chunk.start + chunk.length)) (le-leb chunk.start addr from)
+      (lt-ltb addr (chunk.start + chunk.length) to)
 
   chunk_there : (addr : ℕ) → chunk.start ≤ addr → addr < chunk.start + chunk.length → chunk_at layout.chunks addr ≡ Some chunk
   chunk_there addr from to = find-first (λ c. holds c addr) layout.chunks number chunk there (held_by addr from to) (λ j c lt e. before j c lt e)
@@ -179,37 +188,46 @@ module _ (s : Super) (layout : Layout) (table : IsTable layout.chunks) (node : s
               absurd (omega (arith, ltb-true addr (c.start + c.length) p.1, (table.apart j number c chunk lt e there).0, from))
 
   -- a block that doesn't cross has a position
-  placed : (want : Want) → chunk.start ≤ addr_of want → addr_of want < chunk.start + chunk.length → crosses chunk (addr_of want) (len_of layout.setting want) ≡ false → IsOk (sought layout want)
+  placed : (want : Want) → chunk.start ≤ addr_of want → addr_of want < chunk.start + chunk.length
+      → crosses chunk (addr_of want) (len_of layout.setting want) ≡ false → IsOk (sought layout want)
   placed want from to fine =
       let at : sought layout want ≡ sought_at layout want chunk (cond true (cond false (Err map_fault.Crosses) (Ok (position chunk (addr_of want)))) (Err map_fault.Unmapped)) =
       ap (sought_in layout want) (chunk_there (addr_of want) from to)
-      ∙ ap (λ b. sought_at layout want chunk (cond b (cond (crosses chunk (addr_of want) (len_of layout.setting want)) (Err map_fault.Crosses) (Ok (position chunk (addr_of want)))) (Err map_fault.Unmapped))) (held_by (addr_of want) from to)
+      ∙ ap (λ b. sought_at layout want chunk (cond b (cond (crosses chunk (addr_of want) (len_of layout.setting want)) (Err map_fault.Crosses)
+      (Ok (position chunk (addr_of want)))) (Err map_fault.Unmapped))) (held_by (addr_of want) from to)
       ∙ ap (λ b. sought_at layout want chunk (cond true (cond b (Err map_fault.Crosses) (Ok (position chunk (addr_of want)))) (Err map_fault.Unmapped))) fine in
       subst IsOk (sym at) refl
 
   sector_fits : (addr : ℕ) → addr % 4096 ≡ 0 → chunk.start ≤ addr → addr + 4096 ≤ chunk.start + chunk.length → crosses chunk addr 4096 ≡ false
   sector_fits addr aligned from to =
-      both_false (ltb (chunk.start + chunk.length) (addr + 4096)) (is_striped chunk.profile && ltb 65536 ((addr - chunk.start) % 65536 + 4096)) (not_below (addr + 4096) (chunk.start + chunk.length) to)
-      (and_false (is_striped chunk.profile) (ltb 65536 ((addr - chunk.start) % 65536 + 4096)) (not_below ((addr - chunk.start) % 65536 + 4096) 65536 (omega (arith, aligned, f.aligned, from))))
+      both_false (ltb (chunk.start + chunk.length) (addr + 4096)) (is_striped chunk.profile && ltb 65536 ((addr - chunk.start) % 65536 + 4096))
+      (not_below (addr + 4096) (chunk.start + chunk.length) to)
+      (and_false (is_striped chunk.profile) (ltb 65536 ((addr - chunk.start) % 65536 + 4096))
+      (not_below ((addr - chunk.start) % 65536 + 4096) 65536 (omega (arith, aligned, f.aligned, from))))
 
-  one_sector : (addr : ℕ) → addr % 4096 ≡ 0 → chunk.start ≤ addr → addr + 4096 ≤ chunk.start + chunk.length → Ends B (sector s sums addr) (λ ys u. AreBetween layout addr (addr + 4096) (checked_among ys))
+  one_sector : (addr : ℕ) → addr % 4096 ≡ 0 → chunk.start ≤ addr → addr + 4096 ≤ chunk.start + chunk.length
+      → Ends B (sector s sums addr) (λ ys u. AreBetween layout addr (addr + 4096) (checked_among ys))
   one_sector addr aligned from to =
-      ends_looks B (sum_at (kind_in s) sums addr) (λ sum. Emit (sector_met addr sum) (Return tt)) (λ ys u. AreBetween layout addr (addr + 4096) (checked_among ys)) (λ sum u e. by sum)
+      ends_looks B (sum_at (kind_in s) sums addr) (λ sum. Emit (sector_met addr sum) (Return tt))
+      (λ ys u. AreBetween layout addr (addr + 4096) (checked_among ys)) (λ sum u e. by sum)
     where
       by : (sum : Option Sum) → AreBetween layout addr (addr + 4096) (checked_among (sector_met addr sum ∷ []))
       by None = omega arith
       by (Some sum) = (omega arith, placed (Sector addr sum) from (omega (arith, to)) (sector_fits addr aligned from to), omega arith)
 
-  pub all_sectors : (n addr : ℕ) → addr % 4096 ≡ 0 → chunk.start ≤ addr → addr + n * 4096 ≤ chunk.start + chunk.length → Ends B (sectors s sums n addr) (λ ys u. AreBetween layout addr (addr + n * 4096) (checked_among ys))
+  pub all_sectors : (n addr : ℕ) → addr % 4096 ≡ 0 → chunk.start ≤ addr → addr + n * 4096 ≤ chunk.start + chunk.length
+      → Ends B (sectors s sums n addr) (λ ys u. AreBetween layout addr (addr + n * 4096) (checked_among ys))
   all_sectors zero addr aligned from to = λ u e. omega arith
   all_sectors (suc n) addr aligned from to =
-      ends_bind B (sector s sums addr) (λ _. sectors s sums n (addr + 4096)) (λ ys u. AreBetween layout addr (addr + 4096) (checked_among ys)) (λ ys u. AreBetween layout addr (addr + suc n * 4096) (checked_among ys))
+      ends_bind B (sector s sums addr) (λ _. sectors s sums n (addr + 4096)) (λ ys u. AreBetween layout addr (addr + 4096) (checked_among ys))
+      (λ ys u. AreBetween layout addr (addr + suc n * 4096) (checked_among ys))
       (one_sector addr aligned from (omega (arith, to)))
       (λ u v e xs q.
       let rest = all_sectors n (addr + 4096) (omega (arith, aligned)) (omega (arith, from)) (omega (arith, to)) v e in
       let ys = steps_of (exec B (sectors s sums n (addr + 4096))).marks in
       subst (AreBetween layout addr (addr + suc n * 4096)) (sym (checked_more xs ys))
-      (between_more layout addr (addr + 4096) (addr + suc n * 4096) (checked_among xs) (checked_among ys) q (between_to layout (addr + 4096) (addr + 4096 + n * 4096) (addr + suc n * 4096) (checked_among ys) rest (omega arith))))
+      (between_more layout addr (addr + 4096) (addr + suc n * 4096) (checked_among xs) (checked_among ys) q
+      (between_to layout (addr + 4096) (addr + 4096 + n * 4096) (addr + suc n * 4096) (checked_among ys) rest (omega arith))))
 
   -- an extent that keeps the rules
   record IsSound (extent : Extent) : Type 0 where
@@ -219,14 +237,21 @@ module _ (s : Super) (layout : Layout) (table : IsTable layout.chunks) (node : s
     node_long : is_some extent.level ≡ true → extent.len ≡ s.nodesize
     uncrossed : is_some extent.level ≡ true → crosses chunk extent.addr extent.len ≡ false
 
-  all_blocks : (extent : Extent) → IsSound extent → (level : Option ℕ) → extent.level ≡ level → Ends B (blocks_of s sums extent level) (λ ys u. AreBetween layout extent.addr (extent.addr + extent.len) (checked_among ys))
+  all_blocks : (extent : Extent) → IsSound extent → (level : Option ℕ) → extent.level ≡ level
+      → Ends B (blocks_of s sums extent level) (λ ys u. AreBetween layout extent.addr (extent.addr + extent.len) (checked_among ys))
   all_blocks extent is (Some level) e = λ u _.
       let long = is.node_long (ap is_some e) in
-      let len : extent.len ≡ layout.setting.nodesize = long ∙ node in
-      (omega arith, placed (Tree extent.addr extent.generation level) is.from (omega (arith, is.to, long, some)) (subst (λ n. crosses chunk extent.addr n ≡ false) len (is.uncrossed (ap is_some e))), omega (arith, len))
+      let len : extent.len ≡ layout.setting.nodesize = long ∙ node in (
+        omega arith,
+        placed (Tree extent.addr extent.generation level) is.from (omega (arith, is.to, long, some))
+            (subst (λ n. crosses chunk extent.addr n ≡ false) len (is.uncrossed (ap is_some e))),
+        omega (arith, len),
+      )
   all_blocks extent is None e = λ u h.
       let n = extent.len / 4096 in
-      between_to layout extent.addr (extent.addr + n * 4096) (extent.addr + extent.len) (checked_among (steps_of (exec B (sectors s sums n extent.addr)).marks)) (all_sectors n extent.addr is.aligned is.from (omega (arith, is.to)) u h) (omega arith)
+      between_to layout extent.addr (extent.addr + n * 4096) (extent.addr + extent.len)
+      (checked_among (steps_of (exec B (sectors s sums n extent.addr)).marks))
+      (all_sectors n extent.addr is.aligned is.from (omega (arith, is.to)) u h) (omega arith)
 
   -- what holds of the blocks so far, behind an extent that ends at `end`
   pub record SoFar (xs : List Met) (end : ℕ) : Type 0 where
@@ -235,27 +260,36 @@ module _ (s : Super) (layout : Layout) (table : IsTable layout.chunks) (node : s
     pub low : to ≤ chunk.start + (end - chunk.start)
     pub high : to ≤ chunk.start + chunk.length
 
-  met_extent : (end leaf : ℕ) (extent : Extent) → (is_malformed s end extent ≡ false → is_crossing chunk extent ≡ false → IsSound extent × (end ≤ extent.addr)) → Ends B (extent_met s sums chunk end leaf (Some extent)) (λ ys end'. (xs : List Met) → SoFar xs end → SoFar (xs ++ ys) end')
+  met_extent : (end leaf : ℕ) (extent : Extent) → (is_malformed s end extent ≡ false → is_crossing chunk extent ≡ false → IsSound extent
+      × (end ≤ extent.addr)) → Ends B (extent_met s sums chunk end leaf (Some extent)) (λ ys end'. (xs : List Met) → SoFar xs end → SoFar (xs ++ ys) end')
   met_extent end leaf extent h = by (is_malformed s end extent) refl
     where
-      done : IsSound extent → end ≤ extent.addr → Ends B (bind (blocks_of s sums extent extent.level) (λ _. Return (extent.addr + extent.len))) (λ ys end'. (xs : List Met) → SoFar xs end → SoFar (xs ++ ys) end')
+      done : IsSound extent → end ≤ extent.addr → Ends B (bind (blocks_of s sums extent extent.level) (λ _. Return (extent.addr + extent.len)))
+          (λ ys end'. (xs : List Met) → SoFar xs end → SoFar (xs ++ ys) end')
       done is le =
-          ends_bind B (blocks_of s sums extent extent.level) (λ _. Return (extent.addr + extent.len)) (λ ys u. AreBetween layout extent.addr (extent.addr + extent.len) (checked_among ys)) (λ ys end'. (xs : List Met) → SoFar xs end → SoFar (xs ++ ys) end')
+          ends_bind B (blocks_of s sums extent extent.level) (λ _. Return (extent.addr + extent.len))
+          (λ ys u. AreBetween layout extent.addr (extent.addr + extent.len) (checked_among ys))
+          (λ ys end'. (xs : List Met) → SoFar xs end → SoFar (xs ++ ys) end')
           (all_blocks extent is extent.level refl)
           (λ u end' e ys q xs so. subst (λ z. SoFar (xs ++ (ys ++ [])) z) (same_value (extent.addr + extent.len) end' e) (subst (λ zs. SoFar (xs ++ zs) (extent.addr + extent.len)) (sym (append-nil ys)) (record {
             to = extent.addr + extent.len;
             between = subst (AreBetween layout chunk.start (extent.addr + extent.len)) (sym (checked_more xs ys))
-                (between_more layout chunk.start so.to (extent.addr + extent.len) (checked_among xs) (checked_among ys) so.between (between_from layout so.to extent.addr (extent.addr + extent.len) (checked_among ys) (omega (arith, so.low, is.from, le)) q));
+                (between_more layout chunk.start so.to (extent.addr + extent.len) (checked_among xs) (checked_among ys) so.between
+                (between_from layout so.to extent.addr (extent.addr + extent.len) (checked_among ys) (omega (arith, so.low, is.from, le)) q));
             low = omega (arith, is.from);
             high = is.to;
           })))
 
-      or : (c : Bool) → is_malformed s end extent ≡ false → is_crossing chunk extent ≡ c → Ends B (cond c (Stop (Crosses extent.addr)) (bind (blocks_of s sums extent extent.level) (λ _. Return (extent.addr + extent.len)))) (λ ys end'. (xs : List Met) → SoFar xs end → SoFar (xs ++ ys) end')
+      or : (c : Bool) → is_malformed s end extent ≡ false → is_crossing chunk extent ≡ c
+          → Ends B (cond c (Stop (Crosses extent.addr)) (bind (blocks_of s sums extent extent.level) (λ _. Return (extent.addr + extent.len))))
+          (λ ys end'. (xs : List Met) → SoFar xs end → SoFar (xs ++ ys) end')
       or true m e = λ a d. absurd (no_value a d)
       or false m e = done (h m e).0 (h m e).1
 
       by : (b : Bool) → is_malformed s end extent ≡ b
-          → Ends B (cond b (Stop (Malformed leaf)) (cond (is_crossing chunk extent) (Stop (Crosses extent.addr)) (bind (blocks_of s sums extent extent.level) (λ _. Return (extent.addr + extent.len))))) (λ ys end'. (xs : List Met) → SoFar xs end → SoFar (xs ++ ys) end')
+          → Ends B (cond b (Stop (Malformed leaf)) (cond (is_crossing chunk extent) (Stop (Crosses extent.addr))
+          (bind (blocks_of s sums extent extent.level) (λ _. Return (extent.addr + extent.len)))))
+          (λ ys end'. (xs : List Met) → SoFar xs end → SoFar (xs ++ ys) end')
       by true e = λ a d. absurd (no_value a d)
       by false e = or (is_crossing chunk extent) e refl
 
@@ -269,15 +303,18 @@ module _ (s : Super) (layout : Layout) (table : IsTable layout.chunks) (node : s
   in_order objectid kind offset e small few = let le = leb-true (key_number (key chunk.start 0 0)) (key_number (record { objectid = objectid; kind = kind; offset = offset })) e in omega (arith, le, small, few)
 
   -- whatever an extent's item states
-  extent_is : (item : TreeItem) (extent : Extent) (end : ℕ) → key_le (key chunk.start 0 0) item.key ≡ true → is_extent item.key ≡ true → extent_of s item ≡ Some extent → is_malformed s end extent ≡ false → is_crossing chunk extent ≡ false
+  extent_is : (item : TreeItem) (extent : Extent) (end : ℕ) → key_le (key chunk.start 0 0) item.key ≡ true → is_extent item.key ≡ true
+      → extent_of s item ≡ Some extent → is_malformed s end extent ≡ false → is_crossing chunk extent ≡ false
       → IsSound extent × (end ≤ extent.addr)
   extent_is item extent end lo is e fine uncrossed = by_fits (item_fits (kind_in s) item.key item.body) refl e
     where
       parts : (ltb extent.addr end ≡ false) × ((is_some extent.level && not (eqb extent.len s.nodesize)) ≡ false)
       parts = or_parts (ltb extent.addr end) (is_some extent.level && not (eqb extent.len s.nodesize)) fine
 
-      crossings : (ltb (chunk.start + chunk.length) (extent.addr + extent.len) ≡ false) × ((is_some extent.level && crosses chunk extent.addr extent.len) ≡ false)
-      crossings = or_parts (ltb (chunk.start + chunk.length) (extent.addr + extent.len)) (is_some extent.level && crosses chunk extent.addr extent.len) uncrossed
+      crossings : (ltb (chunk.start + chunk.length) (extent.addr + extent.len) ≡ false)
+          × ((is_some extent.level && crosses chunk extent.addr extent.len) ≡ false)
+      crossings = or_parts (ltb (chunk.start + chunk.length) (extent.addr + extent.len))
+          (is_some extent.level && crosses chunk extent.addr extent.len) uncrossed
 
       ends : extent.addr + extent.len ≤ chunk.start + chunk.length
       ends = not_above (chunk.start + chunk.length) (extent.addr + extent.len) crossings.0
@@ -288,13 +325,15 @@ module _ (s : Super) (layout : Layout) (table : IsTable layout.chunks) (node : s
           aligned = aligned;
           from = from;
           to = ends;
-          node_long = λ l. eqb-true extent.len s.nodesize (not_not (eqb extent.len s.nodesize) (left_true (is_some extent.level) (not (eqb extent.len s.nodesize)) l parts.1));
+          node_long = λ l. eqb-true extent.len s.nodesize (not_not (eqb extent.len s.nodesize)
+              (left_true (is_some extent.level) (not (eqb extent.len s.nodesize)) l parts.1));
           uncrossed = λ l. left_true (is_some extent.level) (crosses chunk extent.addr extent.len) l crossings.1;
         },
         not_above extent.addr end parts.0,
       )
 
-      by_read : (r : Result ExtentItem ItemFault) → if_stated s.nodesize item.key r ≡ Some extent → key_fits item.key ≡ true → IsSound extent × (end ≤ extent.addr)
+      by_read : (r : Result ExtentItem ItemFault) → if_stated s.nodesize item.key r ≡ Some extent → key_fits item.key ≡ true → IsSound extent
+          × (end ≤ extent.addr)
       by_read (Err x) e fit = cc
       by_read (Ok x) e fit =
           let same : stated_extent s.nodesize item.key x ≡ extent = same_Some (stated_extent s.nodesize item.key x) extent e in
@@ -321,28 +360,35 @@ module _ (s : Super) (layout : Layout) (table : IsTable layout.chunks) (node : s
                 sound_at (ap (λ n. n % 4096) (sym addr) ∙ aligned) (omega (arith, from, addr))
           ]
 
-      by_fits : (b : Bool) → item_fits (kind_in s) item.key item.body ≡ b → cond b (if_stated s.nodesize item.key (extent_item_of item.key.kind item.body)) None ≡ Some extent → IsSound extent × (end ≤ extent.addr)
+      by_fits : (b : Bool) → item_fits (kind_in s) item.key item.body ≡ b
+          → cond b (if_stated s.nodesize item.key (extent_item_of item.key.kind item.body)) None ≡ Some extent → IsSound extent × (end ≤ extent.addr)
       by_fits false q e = cc
-      by_fits true q e = by_read (extent_item_of item.key.kind item.body) e (and_parts (key_fits item.key) (body_fits (form_of item.key.kind) (kind_in s) item.key item.body) q).0
+      by_fits true q e = by_read (extent_item_of item.key.kind item.body) e
+          (and_parts (key_fits item.key) (body_fits (form_of item.key.kind) (kind_in s) item.key item.body) q).0
 
-  one_item : (end : ℕ) (item : TreeItem) → key_le (key chunk.start 0 0) item.key ≡ true → Ends B (item_met s sums chunk end item) (λ ys end'. (xs : List Met) → SoFar xs end → SoFar (xs ++ ys) end')
+  one_item : (end : ℕ) (item : TreeItem) → key_le (key chunk.start 0 0) item.key ≡ true
+      → Ends B (item_met s sums chunk end item) (λ ys end'. (xs : List Met) → SoFar xs end → SoFar (xs ++ ys) end')
   one_item end item lo = by (is_extent item.key) refl
     where
-      met : is_extent item.key ≡ true → (o : Option Extent) → extent_of s item ≡ o → Ends B (extent_met s sums chunk end item.leaf o) (λ ys end'. (xs : List Met) → SoFar xs end → SoFar (xs ++ ys) end')
+      met : is_extent item.key ≡ true → (o : Option Extent) → extent_of s item ≡ o
+          → Ends B (extent_met s sums chunk end item.leaf o) (λ ys end'. (xs : List Met) → SoFar xs end → SoFar (xs ++ ys) end')
       met is None e = λ a d. absurd (no_value a d)
       met is (Some extent) e = met_extent end item.leaf extent (λ fine uncrossed. extent_is item extent end lo is e fine uncrossed)
 
-      by : (b : Bool) → is_extent item.key ≡ b → Ends B (cond b (extent_met s sums chunk end item.leaf (extent_of s item)) (Return end)) (λ ys end'. (xs : List Met) → SoFar xs end → SoFar (xs ++ ys) end')
+      by : (b : Bool) → is_extent item.key ≡ b → Ends B (cond b (extent_met s sums chunk end item.leaf (extent_of s item)) (Return end))
+          (λ ys end'. (xs : List Met) → SoFar xs end → SoFar (xs ++ ys) end')
       by true is = met is (extent_of s item) refl
       by false is = λ end' e xs so. subst (λ z. SoFar (xs ++ []) z) (same_value end end' e) (subst (λ zs. SoFar zs end) (sym (append-nil xs)) so)
 
   -- the blocks of the chunk lie in it, one behind another
-  pub chunk_ends : (extents : TreeRoot) → Ends B (in_chunk s sums chunk extents) (λ ys u. AreBetween layout chunk.start (chunk.start + chunk.length) (checked_among ys))
+  pub chunk_ends : (extents : TreeRoot) → Ends B (in_chunk s sums chunk extents)
+      (λ ys u. AreBetween layout chunk.start (chunk.start + chunk.length) (checked_among ys))
   chunk_ends extents = λ end e.
       let lo = key chunk.start 0 0 in
       let hi = key (chunk.start + chunk.length - 1) 255 last in
       let all = each_ends B (item_met s sums chunk) (Within lo hi) SoFar one_item (range lo hi extents.place) (yields_range lo hi extents.place) 0 end e [] (record { to = chunk.start; between = omega arith; low = omega arith; high = omega arith }) in
-      between_to layout chunk.start all.to (chunk.start + chunk.length) (checked_among (steps_of (exec B (in_chunk s sums chunk extents)).marks)) all.between all.high
+      between_to layout chunk.start all.to (chunk.start + chunk.length) (checked_among (steps_of (exec B (in_chunk s sums chunk extents)).marks))
+      all.between all.high
 
 -- ---- all chunks
 
@@ -357,22 +403,27 @@ tail_at xs i x ys e = sym (drop-drop 1 i xs) ∙ ap (drop 1) e
 
 -- the chunks from one on, in the order of the table
 module _ (s : Super) (layout : Layout) (table : IsTable layout.chunks) (node : s.nodesize ≡ layout.setting.nodesize) (some : 0 < s.nodesize) (B : Map) where
-  chunks_end : (sums : Option TreeRoot) (extents : TreeRoot) (chunks : List Chunk) (i from : ℕ) → drop i layout.chunks ≡ chunks → ((j : ℕ) (c : Chunk) → i ≤ j → slice_get layout.chunks j ≡ Some c → from ≤ c.start)
+  chunks_end : (sums : Option TreeRoot) (extents : TreeRoot) (chunks : List Chunk) (i from : ℕ) → drop i layout.chunks ≡ chunks
+      → ((j : ℕ) (c : Chunk) → i ≤ j → slice_get layout.chunks j ≡ Some c → from ≤ c.start)
       → Ends B (in_chunks s sums extents chunks) (λ ys u. AreApart layout from (checked_among ys))
   chunks_end sums extents [] i from e behind = λ u _. tt
   chunks_end sums extents (chunk ∷ chunks) i from e behind =
       let there = head_at layout.chunks i chunk chunks e in
-      ends_bind B (in_chunk s sums chunk extents) (λ _. in_chunks s sums extents chunks) (λ ys u. AreBetween layout chunk.start (chunk.start + chunk.length) (checked_among ys)) (λ ys u. AreApart layout from (checked_among ys))
+      ends_bind B (in_chunk s sums chunk extents) (λ _. in_chunks s sums extents chunks)
+      (λ ys u. AreBetween layout chunk.start (chunk.start + chunk.length) (checked_among ys)) (λ ys u. AreApart layout from (checked_among ys))
       (chunk_ends s layout table node some B sums i chunk there extents)
       (λ _ u d xs q.
       let ys = steps_of (exec B (in_chunks s sums extents chunks)).marks in
       let rest = chunks_end sums extents chunks (i + 1) (chunk.start + chunk.length) (tail_at layout.chunks i chunk chunks e) (λ j c le at. (table.apart i j chunk c (omega (arith, le)) there at).0) u d in
-      subst (AreApart layout from) (sym (checked_more xs ys)) (apart_from layout from chunk.start (checked_among xs ++ checked_among ys) (behind i chunk (omega arith) there) (apart_more layout chunk.start (chunk.start + chunk.length) (checked_among xs) (checked_among ys) q rest)))
+      subst (AreApart layout from) (sym (checked_more xs ys))
+      (apart_from layout from chunk.start (checked_among xs ++ checked_among ys) (behind i chunk (omega arith) there)
+      (apart_more layout chunk.start (chunk.start + chunk.length) (checked_among xs) (checked_among ys) q rest)))
 
   with_extents_end : (o : Option TreeRoot) → Ends B (with_extents s layout.chunks o) (λ ys u. AreApart layout 0 (checked_among ys))
   with_extents_end None = λ u e. absurd (no_value u e)
   with_extents_end (Some extents) =
-      ends_looks B (tree_of s 7) (λ sums. in_chunks s sums extents layout.chunks) (λ ys u. AreApart layout 0 (checked_among ys)) (λ sums. chunks_end sums extents layout.chunks 0 0 refl (λ j c le at. omega arith))
+      ends_looks B (tree_of s 7) (λ sums. in_chunks s sums extents layout.chunks) (λ ys u. AreApart layout 0 (checked_among ys))
+      (λ sums. chunks_end sums extents layout.chunks 0 0 refl (λ j c le at. omega arith))
 
   -- the checked blocks, where all could be met, have a position and are apart
   pub units_apart : Ends B (units_in s layout.chunks) (λ ys u. AreApart layout 0 (checked_among ys))

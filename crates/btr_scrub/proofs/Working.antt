@@ -1,5 +1,7 @@
 -- Chunk after chunk, each with its syncs.
-use Rattle.std.proofs.Common.{◌≡◌, ℕ, zero, suc, ◌+◌, ◌<◌, ◌≤◌, Bool, true, false, cond, ◌&&◌, eqb, leb, ltb, ◌/◌, List, [], ◌∷◌, ◌++◌, length, take, drop, slice_get, Option, Some, None, is_none, IfSome, IsSomeAnd, OnOk, Result, Ok, Err, refl, sym, ap, ◌∙◌, subst, inl, inr, arith, append-nil, append_assoc, add-one}
+use Rattle.std.proofs.Common.{◌≡◌, ℕ, zero, suc, ◌+◌, ◌<◌, ◌≤◌, Bool, true, false, cond, ◌&&◌, eqb, leb, ltb, ◌/◌, List, [], ◌∷◌, ◌++◌, length, take, drop}
+use Rattle.std.proofs.Common.{slice_get, Option, Some, None, is_none, IfSome, IsSomeAnd, OnOk, Result, Ok, Err, refl, sym, ap, ◌∙◌, subst, inl, inr, arith}
+use Rattle.std.proofs.Common.{append-nil, append_assoc, add-one}
 use Rattle.std.proofs.lemmas.Bool.{false≢true, and_parts, cases_lt, cases_order, eqb-true, leb-true, ltb-true}
 use Rattle.std.proofs.lemmas.Grind.{flat_map-append}
 use Rattle.std.proofs.lemmas.List.{take-append-drop}
@@ -21,18 +23,19 @@ use Rattle.btr_read.specs.declared.want.Want.{Want}
 use Rattle.btr_read.proofs.Fates.{sought_of}
 use Rattle.btr_read.proofs.Serving.{serves_as}
 use Rattle.btr_read.specs.Store.{Blocks}
-use Rattle.btr_mend.specs.Syncing.{AreMarked, OnlySyncs, Strands, SyncsMarked, WaitsBehindAll, plain}
-use Rattle.btr_mend.specs.Writes.{AreWritable, Images, Write, writes_if, write_on}
-use Rattle.btr_mend.specs.declared.mended.MendFault.{MendFault}
-use Rattle.btr_mend.specs.declared.mended.MendFault.TheVariants.{Image, Memory}
-use Rattle.btr_mend.proofs.Doing.{does_failed, does_reads}
-use Rattle.btr_mend.proofs.Syncs.{sync_held, sync_slots}
-use Rattle.btr_mend.proofs.Turning.{does_sync, marked_below}
+use Rattle.btr_scrub_copies.specs.Syncing.{AreMarked, OnlySyncs, Strands, SyncsMarked, WaitsBehindAll, plain}
+use Rattle.btr_scrub_copies.specs.Writes.{AreWritable, Images, Write, writes_if, write_on}
+use Rattle.btr_scrub_copies.specs.declared.mended.MendFault.{MendFault}
+use Rattle.btr_scrub_copies.specs.declared.mended.MendFault.TheVariants.{Image, Memory}
+use Rattle.btr_scrub_copies.proofs.Doing.{does_failed, does_reads}
+use Rattle.btr_scrub_copies.proofs.Syncs.{sync_held, sync_slots}
+use Rattle.btr_scrub_copies.proofs.Turning.{does_sync, marked_below}
 use Rattle.btr_scrub.specs.Glue.{In}
 use Rattle.btr_scrub.specs.Leaves.{LiesInStripe}
 use Rattle.btr_scrub.specs.Order.{AreApart, targets}
 use Rattle.btr_scrub.specs.Repair.{is_in_chunk, is_in_row, ok_or_none, row_of, rows_in}
-use Rattle.btr_scrub.specs.Scrubbing.{CanMend, IsOfScrub, IsPastChunk, Scrubs, Works, all_count_for, all_writes_for, blocks_count, blocks_in, blocks_writes, chunk_count_for, chunk_writes_for, rows_count, rows_writes}
+use Rattle.btr_scrub.specs.Scrubbing.{CanMend, IsOfScrub, IsPastChunk, Scrubs, Works, all_count_for, all_writes_for, blocks_count, blocks_in, blocks_writes}
+use Rattle.btr_scrub.specs.Scrubbing.{chunk_count_for, chunk_writes_for, rows_count, rows_writes}
 use Rattle.btr_scrub.specs.declared.tally.Tally.{Tally}
 use Rattle.btr_scrub.proofs.Blockwise.{filter_none, fold_append, in_append, ok_of}
 use Rattle.btr_scrub.proofs.Firsts.{drop_one}
@@ -56,10 +59,12 @@ module _ (layout : Layout) (write : Bool) where
       false≢true (sym (among.1 (marked_below m range.slot marked)) ∙ marked))
 
   -- a chunk was mended, and its images synced
-  pub works_synced : (f : Images → List Write) (c : Images → Tally → Tally) (m m' n : List Bool) (a b z : Seen) (t u : Tally) (x : Unit {0}) (r : Result (Unit {0}) MendFault) → write ≡ true
+  pub works_synced : (f : Images → List Write) (c : Images → Tally → Tally) (m m' n : List Bool) (a b z : Seen) (t u : Tally) (x : Unit {0})
+      (r : Result (Unit {0}) MendFault) → write ≡ true
       → Scrubs layout write f c m m' a b t u (Ok x) → SyncsMarked m' n b z r → Works layout write f c a z t u r
   works_synced f c m m' n a b z t u x r writing h s = record {
-    does = recast (IsOfScrub layout) (λ i. writes_if write (f i) ++ []) (λ i. writes_if write (f i)) [] [] (plain a) (plain z) r (λ images e. append-nil (writes_if write (f images)))
+    does = recast (IsOfScrub layout) (λ i. writes_if write (f i) ++ []) (λ i. writes_if write (f i)) [] [] (plain a) (plain z) r
+        (λ images e. append-nil (writes_if write (f images)))
         (does_next (Unit {0}) (Unit {0}) (IsOfScrub layout) (λ i. writes_if write (f i)) (λ i. []) [] [] [] (plain a) (plain b) (plain z) x r (λ images e. refl)
         h.does (does_sync (LiesInStripe layout) m' n b z r s));
     counts = counted r;
@@ -85,7 +90,8 @@ module _ (layout : Layout) (write : Bool) where
       strands (Err Memory) k = absurd k
 
   -- a chunk was only read
-  pub works_read : (f : Images → List Write) (c : Images → Tally → Tally) (m m' : List Bool) (a b : Seen) (t u : Tally) (x : Unit {0}) → write ≡ false → Scrubs {A = Unit {0}} layout write f c m m' a b t u (Ok x) → Works {A = Unit {0}} layout write f c a b t u (Ok x)
+  pub works_read : (f : Images → List Write) (c : Images → Tally → Tally) (m m' : List Bool) (a b : Seen) (t u : Tally) (x : Unit {0}) → write ≡ false
+      → Scrubs {A = Unit {0}} layout write f c m m' a b t u (Ok x) → Works {A = Unit {0}} layout write f c a b t u (Ok x)
   works_read f c m m' a b t u x reading h = record {
     does = h.does;
     counts = h.counts;
@@ -95,7 +101,8 @@ module _ (layout : Layout) (write : Bool) where
   }
 
   -- a chunk was mended up to a halt
-  pub works_halted : (f : Images → List Write) (c : Images → Tally → Tally) (m m' : List Bool) (a b : Seen) (t u : Tally) (e : MendFault) → Scrubs {A = Unit {0}} layout write f c m m' a b t u (Err e) → Works {A = Unit {0}} layout write f c a b t u (Err e)
+  pub works_halted : (f : Images → List Write) (c : Images → Tally → Tally) (m m' : List Bool) (a b : Seen) (t u : Tally) (e : MendFault)
+      → Scrubs {A = Unit {0}} layout write f c m m' a b t u (Err e) → Works {A = Unit {0}} layout write f c a b t u (Err e)
   works_halted f c m m' a b t u e h = record {
     does = h.does;
     counts = tt;
@@ -107,9 +114,11 @@ module _ (layout : Layout) (write : Bool) where
   -- ---- one after another
 
   pub works_as : (f g : Images → List Write) (c d : Images → Tally → Tally) (a b : Seen) (t u : Tally) (r : Result (Unit {0}) MendFault)
-      → ((images : Images) → a.held ≡ Some images → (f images ≡ g images) × (c images t ≡ d images t)) → Works layout write f c a b t u r → Works layout write g d a b t u r
+      → ((images : Images) → a.held ≡ Some images → (f images ≡ g images) × (c images t ≡ d images t)) → Works layout write f c a b t u r
+      → Works layout write g d a b t u r
   works_as f g c d a b t u r same h = record {
-    does = recast (IsOfScrub layout) (λ i. writes_if write (f i)) (λ i. writes_if write (g i)) [] [] (plain a) (plain b) r (λ images e. ap (writes_if write) (same images e).0) h.does;
+    does = recast (IsOfScrub layout) (λ i. writes_if write (f i)) (λ i. writes_if write (g i)) [] [] (plain a) (plain b) r
+        (λ images e. ap (writes_if write) (same images e).0) h.does;
     counts = by r h.counts;
     synced = h.synced;
     stranded = h.stranded;
@@ -121,10 +130,13 @@ module _ (layout : Layout) (write : Bool) where
       by (Err x) k = tt
 
   pub works_then : (f g : Images → List Write) (c d : Images → Tally → Tally) (a b z : Seen) (t u v : Tally) (x : Unit {0}) (r : Result (Unit {0}) MendFault)
-      → IsUnmoved layout write f g d a.held → Works layout write f c a b t u (Ok x) → Works layout write g d b z u v r → Works layout write (λ i. f i ++ g i) (λ i y. d i (c i y)) a z t v r
+      → IsUnmoved layout write f g d a.held → Works layout write f c a b t u (Ok x) → Works layout write g d b z u v r
+      → Works layout write (λ i. f i ++ g i) (λ i y. d i (c i y)) a z t v r
   works_then f g c d a b z t u v x r same h k = record {
-    does = recast (IsOfScrub layout) (λ i. writes_if write (f i) ++ writes_if write (g i)) (λ i. writes_if write (f i ++ g i)) [] [] (plain a) (plain z) r (λ images e. if_append write (f images) (g images))
-        (does_next (Unit {0}) (Unit {0}) (IsOfScrub layout) (λ i. writes_if write (f i)) (λ i. writes_if write (g i)) [] [] [] (plain a) (plain b) (plain z) x r (λ images e. ap (writes_if write) (same images e).0) h.does k.does);
+    does = recast (IsOfScrub layout) (λ i. writes_if write (f i) ++ writes_if write (g i)) (λ i. writes_if write (f i ++ g i)) [] [] (plain a)
+        (plain z) r (λ images e. if_append write (f images) (g images))
+        (does_next (Unit {0}) (Unit {0}) (IsOfScrub layout) (λ i. writes_if write (f i)) (λ i. writes_if write (g i)) [] [] [] (plain a) (plain b)
+        (plain z) x r (λ images e. ap (writes_if write) (same images e).0) h.does k.does);
     counts = by r k.counts;
     synced = waits r k.synced;
     stranded = subst (λ never. Strands never z.never_synced r) h.stranded k.stranded;
@@ -142,9 +154,11 @@ module _ (layout : Layout) (write : Bool) where
       waits (Ok y) l = λ none. l (h.synced none)
       waits (Err y) l = tt
 
-  pub works_cut : (f g : Images → List Write) (c d : Images → Tally → Tally) (a b : Seen) (t u : Tally) (e : MendFault) → Works {A = Unit {0}} layout write f c a b t u (Err e) → Works {A = Unit {0}} layout write (λ i. f i ++ g i) d a b t u (Err e)
+  pub works_cut : (f g : Images → List Write) (c d : Images → Tally → Tally) (a b : Seen) (t u : Tally) (e : MendFault)
+      → Works {A = Unit {0}} layout write f c a b t u (Err e) → Works {A = Unit {0}} layout write (λ i. f i ++ g i) d a b t u (Err e)
   works_cut f g c d a b t u x h = record {
-    does = recast {A = Unit {0}} (IsOfScrub layout) (λ i. writes_if write (f i) ++ writes_if write (g i)) (λ i. writes_if write (f i ++ g i)) [] [] (plain a) (plain b) (Err x) (λ images e. if_append write (f images) (g images))
+    does = recast {A = Unit {0}} (IsOfScrub layout) (λ i. writes_if write (f i) ++ writes_if write (g i)) (λ i. writes_if write (f i ++ g i)) [] []
+        (plain a) (plain b) (Err x) (λ images e. if_append write (f images) (g images))
         (does_cut (Unit {0}) (Unit {0}) (IsOfScrub layout) (λ i. writes_if write (f i)) (λ i. writes_if write (g i)) [] [] (plain a) (plain b) x h.does);
     counts = tt;
     synced = tt;
@@ -188,12 +202,15 @@ module _ (kept : KeptColumns) (layout : Layout) (wants : List Want) where
     pub end : ℕ
     pub passed : (j : ℕ) (c : Chunk) → j < number → slice_get layout.chunks j ≡ Some c → c.start + c.length ≤ end
     pub apart : AreApart layout end left
-    pub done : Works {A = Unit {0}} layout write (all_writes_for kept layout (take number layout.chunks) wants) (all_count_for kept layout write (take number layout.chunks) wants) old new tally tally' (Ok tt)
+    pub done : Works {A = Unit {0}} layout write (all_writes_for kept layout (take number layout.chunks) wants)
+        (all_count_for kept layout write (take number layout.chunks) wants) old new tally tally' (Ok tt)
 
 module _ (kept : KeptColumns) (layout : Layout) (table : IsTable layout.chunks) (wants : List Want) where
   -- what is written in a chunk is so for the blocks that are left, where those past lie in none of its rows
-  pub left_for : (write : Bool) (chunk : Chunk) (past left : List Want) → wants ≡ past ++ left → ((t : Target) → In t (targets layout past) → is_in_chunk chunk t ≡ false) → (images : Images)
-      → (chunk_writes_for kept layout chunk left images ≡ chunk_writes_for kept layout chunk wants images) × ((x : Tally) → chunk_count_for kept layout write chunk left images x ≡ chunk_count_for kept layout write chunk wants images x)
+  pub left_for : (write : Bool) (chunk : Chunk) (past left : List Want) → wants ≡ past ++ left
+      → ((t : Target) → In t (targets layout past) → is_in_chunk chunk t ≡ false) → (images : Images)
+      → (chunk_writes_for kept layout chunk left images ≡ chunk_writes_for kept layout chunk wants images)
+      × ((x : Tally) → chunk_count_for kept layout write chunk left images x ≡ chunk_count_for kept layout write chunk wants images x)
   left_for write chunk past left split outside images =
       let both : targets layout wants ≡ targets layout past ++ targets layout left = ap (targets layout) split ∙ filter_map-append (λ w. ok_or_none (sought layout w)) past left in
       let blocks : blocks_in layout chunk wants ≡ blocks_in layout chunk left =
@@ -202,8 +219,12 @@ module _ (kept : KeptColumns) (layout : Layout) (table : IsTable layout.chunks) 
       ap (filter (is_in_row chunk r)) both ∙ filter-append (is_in_row chunk r) (targets layout past) (targets layout left)
       ∙ ap (λ xs. xs ++ filter (is_in_row chunk r) (targets layout left)) (filter_none (is_in_row chunk r) (targets layout past) (λ t i. ap (λ b. b && eqb t.at.row r) (outside t i)))) in
       let rs : rows_in kept (targets layout wants) chunk ≡ rows_in kept (targets layout left) chunk = ap (λ xs. cond (is_none (mirrors chunk)) xs []) (map_same (row_of kept (targets layout wants) chunk) (row_of kept (targets layout left) chunk) (range_with_len 0 (stripe_length chunk / 65536)) (λ r _. in_rows r)) in (
-        sym (ap (λ x. cond (is_none (mirrors chunk)) (rows_writes layout x images) (blocks_writes (blocks_in layout chunk wants) images)) rs ∙ ap (λ x. cond (is_none (mirrors chunk)) (rows_writes layout (rows_in kept (targets layout left) chunk) images) (blocks_writes x images)) blocks),
-        λ y. sym (ap (λ x. cond (is_none (mirrors chunk)) (rows_count layout write x images y) (blocks_count write (blocks_in layout chunk wants) images y)) rs ∙ ap (λ x. cond (is_none (mirrors chunk)) (rows_count layout write (rows_in kept (targets layout left) chunk) images y) (blocks_count write x images y)) blocks),
+        sym (ap (λ x. cond (is_none (mirrors chunk)) (rows_writes layout x images) (blocks_writes (blocks_in layout chunk wants) images)) rs
+            ∙ ap (λ x. cond (is_none (mirrors chunk)) (rows_writes layout (rows_in kept (targets layout left) chunk) images) (blocks_writes x images)) blocks),
+        λ y. sym (ap (λ x. cond (is_none (mirrors chunk)) (rows_count layout write x images y)
+            (blocks_count write (blocks_in layout chunk wants) images y)) rs
+            ∙ ap (λ x. cond (is_none (mirrors chunk)) (rows_count layout write (rows_in kept (targets layout left) chunk) images y)
+            (blocks_count write x images y)) blocks),
       )
 
   pub chunks_none : (write : Bool) (a : Seen) (tally : Tally) → AreApart layout 0 wants → ChunksPast kept layout wants write wants 0 a a tally tally
@@ -219,7 +240,8 @@ module _ (kept : KeptColumns) (layout : Layout) (table : IsTable layout.chunks) 
 
   module _ (number : ℕ) (chunk : Chunk) (there : slice_get layout.chunks number ≡ Some chunk) where
     -- what is left begins in the next chunk or behind it
-    pub begins_there : (left : List Want) (end : ℕ) → ((j : ℕ) (c : Chunk) → j < number → slice_get layout.chunks j ≡ Some c → c.start + c.length ≤ end) → AreApart layout end left → AreApart layout chunk.start left
+    pub begins_there : (left : List Want) (end : ℕ) → ((j : ℕ) (c : Chunk) → j < number → slice_get layout.chunks j ≡ Some c → c.start
+        + c.length ≤ end) → AreApart layout end left → AreApart layout chunk.start left
     begins_there [] end passed apart = tt
     begins_there (want ∷ rest) end passed apart =
         let t = ok_of (sought layout want) apart.1 in
@@ -238,17 +260,27 @@ module _ (kept : KeptColumns) (layout : Layout) (table : IsTable layout.chunks) 
         same_chunk : (c : Chunk) → Some c ≡ Some chunk → c ≡ chunk
         same_chunk c e = cc
 
-    module _ (write : Bool) (left left' : List Want) (a b z : Seen) (tally tally' tally'' : Tally) (h : ChunksPast kept layout wants write left number a b tally tally')
+    module _ (write : Bool) (left left' : List Want) (a b z : Seen) (tally tally' tally'' : Tally)
+        (h : ChunksPast kept layout wants write left number a b tally tally')
         (unmoved : IsUnmoved layout write (all_writes_for kept layout (take number layout.chunks) wants) (chunk_writes_for kept layout chunk wants) (chunk_count_for kept layout write chunk wants) a.held) where
-      both : (r : Result (Unit {0}) MendFault) → Works layout write (chunk_writes_for kept layout chunk left) (chunk_count_for kept layout write chunk left) b z tally' tally'' r
-          → Works layout write (λ i. all_writes_for kept layout (take number layout.chunks) wants i ++ chunk_writes_for kept layout chunk wants i) (λ i y. chunk_count_for kept layout write chunk wants i (all_count_for kept layout write (take number layout.chunks) wants i y)) a z tally tally'' r
+      both : (r : Result (Unit {0}) MendFault) → Works layout write (chunk_writes_for kept layout chunk left)
+          (chunk_count_for kept layout write chunk left) b z tally' tally'' r
+          → Works layout write (λ i. all_writes_for kept layout (take number layout.chunks) wants i ++ chunk_writes_for kept layout chunk wants i)
+          (λ i y. chunk_count_for kept layout write chunk wants i (all_count_for kept layout write (take number layout.chunks) wants i y)) a z
+          tally tally'' r
       both r one =
           let same = left_for write chunk h.past left h.split (λ t i. h.outside t number chunk i (omega arith) there) in
-          works_then layout write (all_writes_for kept layout (take number layout.chunks) wants) (chunk_writes_for kept layout chunk wants) (all_count_for kept layout write (take number layout.chunks) wants) (chunk_count_for kept layout write chunk wants) a b z tally tally' tally'' tt r unmoved h.done
-          (works_as layout write (chunk_writes_for kept layout chunk left) (chunk_writes_for kept layout chunk wants) (chunk_count_for kept layout write chunk left) (chunk_count_for kept layout write chunk wants) b z tally' tally'' r (λ images e. ((same images).0, (same images).1 tally')) one)
+          works_then layout write (all_writes_for kept layout (take number layout.chunks) wants) (chunk_writes_for kept layout chunk wants)
+          (all_count_for kept layout write (take number layout.chunks) wants) (chunk_count_for kept layout write chunk wants) a b z tally tally'
+          tally'' tt r unmoved h.done
+          (works_as layout write (chunk_writes_for kept layout chunk left) (chunk_writes_for kept layout chunk wants)
+          (chunk_count_for kept layout write chunk left) (chunk_count_for kept layout write chunk wants) b z tally' tally'' r
+          (λ images e. ((same images).0, (same images).1 tally')) one)
 
       -- one chunk more
-      pub chunks_more : IsPastChunk layout chunk left left' → Works layout write (chunk_writes_for kept layout chunk left) (chunk_count_for kept layout write chunk left) b z tally' tally'' (Ok (tt {0})) → ChunksPast kept layout wants write left' (number + 1) a z tally tally''
+      pub chunks_more : IsPastChunk layout chunk left left' → Works layout write (chunk_writes_for kept layout chunk left)
+          (chunk_count_for kept layout write chunk left) b z tally' tally'' (Ok (tt {0}))
+          → ChunksPast kept layout wants write left' (number + 1) a z tally tally''
       chunks_more p one = record {
         past = h.past ++ p.past;
         split = h.split ∙ ap (λ ws. h.past ++ ws) p.split ∙ sym (append_assoc h.past p.past left');
@@ -262,8 +294,10 @@ module _ (kept : KeptColumns) (layout : Layout) (table : IsTable layout.chunks) 
           | inr above ↦ let same : j ≡ number = omega (arith, lt, above) in omega (arith, ap (λ (c : Chunk). c.start + c.length) (same_chunk c (sym e ∙ ap (slice_get layout.chunks) same ∙ there)))
         ];
         apart = p.behind;
-        done = works_as layout write (λ i. all_writes_for kept layout (take number layout.chunks) wants i ++ chunk_writes_for kept layout chunk wants i) (all_writes_for kept layout (take (number + 1) layout.chunks) wants)
-            (λ i y. chunk_count_for kept layout write chunk wants i (all_count_for kept layout write (take number layout.chunks) wants i y)) (all_count_for kept layout write (take (number + 1) layout.chunks) wants) a z tally tally'' (Ok (tt {0}))
+        done = works_as layout write (λ i. all_writes_for kept layout (take number layout.chunks) wants i
+            ++ chunk_writes_for kept layout chunk wants i) (all_writes_for kept layout (take (number + 1) layout.chunks) wants)
+            (λ i y. chunk_count_for kept layout write chunk wants i (all_count_for kept layout write (take number layout.chunks) wants i y))
+            (all_count_for kept layout write (take (number + 1) layout.chunks) wants) a z tally tally'' (Ok (tt {0}))
             (λ images e. (sym (writes_one images), sym (counts_one images tally))) (both (Ok (tt {0})) one);
       }
         where
@@ -275,33 +309,49 @@ module _ (kept : KeptColumns) (layout : Layout) (table : IsTable layout.chunks) 
             where
               by : (b : Bool) → is_in_chunk c t ≡ b → is_in_chunk c t ≡ false
               by false q = q
-              by true q = absurd (omega (arith, (table.apart number k chunk c (omega (arith, le)) there e).0, (facts chunk (table.sound number chunk there).0).some, eqb-true t.chunk.start c.start q, ap (λ (x : Chunk). x.start) mine))
+              by true q = absurd (omega (
+                arith,
+                (table.apart number k chunk c (omega (arith, le)) there e).0,
+                (facts chunk (table.sound number chunk there).0).some,
+                eqb-true t.chunk.start c.start q,
+                ap (λ (x : Chunk). x.start) mine,
+              ))
 
-          writes_one : (images : Images) → all_writes_for kept layout (take (number + 1) layout.chunks) wants images ≡ all_writes_for kept layout (take number layout.chunks) wants images ++ chunk_writes_for kept layout chunk wants images
+          writes_one : (images : Images) → all_writes_for kept layout (take (number + 1) layout.chunks) wants images
+              ≡ all_writes_for kept layout (take number layout.chunks) wants images ++ chunk_writes_for kept layout chunk wants images
           writes_one images =
               ap (λ cs. all_writes_for kept layout cs wants images) (take_one layout.chunks number chunk there)
               ∙ flat_map-append (λ c. chunk_writes_for kept layout c wants images) (take number layout.chunks) (chunk ∷ [])
-              ∙ ap (λ ws. all_writes_for kept layout (take number layout.chunks) wants images ++ ws) (append-nil (chunk_writes_for kept layout chunk wants images))
+              ∙ ap (λ ws. all_writes_for kept layout (take number layout.chunks) wants images ++ ws)
+              (append-nil (chunk_writes_for kept layout chunk wants images))
 
-          counts_one : (images : Images) (x : Tally) → all_count_for kept layout write (take (number + 1) layout.chunks) wants images x ≡ chunk_count_for kept layout write chunk wants images (all_count_for kept layout write (take number layout.chunks) wants images x)
+          counts_one : (images : Images) (x : Tally) → all_count_for kept layout write (take (number + 1) layout.chunks) wants images x
+              ≡ chunk_count_for kept layout write chunk wants images (all_count_for kept layout write (take number layout.chunks) wants images x)
           counts_one images x =
               ap (λ cs. all_count_for kept layout write cs wants images x) (take_one layout.chunks number chunk there)
               ∙ fold_append (λ tally c. chunk_count_for kept layout write c wants images tally) x (take number layout.chunks) (chunk ∷ [])
 
       -- a halt in it
-      pub chunks_cut : (e : MendFault) → Works {A = Unit {0}} layout write (chunk_writes_for kept layout chunk left) (chunk_count_for kept layout write chunk left) b z tally' tally'' (Err e)
-          → Works {A = Unit {0}} layout write (all_writes_for kept layout layout.chunks wants) (all_count_for kept layout write layout.chunks wants) a z tally tally'' (Err e)
+      pub chunks_cut : (e : MendFault) → Works {A = Unit {0}} layout write (chunk_writes_for kept layout chunk left)
+          (chunk_count_for kept layout write chunk left) b z tally' tally'' (Err e)
+          → Works {A = Unit {0}} layout write (all_writes_for kept layout layout.chunks wants) (all_count_for kept layout write layout.chunks wants) a
+          z tally tally'' (Err e)
       chunks_cut x one =
           let rest = drop (number + 1) layout.chunks in
-          works_as layout write (λ i. (all_writes_for kept layout (take number layout.chunks) wants i ++ chunk_writes_for kept layout chunk wants i) ++ all_writes_for kept layout rest wants i) (all_writes_for kept layout layout.chunks wants)
+          works_as layout write (λ i. (all_writes_for kept layout (take number layout.chunks) wants i ++ chunk_writes_for kept layout chunk wants i)
+          ++ all_writes_for kept layout rest wants i) (all_writes_for kept layout layout.chunks wants)
           (all_count_for kept layout write layout.chunks wants) (all_count_for kept layout write layout.chunks wants) a z tally tally'' (Err x)
           (λ images e. (
-            sym (ap (λ cs. all_writes_for kept layout cs wants images) (split_at layout.chunks number chunk there) ∙ flat_map-append (λ c. chunk_writes_for kept layout c wants images) (take number layout.chunks) (chunk ∷ rest)
-                ∙ sym (append_assoc (all_writes_for kept layout (take number layout.chunks) wants images) (chunk_writes_for kept layout chunk wants images) (all_writes_for kept layout rest wants images))),
+            sym (ap (λ cs. all_writes_for kept layout cs wants images) (split_at layout.chunks number chunk there)
+                ∙ flat_map-append (λ c. chunk_writes_for kept layout c wants images) (take number layout.chunks) (chunk ∷ rest)
+                ∙ sym (append_assoc (all_writes_for kept layout (take number layout.chunks) wants images)
+                (chunk_writes_for kept layout chunk wants images) (all_writes_for kept layout rest wants images))),
             refl,
           ))
-          (works_cut layout write (λ i. all_writes_for kept layout (take number layout.chunks) wants i ++ chunk_writes_for kept layout chunk wants i) (all_writes_for kept layout rest wants)
-          (λ i y. chunk_count_for kept layout write chunk wants i (all_count_for kept layout write (take number layout.chunks) wants i y)) (all_count_for kept layout write layout.chunks wants) a z tally tally'' x (both (Err x) one))
+          (works_cut layout write (λ i. all_writes_for kept layout (take number layout.chunks) wants i ++ chunk_writes_for kept layout chunk wants i)
+          (all_writes_for kept layout rest wants)
+          (λ i y. chunk_count_for kept layout write chunk wants i (all_count_for kept layout write (take number layout.chunks) wants i y))
+          (all_count_for kept layout write layout.chunks wants) a z tally tally'' x (both (Err x) one))
 
 -- ---- what can be mended, behind syncs
 
@@ -310,7 +360,8 @@ pub some_and : {X : Type 0} (o : Option X) (P : X → Type 0) → IsSomeAnd o P 
 some_and None P h = absurd h
 some_and (Some x) P h = (x, refl, h)
 
-pub can_mend_synced : (write : Bool) (a b : Seen) (store : Blocks) (m n : List Bool) → CanMend write a store m → OnlySyncs a b → length n ≡ length m → CanMend write b store n
+pub can_mend_synced : (write : Bool) (a b : Seen) (store : Blocks) (m n : List Bool) → CanMend write a store m → OnlySyncs a b → length n ≡ length m
+    → CanMend write b store n
 can_mend_synced write a b store m n can only long =
     let slots = sync_slots a b only in
     record {
@@ -327,7 +378,8 @@ pub at_number : (layout : Layout) (i : ℕ) → i < length layout.chunks → (ch
 at_number layout i lt = at-below layout.chunks i lt
 
 -- nothing was done, as there was no memory
-pub works_nothing : (layout : Layout) (write : Bool) (f : Images → List Write) (c : Images → Tally → Tally) (a : Seen) (t : Tally) → Works {A = Unit {0}} layout write f c a a t t (Err Memory)
+pub works_nothing : (layout : Layout) (write : Bool) (f : Images → List Write) (c : Images → Tally → Tally) (a : Seen) (t : Tally)
+    → Works {A = Unit {0}} layout write f c a a t t (Err Memory)
 works_nothing layout write f c a t = record {
   does = does_failed (IsOfScrub layout) (Unit {0}) (Unit {0}) (λ i. writes_if write (f i)) [] (plain a) (plain a) Memory (record { same = refl; later = omega arith; same_shut = refl }) (record { faults = refl; fresh = refl; missed = refl; last = refl; opening = refl; shut = refl });
   counts = tt;

@@ -1,5 +1,6 @@
 -- The writes of a full stripe lie in wrong elements.
-use Rattle.std.proofs.Common.{◌≡◌, ◌⊎◌, ℕ, ◌+◌, ◌*◌, ◌<◌, Bool, true, false, not, ◌&&◌, ◌||◌, List, [], ◌∷◌, ◌++◌, map, length, slice_get, Option, Some, None, IsNone, IsSomeAnd, is_some, refl, sym, ap, ◌∙◌, subst, inl, inr, arith}
+use Rattle.std.proofs.Common.{◌≡◌, ◌⊎◌, ℕ, ◌+◌, ◌*◌, ◌<◌, Bool, true, false, not, ◌&&◌, ◌||◌, List, [], ◌∷◌, ◌++◌, map, length, slice_get, Option, Some, None}
+use Rattle.std.proofs.Common.{IsNone, IsSomeAnd, is_some, refl, sym, ap, ◌∙◌, subst, inl, inr, arith}
 use Rattle.std.proofs.lemmas.Bool.{false≢true, and_parts}
 use Rattle.std.proofs.lemmas.Option.{same_Some}
 use Rattle.std.specs.List.{filter_map, cons_option, flat_map, list_any, range_with_len}
@@ -20,20 +21,21 @@ use Rattle.btr_rack.specs.declared.place.Place.{Place as Range}
 use Rattle.btr_read.specs.Candidates.{Target, range_of, size_of}
 use Rattle.btr_read.specs.Layout.{Layout, device_in}
 use Rattle.btr_read.proofs.Ones.{in_below}
-use Rattle.btr_mend.specs.Blocks.{accepted, bad_parts, block_writes, is_good, is_sound, own_parts, written_over}
+use Rattle.btr_scrub_copies.specs.Blocks.{accepted, bad_parts, block_writes, is_good, is_sound, own_parts, written_over}
 use Rattle.btr_scrub.specs.Glue.{In}
 use Rattle.btr_scrub.specs.Repair.{covers}
 use Rattle.btr_scrub.specs.Right.{Committed, IsRight}
-use Rattle.btr_row.specs.Rows.{Row, column_of, differing, differs, element_with, is_decided, parities, parity_writes, range_in_element, row_writes, sector_write}
+use Rattle.btr_scrub_row.specs.Rows.{Row, column_of, differing, differs, element_with, is_decided, parities, parity_writes, range_in_element, row_writes}
+use Rattle.btr_scrub_row.specs.Rows.{sector_write}
 use Rattle.btr_scrub.specs.Staying.{IsInWrong, IsRowOf, RowWritesAreWrong}
 use Rattle.btr_scrub.specs.Survival.{AcceptsRight, IsParity, IsSoundRow, RightPasses}
-use Rattle.btr_row.proofs.Elements.{range_stands, stands_on, stripe-row}
+use Rattle.btr_scrub_row.proofs.Elements.{range_stands, stands_on, stripe-row}
 use Rattle.btr_scrub.proofs.Elements.{has_ranges}
 use Rattle.btr_scrub.proofs.Places.{covering}
 use Rattle.btr_scrub.proofs.Staying.{covered}
 use Rattle.btr_scrub.proofs.Wrong.{bad_block_is_wrong, differing_parity_is_wrong}
-use Rattle.btr_mend.proofs.Syncs.{passing_filter}
-use Rattle.btr_mend.specs.Writes.{Images, Write}
+use Rattle.btr_scrub_copies.proofs.Syncs.{passing_filter}
+use Rattle.btr_scrub_copies.specs.Writes.{Images, Write}
 
 -- ---- lists
 
@@ -41,7 +43,8 @@ pub any_append : {X : Type 0} (f : X → Bool) (xs ys : List X) → list_any f (
 any_append f [] ys h = inr h
 any_append f (x ∷ xs) ys h = by (f x) (list_any f xs) (any_append f xs ys) h
   where
-    by : (b c : Bool) → (list_any f (xs ++ ys) ≡ true → (c ≡ true) ⊎ (list_any f ys ≡ true)) → (b || list_any f (xs ++ ys)) ≡ true → ((b || c) ≡ true) ⊎ (list_any f ys ≡ true)
+    by : (b c : Bool) → (list_any f (xs ++ ys) ≡ true → (c ≡ true) ⊎ (list_any f ys ≡ true)) → (b || list_any f (xs ++ ys)) ≡ true → ((b || c) ≡ true)
+        ⊎ (list_any f ys ≡ true)
     by true c rest h = inl refl
     by false c rest h = rest h
 
@@ -56,16 +59,19 @@ any_flat f g (x ∷ xs) h = elim (any_append f (g x) (flat_map g xs) h) [
   | inr later ↦ let r = any_flat f g xs later in (r.0, inr r.1, r.2)
 ]
 
-pub any_filter_map : {X Y : Type 0} (f : Y → Bool) (g : X → Option Y) (xs : List X) → list_any f (filter_map g xs) ≡ true → (x : X) × In x xs × ((y : Y) × (g x ≡ Some y) × (f y ≡ true))
+pub any_filter_map : {X Y : Type 0} (f : Y → Bool) (g : X → Option Y) (xs : List X) → list_any f (filter_map g xs) ≡ true → (x : X) × In x xs
+    × ((y : Y) × (g x ≡ Some y) × (f y ≡ true))
 any_filter_map f g [] h = absurd (false≢true h)
 any_filter_map f g (x ∷ xs) h = by (g x) refl h (any_filter_map f g xs)
   where
-    by : (o : Option _) → g x ≡ o → list_any f (cons_option o (filter_map g xs)) ≡ true → (list_any f (filter_map g xs) ≡ true → (z : _) × In z xs × ((y : _) × (g z ≡ Some y) × (f y ≡ true)))
+    by : (o : Option _) → g x ≡ o → list_any f (cons_option o (filter_map g xs)) ≡ true
+        → (list_any f (filter_map g xs) ≡ true → (z : _) × In z xs × ((y : _) × (g z ≡ Some y) × (f y ≡ true)))
         → (z : _) × In z (x ∷ xs) × ((y : _) × (g z ≡ Some y) × (f y ≡ true))
     by None e h rest = let r = rest h in (r.0, inr r.1, r.2)
     by (Some y) e h rest = or (f y) refl h rest
       where
-        or : (b : Bool) → f y ≡ b → (b || list_any f (filter_map g xs)) ≡ true → (list_any f (filter_map g xs) ≡ true → (z : _) × In z xs × ((y : _) × (g z ≡ Some y) × (f y ≡ true)))
+        or : (b : Bool) → f y ≡ b → (b || list_any f (filter_map g xs)) ≡ true
+            → (list_any f (filter_map g xs) ≡ true → (z : _) × In z xs × ((y : _) × (g z ≡ Some y) × (f y ≡ true)))
             → (z : _) × In z (x ∷ xs) × ((y : _) × (g z ≡ Some y) × (f y ≡ true))
         or true t h rest = (x, inl refl, (y, e, t))
         or false t h rest = let r = rest h in (r.0, inr r.1, r.2)
@@ -81,7 +87,9 @@ mapped g (Some x) y e = (x, refl, same_Some (g x) y e)
 -- ---- one row
 
 module _ (images : Images) (layout : Layout) (C : Committed) (blocks : List Target) (row : Row) (slot off : ℕ) (table : IsTable layout.chunks) (is_row : IsRowOf layout blocks row) (sound : IsSoundRow images layout C row) where
-  wrong_at : (q : Part) → HasPart row.chunk.profile (length row.chunk.stripes) q → IsSomeAnd (range_in_element layout row q 0 65536) (λ range. covers slot off range ≡ true) → ¬ (IsRight images layout C row q) → IsInWrong images layout C blocks slot off
+  wrong_at : (q : Part) → HasPart row.chunk.profile (length row.chunk.stripes) q
+      → IsSomeAnd (range_in_element layout row q 0 65536) (λ range. covers slot off range ≡ true) → ¬ (IsRight images layout C row q)
+      → IsInWrong images layout C blocks slot off
   wrong_at q has covers wrong = record {
     row = row;
     is_row = is_row;
@@ -92,7 +100,8 @@ module _ (images : Images) (layout : Layout) (C : Committed) (blocks : List Targ
 
   -- a block's range in its own slice
   block_covers : (t : Target) (range : Range) → In t row.blocks → range_of t (part.Slice t.at.index) ≡ Some range → covers slot off range ≡ true
-      → (HasPart row.chunk.profile (length row.chunk.stripes) (part.Slice t.at.index)) × IsSomeAnd (range_in_element layout row (part.Slice t.at.index) 0 65536) (λ range. covers slot off range ≡ true)
+      → (HasPart row.chunk.profile (length row.chunk.stripes) (part.Slice t.at.index))
+      × IsSomeAnd (range_in_element layout row (part.Slice t.at.index) 0 65536) (λ range. covers slot off range ≡ true)
   block_covers t range among e c =
       let block = sound.blocks t among in
       let mine : HasPart t.chunk.profile (length t.chunk.stripes) (part.Slice t.at.index) = (subst IsNone (sym block.in_row.parity) refl, block.in_row.position.index) in
@@ -102,7 +111,8 @@ module _ (images : Images) (layout : Layout) (C : Committed) (blocks : List Targ
       let at = covering slot off (range_in r.slot (r.off + t.at.rest) (size_of t)) (ap (covers slot off) (sym same) ∙ c) in (
         has,
         subst (λ o. IsSomeAnd o (λ range. covers slot off range ≡ true)) (sym r.element)
-            (subst (λ s. covers slot off (range_in s r.off 65536) ≡ true) (sym at.0) (covered slot r.off 65536 off (omega (arith, at.1)) (omega (arith, at.2, block.lies.inside)))),
+            (subst (λ s. covers slot off (range_in s r.off 65536) ≡ true) (sym at.0)
+            (covered slot r.off 65536 off (omega (arith, at.1)) (omega (arith, at.2, block.lies.inside)))),
       )
 
   own_part : (t : Target) (q : Part) → mirrors t.chunk ≡ None → In q (own_parts t) → part.Slice t.at.index ≡ q
@@ -112,7 +122,8 @@ module _ (images : Images) (layout : Layout) (C : Committed) (blocks : List Targ
       by (inl e) = e
       by (inr h) = absurd h
 
-  of_block : (t : Target) (o : Option (List ℕ)) → In t row.blocks → RightPasses C t → list_any (λ (w : Write). covers slot off w.range) (option_map_or (written_over images t) o []) ≡ true → IsInWrong images layout C blocks slot off
+  of_block : (t : Target) (o : Option (List ℕ)) → In t row.blocks → RightPasses C t
+      → list_any (λ (w : Write). covers slot off w.range) (option_map_or (written_over images t) o []) ≡ true → IsInWrong images layout C blocks slot off
   of_block t None among pass h = absurd (false≢true h)
   of_block t (Some bytes) among pass h =
       let f = any_filter_map (λ (w : Write). covers slot off w.range) (λ q. option_map (λ range. record { range = range; bytes = bytes }) (range_of t q)) (bad_parts images t) h in
@@ -127,7 +138,8 @@ module _ (images : Images) (layout : Layout) (C : Committed) (blocks : List Targ
       wrong_at (part.Slice t.at.index) c.0 c.1 (bad_block_is_wrong images layout C row t sound among pass fails)
 
   -- a sector of a parity in its element
-  sector_covers : (q : Part) (column : ℕ) (range : Range) → HasPart row.chunk.profile (length row.chunk.stripes) q → column < 16 → range_in_element layout row q (column * 4096) 4096 ≡ Some range → covers slot off range ≡ true
+  sector_covers : (q : Part) (column : ℕ) (range : Range) → HasPart row.chunk.profile (length row.chunk.stripes) q → column < 16
+      → range_in_element layout row q (column * 4096) 4096 ≡ Some range → covers slot off range ≡ true
       → IsSomeAnd (range_in_element layout row q 0 65536) (λ range. covers slot off range ≡ true)
   sector_covers q column range has few e c =
       let at0 : Elements = record { row = row.number; index = 0; rest = 0 } in
@@ -148,7 +160,8 @@ module _ (images : Images) (layout : Layout) (C : Committed) (blocks : List Targ
       let is : range ≡ range_in s.device.slot behind.offset 4096 = same_Some range (range_in s.device.slot behind.offset 4096) (sym e ∙ piece) in
       let at = covering slot off (range_in s.device.slot behind.offset 4096) (ap (covers slot off) (sym is) ∙ c) in
       subst (λ o. IsSomeAnd o (λ range. covers slot off range ≡ true)) (sym whole)
-      (subst (λ n. covers slot off (range_in n place.offset 65536) ≡ true) (sym at.0) (covered slot place.offset 65536 off (omega (arith, at.1, offset, start)) (omega (arith, at.2, offset, start, few))))
+      (subst (λ n. covers slot off (range_in n place.offset 65536) ≡ true) (sym at.0)
+      (covered slot place.offset 65536 off (omega (arith, at.1, offset, start)) (omega (arith, at.2, offset, start, few))))
 
   of_parity : (q : Part) → IsParity q → HasPart row.chunk.profile (length row.chunk.stripes) q → ((t : Target) → In t row.blocks → AcceptsRight images C t)
       → list_any (λ (w : Write). covers slot off w.range) (parity_writes images layout row q) ≡ true → IsInWrong images layout C blocks slot off
@@ -160,7 +173,8 @@ module _ (images : Images) (layout : Layout) (C : Committed) (blocks : List Targ
       let both = and_parts (is_decided images layout row column) (differs images layout row q column) d.1 in
       let m = mapped (λ range. record { range = range; bytes = column_of column (element_with images layout (accepted images) row q) }) (range_in_element layout row q (column * 4096) 4096) f.2.0 f.2.1 in
       let cover : covers slot off m.0 ≡ true = ap (λ (w : Write). covers slot off w.range) m.2 ∙ f.2.2 in
-      wrong_at q has (sector_covers q column m.0 has few m.1 cover) (differing_parity_is_wrong images layout C row q column sound right parity few both.0 both.1)
+      wrong_at q has (sector_covers q column m.0 has few m.1 cover)
+      (differing_parity_is_wrong images layout C row q column sound right parity few both.0 both.1)
 
   parity_of : (p : Profile) (n : ℕ) (q : Part) → mirror_count p n ≡ None → In q (parities p) → IsParity q × HasPart p n q
   parity_of p n q none i = elim (without_copies p n none) [

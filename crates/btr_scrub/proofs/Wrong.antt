@@ -1,5 +1,6 @@
 -- What is to be written lies in wrong elements.
-use Rattle.std.proofs.Common.{◌≡◌, ◌⊎◌, ℕ, ◌+◌, ◌-◌, ◌*◌, ◌<◌, ◌≤◌, Bool, true, false, not, ◌&&◌, ◌||◌, eqb, ltb, List, [], ◌∷◌, map, length, get_or, slice_range, Option, Some, None, IfSome, is_some, refl, sym, ap, ◌∙◌, subst, inl, inr, arith}
+use Rattle.std.proofs.Common.{◌≡◌, ◌⊎◌, ℕ, ◌+◌, ◌-◌, ◌*◌, ◌<◌, ◌≤◌, Bool, true, false, not, ◌&&◌, ◌||◌, eqb, ltb, List, [], ◌∷◌, map, length, get_or}
+use Rattle.std.proofs.Common.{slice_range, Option, Some, None, IfSome, is_some, refl, sym, ap, ◌∙◌, subst, inl, inr, arith}
 use Rattle.std.proofs.lemmas.Bool.{false≢true, and_parts, cases_lt, lt-ltb}
 use Rattle.std.proofs.lemmas.List.{same_lists, length-map, get_or-map}
 use Rattle.std.proofs.lemmas.List.FromFn.{length-map-range_with_len, get_or-map-range_with_len}
@@ -17,18 +18,18 @@ use Rattle.btr_read.specs.Candidates.{Target, size_of, slice_count}
 use Rattle.btr_read.specs.Candidates as read
 use Rattle.btr_read.specs.Layout.{Layout}
 use Rattle.btr_read.specs.Want.{passes}
-use Rattle.btr_mend.specs.Blocks.{accepted}
+use Rattle.btr_scrub_copies.specs.Blocks.{accepted}
 use Rattle.btr_parity.specs.Laws.{ranges_of}
 use Rattle.btr_scrub.specs.Glue.{In}
 use Rattle.btr_scrub.specs.Right.{committed_for}
-use Rattle.btr_row.specs.Rows as rows
-use Rattle.btr_row.specs.Rows.{Row, blocks_at, column_of, element, element_with, meets, slice_with, slices_with, with_block}
+use Rattle.btr_scrub_row.specs.Rows as rows
+use Rattle.btr_scrub_row.specs.Rows.{Row, blocks_at, column_of, element, element_with, meets, slice_with, slices_with, with_block}
 use Rattle.btr_scrub.specs.Survival.{BadBlockIsWrong, DifferingParityIsWrong, IsParity}
 use Rattle.btr_scrub.proofs.Elements.{block_of_element}
 use Rattle.btr_parity.proofs.Ranges.{parity_of_ranges}
-use Rattle.btr_row.proofs.Pasted.{length-pasted, pasted-above, pasted-below, pasted-within}
+use Rattle.btr_scrub_row.proofs.Pasted.{length-pasted, pasted-above, pasted-below, pasted-within}
 use Rattle.btr_scrub.proofs.Survival.{block_there, at_slice, slice_there, some_of, of_filter, range_ext}
-use Rattle.btr_mend.specs.Writes.{Images}
+use Rattle.btr_scrub_copies.specs.Writes.{Images}
 
 -- a bad block's slice isn't right, since committed bytes pass
 pub bad_block_is_wrong : BadBlockIsWrong
@@ -57,13 +58,15 @@ all_at f (y ∷ xs) x h (inr i) = all_at f xs x (and_parts (f y) (list_all f xs)
 abbrev pub SameIn : ℕ → List ℕ → List ℕ → Type 0
 SameIn c xs ys = (i d : ℕ) → c * 4096 ≤ i → i < c * 4096 + 4096 → get_or xs i d ≡ get_or ys i d
 
-outside : (t : Target) (o : Option (List ℕ)) (xs : List ℕ) (i d : ℕ) → t.at.rest + size_of t ≤ length xs → IfSome o (IsSlice (size_of t)) → (i < t.at.rest) ⊎ (t.at.rest + size_of t ≤ i)
+outside : (t : Target) (o : Option (List ℕ)) (xs : List ℕ) (i d : ℕ) → t.at.rest + size_of t ≤ length xs → IfSome o (IsSlice (size_of t))
+    → (i < t.at.rest) ⊎ (t.at.rest + size_of t ≤ i)
     → get_or (option_map_or (pasted xs t.at.rest) o xs) i d ≡ get_or xs i d
 outside t None xs i d fits is out = refl
 outside t (Some b) xs i d fits is (inl lt) = pasted-below xs t.at.rest b (omega (arith, fits, is.long)) i d lt
 outside t (Some b) xs i d fits is (inr le) = pasted-above xs t.at.rest b (omega (arith, fits, is.long)) i d (omega (arith, le, is.long))
 
-inside : (t : Target) (o : Option (List ℕ)) (xs ys : List ℕ) (i d : ℕ) → t.at.rest + size_of t ≤ length xs → t.at.rest + size_of t ≤ length ys → IfSome o (IsSlice (size_of t))
+inside : (t : Target) (o : Option (List ℕ)) (xs ys : List ℕ) (i d : ℕ) → t.at.rest + size_of t ≤ length xs → t.at.rest + size_of t ≤ length ys
+    → IfSome o (IsSlice (size_of t))
     → t.at.rest ≤ i → i < t.at.rest + size_of t → get_or xs i d ≡ get_or ys i d
     → get_or (option_map_or (pasted xs t.at.rest) o xs) i d ≡ get_or (option_map_or (pasted ys t.at.rest) o ys) i d
 inside t None xs ys i d fx fy is le lt same = same
@@ -71,7 +74,8 @@ inside t (Some b) xs ys i d fx fy is le lt same =
     pasted-within xs t.at.rest b (omega (arith, fx, is.long)) i d le (omega (arith, lt, is.long))
     ∙ sym (pasted-within ys t.at.rest b (omega (arith, fy, is.long)) i d le (omega (arith, lt, is.long)))
 
-long_after : (t : Target) (o : Option (List ℕ)) (xs : List ℕ) → t.at.rest + size_of t ≤ length xs → IfSome o (IsSlice (size_of t)) → length (option_map_or (pasted xs t.at.rest) o xs) ≡ length xs
+long_after : (t : Target) (o : Option (List ℕ)) (xs : List ℕ) → t.at.rest + size_of t ≤ length xs → IfSome o (IsSlice (size_of t))
+    → length (option_map_or (pasted xs t.at.rest) o xs) ≡ length xs
 long_after t None xs fits is = refl
 long_after t (Some b) xs fits is = length-pasted xs t.at.rest b (omega (arith, fits, is.long))
 
@@ -83,7 +87,8 @@ module _ (images : Images) (layout : Layout) (g h : Target → Option (List ℕ)
     pub other : IfSome (h t) (IsSlice (size_of t))
     pub same : meets c t ≡ true → g t ≡ h t
 
-  step : (t : Target) (xs ys : List ℕ) → Agrees t → length xs ≡ 65536 → length ys ≡ 65536 → SameIn c xs ys → SameIn c (with_block images layout g xs t) (with_block images layout h ys t)
+  step : (t : Target) (xs ys : List ℕ) → Agrees t → length xs ≡ 65536 → length ys ≡ 65536 → SameIn c xs ys
+      → SameIn c (with_block images layout g xs t) (with_block images layout h ys t)
   step t xs ys a lx ly same i d from to = elim (cases_lt i t.at.rest) [
     | inl below ↦ out (inl below)
     | inr above ↦ elim (cases_lt i (t.at.rest + size_of t)) [
@@ -96,14 +101,16 @@ module _ (images : Images) (layout : Layout) (g h : Target → Option (List ℕ)
   ]
     where
       out : (i < t.at.rest) ⊎ (t.at.rest + size_of t ≤ i) → get_or (with_block images layout g xs t) i d ≡ get_or (with_block images layout h ys t) i d
-      out o = outside t (g t) xs i d (omega (arith, a.inside, lx)) a.one o ∙ same i d from to ∙ sym (outside t (h t) ys i d (omega (arith, a.inside, ly)) a.other o)
+      out o = outside t (g t) xs i d (omega (arith, a.inside, lx)) a.one o ∙ same i d from to
+          ∙ sym (outside t (h t) ys i d (omega (arith, a.inside, ly)) a.other o)
 
   pub record FoldsAgree (xs ys : List ℕ) : Type 0 where
     pub one_long : length xs ≡ 65536
     pub other_long : length ys ≡ 65536
     pub same : SameIn c xs ys
 
-  folds : (ts : List Target) (xs ys : List ℕ) → ((t : Target) → In t ts → Agrees t) → FoldsAgree xs ys → FoldsAgree (fold (with_block images layout g) xs ts) (fold (with_block images layout h) ys ts)
+  folds : (ts : List Target) (xs ys : List ℕ) → ((t : Target) → In t ts → Agrees t) → FoldsAgree xs ys
+      → FoldsAgree (fold (with_block images layout g) xs ts) (fold (with_block images layout h) ys ts)
   folds [] xs ys agrees f = f
   folds (t ∷ ts) xs ys agrees f =
       let a = agrees t (inl refl) in
@@ -119,9 +126,11 @@ module _ (images : Images) (layout : Layout) (g h : Target → Option (List ℕ)
   columns row i few agrees is =
       let e = element images layout row (part.Slice i) in
       let f = folds (blocks_at row i) e e agrees (record { one_long = is.long; other_long = is.long; same = λ j d from to. refl }) in
-      range_ext (slice_with images layout g row i) (slice_with images layout h row i) (c * 4096) (c * 4096 + 4096) (omega (arith, few, f.one_long)) (f.one_long ∙ sym f.other_long) f.same
+      range_ext (slice_with images layout g row i) (slice_with images layout h row i) (c * 4096) (c * 4096 + 4096) (omega (arith, few, f.one_long))
+      (f.one_long ∙ sym f.other_long) f.same
 
-  pub all_columns : (row : Row) → c < 16 → ((i : ℕ) (t : Target) → In t (blocks_at row i) → Agrees t) → ((i : ℕ) → i < rows.slice_count row → IsSlice 65536 (element images layout row (part.Slice i)))
+  pub all_columns : (row : Row) → c < 16 → ((i : ℕ) (t : Target) → In t (blocks_at row i) → Agrees t)
+      → ((i : ℕ) → i < rows.slice_count row → IsSlice 65536 (element images layout row (part.Slice i)))
       → ranges_of (c * 4096) (c * 4096 + 4096) (slices_with images layout g row) ≡ ranges_of (c * 4096) (c * 4096 + 4096) (slices_with images layout h row)
   all_columns row few agrees are =
       let n = rows.slice_count row in
@@ -134,7 +143,8 @@ module _ (images : Images) (layout : Layout) (g h : Target → Option (List ℕ)
       let lt : i < n = omega (arith, below, length-map gs cut, lg) in
       get_or-map cut gs i [] d (omega (arith, lt, lg)) ∙ ap cut (get_or-map-range_with_len (slice_with images layout g row) 0 n i i [] lt (omega arith))
       ∙ columns row i few (agrees i) (are i lt)
-      ∙ sym (get_or-map cut hs i [] d (omega (arith, lt, lh)) ∙ ap cut (get_or-map-range_with_len (slice_with images layout h row) 0 n i i [] lt (omega arith))))
+      ∙ sym (get_or-map cut hs i [] d (omega (arith, lt, lh))
+      ∙ ap cut (get_or-map-range_with_len (slice_with images layout h row) 0 n i i [] lt (omega arith))))
 
 not_lost : (b : Bool) (o : Option (List ℕ)) → (not b || is_some o) ≡ true → b ≡ true → is_some o ≡ true
 not_lost true o h e = h
@@ -162,7 +172,8 @@ differing_parity_is_wrong images layout C row q c sound right parity few decided
     (let d = bytes_eq-Decides (column_of c (element images layout row q)) (column_of c (element_with images layout (accepted images) row q)) in d.1 equal) in
     false≢true (sym (ap not yes) ∙ differ)
   where
-    by : (i : ℕ) (t : Target) → In t (blocks_at row i) → list_all (λ t. not (meets c t) || is_some (accepted images t)) row.blocks ≡ true → Agrees images layout (accepted images) (committed_for C) c t
+    by : (i : ℕ) (t : Target) → In t (blocks_at row i) → list_all (λ t. not (meets c t) || is_some (accepted images t)) row.blocks ≡ true
+        → Agrees images layout (accepted images) (committed_for C) c t
     by i t among all =
         let there : In t row.blocks = of_filter (λ u. eqb u.at.index i) t row.blocks among in
         let block = sound.blocks t there in
@@ -170,10 +181,12 @@ differing_parity_is_wrong images layout C row q c sound right parity few decided
           inside = block.lies.inside;
           one = accepted_slice (size_of t) (accepted images t) (C t.want) (right t there) block.bytes;
           other = block.bytes;
-          same = λ met. accepted_is (accepted images t) (C t.want) (right t there) (not_lost (meets c t) (accepted images t) (all_at (λ u. not (meets c u) || is_some (accepted images u)) row.blocks t all there) met);
+          same = λ met. accepted_is (accepted images t) (C t.want) (right t there)
+              (not_lost (meets c t) (accepted images t) (all_at (λ u. not (meets c u) || is_some (accepted images u)) row.blocks t all there) met);
         }
 
-    parts : (q : Part) → IsParity q → ranges_of (c * 4096) (c * 4096 + 4096) (slices_with images layout (accepted images) row) ≡ ranges_of (c * 4096) (c * 4096 + 4096) (slices_with images layout (committed_for C) row)
+    parts : (q : Part) → IsParity q → ranges_of (c * 4096) (c * 4096 + 4096) (slices_with images layout (accepted images) row)
+        ≡ ranges_of (c * 4096) (c * 4096 + 4096) (slices_with images layout (committed_for C) row)
         → column_of c (element_with images layout (accepted images) row q) ≡ column_of c (element_with images layout (committed_for C) row q)
     parts (part.Mirror i) h same = absurd h
     parts (part.Slice i) h same = absurd h

@@ -4,8 +4,8 @@ use Rattle.std.specs.List.{list_any}
 use Rattle.std.specs.Option.{option_map_or}
 use Rattle.btr_chunk.specs.declared.place.Part.{Part}
 use Rattle.btr_read.specs.Candidates.{Target, range_of}
-use Rattle.btr_mend.specs.Blocks.{is_good, own_parts}
-use Rattle.btr_mend.specs.Writes.{Images}
+use Rattle.btr_scrub_copies.specs.Blocks.{is_good, own_parts}
+use Rattle.btr_scrub_copies.specs.Writes.{Images}
 use Rattle.btr_scrub.specs.Plain.{Failing}
 
 -- a part lies on the image in a slot

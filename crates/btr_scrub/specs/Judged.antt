@@ -11,8 +11,8 @@ use Rattle.btr_read.specs.Candidates.{Target, range_of}
 use Rattle.btr_read.specs.Fate.{sought}
 use Rattle.btr_read.specs.Layout.{Layout}
 use Rattle.btr_read.specs.declared.want.Want.{Want}
-use Rattle.btr_mend.specs.Writes.{AccountsMend, Images}
-use Rattle.btr_mend.specs.declared.mended.MendFault.{MendFault}
+use Rattle.btr_scrub_copies.specs.Writes.{AccountsMend, Images}
+use Rattle.btr_scrub_copies.specs.declared.mended.MendFault.{MendFault}
 use Rattle.btr_scrub.specs.Doubts.{failing}
 use Rattle.btr_scrub.specs.Order.{targets}
 use Rattle.btr_scrub.specs.Plain.{KeptColumns, flagged, is_kept}

@@ -9,9 +9,9 @@ use Rattle.btr_read.specs.Layout.{HaveOwnSlots, Layout}
 use Rattle.btr_read.specs.Want.{passes}
 use Rattle.btr_read.specs.declared.candidate.Candidate.{Candidate}
 use Rattle.btr_read.specs.declared.want.Want.{Want}
-use Rattle.btr_mend.specs.Blocks.{accepted, is_good}
-use Rattle.btr_mend.specs.Writes.{AreAmong, Images, IsStopped, ranges_of, write_on}
-use Rattle.btr_row.specs.Rows.{Row, parities_writes, rebuilt_writes}
+use Rattle.btr_scrub_copies.specs.Blocks.{accepted, is_good}
+use Rattle.btr_scrub_copies.specs.Writes.{AreAmong, Images, IsStopped, ranges_of, write_on}
+use Rattle.btr_scrub_row.specs.Rows.{Row, parities_writes, rebuilt_writes}
 use Rattle.btr_scrub.specs.Devices.{HaveLengths}
 use Rattle.btr_scrub.specs.Glue.{In}
 use Rattle.btr_scrub.specs.Leaves.{KeepsOutside}

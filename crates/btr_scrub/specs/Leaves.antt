@@ -8,7 +8,7 @@ use Rattle.btr_read.specs.Candidates.{range_on}
 use Rattle.btr_read.specs.Cause.{LiesIn}
 use Rattle.btr_read.specs.Layout.{Layout, device_in}
 use Rattle.btr_scrub.specs.Repair.{byte_at, covers}
-use Rattle.btr_mend.specs.Writes.{Images, Write, write_on}
+use Rattle.btr_scrub_copies.specs.Writes.{Images, Write, write_on}
 
 -- images differ in some ranges at most
 pub record KeepsOutside (ranges : List Range) (old new : Images) : Type 0 where

@@ -6,7 +6,7 @@ use Rattle.btr_chunk.specs.Table.{IsTable}
 use Rattle.btr_chunk.specs.declared.place.Part.{Part}
 use Rattle.btr_read.specs.Layout.{HaveOwnSlots, Layout}
 use Rattle.btr_scrub.specs.Repair.{covers}
-use Rattle.btr_row.specs.Rows.{Row, range_in_element}
+use Rattle.btr_scrub_row.specs.Rows.{Row, range_in_element}
 
 -- a byte of a slot lies in an element of a full stripe of the table
 pub record IsOfElement (layout : Layout) (row : Row) (part : Part) (slot off : ℕ) : Type 0 where

@@ -22,9 +22,9 @@ use Rattle.btr_scrub.specs.Filesystem.{Filesystem}
 use Rattle.btr_scrub.specs.Doubts.{failing}
 use Rattle.btr_scrub.specs.Plain.{KeptColumns, is_kept, plain_among}
 use Rattle.btr_scrub.specs.Units.{Met, Checked, Unchecked, units}
-use Rattle.btr_mend.specs.Blocks.{bad_parts, is_lost, block_writes}
-use Rattle.btr_row.specs.Rows.{Row, parities, parity_writes, row_writes}
-use Rattle.btr_mend.specs.Writes.{Write, write_on, writes_if}
+use Rattle.btr_scrub_copies.specs.Blocks.{bad_parts, is_lost, block_writes}
+use Rattle.btr_scrub_row.specs.Rows.{Row, parities, parity_writes, row_writes}
+use Rattle.btr_scrub_copies.specs.Writes.{Write, write_on, writes_if}
 
 -- a stripe has no place of its length on a device that is given
 abbrev pub is_missing : List Member → ℕ → Stripe → Bool

@@ -13,12 +13,12 @@ use Rattle.btr_read.specs.Layout.{Layout}
 use Rattle.btr_read.specs.Want.{passes}
 use Rattle.btr_read.specs.declared.want.Want.{Want}
 use Rattle.btr_scrub.specs.Filesystem.{Filesystem}
-use Rattle.btr_mend.specs.Blocks.{own_parts}
-use Rattle.btr_row.specs.Rows.{Row, parities, element, element_with, range_in_element}
+use Rattle.btr_scrub_copies.specs.Blocks.{own_parts}
+use Rattle.btr_scrub_row.specs.Rows.{Row, parities, element, element_with, range_in_element}
 use Rattle.btr_scrub.specs.Repair.{first_missing, meeting, blocks, rows, ranges}
 use Rattle.btr_parity.specs.Slices.{IsSlice}
 use Rattle.btr_scrub.specs.Leaves.{KeepsOutside}
-use Rattle.btr_mend.specs.Writes.{Images}
+use Rattle.btr_scrub_copies.specs.Writes.{Images}
 
 -- the committed bytes of wants, where there are any
 abbrev pub Committed : Type 0

@@ -1,7 +1,7 @@
 -- What a call of scrub answers, and what stands in the images behind it, whatever failed.
 use Rattle.std.specs.Prelude.{◌≡◌, ◌⊎◌, ℕ, ◌≤◌, Bool, false, List, map, None, IfSome, IsSomeAnd, Result, Ok, Err, ⊤}
 use Rattle.std.specs.List.{All}
-use Rattle.btr_mend.specs.Writes.{Images, IsStopped, Write}
+use Rattle.btr_scrub_copies.specs.Writes.{Images, IsStopped, Write}
 use Rattle.btr_rack.specs.Rack.{OnlyReads, Rose, Seen, Steady}
 use Rattle.btr_read.specs.Reading.{AgreedOn}
 use Rattle.btr_volume.specs.declared.stop.Stop.{Stop}

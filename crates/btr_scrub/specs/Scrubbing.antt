@@ -11,17 +11,17 @@ use Rattle.btr_read.specs.Serves.{Serves}
 use Rattle.btr_read.specs.Store.{Blocks, free_count}
 use Rattle.btr_read.specs.Want.{addr_of}
 use Rattle.btr_read.specs.declared.want.Want.{Want}
-use Rattle.btr_mend.specs.Blocks.{block_writes}
-use Rattle.btr_mend.specs.Mending.{mended_of}
-use Rattle.btr_mend.specs.Syncing.{AreMarked, IsSyncOr, Strands, plain}
-use Rattle.btr_mend.specs.Writes.{AreWritable, Does, Images, Write, writes_if}
-use Rattle.btr_mend.specs.declared.mended.MendFault.{MendFault}
-use Rattle.btr_mend.specs.declared.mended.Mended.{Mended}
+use Rattle.btr_scrub_copies.specs.Blocks.{block_writes}
+use Rattle.btr_scrub_copies.specs.Mending.{mended_of}
+use Rattle.btr_scrub_copies.specs.Syncing.{AreMarked, IsSyncOr, Strands, plain}
+use Rattle.btr_scrub_copies.specs.Writes.{AreWritable, Does, Images, Write, writes_if}
+use Rattle.btr_scrub_copies.specs.declared.mended.MendFault.{MendFault}
+use Rattle.btr_scrub_copies.specs.declared.mended.Mended.{Mended}
 use Rattle.btr_rack.specs.declared.place.Place.{Place as Range}
-use Rattle.btr_row.specs.Mending.{HasRoom, mended_row}
-use Rattle.btr_row.specs.declared.buffer.RowBuffer.{RowBuffer}
-use Rattle.btr_row.specs.Rows.{Row, row_writes}
-use Rattle.btr_row.specs.declared.mended.MendedRow.{MendedRow}
+use Rattle.btr_scrub_row.specs.Mending.{HasRoom, mended_row}
+use Rattle.btr_scrub_row.specs.declared.buffer.RowBuffer.{RowBuffer}
+use Rattle.btr_scrub_row.specs.Rows.{Row, row_writes}
+use Rattle.btr_scrub_row.specs.declared.mended.MendedRow.{MendedRow}
 use Rattle.btr_scrub.specs.Glue.{In}
 use Rattle.btr_scrub.specs.Leaves.{LiesInStripe}
 use Rattle.btr_scrub.specs.Order.{AreApart, targets}

@@ -15,9 +15,9 @@ use Rattle.btr_chunk.specs.Apart.{LiesIn}
 use Rattle.btr_scrub.specs.Places.{IsOfElement}
 use Rattle.btr_scrub.specs.Repair.{covers, is_in_row}
 use Rattle.btr_scrub.specs.Right.{Committed, HasFewWrong, IsRight, StandsFor}
-use Rattle.btr_row.specs.Rows.{Row, row_writes}
+use Rattle.btr_scrub_row.specs.Rows.{Row, row_writes}
 use Rattle.btr_scrub.specs.Survival.{AcceptsRight, HaveLengths, IsSoundRow, KeepsRight, RightPasses}
-use Rattle.btr_mend.specs.Writes.{Images, Write}
+use Rattle.btr_scrub_copies.specs.Writes.{Images, Write}
 
 -- a row of a chunk of the table, with those of the blocks that lie in it
 pub record IsRowOf (layout : Layout) (blocks : List Target) (row : Row) : Type 0 where

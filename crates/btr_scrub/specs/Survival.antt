@@ -7,13 +7,13 @@ use Rattle.btr_parity.specs.Slices.{IsSlice}
 use Rattle.btr_read.specs.Candidates.{Target, size_of}
 use Rattle.btr_read.specs.Want.{passes}
 use Rattle.btr_chunk.specs.declared.place.Part.TheVariants as part
-use Rattle.btr_mend.specs.Blocks.{accepted, is_good}
+use Rattle.btr_scrub_copies.specs.Blocks.{accepted, is_good}
 pub use Rattle.btr_scrub.specs.Devices.{HaveLengths}
 use Rattle.btr_read.specs.Layout.{Layout}
 use Rattle.btr_scrub.specs.Glue.{In, IsInRow, LiesInRow}
 use Rattle.btr_scrub.specs.Right.{AreBytes, Committed, HasFewWrong, IsRight, StandsFor}
-use Rattle.btr_row.specs.Rows.{Row, blocks_at, differs, element, is_decided, range_in_element}
-use Rattle.btr_mend.specs.Writes.{Images}
+use Rattle.btr_scrub_row.specs.Rows.{Row, blocks_at, differs, element, is_decided, range_in_element}
+use Rattle.btr_scrub_copies.specs.Writes.{Images}
 
 -- blocks of a slice, each of which begins at or behind the end of the one before
 abbrev pub AreBehind : ℕ → List Target → Type 0

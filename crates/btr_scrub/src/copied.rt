@@ -3,15 +3,15 @@ ghost use Rattle.std.specs.Prelude.{◌≡◌, Ok, OnOk};
 ghost use Rattle.btr_read.specs.Candidates.{Target};
 ghost use Rattle.btr_read.specs.Fate.{sought};
 ghost use Rattle.btr_read.specs.Store.{SameLoans};
-ghost use Rattle.btr_mend.specs.Blocks.{block_writes};
-ghost use Rattle.btr_mend.specs.Mending.{IsCopied};
+ghost use Rattle.btr_scrub_copies.specs.Blocks.{block_writes};
+ghost use Rattle.btr_scrub_copies.specs.Mending.{IsCopied};
 ghost use Rattle.btr_scrub.specs.Scrubbing.{CanMend, CopiesComeNext, GivesBelow, PassesChunk, Scrubs, ScrubsChunk, blocks_count, blocks_in, blocks_writes, count_block, counted};
 
 use crate::reader::Reader;
 use crate::tally::Tally;
-use btr_mend::{MendFault, Mended, mend_copies};
 use btr_rack::Rack;
 use btr_read::{Store, Want};
+use btr_scrub_copies::{MendFault, Mended, mend_copies};
 
 // The next block, if it lies before an address; else the reader stays where it is.
 pub(crate) fn next_below(blocks: &mut Reader<'_>, end: u64) -> Option<Want>

@@ -9,7 +9,7 @@ ghost use Rattle.btr_read.specs.Candidates.{Target, range_of};
 ghost use Rattle.btr_read.specs.Fate.{sought};
 ghost use Rattle.btr_read.specs.Layout.{AreOpen};
 ghost use Rattle.btr_read.specs.Want.{len_of, passes};
-ghost use Rattle.btr_mend.specs.Writes.{AccountsMend};
+ghost use Rattle.btr_scrub_copies.specs.Writes.{AccountsMend};
 ghost use Rattle.btr_scrub.specs.Doubts.{fails_at, fails_on};
 ghost use Rattle.btr_scrub.specs.Judged.{AccountsParts, FlagsAll, FlagsBlock, HasOwn};
 ghost use Rattle.btr_scrub.specs.Judged.{IsReady, Suffices, some_parity};
@@ -22,9 +22,9 @@ use crate::judging::len_of;
 use crate::mending::has_parity;
 use crate::reader::{Reader, read_all};
 use btr_chunk::{Part, elements, place_of};
-use btr_mend::MendFault;
 use btr_rack::{Place, Rack, RackError};
 use btr_read::{Store, Want, passes};
+use btr_scrub_copies::MendFault;
 use std::alloc::Global;
 
 // Room for a block, and by slot whether one failed on it.

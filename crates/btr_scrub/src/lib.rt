@@ -3,7 +3,7 @@
 //! `scrub` first makes the list of the checked blocks (`list_blocks`), which reads the extent tree and the checksum tree and writes nothing, and then goes
 //! over it chunk by chunk. The layer above is promised exactly the blocks that `specs/Units.antt` says, in their order, or the first fault; and then
 //! exactly the writes that follow from what the images held as it began, or those up to a call that failed (`Whole`, `Scrubbing`). For one block with
-//! copies see `btr_mend`, and for one full stripe `btr_row`. `Repair` says what all of it comes to, and `Scrubbed` what a call answers and leaves, whatever
+//! copies see `btr_scrub_copies`, and for one full stripe `btr_scrub_row`. `Repair` says what all of it comes to, and `Scrubbed` what a call answers and leaves, whatever
 //! failed. `Plain` says beside which sectors without a checksum parity is kept as it is. `Right`, `Survival` and `Staying` say that each block can be had
 //! from what is left, whatever bytes stand in the ranges that are written.
 #![tactic(auto)]
@@ -29,8 +29,6 @@ mod run;
 mod sectors;
 mod tally;
 mod task;
-#[cfg(test)]
-mod tests;
 mod units;
 mod whole;
 

@@ -12,9 +12,9 @@ use crate::reader::Reader;
 use crate::rowed::{RowRoom, mend_rows};
 use crate::tally::Tally;
 use crate::task::ChunkTask;
-use btr_mend::{MendFault, sync_marked};
 use btr_rack::Rack;
 use btr_read::Store;
+use btr_scrub_copies::{MendFault, sync_marked};
 
 /// Whether the chunk of a number has parity.
 pub(crate) fn has_parity(number: usize, store: &Store) -> bool

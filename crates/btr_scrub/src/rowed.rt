@@ -5,8 +5,8 @@ ghost use Rattle.btr_chunk.specs.Table.{chunk_at};
 ghost use Rattle.btr_chunk.specs.declared.chunk.Chunk.{Chunk};
 ghost use Rattle.btr_read.specs.Store.{SameLoans};
 ghost use Rattle.btr_read.specs.Want.{addr_of};
-ghost use Rattle.btr_row.specs.Mending.{AreKept, IsRow, IsRowOf, mended_row};
-ghost use Rattle.btr_row.specs.Rows.{Row, row_writes};
+ghost use Rattle.btr_scrub_row.specs.Mending.{AreKept, IsRow, IsRowOf, mended_row};
+ghost use Rattle.btr_scrub_row.specs.Rows.{Row, row_writes};
 ghost use Rattle.btr_scrub.specs.Order.{targets};
 ghost use Rattle.btr_scrub.specs.Judged.{kept_beside};
 ghost use Rattle.btr_scrub.specs.Repair.{rows_in};
@@ -21,10 +21,10 @@ use crate::tally::Tally;
 use crate::task::ChunkTask;
 use btr_base::Memory;
 use btr_chunk::{Chunk, elements};
-use btr_mend::MendFault;
 use btr_rack::Rack;
 use btr_read::{Store, Want};
-use btr_row::{MendedRow, RowAt, RowBuffer, mend_row};
+use btr_scrub_copies::MendFault;
+use btr_scrub_row::{MendedRow, RowAt, RowBuffer, mend_row};
 
 /// Memory for the full stripes, one after another: the checked blocks of one, and its bytes.
 #[derive(Drop)]

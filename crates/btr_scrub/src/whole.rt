@@ -3,7 +3,7 @@ ghost use Rattle.std.specs.Prelude.{◌≡◌, ◌≤◌, None, Err, IfSome, IfO
 ghost use Rattle.btr_chunk.specs.Table.{IsTable};
 ghost use Rattle.btr_read.specs.Serves.{Serves};
 ghost use Rattle.btr_read.specs.Store.{free_count};
-ghost use Rattle.btr_mend.specs.Writes.{AreWritable};
+ghost use Rattle.btr_scrub_copies.specs.Writes.{AreWritable};
 ghost use Rattle.btr_volume.specs.Looking.{SameVolume};
 ghost use Rattle.btr_scrub.specs.Listed.{IsList, kept_wants};
 ghost use Rattle.btr_scrub.specs.Order.{AreApart};
@@ -24,10 +24,10 @@ use crate::rowed::RowRoom;
 use crate::tally::Tally;
 use crate::units::list_blocks;
 use btr_base::Memory;
-use btr_mend::MendFault;
 use btr_rack::Rack;
 use btr_read::Store;
-use btr_row::RowBuffer;
+use btr_scrub_copies::MendFault;
+use btr_scrub_row::RowBuffer;
 use btr_volume::{Stop, Volume};
 use std::alloc::Global;
 

@@ -1,6 +1,6 @@
 // Volumes with bytes that are wrong, and scrubs of each: what they count, and each byte of the images behind them.
 ghost use Rattle.std.specs.Prelude.{OnOk};
-ghost use Rattle.btr_mend.specs.Writes.{AreWritable};
+ghost use Rattle.btr_scrub_copies.specs.Writes.{AreWritable};
 ghost use Rattle.btr_rack.specs.Memory.{slots_of};
 
 use super::opened::{open_to_write, scrubbed};

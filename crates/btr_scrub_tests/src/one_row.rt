@@ -1,11 +1,11 @@
 // One full stripe, mended by itself.
 ghost use Rattle.std.specs.Prelude.{◌≡◌, [], ◌∷◌, ◌<◌, length, IfSome};
 ghost use Rattle.btr_chunk.specs.Table.{IsTable};
-ghost use Rattle.btr_mend.specs.Writes.{AreWritable};
+ghost use Rattle.btr_scrub_copies.specs.Writes.{AreWritable};
 ghost use Rattle.btr_rack.specs.Memory.{seen_of, slots_of};
 ghost use Rattle.btr_read.specs.Serves.{Serves};
 ghost use Rattle.btr_read.specs.declared.want.Want.TheVariants.{Sector};
-ghost use Rattle.btr_row.specs.Mending.{IsRow};
+ghost use Rattle.btr_scrub_row.specs.Mending.{IsRow};
 
 use super::damage::{expect_same, open_all, turn};
 use super::shapes::Made;
@@ -14,8 +14,8 @@ use btr_chunk::elements;
 use btr_make::{RowVolume, row};
 use btr_rack::{MemRack, Rack};
 use btr_read::{Store, Want};
-use btr_row::{MendedRow, RowAt, RowBuffer, mend_row};
 use btr_scrub::missing_device;
+use btr_scrub_row::{MendedRow, RowAt, RowBuffer, mend_row};
 use btr_volume::Volume;
 use std::alloc::Global;
 use std::test::Fail;

@@ -1,6 +1,6 @@
 // Images that are opened to be written, and a scrub of them.
 ghost use Rattle.std.specs.Prelude.{◌<◌, length, OnOk};
-ghost use Rattle.btr_mend.specs.Writes.{AreWritable};
+ghost use Rattle.btr_scrub_copies.specs.Writes.{AreWritable};
 ghost use Rattle.btr_rack.specs.Memory.{slots_of};
 
 use btr_rack::{MemRack, Rack};

@@ -6,9 +6,9 @@ ghost use Rattle.btr_read.specs.Store.{free_count};
 
 use super::memory::{NOTHING, Outcome, sent_by};
 use btr_base::{Key, SumKind, sum};
-use btr_blocks::{Body, Form, Items, Tree, bodies};
 use btr_chunk::{Chunk, ChunkTable, Stripe};
 use btr_items::{FileExtent, Inode, RootItem, Shape, item};
+use btr_make_blocks::{Body, Form, Items, Tree, bodies};
 use btr_rack::{MemRack, Rack};
 use btr_read::Store;
 use btr_super::Super;

@@ -1,5 +1,6 @@
 -- One more copy, and the newest of all.
-use Rattle.std.proofs.Common.{◌≡◌, ◌⊎◌, inl, inr, ⊎_elim, ℕ, zero, suc, ◌+◌, ◌<◌, ◌≤◌, true, false, cond, leb, List, [], ◌∷◌, ◌++◌, length, Option, Some, None, Result, Ok, Err, refl, sym, ap, ◌∙◌, subst, arith}
+use Rattle.std.proofs.Common.{◌≡◌, ◌⊎◌, inl, inr, ⊎_elim, ℕ, zero, suc, ◌+◌, ◌<◌, ◌≤◌, true, false, cond, leb, List, [], ◌∷◌, ◌++◌, length, Option, Some, None}
+use Rattle.std.proofs.Common.{Result, Ok, Err, refl, sym, ap, ◌∙◌, subst, arith}
 use Rattle.std.specs.List.{slice_get, filter_map}
 use Rattle.std.proofs.lemmas.List.{append-nil}
 use Rattle.std.proofs.lemmas.List.Elements.{filter_map-append}
@@ -54,7 +55,8 @@ beaten : (xs : List Super) (n s : Super) → IsNewest xs n → n.generation < s.
 beaten xs n s is lt = record {
   index = length xs;
   stands = get_last xs s;
-  greatest = λ k t e. ⊎_elim (λ old. omega (arith, is.greatest k t old)) (λ same. subst (λ x. x.generation ≤ s.generation) (sym same.1) (omega arith)) (get_cases xs s k t e);
+  greatest = λ k t e. ⊎_elim (λ old. omega (arith, is.greatest k t old)) (λ same. subst (λ x. x.generation ≤ s.generation) (sym same.1) (omega arith))
+      (get_cases xs s k t e);
   first = λ k t below e. ⊎_elim (λ old. omega (arith, is.greatest k t old)) (λ same. absurd (omega (arith, same.0))) (get_cases xs s k t e);
 }
 
@@ -108,7 +110,8 @@ sofar_refused found o k fault so = record {
     one (SumKind n) = refl
     one Sum = refl
 
-pub standing_fits : (image : List ℕ) (before : List ℕ) (place : ℕ) → place + 4096 ≤ length image → standing image (before ++ place ∷ []) ≡ standing image before ++ superblock (bytes_at 4096 place image) place ∷ []
+pub standing_fits : (image : List ℕ) (before : List ℕ) (place : ℕ) → place + 4096 ≤ length image → standing image (before ++ place ∷ [])
+    ≡ standing image before ++ superblock (bytes_at 4096 place image) place ∷ []
 unfolding standing
 standing_fits image [] place le = ap (λ b. cond b (superblock (bytes_at 4096 place image) place ∷ []) []) (leb_true (place + 4096) (length image) le)
 standing_fits image (p ∷ before) place le = elim (leb (p + 4096) (length image)) as (λ b. cond b (superblock (bytes_at 4096 p image) p ∷ standing image (before ++ place ∷ [])) (standing image (before ++ place ∷ [])) ≡ cond b (superblock (bytes_at 4096 p image) p ∷ standing image before) (standing image before) ++ superblock (bytes_at 4096 place image) place ∷ []) [
@@ -119,7 +122,8 @@ standing_fits image (p ∷ before) place le = elim (leb (p + 4096) (length image
 pub standing_past : (image : List ℕ) (before : List ℕ) (place : ℕ) → length image < place + 4096 → standing image (before ++ place ∷ []) ≡ standing image before
 unfolding standing
 standing_past image [] place lt = ap (λ b. cond b (superblock (bytes_at 4096 place image) place ∷ []) []) (leb_false (place + 4096) (length image) lt)
-standing_past image (p ∷ before) place lt = ap (λ l. cond (leb (p + 4096) (length image)) (superblock (bytes_at 4096 p image) p ∷ l) l) (standing_past image before place lt)
+standing_past image (p ∷ before) place lt = ap (λ l. cond (leb (p + 4096) (length image)) (superblock (bytes_at 4096 p image) p ∷ l) l)
+    (standing_past image before place lt)
 
 -- the answer of what was found, by the newest and the first kind
 pub answered : (found : List Found) (o : Option Super) (k : Option ℕ) → IsSoFar found (record { newest = o; kind = k }) → slot_answer found ≡ chosen o k

@@ -21,10 +21,12 @@ module _ {X : Type 0} where
   one_false test (y ∷ xs) zero x at fails = let same : y ≡ x = cc in rw (same, fails) refl
   one_false test (y ∷ xs) (suc i) x at fails = and_false (test y) (one_false test xs i x at fails)
 
-  find_first : (test : X → Bool) (xs : List X) (i : ℕ) (x : X) → slice_get xs i ≡ Some x → test x ≡ true → ((k : ℕ) (y : X) → k < i → slice_get xs k ≡ Some y → test y ≡ false) → find test xs ≡ Some x
+  find_first : (test : X → Bool) (xs : List X) (i : ℕ) (x : X) → slice_get xs i ≡ Some x → test x ≡ true
+      → ((k : ℕ) (y : X) → k < i → slice_get xs k ≡ Some y → test y ≡ false) → find test xs ≡ Some x
   find_first test [] i x at passes none = absurd (cc)
   find_first test (y ∷ xs) zero x at passes none = let same : y ≡ x = cc in rw (same, passes) refl
-  find_first test (y ∷ xs) (suc i) x at passes none = rw (none 0 y (omega arith) refl) (find_first test xs i x at passes (λ k z lt e. none (suc k) z (omega arith) e))
+  find_first test (y ∷ xs) (suc i) x at passes none = rw (none 0 y (omega arith) refl)
+      (find_first test xs i x at passes (λ k z lt e. none (suc k) z (omega arith) e))
 
 is_greatest : (supers : List Super) (s : Super) → ((k : ℕ) (t : Super) → slice_get supers k ≡ Some t → t.generation ≤ s.generation) → is_newest supers s ≡ true
 is_greatest supers s greatest = all_true (λ t. leb t.generation s.generation) supers (λ k t e. let le = greatest k t e in grind (arith, nat_tests))
@@ -52,11 +54,13 @@ pub record IsNewestAt (supers : List Super) (n index : ℕ) : Type 0 where
 stands : (supers : List Super) (k : ℕ) (d : Super) → k < length supers → slice_get supers k ≡ Some (get_or supers k d)
 stands supers k d lt = slice_get-get_or supers k d lt
 
-newest_index_at : (supers : List Super) (n index : ℕ) (d : Super) → index < length supers → length supers ≤ n → IsNewestAt supers n index → newest_index supers ≡ index
+newest_index_at : (supers : List Super) (n index : ℕ) (d : Super) → index < length supers → length supers ≤ n → IsNewestAt supers n index
+    → newest_index supers ≡ index
 newest_index_at supers n index d lt all is =
     let here = get_or supers index d in
     position_or_len_is (is_newest supers) supers index d (omega arith)
-    (λ k below. is_exceeded supers (get_or supers k d) here index (stands supers index d lt) (is.first k (get_or supers k d) here below (stands supers k d (omega arith)) (stands supers index d lt)))
+    (λ k below. is_exceeded supers (get_or supers k d) here index (stands supers index d lt)
+    (is.first k (get_or supers k d) here below (stands supers k d (omega arith)) (stands supers index d lt)))
     (λ within. is_greatest supers here (λ k t at. is.greatest k t here (omega (arith, get_below supers k t at)) at (stands supers index d lt)))
 
 pub newest_index_is : (supers : List Super) (n index : ℕ) → index < length supers → length supers ≤ n → IsNewestAt supers n index → newest_index supers ≡ index

@@ -19,7 +19,8 @@ use Rattle.btr_tour.specs.Steps.{FramesFrom, IsNextBelow, IsNext}
 use Rattle.btr_tour.proofs.Seeking.{length-spots, spot_at, some_pointer}
 
 module _ (lo hi : Key) where
-  fits_from : (ps : List KeyPointer) (frame : Frame) (o : Option Frame) → frame.end ≡ length ps → FramesFrom lo hi ps frame.spot (frame.next + 1) o → IfSome o (λ f. (frame.next < f.next) × (f.next < f.end) × (f.end ≡ frame.end))
+  fits_from : (ps : List KeyPointer) (frame : Frame) (o : Option Frame) → frame.end ≡ length ps → FramesFrom lo hi ps frame.spot (frame.next + 1) o
+      → IfSome o (λ f. (frame.next < f.next) × (f.next < f.end) × (f.end ≡ frame.end))
   fits_from ps frame None all h = tt
   fits_from ps frame (Some f) all h =
       let behind = h.next.behind in
@@ -27,7 +28,9 @@ module _ (lo hi : Key) where
       (omega (arith, behind), omega (arith, there, h.all, length-spots ps frame.spot.up), h.all ∙ sym all)
 
   -- the next child of a frame
-  pub next_below : (ps : List KeyPointer) (frame : Frame) (b : Below) → frame.end ≡ length ps → frame.next < frame.end → ((d : KeyPointer) → b.spot ≡ below (get_or ps frame.next d) (up_of (drop (frame.next + 1) ps) frame.spot.up)) → FramesFrom lo hi ps frame.spot (frame.next + 1) b.frame → IsNext lo hi ps frame (Some b)
+  pub next_below : (ps : List KeyPointer) (frame : Frame) (b : Below) → frame.end ≡ length ps → frame.next < frame.end
+      → ((d : KeyPointer) → b.spot ≡ below (get_or ps frame.next d) (up_of (drop (frame.next + 1) ps) frame.spot.up))
+      → FramesFrom lo hi ps frame.spot (frame.next + 1) b.frame → IsNext lo hi ps frame (Some b)
   next_below ps frame b all lt is more = (
     all,
     record { spot_is = λ e. is some_pointer ∙ sym (spot_at ps frame.spot.up frame.next some_pointer e (omega (arith, all, lt))); more = more },
@@ -38,7 +41,8 @@ module _ (lo hi : Key) where
     same_block : (block : List ℕ) → B (want_of level frame.spot) ≡ Ok block → block ≡ node.block
     same_block block e = let g : Ok block ≡ Ok node.block = sym e ∙ node.came in cc
 
-    pub again_some : (block : List ℕ) (b : Below) → B (want_of level frame.spot) ≡ Ok block → IsNextBelow lo hi (pointers block) frame b → IsNextBelow lo hi (pointers node.block) frame b
+    pub again_some : (block : List ℕ) (b : Below) → B (want_of level frame.spot) ≡ Ok block → IsNextBelow lo hi (pointers block) frame b
+        → IsNextBelow lo hi (pointers node.block) frame b
     again_some block b e h = subst (λ (x : List ℕ). IsNextBelow lo hi (pointers x) frame b) (same_block block e) h
 
     pub again_none : (block : List ℕ) → B (want_of level frame.spot) ≡ Ok block → (frame.end ≡ length (pointers block) → ⊥) → ⊥

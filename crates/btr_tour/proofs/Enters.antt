@@ -1,5 +1,6 @@
 -- What a step meets that reads a block.
-use Rattle.std.proofs.Common.{◌≡◌, ◌∙◌, ℕ, zero, suc, ◌+◌, ◌-◌, ◌<◌, List, [], ◌∷◌, ◌++◌, length, get_or, set, map, drop, filter, Option, Some, None, IfSome, IsSomeAnd, Ok, Err, refl, sym, ap, subst, arith}
+use Rattle.std.proofs.Common.{◌≡◌, ◌∙◌, ℕ, zero, suc, ◌+◌, ◌-◌, ◌<◌, List, [], ◌∷◌, ◌++◌, length, get_or, set, map, drop, filter, Option, Some, None, IfSome}
+use Rattle.std.proofs.Common.{IsSomeAnd, Ok, Err, refl, sym, ap, subst, arith}
 use Rattle.std.proofs.lemmas.List.{drop_all}
 use Rattle.std.proofs.lemmas.List.Elements.{Contains-append_left}
 use Rattle.btr_base.specs.Header.{header_of}
@@ -35,9 +36,11 @@ use Rattle.btr_walk.specs.declared.going.Where.{Where}
 use Rattle.btr_tour.specs.Tour as marks
 use Rattle.btr_tour.specs.Tour.{place_of, child_spots, meets_keys}
 use Rattle.btr_tour.specs.Program.{TourProg, children, tour_from}
-use Rattle.btr_tour.specs.Place.{want_next, next_want, hand_items, leaf_left, children_left, frame_left, frame_or_rest, path_left, todo_left, place_left, IsHeld, IsNode, IsOn}
+use Rattle.btr_tour.specs.Place.{want_next, next_want, hand_items, leaf_left, children_left, frame_left, frame_or_rest, path_left, todo_left, place_left}
+use Rattle.btr_tour.specs.Place.{IsHeld, IsNode, IsOn}
 use Rattle.btr_tour.specs.Shape.{IsShaped}
-use Rattle.btr_tour.specs.Steps.{IsFirstFrom, IsLowest, FramesFrom, IsNextBelow, Rereads, left_out, passed_leaf, left, MeetsBlock, MeetsItem, Meets, Advances, HasStep, StepCause}
+use Rattle.btr_tour.specs.Steps.{IsFirstFrom, IsLowest, FramesFrom, IsNextBelow, Rereads, left_out, passed_leaf, left, MeetsBlock, MeetsItem, Meets, Advances}
+use Rattle.btr_tour.specs.Steps.{HasStep, StepCause}
 use Rattle.btr_tour.proofs.Seeking.{filter_at, length-spots, some_spot}
 use Rattle.btr_tour.proofs.Programs.{IsOut, wants_first, leaf_from, inner_from, fault_from}
 use Rattle.btr_tour.proofs.Paths.{rest_of, path_set, path_none, path_bare, path_here, path_gone, frame_is, node_is, on_more, on_set, last_read, frame_wanted}
@@ -55,26 +58,31 @@ module _ (lo hi : Key) (B : Map) where
   all_met place none clear = todo_is place None none ∙ path_none lo hi B 0 place.path clear
 
   -- a leaf in hand
-  pub leaf_hand : (store : Blocks) (l : LeafAt) (block : List ℕ) (rest : TourProg) → block_of store l.loan ≡ Some block → leaf_left lo hi store (Some l) rest ≡ act_all (map marks.Item (items_within lo hi l.spot.addr (drop l.next (items block)))) rest
+  pub leaf_hand : (store : Blocks) (l : LeafAt) (block : List ℕ) (rest : TourProg) → block_of store l.loan ≡ Some block
+      → leaf_left lo hi store (Some l) rest ≡ act_all (map marks.Item (items_within lo hi l.spot.addr (drop l.next (items block)))) rest
   leaf_hand store l block rest is = ap (λ o. act_all (map marks.Item (hand_items lo hi o l)) rest) is
 
   -- a leaf in hand that has no item more
-  pub hand_none : (store : Blocks) (l : LeafAt) (block : List ℕ) (rest : TourProg) → block_of store l.loan ≡ Some block → filter (is_within lo hi) (drop l.next (items block)) ≡ [] → leaf_left lo hi store (Some l) rest ≡ rest
+  pub hand_none : (store : Blocks) (l : LeafAt) (block : List ℕ) (rest : TourProg) → block_of store l.loan ≡ Some block
+      → filter (is_within lo hi) (drop l.next (items block)) ≡ [] → leaf_left lo hi store (Some l) rest ≡ rest
   hand_none store l block rest is none = leaf_hand store l block rest is ∙ ap (λ xs. act_all (map marks.Item (map (tree_item l.spot.addr) xs)) rest) none
 
   -- a leaf in hand that has an item more, which is met
-  pub hand_meets : (seen : List Want) (store : Blocks) (place : Where) (l : LeafAt) (block : List ℕ) (at : ℕ) → block_of store l.loan ≡ Some block → IsFirstFrom (is_within lo hi) (items block) l.next at → IsOn lo hi B seen place → IsHeld B seen store l
+  pub hand_meets : (seen : List Want) (store : Blocks) (place : Where) (l : LeafAt) (block : List ℕ) (at : ℕ) → block_of store l.loan ≡ Some block
+      → IsFirstFrom (is_within lo hi) (items block) l.next at → IsOn lo hi B seen place → IsHeld B seen store l
       → MeetsItem lo hi B seen (left lo hi B store place (Some l)) store place (Some (record { spot = l.spot; next = at + 1; end = l.end; loan = l.loan })) at
   hand_meets seen store place l block at is from on held =
       let then : LeafAt = record { spot = l.spot; next = at + 1; end = l.end; loan = l.loan } in
       let rest : TourProg = place_left lo hi B place in
       let there = from.there in
-      some_block store l.loan block (λ (b : List ℕ). (d : NodeItem) → Meets lo hi B seen (left lo hi B store place (Some l)) store place (Some then) (marks.Item (tree_item l.spot.addr (get_or (items b) at d)))) is
+      some_block store l.loan block (λ (b : List ℕ). (d : NodeItem)
+      → Meets lo hi B seen (left lo hi B store place (Some l)) store place (Some then) (marks.Item (tree_item l.spot.addr (get_or (items b) at d)))) is
       (λ d. record {
         past = [];
         met = ap (tried B)
             (leaf_hand store l block rest is
-            ∙ ap (λ xs. act_all (map marks.Item (map (tree_item l.spot.addr) xs)) rest) (from.skipped ∙ filter_at (is_within lo hi) (items block) at d (omega (arith, there)) (from.here d))
+            ∙ ap (λ xs. act_all (map marks.Item (map (tree_item l.spot.addr) xs)) rest)
+            (from.skipped ∙ filter_at (is_within lo hi) (items block) at d (omega (arith, there)) (from.here d))
             ∙ ap (Act (marks.Item (tree_item l.spot.addr (get_or (items block) at d)))) (sym (leaf_hand store then block rest is)));
         on = on_more lo hi B seen [] place place refl on;
         held = record { block = held.block; lent = held.lent; came = held.came; is = held.is; read = Contains-append_left seen [] (want_of 0 l.spot) held.read };
@@ -134,7 +142,8 @@ module _ (lo hi : Key) (B : Map) where
         header_is = refl;
         met = ap (tried B) (todo_is place (Some (record { level = suc n; spot = spot })) todo)
             ∙ inner_from lo hi B (suc n) spot block (path_left lo hi B 0 place.path) inner came
-            ∙ ap (λ p. first (Wants w) (first (Does (marks.Block (place_of (suc n) spot) block)) (tried B (children_left lo hi (suc n) spot 0 spots p)))) (path_bare lo hi B n place.path within above)
+            ∙ ap (λ p. first (Wants w) (first (Does (marks.Block (place_of (suc n) spot) block))
+            (tried B (children_left lo hi (suc n) spot 0 spots p)))) (path_bare lo hi B n place.path within above)
             ∙ ap (λ p. first (Wants w) (first (Does (marks.Block (place_of (suc n) spot) block)) (tried B p))) (sym left_is);
         below = left_is ∙ ap (children_left lo hi (suc n) spot 0 spots) (sym gone);
         on = record { frames = λ k. subst (λ p. IfSome (get_or p k None) (IsNode lo hi B (seen ++ (w ∷ [])) (k + 1))) (sym path_is) (on_set lo hi B seen (w ∷ []) place.path n o within on.frames (subst (λ l. IfSome o (IsNode lo hi B (seen ++ (w ∷ [])) l)) (sym up) (node_is lo hi B (seen ++ (w ∷ [])) (suc n) spot block 0 o inner.is came (last_read seen w) from)) k) };
@@ -158,11 +167,15 @@ module _ (lo hi : Key) (B : Map) where
       (want_unread Is no_part seen u (want_of level spot) w.0 is)
 
   pub enter_fault : (Is : UnreadBlock → Want → Type 0) (sums : SumKind) (place : Where) (level : ℕ) (spot : Spot) (store : Blocks) (f : TreeFault) → place.todo ≡ Some (record { level = level; spot = spot }) → Reads Is B level spot store (Err f) → Advances lo hi B Is (λ seen. Unit {0}) sums place (place_left lo hi B place) store (left_out place (record { path = place.path; todo = None }) f)
-  enter_fault Is sums place level spot store (Lost a) todo h seen on none = out_of_todo seen place level spot store (fate.Lost a) todo (fault_from lo hi B Is level spot (path_left lo hi B 0 place.path) store (Lost a) h) on
+  enter_fault Is sums place level spot store (Lost a) todo h seen on none = out_of_todo seen place level spot store (fate.Lost a) todo
+      (fault_from lo hi B Is level spot (path_left lo hi B 0 place.path) store (Lost a) h) on
   enter_fault Is sums place level spot store (Unread a slot) todo h seen on none = record { refused = refused_todo Is seen place level spot (record { addr = a; slot = slot }) todo h; same = refl; on = on; held = tt }
-  enter_fault Is sums place level spot store (Unmapped a) todo h seen on none = out_of_todo seen place level spot store (fate.Unmapped a) todo (fault_from lo hi B Is level spot (path_left lo hi B 0 place.path) store (Unmapped a) h) on
-  enter_fault Is sums place level spot store (Crosses a) todo h seen on none = out_of_todo seen place level spot store (fate.Crosses a) todo (fault_from lo hi B Is level spot (path_left lo hi B 0 place.path) store (Crosses a) h) on
-  enter_fault Is sums place level spot store (Malformed a) todo h seen on none = out_of_todo seen place level spot store (fate.Malformed a) todo (fault_from lo hi B Is level spot (path_left lo hi B 0 place.path) store (Malformed a) h) on
+  enter_fault Is sums place level spot store (Unmapped a) todo h seen on none = out_of_todo seen place level spot store (fate.Unmapped a) todo
+      (fault_from lo hi B Is level spot (path_left lo hi B 0 place.path) store (Unmapped a) h) on
+  enter_fault Is sums place level spot store (Crosses a) todo h seen on none = out_of_todo seen place level spot store (fate.Crosses a) todo
+      (fault_from lo hi B Is level spot (path_left lo hi B 0 place.path) store (Crosses a) h) on
+  enter_fault Is sums place level spot store (Malformed a) todo h seen on none = out_of_todo seen place level spot store (fate.Malformed a) todo
+      (fault_from lo hi B Is level spot (path_left lo hi B 0 place.path) store (Malformed a) h) on
 
   module _ (place : Where) (low : AtLevel) (none : place.todo ≡ None) (lowest : IsLowest place low) (shaped : IsShaped place) where
     within : low.at < length place.path
@@ -172,7 +185,8 @@ module _ (lo hi : Key) (B : Map) where
     node seen on = subst (λ o. IfSome o (IsNode lo hi B seen (low.at + 1))) lowest.here (on.frames low.at)
 
     -- the next child of the lowest node
-    pub meets_child : (seen : List Want) (store : Blocks) (b : Below) (path' : List (Option Frame)) (on : IsOn lo hi B seen place) → IsNextBelow lo hi (pointers (node seen on).block) low.frame b → low.frame.next < low.frame.end → path' ≡ set place.path low.at b.frame
+    pub meets_child : (seen : List Want) (store : Blocks) (b : Below) (path' : List (Option Frame)) (on : IsOn lo hi B seen place)
+        → IsNextBelow lo hi (pointers (node seen on).block) low.frame b → low.frame.next < low.frame.end → path' ≡ set place.path low.at b.frame
         → Meets lo hi B seen (place_left lo hi B place) store (record { path = path'; todo = Some (record { level = low.at; spot = b.spot }) }) None (marks.Child low.frame.spot.addr (place_of low.at b.spot))
     meets_child seen store b path' on h more set_is =
         let n = node seen on in
@@ -201,7 +215,9 @@ module _ (lo hi : Key) (B : Map) where
         }
 
     -- a node that could not be read again
-    pub child_fault : (Is : UnreadBlock → Want → Type 0) (sums : SumKind) (after : Where) (store : Blocks) (f : TreeFault) → Rereads lo hi B Is (low.at + 1) low.frame (Err f) → Advances lo hi B Is (λ seen. Unit {0}) sums place (place_left lo hi B place) store (left_out place after f)
+    pub child_fault : (Is : UnreadBlock → Want → Type 0) (sums : SumKind) (after : Where) (store : Blocks) (f : TreeFault)
+        → Rereads lo hi B Is (low.at + 1) low.frame (Err f) → Advances lo hi B Is (λ seen. Unit {0}) sums place (place_left lo hi B place) store
+        (left_out place after f)
     child_fault Is sums after store (Lost a) h seen on none = absurd (h seen (node seen on))
     child_fault Is sums after store (Unread a slot) h seen on none = record { refused = unread_here Is no_part seen (record { addr = a; slot = slot }) (tried B (place_left lo hi B place)) (h seen (node seen on)); same = refl; on = on; held = tt }
     child_fault Is sums after store (Unmapped a) h seen on none = absurd (h seen (node seen on))
@@ -209,7 +225,8 @@ module _ (lo hi : Key) (B : Map) where
     child_fault Is sums after store (Malformed a) h seen on none = absurd (h seen (node seen on))
 
 -- a leaf that is passed
-pub held_passed : (B : Map) (seen : List Want) (store : Blocks) (leaf : Option LeafAt) → IfSome leaf (IsHeld B seen store) → IfSome (passed_leaf 0 leaf) (IsHeld B seen store)
+pub held_passed : (B : Map) (seen : List Want) (store : Blocks) (leaf : Option LeafAt) → IfSome leaf (IsHeld B seen store)
+    → IfSome (passed_leaf 0 leaf) (IsHeld B seen store)
 held_passed B seen store None h = tt
 held_passed B seen store (Some l) h = record { block = h.block; lent = h.lent; came = h.came; is = h.is; read = h.read }
 
@@ -217,7 +234,8 @@ held_passed B seen store (Some l) h = record { block = h.block; lent = h.lent; c
 pub todo_wanted : (place : Where) (todo : Todo) (P : Want → Type 0) → place.todo ≡ Some todo → P (want_of todo.level todo.spot) → IsSomeAnd (next_want place) P
 todo_wanted place todo P e h = subst (λ t. IsSomeAnd (want_next t place.path) P) (sym e) h
 
-pub low_wanted : (place : Where) (low : AtLevel) (P : Want → Type 0) → place.todo ≡ None → IsLowest place low → P (want_of (low.at + 1) low.frame.spot) → IsSomeAnd (next_want place) P
+pub low_wanted : (place : Where) (low : AtLevel) (P : Want → Type 0) → place.todo ≡ None → IsLowest place low
+    → P (want_of (low.at + 1) low.frame.spot) → IsSomeAnd (next_want place) P
 low_wanted place low P none lowest h =
     let e : 0 + low.at + 1 ≡ low.at + 1 = omega arith in
     subst (λ t. IsSomeAnd (want_next t place.path) P) (sym none)
@@ -246,7 +264,8 @@ out_leaf place after (Crosses a) = refl
 out_leaf place after (Malformed a) = refl
 
 -- its cause
-pub out_cause : (layout : Layout) (before now : Seen) (place after : Where) (f : TreeFault) → IsSomeAnd (next_want place) (λ want. CauseOf layout want before now f) → StepCause layout before now place (left_out place after f).step
+pub out_cause : (layout : Layout) (before now : Seen) (place after : Where) (f : TreeFault)
+    → IsSomeAnd (next_want place) (λ want. CauseOf layout want before now f) → StepCause layout before now place (left_out place after f).step
 out_cause layout before now place after (Lost a) h = h
 out_cause layout before now place after (Unread a slot) h = h
 out_cause layout before now place after (Unmapped a) h = h

@@ -1,5 +1,6 @@
 -- A range is the tour that stops at its first fault, and has the items of a tour without faults.
-use Rattle.std.proofs.Common.{◌≡◌, ◌∙◌, ℕ, zero, suc, ◌-◌, Bool, true, false, cond, List, [], ◌∷◌, Option, Some, None, Result, Ok, Err, refl, sym, ap, map, filter, arith}
+use Rattle.std.proofs.Common.{◌≡◌, ◌∙◌, ℕ, zero, suc, ◌-◌, Bool, true, false, cond, List, [], ◌∷◌, Option, Some, None, Result, Ok, Err, refl, sym, ap, map}
+use Rattle.std.proofs.Common.{filter, arith}
 use Rattle.std.proofs.Math.Path.{fun_ext}
 use Rattle.std.specs.Option.{is_some}
 use Rattle.btr_base.specs.declared.key.Key.{Key}
@@ -37,27 +38,37 @@ module _ (lo hi : Key) where
   stops_items (x ∷ xs) rest = ap (Emit x) (stops_items xs rest)
 
   module _ (tour : Spot → TourProg → TourProg) (child : Spot → RangeProg → RangeProg) (stops : (spot : Spot) (rest : TourProg) → items_until_fault (tour spot rest) ≡ child spot (items_until_fault rest)) (addr level : ℕ) where
-    by_test : (b : Bool) (spot : Spot) (spots : List Spot) (rest : TourProg) (more : RangeProg) → items_until_fault (children tour addr level spots rest) ≡ more → items_until_fault (children tour addr level (cond b (spot ∷ spots) spots) rest) ≡ cond b (child spot more) more
+    by_test : (b : Bool) (spot : Spot) (spots : List Spot) (rest : TourProg) (more : RangeProg)
+        → items_until_fault (children tour addr level spots rest) ≡ more
+        → items_until_fault (children tour addr level (cond b (spot ∷ spots) spots) rest) ≡ cond b (child spot more) more
     by_test false spot spots rest more e = e
     by_test true spot spots rest more e = stops spot (children tour addr level spots rest) ∙ ap (child spot) e
 
-    stops_children : (ps : List KeyPointer) (up : Option Key) (rest : TourProg) → items_until_fault (children tour addr level (filter (meets_keys lo hi) (child_spots ps up)) rest) ≡ over lo hi child ps up (items_until_fault rest)
+    stops_children : (ps : List KeyPointer) (up : Option Key) (rest : TourProg)
+        → items_until_fault (children tour addr level (filter (meets_keys lo hi) (child_spots ps up)) rest) ≡ over lo hi child ps up (items_until_fault rest)
     stops_children [] up rest = refl
-    stops_children (p ∷ ps) up rest = by_test (meets lo hi p.key (up_of ps up)) (below p (up_of ps up)) (filter (meets_keys lo hi) (child_spots ps up)) rest (over lo hi child ps up (items_until_fault rest)) (stops_children ps up rest)
+    stops_children (p ∷ ps) up rest = by_test (meets lo hi p.key (up_of ps up)) (below p (up_of ps up))
+        (filter (meets_keys lo hi) (child_spots ps up)) rest (over lo hi child ps up (items_until_fault rest)) (stops_children ps up rest)
 
-  stops_leaf : (spot : Spot) (block : List ℕ) (rest : TourProg) (o : Option Node) → judged 0 spot block ≡ o → items_until_fault (by_node lo hi (λ child more. more) 0 spot block rest o) ≡ range_leaf lo hi spot (items_until_fault rest) o
+  stops_leaf : (spot : Spot) (block : List ℕ) (rest : TourProg) (o : Option Node) → judged 0 spot block ≡ o
+      → items_until_fault (by_node lo hi (λ child more. more) 0 spot block rest o) ≡ range_leaf lo hi spot (items_until_fault rest) o
   stops_leaf spot block rest None is = refl
   stops_leaf spot block rest (Some (node.Leaf xs)) is = stops_items (items_within lo hi spot.addr xs) rest
   stops_leaf spot block rest (Some (node.Inner ps)) is = absurd (no_inner spot block ps is)
 
-  stops_inner : (n : ℕ) (spot : Spot) (block : List ℕ) (rest : TourProg) (o : Option Node) → ((child : Spot) (more : TourProg) → items_until_fault (tour_from lo hi n child more) ≡ range_at lo hi n child (items_until_fault more)) → judged (suc n) spot block ≡ o → items_until_fault (by_node lo hi (tour_from lo hi n) (suc n) spot block rest o) ≡ range_inner lo hi (range_at lo hi n) spot (items_until_fault rest) o
+  stops_inner : (n : ℕ) (spot : Spot) (block : List ℕ) (rest : TourProg) (o : Option Node)
+      → ((child : Spot) (more : TourProg) → items_until_fault (tour_from lo hi n child more) ≡ range_at lo hi n child (items_until_fault more))
+      → judged (suc n) spot block ≡ o → items_until_fault (by_node lo hi (tour_from lo hi n) (suc n) spot block rest o)
+      ≡ range_inner lo hi (range_at lo hi n) spot (items_until_fault rest) o
   stops_inner n spot block rest None ih is = refl
   stops_inner n spot block rest (Some (node.Leaf xs)) ih is = absurd (no_leaf n spot block xs is)
   stops_inner n spot block rest (Some (node.Inner ps)) ih is = stops_children (tour_from lo hi n) (range_at lo hi n) ih spot.addr (suc n - 1) ps spot.up rest
 
-  stops_from : (level : ℕ) (spot : Spot) (rest : TourProg) → items_until_fault (tour_from lo hi level spot rest) ≡ range_at lo hi level spot (items_until_fault rest)
+  stops_from : (level : ℕ) (spot : Spot) (rest : TourProg) → items_until_fault (tour_from lo hi level spot rest)
+      ≡ range_at lo hi level spot (items_until_fault rest)
   stops_from zero spot rest = ap (Need (want_of 0 spot)) (fun_ext (λ block. stops_leaf spot block rest (judged 0 spot block) refl))
-  stops_from (suc n) spot rest = ap (Need (want_of (suc n) spot)) (fun_ext (λ block. stops_inner n spot block rest (judged (suc n) spot block) (stops_from n) refl))
+  stops_from (suc n) spot rest = ap (Need (want_of (suc n) spot))
+      (fun_ext (λ block. stops_inner n spot block rest (judged (suc n) spot block) (stops_from n) refl))
 
 pub stops_law : StopsLaw
 stops_law root lo hi = stops_from lo hi root.level (root_spot root) (Done tt)
@@ -83,15 +94,19 @@ meets_all : (ms : List Mark) (rest : TourProg) → MeetsFaults rest → MeetsFau
 meets_all [] rest h = h
 meets_all (m ∷ ms) rest h = meets_all ms rest h
 
-meets_children : (tour : Spot → TourProg → TourProg) → ((spot : Spot) (rest : TourProg) → MeetsFaults rest → MeetsFaults (tour spot rest)) → (addr level : ℕ) (spots : List Spot) (rest : TourProg) → MeetsFaults rest → MeetsFaults (children tour addr level spots rest)
+meets_children : (tour : Spot → TourProg → TourProg) → ((spot : Spot) (rest : TourProg) → MeetsFaults rest → MeetsFaults (tour spot rest))
+    → (addr level : ℕ) (spots : List Spot) (rest : TourProg) → MeetsFaults rest → MeetsFaults (children tour addr level spots rest)
 meets_children tour each addr level [] rest h = h
 meets_children tour each addr level (spot ∷ spots) rest h = each spot (children tour addr level spots rest) (meets_children tour each addr level spots rest h)
 
 module _ (lo hi : Key) where
-  meets_node : (tour : Spot → TourProg → TourProg) → ((spot : Spot) (rest : TourProg) → MeetsFaults rest → MeetsFaults (tour spot rest)) → (level : ℕ) (spot : Spot) (block : List ℕ) (rest : TourProg) (o : Option Node) → MeetsFaults rest → MeetsFaults (by_node lo hi tour level spot block rest o)
+  meets_node : (tour : Spot → TourProg → TourProg) → ((spot : Spot) (rest : TourProg) → MeetsFaults rest → MeetsFaults (tour spot rest))
+      → (level : ℕ) (spot : Spot) (block : List ℕ) (rest : TourProg) (o : Option Node) → MeetsFaults rest
+      → MeetsFaults (by_node lo hi tour level spot block rest o)
   meets_node tour each level spot block rest None h = h
   meets_node tour each level spot block rest (Some (node.Leaf xs)) h = meets_all (map Item (items_within lo hi spot.addr xs)) rest h
-  meets_node tour each level spot block rest (Some (node.Inner ps)) h = meets_children tour each spot.addr (level - 1) (filter (meets_keys lo hi) (child_spots ps spot.up)) rest h
+  meets_node tour each level spot block rest (Some (node.Inner ps)) h = meets_children tour each spot.addr (level - 1)
+      (filter (meets_keys lo hi) (child_spots ps spot.up)) rest h
 
   meets_from : (level : ℕ) (spot : Spot) (rest : TourProg) → MeetsFaults rest → MeetsFaults (tour_from lo hi level spot rest)
   meets_from zero spot rest h = (λ fault. refl, λ block. meets_node (λ child more. more) (λ child more g. g) 0 spot block rest (judged 0 spot block) h)
@@ -112,8 +127,10 @@ module _ (B : Map) where
   no_left fault (Act (Item item) p) h none = h
   no_left fault (Act (Left other) p) h none = let e : other ∷ faults_met (marks_by p) ≡ [] = none in cc
 
-  by_fate : (x : Result (List ℕ) Fault) (k : Result (List ℕ) Fault → TourProg) → ((fault : Fault) → IsLeft fault (k (Err fault))) → ((block : List ℕ) → faults_met (marks_by (k (Ok block))) ≡ [] → HasItems (k (Ok block))) → faults_met (marks_by (k x)) ≡ []
-      → (steps_of (given x (λ block. exec B (items_until_fault (k (Ok block))))).marks ≡ items_met (marks_by (k x))) × ((given x (λ block. exec B (items_until_fault (k (Ok block))))).ending ≡ Ok tt)
+  by_fate : (x : Result (List ℕ) Fault) (k : Result (List ℕ) Fault → TourProg) → ((fault : Fault) → IsLeft fault (k (Err fault)))
+      → ((block : List ℕ) → faults_met (marks_by (k (Ok block))) ≡ [] → HasItems (k (Ok block))) → faults_met (marks_by (k x)) ≡ []
+      → (steps_of (given x (λ block. exec B (items_until_fault (k (Ok block))))).marks ≡ items_met (marks_by (k x)))
+      × ((given x (λ block. exec B (items_until_fault (k (Ok block))))).ending ≡ Ok tt)
   by_fate (Ok block) k left ih none = ih block none
   by_fate (Err fault) k left ih none = absurd (no_left fault (k (Err fault)) (left fault) none)
 

@@ -1,5 +1,6 @@
 -- A tour comes nearer to its end.
-use Rattle.std.proofs.Common.{◌≡◌, ◌∙◌, ℕ, zero, suc, ◌+◌, ◌-◌, ◌*◌, ◌^◌, ◌<◌, ◌≤◌, List, [], ◌∷◌, length, get_or, set, Option, Some, None, IfSome, refl, sym, ap, subst, arith}
+use Rattle.std.proofs.Common.{◌≡◌, ◌∙◌, ℕ, zero, suc, ◌+◌, ◌-◌, ◌*◌, ◌^◌, ◌<◌, ◌≤◌, List, [], ◌∷◌, length, get_or, set, Option, Some, None, IfSome, refl, sym}
+use Rattle.std.proofs.Common.{ap, subst, arith}
 use Rattle.std.proofs.lemmas.List.{length-set, get_or-set_other}
 use Rattle.btr_node.specs.Block.{KeyPointer}
 use Rattle.btr_base.specs.declared.key.Key.{Key}
@@ -19,7 +20,8 @@ use Rattle.btr_tour.specs.Steps.{IsLowest, FramesFrom, FitsBelow, left_out, pass
 use Rattle.btr_tour.proofs.Seeking.{length-spots}
 
 -- the children of a node are less than the node
-enter_less : (i : ℕ) (fs : List (Option Frame)) (o : Option Frame) → i < length fs → digit o < 2 ^ 64 → ((k : ℕ) → k < suc i → get_or fs k None ≡ None) → rank_path (set fs i o) + 1 ≤ rank_todo (suc i) fs
+enter_less : (i : ℕ) (fs : List (Option Frame)) (o : Option Frame) → i < length fs → digit o < 2 ^ 64
+    → ((k : ℕ) → k < suc i → get_or fs k None ≡ None) → rank_path (set fs i o) + 1 ≤ rank_todo (suc i) fs
 enter_less i [] o lt d h = absurd (omega (arith, lt))
 enter_less zero (x ∷ fs) o lt d h = let e : digit x ≡ 0 = ap digit (h 0 (omega arith)) in omega (arith, e, d, one_more 0 fs)
 enter_less (suc i) (x ∷ fs) o lt d h =
@@ -27,7 +29,8 @@ enter_less (suc i) (x ∷ fs) o lt d h =
     omega (arith, e, enter_less i fs o (omega (arith, lt)) d (λ k l. h (suc k) (omega (arith, l))))
 
 -- a node that is left out
-gone_less : (i : ℕ) (fs : List (Option Frame)) (o : Option Frame) → i < length fs → digit o ≤ digit (get_or fs i None) → rank_path (set fs i o) + (digit (get_or fs i None) - digit o) ≤ rank_path fs
+gone_less : (i : ℕ) (fs : List (Option Frame)) (o : Option Frame) → i < length fs → digit o ≤ digit (get_or fs i None) → rank_path (set fs i o)
+    + (digit (get_or fs i None) - digit o) ≤ rank_path fs
 gone_less i [] o lt d = absurd (omega (arith, lt))
 gone_less zero (x ∷ fs) o lt d = omega (arith, d)
 gone_less (suc i) (x ∷ fs) o lt d = omega (arith, gone_less i fs o (omega (arith, lt)) d)
@@ -126,7 +129,8 @@ module _ (place : Where) (low : AtLevel) (none : place.todo ≡ None) (lowest : 
   below_fits : (b : Below) → FitsBelow low.frame b → IfSome b.frame FrameFits × (digit b.frame + 1 ≤ low.frame.end - low.frame.next)
   below_fits b h = at b.frame h
     where
-      at : (o : Option Frame) → IfSome o (λ f. (low.frame.next < f.next) × (f.next < f.end) × (f.end ≡ low.frame.end)) → IfSome o FrameFits × (digit o + 1 ≤ low.frame.end - low.frame.next)
+      at : (o : Option Frame) → IfSome o (λ f. (low.frame.next < f.next) × (f.next < f.end) × (f.end ≡ low.frame.end)) → IfSome o FrameFits
+          × (digit o + 1 ≤ low.frame.end - low.frame.next)
       at None h = (tt, omega (arith, fits.0))
       at (Some f) h = ((h.1, omega (arith, h.2, fits.1)), omega (arith, h.0, h.1, h.2))
 

@@ -1,5 +1,6 @@
 -- A tour whose leaf was given back, and one that is taken up again.
-use Rattle.std.proofs.Common.{◌≡◌, ◌∙◌, ℕ, ◌+◌, ◌-◌, ◌*◌, ◌^◌, List, [], length, map, filter, drop, Option, Some, None, IfSome, IsTrue, Ok, Err, refl, sym, ap, subst, arith}
+use Rattle.std.proofs.Common.{◌≡◌, ◌∙◌, ℕ, ◌+◌, ◌-◌, ◌*◌, ◌^◌, List, [], length, map, filter, drop, Option, Some, None, IfSome, IsTrue, Ok, Err, refl, sym, ap}
+use Rattle.std.proofs.Common.{subst, arith}
 use Rattle.std.proofs.lemmas.List.{drop_all}
 use Rattle.btr_base.specs.declared.key.Key.{Key}
 use Rattle.btr_node.specs.Block.{items, is_leaf}
@@ -53,7 +54,8 @@ module _ (store : Blocks) (l : LeafAt) (hand : IsInHand store l) where
   kept_is B seen held None h = tt
   kept_is B seen held (Some frame) h = subst (IsKept B seen) (sym h.1) (record { block = held.block; came = held.came; is = held.is; read = held.read; all = all_items B seen held })
 
-  kept_same : (lo hi : Key) (B : Map) (seen : List Want) (rest : TourProg) → IsHeld B seen store l → (o : Option Frame) → KeepsFrom l o → kept_left lo hi B o rest ≡ leaf_left lo hi store (Some l) rest
+  kept_same : (lo hi : Key) (B : Map) (seen : List Want) (rest : TourProg) → IsHeld B seen store l → (o : Option Frame) → KeepsFrom l o
+      → kept_left lo hi B o rest ≡ leaf_left lo hi store (Some l) rest
   kept_same lo hi B seen rest held None h =
       let all = all_items B seen held in
       sym (hand_none lo hi B store l held.block rest held.lent (ap (filter (is_within lo hi)) (drop_all l.next (items held.block) (omega (arith, h, all)))))
@@ -140,7 +142,8 @@ module _ (rest : Rest) (fits : Fits rest) where
     pub frame_fits : FrameFits frame
     frame_fits = subst (λ o. IfSome o FrameFits) some fits.kept
 
-    pub taken_some : (rack : Seen) (old new : Blocks) (l : LeafAt) → IsLeafOf frame l → IsInHand new l × SameLoans old (base new (Some l.loan)) → Serves rack new → IsTakenUp rack old new rest (taken (Some l))
+    pub taken_some : (rack : Seen) (old new : Blocks) (l : LeafAt) → IsLeafOf frame l → IsInHand new l × SameLoans old (base new (Some l.loan))
+        → Serves rack new → IsTakenUp rack old new rest (taken (Some l))
     taken_some rack old new l same lent serves = record {
       ready = record { serves = serves; hand = lent.0; shaped = fits.shaped; low = tt };
       others = lent.1;
@@ -152,7 +155,8 @@ module _ (rest : Rest) (fits : Fits rest) where
     kept_here : (B : Map) (seen : List Want) → IsRestOn B seen rest → IsKept B seen frame
     kept_here B seen on = subst (λ o. IfSome o (IsKept B seen)) some on.kept
 
-    pub goes_on_some : (Is : UnreadBlock → Want → Type 0) (B : Map) (store : Blocks) (l : LeafAt) → IsLeafOf frame l → IsLeafAgain Is B frame store (Ok l) → TakesUp Is B rest store (Ok (taken (Some l)))
+    pub goes_on_some : (Is : UnreadBlock → Want → Type 0) (B : Map) (store : Blocks) (l : LeafAt) → IsLeafOf frame l
+        → IsLeafAgain Is B frame store (Ok l) → TakesUp Is B rest store (Ok (taken (Some l)))
     goes_on_some Is B store l same again seen on =
         let lo : Key = rest.scope.lo in
         let hi : Key = rest.scope.hi in
@@ -168,5 +172,6 @@ module _ (rest : Rest) (fits : Fits rest) where
           held = held;
         }
 
-    pub refused_some : (Is : UnreadBlock → Want → Type 0) (B : Map) (store : Blocks) (f : TreeFault) → IsLeafAgain Is B frame store (Err f) → TakesUp Is B rest store (Err f)
+    pub refused_some : (Is : UnreadBlock → Want → Type 0) (B : Map) (store : Blocks) (f : TreeFault) → IsLeafAgain Is B frame store (Err f)
+        → TakesUp Is B rest store (Err f)
     refused_some Is B store f again seen on = again seen (kept_here B seen on)

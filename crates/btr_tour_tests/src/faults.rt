@@ -1,7 +1,7 @@
 // Tours through a tree of which a block is wrong.
 use crate::volume::{CHUNK, FORM, Mark, START, rack_of, root, toured_whole, tree};
 use btr_base::sum;
-use btr_blocks::{Block, Tree};
+use btr_make_blocks::{Block, Tree};
 use btr_walk::TreeFault;
 use std::alloc::{AllocError, Global};
 use std::test::Fail;

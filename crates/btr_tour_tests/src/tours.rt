@@ -5,7 +5,7 @@ ghost use Rattle.btr_read.specs.Serves.{Serves};
 ghost use Rattle.btr_read.specs.Store.{free_count};
 
 use crate::volume::{Mark, NONE, START, rack_of, root, store_over, toured, toured_whole, tree};
-use btr_blocks::Tree;
+use btr_make_blocks::Tree;
 use btr_rack::MemRack;
 use btr_read::Store;
 use btr_walk::RootPlace;

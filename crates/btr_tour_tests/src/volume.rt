@@ -6,8 +6,8 @@ ghost use Rattle.btr_read.specs.Store.{free_count};
 ghost use Rattle.btr_tour.specs.TourEnds.{IsReady, without_leaf};
 
 use btr_base::Key;
-use btr_blocks::{Body, Form, Items, Tree, bodies};
 use btr_chunk::{Chunk, ChunkTable, Stripe};
+use btr_make_blocks::{Body, Form, Items, Tree, bodies};
 use btr_rack::{MemRack, Rack};
 use btr_read::Store;
 use btr_tour::{Met, Tour, next};

@@ -26,7 +26,8 @@ module _ (old new : MemoryRack) (volume after : Volume) (opened : filesystem_of 
   fs = as_checked (held_of old) (filesystem_in volume)
 
   abbrev Ends : Result (List Finding) Stop → Type 0
-  Ends result = Ran (λ fs. Answers (λ all. (refusal fs ≡ None) × (all ≡ findings false fs)) fs result) (world (sure_seen old) volume) (world (sure_seen new) after) result
+  Ends result = Ran (λ fs. Answers (λ all. (refusal fs ≡ None) × (all ≡ findings false fs)) fs result) (world (sure_seen old) volume)
+      (world (sure_seen new) after) result
 
   -- what was answered, of the images
   answered : (result : Result (List Finding) Stop) → Ends result → Answers (λ all. (refusal fs ≡ None) × (all ≡ findings false fs)) fs result

@@ -40,10 +40,12 @@ unfolding filesystem_of
 by_start images = refl
 
 -- the scan of the chunk tree is that over the images
-scanned : (start : Start) (old new : Seen) (images : Images) (answer : Result TableResult (Halt Fault UnreadBlock)) → old.held ≡ Some images → Steady old.account.faults new.account.faults → Scans start old new answer
+scanned : (start : Start) (old new : Seen) (images : Images) (answer : Result TableResult (Halt Fault UnreadBlock)) → old.held ≡ Some images
+    → Steady old.account.faults new.account.faults → Scans start old new answer
     → Follows {S = ⊥} (unread_by (array_layout start) old new) no_part [] (exec (fate images (array_layout start)) (table_scan start)) [] answer
 scanned start old new images answer told steady scans =
-    subst (λ (o : Option Images). IfSome o (λ i. Follows {S = ⊥} (unread_by (array_layout start) old new) no_part [] (exec (fate i (array_layout start)) (table_scan start)) [] answer)) told
+    subst (λ (o : Option Images). IfSome o (λ i. Follows {S = ⊥} (unread_by (array_layout start) old new) no_part []
+    (exec (fate i (array_layout start)) (table_scan start)) [] answer)) told
     (scans.calls.content First (omega (arith, scans.calls.later, steady.0), steady.1))
 
 module _ (old new : Seen) (images : Images) (told : old.held ≡ Some images) (steady : Steady old.account.faults new.account.faults) where
@@ -74,7 +76,8 @@ module _ (old new : Seen) (images : Images) (told : old.held ≡ Some images) (s
   by_tree (tree.Unread a slot) cause s = absurd (steady_not_rose old.account.faults new.account.faults steady cause.1.1.unread.rose)
 
   -- by the superblocks, or by a chunk of the chunk tree
-  by_refusal : (refusal : OpenFault) → (start_of images ≡ Err refusal) ⊎ ((f : TableFault) × (refusal_of f ≡ refusal) × Starts images old new (Ok (Err f))) → filesystem_of images ≡ None
+  by_refusal : (refusal : OpenFault) → (start_of images ≡ Err refusal)
+      ⊎ ((f : TableFault) × (refusal_of f ≡ refusal) × Starts images old new (Ok (Err f))) → filesystem_of images ≡ None
   by_refusal refusal why = ⊎_elim (λ start. by_start images ∙ ap (with_start images) start) (λ table. by_table table.0 table.2) why
 
   -- by the superblocks, or by the root tree's root block
@@ -85,7 +88,8 @@ module _ (old new : Seen) (images : Images) (told : old.held ≡ Some images) (s
       let some = compares_steady images (layout_by d.start d.chunks) (root_want d.start.sup) old new (Some slot) told steady d.differ in
       by_start images ∙ ap (with_start images) d.is ∙ ap (with_table images d.start) scan.1 ∙ ap (with_roots d.start d.chunks) (sym some)) why
 
-  refused : (refusal : OpenFault) → (refusal ≡ opening.Memory → ⊥) → OpenCause {T = Volume} old new (Err refusal) → Opens images old new (Err refusal) → filesystem_of images ≡ None
+  refused : (refusal : OpenFault) → (refusal ≡ opening.Memory → ⊥) → OpenCause {T = Volume} old new (Err refusal) → Opens images old new (Err refusal)
+      → filesystem_of images ≡ None
   refused (opening.ImageFault slot) own cause opens = absurd (steady_not_rose old.account.faults new.account.faults steady cause.faults)
   refused opening.Memory own cause opens = absurd (own refl)
   refused (opening.Tree f) own cause opens = by_tree f cause opens
@@ -116,8 +120,10 @@ module _ (old new : MemoryRack) (reads : OnlyReads (sure_seen old) (sure_seen ne
   here : held_of new ≡ held_of old
   here = (kept_open old new reads).held
 
-  pub opens_volume : (volume : Volume) → IsFresh (sure_seen new) volume → Opens (held_of old) (sure_seen old) (sure_seen new) (Ok volume) → OpensAs new (Some volume)
+  pub opens_volume : (volume : Volume) → IsFresh (sure_seen new) volume → Opens (held_of old) (sure_seen old) (sure_seen new) (Ok volume)
+      → OpensAs new (Some volume)
   opens_volume volume fresh opens = (fresh, ap filesystem_of here ∙ opened (sure_seen old) (sure_seen new) (held_of old) refl steady_none volume opens)
 
-  pub opens_nothing : (refusal : OpenFault) → (refusal ≡ opening.Memory → ⊥) → OpenCause {T = Volume} (sure_seen old) (sure_seen new) (Err refusal) → Opens (held_of old) (sure_seen old) (sure_seen new) (Err refusal) → OpensAs new None
+  pub opens_nothing : (refusal : OpenFault) → (refusal ≡ opening.Memory → ⊥) → OpenCause {T = Volume} (sure_seen old) (sure_seen new) (Err refusal)
+      → Opens (held_of old) (sure_seen old) (sure_seen new) (Err refusal) → OpensAs new None
   opens_nothing refusal own cause opens = ap filesystem_of here ∙ refused (sure_seen old) (sure_seen new) (held_of old) refl steady_none refusal own cause opens

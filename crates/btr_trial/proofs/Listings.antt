@@ -1,5 +1,6 @@
 -- What a restore of a trial comes to.
-use Rattle.std.proofs.Common.{◌≡◌, ◌∙◌, ℕ, true, false, Bool, List, [], ◌∷◌, drop, fold, codes, Option, Some, None, Result, Ok, Err, refl, sym, ap, subst, arith}
+use Rattle.std.proofs.Common.{◌≡◌, ◌∙◌, ℕ, true, false, Bool, List, [], ◌∷◌, drop, fold, codes, Option, Some, None, Result, Ok, Err, refl, sym, ap, subst}
+use Rattle.std.proofs.Common.{arith}
 use Rattle.std.specs.Option.{option_and_then, option_map}
 use Rattle.btr_files.specs.declared.counts.Counts.{Counts}
 use Rattle.btr_listing.specs.Step.{Step, Start, Dir, Up, File, Bytes, Zeros, Done, Line, part}
@@ -85,12 +86,14 @@ module _ (number : ℕ) (old new : MemoryRack) (volume after : Volume) (opened :
   follows : (result : Result Counts Stop) (ran : Ends result) → Follows Is part [] run ran.did.done (ended result)
   follows result ran =
       let goes = ran.did.content.calls.content First (refl, omega arith) in
-      subst (λ (r : Run Want Fault Step Counts). Follows Is part [] r ran.did.done (ended result)) (one_run p (fate (held_of old) volume.store.layout) goes.0 goes.1) goes.2
+      subst (λ (r : Run Want Fault Step Counts). Follows Is part [] r ran.did.done (ended result))
+      (one_run p (fate (held_of old) volume.store.layout) goes.0 goes.1) goes.2
 
   by_run : (ending : Result Counts Fault) → run.ending ≡ ending → restored_same number (held_of old) ≡ ended_same number run ending
   by_run ending is = ap (option_and_then (λ fs. same_run number (restored_in (held_of old) fs))) opened ∙ ap (ended_same number run) is
 
-  pub restored_listed : (counts : Counts) → Ends (Ok counts) → restored_same number (held_of old) ≡ Some (same_rows (drop 1 tree'.tree.rows) (directories 0 number))
+  pub restored_listed : (counts : Counts) → Ends (Ok counts) → restored_same number (held_of old)
+      ≡ Some (same_rows (drop 1 tree'.tree.rows) (directories 0 number))
   restored_listed counts ran =
       let h = follows (Ok counts) ran in
       let stands : Some tree'.tree ≡ Some (tree_after ran.did.done) =
@@ -119,6 +122,7 @@ module _ (number : ℕ) (old new : MemoryRack) (volume after : Volume) (opened :
   restored_stopped stop.Balance own ran = absurd ran.cause
   restored_stopped (stop.Missing id) own ran = absurd ran.cause
   restored_stopped (stop.Image slot) own ran = absurd ran.cause
-  restored_stopped stop.Sink own ran = absurd (absurdly (account_of tree.calls).sure (ap (λ (t : MemoryTree). (account_of t.calls).sure) empty) ran.sink_calls.0)
+  restored_stopped stop.Sink own ran = absurd (absurdly (account_of tree.calls).sure (ap (λ (t : MemoryTree). (account_of t.calls).sure) empty)
+      ran.sink_calls.0)
   restored_stopped stop.Out own ran = absurd (absurdly (account_of out.calls).sure (ap (λ (o : MemoryOut). (account_of o.calls).sure) blank) ran.out_calls.0)
   restored_stopped stop.Memory own ran = absurd (own refl)

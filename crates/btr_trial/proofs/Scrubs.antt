@@ -30,13 +30,15 @@ module _ (old new : MemoryRack) (volume : Volume) (opened : filesystem_of (held_
   abbrev Ends : Result Tally Stop → Type 0
   Ends result = IsScrubbed (called volume true (sure_seen old) (sure_seen new) result)
 
-  by_effect : (result : Result Tally Stop) → HasEffect (called volume true (sure_seen old) (sure_seen new) result) (held_of old) (held_of new) → Scrubs old new result
+  by_effect : (result : Result Tally Stop) → HasEffect (called volume true (sure_seen old) (sure_seen new) result) (held_of old) (held_of new)
+      → Scrubs old new result
   by_effect result h = record {
     lost_is = ap (option_and_then (λ fs. lost_by (effect true (held_of old) fs).answer)) opened ∙ ap lost_by (sym h.answer);
     left_is = h.same ∙ sym (ap (λ o. option_map_or (λ fs. (effect true (held_of old) fs).images) o (held_of old)) opened);
   }
 
-  answered : (result : Result Tally Stop) → Ends result → AnswersAs (called volume true (sure_seen old) (sure_seen new) result) (held_of old) (held_of new) result
+  answered : (result : Result Tally Stop) → Ends result → AnswersAs (called volume true (sure_seen old) (sure_seen new) result) (held_of old)
+      (held_of new) result
   answered result s = s.answers (inl steady_none)
 
   pub scrub_done : (tally : Tally) → Ends (Ok tally) → Scrubs old new (Ok tally)

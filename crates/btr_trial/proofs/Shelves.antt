@@ -1,5 +1,6 @@
 -- The images of a rack in memory, on the shelf, open, and on the shelf again.
-use Rattle.std.proofs.Common.{◌≡◌, ◌≢◌, ◌∙◌, ℕ, zero, suc, ◌-◌, ◌^◌, ◌<◌, Bool, true, false, ◌&&◌, cond, nat_lt, OnOk, Result, Ok, Err, List, [], ◌∷◌, ◌++◌, map, take, drop, get_or, codes, Some, refl, sym, ap, subst, arith}
+use Rattle.std.proofs.Common.{◌≡◌, ◌≢◌, ◌∙◌, ℕ, zero, suc, ◌-◌, ◌^◌, ◌<◌, Bool, true, false, ◌&&◌, cond, nat_lt, OnOk, Result, Ok, Err, List, [], ◌∷◌, ◌++◌}
+use Rattle.std.proofs.Common.{map, take, drop, get_or, codes, Some, refl, sym, ap, subst, arith}
 use Rattle.std.specs.List.{find}
 use Rattle.std.specs.Option.{IsSome, is_some, option_map, unwrap_or}
 use Rattle.std.specs.Str.{bytes_eq}
@@ -63,8 +64,10 @@ three_of (x ∷ y ∷ z ∷ []) e = record {
 three_of (x ∷ y ∷ z ∷ w ∷ more) e = cc
 
 -- the image of a name is the one that stands behind others
-found : (name this : List ℕ) (x : MemoryImage) (more : List MemoryImage) (b : Bool) → x.slot.name ≡ this → bytes_eq this name ≡ b → find (is_named name) (x ∷ more) ≡ cond b (Some x) (find (is_named name) more)
-found name this x more b is e = ap (λ (n : List ℕ). cond (bytes_eq n name) (Some x) (find (is_named name) more)) is ∙ ap (λ t. cond t (Some x) (find (is_named name) more)) e
+found : (name this : List ℕ) (x : MemoryImage) (more : List MemoryImage) (b : Bool) → x.slot.name ≡ this → bytes_eq this name ≡ b
+    → find (is_named name) (x ∷ more) ≡ cond b (Some x) (find (is_named name) more)
+found name this x more b is e = ap (λ (n : List ℕ). cond (bytes_eq n name) (Some x) (find (is_named name) more)) is
+    ∙ ap (λ t. cond t (Some x) (find (is_named name) more)) e
 
 module _ (rack closed : MemoryRack) (names : map (λ (s : Slot). s.name) (slots_of rack) ≡ volume_names) (sure : is_sure rack ≡ true)
     (is : closed ≡ record rack { opened = 0; failing = nothing_fails; unsynced = []; never_synced = [] }) where
@@ -81,18 +84,21 @@ module _ (rack closed : MemoryRack) (names : map (λ (s : Slot). s.name) (slots_
   closed_slots = ap slots_of is
 
   on_shelf : (name : List ℕ) (x : MemoryImage) → find (is_named name) (t.x ∷ t.y ∷ t.z ∷ more) ≡ Some x → shelf_of closed name ≡ Some (bytes_in x)
-  on_shelf name x e = shelf_closed closed name closed_slots ∙ ap (λ (l : List MemoryImage). option_map bytes_in (find (is_named name) l)) images ∙ ap (option_map bytes_in) e
+  on_shelf name x e = shelf_closed closed name closed_slots ∙ ap (λ (l : List MemoryImage). option_map bytes_in (find (is_named name) l)) images
+      ∙ ap (option_map bytes_in) e
 
   shelf_a : shelf_of closed (codes "a") ≡ Some (bytes_in t.x)
   shelf_a = on_shelf (codes "a") t.x (found (codes "a") (codes "a") t.x (t.y ∷ t.z ∷ more) true t.a refl)
 
   shelf_b : shelf_of closed (codes "b") ≡ Some (bytes_in t.y)
   shelf_b =
-      on_shelf (codes "b") t.y (found (codes "b") (codes "a") t.x (t.y ∷ t.z ∷ more) false t.a refl ∙ found (codes "b") (codes "b") t.y (t.z ∷ more) true t.b refl)
+      on_shelf (codes "b") t.y (found (codes "b") (codes "a") t.x (t.y ∷ t.z ∷ more) false t.a refl
+      ∙ found (codes "b") (codes "b") t.y (t.z ∷ more) true t.b refl)
 
   shelf_c : shelf_of closed (codes "c") ≡ Some (bytes_in t.z)
   shelf_c =
-      on_shelf (codes "c") t.z (found (codes "c") (codes "a") t.x (t.y ∷ t.z ∷ more) false t.a refl ∙ found (codes "c") (codes "b") t.y (t.z ∷ more) false t.b refl ∙ found (codes "c") (codes "c") t.z more true t.c refl)
+      on_shelf (codes "c") t.z (found (codes "c") (codes "a") t.x (t.y ∷ t.z ∷ more) false t.a refl
+      ∙ found (codes "c") (codes "b") t.y (t.z ∷ more) false t.b refl ∙ found (codes "c") (codes "c") t.z more true t.c refl)
 
   and_right : (a b : Bool) → (a && b) ≡ true → b ≡ true
   and_right true b e = e
@@ -109,7 +115,8 @@ module _ (rack closed : MemoryRack) (names : map (λ (s : Slot). s.name) (slots_
     ranges = ap (λ (r : MemoryRack). r.failing.failing_ranges) is;
     unsynced = ap (λ (r : MemoryRack). r.unsynced) is;
     never_synced = ap (λ (r : MemoryRack). r.never_synced) is;
-    faults = rw (ap (λ (r : MemoryRack). r.account) is) (ltb-true rack.account.faults (2 ^ 64 - 1) (and_right (is_calm rack.failing) (nat_lt rack.account.faults (2 ^ 64 - 1)) sure));
+    faults = rw (ap (λ (r : MemoryRack). r.account) is) (ltb-true rack.account.faults (2 ^ 64 - 1)
+        (and_right (is_calm rack.failing) (nat_lt rack.account.faults (2 ^ 64 - 1)) sure));
   }
 
   pub closed_volume : volume_of closed ≡ held_of rack
@@ -118,7 +125,8 @@ module _ (rack closed : MemoryRack) (names : map (λ (s : Slot). s.name) (slots_
 -- a rack of a volume that can be tried is sure, and has the image of each number
 pub ready_sure : (rack : MemoryRack) → IsReady rack → is_sure rack ≡ true
 ready_sure rack ready =
-    (λ i. (is_empty (ready.calls i) && is_empty (ready.writes i) && is_empty (ready.ranges i)) && nat_lt rack.account.faults (2 ^ 64 - 1)) ∙ lt-ltb rack.account.faults (2 ^ 64 - 1) ready.faults
+    (λ i. (is_empty (ready.calls i) && is_empty (ready.writes i) && is_empty (ready.ranges i)) && nat_lt rack.account.faults (2 ^ 64 - 1))
+    ∙ lt-ltb rack.account.faults (2 ^ 64 - 1) ready.faults
 
 name_holds : (P : List ℕ → Type 0) → P (codes "a") → P (codes "b") → P (codes "c") → (slot : ℕ) → slot < 3 → P (name_at slot)
 name_holds P a b c zero below = a
@@ -135,8 +143,10 @@ image_stands rack ready slot below =
 abbrev bytes_named : MemoryRack → List ℕ → List ℕ
 bytes_named rack name = unwrap_or (named rack name) []
 
-named_in : (rack : MemoryRack) → slots_of rack ≡ [] → volume_of rack ≡ bytes_named rack (codes "a") ∷ bytes_named rack (codes "b") ∷ bytes_named rack (codes "c") ∷ []
-named_in rack closed = λ i. unwrap_or (shelf_closed rack (codes "a") closed i) [] ∷ unwrap_or (shelf_closed rack (codes "b") closed i) [] ∷ unwrap_or (shelf_closed rack (codes "c") closed i) [] ∷ []
+named_in : (rack : MemoryRack) → slots_of rack ≡ [] → volume_of rack
+    ≡ bytes_named rack (codes "a") ∷ bytes_named rack (codes "b") ∷ bytes_named rack (codes "c") ∷ []
+named_in rack closed = λ i. unwrap_or (shelf_closed rack (codes "a") closed i) [] ∷ unwrap_or (shelf_closed rack (codes "b") closed i) [] ∷ unwrap_or
+    (shelf_closed rack (codes "c") closed i) [] ∷ []
 
 -- what is to fail, and the count of faults, stand as they were
 pub standing_sure : (old new : MemoryRack) → standing new ≡ standing old → is_sure new ≡ is_sure old
@@ -156,25 +166,31 @@ module _ (old new : MemoryRack) (ready : IsReady old) where
     other : (n : List ℕ) → n ≢ name → bytes_named new n ≡ bytes_named old n
     other n apart = ap (λ o. unwrap_or o []) (s.2.others n apart)
 
-    volume_by : (a b c : List ℕ) → bytes_named new (codes "a") ≡ a → bytes_named new (codes "b") ≡ b → bytes_named new (codes "c") ≡ c → volume_of new ≡ a ∷ b ∷ c ∷ []
+    volume_by : (a b c : List ℕ) → bytes_named new (codes "a") ≡ a → bytes_named new (codes "b") ≡ b → bytes_named new (codes "c") ≡ c → volume_of new
+        ≡ a ∷ b ∷ c ∷ []
     volume_by a b c is_a is_b is_c = named_in new (still_ready name s).closed ∙ (λ i. is_a i ∷ is_b i ∷ is_c i ∷ [])
 
-  back : (slot : ℕ) → spoiled_at (bytes_named old (codes "a") ∷ bytes_named old (codes "b") ∷ bytes_named old (codes "c") ∷ []) slot ≡ spoiled_at (volume_of old) slot
+  back : (slot : ℕ) → spoiled_at (bytes_named old (codes "a") ∷ bytes_named old (codes "b") ∷ bytes_named old (codes "c") ∷ []) slot
+      ≡ spoiled_at (volume_of old) slot
   back slot = ap (λ (l : List (List ℕ)). spoiled_at l slot) (sym (named_in old ready.closed))
 
   pub spoiled_volume : (slot : ℕ) → slot < 3 → IsSpoiled (name_at slot) old new → volume_of new ≡ spoiled_at (volume_of old) slot
   spoiled_volume zero below s =
-      volume_by (codes "a") s (spoiled (bytes_named old (codes "a"))) (bytes_named old (codes "b")) (bytes_named old (codes "c")) (this (codes "a") s) (other (codes "a") s (codes "b") (λ e. a-b (sym e))) (other (codes "a") s (codes "c") (λ e. a-c (sym e)))
+      volume_by (codes "a") s (spoiled (bytes_named old (codes "a"))) (bytes_named old (codes "b")) (bytes_named old (codes "c")) (this (codes "a") s)
+      (other (codes "a") s (codes "b") (λ e. a-b (sym e))) (other (codes "a") s (codes "c") (λ e. a-c (sym e)))
       ∙ back 0
   spoiled_volume (suc zero) below s =
-      volume_by (codes "b") s (bytes_named old (codes "a")) (spoiled (bytes_named old (codes "b"))) (bytes_named old (codes "c")) (other (codes "b") s (codes "a") a-b) (this (codes "b") s) (other (codes "b") s (codes "c") (λ e. b-c (sym e)))
+      volume_by (codes "b") s (bytes_named old (codes "a")) (spoiled (bytes_named old (codes "b"))) (bytes_named old (codes "c"))
+      (other (codes "b") s (codes "a") a-b) (this (codes "b") s) (other (codes "b") s (codes "c") (λ e. b-c (sym e)))
       ∙ back 1
   spoiled_volume (suc (suc zero)) below s =
-      volume_by (codes "c") s (bytes_named old (codes "a")) (bytes_named old (codes "b")) (spoiled (bytes_named old (codes "c"))) (other (codes "c") s (codes "a") a-c) (other (codes "c") s (codes "b") b-c) (this (codes "c") s)
+      volume_by (codes "c") s (bytes_named old (codes "a")) (bytes_named old (codes "b")) (spoiled (bytes_named old (codes "c")))
+      (other (codes "c") s (codes "a") a-c) (other (codes "c") s (codes "b") b-c) (this (codes "c") s)
       ∙ back 2
   spoiled_volume (suc (suc (suc n))) below s = absurd (omega (arith, below))
 
-  pub spoiled_comes : {E : Type 0} (slot : ℕ) (name : List ℕ) → slot < 3 → name ≡ name_at slot → (r : Result (Unit {0}) E) → OnOk r (IsSpoiled name old new) → Comes (λ images. tt) (λ images. spoiled_at images slot) old new r
+  pub spoiled_comes : {E : Type 0} (slot : ℕ) (name : List ℕ) → slot < 3 → name ≡ name_at slot → (r : Result (Unit {0}) E)
+      → OnOk r (IsSpoiled name old new) → Comes (λ images. tt) (λ images. spoiled_at images slot) old new r
   spoiled_comes slot name below is (Ok u) s =
       let this : IsSpoiled (name_at slot) old new = subst (λ n. IsSpoiled n old new) is s in
       (still_ready (name_at slot) this, refl, spoiled_volume slot below this)

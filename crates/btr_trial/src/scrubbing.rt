@@ -1,7 +1,7 @@
 // The scrub of a trial.
 ghost use Rattle.std.specs.Prelude.{◌≡◌, IfOk, OnOk};
 ghost use Rattle.btr_make.specs.Shelf.{IsReady};
-ghost use Rattle.btr_mend.specs.Writes.{AreWritable};
+ghost use Rattle.btr_scrub_copies.specs.Writes.{AreWritable};
 ghost use Rattle.btr_rack.specs.Memory.{held_of, slots_of};
 ghost use Rattle.btr_trial.specs.Sure.{Comes, HasImages};
 ghost use Rattle.btr_trial.specs.Trial.{lost_of, scrubbed};

@@ -1,5 +1,6 @@
 -- The devices of the images, slot by slot.
-use Rattle.std.proofs.Common.{◌≡◌, ℕ, ◌+◌, ◌<◌, Bool, true, false, List, [], ◌∷◌, ◌++◌, length, map, take, drop, get_or, Option, Some, None, refl, sym, ap, ◌∙◌, subst, arith, add-one, if◌then◌else◌, ◌==◌, ◌||◌}
+use Rattle.std.proofs.Common.{◌≡◌, ℕ, ◌+◌, ◌<◌, Bool, true, false, List, [], ◌∷◌, ◌++◌, length, map, take, drop, get_or, Option, Some, None, refl, sym, ap, ◌∙◌}
+use Rattle.std.proofs.Common.{subst, arith, add-one, if◌then◌else◌, ◌==◌, ◌||◌}
 use Rattle.std.proofs.Math.Seq.{drop-cons}
 use Rattle.std.proofs.lemmas.List.{take_more, get_or-map, length-map, length-take-le}
 use Rattle.btr_rack.specs.Rack.{Slot, len_of, no_slot}
@@ -12,7 +13,8 @@ use Rattle.btr_super.specs.declared.superblock.Super.{Super}
 use Rattle.btr_volume.specs.Start.{has_device, twin_from, member, devices_from}
 
 -- one more device
-pub devices_more : (g slot : ℕ) (xs : List Super) (s : Super) (lens : List ℕ) (len d : ℕ) → length xs < length lens → get_or lens (length xs) d ≡ len → devices_from g slot (xs ++ s ∷ []) lens ≡ devices_from g slot xs lens ++ member g (slot + length xs) s len ∷ []
+pub devices_more : (g slot : ℕ) (xs : List Super) (s : Super) (lens : List ℕ) (len d : ℕ) → length xs < length lens → get_or lens (length xs) d ≡ len
+    → devices_from g slot (xs ++ s ∷ []) lens ≡ devices_from g slot xs lens ++ member g (slot + length xs) s len ∷ []
 devices_more g slot [] s [] len d lt is = absurd (omega (arith, lt))
 devices_more g slot [] s (l ∷ lens) len d lt is = ap (λ (x : ℕ). member g slot s x ∷ []) is ∙ ap (λ (n : ℕ). member g n s len ∷ []) (omega arith)
 devices_more g slot (x ∷ xs) s [] len d lt is = absurd (omega (arith, lt))
@@ -34,7 +36,8 @@ not_among g slot devid [] lens none = refl
 not_among g slot devid (x ∷ xs) [] none = refl
 not_among g slot devid (x ∷ xs) (l ∷ lens) none =
     let no = neither (x.devid == devid) (has_device xs devid) none in
-    if_false (x.devid == devid) (Some (member g slot x l).device) (device_in (devices_from g (slot + 1) xs lens) devid) no.0 ∙ not_among g (slot + 1) devid xs lens no.1
+    if_false (x.devid == devid) (Some (member g slot x l).device) (device_in (devices_from g (slot + 1) xs lens) devid) no.0
+    ∙ not_among g (slot + 1) devid xs lens no.1
 
 not_some : (b : Bool) (slot : ℕ) (o : Option ℕ) → (if b then Some slot else o) ≡ None → (b ≡ false) × (o ≡ None)
 not_some true slot o e = absurd (cc e)
@@ -48,7 +51,8 @@ module _ (supers : List Super) (slot : ℕ) (d : Super) (lt : slot < length supe
   one_taken = take_more supers slot d lt
 
   -- no device before a slot's is the same, and so on
-  pub own_next : twin_from slot (take slot supers) (drop slot supers) ≡ None → (has_device (take slot supers) this.devid ≡ false) × (twin_from (slot + 1) (take (slot + 1) supers) (drop (slot + 1) supers) ≡ None)
+  pub own_next : twin_from slot (take slot supers) (drop slot supers) ≡ None → (has_device (take slot supers) this.devid ≡ false)
+      × (twin_from (slot + 1) (take (slot + 1) supers) (drop (slot + 1) supers) ≡ None)
   own_next none =
       let from : drop slot supers ≡ this ∷ drop (slot + 1) supers = drop-cons supers slot d lt ∙ ap (λ k. this ∷ drop k supers) (sym (add-one slot)) in
       let both = not_some (has_device (take slot supers) this.devid) slot (twin_from (slot + 1) (take slot supers ++ this ∷ []) (drop (slot + 1) supers)) (sym (ap (twin_from slot (take slot supers)) from) ∙ none) in
@@ -134,12 +138,14 @@ equal a b e = grind arith
 the_device : (a b : Device) → Some a ≡ Some b → a ≡ b
 the_device a b e = cc
 
-located : (g slot : ℕ) (xs : List Super) (lens : List ℕ) (devid : ℕ) (device : Device) → device_in (devices_from g slot xs lens) devid ≡ Some device → At slot xs lens devid device
+located : (g slot : ℕ) (xs : List Super) (lens : List ℕ) (devid : ℕ) (device : Device) → device_in (devices_from g slot xs lens) devid ≡ Some device
+    → At slot xs lens devid device
 located g slot [] lens devid device e = absurd (cc e)
 located g slot (x ∷ xs) [] devid device e = absurd (cc e)
 located g slot (x ∷ xs) (l ∷ lens) devid device e = by (x.devid == devid) refl e (located g (slot + 1) xs lens devid device)
   where
-    by : (b : Bool) → (x.devid == devid) ≡ b → (if b then Some (member g slot x l).device else device_in (devices_from g (slot + 1) xs lens) devid) ≡ Some device
+    by : (b : Bool) → (x.devid == devid) ≡ b → (if b then Some (member g slot x l).device else device_in (devices_from g (slot + 1) xs lens) devid)
+        ≡ Some device
         → (device_in (devices_from g (slot + 1) xs lens) devid ≡ Some device → At (slot + 1) xs lens devid device) → At slot (x ∷ xs) (l ∷ lens) devid device
     by true is e on =
         let d : (member g slot x l).device ≡ device = the_device (member g slot x l).device device e in
@@ -161,7 +167,8 @@ module _ (g : ℕ) (supers : List Super) (slots : List Slot) where
       let within : device.slot < length slots = omega (arith, a.long, a.slot_is, length-map slots (λ (x : Slot). x.len)) in
       record {
         slot = within;
-        len = sym (a.len_is ∙ ap (λ (i : ℕ). get_or (map (λ (x : Slot). x.len) slots) i 0) (omega (arith, a.slot_is)) ∙ get_or-map (λ (x : Slot). x.len) slots device.slot no_slot 0 within);
+        len = sym (a.len_is ∙ ap (λ (i : ℕ). get_or (map (λ (x : Slot). x.len) slots) i 0) (omega (arith, a.slot_is))
+            ∙ get_or-map (λ (x : Slot). x.len) slots device.slot no_slot 0 within);
       }
 
   pub own_slots : HaveOwnSlots given

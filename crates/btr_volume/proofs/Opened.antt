@@ -11,7 +11,8 @@ use Rattle.btr_chunk.specs.declared.array.ArrayFault.{ArrayFault}
 use Rattle.btr_read.specs.Store.{Blocks}
 use Rattle.btr_read.specs.declared.device.Member.{Member}
 use Rattle.btr_super.specs.Newest.{newest, newest_index, is_newest}
-use Rattle.btr_volume.specs.Start.{Start, Images, layout_by, supers_from, start_of, start_with, start_by, started, with_kind, with_array, array_bytes, devices_from, refusals, first_refusal}
+use Rattle.btr_volume.specs.Start.{Start, Images, layout_by, supers_from, start_of, start_with, start_by, started, with_kind, with_array, array_bytes}
+use Rattle.btr_volume.specs.Start.{devices_from, refusals, first_refusal}
 use Rattle.std.specs.Option.{IfSome}
 use Rattle.btr_chunk.specs.declared.chunk.Chunk.{Chunk}
 use Rattle.btr_rack.specs.Rack.{Seen}
@@ -39,10 +40,12 @@ use Rattle.btr_read.specs.Serves.{Serves}
 use Rattle.btr_read.specs.Store.{with_chunks}
 use Rattle.btr_read.proofs.Serving.{serving, serves_anew}
 use Rattle.btr_volume.specs.declared.fault.OpenFault.{OpenFault}
-use Rattle.btr_volume.specs.declared.fault.OpenFault.TheVariants.{ImageFault, NoSuper, SumKind as kind_fault, Foreign, Twin, Diverged, Unsupported, Geometry, LogPending, BadArray, BadChunk as bad_chunk, Limit, Tree, Memory}
+use Rattle.btr_volume.specs.declared.fault.OpenFault.TheVariants.{ImageFault, NoSuper, SumKind as kind_fault, Foreign, Twin, Diverged, Unsupported, Geometry}
+use Rattle.btr_volume.specs.declared.fault.OpenFault.TheVariants.{LogPending, BadArray, BadChunk as bad_chunk, Limit, Tree, Memory}
 
 -- the superblock at the index of the newest is the newest
-pub newest_at : (supers : List Super) (slot : ℕ) (s : Super) → newest_index supers ≡ slot → slot < length supers → s ≡ get_or supers slot s → newest supers ≡ Some s
+pub newest_at : (supers : List Super) (slot : ℕ) (s : Super) → newest_index supers ≡ slot → slot < length supers → s ≡ get_or supers slot s
+    → newest supers ≡ Some s
 newest_at supers slot s index lt is =
     find_at (is_newest supers) supers ∙ ap (slice_get supers) index ∙ slice_get-get_or supers slot s lt ∙ ap (λ x. Some x) (sym is)
 
@@ -78,7 +81,8 @@ same_seen old new same none =
 
 -- what the superblocks come to over the images
 module _ (slots : List Slot) (supers : List Super) where
-  prepares_of : (images : Images) (r : Result Volume OpenFault) → map length images ≡ map (λ s. s.len) slots → supers_from 0 images ≡ Ok supers → NoneAtFault r → Begins supers (map (λ s. s.len) slots) r → Prepares images r
+  prepares_of : (images : Images) (r : Result Volume OpenFault) → map length images ≡ map (λ s. s.len) slots → supers_from 0 images ≡ Ok supers
+      → NoneAtFault r → Begins supers (map (λ s. s.len) slots) r → Prepares images r
   prepares_of images r sized read early begins = by r early begins
     where
       whole : start_of images ≡ start_by supers (map (λ s. s.len) slots) (newest supers)
@@ -101,7 +105,8 @@ module _ (slots : List Slot) (supers : List Super) where
       by (Err (bad_chunk start)) early e = whole ∙ e
       by (Err (Limit which n)) early e = whole ∙ e
 
-  pub prepared : (held : Option Images) (r : Result Volume OpenFault) → Sized held slots → IfSome held (λ images. supers_from 0 images ≡ Ok supers) → NoneAtFault r → Begins supers (map (λ s. s.len) slots) r → IfSome held (λ images. Prepares images r)
+  pub prepared : (held : Option Images) (r : Result Volume OpenFault) → Sized held slots → IfSome held (λ images. supers_from 0 images ≡ Ok supers)
+      → NoneAtFault r → Begins supers (map (λ s. s.len) slots) r → IfSome held (λ images. Prepares images r)
   prepared None r sized read early begins = tt
   prepared (Some images) r sized read early begins = prepares_of images r sized read early begins
 
@@ -139,7 +144,8 @@ module _ (old new : Seen) where
   opens_early images (bad_chunk start) h = inl h
   opens_early images (Limit which n) h = inl h
 
-  pub told_early : (held : Option Images) (refusal : OpenFault) → IfSome held (λ images. Prepares images (Err refusal)) → IfSome held (λ images. Opens images old new (Err refusal))
+  pub told_early : (held : Option Images) (refusal : OpenFault) → IfSome held (λ images. Prepares images (Err refusal))
+      → IfSome held (λ images. Opens images old new (Err refusal))
   told_early None refusal h = tt
   told_early (Some images) refusal h = opens_early images refusal h
 
@@ -162,7 +168,8 @@ module _ (old new : Seen) where
   refused_late begun BadArray T U h = absurd h
 
   module _ (volume : Volume) where
-    opens_late : (images : Images) (refusal : OpenFault) (layout : Layout) (T : Type 0) → TableCause {T = T} layout old new (Err refusal) → start_of images ≡ Ok (start_in volume) → ReadsTable volume.sup volume.store.layout old new (Err refusal) → Opens images old new (Err refusal)
+    opens_late : (images : Images) (refusal : OpenFault) (layout : Layout) (T : Type 0) → TableCause {T = T} layout old new (Err refusal)
+        → start_of images ≡ Ok (start_in volume) → ReadsTable volume.sup volume.store.layout old new (Err refusal) → Opens images old new (Err refusal)
     opens_late images Memory layout T c is h = tt
     opens_late images (Tree fault) layout T c is h = record { start = start_in volume; is = is; scans = h }
     opens_late images (bad_chunk start) layout T c is h = inr (h.0, h.1, record { start = start_in volume; is = is; scans = h.2 })
@@ -178,7 +185,9 @@ module _ (old new : Seen) where
     opens_late images LogPending layout T c is h = absurd c
     opens_late images BadArray layout T c is h = absurd c
 
-    pub told_late : (held : Option Images) (refusal : OpenFault) (layout : Layout) (T : Type 0) → TableCause {T = T} layout old new (Err refusal) → IfSome held (λ images. start_of images ≡ Ok (start_in volume)) → ReadsTable volume.sup volume.store.layout old new (Err refusal) → IfSome held (λ images. Opens images old new (Err refusal))
+    pub told_late : (held : Option Images) (refusal : OpenFault) (layout : Layout) (T : Type 0) → TableCause {T = T} layout old new (Err refusal)
+        → IfSome held (λ images. start_of images ≡ Ok (start_in volume)) → ReadsTable volume.sup volume.store.layout old new (Err refusal)
+        → IfSome held (λ images. Opens images old new (Err refusal))
     told_late None refusal layout T c is h = tt
     told_late (Some images) refusal layout T c is h = opens_late images refusal layout T c is h
 
@@ -243,12 +252,14 @@ served_anew rack store store' chunks serves e =
     subst (Serves rack) (sym e) (serves_anew rack (with_chunks store chunks) s.are_open s.own_slots refl)
 
 -- what holds of a refusal that is passed on
-pub passed : {A : Type 0} (P : Result A OpenFault → Type 0) (r : Result A OpenFault) (refusal : OpenFault) → IsErrAnd r (λ e. e ≡ refusal) → P (Err refusal) → P r
+pub passed : {A : Type 0} (P : Result A OpenFault → Type 0) (r : Result A OpenFault) (refusal : OpenFault) → IsErrAnd r (λ e. e ≡ refusal)
+    → P (Err refusal) → P r
 passed P (Ok a) refusal h p = absurd h
 passed {A} P (Err e) refusal h p = subst (λ (x : OpenFault). P (Err x)) (sym h) p
 
 -- a volume that was opened is the one of the images
-told_of : (images : Images) (layout : Layout) (P : Map → Type 0) (h : Option Images) (sure : Sure) → h ≡ Some images → OnMap layout P sure h → P (fate images layout)
+told_of : (images : Images) (layout : Layout) (P : Map → Type 0) (h : Option Images) (sure : Sure) → h ≡ Some images → OnMap layout P sure h
+    → P (fate images layout)
 told_of images layout P h sure e p = subst (λ x. OnMap layout P sure x) e p
 
 pub opened_is : OpenedIsOfImages
@@ -264,7 +275,8 @@ opened_is images old new volume held opened known = record {
 
     by : IsCalm old.account.faults new.account.faults ⊎ Agreed images (array_layout opened.start) → P (fate images (array_layout opened.start))
     by (inl calm) = told_of images (array_layout opened.start) P old.held First held (opened.scans.calls.content First calm)
-    by (inr agreed) = told_of images (array_layout opened.start) P old.held Any held (opened.scans.calls.content Any (subst (λ h. AgreedOn (array_layout opened.start) h) (sym held) agreed))
+    by (inr agreed) = told_of images (array_layout opened.start) P old.held Any held
+        (opened.scans.calls.content Any (subst (λ h. AgreedOn (array_layout opened.start) h) (sym held) agreed))
 
 -- in a volume that was opened the candidates of the root tree's root block agree
 pub opened_alike : OpenedIsAlike

@@ -1,5 +1,6 @@
 -- The superblocks of the images, read one after another.
-use Rattle.std.proofs.Common.{◌≡◌, ◌≢◌, ℕ, ◌+◌, ◌<◌, ◌≤◌, false, List, [], ◌∷◌, ◌++◌, length, map, drop, get_or, Option, Some, None, Result, Ok, Err, refl, sym, ap, ◌∙◌, arith, add-one}
+use Rattle.std.proofs.Common.{◌≡◌, ◌≢◌, ℕ, ◌+◌, ◌<◌, ◌≤◌, false, List, [], ◌∷◌, ◌++◌, length, map, drop, get_or, Option, Some, None, Result, Ok, Err, refl, sym}
+use Rattle.std.proofs.Common.{ap, ◌∙◌, arith, add-one}
 use Rattle.std.specs.Option.{IfSome}
 use Rattle.std.proofs.lemmas.List.{append_assoc, length-map}
 use Rattle.std.proofs.Math.Seq.{drop-cons}
@@ -34,12 +35,14 @@ many : (images : Images) (slots : List Slot) → map length images ≡ map (λ s
 many images slots sized = sym (length-map images (λ (i : List ℕ). length i)) ∙ ap length sized ∙ length-map slots (λ s. s.len)
 
 -- the superblocks from a slot on begin with that of its image
-next_super : (images : Images) (slot : ℕ) (r : Result Super SlotFault) → slot < length images → image_super (image_of images slot) ≡ r → supers_from slot (drop slot images) ≡ super_then slot r (supers_from (slot + 1) (drop (slot + 1) images))
+next_super : (images : Images) (slot : ℕ) (r : Result Super SlotFault) → slot < length images → image_super (image_of images slot) ≡ r
+    → supers_from slot (drop slot images) ≡ super_then slot r (supers_from (slot + 1) (drop (slot + 1) images))
 next_super images slot r lt is =
     ap (supers_from slot) (drop-cons images slot [] lt ∙ ap (λ k. get_or images slot [] ∷ drop k images) (sym (add-one slot)))
     ∙ ap (λ s. super_then slot s (supers_from (slot + 1) (drop (slot + 1) images))) is
 
-one_more : (before : List Super) (s : Super) (slot : ℕ) (rest : Result (List Super) OpenFault) → prefixed before (super_then slot (Ok s) rest) ≡ prefixed (before ++ s ∷ []) rest
+one_more : (before : List Super) (s : Super) (slot : ℕ) (rest : Result (List Super) OpenFault) → prefixed before (super_then slot (Ok s) rest)
+    ≡ prefixed (before ++ s ∷ []) rest
 one_more before s slot (Ok more) = ap (λ l. Ok l) (sym (append_assoc before (s ∷ []) more))
 one_more before s slot (Err refusal) = refl
 
@@ -49,13 +52,17 @@ module _ (slots : List Slot) (before : List Super) (slot : ℕ) (within : slot <
   read_more None s after sized so found is = tt
   read_more (Some images) s after sized so found is =
       so ∙ ap (prefixed before) (next_super images slot (Ok s) (omega (arith, many images slots sized)) (found (λ e. cc)))
-      ∙ one_more before s slot (supers_from (slot + 1) (drop (slot + 1) images)) ∙ ap (λ l. prefixed l (supers_from (slot + 1) (drop (slot + 1) images))) (sym is)
+      ∙ one_more before s slot (supers_from (slot + 1) (drop (slot + 1) images))
+      ∙ ap (λ l. prefixed l (supers_from (slot + 1) (drop (slot + 1) images))) (sym is)
 
-  pub read_fault : (held : Option Images) (fault : SlotFault) → Sized held slots → ReadSoFar held before slot → Found held slot (Err fault) → IfSome held (λ images. ReadsSupers images (Err (no_super slot fault)))
+  pub read_fault : (held : Option Images) (fault : SlotFault) → Sized held slots → ReadSoFar held before slot → Found held slot (Err fault)
+      → IfSome held (λ images. ReadsSupers images (Err (no_super slot fault)))
   read_fault None fault sized so found = tt
   read_fault (Some images) Failed sized so found = tt
-  read_fault (Some images) no_copy sized so found = so ∙ ap (prefixed before) (next_super images slot (Err no_copy) (omega (arith, many images slots sized)) (found (λ e. cc)))
-  read_fault (Some images) (kind_fault n) sized so found = so ∙ ap (prefixed before) (next_super images slot (Err (kind_fault n)) (omega (arith, many images slots sized)) (found (λ e. cc)))
+  read_fault (Some images) no_copy sized so found = so ∙ ap (prefixed before)
+      (next_super images slot (Err no_copy) (omega (arith, many images slots sized)) (found (λ e. cc)))
+  read_fault (Some images) (kind_fault n) sized so found = so
+      ∙ ap (prefixed before) (next_super images slot (Err (kind_fault n)) (omega (arith, many images slots sized)) (found (λ e. cc)))
 
 pub only_counts_twice : (old mid new : Seen) → OnlyCounts old mid → OnlyCounts mid new → OnlyCounts old new
 only_counts_twice old mid new a b = b ∙ ap {A = Seen} (λ s. record s { account = new.account }) a
@@ -76,7 +83,8 @@ rose_behind old mid new le rose = (omega (arith, rose.0), omega (arith, rose.1))
 some_fresh : (old new : ℕ) → new ≡ next_count old → 1 ≤ new
 some_fresh old new is = omega arith
 
-super_unread : (old mid new : Seen) (slot : ℕ) → NoneFailed old.account mid.account → old.sure ≡ false → FailedAtPlace slot mid.account new.account (Err Failed) → SuperUnread old new slot
+super_unread : (old mid new : Seen) (slot : ℕ) → NoneFailed old.account mid.account → old.sure ≡ false
+    → FailedAtPlace slot mid.account new.account (Err Failed) → SuperUnread old new slot
 super_unread old mid new slot none unsure failed = record {
   place = failed.0;
   of_super = failed.1;
@@ -88,7 +96,8 @@ super_unread old mid new slot none unsure failed = record {
 }
 
 -- what lies behind the refusal of a slot
-pub refused_cause : (T : Type 0) (old mid new : Seen) (slot : ℕ) (fault : SlotFault) → NoneFailed old.account mid.account → OnlyCounts old mid → (fault ≡ Failed → mid.sure ≡ false) → FailedAtPlace slot mid.account new.account (Err fault) → SupersCause {T = T} old new (Err (no_super slot fault))
+pub refused_cause : (T : Type 0) (old mid new : Seen) (slot : ℕ) (fault : SlotFault) → NoneFailed old.account mid.account → OnlyCounts old mid
+    → (fault ≡ Failed → mid.sure ≡ false) → FailedAtPlace slot mid.account new.account (Err fault) → SupersCause {T = T} old new (Err (no_super slot fault))
 refused_cause T old mid new slot Failed none same sure failed = super_unread old mid new slot none (sym (ap (λ s. s.sure) same) ∙ sure refl) failed
 refused_cause T old mid new slot no_copy none same sure failed = none_failed_twice old.account mid.account new.account none failed
 refused_cause T old mid new slot (kind_fault n) none same sure failed = none_failed_twice old.account mid.account new.account none failed

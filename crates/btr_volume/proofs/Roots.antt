@@ -51,13 +51,16 @@ module _ (item : TreeItem) where
   judged_ok (Ok x) root e = cc
   judged_ok (Err x) root e = absurd (cc e)
 
-  judged_err : (fields : Result RootItem ItemFault) (fault : ItemFault) → map_ok (described item.key) fields ≡ Err fault → judged fields ≡ Stop (fate.Malformed item.leaf)
+  judged_err : (fields : Result RootItem ItemFault) (fault : ItemFault) → map_ok (described item.key) fields ≡ Err fault → judged fields
+      ≡ Stop (fate.Malformed item.leaf)
   judged_err (Ok x) fault e = absurd (cc e)
   judged_err (Err x) fault e = refl
 
   -- what comes of a root that was found for an id
-  pub found_ok : (id : ℕ) (root : TreeRoot) → is_root_of id item.key ≡ true → map_ok (described item.key) (root_item_of item.body) ≡ Ok root → root_found id (Some item) ≡ Return (Some root)
+  pub found_ok : (id : ℕ) (root : TreeRoot) → is_root_of id item.key ≡ true → map_ok (described item.key) (root_item_of item.body) ≡ Ok root
+      → root_found id (Some item) ≡ Return (Some root)
   found_ok id root is e = if_true (is_root_of id item.key) (judged (root_item_of item.body)) (Return None) is ∙ judged_ok (root_item_of item.body) root e
 
-  pub found_err : (id : ℕ) (fault : ItemFault) → is_root_of id item.key ≡ true → map_ok (described item.key) (root_item_of item.body) ≡ Err fault → root_found id (Some item) ≡ Stop (fate.Malformed item.leaf)
+  pub found_err : (id : ℕ) (fault : ItemFault) → is_root_of id item.key ≡ true → map_ok (described item.key) (root_item_of item.body) ≡ Err fault
+      → root_found id (Some item) ≡ Stop (fate.Malformed item.leaf)
   found_err id fault is e = if_true (is_root_of id item.key) (judged (root_item_of item.body)) (Return None) is ∙ judged_err (root_item_of item.body) fault e

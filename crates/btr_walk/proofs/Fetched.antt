@@ -1,5 +1,6 @@
 -- What a fetch says of a block that was read.
-use Rattle.std.proofs.Common.{◌≡◌, ℕ, List, Bool, false, Option, Some, None, IfSome, IsSomeAnd, ◌≤◌, All, Any, length, Result, Ok, IsErrAnd, Err, refl, sym, ap, ◌∙◌, subst, arith}
+use Rattle.std.proofs.Common.{◌≡◌, ℕ, List, Bool, false, Option, Some, None, IfSome, IsSomeAnd, ◌≤◌, All, Any, length, Result, Ok, IsErrAnd, Err, refl, sym, ap}
+use Rattle.std.proofs.Common.{◌∙◌, subst, arith}
 use Rattle.std.specs.Option.{is_some}
 use Rattle.btr_rack.specs.Rack.{Seen, OnlyReads}
 use Rattle.btr_read.specs.Fate.{Lost, Unmapped, Crosses, passing, fate, sought}
@@ -19,7 +20,8 @@ use Rattle.btr_walk.specs.Spot.{judged}
 use Rattle.btr_walk.specs.Reading.{Map, UnreadBlock, Reads, FaultCause, CauseOf, unread_by, tree_fault}
 use Rattle.btr_walk.specs.Le.{want_of}
 
-pub some_block : (store : Blocks) (loan : Lent) (block : List ℕ) (P : List ℕ → Type 0) → block_of store loan ≡ Some block → P block → IsSomeAnd (block_of store loan) P
+pub some_block : (store : Blocks) (loan : Lent) (block : List ℕ) (P : List ℕ → Type 0) → block_of store loan ≡ Some block → P block
+    → IsSomeAnd (block_of store loan) P
 some_block store loan block P is h = subst (λ o. IsSomeAnd o P) (sym is) h
 
 none_is : (o : Option Node) → is_some o ≡ false → o ≡ None
@@ -27,7 +29,9 @@ none_is (Some x) e = cc
 none_is None e = refl
 
 -- a block that was judged isn't a good one that fits its spot
-pub bad_block : (B : Map) (level : ℕ) (spot : Spot) (o : Option (List ℕ)) (r : Bool) → IsSomeAnd o (λ block. B (want_of level spot) ≡ Ok block) → IsSomeAnd o (λ block. r ≡ is_some (judged level spot block)) → r ≡ false → (block : List ℕ) × (B (want_of level spot) ≡ Ok block) × (judged level spot block ≡ None)
+pub bad_block : (B : Map) (level : ℕ) (spot : Spot) (o : Option (List ℕ)) (r : Bool) → IsSomeAnd o (λ block. B (want_of level spot) ≡ Ok block)
+    → IsSomeAnd o (λ block. r ≡ is_some (judged level spot block)) → r ≡ false → (block : List ℕ) × (B (want_of level spot) ≡ Ok block)
+    × (judged level spot block ≡ None)
 bad_block B level spot (Some block) r came h e = (block, came, none_is (judged level spot block) (sym h ∙ e))
 bad_block B level spot None r came h e = absurd came
 
@@ -46,39 +50,47 @@ unread_since layout {a} {b} {c} u want first h = record {
     only = h.unread.only;
     some = h.unread.some;
     enough = subst (λ held. IfSome held (λ images. length (passing images h.target) ≤ c.account.fresh)) (ap (λ (s : Seen). s.held) first.same) h.unread.enough;
-    each = subst (λ held. IfSome held (λ images. All (λ candidate. Passes images h.target candidate → Any (λ missed. IsOf h.target missed candidate) c.account.missed) (candidates h.target))) (ap (λ (s : Seen). s.held) first.same) h.unread.each;
+    each = subst (λ held. IfSome held (λ images. All (λ candidate. Passes images h.target candidate
+        → Any (λ missed. IsOf h.target missed candidate) c.account.missed) (candidates h.target))) (ap (λ (s : Seen). s.held) first.same) h.unread.each;
   };
 }
 
 -- what a fetch answers is what reading a block answers
-pub reads_err : (layout : Layout) (B : Map) (old new : Seen) (level : ℕ) (spot : Spot) (store : Blocks) (f : ReadFault) → FitsFetch layout (want_of level spot) old new store (Err f) → AnswersOf (want_of level spot) store (Err f) B → Reads (unread_by layout old new) B level spot store (Err (tree_fault f))
+pub reads_err : (layout : Layout) (B : Map) (old new : Seen) (level : ℕ) (spot : Spot) (store : Blocks) (f : ReadFault)
+    → FitsFetch layout (want_of level spot) old new store (Err f) → AnswersOf (want_of level spot) store (Err f) B
+    → Reads (unread_by layout old new) B level spot store (Err (tree_fault f))
 reads_err layout B old new level spot store (read.Lost a) fits h = h
 reads_err layout B old new level spot store (read.Unread a slot) fits h = fits
 reads_err layout B old new level spot store (read.Unmapped a) fits h = h
 reads_err layout B old new level spot store (read.Crosses a) fits h = h
 
-pub cause_err : (layout : Layout) (old new : Seen) (level : ℕ) (spot : Spot) (store : Blocks) (f : ReadFault) → FitsFetch layout (want_of level spot) old new store (Err f) → FaultCause layout old new (tree_fault f)
+pub cause_err : (layout : Layout) (old new : Seen) (level : ℕ) (spot : Spot) (store : Blocks) (f : ReadFault)
+    → FitsFetch layout (want_of level spot) old new store (Err f) → FaultCause layout old new (tree_fault f)
 cause_err layout old new level spot store (read.Lost a) fits = (want_of level spot, fits.2)
 cause_err layout old new level spot store (read.Unread a slot) fits = (want_of level spot, fits)
 cause_err layout old new level spot store (read.Unmapped a) fits = (want_of level spot, fits)
 cause_err layout old new level spot store (read.Crosses a) fits = (want_of level spot, fits)
 
-pub cause_of_err : (layout : Layout) (old new : Seen) (level : ℕ) (spot : Spot) (store : Blocks) (f : ReadFault) → FitsFetch layout (want_of level spot) old new store (Err f) → CauseOf layout (want_of level spot) old new (tree_fault f)
+pub cause_of_err : (layout : Layout) (old new : Seen) (level : ℕ) (spot : Spot) (store : Blocks) (f : ReadFault)
+    → FitsFetch layout (want_of level spot) old new store (Err f) → CauseOf layout (want_of level spot) old new (tree_fault f)
 cause_of_err layout old new level spot store (read.Lost a) fits = fits.2
 cause_of_err layout old new level spot store (read.Unread a slot) fits = fits
 cause_of_err layout old new level spot store (read.Unmapped a) fits = fits
 cause_of_err layout old new level spot store (read.Crosses a) fits = fits
 
 -- what holds of the fault that a read's becomes
-pub by_fault : {A : Type 0} (P : Result A TreeFault → Type 0) (r : Result A TreeFault) (f : ReadFault) → IsErrAnd r (λ e. e ≡ tree_fault f) → P (Err (tree_fault f)) → P r
+pub by_fault : {A : Type 0} (P : Result A TreeFault → Type 0) (r : Result A TreeFault) (f : ReadFault) → IsErrAnd r (λ e. e ≡ tree_fault f)
+    → P (Err (tree_fault f)) → P r
 by_fault P (Ok a) f h p = absurd h
 by_fault {A} P (Err e) f h p = subst (λ (x : TreeFault). P (Err x)) (sym h) p
 
 -- the same where the layout goes by another name
-pub since : {a b c : Seen} (layout layout' : Layout) → layout' ≡ layout → OnlyReads a b → (u : UnreadBlock) (want : Want) → unread_by layout' b c u want → unread_by layout a c u want
+pub since : {a b c : Seen} (layout layout' : Layout) → layout' ≡ layout → OnlyReads a b → (u : UnreadBlock) (want : Want)
+    → unread_by layout' b c u want → unread_by layout a c u want
 since {a} {b} {c} layout layout' e first u want h = unread_since layout u want first (subst (λ (l : Layout). unread_by l b c u want) e h)
 
-pub cause_since : {a b : Seen} (c : Seen) (layout layout' : Layout) (f : TreeFault) → layout' ≡ layout → OnlyReads a b → FaultCause layout' b c f → FaultCause layout a c f
+pub cause_since : {a b : Seen} (c : Seen) (layout layout' : Layout) (f : TreeFault) → layout' ≡ layout → OnlyReads a b → FaultCause layout' b c f
+    → FaultCause layout a c f
 cause_since {a} {b} c layout layout' (tree.Lost x) e first h = (
   h.0,
   subst (λ (l : Layout). IfSome a.held (λ images. fate images l h.0 ≡ Err (Lost x))) e

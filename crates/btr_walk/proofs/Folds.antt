@@ -29,32 +29,42 @@ module _ {St R : Type 0} (step : St → TreeItem → Next St R) (answer : St →
   pub exec_fold : (st : St) (p : RangeProg) → exec B (folded_over step answer st p) ≡ fold_run st (exec B p)
   exec_fold st p = exec-thread B body fin st p
 
-  pub fold_past : (ws : List Want) (st : St) (r : Run Want fate.Fault TreeItem (Unit {0})) → fold_run st (prepend (wants ws) r) ≡ prepend (want_marks ws) (fold_run st r)
+  pub fold_past : (ws : List Want) (st : St) (r : Run Want fate.Fault TreeItem (Unit {0})) → fold_run st (prepend (wants ws) r)
+      ≡ prepend (want_marks ws) (fold_run st r)
   fold_past [] st r = refl
   fold_past (w ∷ ws) st r = ap (first (Wants w)) (fold_past ws st r)
 
-  treated : (leaf : ℕ) (x : Next St R) (st' : St) (k : St → Run Want fate.Fault ⊥ R) → x ≡ Go st' → after (exec B (next_prog leaf x)).marks (exec B (next_prog leaf x)).ending (go_on_run k) ≡ k st'
+  treated : (leaf : ℕ) (x : Next St R) (st' : St) (k : St → Run Want fate.Fault ⊥ R) → x ≡ Go st'
+      → after (exec B (next_prog leaf x)).marks (exec B (next_prog leaf x)).ending (go_on_run k) ≡ k st'
   treated leaf x st' k e = subst (λ y. after (exec B (next_prog leaf y)).marks (exec B (next_prog leaf y)).ending (go_on_run k) ≡ k st') (sym e) refl
 
-  pub fold_go : (st st' : St) (item : TreeItem) (r : Run Want fate.Fault TreeItem (Unit {0})) → step st item ≡ Go st' → fold_run st (first (Does item) r) ≡ fold_run st' r
+  pub fold_go : (st st' : St) (item : TreeItem) (r : Run Want fate.Fault TreeItem (Unit {0})) → step st item ≡ Go st'
+      → fold_run st (first (Does item) r) ≡ fold_run st' r
   fold_go st st' item r e = treated item.leaf (step st item) st' (λ s. fold_run s r) e
 
-  ended : (leaf : ℕ) (x : Next St R) (out : R) (k : St → Run Want fate.Fault ⊥ R) → x ≡ End out → after (exec B (next_prog leaf x)).marks (exec B (next_prog leaf x)).ending (go_on_run k) ≡ run [] (Ok out)
+  ended : (leaf : ℕ) (x : Next St R) (out : R) (k : St → Run Want fate.Fault ⊥ R) → x ≡ End out
+      → after (exec B (next_prog leaf x)).marks (exec B (next_prog leaf x)).ending (go_on_run k) ≡ run [] (Ok out)
   ended leaf x out k e = subst (λ y. after (exec B (next_prog leaf y)).marks (exec B (next_prog leaf y)).ending (go_on_run k) ≡ run [] (Ok out)) (sym e) refl
 
-  pub fold_end : (st : St) (item : TreeItem) (r : Run Want fate.Fault TreeItem (Unit {0})) (out : R) → step st item ≡ End out → fold_run st (first (Does item) r) ≡ run [] (Ok out)
+  pub fold_end : (st : St) (item : TreeItem) (r : Run Want fate.Fault TreeItem (Unit {0})) (out : R) → step st item ≡ End out
+      → fold_run st (first (Does item) r) ≡ run [] (Ok out)
   fold_end st item r out e = ended item.leaf (step st item) out (λ s. fold_run s r) e
 
-  broke : (leaf : ℕ) (x : Next St R) (k : St → Run Want fate.Fault ⊥ R) → x ≡ Broken → after (exec B (next_prog leaf x)).marks (exec B (next_prog leaf x)).ending (go_on_run k) ≡ run [] (Err (fate.Malformed leaf))
-  broke leaf x k e = subst (λ y. after (exec B (next_prog leaf y)).marks (exec B (next_prog leaf y)).ending (go_on_run k) ≡ run [] (Err (fate.Malformed leaf))) (sym e) refl
+  broke : (leaf : ℕ) (x : Next St R) (k : St → Run Want fate.Fault ⊥ R) → x ≡ Broken
+      → after (exec B (next_prog leaf x)).marks (exec B (next_prog leaf x)).ending (go_on_run k) ≡ run [] (Err (fate.Malformed leaf))
+  broke leaf x k e = subst (λ y. after (exec B (next_prog leaf y)).marks (exec B (next_prog leaf y)).ending (go_on_run k)
+      ≡ run [] (Err (fate.Malformed leaf))) (sym e) refl
 
-  pub fold_broken : (st : St) (item : TreeItem) (r : Run Want fate.Fault TreeItem (Unit {0})) → step st item ≡ Broken → fold_run st (first (Does item) r) ≡ run [] (Err (fate.Malformed item.leaf))
+  pub fold_broken : (st : St) (item : TreeItem) (r : Run Want fate.Fault TreeItem (Unit {0})) → step st item ≡ Broken
+      → fold_run st (first (Does item) r) ≡ run [] (Err (fate.Malformed item.leaf))
   fold_broken st item r e = broke item.leaf (step st item) (λ s. fold_run s r) e
 
   abbrev Exec : St → TreeItem → Run Want fate.Fault ⊥ (Result St R) → Type 0
   Exec st item b = b ≡ exec B (body st item)
 
-  some_after : (ms : List (Mark Want TreeItem)) (e : Result (Unit {0}) fate.Fault) → ((st : St) → ThreadsTo Exec fin st ms e (fold_run st (run ms e))) → (marks : List (Mark Want ⊥)) (x : Result (Result St R) fate.Fault) → AfterTo marks x (GoOnTo (λ st. ThreadsTo Exec fin st ms e)) (after marks x (go_on_run (λ st. fold_run st (run ms e))))
+  some_after : (ms : List (Mark Want TreeItem)) (e : Result (Unit {0}) fate.Fault) → ((st : St) → ThreadsTo Exec fin st ms e (fold_run st (run ms e)))
+      → (marks : List (Mark Want ⊥)) (x : Result (Result St R) fate.Fault)
+      → AfterTo marks x (GoOnTo (λ st. ThreadsTo Exec fin st ms e)) (after marks x (go_on_run (λ st. fold_run st (run ms e))))
   some_after ms e h marks (Ok (Ok st)) = (fold_run st (run ms e), refl, h st)
   some_after ms e h marks (Ok (Err y)) = (run [] (Ok y), refl, refl)
   some_after ms e h marks (Err f) = refl
@@ -67,12 +77,14 @@ module _ {St R : Type 0} (step : St → TreeItem → Next St R) (answer : St →
       (b, refl, some_after ms e (λ st'. some_fold st' ms e) b.marks b.ending)
 
   -- the scan came to no item: what it answers is answered of the fold
-  pub fold_halts : (Is : UnreadBlock → Want → Type 0) (seen : List Want) (st : St) (p : RangeProg) (h : Halt fate.Fault UnreadBlock) → Follows Is no_part seen (exec B p) [] (Err h) → Follows Is no_part seen (exec B (folded_over step answer st p)) [] (Err h)
+  pub fold_halts : (Is : UnreadBlock → Want → Type 0) (seen : List Want) (st : St) (p : RangeProg) (h : Halt fate.Fault UnreadBlock)
+      → Follows Is no_part seen (exec B p) [] (Err h) → Follows Is no_part seen (exec B (folded_over step answer st p)) [] (Err h)
   fold_halts Is seen st p h f =
       let g = cursor_halts Exec fin (λ s r. (fold_run s r, some_fold s r.marks r.ending)) Is no_part seen st (exec B p) h f in
       subst (λ q. Follows Is no_part seen q [] (Err h)) (threads_exec B body fin st p g.0 g.1) g.2
 
-  fold_all : (st : St) (ms : List (Mark Want TreeItem)) (e : Result (Unit {0}) fate.Fault) → [] ≡ steps_of ms → e ≡ Ok tt → ([] ≡ steps_of (fold_run st (run ms e)).marks) × ((fold_run st (run ms e)).ending ≡ Ok (answer st))
+  fold_all : (st : St) (ms : List (Mark Want TreeItem)) (e : Result (Unit {0}) fate.Fault) → [] ≡ steps_of ms → e ≡ Ok tt
+      → ([] ≡ steps_of (fold_run st (run ms e)).marks) × ((fold_run st (run ms e)).ending ≡ Ok (answer st))
   fold_all st [] e n h = (
     subst (λ x. [] ≡ steps_of (end_of {W = Want} {F = fate.Fault} {T = ⊥} fin st x).marks) (sym h) refl,
     subst (λ x. (end_of {W = Want} {F = fate.Fault} {T = ⊥} fin st x).ending ≡ Ok (answer st)) (sym h) refl,
@@ -81,16 +93,20 @@ module _ {St R : Type 0} (step : St → TreeItem → Next St R) (answer : St →
   fold_all st (Does item ∷ ms) e n h = cc
 
   -- the scan came to its end
-  pub fold_ends : (Is : UnreadBlock → Want → Type 0) (seen : List Want) (st : St) (p : RangeProg) → Follows Is no_part seen (exec B p) [] (Ok tt) → Follows Is no_part seen (exec B (folded_over step answer st p)) [] (Ok (answer st))
-  fold_ends Is seen st p f = subst (λ q. Follows Is no_part seen q [] (Ok (answer st))) (sym (exec_fold st p)) (fold_all st (exec B p).marks (exec B p).ending f.0 f.1)
+  pub fold_ends : (Is : UnreadBlock → Want → Type 0) (seen : List Want) (st : St) (p : RangeProg) → Follows Is no_part seen (exec B p) [] (Ok tt)
+      → Follows Is no_part seen (exec B (folded_over step answer st p)) [] (Ok (answer st))
+  fold_ends Is seen st p f = subst (λ q. Follows Is no_part seen q [] (Ok (answer st))) (sym (exec_fold st p))
+      (fold_all st (exec B p).marks (exec B p).ending f.0 f.1)
 
 no_steps : (ws : List Want) → [] ≡ steps_of {S = ⊥} (want_marks ws ++ [])
 no_steps [] = refl
 no_steps (w ∷ ws) = no_steps ws
 
 -- some wants, and then nothing
-pub wants_value : {R : Type 0} (Is : UnreadBlock → Want → Type 0) (seen ws : List Want) (r : Run Want fate.Fault ⊥ R) (out : R) → r ≡ prepend (want_marks ws) (run [] (Ok out)) → Follows Is no_part seen r [] (Ok out)
+pub wants_value : {R : Type 0} (Is : UnreadBlock → Want → Type 0) (seen ws : List Want) (r : Run Want fate.Fault ⊥ R) (out : R) → r
+    ≡ prepend (want_marks ws) (run [] (Ok out)) → Follows Is no_part seen r [] (Ok out)
 wants_value Is seen ws r out e = subst (λ q. Follows Is no_part seen q [] (Ok out)) (sym e) (no_steps ws, refl)
 
-pub wants_fault : {R : Type 0} (Is : UnreadBlock → Want → Type 0) (seen ws : List Want) (r : Run Want fate.Fault ⊥ R) (f : fate.Fault) → r ≡ prepend (want_marks ws) (run [] (Err f)) → Follows Is no_part seen r [] (Err (Fault f))
+pub wants_fault : {R : Type 0} (Is : UnreadBlock → Want → Type 0) (seen ws : List Want) (r : Run Want fate.Fault ⊥ R) (f : fate.Fault) → r
+    ≡ prepend (want_marks ws) (run [] (Err f)) → Follows Is no_part seen r [] (Err (Fault f))
 wants_fault Is seen ws r f e = subst (λ q. Follows Is no_part seen q [] (Err (Fault f))) (sym e) (no_steps ws, refl)

@@ -23,17 +23,23 @@ named Is u (v ∷ seen) w e (zero, lt, at) = inl (subst (Is u) (sym at) e)
 named Is u (v ∷ seen) w e (suc k, lt, at) = inr (named Is u seen w e (k, omega (arith, lt), at))
 
 module _ {S A : Type 0} (Is : UnreadBlock → Want → Type 0) (B : Map) where
-  faults : (w : Want) (f : fate.Fault) (k : List ℕ → Prog Want fate.Fault S A) (seen : List Want) → B w ≡ Err f → Follows Is no_part seen (exec B (Need w k)) [] (Err (Fault f))
+  faults : (w : Want) (f : fate.Fault) (k : List ℕ → Prog Want fate.Fault S A) (seen : List Want) → B w ≡ Err f
+      → Follows Is no_part seen (exec B (Need w k)) [] (Err (Fault f))
   faults w f k seen e = subst (λ x. Follows Is no_part seen (first (Wants w) (given x (λ b. exec B (k b)))) [] (Err (Fault f))) (sym e) (refl, refl)
 
-  bad : (w : Want) (f : fate.Fault) (block : List ℕ) (k : List ℕ → Prog Want fate.Fault S A) (seen : List Want) → B w ≡ Ok block → exec B (k block) ≡ run [] (Err f) → Follows Is no_part seen (exec B (Need w k)) [] (Err (Fault f))
-  bad w f block k seen e is = subst (λ x. Follows Is no_part seen (first (Wants w) (given x (λ b. exec B (k b)))) [] (Err (Fault f))) (sym e) (subst (λ x. Follows Is no_part seen (first (Wants w) x) [] (Err (Fault f))) (sym is) (refl, refl))
+  bad : (w : Want) (f : fate.Fault) (block : List ℕ) (k : List ℕ → Prog Want fate.Fault S A) (seen : List Want) → B w ≡ Ok block → exec B (k block)
+      ≡ run [] (Err f) → Follows Is no_part seen (exec B (Need w k)) [] (Err (Fault f))
+  bad w f block k seen e is = subst (λ x. Follows Is no_part seen (first (Wants w) (given x (λ b. exec B (k b)))) [] (Err (Fault f))) (sym e)
+      (subst (λ x. Follows Is no_part seen (first (Wants w) x) [] (Err (Fault f))) (sym is) (refl, refl))
 
-  unread : (w : Want) (u : UnreadBlock) (k : List ℕ → Prog Want fate.Fault S A) (seen : List Want) → Is u w → Follows Is no_part seen (exec B (Need w k)) [] (Err (Unread u))
+  unread : (w : Want) (u : UnreadBlock) (k : List ℕ → Prog Want fate.Fault S A) (seen : List Want) → Is u w
+      → Follows Is no_part seen (exec B (Need w k)) [] (Err (Unread u))
   unread w u k seen e = record { before = Wants w ∷ []; behind = (given (B w) (λ b. exec B (k b))).marks; left = None; place = refl; steps = refl; leaves = tt; holds = names_last Is u seen w e }
 
   -- a block of a level at a spot that could not be had, or does not fit, ends what wants it
-  pub need_halts : (level : ℕ) (spot : Spot) (store : Blocks) (f : TreeFault) (k : List ℕ → Prog Want fate.Fault S A) (seen : List Want) → ((block : List ℕ) → judged level spot block ≡ None → exec B (k block) ≡ run [] (Err (fate.Malformed spot.addr))) → Reads Is B level spot store (Err f) → Follows Is no_part seen (exec B (Need (want_of level spot) k)) [] (Err (halt_of f))
+  pub need_halts : (level : ℕ) (spot : Spot) (store : Blocks) (f : TreeFault) (k : List ℕ → Prog Want fate.Fault S A) (seen : List Want)
+      → ((block : List ℕ) → judged level spot block ≡ None → exec B (k block) ≡ run [] (Err (fate.Malformed spot.addr)))
+      → Reads Is B level spot store (Err f) → Follows Is no_part seen (exec B (Need (want_of level spot) k)) [] (Err (halt_of f))
   need_halts level spot store (tree.Lost a) k seen stops h = faults (want_of level spot) (fate.Lost a) k seen h
   need_halts level spot store (tree.Unread a slot) k seen stops h = unread (want_of level spot) (record { addr = a; slot = slot }) k seen h
   need_halts level spot store (tree.Unmapped a) k seen stops h = faults (want_of level spot) (fate.Unmapped a) k seen h

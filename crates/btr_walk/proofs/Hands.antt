@@ -1,5 +1,6 @@
 -- A leaf in hand, and one item further.
-use Rattle.std.proofs.Common.{◌≡◌, ℕ, ◌+◌, ◌-◌, ◌*◌, ◌^◌, ◌<◌, ◌≤◌, Bool, true, false, List, [], ◌++◌, length, get_or, Option, Some, None, IfSome, IsSomeAnd, IsTrue, Result, Ok, Err, OnErr, refl, sym, ap, ◌∙◌, subst, append-nil, arith}
+use Rattle.std.proofs.Common.{◌≡◌, ℕ, ◌+◌, ◌-◌, ◌*◌, ◌^◌, ◌<◌, ◌≤◌, Bool, true, false, List, [], ◌++◌, length, get_or, Option, Some, None, IfSome, IsSomeAnd}
+use Rattle.std.proofs.Common.{IsTrue, Result, Ok, Err, OnErr, refl, sym, ap, ◌∙◌, subst, append-nil, arith}
 use Rattle.std.proofs.lemmas.List.{get_or_default}
 use Rattle.btr_base.specs.declared.key.Key.{Key}
 use Rattle.btr_node.specs.Block.{Item, items, is_leaf}
@@ -28,7 +29,8 @@ use Rattle.btr_walk.specs.Entering.{LendsLeafAt}
 use Rattle.btr_walk.specs.Going.{place_prog, IsAlong, ComesTo, IsOn}
 use Rattle.btr_walk.specs.Leaving.{IsReached, LendsReached, NearsReached}
 use Rattle.btr_walk.specs.Ranks.{IsShaped, rank, StepNears}
-use Rattle.btr_walk.specs.Advancing.{arrived, behind_next, HasItem, IsInHand, Lends, hand_items, hand_prog, leaf_prog, IsLeafOf, IsLeafAgain, left, Meets, AdvancesBy, FromPlace, FromHand, IsAdvanced}
+use Rattle.btr_walk.specs.Advancing.{arrived, behind_next, HasItem, IsInHand, Lends, hand_items, hand_prog, leaf_prog, IsLeafOf, IsLeafAgain, left, Meets}
+use Rattle.btr_walk.specs.Advancing.{AdvancesBy, FromPlace, FromHand, IsAdvanced}
 use Rattle.btr_prog.proofs.Follow.{follows_as, unread_here}
 use Rattle.btr_walk.proofs.Halting.{named}
 use Rattle.btr_walk.proofs.Items.{leaf_next, leaf_none}
@@ -44,7 +46,10 @@ held_step : (B : Map) (seen : List Want) (store : Blocks) (l : LeafAt) → IsHel
 held_step B seen store l h = record { block = h.block; lent = h.lent; came = h.came; is = h.is; read = h.read }
 
 module _ (lo hi : Key) (B : Map) where
-  meets_in : (was : Type 0) (seen past : List Want) (before : RangeProg) (store : Blocks) (l : LeafAt) (place : Where) (o : Option (List ℕ)) → block_of store l.loan ≡ o → exec B before ≡ prepend (wants past) (exec B (hand_prog store l (place_prog lo hi B place))) → IsAlong lo hi B (seen ++ past) place → IsSomeAnd o (λ block. IsTrue (is_leaf block) × (l.end ≤ length (items block))) → l.next < l.end → (was → IsHeld B (seen ++ past) store l) → Meets lo hi was B seen before store (behind_next l) place
+  meets_in : (was : Type 0) (seen past : List Want) (before : RangeProg) (store : Blocks) (l : LeafAt) (place : Where) (o : Option (List ℕ))
+      → block_of store l.loan ≡ o → exec B before ≡ prepend (wants past) (exec B (hand_prog store l (place_prog lo hi B place)))
+      → IsAlong lo hi B (seen ++ past) place → IsSomeAnd o (λ block. IsTrue (is_leaf block) × (l.end ≤ length (items block))) → l.next < l.end
+      → (was → IsHeld B (seen ++ past) store l) → Meets lo hi was B seen before store (behind_next l) place
   meets_in was seen past before store l place None is e on good lt held = absurd good
   meets_in was seen past before store l place (Some block) is e on good lt held =
       let d : Item = record { key = lo; offset = 0; size = 0; body = [] } in
@@ -56,13 +61,16 @@ module _ (lo hi : Key) (B : Map) where
         is = e
             ∙ ap (λ x. prepend (wants past) (exec B (emit_all (hand_items x l) rest))) is
             ∙ ap (prepend (wants past)) (leaf_next B l.spot.addr block l.next l.end d rest lt good.1)
-            ∙ ap (λ x. prepend (wants past) (first (Does (tree_item l.spot.addr (get_or (items block) l.next d))) (exec B (emit_all (hand_items x (behind_next l)) rest)))) (sym is);
+            ∙ ap (λ x. prepend (wants past) (first (Does (tree_item l.spot.addr (get_or (items block) l.next d)))
+            (exec B (emit_all (hand_items x (behind_next l)) rest)))) (sym is);
         on = on;
         some = omega arith;
-        at = subst (λ x. IsSomeAnd x (λ b. (l.next + 1 ≤ length (items b)) × ((f : Item) → tree_item l.spot.addr (get_or (items b) (l.next + 1 - 1) f) ≡ tree_item l.spot.addr (get_or (items block) l.next d)))) (sym is) (
-          omega (arith, lt, good.1),
-          λ f. ap (λ (i : ℕ). tree_item l.spot.addr (get_or (items block) i f)) same ∙ ap (tree_item l.spot.addr) (get_or_default (items block) l.next f d (omega (arith, lt, good.1))),
-        );
+        at = subst (λ x. IsSomeAnd x (λ b. (l.next + 1 ≤ length (items b))
+            × ((f : Item) → tree_item l.spot.addr (get_or (items b) (l.next + 1 - 1) f) ≡ tree_item l.spot.addr (get_or (items block) l.next d)))) (sym is) (
+              omega (arith, lt, good.1),
+              λ f. ap (λ (i : ℕ). tree_item l.spot.addr (get_or (items block) i f)) same
+                  ∙ ap (tree_item l.spot.addr) (get_or_default (items block) l.next f d (omega (arith, lt, good.1))),
+            );
         held = λ w. held_step B (seen ++ past) store l (held w);
       }
 
@@ -70,50 +78,69 @@ module _ (lo hi : Key) (B : Map) where
   pub meets_reached : (Is : UnreadBlock → Want → Type 0) (from after : Where) (store : Blocks) (l : LeafAt) → IsInHand store l → l.next < l.end → IsReached lo hi Is B from after store (Ok (Some l)) → FromPlace lo hi Is B from after store (record { leaf = Some (behind_next l); met = Ok true })
   meets_reached Is from after store l hand lt h seen on = at_block (block_of store l.loan) refl (h seen on)
     where
-      at_block : (o : Option (List ℕ)) → block_of store l.loan ≡ o → IsSomeAnd o (λ block. ComesTo lo hi B seen from (emit_all (part_items l.spot.addr block l.next l.end) (place_prog lo hi B after)) after store l) → Meets lo hi (Unit {0}) B seen (place_prog lo hi B from) store (behind_next l) after
+      at_block : (o : Option (List ℕ)) → block_of store l.loan ≡ o
+          → IsSomeAnd o (λ block. ComesTo lo hi B seen from (emit_all (part_items l.spot.addr block l.next l.end) (place_prog lo hi B after)) after
+          store l) → Meets lo hi (Unit {0}) B seen (place_prog lo hi B from) store (behind_next l) after
       at_block None is g = absurd g
       at_block (Some block) is g =
           let c = g.comes in
-          meets_in (Unit {0}) seen c.past (place_prog lo hi B from) store l after (block_of store l.loan) refl (c.is ∙ ap (λ x. prepend (wants c.past) (exec B (emit_all (hand_items x l) (place_prog lo hi B after)))) (sym is)) c.on hand.good lt (λ u. g.held)
+          meets_in (Unit {0}) seen c.past (place_prog lo hi B from) store l after (block_of store l.loan) refl
+          (c.is ∙ ap (λ x. prepend (wants c.past) (exec B (emit_all (hand_items x l) (place_prog lo hi B after)))) (sym is)) c.on hand.good lt (λ u. g.held)
 
   -- the leaf in hand has one more
   pub meets_hand : (Is : UnreadBlock → Want → Type 0) (store : Blocks) (l : LeafAt) (place : Where) → IsInHand store l → l.next < l.end → FromHand lo hi Is B place place l store store (record { leaf = Some (behind_next l); met = Ok true })
   meets_hand Is store l place hand lt seen on =
-      meets_in (IsHeld B seen store l) seen [] (hand_prog store l (place_prog lo hi B place)) store l place (block_of store l.loan) refl refl (subst (λ (x : List Want). IsAlong lo hi B x place) (sym (append-nil seen)) on) hand.good lt
+      meets_in (IsHeld B seen store l) seen [] (hand_prog store l (place_prog lo hi B place)) store l place (block_of store l.loan) refl refl
+      (subst (λ (x : List Want). IsAlong lo hi B x place) (sym (append-nil seen)) on) hand.good lt
       (λ h. subst (λ (x : List Want). IsHeld B x store l) (sym (append-nil seen)) h)
 
   -- the same of another program with the same run, where less is said of a block that could not be read
-  pub advances_as : (was then : Type 0) (Is Less : UnreadBlock → Want → Type 0) (seen : List Want) (a b : RangeProg) (store : Blocks) (place : Where) (leaf : Option LeafAt) (met : Result Bool TreeFault) → ((u : UnreadBlock) (w : Want) → Is u w → Less u w) → (then → was) → exec B a ≡ exec B b → AdvancesBy lo hi was Is B seen b store place leaf met → AdvancesBy lo hi then Less B seen a store place leaf met
+  pub advances_as : (was then : Type 0) (Is Less : UnreadBlock → Want → Type 0) (seen : List Want) (a b : RangeProg) (store : Blocks) (place : Where)
+      (leaf : Option LeafAt) (met : Result Bool TreeFault) → ((u : UnreadBlock) (w : Want) → Is u w → Less u w) → (then → was) → exec B a ≡ exec B b
+      → AdvancesBy lo hi was Is B seen b store place leaf met → AdvancesBy lo hi then Less B seen a store place leaf met
   advances_as was then Is Less seen a b store place None (Ok true) weaker f e h = absurd h
   advances_as was then Is Less seen a b store place (Some l) (Ok true) weaker f e h = record { past = h.past; item = h.item; is = e ∙ h.is; on = h.on; some = h.some; at = h.at; held = λ t. h.held (f t) }
-  advances_as was then Is Less seen a b store place None (Ok false) weaker f e h = subst (λ r. Follows Less no_part seen r [] (Ok tt)) (sym e) (follows_as Is Less weaker no_part seen (exec B b) [] (Ok tt) h)
-  advances_as was then Is Less seen a b store place (Some l) (Ok false) weaker f e h = subst (λ r. Follows Less no_part seen r [] (Ok tt)) (sym e) (follows_as Is Less weaker no_part seen (exec B b) [] (Ok tt) h)
-  advances_as was then Is Less seen a b store place None (Err x) weaker f e h = subst (λ r. Follows Less no_part seen r [] (Err (halt_of x))) (sym e) (follows_as Is Less weaker no_part seen (exec B b) [] (Err (halt_of x)) h)
-  advances_as was then Is Less seen a b store place (Some l) (Err x) weaker f e h = subst (λ r. Follows Less no_part seen r [] (Err (halt_of x))) (sym e) (follows_as Is Less weaker no_part seen (exec B b) [] (Err (halt_of x)) h)
+  advances_as was then Is Less seen a b store place None (Ok false) weaker f e h = subst (λ r. Follows Less no_part seen r [] (Ok tt)) (sym e)
+      (follows_as Is Less weaker no_part seen (exec B b) [] (Ok tt) h)
+  advances_as was then Is Less seen a b store place (Some l) (Ok false) weaker f e h = subst (λ r. Follows Less no_part seen r [] (Ok tt)) (sym e)
+      (follows_as Is Less weaker no_part seen (exec B b) [] (Ok tt) h)
+  advances_as was then Is Less seen a b store place None (Err x) weaker f e h = subst (λ r. Follows Less no_part seen r [] (Err (halt_of x))) (sym e)
+      (follows_as Is Less weaker no_part seen (exec B b) [] (Err (halt_of x)) h)
+  advances_as was then Is Less seen a b store place (Some l) (Err x) weaker f e h = subst (λ r. Follows Less no_part seen r [] (Err (halt_of x)))
+      (sym e) (follows_as Is Less weaker no_part seen (exec B b) [] (Err (halt_of x)) h)
 
-  hand_none : (store : Blocks) (l : LeafAt) (place : Where) (o : Option (List ℕ)) → block_of store l.loan ≡ o → IsSomeAnd o (λ block. IsTrue (is_leaf block) × (l.end ≤ length (items block))) → l.end ≤ l.next → exec B (hand_prog store l (place_prog lo hi B place)) ≡ exec B (place_prog lo hi B place)
+  hand_none : (store : Blocks) (l : LeafAt) (place : Where) (o : Option (List ℕ)) → block_of store l.loan ≡ o
+      → IsSomeAnd o (λ block. IsTrue (is_leaf block) × (l.end ≤ length (items block))) → l.end ≤ l.next
+      → exec B (hand_prog store l (place_prog lo hi B place)) ≡ exec B (place_prog lo hi B place)
   hand_none store l place None is good le = absurd good
-  hand_none store l place (Some block) is good le = ap (λ x. exec B (emit_all (hand_items x l) (place_prog lo hi B place))) is ∙ leaf_none B l.spot.addr block l.next l.end (place_prog lo hi B place) le
+  hand_none store l place (Some block) is good le = ap (λ x. exec B (emit_all (hand_items x l) (place_prog lo hi B place))) is
+      ∙ leaf_none B l.spot.addr block l.next l.end (place_prog lo hi B place) le
 
   -- the leaf in hand has no more
-  pub hand_empty : (Is : UnreadBlock → Want → Type 0) (store store' : Blocks) (l : LeafAt) (place after : Where) (a : Advanced) → IsInHand store l → l.end ≤ l.next → FromPlace lo hi Is B place after store' a → FromHand lo hi Is B place after l store store' a
+  pub hand_empty : (Is : UnreadBlock → Want → Type 0) (store store' : Blocks) (l : LeafAt) (place after : Where) (a : Advanced) → IsInHand store l
+      → l.end ≤ l.next → FromPlace lo hi Is B place after store' a → FromHand lo hi Is B place after l store store' a
   hand_empty Is store store' l place after a hand le h seen on =
-      advances_as (Unit {0}) (IsHeld B seen store l) Is Is seen (hand_prog store l (place_prog lo hi B place)) (place_prog lo hi B place) store' after a.leaf a.met (λ u w x. x) (λ t. tt) (hand_none store l place (block_of store l.loan) refl hand.good le) (h seen on)
+      advances_as (Unit {0}) (IsHeld B seen store l) Is Is seen (hand_prog store l (place_prog lo hi B place)) (place_prog lo hi B place) store' after
+      a.leaf a.met (λ u w x. x) (λ t. tt) (hand_none store l place (block_of store l.loan) refl hand.good le) (h seen on)
 
   -- a leaf is in hand, or none is, and none was given back
-  pub with_hand : (Is : UnreadBlock → Want → Type 0) (old new : Blocks) (leaf : Option LeafAt) (l : LeafAt) (place : ScanPlace) (after : Where) (a : Advanced) → leaf ≡ Some l → FromHand lo hi Is B place.rest after l old new a → IsAdvanced lo hi Is B place after leaf old new a
+  pub with_hand : (Is : UnreadBlock → Want → Type 0) (old new : Blocks) (leaf : Option LeafAt) (l : LeafAt) (place : ScanPlace) (after : Where)
+      (a : Advanced) → leaf ≡ Some l → FromHand lo hi Is B place.rest after l old new a → IsAdvanced lo hi Is B place after leaf old new a
   with_hand Is old new leaf l place after a is h seen on =
-      advances_as (IsHeld B seen old l) (IfSome leaf (IsHeld B seen old)) Is Is seen (left lo hi B old leaf place) (hand_prog old l (place_prog lo hi B place.rest)) new after a.leaf a.met (λ u w x. x) (λ x. subst (λ o. IfSome o (IsHeld B seen old)) is x)
+      advances_as (IsHeld B seen old l) (IfSome leaf (IsHeld B seen old)) Is Is seen (left lo hi B old leaf place)
+      (hand_prog old l (place_prog lo hi B place.rest)) new after a.leaf a.met (λ u w x. x) (λ x. subst (λ o. IfSome o (IsHeld B seen old)) is x)
       (ap (λ o. exec B (leaf_prog B old o place.leaf (place_prog lo hi B place.rest))) is) (h seen on.rest)
 
-  pub with_none : (Is : UnreadBlock → Want → Type 0) (old new : Blocks) (leaf : Option LeafAt) (place : ScanPlace) (after : Where) (a : Advanced) → leaf ≡ None → place.leaf ≡ None → FromPlace lo hi Is B place.rest after new a → IsAdvanced lo hi Is B place after leaf old new a
+  pub with_none : (Is : UnreadBlock → Want → Type 0) (old new : Blocks) (leaf : Option LeafAt) (place : ScanPlace) (after : Where) (a : Advanced)
+      → leaf ≡ None → place.leaf ≡ None → FromPlace lo hi Is B place.rest after new a → IsAdvanced lo hi Is B place after leaf old new a
   with_none Is old new leaf place after a is free h seen on =
       let rest = place_prog lo hi B place.rest in
       advances_as (Unit {0}) (IfSome leaf (IsHeld B seen old)) Is Is seen (left lo hi B old leaf place) rest new after a.leaf a.met (λ u w x. x) (λ x. tt)
       (ap (λ o. exec B (leaf_prog B old o place.leaf rest)) is ∙ ap (λ k. exec B (leaf_prog B old None k rest)) free) (h seen on.rest)
 
   -- the leaf that was given back is in hand again
-  again_items : (seen : List Want) (store : Blocks) (l : LeafAt) (frame : Frame) → IsLeafOf frame l → IsHeld B seen store l → kept_items B frame ≡ hand_items (block_of store l.loan) l
+  again_items : (seen : List Want) (store : Blocks) (l : LeafAt) (frame : Frame) → IsLeafOf frame l → IsHeld B seen store l → kept_items B frame
+      ≡ hand_items (block_of store l.loan) l
   again_items seen store l frame same h =
       ap (λ (s : Spot). items_in (B (want_of 0 s)) s.addr frame.next frame.end) (sym same.0)
       ∙ ap (λ (n : ℕ). items_in (B (want_of 0 l.spot)) l.spot.addr n frame.end) (sym same.1)
@@ -128,10 +155,13 @@ module _ (lo hi : Key) (B : Map) where
     kept_prog : (old : Blocks) → exec B (left lo hi B old leaf place) ≡ exec B (emit_all (kept_items B frame) (place_prog lo hi B place.rest))
     kept_prog old = let rest = place_prog lo hi B place.rest in ap (λ o. exec B (leaf_prog B old o place.leaf rest)) is ∙ ap (λ k. exec B (leaf_prog B old None k rest)) kept
 
-    pub with_kept : (Was Then Is : UnreadBlock → Want → Type 0) (old mid new : Blocks) (l : LeafAt) (after : Where) (a : Advanced) → ((u : UnreadBlock) (w : Want) → Then u w → Is u w) → IsLeafOf frame l → IsLeafAgain Was B frame mid (Ok l) → FromHand lo hi Then B place.rest after l mid new a → IsAdvanced lo hi Is B place after leaf old new a
+    pub with_kept : (Was Then Is : UnreadBlock → Want → Type 0) (old mid new : Blocks) (l : LeafAt) (after : Where) (a : Advanced)
+        → ((u : UnreadBlock) (w : Want) → Then u w → Is u w) → IsLeafOf frame l → IsLeafAgain Was B frame mid (Ok l)
+        → FromHand lo hi Then B place.rest after l mid new a → IsAdvanced lo hi Is B place after leaf old new a
     with_kept Was Then Is old mid new l after a weaker same again h seen on =
         let held = again seen (kept_is seen on) in
-        advances_as (IsHeld B seen mid l) (IfSome leaf (IsHeld B seen old)) Then Is seen (left lo hi B old leaf place) (hand_prog mid l (place_prog lo hi B place.rest)) new after a.leaf a.met weaker (λ x. held)
+        advances_as (IsHeld B seen mid l) (IfSome leaf (IsHeld B seen old)) Then Is seen (left lo hi B old leaf place)
+        (hand_prog mid l (place_prog lo hi B place.rest)) new after a.leaf a.met weaker (λ x. held)
         (kept_prog old ∙ ap (λ x. exec B (emit_all x (place_prog lo hi B place.rest))) (again_items seen mid l frame same held)) (h seen on.rest)
 
     pub kept_halts : (Is : UnreadBlock → Want → Type 0) (old new : Blocks) (f : TreeFault) → IsLeafAgain Is B frame new (Err f) → IsAdvanced lo hi Is B place place.rest leaf old new (record { leaf = None; met = Err f })
@@ -188,11 +218,13 @@ module _ (old new : Blocks) where
   item_arrived None same = refl
   item_arrived (Some l) t = (omega arith, omega (arith, t.1))
 
-  pub nears_arrived : (place after : Where) (o : Option LeafAt) → NearsReached place after (Ok o) → IfSome (arrived o).leaf (λ l. l.end < 2 ^ 64) → StepNears (2 ^ 64 * rank place) after (arrived o).leaf (arrived o).met
+  pub nears_arrived : (place after : Where) (o : Option LeafAt) → NearsReached place after (Ok o) → IfSome (arrived o).leaf (λ l. l.end < 2 ^ 64)
+      → StepNears (2 ^ 64 * rank place) after (arrived o).leaf (arrived o).met
   nears_arrived place after None n fits = tt
   nears_arrived place after (Some l) n fits = omega (arith, n.1, fits)
 
-  pub from_arrived : (lo hi : Key) (B : Map) (Is : UnreadBlock → Want → Type 0) (place after : Where) (o : Option LeafAt) → LendsReached old new (Ok o) → IsReached lo hi Is B place after new (Ok o) → FromPlace lo hi Is B place after new (arrived o)
+  pub from_arrived : (lo hi : Key) (B : Map) (Is : UnreadBlock → Want → Type 0) (place after : Where) (o : Option LeafAt)
+      → LendsReached old new (Ok o) → IsReached lo hi Is B place after new (Ok o) → FromPlace lo hi Is B place after new (arrived o)
   from_arrived lo hi B Is place after None same h seen on = h seen on
   from_arrived lo hi B Is place after (Some l) t h seen on = meets_reached lo hi B Is place after new l (hand_of old new l t.0) t.1 h seen on
 
@@ -210,5 +242,7 @@ shaped_arrived place after (Some l) n = (n.0, omega (arith, n.1))
 
 -- the same over a layout that is equal
 pub from_as : (layout layout' : Layout) (old new : Seen) (lo hi : Key) (place after : Where) (store : Blocks) (a : Advanced) → layout' ≡ layout
-    → Tells layout' old new (λ B. FromPlace lo hi (unread_by layout' old new) B place after store a) → Tells layout old new (λ B. FromPlace lo hi (unread_by layout old new) B place after store a)
-from_as layout layout' old new lo hi place after store a e h = subst (λ (l : Layout). Tells l old new (λ B. FromPlace lo hi (unread_by l old new) B place after store a)) e h
+    → Tells layout' old new (λ B. FromPlace lo hi (unread_by layout' old new) B place after store a)
+    → Tells layout old new (λ B. FromPlace lo hi (unread_by layout old new) B place after store a)
+from_as layout layout' old new lo hi place after store a e h = subst
+    (λ (l : Layout). Tells l old new (λ B. FromPlace lo hi (unread_by l old new) B place after store a)) e h

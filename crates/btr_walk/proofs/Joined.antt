@@ -1,5 +1,6 @@
 -- What a lookup has come to, block by block.
-use Rattle.std.proofs.Common.{◌≡◌, ℕ, ◌+◌, ◌-◌, ◌<◌, List, [], length, get_or, set, drop, Option, Some, None, IsSome, IsSomeAnd, IsTrue, Result, Ok, Err, refl, sym, ap, ◌∙◌, subst}
+use Rattle.std.proofs.Common.{◌≡◌, ℕ, ◌+◌, ◌-◌, ◌<◌, List, [], length, get_or, set, drop, Option, Some, None, IsSome, IsSomeAnd, IsTrue, Result, Ok, Err, refl}
+use Rattle.std.proofs.Common.{sym, ap, ◌∙◌, subst}
 use Rattle.btr_base.specs.declared.key.Key.{Key}
 use Rattle.btr_node.specs.Block.{Item, items, pointers, is_leaf}
 use Rattle.btr_prog.specs.Calls.{Sure}
@@ -25,38 +26,61 @@ use Rattle.btr_walk.proofs.Fetched.{some_block}
 use Rattle.btr_walk.proofs.Reaching.{Carries, carries_down, carries_end}
 use Rattle.btr_walk.proofs.Ways.{IsLeafAt, IsInnerAt, leaf_at, inner_at, Way, way_ends, way_down, halts_at, leaf_ends, inner_ends}
 
-on_both : (layout : Layout) (P Q R : Map → Type 0) → ((B : Map) → P B → Q B → R B) → (sure : Sure) (h : Option (List (List ℕ))) → OnMap layout P sure h → OnMap layout Q sure h → OnMap layout R sure h
+on_both : (layout : Layout) (P Q R : Map → Type 0) → ((B : Map) → P B → Q B → R B) → (sure : Sure) (h : Option (List (List ℕ)))
+    → OnMap layout P sure h → OnMap layout Q sure h → OnMap layout R sure h
 on_both layout P Q R f sure None p q = tt
 on_both layout P Q R f sure (Some images) p q = f (fate.fate images layout) p q
 
 -- two calls over one layout
-pub joined : {layout layout' : Layout} {a b c : Seen} (P Q R : Map → Type 0) → layout' ≡ layout → ((B : Map) → P B → Q B → R B) → Tells layout a b P → Tells layout' b c Q → Tells layout a c R
+pub joined : {layout layout' : Layout} {a b c : Seen} (P Q R : Map → Type 0) → layout' ≡ layout → ((B : Map) → P B → Q B → R B) → Tells layout a b P
+    → Tells layout' b c Q → Tells layout a c R
 joined {layout} {layout'} {a} {b} {c} P Q R e f one two =
     record { calls = calls_then (λ sure h p q. on_both layout P Q R f sure h p q) one.calls (subst (λ l. Tells l b c Q) e two).calls }
 
 -- the block of a loan
-pub block_is : (store : Blocks) (loan : Lent) (block : List ℕ) (P : List ℕ → Type 0) → block_of store loan ≡ Some block → IsSomeAnd (block_of store loan) P → P block
+pub block_is : (store : Blocks) (loan : Lent) (block : List ℕ) (P : List ℕ → Type 0) → block_of store loan ≡ Some block
+    → IsSomeAnd (block_of store loan) P → P block
 block_is store loan block P is h = subst (λ o. IsSomeAnd o P) is h
 
-pub is_leaf_at : (level : ℕ) (spot : Spot) (store : Blocks) (loan : Lent) (block : List ℕ) → block_of store loan ≡ Some block → IsGoodFor level spot store loan → level ≡ 0 → IsLeafAt level spot block
+pub is_leaf_at : (level : ℕ) (spot : Spot) (store : Blocks) (loan : Lent) (block : List ℕ) → block_of store loan ≡ Some block
+    → IsGoodFor level spot store loan → level ≡ 0 → IsLeafAt level spot block
 is_leaf_at level spot store loan block is good e = leaf_at level spot block (block_is store loan block (λ b. IsSome (judged level spot b)) is good) e
 
-pub is_inner_at : (level : ℕ) (spot : Spot) (store : Blocks) (loan : Lent) (block : List ℕ) → block_of store loan ≡ Some block → IsGoodFor level spot store loan → (level ≡ 0 → ⊥) → IsInnerAt level spot block
+pub is_inner_at : (level : ℕ) (spot : Spot) (store : Blocks) (loan : Lent) (block : List ℕ) → block_of store loan ≡ Some block
+    → IsGoodFor level spot store loan → (level ≡ 0 → ⊥) → IsInnerAt level spot block
 is_inner_at level spot store loan block is good ne = inner_at level spot block (block_is store loan block (λ b. IsSome (judged level spot b)) is good) ne
 
 module _ (key : Key) (root : RootPlace) (level : ℕ) (spot : Spot) where
   abbrev pub WayOn : Map → Type 0
   WayOn B = Way B key root.level (root_spot root) level spot × Carries B key root level spot
 
-  pub stops : (Is : UnreadBlock → Want → Type 0) (store : Blocks) (f : TreeFault) (B : Map) → WayOn B → Reads Is B level spot store (Err f) → FindsAndReaches Is B root key store (Err f)
-  stops Is store f B way reads = ((Err f, refl, way_ends B key Is root.level level (root_spot root) spot (Err (halt_of f)) way.0 (halts_at B key Is level spot store f reads)), tt)
+  pub stops : (Is : UnreadBlock → Want → Type 0) (store : Blocks) (f : TreeFault) (B : Map) → WayOn B → Reads Is B level spot store (Err f)
+      → FindsAndReaches Is B root key store (Err f)
+  stops Is store f B way reads = (
+    (
+      Err f,
+      refl,
+      way_ends B key Is root.level level (root_spot root) spot (Err (halt_of f)) way.0
+          (halts_at B key Is level spot store f reads),
+    ),
+    tt,
+  )
 
   module _ (store : Blocks) (loan : Lent) (block : List ℕ) (is : block_of store loan ≡ Some block) where
     came : (Is : UnreadBlock → Want → Type 0) (B : Map) → Reads Is B level spot store (Ok loan) → B (want_of level spot) ≡ Ok block
     came Is B reads = block_is store loan block (λ b. B (want_of level spot) ≡ Ok b) is reads
 
-    pub finds_none : (Is : UnreadBlock → Want → Type 0) (after : Blocks) → IsLeafAt level spot block → le_item key (items block) ≡ None → (B : Map) → WayOn B → Reads Is B level spot store (Ok loan) → FindsAndReaches Is B root key after (Ok None)
-    finds_none Is after leaf none B way reads = ((Ok None, tt, way_ends B key Is root.level level (root_spot root) spot (Ok None) way.0 (leaf_ends B key Is level spot block None leaf none (came Is B reads))), tt)
+    pub finds_none : (Is : UnreadBlock → Want → Type 0) (after : Blocks) → IsLeafAt level spot block → le_item key (items block) ≡ None → (B : Map)
+        → WayOn B → Reads Is B level spot store (Ok loan) → FindsAndReaches Is B root key after (Ok None)
+    finds_none Is after leaf none B way reads = (
+      (
+        Ok None,
+        tt,
+        way_ends B key Is root.level level (root_spot root) spot (Ok None) way.0
+            (leaf_ends B key Is level spot block None leaf none (came Is B reads)),
+      ),
+      tt,
+    )
 
     same_some : (x y : Item) → Some x ≡ Some y → x ≡ y
     same_some x y e = cc
@@ -67,17 +91,33 @@ module _ (key : Key) (root : RootPlace) (level : ℕ) (spot : Spot) where
         let item : Item = get_or (items block) at d in (
           (
             Ok (Some (tree_item spot.addr item)),
-            some_block store loan block (λ b. (e : Item) → tree_item spot.addr (get_or (items b) at e) ≡ tree_item spot.addr item) is (λ e. ap (tree_item spot.addr) (same_some (get_or (items block) at e) item (sym (some e) ∙ some d))),
-            way_ends B key Is root.level level (root_spot root) spot (Ok (Some (tree_item spot.addr item))) way.0 (leaf_ends B key Is level spot block (Some item) leaf (some d) (came Is B reads)),
+            some_block store loan block (λ b. (e : Item) → tree_item spot.addr (get_or (items b) at e) ≡ tree_item spot.addr item) is
+                (λ e. ap (tree_item spot.addr) (same_some (get_or (items block) at e) item (sym (some e) ∙ some d))),
+            way_ends B key Is root.level level (root_spot root) spot (Ok (Some (tree_item spot.addr item))) way.0
+                (leaf_ends B key Is level spot block (Some item) leaf (some d) (came Is B reads)),
           ),
           subst (SameUpTo B root key) (sym until_is) (carries_end B key root level spot block at way.1 leaf lt some (came Is B reads)),
         )
 
-    pub finds_nothing : (Is : UnreadBlock → Want → Type 0) (after : Blocks) → IsInnerAt level spot block → le_child key (pointers block) spot.up ≡ None → (B : Map) → WayOn B → Reads Is B level spot store (Ok loan) → FindsAndReaches Is B root key after (Ok None)
-    finds_nothing Is after inner none B way reads = ((Ok None, tt, way_ends B key Is root.level level (root_spot root) spot (Ok None) way.0 (inner_ends B key Is level spot block inner none (came Is B reads))), tt)
+    pub finds_nothing : (Is : UnreadBlock → Want → Type 0) (after : Blocks) → IsInnerAt level spot block → le_child key (pointers block) spot.up
+        ≡ None → (B : Map) → WayOn B → Reads Is B level spot store (Ok loan) → FindsAndReaches Is B root key after (Ok None)
+    finds_nothing Is after inner none B way reads = (
+      (
+        Ok None,
+        tt,
+        way_ends B key Is root.level level (root_spot root) spot (Ok None) way.0
+            (inner_ends B key Is level spot block inner none (came Is B reads)),
+      ),
+      tt,
+    )
 
-    pub goes_down : (Is : UnreadBlock → Want → Type 0) (child : Spot) → IsInnerAt level spot block → le_child key (pointers block) spot.up ≡ Some child → (B : Map) → WayOn B → Reads Is B level spot store (Ok loan) → Way B key root.level (root_spot root) (level - 1) child × Carries B key root (level - 1) child
-    goes_down Is child inner some B way reads = (way_down B key root.level level (root_spot root) spot child block way.0 inner some (came Is B reads), carries_down B key root level spot child block way.1 inner some (came Is B reads))
+    pub goes_down : (Is : UnreadBlock → Want → Type 0) (child : Spot) → IsInnerAt level spot block → le_child key (pointers block) spot.up
+        ≡ Some child → (B : Map) → WayOn B → Reads Is B level spot store (Ok loan) → Way B key root.level (root_spot root) (level - 1) child
+        × Carries B key root (level - 1) child
+    goes_down Is child inner some B way reads = (
+      way_down B key root.level level (root_spot root) spot child block way.0 inner some (came Is B reads),
+      carries_down B key root level spot child block way.1 inner some (came Is B reads),
+    )
 
     pub lends_leaf : (old old' : Blocks) (want : Want) (at : ℕ) (until : Option Key) → SameLoans old old' → IsLentBy old' store want loan → IsLeafAt level spot block → at < length (items block) → LendsLeaf old store (record { leaf = spot.addr; at = at; loan = loan; until = until })
     lends_leaf old old' want at until e t leaf lt = record {
@@ -90,7 +130,8 @@ module _ (key : Key) (root : RootPlace) (level : ℕ) (spot : Spot) where
       good = some_block store loan block (λ b. IsTrue (is_leaf b) × (at < length (items b))) is (leaf.good, lt);
     }
 
-on_one : (layout : Layout) (P Q : Map → Type 0) → ((B : Map) → P B → Q B) → (sure : Sure) (h : Option (List (List ℕ))) → OnMap layout P sure h → OnMap layout Q sure h
+on_one : (layout : Layout) (P Q : Map → Type 0) → ((B : Map) → P B → Q B) → (sure : Sure) (h : Option (List (List ℕ))) → OnMap layout P sure h
+    → OnMap layout Q sure h
 on_one layout P Q f sure None p = tt
 on_one layout P Q f sure (Some images) p = f (fate.fate images layout) p
 
@@ -107,5 +148,14 @@ unread_on layout {a} Q f = record { calls = calls_none (λ sure. on_all layout Q
     on_all layout Q f sure (Some images) = f (fate.fate images layout)
 
 -- less may be said of a block that could not be read
-pub finds_as : (B : Map) (Is Less : UnreadBlock → Want → Type 0) (root : RootPlace) (key : Key) (store : Blocks) (result : Result _ TreeFault) → ((u : UnreadBlock) (w : Want) → Is u w → Less u w) → FindsAndReaches Is B root key store result → FindsAndReaches Less B root key store result
-finds_as B Is Less root key store result weaker h = ((h.0.0, h.0.1, follows_as Is Less weaker no_part [] (exec B (le root key)) [] (answer_of h.0.0) h.0.2), h.1)
+pub finds_as : (B : Map) (Is Less : UnreadBlock → Want → Type 0) (root : RootPlace) (key : Key) (store : Blocks) (result : Result _ TreeFault)
+    → ((u : UnreadBlock) (w : Want) → Is u w → Less u w) → FindsAndReaches Is B root key store result → FindsAndReaches Less B root key store result
+finds_as B Is Less root key store result weaker h = (
+  (
+    h.0.0,
+    h.0.1,
+    follows_as Is Less weaker no_part [] (exec B (le root key)) [] (answer_of h.0.0)
+        h.0.2,
+  ),
+  h.1,
+)

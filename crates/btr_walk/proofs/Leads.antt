@@ -1,5 +1,6 @@
 -- How far a scan has come on its way to the next leaf.
-use Rattle.std.proofs.Common.{◌≡◌, ℕ, ◌<◌, ◌≤◌, List, [], ◌∷◌, ◌++◌, Option, Some, None, IsSomeAnd, Result, Ok, Err, refl, sym, ap, ◌∙◌, subst, append-nil, append_assoc}
+use Rattle.std.proofs.Common.{◌≡◌, ℕ, ◌<◌, ◌≤◌, List, [], ◌∷◌, ◌++◌, Option, Some, None, IsSomeAnd, Result, Ok, Err, refl, sym, ap, ◌∙◌, subst, append-nil}
+use Rattle.std.proofs.Common.{append_assoc}
 use Rattle.btr_base.specs.declared.key.Key.{Key}
 use Rattle.btr_prog.specs.Prog.{Wants, run, prepend, exec, steps_of, wants_of}
 use Rattle.btr_prog.specs.Answers.{Halt, Follows, no_part}
@@ -40,25 +41,32 @@ module _ (lo hi : Key) (B : Map) where
   Leads from to = (seen : List Want) → IsAlong lo hi B seen from → Comes lo hi B seen from (place_prog lo hi B to) to
 
   -- one after another
-  abbrev comes_then : (seen : List Want) (from at : Where) (c : RangeProg) (after : Where) → (x : Comes lo hi B seen from (place_prog lo hi B at) at) → Comes lo hi B (seen ++ x.past) at c after → Comes lo hi B seen from c after
+  abbrev comes_then : (seen : List Want) (from at : Where) (c : RangeProg) (after : Where) → (x : Comes lo hi B seen from (place_prog lo hi B at) at)
+      → Comes lo hi B (seen ++ x.past) at c after → Comes lo hi B seen from c after
   comes_then seen from at c after x y = record {
     past = x.past ++ y.past;
     is = x.is ∙ ap (prepend (wants x.past)) y.is
-        ∙ ap (λ ms. run ms (exec B c).ending) (sym (append_assoc (wants x.past) (wants y.past) (exec B c).marks) ∙ ap (λ ms. ms ++ (exec B c).marks) (sym (wants-append x.past y.past)));
+        ∙ ap (λ ms. run ms (exec B c).ending) (sym (append_assoc (wants x.past) (wants y.past) (exec B c).marks)
+        ∙ ap (λ ms. ms ++ (exec B c).marks) (sym (wants-append x.past y.past)));
     on = subst (λ (z : List Want). IsAlong lo hi B z after) (append_assoc seen x.past y.past) y.on;
   }
 
-  pub leads_between : (Is : UnreadBlock → Want → Type 0) (from at after : Where) (store : Blocks) → Leads from at → IsGone lo hi Is B at after store (Ok gone.Between) → Leads from after
+  pub leads_between : (Is : UnreadBlock → Want → Type 0) (from at after : Where) (store : Blocks) → Leads from at
+      → IsGone lo hi Is B at after store (Ok gone.Between) → Leads from after
   leads_between Is from at after store l g seen on =
       let x = l seen on in
       comes_then seen from at (place_prog lo hi B after) after x (g (seen ++ x.past) x.on)
 
-  pub leads_leaf : (Is : UnreadBlock → Want → Type 0) (from at after : Where) (store : Blocks) (l : LeafAt) → Leads from at → IsGone lo hi Is B at after store (Ok (gone.Leaf l)) → IsReached lo hi Is B from after store (Ok (Some l))
+  pub leads_leaf : (Is : UnreadBlock → Want → Type 0) (from at after : Where) (store : Blocks) (l : LeafAt) → Leads from at
+      → IsGone lo hi Is B at after store (Ok (gone.Leaf l)) → IsReached lo hi Is B from after store (Ok (Some l))
   leads_leaf Is from at after store l lead g seen on =
       let x = lead seen on in
       both (block_of store l.loan) x (g (seen ++ x.past) x.on)
     where
-      both : (o : Option (List ℕ)) (x : Comes lo hi B seen from (place_prog lo hi B at) at) → IsSomeAnd o (λ block. ComesTo lo hi B (seen ++ x.past) at (emit_all (part_items l.spot.addr block l.next l.end) (place_prog lo hi B after)) after store l) → IsSomeAnd o (λ block. ComesTo lo hi B seen from (emit_all (part_items l.spot.addr block l.next l.end) (place_prog lo hi B after)) after store l)
+      both : (o : Option (List ℕ)) (x : Comes lo hi B seen from (place_prog lo hi B at) at)
+          → IsSomeAnd o (λ block. ComesTo lo hi B (seen ++ x.past) at
+          (emit_all (part_items l.spot.addr block l.next l.end) (place_prog lo hi B after)) after store l)
+          → IsSomeAnd o (λ block. ComesTo lo hi B seen from (emit_all (part_items l.spot.addr block l.next l.end) (place_prog lo hi B after)) after store l)
       both None x h = absurd h
       both (Some block) x h =
           let c = h.comes in
@@ -68,29 +76,40 @@ module _ (lo hi : Key) (B : Map) where
           }
 
   -- a leaf with no item in the range
-  pub leads_empty : (Is : UnreadBlock → Want → Type 0) (from at after : Where) (store : Blocks) (l : LeafAt) → l.end ≤ l.next → Leads from at → IsGone lo hi Is B at after store (Ok (gone.Leaf l)) → Leads from after
+  pub leads_empty : (Is : UnreadBlock → Want → Type 0) (from at after : Where) (store : Blocks) (l : LeafAt) → l.end ≤ l.next → Leads from at
+      → IsGone lo hi Is B at after store (Ok (gone.Leaf l)) → Leads from after
   leads_empty Is from at after store l le lead g seen on =
       let x = lead seen on in
       empty (block_of store l.loan) x (g (seen ++ x.past) x.on)
     where
-      empty : (o : Option (List ℕ)) (x : Comes lo hi B seen from (place_prog lo hi B at) at) → IsSomeAnd o (λ block. ComesTo lo hi B (seen ++ x.past) at (emit_all (part_items l.spot.addr block l.next l.end) (place_prog lo hi B after)) after store l) → Comes lo hi B seen from (place_prog lo hi B after) after
+      empty : (o : Option (List ℕ)) (x : Comes lo hi B seen from (place_prog lo hi B at) at)
+          → IsSomeAnd o (λ block. ComesTo lo hi B (seen ++ x.past) at
+          (emit_all (part_items l.spot.addr block l.next l.end) (place_prog lo hi B after)) after store l)
+          → Comes lo hi B seen from (place_prog lo hi B after) after
       empty None x h = absurd h
       empty (Some block) x h =
           comes_then seen from at (place_prog lo hi B after) after x
-          (subst (λ (items : List TreeItem). Comes lo hi B (seen ++ x.past) at (emit_all items (place_prog lo hi B after)) after) (part_none l.spot.addr block l.next l.end le) h.comes)
+          (subst (λ (items : List TreeItem). Comes lo hi B (seen ++ x.past) at (emit_all items (place_prog lo hi B after)) after)
+          (part_none l.spot.addr block l.next l.end le) h.comes)
 
   -- what is answered from here is answered from the beginning
-  follows_from : (Is : UnreadBlock → Want → Type 0) (seen : List Want) (from at : Where) (ans : Result (Unit {0}) (Halt fate.Fault UnreadBlock)) → (x : Comes lo hi B seen from (place_prog lo hi B at) at) → Follows Is no_part (seen ++ x.past) (exec B (place_prog lo hi B at)) [] ans → Follows Is no_part seen (exec B (place_prog lo hi B from)) [] ans
+  follows_from : (Is : UnreadBlock → Want → Type 0) (seen : List Want) (from at : Where) (ans : Result (Unit {0}) (Halt fate.Fault UnreadBlock))
+      → (x : Comes lo hi B seen from (place_prog lo hi B at) at) → Follows Is no_part (seen ++ x.past) (exec B (place_prog lo hi B at)) [] ans
+      → Follows Is no_part seen (exec B (place_prog lo hi B from)) [] ans
   follows_from Is seen from at ans x h =
       let b : RangeProg = place_prog lo hi B at in
       subst (λ r. Follows Is no_part seen r [] ans) (sym x.is)
-      (subst (λ (done : List TreeItem). Follows Is no_part seen (prepend (wants x.past) (exec B b)) done ans) (append-nil (steps_of (wants x.past)) ∙ steps_back x.past)
-      (follows_behind Is no_part seen (wants x.past) (exec B b) [] ans (subst (λ (ws : List Want). Follows Is no_part (seen ++ ws) (exec B b) [] ans) (sym (wants_back x.past)) h)))
+      (subst (λ (done : List TreeItem). Follows Is no_part seen (prepend (wants x.past) (exec B b)) done ans)
+      (append-nil (steps_of (wants x.past)) ∙ steps_back x.past)
+      (follows_behind Is no_part seen (wants x.past) (exec B b) [] ans
+      (subst (λ (ws : List Want). Follows Is no_part (seen ++ ws) (exec B b) [] ans) (sym (wants_back x.past)) h)))
 
-  pub leads_end : (Is : UnreadBlock → Want → Type 0) (from at after : Where) (store store' : Blocks) → Leads from at → IsGone lo hi Is B at after store (Ok gone.End) → IsReached lo hi Is B from after store' (Ok None)
+  pub leads_end : (Is : UnreadBlock → Want → Type 0) (from at after : Where) (store store' : Blocks) → Leads from at
+      → IsGone lo hi Is B at after store (Ok gone.End) → IsReached lo hi Is B from after store' (Ok None)
   leads_end Is from at after store store' lead g seen on = let x = lead seen on in follows_from Is seen from at (Ok tt) x (g (seen ++ x.past) x.on)
 
-  pub leads_err : (Is : UnreadBlock → Want → Type 0) (from at after : Where) (store store' : Blocks) (f : TreeFault) → Leads from at → IsGone lo hi Is B at after store (Err f) → IsReached lo hi Is B from after store' (Err f)
+  pub leads_err : (Is : UnreadBlock → Want → Type 0) (from at after : Where) (store store' : Blocks) (f : TreeFault) → Leads from at
+      → IsGone lo hi Is B at after store (Err f) → IsReached lo hi Is B from after store' (Err f)
   leads_err Is from at after store store' f lead g seen on = let x = lead seen on in follows_from Is seen from at (Err (halt_of f)) x (g (seen ++ x.past) x.on)
 
 pub gone_lent : (old new : Blocks) (x : _) (l : LeafAt) → x ≡ gone.Leaf l → LendsGone old new (Ok x) → LendsLeafAt old new l
@@ -112,11 +131,13 @@ pub leaf_back : (old new : Blocks) (l : LeafAt) → LendsLeafAt old new l → Sa
 leaf_back old new l t = freed old new l.loan.slot t.after.0 t.layout t.after.1 t.free
 
 -- less may be said of a block that could not be read
-pub gone_as : (lo hi : Key) (B : Map) (Is Less : UnreadBlock → Want → Type 0) (place after : Where) (store : Blocks) (result : Result _ TreeFault) → ((u : UnreadBlock) (w : Want) → Is u w → Less u w) → IsGone lo hi Is B place after store result → IsGone lo hi Less B place after store result
+pub gone_as : (lo hi : Key) (B : Map) (Is Less : UnreadBlock → Want → Type 0) (place after : Where) (store : Blocks) (result : Result _ TreeFault)
+    → ((u : UnreadBlock) (w : Want) → Is u w → Less u w) → IsGone lo hi Is B place after store result → IsGone lo hi Less B place after store result
 gone_as lo hi B Is Less place after store (Ok (gone.Leaf l)) weaker g = g
 gone_as lo hi B Is Less place after store (Ok gone.Between) weaker g = g
 gone_as lo hi B Is Less place after store (Ok gone.End) weaker g = g
-gone_as lo hi B Is Less place after store (Err f) weaker g = λ seen on. follows_as Is Less weaker no_part seen (exec B (place_prog lo hi B place)) [] (Err (halt_of f)) (g seen on)
+gone_as lo hi B Is Less place after store (Err f) weaker g = λ seen on. follows_as Is Less weaker no_part seen (exec B (place_prog lo hi B place)) []
+    (Err (halt_of f)) (g seen on)
 
 pub leaf_given : (old new after : Blocks) (l : LeafAt) → LendsLeafAt old new l → after ≡ with_loan new l.loan.slot None → SameLoans old after
 leaf_given old new after l t given = let f = leaf_back old new l t in record { layout = ap (λ (s : Blocks). s.layout) given ∙ f.layout; loans = ap (λ (s : Blocks). s.loans) given ∙ f.loans }

@@ -17,10 +17,12 @@ pub same_then : {a b c : Blocks} → SameLoans a b → SameLoans b c → SameLoa
 same_then one two = record { layout = two.layout ∙ one.layout; loans = two.loans ∙ one.loans }
 
 -- a slot that was lent, and then is free again
-pub freed : (old new : Blocks) (slot : ℕ) (written : List ℕ) → new.layout ≡ old.layout → new.loans ≡ set old.loans slot (Some written) → loan_in old slot ≡ None → SameLoans old (with_loan new slot None)
+pub freed : (old new : Blocks) (slot : ℕ) (written : List ℕ) → new.layout ≡ old.layout → new.loans ≡ set old.loans slot (Some written)
+    → loan_in old slot ≡ None → SameLoans old (with_loan new slot None)
 freed old new slot written layout after free = record {
   layout = layout;
-  loans = ap (λ (l : Loans). set l slot None) after ∙ (set-set old.loans slot (Some written) None ∙ (ap (set old.loans slot) (sym free) ∙ set-get_or old.loans slot None));
+  loans = ap (λ (l : Loans). set l slot None) after ∙ (set-set old.loans slot (Some written) None
+      ∙ (ap (set old.loans slot) (sym free) ∙ set-get_or old.loans slot None));
 }
 
 pub given_back : (old new after : Blocks) (want : Want) (loan : Lent) → IsLentBy old new want loan → after ≡ with_loan new loan.slot None → SameLoans old after

@@ -1,5 +1,6 @@
 -- A step of a scan.
-use Rattle.std.proofs.Common.{◌≡◌, ℕ, ◌+◌, ◌-◌, ◌*◌, ◌^◌, ◌<◌, ◌≤◌, true, false, List, [], ◌++◌, length, get_or, Option, Some, None, IfSome, IsSomeAnd, IsTrue, Bool, Result, Ok, Err, OnErr, refl, sym, ap, ◌∙◌, subst, arith}
+use Rattle.std.proofs.Common.{◌≡◌, ℕ, ◌+◌, ◌-◌, ◌*◌, ◌^◌, ◌<◌, ◌≤◌, true, false, List, [], ◌++◌, length, get_or, Option, Some, None, IfSome, IsSomeAnd, IsTrue}
+use Rattle.std.proofs.Common.{Bool, Result, Ok, Err, OnErr, refl, sym, ap, ◌∙◌, subst, arith}
 use Rattle.btr_node.specs.Block.{Item, items, is_leaf}
 use Rattle.btr_prog.specs.Prog.{Does, first, prepend, exec}
 use Rattle.btr_prog.specs.Answers.{Follows, no_part}
@@ -40,7 +41,8 @@ in_hand place = record { leaf = None; rest = place }
 abbrev pub moved : Scan → Where → ScanPlace
 moved scan after = record { leaf = scan.place.leaf; rest = after }
 
-pub cause_as : {A : Type 0} (layout : Layout) (old new : Seen) (met : Result A TreeFault) (f : TreeFault) → met ≡ Err f → HasCause layout old new met → FaultCause layout old new f
+pub cause_as : {A : Type 0} (layout : Layout) (old new : Seen) (met : Result A TreeFault) (f : TreeFault) → met ≡ Err f → HasCause layout old new met
+    → FaultCause layout old new f
 cause_as layout old new met f e h = subst (HasCause layout old new) e h
 
 no_leaf : (scan : Scan) (leaf : Option LeafAt) → leaf ≡ None → IfSome leaf (λ l. scan.place.leaf ≡ None)
@@ -54,30 +56,48 @@ module _ (store new : Blocks) (scan : Scan) (taken : Option LeafAt) (is_taken : 
   abbrev Is : UnreadBlock → Want → Type 0
   Is = unread_by store.layout before now
 
-  scanned : (place : ScanPlace) (result : Result (Option Found) TreeFault) → IsShaped place.rest → IfSome leaf (λ l. place.leaf ≡ None) → SameLoans (base store (loan_of taken)) (base new (loan_of a.leaf)) → IfSome a.leaf (IsInHand new) → ((B : Map) → IsAdvanced scan.lo scan.hi Is B scan.place after scan.leaf store new a → IsNextOn Is B store new scan (scan_at scan place leaf) result) → Tells store.layout before now (λ B. IsAdvanced scan.lo scan.hi Is B scan.place after taken store new a) → Scanned store new scan (scan_at scan place leaf) before now result
+  scanned : (place : ScanPlace) (result : Result (Option Found) TreeFault) → IsShaped place.rest → IfSome leaf (λ l. place.leaf ≡ None)
+      → SameLoans (base store (loan_of taken)) (base new (loan_of a.leaf)) → IfSome a.leaf (IsInHand new)
+      → ((B : Map) → IsAdvanced scan.lo scan.hi Is B scan.place after scan.leaf store new a
+      → IsNextOn Is B store new scan (scan_at scan place leaf) result)
+      → Tells store.layout before now (λ B. IsAdvanced scan.lo scan.hi Is B scan.place after taken store new a)
+      → Scanned store new scan (scan_at scan place leaf) before now result
   scanned place result shaped alone others hand f c = record {
-    others = subst (λ l. SameLoans (base store (loan_of scan.leaf)) (base new (loan_of l))) (sym is_leaf) (subst (λ l. SameLoans (base store (loan_of l)) (base new (loan_of a.leaf))) is_taken others);
+    others = subst (λ l. SameLoans (base store (loan_of scan.leaf)) (base new (loan_of l))) (sym is_leaf)
+        (subst (λ l. SameLoans (base store (loan_of l)) (base new (loan_of a.leaf))) is_taken others);
     ready = record { serves = serves; hand = subst (λ l. IfSome l (IsInHand new)) (sym is_leaf) hand; shaped = shaped; alone = alone };
-    content = drawn store.layout (λ B. IsAdvanced scan.lo scan.hi Is B scan.place after taken store new a) (λ B. IsNextOn Is B store new scan (scan_at scan place leaf) result)
+    content = drawn store.layout (λ B. IsAdvanced scan.lo scan.hi Is B scan.place after taken store new a)
+        (λ B. IsNextOn Is B store new scan (scan_at scan place leaf) result)
         (λ B h. f B (subst (λ l. IsAdvanced scan.lo scan.hi Is B scan.place after l store new a) is_taken h)) c;
   }
 
-  of_err : (B : Map) (was : Type 0) (seen : List Want) (p : RangeProg) (f : TreeFault) (l : Option LeafAt) → AdvancesBy scan.lo scan.hi was Is B seen p new after l (Err f) → Follows Is no_part seen (exec B p) [] (Err (halt_of f))
+  of_err : (B : Map) (was : Type 0) (seen : List Want) (p : RangeProg) (f : TreeFault) (l : Option LeafAt)
+      → AdvancesBy scan.lo scan.hi was Is B seen p new after l (Err f) → Follows Is no_part seen (exec B p) [] (Err (halt_of f))
   of_err B was seen p f None h = h
   of_err B was seen p f (Some x) h = h
 
-  of_end : (B : Map) (was : Type 0) (seen : List Want) (p : RangeProg) (l : Option LeafAt) → AdvancesBy scan.lo scan.hi was Is B seen p new after l (Ok false) → Follows Is no_part seen (exec B p) [] (Ok tt)
+  of_end : (B : Map) (was : Type 0) (seen : List Want) (p : RangeProg) (l : Option LeafAt)
+      → AdvancesBy scan.lo scan.hi was Is B seen p new after l (Ok false) → Follows Is no_part seen (exec B p) [] (Ok tt)
   of_end B was seen p None h = h
   of_end B was seen p (Some x) h = h
 
-  pub next_err : (f : TreeFault) → a.met ≡ Err f → leaf ≡ None → IsShaped after → SameLoans (base store (loan_of taken)) (base new (loan_of a.leaf)) → IfSome a.leaf (IsInHand new) → Tells store.layout before now (λ B. IsAdvanced scan.lo scan.hi Is B scan.place after taken store new a) → Scanned store new scan (scan_at scan (moved scan after) leaf) before now (Err f)
-  next_err f e free shaped others hand c = scanned (moved scan after) (Err f) shaped (no_leaf scan leaf free) others hand (λ B h seen on. of_err B (HoldsLeaf B seen store scan) seen (left_of B store scan) f a.leaf (subst (λ m. AdvancesBy scan.lo scan.hi (HoldsLeaf B seen store scan) Is B seen (left_of B store scan) new after a.leaf m) e (h seen on))) c
+  pub next_err : (f : TreeFault) → a.met ≡ Err f → leaf ≡ None → IsShaped after → SameLoans (base store (loan_of taken)) (base new (loan_of a.leaf))
+      → IfSome a.leaf (IsInHand new) → Tells store.layout before now (λ B. IsAdvanced scan.lo scan.hi Is B scan.place after taken store new a)
+      → Scanned store new scan (scan_at scan (moved scan after) leaf) before now (Err f)
+  next_err f e free shaped others hand c = scanned (moved scan after) (Err f) shaped (no_leaf scan leaf free) others hand
+      (λ B h seen on. of_err B (HoldsLeaf B seen store scan) seen (left_of B store scan) f a.leaf
+      (subst (λ m. AdvancesBy scan.lo scan.hi (HoldsLeaf B seen store scan) Is B seen (left_of B store scan) new after a.leaf m) e (h seen on))) c
 
-  pub next_end : a.met ≡ Ok false → leaf ≡ None → IsShaped after → SameLoans (base store (loan_of taken)) (base new (loan_of a.leaf)) → IfSome a.leaf (IsInHand new) → Tells store.layout before now (λ B. IsAdvanced scan.lo scan.hi Is B scan.place after taken store new a) → Scanned store new scan (scan_at scan (moved scan after) leaf) before now (Ok None)
-  next_end e free shaped others hand c = scanned (moved scan after) (Ok None) shaped (no_leaf scan leaf free) others hand (λ B h seen on. of_end B (HoldsLeaf B seen store scan) seen (left_of B store scan) a.leaf (subst (λ m. AdvancesBy scan.lo scan.hi (HoldsLeaf B seen store scan) Is B seen (left_of B store scan) new after a.leaf m) e (h seen on))) c
+  pub next_end : a.met ≡ Ok false → leaf ≡ None → IsShaped after → SameLoans (base store (loan_of taken)) (base new (loan_of a.leaf))
+      → IfSome a.leaf (IsInHand new) → Tells store.layout before now (λ B. IsAdvanced scan.lo scan.hi Is B scan.place after taken store new a)
+      → Scanned store new scan (scan_at scan (moved scan after) leaf) before now (Ok None)
+  next_end e free shaped others hand c = scanned (moved scan after) (Ok None) shaped (no_leaf scan leaf free) others hand
+      (λ B h seen on. of_end B (HoldsLeaf B seen store scan) seen (left_of B store scan) a.leaf
+      (subst (λ m. AdvancesBy scan.lo scan.hi (HoldsLeaf B seen store scan) Is B seen (left_of B store scan) new after a.leaf m) e (h seen on))) c
 
   module _ (l : LeafAt) (there : leaf ≡ Some l) (found : Found) (block : List ℕ) (is : block_of new l.loan ≡ Some block) (at : (d : Item) → tree_item l.spot.addr (get_or (items block) (l.next - 1) d) ≡ item_of found) where
-    gives : (B : Map) (seen : List Want) → Meets scan.lo scan.hi (HoldsLeaf B seen store scan) B seen (left_of B store scan) new l after → Gives B seen store new scan (scan_at scan (in_hand after) leaf) found
+    gives : (B : Map) (seen : List Want) → Meets scan.lo scan.hi (HoldsLeaf B seen store scan) B seen (left_of B store scan) new l after
+        → Gives B seen store new scan (scan_at scan (in_hand after) leaf) found
     gives B seen m =
         let d : Item = record { key = scan.lo; offset = 0; size = 0; body = [] } in
         let here = block_is new l.loan block (λ b. (l.next ≤ length (items b)) × ((e : Item) → tree_item l.spot.addr (get_or (items b) (l.next - 1) e) ≡ m.item)) is m.at in
@@ -92,10 +112,14 @@ module _ (store new : Blocks) (scan : Scan) (taken : Option LeafAt) (is_taken : 
           met = subst (λ x. IfSome x (WasMet new (item_of found))) (sym there) (subst (λ (i : TreeItem). WasMet new i l) same m.at);
         }
 
-    pub next_item : a.met ≡ Ok true → IsShaped after → SameLoans (base store (loan_of taken)) (base new (loan_of a.leaf)) → IfSome a.leaf (IsInHand new) → Tells store.layout before now (λ B. IsAdvanced scan.lo scan.hi Is B scan.place after taken store new a) → Scanned store new scan (scan_at scan (in_hand after) leaf) before now (Ok (Some found))
+    pub next_item : a.met ≡ Ok true → IsShaped after → SameLoans (base store (loan_of taken)) (base new (loan_of a.leaf))
+        → IfSome a.leaf (IsInHand new) → Tells store.layout before now (λ B. IsAdvanced scan.lo scan.hi Is B scan.place after taken store new a)
+        → Scanned store new scan (scan_at scan (in_hand after) leaf) before now (Ok (Some found))
     next_item e shaped others hand c =
         scanned (in_hand after) (Ok (Some found)) shaped (free_leaf after leaf) others hand
-        (λ B h seen on. gives B seen (subst (λ x. AdvancesBy scan.lo scan.hi (HoldsLeaf B seen store scan) Is B seen (left_of B store scan) new after x (Ok true)) (sym is_leaf ∙ there) (subst (λ m. AdvancesBy scan.lo scan.hi (HoldsLeaf B seen store scan) Is B seen (left_of B store scan) new after a.leaf m) e (h seen on)))) c
+        (λ B h seen on. gives B seen (subst (λ x. AdvancesBy scan.lo scan.hi (HoldsLeaf B seen store scan) Is B seen (left_of B store scan) new after
+        x (Ok true)) (sym is_leaf ∙ there) (subst (λ m. AdvancesBy scan.lo scan.hi (HoldsLeaf B seen store scan) Is B seen (left_of B store scan)
+        new after a.leaf m) e (h seen on)))) c
 
 -- what is kept after a step
 pub keeps_end : (leaf leaf' : Option LeafAt) (met : Result Bool TreeFault) → leaf' ≡ leaf → met ≡ Ok false → HasItem leaf met → leaf' ≡ None
@@ -112,13 +136,15 @@ keeps_err leaf leaf' met f is e h = is ∙ ends leaf (subst (HasItem leaf) e h)
     ends None h = h
     ends (Some x) h = h
 
-pub keeps_item : (leaf leaf' : Option LeafAt) (l : LeafAt) (met : Result Bool TreeFault) → leaf' ≡ leaf → leaf' ≡ Some l → met ≡ Ok true → HasItem leaf met → IsSomeAnd leaf' (λ x. (0 < x.next) × (x.next ≤ x.end))
+pub keeps_item : (leaf leaf' : Option LeafAt) (l : LeafAt) (met : Result Bool TreeFault) → leaf' ≡ leaf → leaf' ≡ Some l → met ≡ Ok true
+    → HasItem leaf met → IsSomeAnd leaf' (λ x. (0 < x.next) × (x.next ≤ x.end))
 keeps_item leaf leaf' l met same is e h =
     let i : HasItem (Some l) (Ok true) = subst (λ x. HasItem x (Ok true)) (sym same ∙ is) (subst (HasItem leaf) e h) in
     subst (λ x. IsSomeAnd x (λ y. (0 < y.next) × (y.next ≤ y.end))) (sym is) i
 
 -- the scan came nearer to its end
-pub near_some : (scan : Scan) (taken leaf' : Option LeafAt) (after : Where) (a : Advanced) → taken ≡ scan.leaf → leaf' ≡ a.leaf → StepNears (rank_on scan.place taken) after a.leaf a.met → a.met ≡ Ok true → rank_of (scan_at scan (in_hand after) leaf') < rank_of scan
+pub near_some : (scan : Scan) (taken leaf' : Option LeafAt) (after : Where) (a : Advanced) → taken ≡ scan.leaf → leaf' ≡ a.leaf
+    → StepNears (rank_on scan.place taken) after a.leaf a.met → a.met ≡ Ok true → rank_of (scan_at scan (in_hand after) leaf') < rank_of scan
 near_some scan taken leaf' after a is_taken is_leaf h e =
     let g : 2 ^ 64 * rank after + rank_leaf a.leaf None < rank_on scan.place taken = subst (λ m. StepNears (rank_on scan.place taken) after a.leaf m) e h in
     let x : rank_leaf taken scan.place.leaf ≡ rank_leaf scan.leaf scan.place.leaf = ap (λ l. rank_leaf l scan.place.leaf) is_taken in
@@ -137,7 +163,8 @@ stays_put place after met f e h = subst (λ m. OnErr m (after ≡ place)) e h
 pub moved_none : (scan : Scan) (after : Where) → after ≡ scan.place.rest → moved scan after ≡ scan.place
 moved_none scan after e = ap (moved scan) e
 
-pub near_none : (scan : Scan) (leaf' : Option LeafAt) (after : Where) → leaf' ≡ None → rank after ≤ rank scan.place.rest → IfSome scan.leaf (λ l. scan.place.leaf ≡ None) → rank_of (scan_at scan (moved scan after) leaf') ≤ rank_of scan
+pub near_none : (scan : Scan) (leaf' : Option LeafAt) (after : Where) → leaf' ≡ None → rank after ≤ rank scan.place.rest
+    → IfSome scan.leaf (λ l. scan.place.leaf ≡ None) → rank_of (scan_at scan (moved scan after) leaf') ≤ rank_of scan
 near_none scan leaf' after e on h =
     let x : rank_leaf leaf' scan.place.leaf ≡ rank_leaf None scan.place.leaf = ap (λ l. rank_leaf l scan.place.leaf) e in
     omega (arith, x, on, leaf_gone scan.place scan.leaf h)
@@ -168,15 +195,18 @@ module _ (store after : Blocks) (scan : Scan) (leaf' : Option LeafAt) (l : LeafA
     leaf = none;
     kept = subst (λ x. IfSome x (λ y. Some kept ≡ Some (frame_of y))) (sym is) refl;
     rest = refl;
-    rank = ap (λ x. 2 ^ 64 * rank scan.place.rest + rank_leaf x (Some kept)) none ∙ ap (λ x. 2 ^ 64 * rank scan.place.rest + rank_leaf x scan.place.leaf) (sym is);
+    rank = ap (λ x. 2 ^ 64 * rank scan.place.rest + rank_leaf x (Some kept)) none
+        ∙ ap (λ x. 2 ^ 64 * rank scan.place.rest + rank_leaf x scan.place.leaf) (sym is);
     program = λ B seen h.
         let rest = place_prog scan.lo scan.hi B scan.place.rest in
-        ap (λ x. leaf_prog B after x (Some kept) rest) none ∙ kept_same B seen rest (held_is B seen h) ∙ ap (λ x. leaf_prog B store x scan.place.leaf rest) (sym is);
+        ap (λ x. leaf_prog B after x (Some kept) rest) none ∙ kept_same B seen rest (held_is B seen h)
+        ∙ ap (λ x. leaf_prog B store x scan.place.leaf rest) (sym is);
     on = λ B seen h on. record { rest = on.rest; kept = kept_as B seen h };
   }
 
 -- what a rack and a store need to go on with a scan that is paused
-pub ready_paused : (now : Seen) (store after : Blocks) (scan : Scan) (leaf' : Option LeafAt) (place : ScanPlace) → leaf' ≡ None → place.rest ≡ scan.place.rest → (Serves now store → Serves now after) → IsReady now store scan → IsReady now after (scan_at scan place leaf')
+pub ready_paused : (now : Seen) (store after : Blocks) (scan : Scan) (leaf' : Option LeafAt) (place : ScanPlace) → leaf' ≡ None → place.rest
+    ≡ scan.place.rest → (Serves now store → Serves now after) → IsReady now store scan → IsReady now after (scan_at scan place leaf')
 ready_paused now store after scan leaf' place none same serves r = record {
   serves = serves r.serves;
   hand = subst (λ l. IfSome l (IsInHand after)) (sym none) tt;

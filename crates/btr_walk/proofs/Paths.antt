@@ -1,5 +1,6 @@
 -- How a scan goes on from place to place.
-use Rattle.std.proofs.Common.{◌≡◌, inl, inr, ℕ, zero, suc, ◌+◌, ◌-◌, ◌<◌, ◌≤◌, List, [], ◌∷◌, ◌++◌, length, get_or, set, drop, replicate, Option, Some, None, IfSome, IsSomeAnd, Result, Ok, Err, refl, sym, ap, ◌∙◌, subst, append-nil, arith}
+use Rattle.std.proofs.Common.{◌≡◌, inl, inr, ℕ, zero, suc, ◌+◌, ◌-◌, ◌<◌, ◌≤◌, List, [], ◌∷◌, ◌++◌, length, get_or, set, drop, replicate, Option, Some, None}
+use Rattle.std.proofs.Common.{IfSome, IsSomeAnd, Result, Ok, Err, refl, sym, ap, ◌∙◌, subst, append-nil, arith}
 use Rattle.std.proofs.lemmas.Bool.{cases_eq}
 use Rattle.std.proofs.lemmas.List.{get_or-set_same, get_or-set_other, set-get_or}
 use Rattle.btr_base.specs.declared.key.Key.{Key}
@@ -38,7 +39,8 @@ none_of (suc n) (suc k) = none_of n k
 
 module _ (lo hi : Key) (B : Map) where
   -- places of a path that have no frame
-  path_clear : (m n : ℕ) (fs : List (Option Frame)) → n ≤ length fs → ((k : ℕ) → k < n → get_or fs k None ≡ None) → path_prog lo hi B m fs ≡ path_prog lo hi B (m + n) (drop n fs)
+  path_clear : (m n : ℕ) (fs : List (Option Frame)) → n ≤ length fs → ((k : ℕ) → k < n → get_or fs k None ≡ None) → path_prog lo hi B m fs
+      ≡ path_prog lo hi B (m + n) (drop n fs)
   path_clear m zero fs le h = let e : m ≡ m + 0 = omega arith in ap (λ x. path_prog lo hi B x fs) e
   path_clear m (suc n) [] le h = absurd (omega (arith, le))
   path_clear m (suc n) (o ∷ fs) le h =
@@ -47,7 +49,8 @@ module _ (lo hi : Key) (B : Map) where
       ∙ path_clear (m + 1) n fs (omega (arith, le)) (λ k lt. h (suc k) (omega (arith, lt)))
       ∙ ap (λ x. path_prog lo hi B x (drop n fs)) e
 
-  path_set_at : (m i : ℕ) (fs : List (Option Frame)) (o : Option Frame) → i < length fs → ((k : ℕ) → k < i → get_or fs k None ≡ None) → path_prog lo hi B m (set fs i o) ≡ frame_or_rest lo hi B (m + i + 1) o (path_prog lo hi B (m + i + 1) (drop (suc i) fs))
+  path_set_at : (m i : ℕ) (fs : List (Option Frame)) (o : Option Frame) → i < length fs → ((k : ℕ) → k < i → get_or fs k None ≡ None)
+      → path_prog lo hi B m (set fs i o) ≡ frame_or_rest lo hi B (m + i + 1) o (path_prog lo hi B (m + i + 1) (drop (suc i) fs))
   path_set_at m i [] o lt h = absurd (omega (arith, lt))
   path_set_at m zero (x ∷ fs) o lt h = let e : m + 1 ≡ m + 0 + 1 = omega arith in ap (λ l. frame_or_rest lo hi B l o (path_prog lo hi B l fs)) e
   path_set_at m (suc i) (x ∷ fs) o lt h =
@@ -60,7 +63,8 @@ module _ (lo hi : Key) (B : Map) where
   abbrev pub behind : ℕ → List (Option Frame) → RangeProg
   behind i fs = path_prog lo hi B (i + 1) (drop (suc i) fs)
 
-  path_set : (i : ℕ) (fs : List (Option Frame)) (o : Option Frame) → i < length fs → ((k : ℕ) → k < i → get_or fs k None ≡ None) → path_prog lo hi B 0 (set fs i o) ≡ frame_or_rest lo hi B (i + 1) o (behind i fs)
+  path_set : (i : ℕ) (fs : List (Option Frame)) (o : Option Frame) → i < length fs → ((k : ℕ) → k < i → get_or fs k None ≡ None)
+      → path_prog lo hi B 0 (set fs i o) ≡ frame_or_rest lo hi B (i + 1) o (behind i fs)
   path_set i fs o lt h = let e : 0 + i + 1 ≡ i + 1 = omega arith in path_set_at 0 i fs o lt h ∙ ap (λ l. frame_or_rest lo hi B l o (path_prog lo hi B l (drop (suc i) fs))) e
 
   pub path_bare : (i : ℕ) (fs : List (Option Frame)) → i < length fs → ((k : ℕ) → k < suc i → get_or fs k None ≡ None) → path_prog lo hi B 0 fs ≡ behind i fs
@@ -79,10 +83,14 @@ module _ (lo hi : Key) (B : Map) where
   }
 
   -- the frames of a path of which one was changed
-  frames_set : (seen more : List Want) (fs : List (Option Frame)) (i : ℕ) (o : Option Frame) → i < length fs → ((k : ℕ) → IfSome (get_or fs k None) (IsFrame lo hi B seen (k + 1))) → IfSome o (IsFrame lo hi B (seen ++ more) (i + 1)) → (k : ℕ) → IfSome (get_or (set fs i o) k None) (IsFrame lo hi B (seen ++ more) (k + 1))
+  frames_set : (seen more : List Want) (fs : List (Option Frame)) (i : ℕ) (o : Option Frame) → i < length fs
+      → ((k : ℕ) → IfSome (get_or fs k None) (IsFrame lo hi B seen (k + 1))) → IfSome o (IsFrame lo hi B (seen ++ more) (i + 1)) → (k : ℕ)
+      → IfSome (get_or (set fs i o) k None) (IsFrame lo hi B (seen ++ more) (k + 1))
   frames_set seen more fs i o lt h g k = elim (cases_eq k i) [
-    | inl e ↦ subst (λ (j : ℕ). IfSome (get_or (set fs i o) j None) (IsFrame lo hi B (seen ++ more) (j + 1))) (sym e) (subst (λ x. IfSome x (IsFrame lo hi B (seen ++ more) (i + 1))) (sym (get_or-set_same fs i o None lt)) g)
-    | inr ne ↦ subst (λ x. IfSome x (IsFrame lo hi B (seen ++ more) (k + 1))) (sym (get_or-set_other fs i k o None ne)) (frame_more lo hi B seen more (k + 1) (get_or fs k None) (h k))
+    | inl e ↦ subst (λ (j : ℕ). IfSome (get_or (set fs i o) j None) (IsFrame lo hi B (seen ++ more) (j + 1))) (sym e)
+        (subst (λ x. IfSome x (IsFrame lo hi B (seen ++ more) (i + 1))) (sym (get_or-set_same fs i o None lt)) g)
+    | inr ne ↦ subst (λ x. IfSome x (IsFrame lo hi B (seen ++ more) (k + 1))) (sym (get_or-set_other fs i k o None ne))
+        (frame_more lo hi B seen more (k + 1) (get_or fs k None) (h k))
   ]
 
   -- a block that was to be read is a leaf
@@ -114,9 +122,11 @@ module _ (lo hi : Key) (B : Map) where
       let old : path_prog lo hi B 0 path ≡ behind i path = path_bare i path within (λ k lt. on.above k (omega (arith, lt, level))) in
       record {
         past = w ∷ [];
-        is = ap (λ x. exec B (range_at lo hi todo.level todo.spot x)) old ∙ (e.0 (behind i path) ∙ ap (λ x. first (Wants w) (exec B (todo_prog lo hi b.todo x))) (sym new));
+        is = ap (λ x. exec B (range_at lo hi todo.level todo.spot x)) old
+            ∙ (e.0 (behind i path) ∙ ap (λ x. first (Wants w) (exec B (todo_prog lo hi b.todo x))) (sym new));
         on = subst (λ x. IsAlong lo hi B (seen ++ (w ∷ [])) (record { path = x; todo = b.todo })) (sym set_is) (record {
-          frames = frames_set seen (w ∷ []) path i b.frame within on.frames (subst (λ (x : ℕ). IfSome b.frame (IsFrame lo hi B (seen ++ (w ∷ [])) x)) (sym level) (e.1 (seen ++ (w ∷ [])) (last_read seen w)));
+          frames = frames_set seen (w ∷ []) path i b.frame within on.frames
+              (subst (λ (x : ℕ). IfSome b.frame (IsFrame lo hi B (seen ++ (w ∷ [])) x)) (sym level) (e.1 (seen ++ (w ∷ [])) (last_read seen w)));
           above = above_fits path i b.frame b.todo clear (low_todo b.todo todo.level i refl e.3);
           up = e.2;
         });
@@ -139,16 +149,21 @@ module _ (lo hi : Key) (B : Map) where
         past = [];
         is = ap (exec B) (old ∙ a.program (behind i path) ∙ ap (todo_prog lo hi b.todo) (sym new));
         on = subst (λ x. IsAlong lo hi B (seen ++ []) (record { path = x; todo = b.todo })) (sym set_is) (record {
-          frames = frames_set seen [] path i b.frame within on.frames (frame_more lo hi B seen [] (i + 1) b.frame (subst (λ (x : ℕ). IfSome b.frame (IsFrame lo hi B seen x)) level_is a.frame_is));
+          frames = frames_set seen [] path i b.frame within on.frames
+              (frame_more lo hi B seen [] (i + 1) b.frame (subst (λ (x : ℕ). IfSome b.frame (IsFrame lo hi B seen x)) level_is a.frame_is));
           above = above_fits path i b.frame b.todo clear (low_todo b.todo level i (omega (arith, level_is)) a.level_is);
           up = a.up;
         });
       }
 
   -- a block that could not be had
-  todo_halts : (Is : UnreadBlock → Want → Type 0) (level : ℕ) (spot : Spot) (store : Blocks) (f : TreeFault) (rest : RangeProg) (seen : List Want) → Reads Is B level spot store (Err f) → Follows Is no_part seen (exec B (range_at lo hi level spot rest)) [] (Err (halt_of f))
-  todo_halts Is zero spot store f rest seen h = need_halts Is B 0 spot store f (λ block. range_leaf lo hi spot rest (judged 0 spot block)) seen (λ block bad. ap (λ x. exec B (range_leaf lo hi spot rest x)) bad) h
-  todo_halts Is (suc n) spot store f rest seen h = need_halts Is B (suc n) spot store f (λ block. range_inner lo hi (range_at lo hi n) spot rest (judged (suc n) spot block)) seen (λ block bad. ap (λ x. exec B (range_inner lo hi (range_at lo hi n) spot rest x)) bad) h
+  todo_halts : (Is : UnreadBlock → Want → Type 0) (level : ℕ) (spot : Spot) (store : Blocks) (f : TreeFault) (rest : RangeProg) (seen : List Want)
+      → Reads Is B level spot store (Err f) → Follows Is no_part seen (exec B (range_at lo hi level spot rest)) [] (Err (halt_of f))
+  todo_halts Is zero spot store f rest seen h = need_halts Is B 0 spot store f (λ block. range_leaf lo hi spot rest (judged 0 spot block)) seen
+      (λ block bad. ap (λ x. exec B (range_leaf lo hi spot rest x)) bad) h
+  todo_halts Is (suc n) spot store f rest seen h = need_halts Is B (suc n) spot store f
+      (λ block. range_inner lo hi (range_at lo hi n) spot rest (judged (suc n) spot block)) seen
+      (λ block bad. ap (λ x. exec B (range_inner lo hi (range_at lo hi n) spot rest x)) bad) h
 
   pub gone_err : (Is : UnreadBlock → Want → Type 0) (path : List (Option Frame)) (todo : Todo) (after : Where) (store store' : Blocks) (f : TreeFault) → IsEntered lo hi Is B todo store (Err f) → IsGone lo hi Is B (record { path = path; todo = Some todo }) after store' (Err f)
   gone_err Is path todo after store store' f h seen on = todo_halts Is todo.level todo.spot store f (path_prog lo hi B 0 path) seen h
@@ -157,10 +172,14 @@ module _ (lo hi : Key) (B : Map) where
   again_halts Is path after i level frame store (tree.Unread a slot) level_is here h seen on =
       let f : IsFrame lo hi B seen level frame = subst (λ (x : ℕ). IsFrame lo hi B seen x frame) (sym level_is) (subst (λ o. IfSome o (IsFrame lo hi B seen (i + 1))) here (on.frames i)) in
       record { before = []; behind = (exec B (path_prog lo hi B 0 path)).marks; left = None; place = refl; steps = refl; leaves = tt; holds = subst (Names Is (record { addr = a; slot = slot })) (sym (append-nil seen)) (named Is (record { addr = a; slot = slot }) seen (want_of level frame.spot) h f.read) }
-  again_halts Is path after i level frame store (tree.Lost a) level_is here h seen on = absurd (h seen (subst (λ (x : ℕ). IsFrame lo hi B seen x frame) (sym level_is) (subst (λ o. IfSome o (IsFrame lo hi B seen (i + 1))) here (on.frames i))))
-  again_halts Is path after i level frame store (tree.Unmapped a) level_is here h seen on = absurd (h seen (subst (λ (x : ℕ). IsFrame lo hi B seen x frame) (sym level_is) (subst (λ o. IfSome o (IsFrame lo hi B seen (i + 1))) here (on.frames i))))
-  again_halts Is path after i level frame store (tree.Crosses a) level_is here h seen on = absurd (h seen (subst (λ (x : ℕ). IsFrame lo hi B seen x frame) (sym level_is) (subst (λ o. IfSome o (IsFrame lo hi B seen (i + 1))) here (on.frames i))))
-  again_halts Is path after i level frame store (tree.Malformed a) level_is here h seen on = absurd (h seen (subst (λ (x : ℕ). IsFrame lo hi B seen x frame) (sym level_is) (subst (λ o. IfSome o (IsFrame lo hi B seen (i + 1))) here (on.frames i))))
+  again_halts Is path after i level frame store (tree.Lost a) level_is here h seen on = absurd
+      (h seen (subst (λ (x : ℕ). IsFrame lo hi B seen x frame) (sym level_is) (subst (λ o. IfSome o (IsFrame lo hi B seen (i + 1))) here (on.frames i))))
+  again_halts Is path after i level frame store (tree.Unmapped a) level_is here h seen on = absurd
+      (h seen (subst (λ (x : ℕ). IsFrame lo hi B seen x frame) (sym level_is) (subst (λ o. IfSome o (IsFrame lo hi B seen (i + 1))) here (on.frames i))))
+  again_halts Is path after i level frame store (tree.Crosses a) level_is here h seen on = absurd
+      (h seen (subst (λ (x : ℕ). IsFrame lo hi B seen x frame) (sym level_is) (subst (λ o. IfSome o (IsFrame lo hi B seen (i + 1))) here (on.frames i))))
+  again_halts Is path after i level frame store (tree.Malformed a) level_is here h seen on = absurd
+      (h seen (subst (λ (x : ℕ). IsFrame lo hi B seen x frame) (sym level_is) (subst (λ o. IfSome o (IsFrame lo hi B seen (i + 1))) here (on.frames i))))
 
 -- the place by its parts
 pub at_place : (lo hi : Key) (Is : UnreadBlock → Want → Type 0) (B : Map) (place after : Where) (todo : Option Todo) (store : Blocks) (result : Result _ TreeFault) → place.todo ≡ todo → IsGone lo hi Is B (record { path = place.path; todo = todo }) after store result → IsGone lo hi Is B place after store result

@@ -1,5 +1,6 @@
 -- How far the way to an item is the same for greater keys.
-use Rattle.std.proofs.Common.{◌≡◌, ℕ, zero, suc, ◌+◌, ◌-◌, ◌<◌, ◌≤◌, Bool, true, false, cond, eqb, List, [], ◌∷◌, map, length, get_or, drop, All, Option, Some, None, Ok, refl, sym, ap, ◌∙◌, subst, arith}
+use Rattle.std.proofs.Common.{◌≡◌, ℕ, zero, suc, ◌+◌, ◌-◌, ◌<◌, ◌≤◌, Bool, true, false, cond, eqb, List, [], ◌∷◌, map, length, get_or, drop, All, Option, Some}
+use Rattle.std.proofs.Common.{None, Ok, refl, sym, ap, ◌∙◌, subst, arith}
 use Rattle.std.specs.List.{list_all}
 use Rattle.std.specs.Option.{option_map}
 use Rattle.std.proofs.lemmas.Bool.{and_parts, ltb-true, lt-ltb, leb-true, le-leb}
@@ -26,7 +27,8 @@ use Rattle.btr_walk.proofs.Ways.{IsLeafAt, IsInnerAt, at, at_leaf, down_at}
 
 module _ {X : Type 0} (key_of : X → Key) where
   -- all entries stand above what the first stands above
-  pub all_above : (other : Key) (x : X) (xs : List X) → ascends (map key_of (x ∷ xs)) ≡ true → key_number other < key_number (key_of x) → All (λ y. key_number other < key_number (key_of y)) (x ∷ xs)
+  pub all_above : (other : Key) (x : X) (xs : List X) → ascends (map key_of (x ∷ xs)) ≡ true → key_number other < key_number (key_of x)
+      → All (λ y. key_number other < key_number (key_of y)) (x ∷ xs)
   all_above other x [] up lt = All-cons (λ y. key_number other < key_number (key_of y)) x [] lt (All-nil (λ y. key_number other < key_number (key_of y)))
   all_above other x (y ∷ ys) up lt =
       let parts = and_parts (key_lt (key_of x) (key_of y)) (ascends (map key_of (y ∷ ys))) up in
@@ -65,9 +67,11 @@ fits_of spot node true (Some found) e = here (fits spot (keys_of found)) refl e
     here false is same = absurd (cc same)
 fits_of spot node false o e = absurd (cc e)
 
-all_below_up : (level : ℕ) (spot : Spot) (block : List ℕ) (node : Node) → judged level spot block ≡ Some node → list_all (is_below spot.up) (keys_of node) ≡ true
+all_below_up : (level : ℕ) (spot : Spot) (block : List ℕ) (node : Node) → judged level spot block ≡ Some node
+    → list_all (is_below spot.up) (keys_of node) ≡ true
 all_below_up level spot block node is =
-    (and_parts (begins spot.first (keys_of node)) (list_all (is_below spot.up) (keys_of node)) (fits_of spot node (eqb (level_of block) level) (node_of block) is)).1
+    (and_parts (begins spot.first (keys_of node)) (list_all (is_below spot.up) (keys_of node))
+    (fits_of spot node (eqb (level_of block) level) (node_of block) is)).1
 
 -- ---- the child and the item of a greater key
 
@@ -81,15 +85,18 @@ module _ (key other : Key) (le : key_number key ≤ key_number other) where
   at_or_below : (k : Key) → key_le k key ≡ true → key_le k other ≡ true
   at_or_below k e = let h : key_number k ≤ key_number key = leb-true _ _ e in le-leb _ _ (omega (arith, h, le))
 
-  none_behind : (ps : List KeyPointer) (up : Option Key) → ascends (map pointer_key ps) ≡ true → is_below (up_of ps up) other ≡ true → le_child other ps up ≡ None
+  none_behind : (ps : List KeyPointer) (up : Option Key) → ascends (map pointer_key ps) ≡ true → is_below (up_of ps up) other ≡ true
+      → le_child other ps up ≡ None
   none_behind [] up asc less = refl
   none_behind (q ∷ qs) up asc less = none_child other (q ∷ qs) up (all_above pointer_key other q qs asc (ltb-true _ _ less))
 
-  same_child : (ps : List KeyPointer) (up : Option Key) (child : Spot) → ascends (map pointer_key ps) ≡ true → le_child key ps up ≡ Some child → is_below child.up other ≡ true → le_child other ps up ≡ Some child
+  same_child : (ps : List KeyPointer) (up : Option Key) (child : Spot) → ascends (map pointer_key ps) ≡ true → le_child key ps up ≡ Some child
+      → is_below child.up other ≡ true → le_child other ps up ≡ Some child
   same_child [] up child asc e less = absurd (cc e)
   same_child (p ∷ ps) up child asc e less = of (le_child key ps up) refl e (λ h. same_child ps up child (ascends_behind pointer_key p ps asc) h less)
     where
-      here : (b : Bool) → key_le p.key key ≡ b → or_here None b (below p (up_of ps up)) ≡ Some child → or_here (le_child other ps up) (key_le p.key other) (below p (up_of ps up)) ≡ Some child
+      here : (b : Bool) → key_le p.key key ≡ b → or_here None b (below p (up_of ps up)) ≡ Some child
+          → or_here (le_child other ps up) (key_le p.key other) (below p (up_of ps up)) ≡ Some child
       here true is same =
           let one : below p (up_of ps up) ≡ child = cc same in
           let none : le_child other ps up ≡ None = none_behind ps up (ascends_behind pointer_key p ps asc) (ap (λ (s : Spot). is_below s.up other) one ∙ less) in
@@ -103,7 +110,8 @@ module _ (key other : Key) (le : key_number key ≤ key_number other) where
           ap (λ o. or_here o (key_le p.key other) (below p (up_of ps up))) (rest (is ∙ ap Some one))
 
   -- a key below the child's bound is below the node's
-  child_below : (ps : List KeyPointer) (up : Option Key) (child : Spot) → list_all (is_below up) (map pointer_key ps) ≡ true → le_child key ps up ≡ Some child → is_below child.up other ≡ true → is_below up other ≡ true
+  child_below : (ps : List KeyPointer) (up : Option Key) (child : Spot) → list_all (is_below up) (map pointer_key ps) ≡ true → le_child key ps up
+      ≡ Some child → is_below child.up other ≡ true → is_below up other ≡ true
   child_below [] up child all e less = absurd (cc e)
   child_below (p ∷ ps) up child all e less = of (le_child key ps up) refl e (λ h. child_below ps up child rest h less)
     where
@@ -135,21 +143,26 @@ module _ (key other : Key) (le : key_number key ≤ key_number other) where
       of None is same rest = here (key_le y.key key) refl same
       of (Some later) is same rest = let one : later ≡ x = cc same in rest (is ∙ ap Some one)
 
-  behind_all : (xs : List Item) (up : Option Key) → ascends (map item_key xs) ≡ true → is_below (next_key xs up) other ≡ true → All (λ x. key_number other < key_number x.key) xs
+  behind_all : (xs : List Item) (up : Option Key) → ascends (map item_key xs) ≡ true → is_below (next_key xs up) other ≡ true
+      → All (λ x. key_number other < key_number x.key) xs
   behind_all [] up asc less = All-nil (λ x. key_number other < key_number x.key)
   behind_all (x ∷ xs) up asc less = all_above item_key other x xs asc (ltb-true _ _ less)
 
-  same_item : (xs : List Item) (i : ℕ) (up : Option Key) → i < length xs → ascends (map item_key xs) ≡ true → ((d : Item) → le_item key xs ≡ Some (get_or xs i d)) → is_below (next_key (drop (i + 1) xs) up) other ≡ true → (d : Item) → le_item other xs ≡ Some (get_or xs i d)
+  same_item : (xs : List Item) (i : ℕ) (up : Option Key) → i < length xs → ascends (map item_key xs) ≡ true
+      → ((d : Item) → le_item key xs ≡ Some (get_or xs i d)) → is_below (next_key (drop (i + 1) xs) up) other ≡ true → (d : Item) → le_item other xs
+      ≡ Some (get_or xs i d)
   same_item xs i up lt asc some less d =
       some_le other xs i d lt (let h = found_le xs (get_or xs i d) (some d) in omega (arith, h, le)) (behind_all (drop (i + 1) xs) up (ascends_from item_key (i + 1) xs asc) less)
 
   -- a key below the next item's, or below the bound, is below the leaf's bound
-  leaf_below : (xs : List Item) (up : Option Key) → list_all (is_below up) (map item_key xs) ≡ true → is_below (next_key xs up) other ≡ true → is_below up other ≡ true
+  leaf_below : (xs : List Item) (up : Option Key) → list_all (is_below up) (map item_key xs) ≡ true → is_below (next_key xs up) other ≡ true
+      → is_below up other ≡ true
   leaf_below [] up all less = less
   leaf_below (x ∷ xs) up all less = below_less up other x.key less (and_parts (is_below up x.key) (list_all (is_below up) (map item_key xs)) all).0
 
 -- the key of the item at a place
-pub next_at : (xs : List Item) (n : ℕ) (up : Option Key) (key : Key) → n < length xs → ((d : Item) → (get_or xs n d).key ≡ key) → Some key ≡ next_key (drop n xs) up
+pub next_at : (xs : List Item) (n : ℕ) (up : Option Key) (key : Key) → n < length xs → ((d : Item) → (get_or xs n d).key ≡ key) → Some key
+    ≡ next_key (drop n xs) up
 next_at [] n up key lt h = absurd (omega (arith, lt))
 next_at (x ∷ xs) zero up key lt h = ap Some (sym (h x))
 next_at (x ∷ xs) (suc n) up key lt h = next_at xs n up key (omega (arith, lt)) h
@@ -163,21 +176,25 @@ module _ (B : Map) (key : Key) (root : RootPlace) where
       (other : Key) → key_number key ≤ key_number other → is_below spot.up other ≡ true → at B other level spot ≡ at B key level spot
       → at B other root.level (root_spot root) ≡ at B key root.level (root_spot root)
 
-  pub carries_down : (level : ℕ) (spot child : Spot) (block : List ℕ) → Carries level spot → IsInnerAt level spot block → le_child key (pointers block) spot.up ≡ Some child → B (want_of level spot) ≡ Ok block → Carries (level - 1) child
+  pub carries_down : (level : ℕ) (spot child : Spot) (block : List ℕ) → Carries level spot → IsInnerAt level spot block
+      → le_child key (pointers block) spot.up ≡ Some child → B (want_of level spot) ≡ Ok block → Carries (level - 1) child
   carries_down level spot child block carries inner some came other le less same =
       let all = all_below_up level spot block (Inner (pointers block)) inner.is in
       let too : le_child other (pointers block) spot.up ≡ Some child = same_child key other le (pointers block) spot.up child (ascends-pointers block inner.good) some less in
       carries other le (child_below key other le (pointers block) spot.up child all some less)
-      (down_at B other level spot child block inner too came ∙ ap (prepend (Wants (want_of level spot) ∷ [])) same ∙ sym (down_at B key level spot child block inner some came))
+      (down_at B other level spot child block inner too came ∙ ap (prepend (Wants (want_of level spot) ∷ [])) same
+      ∙ sym (down_at B key level spot child block inner some came))
 
-  leaf_same : (level : ℕ) (spot : Spot) (block : List ℕ) (other : Key) → IsLeafAt level spot block → le_item other (items block) ≡ le_item key (items block) → B (want_of level spot) ≡ Ok block → at B other level spot ≡ at B key level spot
+  leaf_same : (level : ℕ) (spot : Spot) (block : List ℕ) (other : Key) → IsLeafAt level spot block → le_item other (items block)
+      ≡ le_item key (items block) → B (want_of level spot) ≡ Ok block → at B other level spot ≡ at B key level spot
   leaf_same zero spot block other leaf same came =
       at_leaf B other spot block (Some (Leaf (items block))) came leaf.is
       ∙ ap (λ o. prepend (Wants (want_of 0 spot) ∷ []) (exec B (Return (option_map (tree_item spot.addr) o)))) same
       ∙ sym (at_leaf B key spot block (Some (Leaf (items block))) came leaf.is)
   leaf_same (suc n) spot block other leaf same came = let l = leaf.zero_level in absurd (omega (arith, l))
 
-  pub carries_end : (level : ℕ) (spot : Spot) (block : List ℕ) (i : ℕ) → Carries level spot → IsLeafAt level spot block → i < length (items block) → ((d : Item) → le_item key (items block) ≡ Some (get_or (items block) i d)) → B (want_of level spot) ≡ Ok block
+  pub carries_end : (level : ℕ) (spot : Spot) (block : List ℕ) (i : ℕ) → Carries level spot → IsLeafAt level spot block → i < length (items block)
+      → ((d : Item) → le_item key (items block) ≡ Some (get_or (items block) i d)) → B (want_of level spot) ≡ Ok block
       → SameUpTo B root key (next_key (drop (i + 1) (items block)) spot.up)
   carries_end level spot block i carries leaf lt some came other le less =
       let d : Item = record { key = key; offset = 0; size = 0; body = [] } in

@@ -22,7 +22,8 @@ use Rattle.btr_walk.proofs.Joined.{drawn, block_is}
 use Rattle.btr_walk.proofs.Lending.{freed}
 
 module _ (Is : UnreadBlock → Want → Type 0) (root : RootPlace) (key : Key) (store : Blocks) (spotted : Spotted) (found : Found) (block : List ℕ) (is : block_of store spotted.loan ≡ Some block) (at : (d : Item) → tree_item spotted.leaf (get_or (items block) spotted.at d) ≡ item_of found) where
-  shown_as : (B : Map) (shown : Result (Option TreeItem) TreeFault) → Shows store (Ok (Some spotted)) shown → Follows {S = ⊥} Is no_part [] (exec B (le root key)) [] (answer_of shown) → FindsItem Is B root key (Ok (Some found))
+  shown_as : (B : Map) (shown : Result (Option TreeItem) TreeFault) → Shows store (Ok (Some spotted)) shown
+      → Follows {S = ⊥} Is no_part [] (exec B (le root key)) [] (answer_of shown) → FindsItem Is B root key (Ok (Some found))
   shown_as B (Ok (Some item)) s f =
       let d : Item = record { key = key; offset = 0; size = 0; body = [] } in
       let here : tree_item spotted.leaf (get_or (items block) spotted.at d) ≡ item = block_is store spotted.loan block (λ b. (e : Item) → tree_item spotted.leaf (get_or (items b) spotted.at e) ≡ item) is s d in
@@ -34,11 +35,14 @@ module _ (Is : UnreadBlock → Want → Type 0) (root : RootPlace) (key : Key) (
   pub shown_is : (B : Map) → Finds Is B root key store (Ok (Some spotted)) → FindsItem Is B root key (Ok (Some found))
   shown_is B f = shown_as B f.0 f.1 f.2
 
-  pub shows_item : (layout : Layout) (a b : Seen) (o : Option Spotted) → o ≡ Some spotted → Tells layout a b (λ B. Finds Is B root key store (Ok o)) → Tells layout a b (λ B. FindsItem Is B root key (Ok (Some found)))
+  pub shows_item : (layout : Layout) (a b : Seen) (o : Option Spotted) → o ≡ Some spotted → Tells layout a b (λ B. Finds Is B root key store (Ok o))
+      → Tells layout a b (λ B. FindsItem Is B root key (Ok (Some found)))
   shows_item layout a b o e h =
-      drawn layout (λ B. Finds Is B root key store (Ok (Some spotted))) (λ B. FindsItem Is B root key (Ok (Some found))) shown_is (subst (λ x. Tells layout a b (λ B. Finds Is B root key store (Ok x))) e h)
+      drawn layout (λ B. Finds Is B root key store (Ok (Some spotted))) (λ B. FindsItem Is B root key (Ok (Some found))) shown_is
+      (subst (λ x. Tells layout a b (λ B. Finds Is B root key store (Ok x))) e h)
 
-pub lent_only : (rack : Seen) (old new : Blocks) (spotted : Spotted) (o : Option Lent) → Serves rack new → LendsLeaf old new spotted → o ≡ Some spotted.loan → IsLentOnly rack old new o
+pub lent_only : (rack : Seen) (old new : Blocks) (spotted : Spotted) (o : Option Lent) → Serves rack new → LendsLeaf old new spotted → o
+    ≡ Some spotted.loan → IsLentOnly rack old new o
 lent_only rack old new spotted o serves t e = subst (IsLentOnly rack old new) (sym e) (record {
   same = freed old new spotted.loan.slot t.after.0 t.layout t.after.1 t.free;
   live = t.live;

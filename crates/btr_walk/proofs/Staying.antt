@@ -1,5 +1,6 @@
 -- What stays of a scan while other blocks are read.
-use Rattle.std.proofs.Common.{◌≡◌, ◌≤◌, ◌+◌, ℕ, List, [], ◌∷◌, ◌++◌, Option, Some, None, get_or, set, take, count_by, is_none, length, refl, sym, ap, subst, arith}
+use Rattle.std.proofs.Common.{◌≡◌, ◌≤◌, ◌+◌, ℕ, List, [], ◌∷◌, ◌++◌, Option, Some, None, get_or, set, take, count_by, is_none, length, refl, sym, ap, subst}
+use Rattle.std.proofs.Common.{arith}
 use Rattle.std.specs.Option.{IfSome, IsSome, IsSomeAnd, option_map}
 use Rattle.std.specs.Bool.{IsTrue}
 use Rattle.std.specs.List.{Contains}
@@ -57,8 +58,10 @@ module _ (lo hi : Key) (B : Map) (seen more : List Want) where
   }
 
 -- what a scan has still to give stays where the loans stay
-leaf_same : (B : Map) (old new : Blocks) → new.loans ≡ old.loans → (leaf : Option LeafAt) (kept : Option Frame) (rest : RangeProg) → leaf_prog B new leaf kept rest ≡ leaf_prog B old leaf kept rest
-leaf_same B old new same (Some l) kept rest = ap (λ (loans : List (Option (List ℕ))). emit_all (hand_items (option_map (take l.loan.len) (get_or loans l.loan.slot None)) l) rest) same
+leaf_same : (B : Map) (old new : Blocks) → new.loans ≡ old.loans → (leaf : Option LeafAt) (kept : Option Frame) (rest : RangeProg)
+    → leaf_prog B new leaf kept rest ≡ leaf_prog B old leaf kept rest
+leaf_same B old new same (Some l) kept rest = ap (λ (loans : List (Option (List ℕ))). emit_all
+    (hand_items (option_map (take l.loan.len) (get_or loans l.loan.slot None)) l) rest) same
 leaf_same B old new same None (Some frame) rest = refl
 leaf_same B old new same None None rest = refl
 
@@ -73,7 +76,8 @@ hand_same old new (Some l) same h = record {
     fits = subst (λ (layout : Layout). l.loan.len ≤ layout.setting.nodesize) (sym same.layout) h.live.fits;
   };
   large = h.large;
-  good = subst (λ (loans : List (Option (List ℕ))). IsSomeAnd (option_map (take l.loan.len) (get_or loans l.loan.slot None)) (λ block. IsTrue (is_leaf block) × (l.end ≤ length (items block)))) (sym same.loans) h.good;
+  good = subst (λ (loans : List (Option (List ℕ))). IsSomeAnd (option_map (take l.loan.len) (get_or loans l.loan.slot None))
+      (λ block. IsTrue (is_leaf block) × (l.end ≤ length (items block)))) (sym same.loans) h.good;
 }
 
 -- and it stays ready
@@ -86,7 +90,8 @@ base_same old new None same = same
 base_same old new (Some loan) same = record { layout = same.layout; loans = ap (λ (l : List (Option (List ℕ))). set l loan.slot None) same.loans }
 
 -- room beside the leaf in hand
-pub room_beside : (seen : Seen) (store : Blocks) (scan : Scan) (n : ℕ) → IsReady seen store scan → n + 1 ≤ free_count (without_leaf store scan) → n ≤ free_count store
+pub room_beside : (seen : Seen) (store : Blocks) (scan : Scan) (n : ℕ) → IsReady seen store scan → n + 1 ≤ free_count (without_leaf store scan)
+    → n ≤ free_count store
 room_beside seen store scan n ready = of scan.leaf ready.hand
   where
     of : (leaf : Option LeafAt) → IfSome leaf (IsInHand store) → n + 1 ≤ free_count (base store (loan_of leaf)) → n ≤ free_count store

@@ -32,13 +32,15 @@ module _ (B : Map) (was then is : UnreadBlock → Want → Type 0) (place : Wher
   pub step_end : IsAhead is B place (Ok None) → IsStep is B place store (Ok None)
   step_end h seen on = subst (λ p. Follows is no_part seen (exec B p) [] (Ok tt)) (sym (h seen on)) (refl, refl)
 
-  pub step_halts : (ahead : Ahead) (f : TreeFault) → ((u : UnreadBlock) (w : Want) → then u w → is u w) → IsAhead was B place (Ok (Some ahead)) → IsEntry then B ahead store (Err f) → IsStep is B place store (Err f)
+  pub step_halts : (ahead : Ahead) (f : TreeFault) → ((u : UnreadBlock) (w : Want) → then u w → is u w) → IsAhead was B place (Ok (Some ahead))
+      → IsEntry then B ahead store (Err f) → IsStep is B place store (Err f)
   step_halts ahead f weaker a e seen on =
       let x = a seen on in
       subst (λ p. Follows is no_part seen (exec B p) [] (Err (halt_of f))) (sym x.0)
       (follows_as then is weaker no_part seen (exec B (place_blocks B (place_of ahead))) [] (Err (halt_of f)) (e seen x.1))
 
-  pub step_gives : (ahead : Ahead) (e : Entry) → IsAhead was B place (Ok (Some ahead)) → IsEntry then B ahead store (Ok e) → IsStep is B place store (Ok (Some e))
+  pub step_gives : (ahead : Ahead) (e : Entry) → IsAhead was B place (Ok (Some ahead)) → IsEntry then B ahead store (Ok e)
+      → IsStep is B place store (Ok (Some e))
   step_gives ahead e a h seen on =
       let x = a seen on in
       some_as (block_of store e.loan) (λ block. Enters B seen (place_of ahead) e.place (want_of ahead.todo.level ahead.todo.spot) (record { addr = e.addr; level = e.level; bytes = block })) (λ block. GivesBlock B seen place e.place (record { addr = e.addr; level = e.level; bytes = block }))
@@ -49,7 +51,8 @@ lends_block old mid new want e same t = record { others = same_then same (given_
 
 -- the same over a layout that is equal
 step_as : (layout layout' : Layout) (before now : Seen) (place : Where) (store : Blocks) (r : Result (Option Entry) TreeFault) → layout' ≡ layout
-    → Tells layout' before now (λ B. IsStep (unread_by layout' before now) B place store r) → Tells layout before now (λ B. IsStep (unread_by layout before now) B place store r)
+    → Tells layout' before now (λ B. IsStep (unread_by layout' before now) B place store r)
+    → Tells layout before now (λ B. IsStep (unread_by layout before now) B place store r)
 step_as layout layout' before now place store r e h = subst (λ (l : Layout). Tells l before now (λ B. IsStep (unread_by l before now) B place store r)) e h
 
 module _ (store mid new : Blocks) (scan : BlockScan) (taken : Option Lent) (is_taken : taken ≡ scan.loan) (back : SameLoans (base store taken) mid) (before now : Seen) (serves : Serves now new) where

@@ -4,7 +4,7 @@ ghost use Rattle.btr_rack.specs.Memory.{slots_of};
 
 use crate::scans::is_even_run;
 use crate::volume::{CHUNK, FORM, Reading, START, read, root, stripe, tree, tree_of};
-use btr_blocks::{Body, Form, Tree, bodies};
+use btr_make_blocks::{Body, Form, Tree, bodies};
 use btr_rack::{MemRack, Rack};
 use std::alloc::{AllocError, Global};
 use std::test::Fail;

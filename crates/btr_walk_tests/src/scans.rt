@@ -1,7 +1,7 @@
 // Scans and lookups of trees of one to four levels.
 use crate::volume::{FORM, Harm, Reading, START, Scanned, read_tree, tree};
 use btr_base::sum;
-use btr_blocks::{Block, Tree};
+use btr_make_blocks::{Block, Tree};
 use btr_walk::TreeFault;
 use std::alloc::Global;
 use std::process::Abort;

@@ -7,8 +7,8 @@ ghost use Rattle.btr_walk.specs.Lending.{IsLentOnly};
 ghost use Rattle.btr_walk.specs.ScanEnds.{IsReady, without_leaf};
 
 use btr_base::Key;
-use btr_blocks::{Body, Form, Items, Tree, bodies};
 use btr_chunk::{Chunk, ChunkTable, Stripe};
+use btr_make_blocks::{Body, Form, Items, Tree, bodies};
 use btr_rack::{MemRack, Rack};
 use btr_read::{Loan, Store};
 use btr_walk::{RootPlace, Scan, TreeFault, find_le, next};

@@ -6,7 +6,7 @@ ghost use Rattle.btr_read.specs.Store.{free_count};
 ghost use Rattle.btr_walk.specs.Preorder.{IsReadyFor, without_block};
 
 use crate::volume::{Harm, START, rack_of, root, store_over, tree};
-use btr_blocks::Tree;
+use btr_make_blocks::Tree;
 use btr_rack::MemRack;
 use btr_read::Store;
 use btr_walk::{BlockScan, FoundBlock, RootPlace, TreeFault, next_block};

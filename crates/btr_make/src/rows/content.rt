@@ -7,9 +7,9 @@ use crate::fault::MakeFault;
 use crate::files::{Files, TOP};
 use crate::pattern::pattern;
 use crate::plan::GENERATION;
-use btr_blocks::{Body, Items, bodies};
 use btr_items::item::{ROOT_BACKREF, ROOT_REF};
 use btr_items::{FileExtent, Shape};
+use btr_make_blocks::{Body, Items, bodies};
 use btr_rack::MemRack;
 
 /// Writes the trees of files of a row volume, and what goes with them.

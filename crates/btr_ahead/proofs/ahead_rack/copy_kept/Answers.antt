@@ -4,4 +4,5 @@ use Rattle.btr_ahead.proofs.ahead_rack.copy_kept.Goals as goal
 -- what is copied is the piece of what is kept
 pub returns-in-Some : goal.returns-in-Some
 returns-in-Some c = λ held read e.
-    rw (c.copy_from_slice.ensures.after, c.in-Some.ensures.piece, ← c.requires.sector) (piece_read held c.args.kept.now c.args.place read c.in-Some.ensures.inside.lies)
+    rw (c.copy_from_slice.ensures.after, c.in-Some.ensures.piece, ← c.requires.sector)
+    (piece_read held c.args.kept.now c.args.place read c.in-Some.ensures.inside.lies)

@@ -9,4 +9,5 @@ pub returns : goal.returns
 returns c =
     c.eq.ensures
     ∙ ap (λ (s : Sum). bytes_eq s.bytes c.sum.result.bytes) c.read.ensures
-    ∙ ap (λ (s : Sum). bytes_eq (stored_sum c.args.kind c.args.bytes.now).bytes s.bytes) (c.sum.ensures ∙ ap (sum_of c.args.kind) (take_rest c.args.bytes.now 32))
+    ∙ ap (λ (s : Sum). bytes_eq (stored_sum c.args.kind c.args.bytes.now).bytes s.bytes)
+    (c.sum.ensures ∙ ap (sum_of c.args.kind) (take_rest c.args.bytes.now 32))

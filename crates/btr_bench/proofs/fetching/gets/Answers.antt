@@ -12,4 +12,5 @@ returns-in-Ok-clause-store c =
 
 pub returns-in-Ok-clause-serves : goal.returns-in-Ok-clause-serves
 returns-in-Ok-clause-serves c =
-    subst (Serves (seen_of c.fetch.new.rack)) (sym c.give.ensures) (serves_given (seen_of c.fetch.new.rack) c.fetch.new.store c.in-Ok.loan.slot c.in-Ok.ensures.serves)
+    subst (Serves (seen_of c.fetch.new.rack)) (sym c.give.ensures)
+    (serves_given (seen_of c.fetch.new.rack) c.fetch.new.store c.in-Ok.loan.slot c.in-Ok.ensures.serves)

@@ -1,4 +1,5 @@
-use Rattle.std.proofs.Common.{◌≡◌, ℕ, ◌+◌, ◌*◌, ◌-◌, ◌≤◌, List, [], ◌∷◌, ◌++◌, length, map, replicate, take, refl, ap, sym, ◌∙◌, append_assoc, append-nil, length-append, vec_len, arith}
+use Rattle.std.proofs.Common.{◌≡◌, ℕ, ◌+◌, ◌*◌, ◌-◌, ◌≤◌, List, [], ◌∷◌, ◌++◌, length, map, replicate, take, refl, ap, sym, ◌∙◌, append_assoc, append-nil}
+use Rattle.std.proofs.Common.{length-append, vec_len, arith}
 use Rattle.std.proofs.lemmas.List.{take_all}
 use Rattle.std.proofs.lemmas.List.FromFn.{map-range_with_len_more}
 use Rattle.std.proofs.lemmas.List.Folds.{concat-append}
@@ -13,7 +14,8 @@ one_more : (front : List ℕ) (piece : ℕ → List ℕ) (n : ℕ)
 one_more front piece n =
     let before = map piece (range_with_len 0 n) in
     append_assoc front (concat before) (piece n)
-    ∙ ap (λ xs. front ++ xs) (sym (ap concat (map-range_with_len_more piece 0 n n (omega arith)) ∙ concat-append before (piece n ∷ []) ∙ ap (λ xs. concat before ++ xs) (append-nil (piece n))))
+    ∙ ap (λ xs. front ++ xs) (sym (ap concat (map-range_with_len_more piece 0 n n (omega arith)) ∙ concat-append before (piece n ∷ [])
+    ∙ ap (λ xs. concat before ++ xs) (append-nil (piece n))))
 
 length-entry : (size i : ℕ) → length (entry size i) ≡ 25
 unfolding entry
@@ -30,7 +32,8 @@ loop-i-preserved c =
     let front = replicate 96 0 ++ to_le_bytes w32 (item_count c.args.size) ++ 0 ∷ [] in
     record {
       entries = more ∙ ap (λ xs. xs ++ entry c.args.size c.loop-i.i) c.loop-i.invariant.entries ∙ one_more front (entry c.args.size) c.loop-i.i;
-      long = ap length more ∙ length-append c.loop-i.block.items (entry c.args.size c.loop-i.i) ∙ omega (arith, c.loop-i.invariant.long, length-entry c.args.size c.loop-i.i);
+      long = ap length more ∙ length-append c.loop-i.block.items (entry c.args.size c.loop-i.i)
+          ∙ omega (arith, c.loop-i.invariant.long, length-entry c.args.size c.loop-i.i);
     }
 
 pub returns-clause-value : goal.returns-clause-value

@@ -25,7 +25,8 @@ returns c =
     ∙ ap (λ xs. xs ++ replicate 8 0) (c.in_ok-append-2.ensures ∙ ap (λ xs. xs ++ kind) front)))
     ∙ five_behind old c.to_le_bytes.result kind (replicate 8 0) c.to_le_bytes-2.result e in
     let numbers : (a d e : List ℕ) → c.to_le_bytes.result ≡ a → c.to_le_bytes-2.result ≡ d → c.to_le_bytes-3.result ≡ e
-    → old ++ (c.to_le_bytes.result ++ kind ++ replicate 8 0 ++ c.to_le_bytes-2.result ++ c.to_le_bytes-3.result) ≡ old ++ (a ++ kind ++ replicate 8 0 ++ d ++ e) =
+    → old ++ (c.to_le_bytes.result ++ kind ++ replicate 8 0 ++ c.to_le_bytes-2.result ++ c.to_le_bytes-3.result) ≡ old
+    ++ (a ++ kind ++ replicate 8 0 ++ d ++ e) =
     λ a d e first second third. ap (λ xs. old ++ xs)
     (ap₂ (λ x y. x ++ kind ++ replicate 8 0 ++ y ++ c.to_le_bytes-3.result) first second ∙ ap (λ x. a ++ kind ++ replicate 8 0 ++ d ++ x) third) in
     at_ok c.append-5.result _ _

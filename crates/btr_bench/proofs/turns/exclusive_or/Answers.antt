@@ -19,7 +19,8 @@ loop-turn-preserved c rest given =
     let at = place_of kernel turn (length c.loop-turn.piece) in
     let next : c.flip.new.piece ≡ flipped c.loop-turn.piece at = c.flip.ensures ∙ ap (flipped c.loop-turn.piece) c.place.ensures.value in
     let whole : TurnsGive kernel c.loop-turn.piece c.loop-turn.kept turn (suc left) (bit_xor c.result-all.result rest) =
-    subst (λ piece. (new : _) × (others : ℕ) × Keeps kernel turn piece c.loop-turn.kept new × TurnsGive kernel piece new (turn + 1) left others × (bit_xor c.result-all.result rest ≡ bit_xor (result_of kernel turn piece new) others)) next
+    subst (λ piece. (new : _) × (others : ℕ) × Keeps kernel turn piece c.loop-turn.kept new × TurnsGive kernel piece new (turn + 1) left others
+    × (bit_xor c.result-all.result rest ≡ bit_xor (result_of kernel turn piece new) others)) next
     (c.keep.new.kept, rest, c.keep.ensures, given, ap (λ r. bit_xor r rest) c.result-all.ensures) in
     subst (TurnsGive kernel c.args.piece.now c.args.kept.now 0 c.args.times) (sym (xor_assoc c.loop-turn.all c.result-all.result rest))
     (c.loop-turn.invariant (bit_xor c.result-all.result rest)

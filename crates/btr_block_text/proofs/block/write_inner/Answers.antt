@@ -14,7 +14,8 @@ returns-in_err-push_all-clause-text g c =
     let block = c.args.block.now in
     let line = node_line c.args.addr in
     cut_writes c.from_residual.result c.from_residual.ensures.0
-    (cut_longer (flat_map (λ i. pointer_line (pointer_at block i)) (range_with_len 0 (entry_count block))) (cut_as (line (header_of c.args.sums block)) (c.node_line.ensures ∙ ap line c.read.ensures) c.in_err-push_all.ensures.text))
+    (cut_longer (flat_map (λ i. pointer_line (pointer_at block i)) (range_with_len 0 (entry_count block)))
+    (cut_as (line (header_of c.args.sums block)) (c.node_line.ensures ∙ ap line c.read.ensures) c.in_err-push_all.ensures.text))
 
 pub loop-i-init : goal.loop-i-init
 unfolding node_text

@@ -16,7 +16,8 @@ returns-in_err-push_all-clause-text g c =
     let block = c.args.block.now in
     let line = leaf_line c.args.addr in
     cut_writes c.from_residual.result c.from_residual.ensures.0
-    (cut_longer (flat_map (λ i. item_text c.args.sums i (item_at block i)) (range_with_len 0 (entry_count block))) (cut_as (line (header_of c.args.sums block)) (c.leaf_line.ensures ∙ ap line c.read.ensures) c.in_err-push_all.ensures.text))
+    (cut_longer (flat_map (λ i. item_text c.args.sums i (item_at block i)) (range_with_len 0 (entry_count block)))
+    (cut_as (line (header_of c.args.sums block)) (c.leaf_line.ensures ∙ ap line c.read.ensures) c.in_err-push_all.ensures.text))
 
 pub loop-i-init : goal.loop-i-init
 unfolding leaf_text
@@ -60,4 +61,5 @@ loop-i-preserved g c =
 
 pub returns-clause-text : goal.returns-clause-text
 returns-clause-text g c =
-    so_far_ended c.loop-i.invariant.text (numbers_none (λ i. item_text c.args.sums i (item_at c.args.block.now i)) c.loop-i.i c.count-i-end.result (omega arith))
+    so_far_ended c.loop-i.invariant.text (numbers_none (λ i. item_text c.args.sums i (item_at c.args.block.now i)) c.loop-i.i c.count-i-end.result
+    (omega arith))

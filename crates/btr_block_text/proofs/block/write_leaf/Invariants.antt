@@ -8,6 +8,7 @@ use Rattle.btr_block_text.proofs.block.write_leaf.Given as goal
 
 abbrev pub invariant-loop-i : goal.invariant-loop-i
 invariant-loop-i g l = record {
-  text : SoFar (g.O.Out.text l.fn.out) (g.O.Out.text l.out) l.fn.text l.text (flat_map (λ i. item_text l.fn.sums i (item_at l.block i)) (range_with_len l.i (l.i-end - l.i))) (leaf_text l.fn.sums l.fn.addr l.block);
+  text : SoFar (g.O.Out.text l.fn.out) (g.O.Out.text l.out) l.fn.text l.text
+      (flat_map (λ i. item_text l.fn.sums i (item_at l.block i)) (range_with_len l.i (l.i-end - l.i))) (leaf_text l.fn.sums l.fn.addr l.block);
   account : g.O.Out.account l.out ≡ g.O.Out.account l.fn.out;
 }

@@ -10,7 +10,8 @@ pub returns-in_err-push_all-clause-text : goal.returns-in_err-push_all-clause-te
 returns-in_err-push_all-clause-text g c =
     let body = c.args.body.now in
     cut_writes c.from_residual.result c.from_residual.ensures.0
-    (cut_longer (flat_map (stripe_line body) (range_with_len 0 (number_at 2 44 body))) (cut_as (chunk_line body) c.chunk_line.ensures c.in_err-push_all.ensures.text))
+    (cut_longer (flat_map (stripe_line body) (range_with_len 0 (number_at 2 44 body)))
+    (cut_as (chunk_line body) c.chunk_line.ensures c.in_err-push_all.ensures.text))
 
 pub loop-i-init : goal.loop-i-init
 loop-i-init g c =
@@ -18,7 +19,8 @@ loop-i-init g c =
     let n = c.u16_at-i-end.result in
     let is : n - 0 ≡ number_at 2 44 body = omega (arith, c.u16_at-i-end.ensures) in
     record {
-      text = so_far_front (flat_map (stripe_line body) (range_with_len 0 (n - 0))) (chunk_lines body) (ap (λ k. chunk_line body ++ flat_map (stripe_line body) (range_with_len 0 k)) is)
+      text = so_far_front (flat_map (stripe_line body) (range_with_len 0 (n - 0))) (chunk_lines body)
+          (ap (λ k. chunk_line body ++ flat_map (stripe_line body) (range_with_len 0 k)) is)
           (wrote_as (chunk_line body) c.chunk_line.ensures c.in_ok-push_all.ensures.text);
       account = c.in_ok-push_all.ensures.account;
     }
@@ -32,7 +34,8 @@ returns-in_err-push_all-2-clause-text g c =
     let i = c.loop-i.i in
     let n = c.u16_at-i-end.result in
     cut_writes c.from_residual-in_err-push_all-2.result c.from_residual-in_err-push_all-2.ensures.0
-    (so_far_cut (flat_map (stripe_line body) (range_with_len (i + 1) (n - (i + 1)))) c.loop-i.invariant.text (numbers_first (stripe_line body) i n c.loop-i-test.true)
+    (so_far_cut (flat_map (stripe_line body) (range_with_len (i + 1) (n - (i + 1)))) c.loop-i.invariant.text
+    (numbers_first (stripe_line body) i n c.loop-i-test.true)
     (cut_as (stripe_line body i) c.stripe_line.ensures c.in_err-push_all-2.ensures.text))
 
 pub loop-i-preserved : goal.loop-i-preserved
@@ -41,7 +44,8 @@ loop-i-preserved g c =
     let i = c.loop-i.i in
     let n = c.u16_at-i-end.result in
     record {
-      text = so_far_more (flat_map (stripe_line body) (range_with_len (i + 1) (n - (i + 1)))) c.loop-i.invariant.text (numbers_first (stripe_line body) i n c.loop-i-test.true)
+      text = so_far_more (flat_map (stripe_line body) (range_with_len (i + 1) (n - (i + 1)))) c.loop-i.invariant.text
+          (numbers_first (stripe_line body) i n c.loop-i-test.true)
           (wrote_as (stripe_line body i) c.stripe_line.ensures c.in_ok-push_all-2.ensures.text);
       account = c.in_ok-push_all-2.ensures.account ∙ c.loop-i.invariant.account;
     }

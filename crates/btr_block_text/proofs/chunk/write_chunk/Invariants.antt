@@ -6,6 +6,7 @@ use Rattle.btr_block_text.proofs.chunk.write_chunk.Given as goal
 
 abbrev pub invariant-loop-i : goal.invariant-loop-i
 invariant-loop-i g l = record {
-  text : SoFar (g.O.Out.text l.fn.out) (g.O.Out.text l.out) l.fn.text l.text (flat_map (stripe_line l.body) (range_with_len l.i (l.i-end - l.i))) (chunk_lines l.body);
+  text : SoFar (g.O.Out.text l.fn.out) (g.O.Out.text l.out) l.fn.text l.text (flat_map (stripe_line l.body) (range_with_len l.i (l.i-end - l.i)))
+      (chunk_lines l.body);
   account : g.O.Out.account l.out ≡ g.O.Out.account l.fn.out;
 }

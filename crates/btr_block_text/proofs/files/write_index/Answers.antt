@@ -7,4 +7,5 @@ use Rattle.btr_block_text.proofs.files.write_index.Goals as goal
 pub returns-in-Ok-clause-text : goal.returns-in-Ok-clause-text
 returns-in-Ok-clause-text g c =
     let line = entry_line c.args.body.now in
-    writes_read line _ _ _ _ c.push_all.result (index_entry_of c.args.body.now) c.in-Ok.entry c.in-Ok.ensures.form (writes_as _ _ _ _ _ (line c.in-Ok.entry) c.push_all.result c.entry_line.ensures c.push_all.ensures.text)
+    writes_read line _ _ _ _ c.push_all.result (index_entry_of c.args.body.now) c.in-Ok.entry c.in-Ok.ensures.form
+    (writes_as _ _ _ _ _ (line c.in-Ok.entry) c.push_all.result c.entry_line.ensures c.push_all.ensures.text)

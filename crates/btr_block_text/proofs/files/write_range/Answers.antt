@@ -11,7 +11,8 @@ returns-in_err-push_all-clause-text g c =
 pub returns-in_err-write_shape-clause-text : goal.returns-in_err-write_shape-clause-text
 returns-in_err-write_shape-clause-text g c =
     let extent = c.args.extent.now in
-    cut_writes c.from_residual-in_err-write_shape.result c.from_residual-in_err-write_shape.ensures.0 (cut_second (range_end extent) c.in_ok-push_all.ensures.text c.in_err-write_shape.ensures.text)
+    cut_writes c.from_residual-in_err-write_shape.result c.from_residual-in_err-write_shape.ensures.0
+    (cut_second (range_end extent) c.in_ok-push_all.ensures.text c.in_err-write_shape.ensures.text)
 
 pub returns-clause-text : goal.returns-clause-text
 returns-clause-text g c =

@@ -14,4 +14,5 @@ pub returns-clause-text : goal.returns-clause-text
 unfolding item_text
 returns-clause-text g c =
     let item = item_of c.args.item.now in
-    writes_then _ _ (body_lines c.args.sums item.key item.body) c.write_body.result (wrote_as (item_line c.args.i item) c.item_line.ensures c.in_ok-push_all.ensures.text) c.write_body.ensures.text
+    writes_then _ _ (body_lines c.args.sums item.key item.body) c.write_body.result
+    (wrote_as (item_line c.args.i item) c.item_line.ensures c.in_ok-push_all.ensures.text) c.write_body.ensures.text

@@ -11,37 +11,45 @@ loop-read-init g c =
     let lines = flat_map (of_read (g.P.Line.line c.args.body.now)) in
     let same = c.into_iter-read-iterator.ensures.into_iter_gives in
     record {
-      text = so_far_same (lines c.into_iter-read-iterator.result) (so_far_none (g.O.Out.text c.args.out.now) c.args.text.now (lines c.args.parts)) (ap lines (sym same));
+      text = so_far_same (lines c.into_iter-read-iterator.result) (so_far_none (g.O.Out.text c.args.out.now) c.args.text.now (lines c.args.parts))
+          (ap lines (sym same));
       account = refl;
       stand = subst (All (λ read. IfOk read (g.P.Line.stands c.args.body.now))) (sym same) c.requires;
     }
 
 pub write-requires : goal.write-requires
 write-requires g c =
-    subst (λ read. IfOk read (g.P.Line.stands c.args.body.now)) c.in-Ok.is (stand_first (g.P.Line.stands c.args.body.now) c.loop-read.read-iterator c.in-Some.read c.next.new.self c.in-Some.ensures.steps c.loop-read.invariant.stand).0
+    subst (λ read. IfOk read (g.P.Line.stands c.args.body.now)) c.in-Ok.is
+    (stand_first (g.P.Line.stands c.args.body.now) c.loop-read.read-iterator c.in-Some.read c.next.new.self c.in-Some.ensures.steps
+    c.loop-read.invariant.stand).0
 
 pub returns-in_err-write-in-Ok-clause-text : goal.returns-in_err-write-in-Ok-clause-text
 returns-in_err-write-in-Ok-clause-text g c =
     let line = of_read (g.P.Line.line c.args.body.now) in
     cut_writes c.from_residual.result c.from_residual.ensures.0
-    (so_far_cut (flat_map line c.next.new.self) c.loop-read.invariant.text (ap (flat_map line) c.in-Some.ensures.steps ∙ ap (λ read. line read ++ flat_map line c.next.new.self) c.in-Ok.is) c.in_err-write-in-Ok.ensures.text)
+    (so_far_cut (flat_map line c.next.new.self) c.loop-read.invariant.text
+    (ap (flat_map line) c.in-Some.ensures.steps ∙ ap (λ read. line read ++ flat_map line c.next.new.self) c.in-Ok.is) c.in_err-write-in-Ok.ensures.text)
 
 pub loop-read-preserved-in-Ok : goal.loop-read-preserved-in-Ok
 loop-read-preserved-in-Ok g c =
     let line = of_read (g.P.Line.line c.args.body.now) in
     record {
-      text = so_far_more (flat_map line c.next.new.self) c.loop-read.invariant.text (ap (flat_map line) c.in-Some.ensures.steps ∙ ap (λ read. line read ++ flat_map line c.next.new.self) c.in-Ok.is) c.in_ok-write-in-Ok.ensures.text;
+      text = so_far_more (flat_map line c.next.new.self) c.loop-read.invariant.text
+          (ap (flat_map line) c.in-Some.ensures.steps ∙ ap (λ read. line read ++ flat_map line c.next.new.self) c.in-Ok.is) c.in_ok-write-in-Ok.ensures.text;
       account = c.in_ok-write-in-Ok.ensures.account ∙ c.loop-read.invariant.account;
-      stand = (stand_first (g.P.Line.stands c.args.body.now) c.loop-read.read-iterator c.in-Some.read c.next.new.self c.in-Some.ensures.steps c.loop-read.invariant.stand).1;
+      stand = (stand_first (g.P.Line.stands c.args.body.now) c.loop-read.read-iterator c.in-Some.read c.next.new.self c.in-Some.ensures.steps
+          c.loop-read.invariant.stand).1;
     }
 
 pub loop-read-preserved : goal.loop-read-preserved
 loop-read-preserved g c =
     let line = of_read (g.P.Line.line c.args.body.now) in
     record {
-      text = so_far_same (flat_map line c.next.new.self) c.loop-read.invariant.text (ap (flat_map line) c.in-Some.ensures.steps ∙ ap (λ read. line read ++ flat_map line c.next.new.self) c.in-Err.is);
+      text = so_far_same (flat_map line c.next.new.self) c.loop-read.invariant.text
+          (ap (flat_map line) c.in-Some.ensures.steps ∙ ap (λ read. line read ++ flat_map line c.next.new.self) c.in-Err.is);
       account = c.loop-read.invariant.account;
-      stand = (stand_first (g.P.Line.stands c.args.body.now) c.loop-read.read-iterator c.in-Some.read c.next.new.self c.in-Some.ensures.steps c.loop-read.invariant.stand).1;
+      stand = (stand_first (g.P.Line.stands c.args.body.now) c.loop-read.read-iterator c.in-Some.read c.next.new.self c.in-Some.ensures.steps
+          c.loop-read.invariant.stand).1;
     }
 
 pub returns-clause-text : goal.returns-clause-text

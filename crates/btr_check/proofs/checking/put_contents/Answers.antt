@@ -1,8 +1,8 @@
 use Rattle.std.proofs.Common.{◌≡◌, true, ◌++◌, map, refl, ◌∙◌, subst}
 use Rattle.btr_refs.proofs.Adding.{adds_then}
 use Rattle.btr_refs.specs.Findings.{Adds}
-use Rattle.btr_space.specs.Cover.{HoldSame}
-use Rattle.btr_sums.specs.Sums.{run_stretch}
+use Rattle.btr_check_space.specs.Cover.{HoldSame}
+use Rattle.btr_check_sums.specs.Sums.{run_stretch}
 use Rattle.btr_volume.specs.declared.stop.Stop.TheVariants.{Memory as NoMemory}
 use Rattle.btr_check.specs.Families.{IsCoverOf, IsRunsOf, found_on_files}
 use Rattle.btr_check.specs.Findings.{data_if}

@@ -51,7 +51,8 @@ returns-in-Err g c =
             ready = record { serves = e.serves; room = same_room vol.store c.collect.new.vol.store e.same.store c.requires.ready.room };
             cause = stored_cause layout before now r e.cause;
             quiet = stored_reading fault;
-            told = drawn_left layout (λ B. Follows (unread_by layout before now) no_part [] (exec B (stored_of vol.sup.nodesize tree.place)) [] (collect_answer r))
+            told = drawn_left layout (λ B. Follows (unread_by layout before now) no_part [] (exec B (stored_of vol.sup.nodesize tree.place)) []
+                (collect_answer r))
                 (λ B. ReadsStored (filesystem vol B) tree (stopped r))
                 (λ B only h is none. stored_reads (filesystem vol B) only tree is none (unread_by layout before now) r h) e.content;
           });

@@ -1,5 +1,5 @@
 use Rattle.std.proofs.Common.{◌≡◌, true, [], Ok, Err, refl, ◌∙◌}
-use Rattle.btr_names.specs.Subvolumes.{subvolumes_in, subvolume_findings}
+use Rattle.btr_check_names.specs.Subvolumes.{subvolumes_in, subvolume_findings}
 use Rattle.btr_refs.specs.Findings.{Adds}
 use Rattle.btr_volume.specs.declared.stop.Stop.TheVariants.{Memory as NoMemory}
 use Rattle.btr_check.specs.Data.{sum_runs}

@@ -1,5 +1,5 @@
 use Rattle.std.proofs.Common.{◌≡◌, [], fold, Some, ap, ◌∙◌}
-use Rattle.btr_names.specs.Subvolumes.{no_subvolumes, subvolumes_step, subvolumes_in}
+use Rattle.btr_check_names.specs.Subvolumes.{no_subvolumes, subvolumes_step, subvolumes_in}
 use Rattle.btr_tour.specs.Tour.{whole}
 use Rattle.btr_volume.specs.Tree.{named_root}
 use Rattle.btr_volume.specs.declared.root.TreeRoot.{TreeRoot}

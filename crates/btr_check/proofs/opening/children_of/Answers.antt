@@ -14,5 +14,6 @@ pub returns : goal.returns
 returns c =
     let inner = c.of-inner.result in
     c.loop-at.invariant
-    ∙ ap (filter (meets_keys first_key last_key)) (take_all c.loop-at.at (child_spots inner c.args.up) (omega (arith, length-spots inner c.args.up, c.count-at-end.ensures.all)))
+    ∙ ap (filter (meets_keys first_key last_key)) (take_all c.loop-at.at (child_spots inner c.args.up)
+    (omega (arith, length-spots inner c.args.up, c.count-at-end.ensures.all)))
     ∙ ap (λ ps. filter (meets_keys first_key last_key) (child_spots ps c.args.up)) c.of-inner.ensures

@@ -4,8 +4,8 @@ use Rattle.btr_files.specs.Aheads.{IsSummed}
 use Rattle.btr_files.specs.Sums.{tree_behind}
 use Rattle.btr_refs.specs.Findings.{Adds}
 use Rattle.btr_refs.proofs.Adding.{adds_none}
-use Rattle.btr_sums.specs.Ranks.{run_end}
-use Rattle.btr_sums.specs.Sums.{run_sectors}
+use Rattle.btr_check_sums.specs.Ranks.{run_end}
+use Rattle.btr_check_sums.specs.Sums.{run_sectors}
 use Rattle.btr_volume.specs.declared.root.TreeRoot.{TreeRoot}
 use Rattle.btr_volume.specs.declared.stop.Stop.{Stop}
 use Rattle.btr_check.specs.Counting.{Unless}

@@ -3,8 +3,8 @@ use Rattle.btr_ahead.specs.Ahead.{IsAhead}
 use Rattle.btr_files.specs.Aheads.{IsSummed}
 use Rattle.btr_files.specs.Sums.{tree_behind}
 use Rattle.btr_refs.specs.Findings.{Adds}
-use Rattle.btr_sums.specs.Ranks.{run_end}
-use Rattle.btr_sums.specs.Sums.{run_sectors}
+use Rattle.btr_check_sums.specs.Ranks.{run_end}
+use Rattle.btr_check_sums.specs.Sums.{run_sectors}
 use Rattle.btr_check.specs.Data.{data_lost}
 use Rattle.btr_check.specs.Running.{world, Ran}
 use Rattle.btr_check.proofs.readable.put_run.Given as goal

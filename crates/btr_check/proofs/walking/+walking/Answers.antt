@@ -101,7 +101,8 @@ walk_children-loop-spot-preserved g t c =
           (world (g.R.Rack.seen c.walk_block.new.rack) c.walk_block.new.vol) l.edges (Ok c.join-edges.result) l.invariant.ran
           (ran_value (λ fs. Walks fs (subtree_marks fs level (get_or spots l.spot-index none)) mid new known after (Ok c.in-Ok.more))
           (λ fs. Walks fs (subtree_marks fs level (get_or spots l.spot-index none)) mid new known after (Ok c.in-Ok.more))
-          (world (g.R.Rack.seen l.rack) l.vol) (world (g.R.Rack.seen c.walk_block.new.rack) c.walk_block.new.vol) c.in-Ok.more c.join-edges.result c.in-Ok.ensures.ran
+          (world (g.R.Rack.seen l.rack) l.vol) (world (g.R.Rack.seen c.walk_block.new.rack) c.walk_block.new.vol) c.in-Ok.more c.join-edges.result
+          c.in-Ok.ensures.ran
           (λ B h. h))
           (λ B p q addr. walks_child (filesystem c.args.vol.now B) addr level spots l.spot-index none old mid new first known after l.edges c.in-Ok.more
           c.join-edges.result c.loop-spot-test.true c.join-edges.ensures (p addr) q);
@@ -122,7 +123,8 @@ walk_children-returns-clause-ran g t c =
     let old = c.args.walk.now in
     let first = c.args.subtrees.now.known.entries in
     ran_more {A = Option Edges}
-    (λ fs. (addr : ℕ) → Walks fs (children_marks fs addr c.args.level (take l.spot-index c.args.spots.now)) old l.walk first l.subtrees.known.entries (Ok l.edges))
+    (λ fs. (addr : ℕ) → Walks fs (children_marks fs addr c.args.level (take l.spot-index c.args.spots.now)) old l.walk first l.subtrees.known.entries
+    (Ok l.edges))
     (λ fs. (addr : ℕ) → Walks fs (children_marks fs addr c.args.level c.args.spots.now) old l.walk first l.subtrees.known.entries (Ok l.edges))
     (world (g.R.Rack.seen c.args.rack.now) c.args.vol.now) (world (g.R.Rack.seen l.rack) l.vol) (Ok l.edges) l.invariant.ran
     (λ B p addr. walks_end (filesystem c.args.vol.now B) addr c.args.level c.args.spots.now l.spot-index old l.walk first l.subtrees.known.entries l.edges

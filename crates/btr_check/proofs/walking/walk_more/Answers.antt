@@ -27,7 +27,8 @@ loop-tree-preserved g c =
     let after = c.walk_tree.new.subtrees.known.entries in
     record {
       ran = ran_then {A = Unit {0}} {C = Unit {0}}
-          (λ fs. HasWalked fs [] c.args.walk.now → Knows fs c.args.walk.now first → HasWalked fs (take l.tree-index c.args.trees.now) l.walk × Knows fs l.walk known)
+          (λ fs. HasWalked fs [] c.args.walk.now → Knows fs c.args.walk.now first → HasWalked fs (take l.tree-index c.args.trees.now) l.walk
+          × Knows fs l.walk known)
           (λ fs. (before : List TreeRoot) → HasWalked fs before l.walk → Knows fs l.walk known
           → HasWalked fs (before ++ get_or c.args.trees.now l.tree-index none ∷ []) c.walk_tree.new.walk × Knows fs c.walk_tree.new.walk after)
           (λ fs. HasWalked fs [] c.args.walk.now → Knows fs c.args.walk.now first

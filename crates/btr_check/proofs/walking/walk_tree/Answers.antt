@@ -35,6 +35,7 @@ returns-in-Err g c =
     record {
       outside = c.in-Err.ensures.outside;
       ran = ran_stop {A = Option Edges} {C = Unit {0}} (λ fs. ⊤)
-          (λ fs. (before : List TreeRoot) → HasWalked fs before c.args.walk.now → Knows fs c.args.walk.now c.args.subtrees.now.known.entries → ⊤) x y c.in-Err.stop
+          (λ fs. (before : List TreeRoot) → HasWalked fs before c.args.walk.now → Knows fs c.args.walk.now c.args.subtrees.now.known.entries → ⊤) x y
+          c.in-Err.stop
           c.in-Err.ensures.ran (λ B h before had knows. tt);
     }

@@ -12,5 +12,6 @@ returns-in_err-add_item-clause-pair c =
 
 pub returns-clause-pair : goal.returns-clause-pair
 returns-clause-pair c =
-    first_pair-is c.args.table.now c.args.bytes.now c.read-start.result.offset c.in-Some.size c.in-Some.ensures.0 (ap (λ (k : Key). k.offset) c.read-start.ensures) c.in-Some.ensures.1
+    first_pair-is c.args.table.now c.args.bytes.now c.read-start.result.offset c.in-Some.size c.in-Some.ensures.0
+    (ap (λ (k : Key). k.offset) c.read-start.ensures) c.in-Some.ensures.1
     ∙ c.in_ok-add_item.ensures

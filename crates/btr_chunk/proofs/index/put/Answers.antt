@@ -3,7 +3,8 @@ use Rattle.std.specs.Map.{values_of}
 use Rattle.btr_chunk.specs.Extents.{extent_of}
 use Rattle.btr_chunk.specs.Index.{start_of}
 use Rattle.btr_chunk.proofs.Rule.{stripe_length-some}
-use Rattle.btr_chunk.proofs.Additions.{IsIndexed-same, AreFree-overlaps, absent-overlaps, apart-overlaps, spread-overlaps, OnOk-always, OnErr-always, at-OnErr, at-OnOk, Gains-insert, AreChunks-gains, AreStripes-gains, remove_entry-insert_entry, values-insert}
+use Rattle.btr_chunk.proofs.Additions.{IsIndexed-same, AreFree-overlaps, absent-overlaps, apart-overlaps, spread-overlaps, OnOk-always, OnErr-always, at-OnErr}
+use Rattle.btr_chunk.proofs.Additions.{at-OnOk, Gains-insert, AreChunks-gains, AreStripes-gains, remove_entry-insert_entry, values-insert}
 use Rattle.btr_chunk.proofs.index.put.Goals as goal
 
 at_most_one : (b : Bool) → cond b 0 1 ≤ 1
@@ -19,7 +20,8 @@ enter-entered-requires-clause-free c =
     let both : Some c.in-Some.chunk.now ≡ Some c.args.chunk = c.in-Some.ensures.value ∙ c.in_ok-insert.ensures.updates.1 in
     let same : c.in-Some.chunk.now ≡ c.args.chunk = cc in
     rw (c.as_slice.ensures, same)
-    (AreFree-overlaps c.args.chunks.now (extent_of c.args.extents.now) c.args.chunk c.requires.index.chunks c.requires.index.stripes c.requires.chunk c.requires.apart)
+    (AreFree-overlaps c.args.chunks.now (extent_of c.args.extents.now) c.args.chunk c.requires.index.chunks c.requires.index.stripes c.requires.chunk
+    c.requires.apart)
 
 pub enter-entered-requires-clause-some : goal.enter-entered-requires-clause-some
 enter-entered-requires-clause-some c =
@@ -31,7 +33,8 @@ pub returns-then-is_err-clause-err : goal.returns-then-is_err-clause-err
 returns-then-is_err-clause-err c =
     let absent = absent-overlaps c.args.chunks.now c.args.chunk c.requires.index.chunks c.requires.chunk c.requires.apart in
     OnErr-always c.enter-entered.result
-    (ap values_of (rw c.in_ok-insert.ensures.entries at c.remove.ensures.entries ∙ remove_entry-insert_entry c.args.chunks.now.entries c.args.chunk.start c.args.chunk absent))
+    (ap values_of (rw c.in_ok-insert.ensures.entries at c.remove.ensures.entries
+    ∙ remove_entry-insert_entry c.args.chunks.now.entries c.args.chunk.start c.args.chunk absent))
 
 pub returns-then-is_err-clause-index : goal.returns-then-is_err-clause-index
 returns-then-is_err-clause-index c =
@@ -61,7 +64,8 @@ returns-else-is_err-clause-index c =
     let entered = at-OnOk c.enter-entered.result (sym c.is_err.ensures.value ∙ c.if-is_err.false) c.enter-entered.ensures.ok in
     record {
       chunks = AreChunks-gains f f' chunk gains c.requires.index.chunks c.requires.chunk spread apart;
-      stripes = AreStripes-gains f f' (extent_of c.args.extents.now) (extent_of c.enter-entered.new.extents) chunk gains c.requires.index.chunks c.requires.index.stripes
+      stripes = AreStripes-gains f f' (extent_of c.args.extents.now) (extent_of c.enter-entered.new.extents) chunk gains c.requires.index.chunks
+          c.requires.index.stripes
           c.requires.chunk apart (rw (c.as_slice.ensures, c.stripe_length.ensures, same) at entered);
       ordered = c.insert.ensures.ordered;
       few = omega (arith, c.in_ok-insert.ensures.len, at_most_one (is_some c.in_ok-insert.field-0));

@@ -11,7 +11,8 @@ pub returns-clause-account : goal.returns-clause-account
 returns-clause-account g c = c.finish.ensures.account (g.O.Out.account c.args.out.now) c.show_block-shown.ensures.account
 
 pub returns-clause-cause : goal.returns-clause-cause
-returns-clause-cause g c = c.finish.ensures.cause c.args.vol.now.store.layout (g.R.Rack.seen c.args.rack.now) (g.R.Rack.seen c.show_block-shown.new.rack) c.show_block-shown.ensures.cause
+returns-clause-cause g c = c.finish.ensures.cause c.args.vol.now.store.layout (g.R.Rack.seen c.args.rack.now)
+    (g.R.Rack.seen c.show_block-shown.new.rack) c.show_block-shown.ensures.cause
 
 pub returns-clause-content : goal.returns-clause-content
 returns-clause-content g c =
@@ -22,11 +23,14 @@ returns-clause-content g c =
     let mid = g.O.Out.text c.show_block-shown.new.out in
     let is = unread_by layout old new in
     tells_drawn layout c.args.addr old new
-    (λ B. Writes is [] (exec B (block_shown c.kind_in-kind.result c.args.addr)) begun mid c.new-text.result c.show_block-shown.new.text c.show_block-shown.result)
+    (λ B. Writes is [] (exec B (block_shown c.kind_in-kind.result c.args.addr)) begun mid c.new-text.result c.show_block-shown.new.text
+    c.show_block-shown.result)
     (λ B. Puts is (exec B (block_shown (kind_in c.args.vol.now.sup) c.args.addr)) begun (g.O.Out.text c.finish.new.out) c.finish.result)
     (λ B h. c.finish.ensures.text layout old new (exec B (block_shown (kind_in c.args.vol.now.sup) c.args.addr)) begun
-    (subst (λ kind. Writes is [] (exec B (block_shown kind c.args.addr)) begun mid [] c.show_block-shown.new.text c.show_block-shown.result) c.kind_in-kind.ensures
-    (subst (λ waited. Writes is [] (exec B (block_shown c.kind_in-kind.result c.args.addr)) begun mid waited c.show_block-shown.new.text c.show_block-shown.result) c.new-text.ensures h)))
+    (subst (λ kind. Writes is [] (exec B (block_shown kind c.args.addr)) begun mid [] c.show_block-shown.new.text c.show_block-shown.result)
+    c.kind_in-kind.ensures
+    (subst (λ waited. Writes is [] (exec B (block_shown c.kind_in-kind.result c.args.addr)) begun mid waited c.show_block-shown.new.text
+    c.show_block-shown.result) c.new-text.ensures h)))
     c.show_block-shown.ensures.content
 
 pub returns-clause-grows : goal.returns-clause-grows

@@ -10,6 +10,8 @@ pub returns-in-Err-write_block-clause-text : goal.returns-in-Err-write_block-cla
 returns-in-Err-write_block-clause-text g c = λ layout before now seen B.
     let block = c.args.block.now in
     let long : 101 ≤ length block = omega arith in
-    subst (λ e. Writes (unread_by layout before now) seen (exec B (held_block c.args.kind c.args.addr block (held_in block))) (g.O.Out.text c.args.out.now) (g.O.Out.text c.write_block.new.out) c.args.text.now c.write_block.new.text (Err e)) (sym c.stop_of.ensures)
-    (held_cut layout before now seen B c.args.kind c.args.addr block (held_in block) c.in-Ok.field-0 (g.O.Out.text c.args.out.now) (g.O.Out.text c.write_block.new.out) c.args.text.now c.write_block.new.text c.in-Err-write_block.refusal
+    subst (λ e. Writes (unread_by layout before now) seen (exec B (held_block c.args.kind c.args.addr block (held_in block)))
+    (g.O.Out.text c.args.out.now) (g.O.Out.text c.write_block.new.out) c.args.text.now c.write_block.new.text (Err e)) (sym c.stop_of.ensures)
+    (held_cut layout before now seen B c.args.kind c.args.addr block (held_in block) c.in-Ok.field-0 (g.O.Out.text c.args.out.now)
+    (g.O.Out.text c.write_block.new.out) c.args.text.now c.write_block.new.text c.in-Err-write_block.refusal
     (held_long block c.in-Ok.field-0 long c.in-Ok.ensures.answer) c.in-Err-write_block.ensures.text)

@@ -13,7 +13,8 @@ pub returns-in-Err-clause-text : goal.returns-in-Err-clause-text
 returns-in-Err-clause-text g c = λ layout before now r begun w.
     let t = c.in-Err.ensures.text in
     subst (λ e. Puts (unread_by layout before now) r begun (g.O.Out.text c.flush.new.out) (Err e)) (sym c.stop_of.ensures)
-    (finish_refused (unread_by layout before now) r begun (g.O.Out.text c.args.out.now) (g.O.Out.text c.flush.new.out) c.args.text c.args.shown t.0 c.in-Err.refusal (sym c.is_cut.ensures ∙ c.if-is_cut.false) w t.1)
+    (finish_refused (unread_by layout before now) r begun (g.O.Out.text c.args.out.now) (g.O.Out.text c.flush.new.out) c.args.text c.args.shown t.0
+    c.in-Err.refusal (sym c.is_cut.ensures ∙ c.if-is_cut.false) w t.1)
 
 pub returns-then-is_cut-clause-grows : goal.returns-then-is_cut-clause-grows
 returns-then-is_cut-clause-grows g c = grows_none (g.O.Out.text c.args.out.now)
@@ -22,4 +23,5 @@ pub returns-in-Ok-clause-grows : goal.returns-in-Ok-clause-grows
 returns-in-Ok-clause-grows g c = puts_grow (Unit {0}) (g.O.Out.text c.args.out.now) (g.O.Out.text c.flush.new.out) c.args.text (Ok tt) c.in-Ok.ensures.text
 
 pub returns-in-Err-clause-grows : goal.returns-in-Err-clause-grows
-returns-in-Err-clause-grows g c = puts_grow (Unit {0}) (g.O.Out.text c.args.out.now) (g.O.Out.text c.flush.new.out) c.args.text (Err c.in-Err.refusal) c.in-Err.ensures.text
+returns-in-Err-clause-grows g c = puts_grow (Unit {0}) (g.O.Out.text c.args.out.now) (g.O.Out.text c.flush.new.out) c.args.text (Err c.in-Err.refusal)
+    c.in-Err.ensures.text

@@ -10,9 +10,11 @@ returns-then-found-clause-text g c = λ layout before now seen B.
 
 pub returns-in-Err-clause-text : goal.returns-in-Err-clause-text
 returns-in-Err-clause-text g c = λ layout before now seen B.
-    broken_written (unread_by layout before now) seen B (item_of c.args.found.now) (g.O.Out.text c.args.out.now) c.args.text.now c.if-found.false c.in-Err.field-0 c.in-Err.ensures
+    broken_written (unread_by layout before now) seen B (item_of c.args.found.now) (g.O.Out.text c.args.out.now) c.args.text.now c.if-found.false
+    c.in-Err.field-0 c.in-Err.ensures
 
 pub returns-in-Ok-clause-text : goal.returns-in-Ok-clause-text
 returns-in-Ok-clause-text g c = λ layout before now seen B.
-    root_written (unread_by layout before now) seen B (item_of c.args.found.now) (text_of c.root_line-line.result) (g.O.Out.text c.args.out.now) (g.O.Out.text c.write_line.new.out) c.args.text.now c.write_line.new.text c.write_line.result c.if-found.false c.in-Ok.root c.in-Ok.ensures
+    root_written (unread_by layout before now) seen B (item_of c.args.found.now) (text_of c.root_line-line.result) (g.O.Out.text c.args.out.now)
+    (g.O.Out.text c.write_line.new.out) c.args.text.now c.write_line.new.text c.write_line.result c.if-found.false c.in-Ok.root c.in-Ok.ensures
     c.root_line-line.ensures (c.write_line.ensures.text layout before now seen B)

@@ -12,5 +12,6 @@ returns-in-Err-clause-text g c = λ layout before now seen B.
     let old = g.O.Out.text c.args.out.now in
     let new = g.O.Out.text c.push_all.new.out in
     let t = text_of c.args.line.now in
-    subst (λ e. Writes {A = Unit {0}} (unread_by layout before now) seen (exec B (piece t)) old new c.args.text.now c.push_all.new.self (Err e)) (sym c.stop_of.ensures)
+    subst (λ e. Writes {A = Unit {0}} (unread_by layout before now) seen (exec B (piece t)) old new c.args.text.now c.push_all.new.self (Err e))
+    (sym c.stop_of.ensures)
     (piece_cut (unread_by layout before now) seen B t old new c.args.text.now c.push_all.new.self c.in-Err.refusal c.in-Err.ensures.text)

@@ -30,8 +30,11 @@ loop-stop-init g c =
       hi = refl;
       account = refl;
       grows = grows_none (g.O.Out.text c.args.out.now);
-      tells = unread_on store.layout (λ B. (seen : List Want) → IsOn scan.lo scan.hi B seen scan.place → GoesOn (λ ws. IsOn scan.lo scan.hi B ws scan.place) (exec B (item_lines (left_of B store scan))) (exec B (item_lines (left_of B store scan))) seen (g.O.Out.text c.args.out.now) (g.O.Out.text c.args.out.now) c.args.text.now c.args.text.now)
-          (λ B seen on. goes_none (λ ws. IsOn scan.lo scan.hi B ws scan.place) (exec B (item_lines (left_of B store scan))) seen (g.O.Out.text c.args.out.now) c.args.text.now on);
+      tells = unread_on store.layout (λ B. (seen : List Want) → IsOn scan.lo scan.hi B seen scan.place
+          → GoesOn (λ ws. IsOn scan.lo scan.hi B ws scan.place) (exec B (item_lines (left_of B store scan)))
+          (exec B (item_lines (left_of B store scan))) seen (g.O.Out.text c.args.out.now) (g.O.Out.text c.args.out.now) c.args.text.now c.args.text.now)
+          (λ B seen on. goes_none (λ ws. IsOn scan.lo scan.hi B ws scan.place) (exec B (item_lines (left_of B store scan))) seen
+          (g.O.Out.text c.args.out.now) c.args.text.now on);
     }
 
 pub show_next-requires-clause-ready : goal.show_next-requires-clause-ready
@@ -50,7 +53,8 @@ pub returns-in-Err-clause-account : goal.returns-in-Err-clause-account
 returns-in-Err-clause-account g c = counts_since Bool (Unit {0}) _ _ _ c.in-Err.stop c.loop-stop.invariant.account c.in-Err.ensures.account
 
 pub returns-in-Err-clause-cause : goal.returns-in-Err-clause-cause
-returns-in-Err-clause-cause g c = stop_cause_since Bool (Unit {0}) _ c.args.store.now.layout c.loop-stop.store.layout c.in-Err.stop c.loop-stop.invariant.layout c.loop-stop.invariant.reads c.in-Err.ensures.cause
+returns-in-Err-clause-cause g c = stop_cause_since Bool (Unit {0}) _ c.args.store.now.layout c.loop-stop.store.layout c.in-Err.stop
+    c.loop-stop.invariant.layout c.loop-stop.invariant.reads c.in-Err.ensures.cause
 
 pub returns-in-Err-clause-content : goal.returns-in-Err-clause-content
 returns-in-Err-clause-content g c =
@@ -63,10 +67,18 @@ returns-in-Err-clause-content g c =
     let begun = g.O.Out.text c.args.out.now in
     let mid = g.O.Out.text f.out in
     let text = g.O.Out.text c.show_next.new.out in
-    joined (λ B. (seen : List Want) → IsOn scan.lo scan.hi B seen scan.place → GoesOn (λ ws. IsOn scan.lo scan.hi B ws f.scan.place) (exec B (item_lines (left_of B c.args.store.now scan))) (exec B (item_lines (left_of B f.store f.scan))) seen begun mid c.args.text.now f.text)
-    (λ B. (seen : List Want) → IsOn f.scan.lo f.scan.hi B seen f.scan.place → Turns was (λ ws. IsOn f.scan.lo f.scan.hi B ws c.show_next.new.scan.place) (exec B (item_lines (left_of B f.store f.scan))) (exec B (item_lines (left_of B c.show_next.new.store c.show_next.new.scan))) seen mid text f.text c.show_next.new.text (Err c.in-Err.stop))
-    (λ B. (seen : List Want) → IsOn scan.lo scan.hi B seen scan.place → Writes is seen (exec B (item_lines (left_of B c.args.store.now scan))) begun text c.args.text.now c.show_next.new.text (Err c.in-Err.stop)) f.invariant.layout
-    (λ B l t seen on. goes_ends (λ ws. IsOn scan.lo scan.hi B ws f.scan.place) was is (since _ _ f.invariant.layout f.invariant.reads) (exec B (item_lines (left_of B c.args.store.now scan))) (exec B (item_lines (left_of B f.store f.scan))) seen begun mid text c.args.text.now f.text c.show_next.new.text (Err c.in-Err.stop)
+    joined (λ B. (seen : List Want) → IsOn scan.lo scan.hi B seen scan.place
+    → GoesOn (λ ws. IsOn scan.lo scan.hi B ws f.scan.place) (exec B (item_lines (left_of B c.args.store.now scan)))
+    (exec B (item_lines (left_of B f.store f.scan))) seen begun mid c.args.text.now f.text)
+    (λ B. (seen : List Want) → IsOn f.scan.lo f.scan.hi B seen f.scan.place
+    → Turns was (λ ws. IsOn f.scan.lo f.scan.hi B ws c.show_next.new.scan.place) (exec B (item_lines (left_of B f.store f.scan)))
+    (exec B (item_lines (left_of B c.show_next.new.store c.show_next.new.scan))) seen mid text f.text c.show_next.new.text (Err c.in-Err.stop))
+    (λ B. (seen : List Want) → IsOn scan.lo scan.hi B seen scan.place
+    → Writes is seen (exec B (item_lines (left_of B c.args.store.now scan))) begun text c.args.text.now c.show_next.new.text (Err c.in-Err.stop))
+    f.invariant.layout
+    (λ B l t seen on. goes_ends (λ ws. IsOn scan.lo scan.hi B ws f.scan.place) was is (since _ _ f.invariant.layout f.invariant.reads)
+    (exec B (item_lines (left_of B c.args.store.now scan))) (exec B (item_lines (left_of B f.store f.scan))) seen begun mid text c.args.text.now
+    f.text c.show_next.new.text (Err c.in-Err.stop)
     (l seen on) (λ ws here. t ws (on_as scan.lo scan.hi f.scan.lo f.scan.hi B ws f.scan.place (sym f.invariant.lo) (sym f.invariant.hi) here)))
     f.invariant.tells c.in-Err.ensures.content
 
@@ -90,16 +102,26 @@ returns-in-Ok-false-clause-content g c =
     let begun = g.O.Out.text c.args.out.now in
     let mid = g.O.Out.text f.out in
     let text = g.O.Out.text c.show_next.new.out in
-    joined (λ B. (seen : List Want) → IsOn scan.lo scan.hi B seen scan.place → GoesOn (λ ws. IsOn scan.lo scan.hi B ws f.scan.place) (exec B (item_lines (left_of B c.args.store.now scan))) (exec B (item_lines (left_of B f.store f.scan))) seen begun mid c.args.text.now f.text)
-    (λ B. (seen : List Want) → IsOn f.scan.lo f.scan.hi B seen f.scan.place → Turns was (λ ws. IsOn f.scan.lo f.scan.hi B ws c.show_next.new.scan.place) (exec B (item_lines (left_of B f.store f.scan))) (exec B (item_lines (left_of B c.show_next.new.store c.show_next.new.scan))) seen mid text f.text c.show_next.new.text (Ok c.in-Ok-false.field-0))
-    (λ B. (seen : List Want) → IsOn scan.lo scan.hi B seen scan.place → Writes is seen (exec B (item_lines (left_of B c.args.store.now scan))) begun text c.args.text.now c.show_next.new.text (Ok tt)) f.invariant.layout
-    (λ B l t seen on. goes_ends (λ ws. IsOn scan.lo scan.hi B ws f.scan.place) was is (since _ _ f.invariant.layout f.invariant.reads) (exec B (item_lines (left_of B c.args.store.now scan))) (exec B (item_lines (left_of B f.store f.scan))) seen begun mid text c.args.text.now f.text c.show_next.new.text (Ok tt)
-    (l seen on) (λ ws here. subst (λ r. Turns was (λ ws. IsOn f.scan.lo f.scan.hi B ws c.show_next.new.scan.place) (exec B (item_lines (left_of B f.store f.scan))) (exec B (item_lines (left_of B c.show_next.new.store c.show_next.new.scan))) ws mid text f.text c.show_next.new.text (Ok r)) c.in-Ok-false.field-0-test
+    joined (λ B. (seen : List Want) → IsOn scan.lo scan.hi B seen scan.place
+    → GoesOn (λ ws. IsOn scan.lo scan.hi B ws f.scan.place) (exec B (item_lines (left_of B c.args.store.now scan)))
+    (exec B (item_lines (left_of B f.store f.scan))) seen begun mid c.args.text.now f.text)
+    (λ B. (seen : List Want) → IsOn f.scan.lo f.scan.hi B seen f.scan.place
+    → Turns was (λ ws. IsOn f.scan.lo f.scan.hi B ws c.show_next.new.scan.place) (exec B (item_lines (left_of B f.store f.scan)))
+    (exec B (item_lines (left_of B c.show_next.new.store c.show_next.new.scan))) seen mid text f.text c.show_next.new.text (Ok c.in-Ok-false.field-0))
+    (λ B. (seen : List Want) → IsOn scan.lo scan.hi B seen scan.place
+    → Writes is seen (exec B (item_lines (left_of B c.args.store.now scan))) begun text c.args.text.now c.show_next.new.text (Ok tt)) f.invariant.layout
+    (λ B l t seen on. goes_ends (λ ws. IsOn scan.lo scan.hi B ws f.scan.place) was is (since _ _ f.invariant.layout f.invariant.reads)
+    (exec B (item_lines (left_of B c.args.store.now scan))) (exec B (item_lines (left_of B f.store f.scan))) seen begun mid text c.args.text.now
+    f.text c.show_next.new.text (Ok tt)
+    (l seen on) (λ ws here. subst (λ r. Turns was (λ ws. IsOn f.scan.lo f.scan.hi B ws c.show_next.new.scan.place)
+    (exec B (item_lines (left_of B f.store f.scan))) (exec B (item_lines (left_of B c.show_next.new.store c.show_next.new.scan))) ws mid text
+    f.text c.show_next.new.text (Ok r)) c.in-Ok-false.field-0-test
     (t ws (on_as scan.lo scan.hi f.scan.lo f.scan.hi B ws f.scan.place (sym f.invariant.lo) (sym f.invariant.hi) here))))
     f.invariant.tells c.in-Ok-false.ensures.content
 
 pub loop-stop-smaller : goal.loop-stop-smaller
-loop-stop-smaller g c = subst (λ r. TurnNears (rank_of c.loop-stop.scan) (rank_of c.show_next.new.scan) (Ok r)) c.in-Ok-true.field-0-test c.in-Ok-true.ensures.nears
+loop-stop-smaller g c = subst (λ r. TurnNears (rank_of c.loop-stop.scan) (rank_of c.show_next.new.scan) (Ok r)) c.in-Ok-true.field-0-test
+    c.in-Ok-true.ensures.nears
 
 pub loop-stop-preserved : goal.loop-stop-preserved
 loop-stop-preserved g c =
@@ -121,13 +143,24 @@ loop-stop-preserved g c =
       hi = s.hi ∙ f.invariant.hi;
       account = s.account ∙ f.invariant.account;
       grows = grows_twice f.invariant.grows s.grows;
-      tells = joined (λ B. (seen : List Want) → IsOn scan.lo scan.hi B seen scan.place → GoesOn (λ ws. IsOn scan.lo scan.hi B ws f.scan.place) (exec B (item_lines (left_of B c.args.store.now scan))) (exec B (item_lines (left_of B f.store f.scan))) seen begun mid c.args.text.now f.text)
-          (λ B. (seen : List Want) → IsOn f.scan.lo f.scan.hi B seen f.scan.place → Turns was (λ ws. IsOn f.scan.lo f.scan.hi B ws c.show_next.new.scan.place) (exec B (item_lines (left_of B f.store f.scan))) (exec B (item_lines (left_of B c.show_next.new.store c.show_next.new.scan))) seen mid text f.text c.show_next.new.text (Ok c.in-Ok-true.field-0))
-          (λ B. (seen : List Want) → IsOn scan.lo scan.hi B seen scan.place → GoesOn (λ ws. IsOn scan.lo scan.hi B ws c.show_next.new.scan.place) (exec B (item_lines (left_of B c.args.store.now scan))) (exec B (item_lines (left_of B c.show_next.new.store c.show_next.new.scan))) seen begun text c.args.text.now c.show_next.new.text) f.invariant.layout
-          (λ B l t seen on. goes_more (λ ws. IsOn scan.lo scan.hi B ws f.scan.place) (λ ws. IsOn scan.lo scan.hi B ws c.show_next.new.scan.place) (exec B (item_lines (left_of B c.args.store.now scan))) (exec B (item_lines (left_of B f.store f.scan))) (exec B (item_lines (left_of B c.show_next.new.store c.show_next.new.scan))) seen begun mid text c.args.text.now f.text c.show_next.new.text
+      tells = joined (λ B. (seen : List Want) → IsOn scan.lo scan.hi B seen scan.place
+          → GoesOn (λ ws. IsOn scan.lo scan.hi B ws f.scan.place) (exec B (item_lines (left_of B c.args.store.now scan)))
+          (exec B (item_lines (left_of B f.store f.scan))) seen begun mid c.args.text.now f.text)
+          (λ B. (seen : List Want) → IsOn f.scan.lo f.scan.hi B seen f.scan.place
+          → Turns was (λ ws. IsOn f.scan.lo f.scan.hi B ws c.show_next.new.scan.place) (exec B (item_lines (left_of B f.store f.scan)))
+          (exec B (item_lines (left_of B c.show_next.new.store c.show_next.new.scan))) seen mid text f.text c.show_next.new.text (Ok c.in-Ok-true.field-0))
+          (λ B. (seen : List Want) → IsOn scan.lo scan.hi B seen scan.place
+          → GoesOn (λ ws. IsOn scan.lo scan.hi B ws c.show_next.new.scan.place) (exec B (item_lines (left_of B c.args.store.now scan)))
+          (exec B (item_lines (left_of B c.show_next.new.store c.show_next.new.scan))) seen begun text c.args.text.now c.show_next.new.text)
+          f.invariant.layout
+          (λ B l t seen on. goes_more (λ ws. IsOn scan.lo scan.hi B ws f.scan.place) (λ ws. IsOn scan.lo scan.hi B ws c.show_next.new.scan.place)
+          (exec B (item_lines (left_of B c.args.store.now scan))) (exec B (item_lines (left_of B f.store f.scan)))
+          (exec B (item_lines (left_of B c.show_next.new.store c.show_next.new.scan))) seen begun mid text c.args.text.now f.text c.show_next.new.text
           (l seen on) (λ ws here.
           let turned : GoesOn (λ ws. IsOn f.scan.lo f.scan.hi B ws c.show_next.new.scan.place) (exec B (item_lines (left_of B f.store f.scan))) (exec B (item_lines (left_of B c.show_next.new.store c.show_next.new.scan))) ws mid text f.text c.show_next.new.text =
-          subst (λ r. Turns was (λ ws. IsOn f.scan.lo f.scan.hi B ws c.show_next.new.scan.place) (exec B (item_lines (left_of B f.store f.scan))) (exec B (item_lines (left_of B c.show_next.new.store c.show_next.new.scan))) ws mid text f.text c.show_next.new.text (Ok r)) c.in-Ok-true.field-0-test
+          subst (λ r. Turns was (λ ws. IsOn f.scan.lo f.scan.hi B ws c.show_next.new.scan.place) (exec B (item_lines (left_of B f.store f.scan)))
+          (exec B (item_lines (left_of B c.show_next.new.store c.show_next.new.scan))) ws mid text f.text c.show_next.new.text (Ok r))
+          c.in-Ok-true.field-0-test
           (t ws (on_as scan.lo scan.hi f.scan.lo f.scan.hi B ws f.scan.place (sym f.invariant.lo) (sym f.invariant.hi) here)) in
           record { past = turned.past; on = on_as f.scan.lo f.scan.hi scan.lo scan.hi B _ c.show_next.new.scan.place f.invariant.lo f.invariant.hi turned.on }))
           f.invariant.tells s.content;

@@ -22,8 +22,11 @@ returns-in-Err-clause-content g c =
     let text = g.O.Out.text c.args.out.now in
     let waits = c.args.text.now in
     drawn c.args.store.now.layout (λ B. IsNextOn is B c.args.store.now new scan c.next.new.scan c.next.result)
-    (λ B. (seen : List Want) → IsOn scan.lo scan.hi B seen scan.place → Turns is (λ ws. IsOn scan.lo scan.hi B ws c.next.new.scan.place) (exec B (item_lines (left_of B c.args.store.now scan))) (exec B (item_lines (left_of B new c.next.new.scan))) seen text text waits waits (Err (Tree c.in-Err.fault)))
-    (λ B h seen on. turn_halts item_line B is seen (left_of B c.args.store.now scan) text waits c.in-Err.fault (subst (λ r. IsNextOn is B c.args.store.now new scan c.next.new.scan r) c.in-Err.is h seen on))
+    (λ B. (seen : List Want) → IsOn scan.lo scan.hi B seen scan.place
+    → Turns is (λ ws. IsOn scan.lo scan.hi B ws c.next.new.scan.place) (exec B (item_lines (left_of B c.args.store.now scan)))
+    (exec B (item_lines (left_of B new c.next.new.scan))) seen text text waits waits (Err (Tree c.in-Err.fault)))
+    (λ B h seen on. turn_halts item_line B is seen (left_of B c.args.store.now scan) text waits c.in-Err.fault
+    (subst (λ r. IsNextOn is B c.args.store.now new scan c.next.new.scan r) c.in-Err.is h seen on))
     c.next.follows.holds-at-none.content
 
 pub returns-in-Ok-None-clause-content : goal.returns-in-Ok-None-clause-content
@@ -34,12 +37,16 @@ returns-in-Ok-None-clause-content g c =
     let text = g.O.Out.text c.args.out.now in
     let waits = c.args.text.now in
     drawn c.args.store.now.layout (λ B. IsNextOn is B c.args.store.now new scan c.next.new.scan c.next.result)
-    (λ B. (seen : List Want) → IsOn scan.lo scan.hi B seen scan.place → Turns is (λ ws. IsOn scan.lo scan.hi B ws c.next.new.scan.place) (exec B (item_lines (left_of B c.args.store.now scan))) (exec B (item_lines (left_of B new c.next.new.scan))) seen text text waits waits (Ok false))
-    (λ B h seen on. turn_ends item_line B is seen (left_of B c.args.store.now scan) text waits (subst (λ r. IsNextOn is B c.args.store.now new scan c.next.new.scan r) (c.in-Ok-None.is ∙ ap Ok c.in-Ok-None.field-0-is) h seen on))
+    (λ B. (seen : List Want) → IsOn scan.lo scan.hi B seen scan.place
+    → Turns is (λ ws. IsOn scan.lo scan.hi B ws c.next.new.scan.place) (exec B (item_lines (left_of B c.args.store.now scan)))
+    (exec B (item_lines (left_of B new c.next.new.scan))) seen text text waits waits (Ok false))
+    (λ B h seen on. turn_ends item_line B is seen (left_of B c.args.store.now scan) text waits
+    (subst (λ r. IsNextOn is B c.args.store.now new scan c.next.new.scan r) (c.in-Ok-None.is ∙ ap Ok c.in-Ok-None.field-0-is) h seen on))
     c.next.follows.holds-at-none.content
 
 pub returns-in-Err-write_item-clause-cause : goal.returns-in-Err-write_item-clause-cause
-returns-in-Err-write_item-clause-cause g c = c.in-Err-write_item.ensures.cause c.args.store.now.layout (g.R.Rack.seen c.args.rack.now) (g.R.Rack.seen c.next.new.rack)
+returns-in-Err-write_item-clause-cause g c = c.in-Err-write_item.ensures.cause c.args.store.now.layout (g.R.Rack.seen c.args.rack.now)
+    (g.R.Rack.seen c.next.new.rack)
 
 pub returns-in-Err-write_item-clause-content : goal.returns-in-Err-write_item-clause-content
 returns-in-Err-write_item-clause-content g c =
@@ -51,10 +58,13 @@ returns-in-Err-write_item-clause-content g c =
     let old_text = g.O.Out.text c.args.out.now in
     let new_text = g.O.Out.text c.write_item.new.out in
     drawn layout (λ B. IsNextOn is B c.args.store.now new scan c.next.new.scan c.next.result)
-    (λ B. (seen : List Want) → IsOn scan.lo scan.hi B seen scan.place → Turns is (λ ws. IsOn scan.lo scan.hi B ws c.next.new.scan.place) (exec B (item_lines (left_of B c.args.store.now scan))) (exec B (item_lines (left_of B new c.next.new.scan))) seen old_text new_text c.args.text.now c.write_item.new.text (Err c.in-Err-write_item.stop))
+    (λ B. (seen : List Want) → IsOn scan.lo scan.hi B seen scan.place
+    → Turns is (λ ws. IsOn scan.lo scan.hi B ws c.next.new.scan.place) (exec B (item_lines (left_of B c.args.store.now scan)))
+    (exec B (item_lines (left_of B new c.next.new.scan))) seen old_text new_text c.args.text.now c.write_item.new.text (Err c.in-Err-write_item.stop))
     (λ B h seen on.
     let gives = subst (λ r. IsNextOn is B c.args.store.now new scan c.next.new.scan r) (c.in-Ok-Some.is ∙ ap Ok c.in-Ok-Some.field-0-is) h seen on in
-    turn_stops item_line B (left_of B c.args.store.now scan) (left_of B new c.next.new.scan) (item_of found) gives.past gives.is is seen old_text new_text c.args.text.now c.write_item.new.text c.in-Err-write_item.stop
+    turn_stops item_line B (left_of B c.args.store.now scan) (left_of B new c.next.new.scan) (item_of found) gives.past gives.is is seen old_text
+    new_text c.args.text.now c.write_item.new.text c.in-Err-write_item.stop
     (c.in-Err-write_item.ensures.text layout (g.R.Rack.seen c.args.rack.now) (g.R.Rack.seen c.next.new.rack) (seen ++ gives.past) B))
     c.next.follows.holds-at-none.content
 
@@ -68,10 +78,14 @@ returns-in-Ok-clause-content g c =
     let old_text = g.O.Out.text c.args.out.now in
     let new_text = g.O.Out.text c.write_item.new.out in
     drawn layout (λ B. IsNextOn is B c.args.store.now new scan c.next.new.scan c.next.result)
-    (λ B. (seen : List Want) → IsOn scan.lo scan.hi B seen scan.place → Turns is (λ ws. IsOn scan.lo scan.hi B ws c.next.new.scan.place) (exec B (item_lines (left_of B c.args.store.now scan))) (exec B (item_lines (left_of B new c.next.new.scan))) seen old_text new_text c.args.text.now c.write_item.new.text (Ok true))
+    (λ B. (seen : List Want) → IsOn scan.lo scan.hi B seen scan.place
+    → Turns is (λ ws. IsOn scan.lo scan.hi B ws c.next.new.scan.place) (exec B (item_lines (left_of B c.args.store.now scan)))
+    (exec B (item_lines (left_of B new c.next.new.scan))) seen old_text new_text c.args.text.now c.write_item.new.text (Ok true))
     (λ B h seen on.
     let gives = subst (λ r. IsNextOn is B c.args.store.now new scan c.next.new.scan r) (c.in-Ok-Some.is ∙ ap Ok c.in-Ok-Some.field-0-is) h seen on in
-    turn_goes item_line B (left_of B c.args.store.now scan) (left_of B new c.next.new.scan) (item_of found) gives.past gives.is (λ ws. IsOn scan.lo scan.hi B ws c.next.new.scan.place) is seen (seen ++ gives.past) old_text new_text c.args.text.now c.write_item.new.text (no_wants B (item_of found))
+    turn_goes item_line B (left_of B c.args.store.now scan) (left_of B new c.next.new.scan) (item_of found) gives.past gives.is
+    (λ ws. IsOn scan.lo scan.hi B ws c.next.new.scan.place) is seen (seen ++ gives.past) old_text new_text c.args.text.now c.write_item.new.text
+    (no_wants B (item_of found))
     gives.on (c.in-Ok.ensures.text layout (g.R.Rack.seen c.args.rack.now) (g.R.Rack.seen c.next.new.rack) (seen ++ gives.past) B))
     c.next.follows.holds-at-none.content
 
@@ -86,7 +100,8 @@ returns-in-Err-write_item-clause-grows g c =
     let layout = c.args.store.now.layout in
     let old = g.R.Rack.seen c.args.rack.now in
     let new = g.R.Rack.seen c.next.new.rack in
-    run_grows (unread_by layout old new) [] (exec no_block (item_line (item_of c.in-Ok-Some.found))) (g.O.Out.text c.args.out.now) (g.O.Out.text c.write_item.new.out) c.args.text.now c.write_item.new.text (Err c.in-Err-write_item.stop)
+    run_grows (unread_by layout old new) [] (exec no_block (item_line (item_of c.in-Ok-Some.found))) (g.O.Out.text c.args.out.now)
+    (g.O.Out.text c.write_item.new.out) c.args.text.now c.write_item.new.text (Err c.in-Err-write_item.stop)
     (c.in-Err-write_item.ensures.text layout old new [] no_block)
 
 pub returns-in-Ok-clause-grows : goal.returns-in-Ok-clause-grows
@@ -94,5 +109,6 @@ returns-in-Ok-clause-grows g c =
     let layout = c.args.store.now.layout in
     let old = g.R.Rack.seen c.args.rack.now in
     let new = g.R.Rack.seen c.next.new.rack in
-    run_grows (unread_by layout old new) [] (exec no_block (item_line (item_of c.in-Ok-Some.found))) (g.O.Out.text c.args.out.now) (g.O.Out.text c.write_item.new.out) c.args.text.now c.write_item.new.text (Ok tt)
+    run_grows (unread_by layout old new) [] (exec no_block (item_line (item_of c.in-Ok-Some.found))) (g.O.Out.text c.args.out.now)
+    (g.O.Out.text c.write_item.new.out) c.args.text.now c.write_item.new.text (Ok tt)
     (c.in-Ok.ensures.text layout old new [] no_block)

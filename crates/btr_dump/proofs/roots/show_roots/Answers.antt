@@ -23,9 +23,12 @@ returns-in-Err-clause-content g c =
     let rack = g.R.Rack.seen c.args.rack.now in
     let old = g.O.Out.text c.args.out.now in
     let new = g.O.Out.text c.write_tops.new.out in
-    unread_on layout (λ B. Writes {A = Unit {0}} (unread_by layout rack rack) [] (exec B (roots_shown s)) old new c.args.text.now c.write_tops.new.text (Err c.stop_of.result))
-    (λ B. subst (λ e. Writes {A = Unit {0}} (unread_by layout rack rack) [] (exec B (roots_shown s)) old new c.args.text.now c.write_tops.new.text (Err e)) (sym c.stop_of.ensures)
-    (two_cut (unread_by layout rack rack) B (root_line (named_root 1 (root_root s))) (root_line (named_root 3 (chunk_root s))) (item_lines (range first_key last_key (root_root s))) old new c.args.text.now c.write_tops.new.text c.in-Err.refusal c.in-Err.ensures.text))
+    unread_on layout (λ B. Writes {A = Unit {0}} (unread_by layout rack rack) [] (exec B (roots_shown s)) old new c.args.text.now
+    c.write_tops.new.text (Err c.stop_of.result))
+    (λ B. subst (λ e. Writes {A = Unit {0}} (unread_by layout rack rack) [] (exec B (roots_shown s)) old new c.args.text.now c.write_tops.new.text
+    (Err e)) (sym c.stop_of.ensures)
+    (two_cut (unread_by layout rack rack) B (root_line (named_root 1 (root_root s))) (root_line (named_root 3 (chunk_root s)))
+    (item_lines (range first_key last_key (root_root s))) old new c.args.text.now c.write_tops.new.text c.in-Err.refusal c.in-Err.ensures.text))
 
 pub returns-clause-content : goal.returns-clause-content
 returns-clause-content g c =
@@ -36,20 +39,27 @@ returns-clause-content g c =
     let mid = g.O.Out.text c.write_tops.new.out in
     let new = g.O.Out.text c.show_items-shown.new.out in
     let scan = c.new-scan.result in
-    drawn layout (λ B. (seen : List Want) → IsOn scan.lo scan.hi B seen scan.place → Writes is seen (exec B (item_lines (left_of B c.args.store.now scan))) mid new c.write_tops.new.text c.show_items-shown.new.text c.show_items-shown.result)
+    drawn layout (λ B. (seen : List Want) → IsOn scan.lo scan.hi B seen scan.place
+    → Writes is seen (exec B (item_lines (left_of B c.args.store.now scan))) mid new c.write_tops.new.text c.show_items-shown.new.text
+    c.show_items-shown.result)
     (λ B. Writes is [] (exec B (roots_shown s)) old new c.args.text.now c.show_items-shown.new.text c.show_items-shown.result)
-    (λ B h. two_then is B (root_line (named_root 1 (root_root s))) (root_line (named_root 3 (chunk_root s))) (item_lines (range first_key last_key (root_root s))) old mid new c.args.text.now c.write_tops.new.text c.show_items-shown.new.text c.show_items-shown.result
+    (λ B h. two_then is B (root_line (named_root 1 (root_root s))) (root_line (named_root 3 (chunk_root s)))
+    (item_lines (range first_key last_key (root_root s))) old mid new c.args.text.now c.write_tops.new.text c.show_items-shown.new.text
+    c.show_items-shown.result
     c.in-Ok.ensures.text
-    (subst (λ p. Writes is [] (exec B (item_lines p)) mid new c.write_tops.new.text c.show_items-shown.new.text c.show_items-shown.result) (c.new-scan.ensures.program B c.args.store.now ∙ ap (range first_key last_key) c.root_root.ensures)
+    (subst (λ p. Writes is [] (exec B (item_lines p)) mid new c.write_tops.new.text c.show_items-shown.new.text c.show_items-shown.result)
+    (c.new-scan.ensures.program B c.args.store.now ∙ ap (range first_key last_key) c.root_root.ensures)
     (h [] (on_as first_key last_key scan.lo scan.hi B [] scan.place (sym c.new-scan.ensures.lo) (sym c.new-scan.ensures.hi) (c.new-scan.ensures.on B)))))
     c.show_items-shown.ensures.content
 
 pub returns-in-Err-clause-grows : goal.returns-in-Err-clause-grows
 returns-in-Err-clause-grows g c =
     let s = c.args.s.now in
-    text_grows (Unit {0}) (g.O.Out.text c.args.out.now) (g.O.Out.text c.write_tops.new.out) c.args.text.now c.write_tops.new.text (root_line (named_root 1 (root_root s)) ++ root_line (named_root 3 (chunk_root s))) (Err c.in-Err.refusal) c.in-Err.ensures.text
+    text_grows (Unit {0}) (g.O.Out.text c.args.out.now) (g.O.Out.text c.write_tops.new.out) c.args.text.now c.write_tops.new.text
+    (root_line (named_root 1 (root_root s)) ++ root_line (named_root 3 (chunk_root s))) (Err c.in-Err.refusal) c.in-Err.ensures.text
 
 pub returns-clause-grows : goal.returns-clause-grows
 returns-clause-grows g c =
     let s = c.args.s.now in
-    grows_twice (text_grows (Unit {0}) (g.O.Out.text c.args.out.now) (g.O.Out.text c.write_tops.new.out) c.args.text.now c.write_tops.new.text (root_line (named_root 1 (root_root s)) ++ root_line (named_root 3 (chunk_root s))) (Ok tt) c.in-Ok.ensures.text) c.show_items-shown.ensures.grows
+    grows_twice (text_grows (Unit {0}) (g.O.Out.text c.args.out.now) (g.O.Out.text c.write_tops.new.out) c.args.text.now c.write_tops.new.text
+    (root_line (named_root 1 (root_root s)) ++ root_line (named_root 3 (chunk_root s))) (Ok tt) c.in-Ok.ensures.text) c.show_items-shown.ensures.grows

@@ -19,7 +19,8 @@ returns-in-Err-clause-content g c =
     let is = unread_by layout (g.R.Rack.seen c.args.rack.now) (g.R.Rack.seen c.tree.new.rack) in
     let text = g.O.Out.text c.args.out.now in
     drawn layout (λ B. Follows {S = ⊥} is no_part [] (exec B (tree_of s c.args.id)) [] (answer_of (Err c.in-Err.fault)))
-    (λ B. PutsAsked is (exec B (asked_tree s c.args.id)) text text (Err (Tree c.in-Err.fault))) (λ B h. asked_fault is B (kind_in s) c.args.id (tree_of s c.args.id) text c.in-Err.fault h) c.in-Err.ensures.content
+    (λ B. PutsAsked is (exec B (asked_tree s c.args.id)) text text (Err (Tree c.in-Err.fault)))
+    (λ B h. asked_fault is B (kind_in s) c.args.id (tree_of s c.args.id) text c.in-Err.fault h) c.in-Err.ensures.content
 
 pub returns-in-Ok-None-clause-content : goal.returns-in-Ok-None-clause-content
 returns-in-Ok-None-clause-content g c =
@@ -29,7 +30,8 @@ returns-in-Ok-None-clause-content g c =
     let text = g.O.Out.text c.args.out.now in
     drawn layout (λ B. Follows {S = ⊥} is no_part [] (exec B (tree_of s c.args.id)) [] (answer_of (Ok c.in-Ok-None.field-0)))
     (λ B. PutsAsked is (exec B (asked_tree s c.args.id)) text text (Err (NoTree c.args.id)))
-    (λ B h. asked_none is B (kind_in s) c.args.id (tree_of s c.args.id) text (subst (λ o. Follows {S = ⊥} is no_part [] (exec B (tree_of s c.args.id)) [] (Ok o)) c.in-Ok-None.field-0-is h)) c.in-Ok-None.ensures.content
+    (λ B h. asked_none is B (kind_in s) c.args.id (tree_of s c.args.id) text
+    (subst (λ o. Follows {S = ⊥} is no_part [] (exec B (tree_of s c.args.id)) [] (Ok o)) c.in-Ok-None.field-0-is h)) c.in-Ok-None.ensures.content
 
 pub returns-in-Ok-Some-clause-content : goal.returns-in-Ok-Some-clause-content
 returns-in-Ok-Some-clause-content g c =
@@ -48,7 +50,8 @@ returns-in-Ok-Some-clause-content g c =
     joined (λ B. Follows {S = ⊥} (unread_by layout old mid) no_part [] (exec B (tree_of s c.args.id)) [] (answer_of (Ok c.in-Ok-Some.field-0)))
     (λ B. Puts later (exec B (tree_shown c.kind_in.result c.in-Ok-Some.root)) begun text c.put_tree.result)
     (λ B. PutsAsked is (exec B (asked_tree s c.args.id)) begun text c.put_tree.result) same.store.layout
-    (λ B h p. asked_some is B (kind_in s) c.args.id (tree_of s c.args.id) c.in-Ok-Some.root later (since layout later_layout same.store.layout c.in-Ok-Some.ensures.reads) begun text c.put_tree.result
+    (λ B h p. asked_some is B (kind_in s) c.args.id (tree_of s c.args.id) c.in-Ok-Some.root later
+    (since layout later_layout same.store.layout c.in-Ok-Some.ensures.reads) begun text c.put_tree.result
     (subst (λ o. Follows {S = ⊥} is no_part [] (exec B (tree_of s c.args.id)) [] (Ok o)) c.in-Ok-Some.field-0-is h)
     (subst (λ k. Puts later (exec B (tree_shown k c.in-Ok-Some.root)) begun text c.put_tree.result) kind p))
     c.in-Ok-Some.ensures.content c.put_tree.ensures.content

@@ -19,7 +19,8 @@ invariant-loop-stop g l = record {
   account : g.O.Out.account l.out ≡ g.O.Out.account l.fn.out;
   grows : Grows (g.O.Out.text l.fn.out) (g.O.Out.text l.out);
   tells : Tells l.fn.store.layout (g.R.Rack.seen l.fn.rack) (g.R.Rack.seen l.rack) (λ B. (seen : List Want) → IsAmong B seen l.fn.scan.place
-      → GoesOn (λ ws. IsAmong B ws l.scan.place) (exec B (blocks_shown l.fn.kind (blocks_left B l.fn.scan))) (exec B (blocks_shown l.fn.kind (blocks_left B l.scan))) seen (g.O.Out.text l.fn.out) (g.O.Out.text l.out) l.fn.text l.text);
+      → GoesOn (λ ws. IsAmong B ws l.scan.place) (exec B (blocks_shown l.fn.kind (blocks_left B l.fn.scan)))
+      (exec B (blocks_shown l.fn.kind (blocks_left B l.scan))) seen (g.O.Out.text l.fn.out) (g.O.Out.text l.out) l.fn.text l.text);
 }
 
 abbrev pub decreases-loop-stop : goal.decreases-loop-stop

@@ -22,8 +22,10 @@ returns-in-Err-clause-content g c =
     let text = g.O.Out.text c.args.out.now in
     let waits = c.args.text.now in
     drawn c.args.store.now.layout (λ B. IsNextBlock is B scan next c.next_block.result)
-    (λ B. (seen : List Want) → IsAmong B seen scan.place → Turns is (λ ws. IsAmong B ws next.place) (exec B (blocks_shown kind (blocks_left B scan))) (exec B (blocks_shown kind (blocks_left B next))) seen text text waits waits (Err (Tree c.in-Err.fault)))
-    (λ B h seen on. turn_halts (met_block kind) B is seen (blocks_left B scan) text waits c.in-Err.fault (subst (λ r. IsNextBlock is B scan next r) c.in-Err.is h seen on))
+    (λ B. (seen : List Want) → IsAmong B seen scan.place → Turns is (λ ws. IsAmong B ws next.place) (exec B (blocks_shown kind (blocks_left B scan)))
+    (exec B (blocks_shown kind (blocks_left B next))) seen text text waits waits (Err (Tree c.in-Err.fault)))
+    (λ B h seen on. turn_halts (met_block kind) B is seen (blocks_left B scan) text waits c.in-Err.fault
+    (subst (λ r. IsNextBlock is B scan next r) c.in-Err.is h seen on))
     c.next_block.follows.holds-at-none.content
 
 pub returns-in-Ok-None-clause-content : goal.returns-in-Ok-None-clause-content
@@ -35,12 +37,15 @@ returns-in-Ok-None-clause-content g c =
     let text = g.O.Out.text c.args.out.now in
     let waits = c.args.text.now in
     drawn c.args.store.now.layout (λ B. IsNextBlock is B scan next c.next_block.result)
-    (λ B. (seen : List Want) → IsAmong B seen scan.place → Turns is (λ ws. IsAmong B ws next.place) (exec B (blocks_shown kind (blocks_left B scan))) (exec B (blocks_shown kind (blocks_left B next))) seen text text waits waits (Ok false))
-    (λ B h seen on. turn_ends (met_block kind) B is seen (blocks_left B scan) text waits (subst (λ r. IsNextBlock is B scan next r) (c.in-Ok-None.is ∙ ap Ok c.in-Ok-None.field-0-is) h seen on))
+    (λ B. (seen : List Want) → IsAmong B seen scan.place → Turns is (λ ws. IsAmong B ws next.place) (exec B (blocks_shown kind (blocks_left B scan)))
+    (exec B (blocks_shown kind (blocks_left B next))) seen text text waits waits (Ok false))
+    (λ B h seen on. turn_ends (met_block kind) B is seen (blocks_left B scan) text waits
+    (subst (λ r. IsNextBlock is B scan next r) (c.in-Ok-None.is ∙ ap Ok c.in-Ok-None.field-0-is) h seen on))
     c.next_block.follows.holds-at-none.content
 
 pub returns-in-Err-write_held-clause-cause : goal.returns-in-Err-write_held-clause-cause
-returns-in-Err-write_held-clause-cause g c = c.in-Err-write_held.ensures.cause c.args.store.now.layout (g.R.Rack.seen c.args.rack.now) (g.R.Rack.seen c.next_block.new.rack)
+returns-in-Err-write_held-clause-cause g c = c.in-Err-write_held.ensures.cause c.args.store.now.layout (g.R.Rack.seen c.args.rack.now)
+    (g.R.Rack.seen c.next_block.new.rack)
 
 pub returns-in-Err-write_held-clause-content : goal.returns-in-Err-write_held-clause-content
 returns-in-Err-write_held-clause-content g c =
@@ -53,10 +58,12 @@ returns-in-Err-write_held-clause-content g c =
     let old_text = g.O.Out.text c.args.out.now in
     let new_text = g.O.Out.text c.write_held.new.out in
     drawn layout (λ B. IsNextBlock is B scan next c.next_block.result)
-    (λ B. (seen : List Want) → IsAmong B seen scan.place → Turns is (λ ws. IsAmong B ws next.place) (exec B (blocks_shown kind (blocks_left B scan))) (exec B (blocks_shown kind (blocks_left B next))) seen old_text new_text c.args.text.now c.write_held.new.text (Err c.in-Err-write_held.stop))
+    (λ B. (seen : List Want) → IsAmong B seen scan.place → Turns is (λ ws. IsAmong B ws next.place) (exec B (blocks_shown kind (blocks_left B scan)))
+    (exec B (blocks_shown kind (blocks_left B next))) seen old_text new_text c.args.text.now c.write_held.new.text (Err c.in-Err-write_held.stop))
     (λ B h seen on.
     let gives = subst (λ r. IsNextBlock is B scan next r) (c.in-Ok-Some.is ∙ ap Ok c.in-Ok-Some.field-0-is) h seen on in
-    turn_stops (met_block kind) B (blocks_left B scan) (blocks_left B next) (shown_block found) gives.past gives.is is seen old_text new_text c.args.text.now c.write_held.new.text c.in-Err-write_held.stop
+    turn_stops (met_block kind) B (blocks_left B scan) (blocks_left B next) (shown_block found) gives.past gives.is is seen old_text new_text
+    c.args.text.now c.write_held.new.text c.in-Err-write_held.stop
     (met_written is (seen ++ gives.past) B kind (shown_block found) old_text new_text c.args.text.now c.write_held.new.text (Err c.in-Err-write_held.stop)
     (c.in-Err-write_held.ensures.text layout (g.R.Rack.seen c.args.rack.now) (g.R.Rack.seen c.next_block.new.rack) (seen ++ gives.past) B)))
     c.next_block.follows.holds-at-none.content
@@ -72,10 +79,12 @@ returns-in-Ok-clause-content g c =
     let old_text = g.O.Out.text c.args.out.now in
     let new_text = g.O.Out.text c.write_held.new.out in
     drawn layout (λ B. IsNextBlock is B scan next c.next_block.result)
-    (λ B. (seen : List Want) → IsAmong B seen scan.place → Turns is (λ ws. IsAmong B ws next.place) (exec B (blocks_shown kind (blocks_left B scan))) (exec B (blocks_shown kind (blocks_left B next))) seen old_text new_text c.args.text.now c.write_held.new.text (Ok true))
+    (λ B. (seen : List Want) → IsAmong B seen scan.place → Turns is (λ ws. IsAmong B ws next.place) (exec B (blocks_shown kind (blocks_left B scan)))
+    (exec B (blocks_shown kind (blocks_left B next))) seen old_text new_text c.args.text.now c.write_held.new.text (Ok true))
     (λ B h seen on.
     let gives = subst (λ r. IsNextBlock is B scan next r) (c.in-Ok-Some.is ∙ ap Ok c.in-Ok-Some.field-0-is) h seen on in
-    turn_goes (met_block kind) B (blocks_left B scan) (blocks_left B next) (shown_block found) gives.past gives.is (λ ws. IsAmong B ws next.place) is seen (seen ++ gives.past) old_text new_text c.args.text.now c.write_held.new.text (met_wants_none B kind (shown_block found))
+    turn_goes (met_block kind) B (blocks_left B scan) (blocks_left B next) (shown_block found) gives.past gives.is (λ ws. IsAmong B ws next.place) is
+    seen (seen ++ gives.past) old_text new_text c.args.text.now c.write_held.new.text (met_wants_none B kind (shown_block found))
     gives.on (met_written is (seen ++ gives.past) B kind (shown_block found) old_text new_text c.args.text.now c.write_held.new.text (Ok tt)
     (c.in-Ok.ensures.text layout (g.R.Rack.seen c.args.rack.now) (g.R.Rack.seen c.next_block.new.rack) (seen ++ gives.past) B)))
     c.next_block.follows.holds-at-none.content
@@ -92,7 +101,8 @@ returns-in-Err-write_held-clause-grows g c =
     let old = g.R.Rack.seen c.args.rack.now in
     let new = g.R.Rack.seen c.next_block.new.rack in
     let found = c.in-Ok-Some.found in
-    run_grows (unread_by layout old new) [] (exec no_block (held_block c.args.kind found.addr found.bytes.now (held_in found.bytes.now))) (g.O.Out.text c.args.out.now) (g.O.Out.text c.write_held.new.out) c.args.text.now c.write_held.new.text (Err c.in-Err-write_held.stop)
+    run_grows (unread_by layout old new) [] (exec no_block (held_block c.args.kind found.addr found.bytes.now (held_in found.bytes.now)))
+    (g.O.Out.text c.args.out.now) (g.O.Out.text c.write_held.new.out) c.args.text.now c.write_held.new.text (Err c.in-Err-write_held.stop)
     (c.in-Err-write_held.ensures.text layout old new [] no_block)
 
 pub returns-in-Ok-clause-grows : goal.returns-in-Ok-clause-grows
@@ -101,5 +111,6 @@ returns-in-Ok-clause-grows g c =
     let old = g.R.Rack.seen c.args.rack.now in
     let new = g.R.Rack.seen c.next_block.new.rack in
     let found = c.in-Ok-Some.found in
-    run_grows (unread_by layout old new) [] (exec no_block (held_block c.args.kind found.addr found.bytes.now (held_in found.bytes.now))) (g.O.Out.text c.args.out.now) (g.O.Out.text c.write_held.new.out) c.args.text.now c.write_held.new.text (Ok tt)
+    run_grows (unread_by layout old new) [] (exec no_block (held_block c.args.kind found.addr found.bytes.now (held_in found.bytes.now)))
+    (g.O.Out.text c.args.out.now) (g.O.Out.text c.write_held.new.out) c.args.text.now c.write_held.new.text (Ok tt)
     (c.in-Ok.ensures.text layout old new [] no_block)

@@ -22,9 +22,12 @@ returns-in-Err-clause-content g c =
     let old = g.O.Out.text c.args.out.now in
     let new = g.O.Out.text c.push_all.new.out in
     let line = tree_text root.id root.offset in
-    unread_on layout (λ B. Writes {A = Unit {0}} (unread_by layout rack rack) [] (exec B (tree_shown kind root)) old new c.args.text.now c.push_all.new.self (Err c.stop_of.result))
-    (λ B. subst (λ e. Writes {A = Unit {0}} (unread_by layout rack rack) [] (exec B (tree_shown kind root)) old new c.args.text.now c.push_all.new.self (Err e)) (sym c.stop_of.ensures)
-    (one_cut (unread_by layout rack rack) B line (blocks_shown kind (blocks root.place)) old new c.args.text.now c.push_all.new.self c.in-Err.refusal (cut_as line c.tree_line.ensures c.in-Err.ensures.text)))
+    unread_on layout (λ B. Writes {A = Unit {0}} (unread_by layout rack rack) [] (exec B (tree_shown kind root)) old new c.args.text.now
+    c.push_all.new.self (Err c.stop_of.result))
+    (λ B. subst (λ e. Writes {A = Unit {0}} (unread_by layout rack rack) [] (exec B (tree_shown kind root)) old new c.args.text.now
+    c.push_all.new.self (Err e)) (sym c.stop_of.ensures)
+    (one_cut (unread_by layout rack rack) B line (blocks_shown kind (blocks root.place)) old new c.args.text.now c.push_all.new.self c.in-Err.refusal
+    (cut_as line c.tree_line.ensures c.in-Err.ensures.text)))
 
 pub returns-clause-content : goal.returns-clause-content
 returns-clause-content g c =
@@ -37,16 +40,21 @@ returns-clause-content g c =
     let new = g.O.Out.text c.show_blocks-shown.new.out in
     let scan = c.new-scan.result in
     let line = tree_text root.id root.offset in
-    drawn layout (λ B. (seen : List Want) → IsAmong B seen scan.place → Writes is seen (exec B (blocks_shown kind (blocks_left B scan))) mid new c.push_all.new.self c.show_blocks-shown.new.text c.show_blocks-shown.result)
+    drawn layout (λ B. (seen : List Want) → IsAmong B seen scan.place
+    → Writes is seen (exec B (blocks_shown kind (blocks_left B scan))) mid new c.push_all.new.self c.show_blocks-shown.new.text c.show_blocks-shown.result)
     (λ B. Writes is [] (exec B (tree_shown kind root)) old new c.args.text.now c.show_blocks-shown.new.text c.show_blocks-shown.result)
-    (λ B h. one_then is B line (blocks_shown kind (blocks root.place)) old mid new c.args.text.now c.push_all.new.self c.show_blocks-shown.new.text c.show_blocks-shown.result (wrote_as line c.tree_line.ensures c.in-Ok.ensures.text)
-    (subst (λ p. Writes is [] (exec B (blocks_shown kind p)) mid new c.push_all.new.self c.show_blocks-shown.new.text c.show_blocks-shown.result) (c.new-scan.ensures.program B) (h [] (c.new-scan.ensures.on B))))
+    (λ B h. one_then is B line (blocks_shown kind (blocks root.place)) old mid new c.args.text.now c.push_all.new.self c.show_blocks-shown.new.text
+    c.show_blocks-shown.result (wrote_as line c.tree_line.ensures c.in-Ok.ensures.text)
+    (subst (λ p. Writes is [] (exec B (blocks_shown kind p)) mid new c.push_all.new.self c.show_blocks-shown.new.text c.show_blocks-shown.result)
+    (c.new-scan.ensures.program B) (h [] (c.new-scan.ensures.on B))))
     c.show_blocks-shown.ensures.content
 
 pub returns-in-Err-clause-grows : goal.returns-in-Err-clause-grows
 returns-in-Err-clause-grows g c =
-    text_grows (Unit {0}) (g.O.Out.text c.args.out.now) (g.O.Out.text c.push_all.new.out) c.args.text.now c.push_all.new.self (text_of c.tree_line.result) (Err c.in-Err.refusal) c.in-Err.ensures.text
+    text_grows (Unit {0}) (g.O.Out.text c.args.out.now) (g.O.Out.text c.push_all.new.out) c.args.text.now c.push_all.new.self
+    (text_of c.tree_line.result) (Err c.in-Err.refusal) c.in-Err.ensures.text
 
 pub returns-clause-grows : goal.returns-clause-grows
 returns-clause-grows g c =
-    grows_twice (text_grows (Unit {0}) (g.O.Out.text c.args.out.now) (g.O.Out.text c.push_all.new.out) c.args.text.now c.push_all.new.self (text_of c.tree_line.result) (Ok tt) c.in-Ok.ensures.text) c.show_blocks-shown.ensures.grows
+    grows_twice (text_grows (Unit {0}) (g.O.Out.text c.args.out.now) (g.O.Out.text c.push_all.new.out) c.args.text.now c.push_all.new.self
+    (text_of c.tree_line.result) (Ok tt) c.in-Ok.ensures.text) c.show_blocks-shown.ensures.grows

@@ -16,7 +16,8 @@ returns-in-Some-clause-content g c =
     let old = c.args.store.now in
     let new = c.next.follows.lender-at-none in
     let is = unread_by old.layout (g.R.Rack.seen c.args.rack.now) (g.R.Rack.seen c.next.new.rack) in
-    drawn old.layout (λ B. IsNextOn is B old new scan next c.next.result) (λ B. (seen : List Want) → IsOn scan.lo scan.hi B seen scan.place → NextItemBy is B seen old new scan next (Ok (item.Tree c.in-Some.root)))
+    drawn old.layout (λ B. IsNextOn is B old new scan next c.next.result)
+    (λ B. (seen : List Want) → IsOn scan.lo scan.hi B seen scan.place → NextItemBy is B seen old new scan next (Ok (item.Tree c.in-Some.root)))
     (λ B h seen on.
     let gives = subst (λ r. IsNextOn is B old new scan next r) (c.in-Ok-Some.is ∙ ap Ok c.in-Ok-Some.field-0-is) h seen on in
     (item_of c.in-Ok-Some.found, record { past = gives.past; is = gives.is; on = gives.on }, sym c.root_in.ensures ∙ c.in-Some.is))
@@ -29,7 +30,8 @@ returns-in-None-clause-content g c =
     let old = c.args.store.now in
     let new = c.next.follows.lender-at-none in
     let is = unread_by old.layout (g.R.Rack.seen c.args.rack.now) (g.R.Rack.seen c.next.new.rack) in
-    drawn old.layout (λ B. IsNextOn is B old new scan next c.next.result) (λ B. (seen : List Want) → IsOn scan.lo scan.hi B seen scan.place → NextItemBy is B seen old new scan next (Ok item.Other))
+    drawn old.layout (λ B. IsNextOn is B old new scan next c.next.result)
+    (λ B. (seen : List Want) → IsOn scan.lo scan.hi B seen scan.place → NextItemBy is B seen old new scan next (Ok item.Other))
     (λ B h seen on.
     let gives = subst (λ r. IsNextOn is B old new scan next r) (c.in-Ok-Some.is ∙ ap Ok c.in-Ok-Some.field-0-is) h seen on in
     (item_of c.in-Ok-Some.found, record { past = gives.past; is = gives.is; on = gives.on }, sym c.root_in.ensures ∙ c.in-None.is))

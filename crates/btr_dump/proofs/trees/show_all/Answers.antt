@@ -26,8 +26,10 @@ returns-in-Err-clause-content g c =
     let text' = g.O.Out.text c.show_tops.new.out in
     let waited = c.args.text.now in
     let waits = c.show_tops.new.text in
-    drawn layout (λ B. Writes {A = Unit {0}} is [] (exec B (top_trees s)) text text' waited waits (Err c.in-Err.stop)) (λ B. Writes {A = Unit {0}} is [] (exec B (all_trees s)) text text' waited waits (Err c.in-Err.stop))
-    (λ B w. first_stops B (top_trees s) (λ u. item_trees (kind_in s) (range first_key last_key (root_root s))) is text text' waited waits c.in-Err.stop w) c.in-Err.ensures.content
+    drawn layout (λ B. Writes {A = Unit {0}} is [] (exec B (top_trees s)) text text' waited waits (Err c.in-Err.stop))
+    (λ B. Writes {A = Unit {0}} is [] (exec B (all_trees s)) text text' waited waits (Err c.in-Err.stop))
+    (λ B w. first_stops B (top_trees s) (λ u. item_trees (kind_in s) (range first_key last_key (root_root s))) is text text' waited waits
+    c.in-Err.stop w) c.in-Err.ensures.content
 
 pub returns-clause-grows : goal.returns-clause-grows
 returns-clause-grows g c = grows_twice c.in-Ok.ensures.grows c.show_items-shown.ensures.grows
@@ -55,10 +57,13 @@ returns-clause-content g c =
     let kind = c.kind_in.result in
     let result = c.show_items-shown.result in
     joined (λ B. Writes {A = Unit {0}} early [] (exec B (top_trees s)) old text waited waiting (Ok tt))
-    (λ B. (seen : List Want) → IsOn scan.lo scan.hi B seen scan.place → Writes later seen (exec B (item_trees kind (left_of B store scan))) text new waiting waits result)
+    (λ B. (seen : List Want) → IsOn scan.lo scan.hi B seen scan.place
+    → Writes later seen (exec B (item_trees kind (left_of B store scan))) text new waiting waits result)
     (λ B. Writes is [] (exec B (all_trees s)) old new waited waits result) c.in-Ok.ensures.loans.layout
-    (λ B one two. second_then B (top_trees s) (λ u. item_trees (kind_in s) items) early is later (since layout mid c.in-Ok.ensures.loans.layout c.in-Ok.ensures.reads) old text new waited waiting waits result one
+    (λ B one two. second_then B (top_trees s) (λ u. item_trees (kind_in s) items) early is later
+    (since layout mid c.in-Ok.ensures.loans.layout c.in-Ok.ensures.reads) old text new waited waiting waits result one
     (subst (λ k. Writes later [] (exec B (item_trees k items)) text new waiting waits result) c.kind_in.ensures
-    (subst (λ p. Writes later [] (exec B (item_trees kind p)) text new waiting waits result) (c.new-scan.ensures.program B store ∙ ap (range first_key last_key) c.root_root.ensures)
+    (subst (λ p. Writes later [] (exec B (item_trees kind p)) text new waiting waits result)
+    (c.new-scan.ensures.program B store ∙ ap (range first_key last_key) c.root_root.ensures)
     (two [] (on_as first_key last_key scan.lo scan.hi B [] scan.place (sym c.new-scan.ensures.lo) (sym c.new-scan.ensures.hi) (c.new-scan.ensures.on B))))))
     c.in-Ok.ensures.content c.show_items-shown.ensures.content

@@ -21,8 +21,10 @@ invariant-loop-stop g l = record {
   hi : l.scan.hi ≡ l.fn.scan.hi;
   account : g.O.Out.account l.out ≡ g.O.Out.account l.fn.out;
   grows : Grows (g.O.Out.text l.fn.out) (g.O.Out.text l.out);
-  tells : Tells l.fn.store.layout (g.R.Rack.seen l.fn.rack) (g.R.Rack.seen l.rack) (λ B. (seen : List Want) → IsOn l.fn.scan.lo l.fn.scan.hi B seen l.fn.scan.place
-      → GoesOn (λ ws. IsOn l.fn.scan.lo l.fn.scan.hi B ws l.scan.place) (exec B (item_trees l.fn.kind (left_of B l.fn.store l.fn.scan))) (exec B (item_trees l.fn.kind (left_of B l.store l.scan))) seen (g.O.Out.text l.fn.out) (g.O.Out.text l.out) l.fn.text l.text);
+  tells : Tells l.fn.store.layout (g.R.Rack.seen l.fn.rack) (g.R.Rack.seen l.rack)
+      (λ B. (seen : List Want) → IsOn l.fn.scan.lo l.fn.scan.hi B seen l.fn.scan.place
+      → GoesOn (λ ws. IsOn l.fn.scan.lo l.fn.scan.hi B ws l.scan.place) (exec B (item_trees l.fn.kind (left_of B l.fn.store l.fn.scan)))
+      (exec B (item_trees l.fn.kind (left_of B l.store l.scan))) seen (g.O.Out.text l.fn.out) (g.O.Out.text l.out) l.fn.text l.text);
 }
 
 abbrev pub decreases-loop-stop : goal.decreases-loop-stop

@@ -34,7 +34,9 @@ returns-in-Err-clause-content g c =
     let text = g.O.Out.text c.args.out.now in
     let waits = c.args.text.now in
     drawn old.layout (λ B. (seen : List Want) → IsOn scan.lo scan.hi B seen scan.place → NextItemBy is B seen old new scan next (Err c.in-Err.fault))
-    (λ B. (seen : List Want) → IsOn scan.lo scan.hi B seen scan.place → Turns is (λ ws. IsOn scan.lo scan.hi B ws next.place) (exec B (item_trees kind (left_of B old scan))) (exec B (item_trees kind (left_of B new next))) seen text text waits waits (Err (Tree c.in-Err.fault)))
+    (λ B. (seen : List Want) → IsOn scan.lo scan.hi B seen scan.place
+    → Turns is (λ ws. IsOn scan.lo scan.hi B ws next.place) (exec B (item_trees kind (left_of B old scan)))
+    (exec B (item_trees kind (left_of B new next))) seen text text waits waits (Err (Tree c.in-Err.fault)))
     (λ B h seen on. turn_halts (λ i. tree_if kind (item_root i)) B is seen (left_of B old scan) text waits c.in-Err.fault (h seen on)) c.in-Err.ensures.content
 
 pub returns-in-Ok-End-clause-content : goal.returns-in-Ok-End-clause-content
@@ -48,8 +50,11 @@ returns-in-Ok-End-clause-content g c =
     let text = g.O.Out.text c.args.out.now in
     let waits = c.args.text.now in
     drawn old.layout (λ B. (seen : List Want) → IsOn scan.lo scan.hi B seen scan.place → NextItemBy is B seen old new scan next (Ok c.in-Ok-End.field-0))
-    (λ B. (seen : List Want) → IsOn scan.lo scan.hi B seen scan.place → Turns is (λ ws. IsOn scan.lo scan.hi B ws next.place) (exec B (item_trees kind (left_of B old scan))) (exec B (item_trees kind (left_of B new next))) seen text text waits waits (Ok false))
-    (λ B h seen on. turn_ends (λ i. tree_if kind (item_root i)) B is seen (left_of B old scan) text waits (subst (λ r. NextItemBy is B seen old new scan next (Ok r)) c.in-Ok-End.field-0-is (h seen on))) c.in-Ok-End.ensures.content
+    (λ B. (seen : List Want) → IsOn scan.lo scan.hi B seen scan.place
+    → Turns is (λ ws. IsOn scan.lo scan.hi B ws next.place) (exec B (item_trees kind (left_of B old scan)))
+    (exec B (item_trees kind (left_of B new next))) seen text text waits waits (Ok false))
+    (λ B h seen on. turn_ends (λ i. tree_if kind (item_root i)) B is seen (left_of B old scan) text waits
+    (subst (λ r. NextItemBy is B seen old new scan next (Ok r)) c.in-Ok-End.field-0-is (h seen on))) c.in-Ok-End.ensures.content
 
 pub returns-in-Ok-Other-clause-content : goal.returns-in-Ok-Other-clause-content
 returns-in-Ok-Other-clause-content g c =
@@ -62,7 +67,9 @@ returns-in-Ok-Other-clause-content g c =
     let text = g.O.Out.text c.args.out.now in
     let waits = c.args.text.now in
     drawn old.layout (λ B. (seen : List Want) → IsOn scan.lo scan.hi B seen scan.place → NextItemBy is B seen old new scan next (Ok c.in-Ok-Other.field-0))
-    (λ B. (seen : List Want) → IsOn scan.lo scan.hi B seen scan.place → Turns is (λ ws. IsOn scan.lo scan.hi B ws next.place) (exec B (item_trees kind (left_of B old scan))) (exec B (item_trees kind (left_of B new next))) seen text text waits waits (Ok true))
+    (λ B. (seen : List Want) → IsOn scan.lo scan.hi B seen scan.place
+    → Turns is (λ ws. IsOn scan.lo scan.hi B ws next.place) (exec B (item_trees kind (left_of B old scan)))
+    (exec B (item_trees kind (left_of B new next))) seen text text waits waits (Ok true))
     (λ B h seen on.
     let given = subst (λ r. NextItemBy is B seen old new scan next (Ok r)) c.in-Ok-Other.field-0-is (h seen on) in
     other_goes is B kind seen old new scan next given.0 given.1 text waits given.2) c.in-Ok-Other.ensures.content
@@ -70,7 +77,8 @@ returns-in-Ok-Other-clause-content g c =
 pub returns-in-Err-show_tree-clause-cause : goal.returns-in-Err-show_tree-clause-cause
 returns-in-Err-show_tree-clause-cause g c =
     let next = c.in-Ok-Tree.ensures in
-    stop_cause_since (Unit {0}) Bool (g.R.Rack.seen c.show_tree.new.rack) c.args.store.now.layout c.next_item.new.store.layout c.in-Err-show_tree.stop (same_layout c.args.store.now c.next_item.new.store _ _ next.others) next.reads c.in-Err-show_tree.ensures.cause
+    stop_cause_since (Unit {0}) Bool (g.R.Rack.seen c.show_tree.new.rack) c.args.store.now.layout c.next_item.new.store.layout c.in-Err-show_tree.stop
+    (same_layout c.args.store.now c.next_item.new.store _ _ next.others) next.reads c.in-Err-show_tree.ensures.cause
 
 pub returns-in-Err-show_tree-clause-content : goal.returns-in-Err-show_tree-clause-content
 returns-in-Err-show_tree-clause-content g c =
@@ -91,13 +99,16 @@ returns-in-Err-show_tree-clause-content g c =
     let text' = g.O.Out.text c.show_tree.new.out in
     let waited = c.args.text.now in
     let waits = c.show_tree.new.text in
-    joined (λ B. (seen : List Want) → IsOn scan.lo scan.hi B seen scan.place → NextItemBy (unread_by old.layout before between) B seen old mid scan next (Ok c.in-Ok-Tree.field-0))
+    joined (λ B. (seen : List Want) → IsOn scan.lo scan.hi B seen scan.place
+    → NextItemBy (unread_by old.layout before between) B seen old mid scan next (Ok c.in-Ok-Tree.field-0))
     (λ B. Writes {A = Unit {0}} later [] (exec B (tree_shown kind root)) text text' waited waits (Err stop))
-    (λ B. (seen : List Want) → IsOn scan.lo scan.hi B seen scan.place → Writes {A = Unit {0}} is seen (exec B (item_trees kind (left_of B old scan))) text text' waited waits (Err stop)) same
+    (λ B. (seen : List Want) → IsOn scan.lo scan.hi B seen scan.place
+    → Writes {A = Unit {0}} is seen (exec B (item_trees kind (left_of B old scan))) text text' waited waits (Err stop)) same
     (λ B h w seen on.
     let given = subst (λ r. NextItemBy (unread_by old.layout before between) B seen old mid scan next (Ok r)) c.in-Ok-Tree.field-0-is (h seen on) in
     tree_stops is B kind seen old mid scan next given.0 given.1 root given.2 text text' waited waits stop
-    (writes_behind is later (since old.layout mid.layout same c.in-Ok-Tree.ensures.reads) (seen ++ given.1.past) (exec B (tree_shown kind root)) text text' waited waits (Err stop) w))
+    (writes_behind is later (since old.layout mid.layout same c.in-Ok-Tree.ensures.reads) (seen ++ given.1.past) (exec B (tree_shown kind root)) text
+    text' waited waits (Err stop) w))
     c.in-Ok-Tree.ensures.content c.in-Err-show_tree.ensures.content
 
 pub returns-in-Ok-clause-content : goal.returns-in-Ok-clause-content
@@ -119,11 +130,15 @@ returns-in-Ok-clause-content g c =
     let text' = g.O.Out.text c.show_tree.new.out in
     let waited = c.args.text.now in
     let waits = c.show_tree.new.text in
-    joined (λ B. (seen : List Want) → IsOn scan.lo scan.hi B seen scan.place → NextItemBy (unread_by old.layout before between) B seen old mid scan next (Ok c.in-Ok-Tree.field-0))
+    joined (λ B. (seen : List Want) → IsOn scan.lo scan.hi B seen scan.place
+    → NextItemBy (unread_by old.layout before between) B seen old mid scan next (Ok c.in-Ok-Tree.field-0))
     (λ B. Writes {A = Unit {0}} later [] (exec B (tree_shown kind root)) text text' waited waits (Ok tt))
-    (λ B. (seen : List Want) → IsOn scan.lo scan.hi B seen scan.place → GoesOn (λ ws. IsOn scan.lo scan.hi B ws next.place) (exec B (item_trees kind (left_of B old scan))) (exec B (item_trees kind (left_of B new next))) seen text text' waited waits) same
+    (λ B. (seen : List Want) → IsOn scan.lo scan.hi B seen scan.place
+    → GoesOn (λ ws. IsOn scan.lo scan.hi B ws next.place) (exec B (item_trees kind (left_of B old scan)))
+    (exec B (item_trees kind (left_of B new next))) seen text text' waited waits) same
     (λ B h w seen on.
     let given = subst (λ r. NextItemBy (unread_by old.layout before between) B seen old mid scan next (Ok r)) c.in-Ok-Tree.field-0-is (h seen on) in
     tree_goes is B kind seen old mid scan next given.0 given.1 root given.2 new c.in-Ok.ensures.loans text text' waited waits
-    (writes_behind is later (since old.layout mid.layout same c.in-Ok-Tree.ensures.reads) (seen ++ given.1.past) (exec B (tree_shown kind root)) text text' waited waits (Ok tt) w))
+    (writes_behind is later (since old.layout mid.layout same c.in-Ok-Tree.ensures.reads) (seen ++ given.1.past) (exec B (tree_shown kind root)) text
+    text' waited waits (Ok tt) w))
     c.in-Ok-Tree.ensures.content c.in-Ok.ensures.content

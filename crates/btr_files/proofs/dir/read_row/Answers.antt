@@ -42,11 +42,14 @@ returns-in-Ok-Some-clause-content g c =
     let scan' = c.next.new.scan in
     let onwards = λ (r : Result (Option Found) TreeFault) (B : Map). IsNextOn is B old new scan scan' r in
     drawn old.layout (onwards c.next.result) (λ B. IsNextRow is B old new scan scan' c.row_found.new.name c.row_found.result)
-    (λ B h. next_some B is old new scan scan' c.in-Ok-Some.found c.row_found.new.name c.row_found.result c.row_found.ensures.row (subst (λ r. onwards r B) (c.in-Ok-Some.is ∙ ap Ok c.in-Ok-Some.field-0-is) h))
+    (λ B h. next_some B is old new scan scan' c.in-Ok-Some.found c.row_found.new.name c.row_found.result c.row_found.ensures.row
+    (subst (λ r. onwards r B) (c.in-Ok-Some.is ∙ ap Ok c.in-Ok-Some.field-0-is) h))
     c.next.follows.holds-at-none.content
 
 pub returns-in-Ok-Some-clause-nears : goal.returns-in-Ok-Some-clause-nears
-returns-in-Ok-Some-clause-nears g c = row_nears c.args.scan.now c.next.new.scan c.row_found.result (subst (NextNears c.args.scan.now c.next.new.scan) (c.in-Ok-Some.is ∙ ap Ok c.in-Ok-Some.field-0-is) c.next.ensures.nears)
+returns-in-Ok-Some-clause-nears g c = row_nears c.args.scan.now c.next.new.scan c.row_found.result
+    (subst (NextNears c.args.scan.now c.next.new.scan) (c.in-Ok-Some.is ∙ ap Ok c.in-Ok-Some.field-0-is) c.next.ensures.nears)
 
 pub returns-in-Ok-Some-clause-cause : goal.returns-in-Ok-Some-clause-cause
-returns-in-Ok-Some-clause-cause g c = row_cause c.args.store.now.layout (g.R.Rack.seen c.args.rack.now) (g.R.Rack.seen c.next.new.rack) (item_of c.in-Ok-Some.found) c.row_found.new.name c.row_found.result c.row_found.ensures.row
+returns-in-Ok-Some-clause-cause g c = row_cause c.args.store.now.layout (g.R.Rack.seen c.args.rack.now) (g.R.Rack.seen c.next.new.rack)
+    (item_of c.in-Ok-Some.found) c.row_found.new.name c.row_found.result c.row_found.ensures.row

@@ -15,4 +15,5 @@ returns-in-Ok-clause-row c =
     subst (λ r. IsRowBy (item_of c.args.found.now) c.set.new.self r (Ok (Some row))) c.in-Ok.ensures.form (ap (λ n. record { row = row; name = n }) (c.set.ensures ∙ c.name.ensures))
 
 pub returns-in-Err-clause-row : goal.returns-in-Err-clause-row
-returns-in-Err-clause-row c = subst (λ r. IsRowBy (item_of c.args.found.now) c.args.name.now r (Err (Malformed c.args.found.now.block))) c.in-Err.ensures.form refl
+returns-in-Err-clause-row c = subst (λ r. IsRowBy (item_of c.args.found.now) c.args.name.now r (Err (Malformed c.args.found.now.block)))
+    c.in-Err.ensures.form refl

@@ -22,7 +22,8 @@ loop-fault-init g c = record {
   lo = refl;
   hi = refl;
   later = omega arith;
-  tells = unread_on c.args.store.now.layout (λ B. Gone c.args.source.now B c.args.store.now c.args.scan.now c.args.end c.args.store.now c.args.scan.now c.args.end)
+  tells = unread_on c.args.store.now.layout (λ B. Gone c.args.source.now B c.args.store.now c.args.scan.now c.args.end c.args.store.now
+      c.args.scan.now c.args.end)
       (λ B. gone_none c.args.source.now B c.args.store.now c.args.scan.now c.args.end);
 }
 
@@ -39,7 +40,8 @@ returns-in-Err-clause-content g c =
     joined (λ B. Gone source B first scan c.args.end f.store f.scan f.end)
     (λ B. IsNextExtent source was B f.store new f.scan scan' f.end (Err c.in-Err.fault))
     (λ B. IsNextExtent source is B first new scan scan' c.args.end (Err c.in-Err.fault)) f.invariant.layout
-    (λ B l t. gone_err source B first scan c.args.end was is f.store f.scan f.end f.invariant.lo f.invariant.hi l new scan' c.in-Err.fault (since _ _ f.invariant.layout f.invariant.reads) t)
+    (λ B l t. gone_err source B first scan c.args.end was is f.store f.scan f.end f.invariant.lo f.invariant.hi l new scan' c.in-Err.fault
+    (since _ _ f.invariant.layout f.invariant.reads) t)
     f.invariant.tells c.in-Err.ensures.content
 
 pub returns-in-Ok-None-clause-content : goal.returns-in-Ok-None-clause-content
@@ -55,7 +57,8 @@ returns-in-Ok-None-clause-content g c =
     joined (λ B. Gone source B first scan c.args.end f.store f.scan f.end)
     (λ B. IsNextExtent source was B f.store new f.scan scan' f.end (Ok c.in-Ok-None.field-0))
     (λ B. IsNextExtent source is B first new scan scan' c.args.end (Ok None)) f.invariant.layout
-    (λ B l t. gone_end source B first scan c.args.end was is f.store f.scan f.end f.invariant.lo f.invariant.hi l new scan' (subst (λ (o : Option Ahead). IsNextExtent source was B f.store new f.scan scan' f.end (Ok o)) c.in-Ok-None.field-0-is t))
+    (λ B l t. gone_end source B first scan c.args.end was is f.store f.scan f.end f.invariant.lo f.invariant.hi l new scan'
+    (subst (λ (o : Option Ahead). IsNextExtent source was B f.store new f.scan scan' f.end (Ok o)) c.in-Ok-None.field-0-is t))
     f.invariant.tells c.in-Ok-None.ensures.content
 
 pub loop-fault-preserved : goal.loop-fault-preserved
@@ -84,7 +87,8 @@ loop-fault-preserved g c =
       tells = joined (λ B. Gone source B first scan c.args.end f.store f.scan f.end)
           (λ B. IsNextExtent source was B f.store new f.scan scan' f.end (Ok c.in-Ok-Some.field-0))
           (λ B. Gone source B first scan c.args.end new scan' ahead.end) f.invariant.layout
-          (λ B l t. gone_more source B first scan c.args.end was is f.store f.scan f.end f.invariant.lo f.invariant.hi l new scan' ahead c.in-Next.is (subst (λ (o : Option Ahead). IsNextExtent source was B f.store new f.scan scan' f.end (Ok o)) c.in-Ok-Some.field-0-is t))
+          (λ B l t. gone_more source B first scan c.args.end was is f.store f.scan f.end f.invariant.lo f.invariant.hi l new scan' ahead c.in-Next.is
+          (subst (λ (o : Option Ahead). IsNextExtent source was B f.store new f.scan scan' f.end (Ok o)) c.in-Ok-Some.field-0-is t))
           f.invariant.tells s.content;
     }
 
@@ -107,12 +111,14 @@ returns-in_default g c =
       lo = s.lo ∙ f.invariant.lo;
       hi = s.hi ∙ f.invariant.hi;
       kept = subst (λ (o : Option Ahead). KeepsItem (Ok o) scan'.leaf) c.in-Ok-Some.field-0-is s.kept;
-      fits = fits_lower source.size f.end c.args.end ahead.end ahead.todo f.invariant.later (subst (λ (o : Option Ahead). FitsAhead source.size f.end (Ok o)) c.in-Ok-Some.field-0-is s.fits);
+      fits = fits_lower source.size f.end c.args.end ahead.end ahead.todo f.invariant.later
+          (subst (λ (o : Option Ahead). FitsAhead source.size f.end (Ok o)) c.in-Ok-Some.field-0-is s.fits);
       found = c.in_default.not-Next;
       cause = tt;
       content = joined (λ B. Gone source B first scan c.args.end f.store f.scan f.end)
           (λ B. IsNextExtent source was B f.store new f.scan scan' f.end (Ok c.in-Ok-Some.field-0))
           (λ B. IsNextExtent source is B first new scan scan' c.args.end (Ok (Some ahead))) f.invariant.layout
-          (λ B l t. gone_some source B first scan c.args.end was is f.store f.scan f.end f.invariant.lo f.invariant.hi l new scan' ahead (subst (λ (o : Option Ahead). IsNextExtent source was B f.store new f.scan scan' f.end (Ok o)) c.in-Ok-Some.field-0-is t))
+          (λ B l t. gone_some source B first scan c.args.end was is f.store f.scan f.end f.invariant.lo f.invariant.hi l new scan' ahead
+          (subst (λ (o : Option Ahead). IsNextExtent source was B f.store new f.scan scan' f.end (Ok o)) c.in-Ok-Some.field-0-is t))
           f.invariant.tells s.content;
     }

@@ -48,11 +48,13 @@ returns-in-Err-ahead_of-clause-content g c =
     let scan' = c.next.new.scan in
     let onwards = λ (r : Result (Option Found) TreeFault) (B : Map). IsNextOn is B old new scan scan' r in
     drawn old.layout (onwards c.next.result) (λ B. IsNextExtent c.args.source.now is B old new scan scan' c.args.end (Err c.in-Err-ahead_of.fault))
-    (λ B h. extent_fault c.args.source.now is B old new scan scan' c.args.end c.in-Ok-Some.found c.in-Err-ahead_of.fault (sym c.ahead_of.ensures ∙ c.in-Err-ahead_of.is) (subst (λ r. onwards r B) (c.in-Ok-Some.is ∙ ap Ok c.in-Ok-Some.field-0-is) h))
+    (λ B h. extent_fault c.args.source.now is B old new scan scan' c.args.end c.in-Ok-Some.found c.in-Err-ahead_of.fault
+    (sym c.ahead_of.ensures ∙ c.in-Err-ahead_of.is) (subst (λ r. onwards r B) (c.in-Ok-Some.is ∙ ap Ok c.in-Ok-Some.field-0-is) h))
     c.next.follows.holds-at-none.content
 
 pub returns-in-Ok-clause-fits : goal.returns-in-Ok-clause-fits
-returns-in-Ok-clause-fits g c = (found_good c.args.source.now.size c.args.end (item_of c.in-Ok-Some.found) c.in-Ok.ahead (sym c.ahead_of.ensures ∙ c.in-Ok.is)).0
+returns-in-Ok-clause-fits g c = (found_good c.args.source.now.size c.args.end (item_of c.in-Ok-Some.found) c.in-Ok.ahead
+    (sym c.ahead_of.ensures ∙ c.in-Ok.is)).0
 
 pub returns-in-Ok-clause-content : goal.returns-in-Ok-clause-content
 returns-in-Ok-clause-content g c =
@@ -63,5 +65,6 @@ returns-in-Ok-clause-content g c =
     let scan' = c.next.new.scan in
     let onwards = λ (r : Result (Option Found) TreeFault) (B : Map). IsNextOn is B old new scan scan' r in
     drawn old.layout (onwards c.next.result) (λ B. IsNextExtent c.args.source.now is B old new scan scan' c.args.end (Ok (Some c.in-Ok.ahead)))
-    (λ B h. extent_some c.args.source.now is B old new scan scan' c.args.end c.in-Ok-Some.found c.in-Ok.ahead (sym c.ahead_of.ensures ∙ c.in-Ok.is) (subst (λ r. onwards r B) (c.in-Ok-Some.is ∙ ap Ok c.in-Ok-Some.field-0-is) h))
+    (λ B h. extent_some c.args.source.now is B old new scan scan' c.args.end c.in-Ok-Some.found c.in-Ok.ahead (sym c.ahead_of.ensures ∙ c.in-Ok.is)
+    (subst (λ r. onwards r B) (c.in-Ok-Some.is ∙ ap Ok c.in-Ok-Some.field-0-is) h))
     c.next.follows.holds-at-none.content

@@ -13,6 +13,8 @@ loop-part-preserved c =
     record {
       next = tt;
       finite = tt;
-      names = all_rest wanted (λ read. IfOk read (λ found. HasName c.args.body.now found.name_at found.name_len)) c.loop-part.parts c.next.new.self c.in-Some.part c.in-Some.ensures.steps c.loop-part.invariant.names;
-      same = part_more wanted (ext_link c.args.body.now) seen c.with-met.result c.loop-part.parts c.next.new.self c.in-Some.part c.in-Ok.part c.in-Some.ensures.steps c.in-Ok.is (c.with-met.ensures ∙ ap (met_more seen) c.is.ensures ∙ named) ∙ c.loop-part.invariant.same;
+      names = all_rest wanted (λ read. IfOk read (λ found. HasName c.args.body.now found.name_at found.name_len)) c.loop-part.parts c.next.new.self
+          c.in-Some.part c.in-Some.ensures.steps c.loop-part.invariant.names;
+      same = part_more wanted (ext_link c.args.body.now) seen c.with-met.result c.loop-part.parts c.next.new.self c.in-Some.part c.in-Ok.part
+          c.in-Some.ensures.steps c.in-Ok.is (c.with-met.ensures ∙ ap (met_more seen) c.is.ensures ∙ named) ∙ c.loop-part.invariant.same;
     }

@@ -13,10 +13,12 @@ pub returns-then-key-eq-INODE_REF : goal.returns-then-key-eq-INODE_REF
 returns-then-key-eq-INODE_REF c =
     let wanted = link_in c.args.wanted.now in
     let body = c.args.body.now in
-    c.with_refs.ensures ∙ names_are wanted (inode_link c.args.key.offset body) c.args.met body (inode_refs_of body) (sym c.is_empty.ensures ∙ c.if-is_empty.false) ∙ by_refs wanted c.args.met c.args.key body c.if-key-eq-INODE_REF.true
+    c.with_refs.ensures ∙ names_are wanted (inode_link c.args.key.offset body) c.args.met body (inode_refs_of body)
+    (sym c.is_empty.ensures ∙ c.if-is_empty.false) ∙ by_refs wanted c.args.met c.args.key body c.if-key-eq-INODE_REF.true
 
 pub returns-else-key-eq-INODE_REF : goal.returns-else-key-eq-INODE_REF
 returns-else-key-eq-INODE_REF c =
     let wanted = link_in c.args.wanted.now in
     let body = c.args.body.now in
-    c.with_ext_refs.ensures ∙ names_are wanted (ext_link body) c.args.met body (ext_refs_of body) (sym c.is_empty.ensures ∙ c.if-is_empty.false) ∙ by_exts wanted c.args.met c.args.key body c.if-key-eq-INODE_REF.false
+    c.with_ext_refs.ensures ∙ names_are wanted (ext_link body) c.args.met body (ext_refs_of body) (sym c.is_empty.ensures ∙ c.if-is_empty.false)
+    ∙ by_exts wanted c.args.met c.args.key body c.if-key-eq-INODE_REF.false

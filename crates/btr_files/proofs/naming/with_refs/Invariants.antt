@@ -9,5 +9,6 @@ invariant-loop-part l = record {
   next : (goal.iterator-loop-part).can_next l.parts;
   finite : (goal.iterator-loop-part).is_finite l.parts;
   names : All (λ read. IfOk read (λ found. HasName l.body found.name_at found.name_len)) l.parts;
-  same : parts_met (link_in l.wanted) (inode_link l.parent l.body) l.met l.parts ≡ parts_met (link_in l.wanted) (inode_link l.parent l.body) l.initial.met l.initial.parts;
+  same : parts_met (link_in l.wanted) (inode_link l.parent l.body) l.met l.parts
+      ≡ parts_met (link_in l.wanted) (inode_link l.parent l.body) l.initial.met l.initial.parts;
 }

@@ -14,12 +14,15 @@ returns-in_err-fetch-clause-content g c =
     let old = g.R.Rack.seen c.args.rack.now in
     let new = g.R.Rack.seen c.fetch.new.rack in
     let fault = c.in_err-fetch.field-0.0 in
-    by_fault (λ r. TellsAll layout old new (λ Bs. SectorComes (unread_by layout old new) Bs want c.fetch.new.store r)) c.from_residual.result fault c.from_residual.ensures.1
-    (sector_failed layout want old new c.fetch.ensures.reads c.fetch.new.store fault (subst (FitsFetch layout want old new c.fetch.new.store) (c.in_err-fetch.was {u = tt}) c.fetch.ensures.answer))
+    by_fault (λ r. TellsAll layout old new (λ Bs. SectorComes (unread_by layout old new) Bs want c.fetch.new.store r)) c.from_residual.result fault
+    c.from_residual.ensures.1
+    (sector_failed layout want old new c.fetch.ensures.reads c.fetch.new.store fault
+    (subst (FitsFetch layout want old new c.fetch.new.store) (c.in_err-fetch.was {u = tt}) c.fetch.ensures.answer))
 
 pub returns-clause-lent : goal.returns-clause-lent
 returns-clause-lent g c = sector_lent c.args.store.now c.fetch.new.store c.args.want.now c.in_ok-fetch.field-0 c.requires.sector c.in_ok-fetch.ensures.lent
 
 pub returns-clause-content : goal.returns-clause-content
 returns-clause-content g c =
-    sector_came c.args.store.now.layout c.args.want.now (g.R.Rack.seen c.args.rack.now) (g.R.Rack.seen c.fetch.new.rack) c.in_ok-fetch.ensures.reads c.fetch.new.store c.in_ok-fetch.field-0 c.requires.sector c.in_ok-fetch.ensures.answer
+    sector_came c.args.store.now.layout c.args.want.now (g.R.Rack.seen c.args.rack.now) (g.R.Rack.seen c.fetch.new.rack) c.in_ok-fetch.ensures.reads
+    c.fetch.new.store c.in_ok-fetch.field-0 c.requires.sector c.in_ok-fetch.ensures.answer

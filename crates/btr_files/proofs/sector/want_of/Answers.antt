@@ -14,11 +14,13 @@ returns-in-Some-clause-content g c =
     let kept = c.get.ensures.found c.in-Some.sum c.in-Some.is in
     let layout = c.args.vol.now.store.layout in
     let a = g.R.Rack.seen c.args.rack.now in
-    want_kept layout (kind_in c.args.vol.now.sup) c.args.source.now.sums c.args.source.now.nosum c.args.addr c.args.ahead.now c.in-Some.sum c.if-source.false (kept.0 ∙ c.kind_of.ensures) kept.1 (unread_by layout a a)
+    want_kept layout (kind_in c.args.vol.now.sup) c.args.source.now.sums c.args.source.now.nosum c.args.addr c.args.ahead.now c.in-Some.sum
+    c.if-source.false (kept.0 ∙ c.kind_of.ensures) kept.1 (unread_by layout a a)
 
 pub returns-in-Err-clause-ahead : goal.returns-in-Err-clause-ahead
 returns-in-Err-clause-ahead g c =
-    subst (λ (s : Option TreeRoot). Tells c.args.vol.now.store.layout (g.R.Rack.seen c.args.rack.now) (g.R.Rack.seen c.sum_ahead.new.rack) (λ B. IsSummed B s c.args.ahead.now → IsSummed B s c.sum_ahead.new.ahead))
+    subst (λ (s : Option TreeRoot). Tells c.args.vol.now.store.layout (g.R.Rack.seen c.args.rack.now) (g.R.Rack.seen c.sum_ahead.new.rack)
+    (λ B. IsSummed B s c.args.ahead.now → IsSummed B s c.sum_ahead.new.ahead))
     (copied_is c.as_ref.result ∙ c.as_ref.ensures.value) c.sum_ahead.ensures.ahead
 
 pub returns-in-Err-clause-content : goal.returns-in-Err-clause-content
@@ -28,11 +30,13 @@ returns-in-Err-clause-content g c =
     let source = c.args.source.now in
     want_looked layout (sector_want kind source.sums source.nosum c.args.addr) (Err c.in-Err.fault) source.sums c.args.ahead.now
     (want_summed layout (g.R.Rack.seen c.args.rack.now) (g.R.Rack.seen c.sum_ahead.new.rack) kind source.sums source.nosum c.args.addr
-    c.as_ref.result c.sum_ahead.result (Err c.in-Err.fault) c.if-source.false c.as_ref.ensures.value (sym (ap (want_with c.args.addr) c.in-Err.is)) c.sum_ahead.ensures.content)
+    c.as_ref.result c.sum_ahead.result (Err c.in-Err.fault) c.if-source.false c.as_ref.ensures.value (sym (ap (want_with c.args.addr) c.in-Err.is))
+    c.sum_ahead.ensures.content)
 
 pub returns-in-Ok-None-clause-ahead : goal.returns-in-Ok-None-clause-ahead
 returns-in-Ok-None-clause-ahead g c =
-    subst (λ (s : Option TreeRoot). Tells c.args.vol.now.store.layout (g.R.Rack.seen c.args.rack.now) (g.R.Rack.seen c.sum_ahead.new.rack) (λ B. IsSummed B s c.args.ahead.now → IsSummed B s c.sum_ahead.new.ahead))
+    subst (λ (s : Option TreeRoot). Tells c.args.vol.now.store.layout (g.R.Rack.seen c.args.rack.now) (g.R.Rack.seen c.sum_ahead.new.rack)
+    (λ B. IsSummed B s c.args.ahead.now → IsSummed B s c.sum_ahead.new.ahead))
     (copied_is c.as_ref.result ∙ c.as_ref.ensures.value) c.sum_ahead.ensures.ahead
 
 pub returns-in-Ok-None-clause-content : goal.returns-in-Ok-None-clause-content
@@ -42,11 +46,13 @@ returns-in-Ok-None-clause-content g c =
     let source = c.args.source.now in
     want_looked layout (sector_want kind source.sums source.nosum c.args.addr) (Ok (Plain c.args.addr)) source.sums c.args.ahead.now
     (want_summed layout (g.R.Rack.seen c.args.rack.now) (g.R.Rack.seen c.sum_ahead.new.rack) kind source.sums source.nosum c.args.addr
-    c.as_ref.result c.sum_ahead.result (Ok (Plain c.args.addr)) c.if-source.false c.as_ref.ensures.value (sym (ap (want_with c.args.addr) (c.in-Ok-None.is ∙ ap Ok c.in-Ok-None.field-0-is))) c.sum_ahead.ensures.content)
+    c.as_ref.result c.sum_ahead.result (Ok (Plain c.args.addr)) c.if-source.false c.as_ref.ensures.value
+    (sym (ap (want_with c.args.addr) (c.in-Ok-None.is ∙ ap Ok c.in-Ok-None.field-0-is))) c.sum_ahead.ensures.content)
 
 pub returns-in-Ok-Some-clause-ahead : goal.returns-in-Ok-Some-clause-ahead
 returns-in-Ok-Some-clause-ahead g c =
-    subst (λ (s : Option TreeRoot). Tells c.args.vol.now.store.layout (g.R.Rack.seen c.args.rack.now) (g.R.Rack.seen c.sum_ahead.new.rack) (λ B. IsSummed B s c.args.ahead.now → IsSummed B s c.sum_ahead.new.ahead))
+    subst (λ (s : Option TreeRoot). Tells c.args.vol.now.store.layout (g.R.Rack.seen c.args.rack.now) (g.R.Rack.seen c.sum_ahead.new.rack)
+    (λ B. IsSummed B s c.args.ahead.now → IsSummed B s c.sum_ahead.new.ahead))
     (copied_is c.as_ref.result ∙ c.as_ref.ensures.value) c.sum_ahead.ensures.ahead
 
 pub returns-in-Ok-Some-clause-content : goal.returns-in-Ok-Some-clause-content
@@ -56,4 +62,5 @@ returns-in-Ok-Some-clause-content g c =
     let source = c.args.source.now in
     want_looked layout (sector_want kind source.sums source.nosum c.args.addr) (Ok (Sector c.args.addr c.in-Ok-Some.sum)) source.sums c.args.ahead.now
     (want_summed layout (g.R.Rack.seen c.args.rack.now) (g.R.Rack.seen c.sum_ahead.new.rack) kind source.sums source.nosum c.args.addr
-    c.as_ref.result c.sum_ahead.result (Ok (Sector c.args.addr c.in-Ok-Some.sum)) c.if-source.false c.as_ref.ensures.value (sym (ap (want_with c.args.addr) (c.in-Ok-Some.is ∙ ap Ok c.in-Ok-Some.field-0-is))) c.sum_ahead.ensures.content)
+    c.as_ref.result c.sum_ahead.result (Ok (Sector c.args.addr c.in-Ok-Some.sum)) c.if-source.false c.as_ref.ensures.value
+    (sym (ap (want_with c.args.addr) (c.in-Ok-Some.is ∙ ap Ok c.in-Ok-Some.field-0-is))) c.sum_ahead.ensures.content)

@@ -17,7 +17,8 @@ returns-then-zeros-gt0-clause-content g c =
     let a = g.R.Rack.seen c.args.rack.now in
     let is = unread_by store.layout a a in
     let zeros = c.zeros_at-zeros.result in
-    all_unread store.layout (λ Bs. NextWithSums kind source is Bs p (behind_zeros p zeros) store c.args.ahead.now c.args.ahead.now (Ok (Some (shown.Gap zeros))))
+    all_unread store.layout (λ Bs. NextWithSums kind source is Bs p (behind_zeros p zeros) store c.args.ahead.now c.args.ahead.now
+    (Ok (Some (shown.Gap zeros))))
     (λ Bs summed. (zeros_given kind source Bs p zeros c.if-zeros-gt0.true is store c.zeros_at-zeros.ensures, summed))
 
 pub returns-in-Over-clause-content : goal.returns-in-Over-clause-content

@@ -30,11 +30,13 @@ returns-in_err-loan-clause-content g c =
     let fault = c.in_err-loan.field-0.0 in
     passed_on (λ r. TellsAll layout a b (λ Bs. IsGiven kind source is Bs p p new r)) c.from_residual.result fault c.from_residual.ensures.1
     (all_of_one layout (λ B. IsMetAgain is B p.rest new c.met_again.result) (λ Bs. IsGiven kind source is Bs p p new (Err fault))
-    (λ Bs h. inline_err kind source Bs p is c.args.part.now c.requires.todo p new new fault (subst (λ (r : Result MetAgain TreeFault). IsMetAgain is (Bs 0) p.rest new r) (c.in_err-loan.was {u = tt}) h))
+    (λ Bs h. inline_err kind source Bs p is c.args.part.now c.requires.todo p new new fault
+    (subst (λ (r : Result MetAgain TreeFault). IsMetAgain is (Bs 0) p.rest new r) (c.in_err-loan.was {u = tt}) h))
     c.met_again.ensures.content)
 
 pub returns-then-not-has_inline-clause-serves : goal.returns-then-not-has_inline-clause-serves
-returns-then-not-has_inline-clause-serves g c = served_back (g.R.Rack.seen c.met_again.new.rack) c.met_again.new.store c.give.new.self c.in_ok-loan.field-0.loan c.met_again.ensures.serves c.give.ensures
+returns-then-not-has_inline-clause-serves g c = served_back (g.R.Rack.seen c.met_again.new.rack) c.met_again.new.store c.give.new.self
+    c.in_ok-loan.field-0.loan c.met_again.ensures.serves c.give.ensures
 
 pub returns-then-not-has_inline-clause-content : goal.returns-then-not-has_inline-clause-content
 returns-then-not-has_inline-clause-content g c =
@@ -47,7 +49,8 @@ returns-then-not-has_inline-clause-content g c =
     let b = g.R.Rack.seen c.met_again.new.rack in
     let is = unread_by layout a b in
     let m = c.in_ok-loan.field-0 in
-    all_of_one layout (λ B. IsMetAgain is B p.rest new c.met_again.result) (λ Bs. IsGiven kind source is Bs p p c.give.new.self (Err (Malformed c.args.part.now.leaf)))
+    all_of_one layout (λ B. IsMetAgain is B p.rest new c.met_again.result)
+    (λ Bs. IsGiven kind source is Bs p p c.give.new.self (Err (Malformed c.args.part.now.leaf)))
     (λ Bs h. inline_other kind source Bs p is c.args.part.now c.requires.todo new m.loan m.at c.bytes.result.now c.bytes.ensures.value
     (subst (λ (r : Result MetAgain TreeFault). IsMetAgain is (Bs 0) p.rest new r) (c.in_ok-loan.was {u = tt}) h)
     p c.give.new.self (Malformed c.args.part.now.leaf) (λ e. let no : false ≡ true = sym c.if-not-has_inline.true ∙ c.has_inline.ensures.1 e in cc))

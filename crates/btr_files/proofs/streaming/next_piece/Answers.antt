@@ -8,11 +8,13 @@ use Rattle.btr_files.specs.Maps.{TellsAll}
 use Rattle.btr_files.specs.Streaming.{IsUnderway}
 use Rattle.btr_files.specs.Sums.{kind_in}
 use Rattle.btr_walk.specs.Reading.{HasCause, unread_by}
-use Rattle.btr_files.proofs.Streamed.{NextWithSums, layout_is, served_back, streamed, streamed_err, streamed_none, nearer, gap_lent, span_lent, steps_on, none_back, none_live, some_back, some_live, same_loan, span_shown}
+use Rattle.btr_files.proofs.Streamed.{NextWithSums, layout_is, served_back, streamed, streamed_err, streamed_none, nearer, gap_lent, span_lent, steps_on}
+use Rattle.btr_files.proofs.Streamed.{none_back, none_live, some_back, some_live, same_loan, span_shown}
 use Rattle.btr_files.proofs.streaming.next_piece.Goals as goal
 
 pub next_step-requires-clause-serves : goal.next_step-requires-clause-serves
-next_step-requires-clause-serves g c = served_back (g.R.Rack.seen c.args.rack.now) c.args.vol.now.store c.give_back.new.store c.take-loan.result c.give_back.ensures c.requires.ready.serves
+next_step-requires-clause-serves g c = served_back (g.R.Rack.seen c.args.rack.now) c.args.vol.now.store c.give_back.new.store c.take-loan.result
+    c.give_back.ensures c.requires.ready.serves
 
 pub returns-in-Gap : goal.returns-in-Gap
 returns-in-Gap g c =
@@ -29,8 +31,10 @@ returns-in-Gap g c =
       (
         refl,
         λ x. tt,
-        streamed c.args.vol.now new mid file c.take-loan.result c.take-loan.ensures.value c.give_back.ensures a b c.next_step.new.ahead p' given c.take-loan.new.self (lending.Gap c.in-Gap.count) (ap (shown_piece new.store) c.in-Gap.is) s.sup
-            (none_back mid new.store c.take-loan.new.self c.take-loan.ensures.after (gap_lent mid new.store given c.in-Ok-Some.field-0 c.in-Ok-Some.field-0-is c.in-Gap.count c.in-Gap.is s.lent))
+        streamed c.args.vol.now new mid file c.take-loan.result c.take-loan.ensures.value c.give_back.ensures a b c.next_step.new.ahead p' given
+            c.take-loan.new.self (lending.Gap c.in-Gap.count) (ap (shown_piece new.store) c.in-Gap.is) s.sup
+            (none_back mid new.store c.take-loan.new.self c.take-loan.ensures.after
+            (gap_lent mid new.store given c.in-Ok-Some.field-0 c.in-Ok-Some.field-0-is c.in-Gap.count c.in-Gap.is s.lent))
             (none_live new.store c.take-loan.new.self c.take-loan.ensures.after) s.serves on told,
       ),
       record {
@@ -61,8 +65,11 @@ returns-in-Some g c =
       (
         refl,
         λ x. tt,
-        streamed c.args.vol.now new mid file c.take-loan.result c.take-loan.ensures.value c.give_back.ensures a b c.next_step.new.ahead p' given c.keep.new.place c.piece_in.result (ap (shown_piece new.store) c.in-Bytes.is ∙ span_shown new.store loan c.in-Some.held c.in-Bytes.span c.bytes.result.now _ held c.bytes.ensures.value c.piece_in.ensures.piece) s.sup
-            (some_back mid new.store c.keep.new.place loan c.keep.ensures lent.others) (some_live new.store c.keep.new.place loan c.keep.ensures lent.live) s.serves on told,
+        streamed c.args.vol.now new mid file c.take-loan.result c.take-loan.ensures.value c.give_back.ensures a b c.next_step.new.ahead p' given
+            c.keep.new.place c.piece_in.result (ap (shown_piece new.store) c.in-Bytes.is
+            ∙ span_shown new.store loan c.in-Some.held c.in-Bytes.span c.bytes.result.now _ held c.bytes.ensures.value c.piece_in.ensures.piece) s.sup
+            (some_back mid new.store c.keep.new.place loan c.keep.ensures lent.others)
+            (some_live new.store c.keep.new.place loan c.keep.ensures lent.live) s.serves on told,
       ),
       record {
         after = tt;
@@ -82,7 +89,8 @@ returns-in-Err g c =
       (
         refl,
         λ x. tt,
-        streamed_err c.args.vol.now c.next_step.new.vol c.give_back.new.store c.args.file.now c.take-loan.result c.take-loan.ensures.value c.give_back.ensures a b c.next_step.new.ahead c.new-file.result c.next_step.new.progress c.take-loan.new.self c.in-Err.fault
+        streamed_err c.args.vol.now c.next_step.new.vol c.give_back.new.store c.args.file.now c.take-loan.result c.take-loan.ensures.value
+            c.give_back.ensures a b c.next_step.new.ahead c.new-file.result c.next_step.new.progress c.take-loan.new.self c.in-Err.fault
             c.take-loan.ensures.after s.sup s.lent s.serves (subst (IsUnderway c.args.file.now.source) (sym s.on) c.requires.ready.underway) s.content,
       ),
       record {
@@ -91,7 +99,9 @@ returns-in-Err g c =
         same = refl {a = c.args.file.now.source};
         nears = s.on;
         some = tt;
-        cause = subst (λ (l : Layout). HasCause {A = Option Lending} l a b (Err c.in-Err.fault)) (layout_is c.args.vol.now c.next_step.new.vol c.give_back.new.store c.args.file.now c.take-loan.result c.take-loan.ensures.value c.give_back.ensures a b) s.cause;
+        cause = subst (λ (l : Layout). HasCause {A = Option Lending} l a b (Err c.in-Err.fault))
+            (layout_is c.args.vol.now c.next_step.new.vol c.give_back.new.store c.args.file.now c.take-loan.result c.take-loan.ensures.value
+            c.give_back.ensures a b) s.cause;
       },
     )
 
@@ -107,9 +117,13 @@ returns-in-Ok-None g c =
       (
         refl,
         λ x. tt,
-        streamed_none c.args.vol.now c.next_step.new.vol c.give_back.new.store file c.take-loan.result c.take-loan.ensures.value c.give_back.ensures a b c.next_step.new.ahead p' c.take-loan.new.self
-            c.take-loan.ensures.after s.sup (subst (λ o. LendsNext c.give_back.new.store c.next_step.new.vol.store (Ok o)) c.in-Ok-None.field-0-is s.lent) s.serves on.0
-            (subst (λ (o : Option Shown). TellsAll c.give_back.new.store.layout a b (λ Bs. NextWithSums (kind_in c.args.vol.now.sup) file.source (unread_by c.give_back.new.store.layout a b) Bs file.progress p' c.next_step.new.vol.store file.ahead c.next_step.new.ahead (Ok o))) c.in-Ok-None.field-0-is s.content),
+        streamed_none c.args.vol.now c.next_step.new.vol c.give_back.new.store file c.take-loan.result c.take-loan.ensures.value c.give_back.ensures a
+            b c.next_step.new.ahead p' c.take-loan.new.self
+            c.take-loan.ensures.after s.sup (subst (λ o. LendsNext c.give_back.new.store c.next_step.new.vol.store (Ok o)) c.in-Ok-None.field-0-is
+            s.lent) s.serves on.0
+            (subst (λ (o : Option Shown). TellsAll c.give_back.new.store.layout a b
+            (λ Bs. NextWithSums (kind_in c.args.vol.now.sup) file.source (unread_by c.give_back.new.store.layout a b) Bs file.progress p'
+            c.next_step.new.vol.store file.ahead c.next_step.new.ahead (Ok o))) c.in-Ok-None.field-0-is s.content),
       ),
       record {
         after = tt;

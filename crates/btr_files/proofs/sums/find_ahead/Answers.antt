@@ -44,9 +44,12 @@ returns-clause-content g c =
     let before = g.R.Rack.seen c.args.rack.now in
     let now = g.R.Rack.seen c.find_reach.new.rack in
     looks_found layout before now c.args.root.now (key sums_objectid 128 c.args.addr) k (found_of c.find_reach.result) sum
-    (subst (λ (x : Key). Tells layout before now (λ B. ReachesItem (unread_by layout before now) B c.args.root.now x c.find_reach.result)) c.key_of-key.ensures c.find_reach.ensures.content)
+    (subst (λ (x : Key). Tells layout before now (λ B. ReachesItem (unread_by layout before now) B c.args.root.now x c.find_reach.result))
+    c.key_of-key.ensures c.find_reach.ensures.content)
     (elim c.match-find_reach.branch [
       | in-Err w ↦ judges_err k sum (found_of c.find_reach.result) w.in-Err.fault (ap found_of w.in-Err.is) w.sum-is
-      | in-Ok-None w ↦ judges_none k sum (found_of c.find_reach.result) None None (ap found_of (w.in-Ok-None.is ∙ ap Ok w.in-Ok-None.field-0-is)) refl refl w.sum-is
-      | in-Ok-Some w ↦ judges_some k sum (found_of c.find_reach.result) (Some w.in-Ok-Some.reach.found) w.in-Ok-Some.reach.found w.sum_found-sum.result (ap found_of (w.in-Ok-Some.is ∙ ap Ok w.in-Ok-Some.field-0-is)) refl w.sum_found-sum.ensures w.sum-is
+      | in-Ok-None w ↦ judges_none k sum (found_of c.find_reach.result) None None (ap found_of (w.in-Ok-None.is ∙ ap Ok w.in-Ok-None.field-0-is)) refl
+          refl w.sum-is
+      | in-Ok-Some w ↦ judges_some k sum (found_of c.find_reach.result) (Some w.in-Ok-Some.reach.found) w.in-Ok-Some.reach.found
+          w.sum_found-sum.result (ap found_of (w.in-Ok-Some.is ∙ ap Ok w.in-Ok-Some.field-0-is)) refl w.sum_found-sum.ensures w.sum-is
     ])

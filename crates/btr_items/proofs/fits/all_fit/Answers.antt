@@ -5,4 +5,5 @@ use Rattle.std.proofs.lemmas.Iterator.Consumers.{YieldsList-from_first}
 use Rattle.btr_items.proofs.fits.all_fit.Goals as goal
 
 pub returns : goal.returns
-returns g c = all_from_yields_List is_ok _ _ _ c.all.ensures.ran (YieldsList-from_first (λ part. part) (λ parts. parts) c.args.parts refl) (λ part b q called. search rules)
+returns g c = all_from_yields_List is_ok _ _ _ c.all.ensures.ran (YieldsList-from_first (λ part. part) (λ parts. parts) c.args.parts refl)
+    (λ part b q called. search rules)

@@ -10,7 +10,8 @@ loop-at-preserved c =
     record {
       fits = omega arith;
       here = subst (λ register. IsRegisterAt register image c.args.begin c.args.end (c.loop-at.at + 1)) (sym c.crc_register-register.ensures.value)
-          (register_goes_on c.loop-at.register c.in_ok-byte.byte c.args.begin c.args.end c.loop-at.at image c.loop-at.invariant.fits (omega arith) c.loop-at-test.true (sym c.byte.ensures ∙ c.in_ok-byte.was) c.loop-at.invariant.here);
+          (register_goes_on c.loop-at.register c.in_ok-byte.byte c.args.begin c.args.end c.loop-at.at image c.loop-at.invariant.fits (omega arith)
+          c.loop-at-test.true (sym c.byte.ensures ∙ c.in_ok-byte.was) c.loop-at.invariant.here);
     }
 
 pub returns-clause-some : goal.returns-clause-some

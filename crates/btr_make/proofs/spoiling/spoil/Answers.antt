@@ -20,7 +20,8 @@ returns-then-not-branch c =
 pub returns-in_err-spoil_page : goal.returns-in_err-spoil_page
 returns-in_err-spoil_page c =
     let p = err_from_is_err_and c.from_residual-in_err-spoil_page.result c.from_residual-in_err-spoil_page.ensures.1 in
-    rw (p.1, p.2) (spoil_stops c.args.name.now c.loop-index.index c.args.rack.now c.loop-index.rack c.spoil_page.new.rack c.in_err-spoil_page.field-0.0 c.loop-index.invariant c.in_err-spoil_page.ensures)
+    rw (p.1, p.2) (spoil_stops c.args.name.now c.loop-index.index c.args.rack.now c.loop-index.rack c.spoil_page.new.rack
+    c.in_err-spoil_page.field-0.0 c.loop-index.invariant c.in_err-spoil_page.ensures)
 
 pub returns-in_err-poke : goal.returns-in_err-poke
 returns-in_err-poke c =

@@ -1,7 +1,8 @@
 use Rattle.std.proofs.Common.{sym, ◌∙◌, arith}
 use Rattle.btr_node.proofs.Inners.{inner_leaf, inner_level, inner_empty, inner_room, inner_rules}
 use Rattle.btr_node.proofs.inner.is_inner.Goals as goal
-use Rattle.btr_node.proofs.inner.is_inner.Goals.{then-block-eq0-via-then-block-eq0, then-block-eq0-via-else-block-eq0+then-block-gt-MAX_LEVEL, then-count-eq0-via-then-count-eq0, then-count-eq0-via-else-count-eq0+then-count-block}
+use Rattle.btr_node.proofs.inner.is_inner.Goals.{then-block-eq0-via-then-block-eq0, then-block-eq0-via-else-block-eq0+then-block-gt-MAX_LEVEL}
+use Rattle.btr_node.proofs.inner.is_inner.Goals.{then-count-eq0-via-then-count-eq0, then-count-eq0-via-else-count-eq0+then-count-block}
 
 pub returns-then-block-eq0 : goal.returns-then-block-eq0
 returns-then-block-eq0 c =
@@ -22,4 +23,5 @@ returns-then-count-eq0 c =
 pub returns : goal.returns
 returns c =
     c.keys_ascend.ensures
-    ∙ sym (inner_rules c.args.block.now c.entry_count-count.result c.entry_count-count.ensures.count (omega arith) c.if-block-gt-MAX_LEVEL.false (omega arith) (omega arith))
+    ∙ sym (inner_rules c.args.block.now c.entry_count-count.result c.entry_count-count.ensures.count (omega arith) c.if-block-gt-MAX_LEVEL.false
+    (omega arith) (omega arith))

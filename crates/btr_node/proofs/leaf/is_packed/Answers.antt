@@ -19,7 +19,8 @@ returns-then-offset-size c =
     let item = item_at c.args.block.now c.loop-i.i in
     let offset : c.item_offset-offset.result ≡ item.offset = c.item_offset-offset.ensures in
     let size : c.item_size-size.result ≡ item.size = c.item_size-size.ensures in
-    sym (so_far_gap _ c.args.block.now (25 * c.args.count) c.args.count c.loop-i.end c.loop-i.i c.loop-i.invariant c.loop-i-test.true (λ (ends : item.offset + item.size ≡ c.loop-i.end). omega arith))
+    sym (so_far_gap _ c.args.block.now (25 * c.args.count) c.args.count c.loop-i.end c.loop-i.i c.loop-i.invariant c.loop-i-test.true
+    (λ (ends : item.offset + item.size ≡ c.loop-i.end). omega arith))
 
 pub loop-i-preserved : goal.loop-i-preserved
 loop-i-preserved c =

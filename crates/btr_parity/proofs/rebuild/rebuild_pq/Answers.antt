@@ -29,4 +29,5 @@ returns c =
     c.add_scaled.ensures ∙ ap₂ (λ s f. plus s (scaled f q)) (c.scale.ensures ∙ ap (λ f. scaled f p) first) c.of-2.ensures
     ∙ sym (zip2-map_map bit_xor (product (product w b)) (product w) p q) in
     subst (λ X. IsTheOne (length p) (WeighsWith p q c.args.x c.args.y) X) (sym same)
-    (pair_one a b w (omega arith) (omega arith) (omega arith) one p q c.args.x c.args.y c.power.ensures c.power-2.ensures c.requires.same_length (bytes_of p fits) (bytes_of q c.type_inv.q))
+    (pair_one a b w (omega arith) (omega arith) (omega arith) one p q c.args.x c.args.y c.power.ensures c.power-2.ensures c.requires.same_length
+    (bytes_of p fits) (bytes_of q c.type_inv.q))

@@ -27,4 +27,5 @@ returns-in-Refused-clause-cause c = λ _.
 pub returns-then-again-ge-TRIES_AGAIN-clause-cause : goal.returns-then-again-ge-TRIES_AGAIN-clause-cause
 returns-then-again-ge-TRIES_AGAIN-clause-cause c = λ _.
     let inv = c.loop-done.invariant in
-    fell_short Read _ _ _ _ _ _ c.loop-done-test.true c.read.auto.buf (moves_too_often Read _ _ _ _ _ _ inv.few (omega arith) inv.moves c.in-Interrupted.ensures)
+    fell_short Read _ _ _ _ _ _ c.loop-done-test.true c.read.auto.buf
+    (moves_too_often Read _ _ _ _ _ _ inv.few (omega arith) inv.moves c.in-Interrupted.ensures)

@@ -13,7 +13,8 @@ use Rattle.btr_read.proofs.Loans.{blocks, loan_taken}
 use Rattle.btr_rack.proofs.Reading.{reads_forget, reads_more}
 use Rattle.btr_read.proofs.Fates.{located, sought_of, len_fits, lent_by}
 use Rattle.btr_read.proofs.Fetched.{kept_fetched, kept_last, calls_of}
-use Rattle.btr_read.proofs.Found.{not_again, found_of, taken_of, size_is, found_fetched, found_keeps, found_last, found_serves, missed_accounts, missed_fetched, missed_serves, missed_still}
+use Rattle.btr_read.proofs.Found.{not_again, found_of, taken_of, size_is, found_fetched, found_keeps, found_last, found_serves, missed_accounts, missed_fetched}
+use Rattle.btr_read.proofs.Found.{missed_serves, missed_still}
 use Rattle.btr_read.proofs.Serving.{still_same, serving, serves_still, kept_there, keeps_in}
 use Rattle.btr_read.proofs.Nodes.{found_sound}
 use Rattle.btr_read.proofs.fetching.fetch.Goals as goal
@@ -30,13 +31,15 @@ returns-in-Some-clause-serves g c =
     let old = g.R.Rack.seen c.args.rack.now in
     let new = g.R.Rack.seen c.forget.new.self in
     let still = subst (λ w. StillKept w0 w p0 p1) (sym c.in-Some.ensures.wants) (still_same w0 p0 p1 (ap (λ p. p.bytes) c.in-Some.ensures.lent)) in
-    serves_still s.chunks s.devices.items s.setting w0 w1 p0 p1 old new c.args.store.now c.store.view_is (ap (λ s. s.slots) c.forget.ensures) (ap (λ s. s.held) c.forget.ensures) still c.requires.serves (loans_of p1)
+    serves_still s.chunks s.devices.items s.setting w0 w1 p0 p1 old new c.args.store.now c.store.view_is (ap (λ s. s.slots) c.forget.ensures)
+    (ap (λ s. s.held) c.forget.ensures) still c.requires.serves (loans_of p1)
 
 pub returns-in-Some-clause-reads : goal.returns-in-Some-clause-reads
 returns-in-Some-clause-reads g c = reads_forget (g.R.Rack.seen c.args.rack.now) (g.R.Rack.seen c.forget.new.self) c.forget.ensures
 
 pub returns-in-Some-clause-account : goal.returns-in-Some-clause-account
-returns-in-Some-clause-account g c = kept_last c.args.store.now.layout c.args.want.now (g.R.Rack.seen c.args.rack.now) (g.R.Rack.seen c.forget.new.self) c.forget.ensures
+returns-in-Some-clause-account g c = kept_last c.args.store.now.layout c.args.want.now (g.R.Rack.seen c.args.rack.now)
+    (g.R.Rack.seen c.forget.new.self) c.forget.ensures
 
 pub returns-in-Some-clause-lent : goal.returns-in-Some-clause-lent
 returns-in-Some-clause-lent g c =
@@ -45,13 +48,15 @@ returns-in-Some-clause-lent g c =
     let p1 = c.lend_kept.new.pool in
     let k = c.in-Some.slot in
     let writes = subst (OnlyWrites k (with_lent p0 k)) (sym c.in-Some.ensures.lent) (only_writes_none (with_lent p0 k) k) in
-    lent_by s.chunks s.devices.items s.setting p0 p1 (kept_in s.setting s.kept.wants p0.bytes) (kept_in s.setting c.lend_kept.new.kept.wants p1.bytes) k c.len-len.result c.args.store.now c.args.want.now c.store.invariant.store c.store.view_is c.in-Some.ensures.free writes c.len-len.ensures
+    lent_by s.chunks s.devices.items s.setting p0 p1 (kept_in s.setting s.kept.wants p0.bytes) (kept_in s.setting c.lend_kept.new.kept.wants p1.bytes)
+    k c.len-len.result c.args.store.now c.args.want.now c.store.invariant.store c.store.view_is c.in-Some.ensures.free writes c.len-len.ensures
 
 pub returns-in-Some-clause-again : goal.returns-in-Some-clause-again
 returns-in-Some-clause-again g c = λ kept. (refl, ap (λ s. s.account) c.forget.ensures)
 
 pub returns-in-Some-clause-keeps : goal.returns-in-Some-clause-keeps
-returns-in-Some-clause-keeps g c = λ tree calm. keeps_in c.store.inside.setting c.lend_kept.new.kept.wants c.lend_kept.new.pool.bytes c.in-Some.slot c.args.want.now (ap (λ w. get_or w c.in-Some.slot None) c.in-Some.ensures.wants ∙ c.in-Some.ensures.kept)
+returns-in-Some-clause-keeps g c = λ tree calm. keeps_in c.store.inside.setting c.lend_kept.new.kept.wants c.lend_kept.new.pool.bytes c.in-Some.slot
+    c.args.want.now (ap (λ w. get_or w c.in-Some.slot None) c.in-Some.ensures.wants ∙ c.in-Some.ensures.kept)
 
 pub returns-in-Some-clause-answer : goal.returns-in-Some-clause-answer
 returns-in-Some-clause-answer g c =
@@ -81,13 +86,15 @@ returns-in-Some-clause-calls g c = calls_of c.args.store.now.layout c.args.want.
 pub invariant_of-store-in-Err : goal.invariant_of-store-in-Err
 invariant_of-store-in-Err g c =
     let s = c.store.inside in
-    found_sound s.pool c.lend_kept.new.pool c.find.new.pool s.kept.wants c.lend_kept.new.kept.wants c.find.new.kept.wants s.kept.nodes c.lend_kept.new.kept.nodes c.find.new.kept.nodes s.setting
+    found_sound s.pool c.lend_kept.new.pool c.find.new.pool s.kept.wants c.lend_kept.new.kept.wants c.find.new.kept.wants s.kept.nodes
+    c.lend_kept.new.kept.nodes c.find.new.kept.nodes s.setting
     c.in_default.ensures.none c.lend_kept.ensures.wants c.lend_kept.ensures.nodes c.in-Err.ensures.shape c.in-Err.ensures.nodes c.store.invariant
 
 pub invariant_of-store-2 : goal.invariant_of-store-2
 invariant_of-store-2 g c =
     let s = c.store.inside in
-    found_sound s.pool c.lend_kept.new.pool c.find.new.pool s.kept.wants c.lend_kept.new.kept.wants c.find.new.kept.wants s.kept.nodes c.lend_kept.new.kept.nodes c.find.new.kept.nodes s.setting
+    found_sound s.pool c.lend_kept.new.pool c.find.new.pool s.kept.wants c.lend_kept.new.kept.wants c.find.new.kept.wants s.kept.nodes
+    c.lend_kept.new.kept.nodes c.find.new.kept.nodes s.setting
     c.in_default.ensures.none c.lend_kept.ensures.wants c.lend_kept.ensures.nodes c.in-Ok.ensures.shape c.in-Ok.ensures.nodes c.store.invariant
 
 -- ---- a block that is sought
@@ -100,11 +107,13 @@ returns-in_err-search-clause-serves g c =
     let p1 = c.lend_kept.new.pool in
     let w1 = c.lend_kept.new.kept.wants in
     let still = subst (λ w. StillKept w0 w p0 p1) (sym c.lend_kept.ensures.wants) (still_same w0 p0 p1 (ap (λ p. p.bytes) c.in_default.ensures.none)) in
-    serves_still s.chunks s.devices.items s.setting w0 w1 p0 p1 (g.R.Rack.seen c.args.rack.now) (g.R.Rack.seen c.forget.new.self) c.args.store.now c.store.view_is (ap (λ s. s.slots) c.forget.ensures) (ap (λ s. s.held) c.forget.ensures) still c.requires.serves (loans_of p1)
+    serves_still s.chunks s.devices.items s.setting w0 w1 p0 p1 (g.R.Rack.seen c.args.rack.now) (g.R.Rack.seen c.forget.new.self) c.args.store.now
+    c.store.view_is (ap (λ s. s.slots) c.forget.ensures) (ap (λ s. s.held) c.forget.ensures) still c.requires.serves (loans_of p1)
 
 pub returns-in_err-search-clause-again : goal.returns-in_err-search-clause-again
 returns-in_err-search-clause-again g c = λ kept.
-    absurd (not_again c.store.inside.chunks c.store.inside.devices.items c.store.inside.setting c.store.inside.pool c.store.inside.kept.wants c.args.store.now c.store.invariant.store c.store.view_is c.args.want.now c.in_default.ensures.missing kept)
+    absurd (not_again c.store.inside.chunks c.store.inside.devices.items c.store.inside.setting c.store.inside.pool c.store.inside.kept.wants
+    c.args.store.now c.store.invariant.store c.store.view_is c.args.want.now c.in_default.ensures.missing kept)
 
 pub find-requires-clause-open : goal.find-requires-clause-open
 find-requires-clause-open g c =
@@ -114,7 +123,8 @@ find-requires-clause-open g c =
     let seeks = located s.chunks s.devices.items c.deref.result.now s.setting (loans_of p0) (kept_in s.setting s.kept.wants p0.bytes) c.args.store.now c.args.want.now t c.store.view_is c.deref.ensures.value c.in_ok-search.ensures in
     let is = sought_of c.args.store.now.layout c.args.want.now t seeks in
     let are = serving (g.R.Rack.seen c.args.rack.now) c.args.store.now c.requires.serves in
-    subst (λ slots. AreOpen slots t.devices) (sym (ap (λ s. s.slots) c.forget.ensures)) (subst (AreOpen (g.R.Rack.seen c.args.rack.now).slots) (sym is.devices_is) are.are_open)
+    subst (λ slots. AreOpen slots t.devices) (sym (ap (λ s. s.slots) c.forget.ensures))
+    (subst (AreOpen (g.R.Rack.seen c.args.rack.now).slots) (sym is.devices_is) are.are_open)
 
 pub find-requires-clause-room : goal.find-requires-clause-room
 find-requires-clause-room g c =
@@ -151,7 +161,9 @@ returns-in-Err-clause-serves g c =
     let mid = g.R.Rack.seen c.forget.new.self in
     let after = g.R.Rack.seen c.find.new.rack in
     let found = found_of t w0 c.lend_kept.new.kept.wants w2 p0 c.lend_kept.new.pool p2 mid after (Err c.in-Err.missed) c.in_default.ensures.none c.lend_kept.ensures.wants c.in-Err.ensures.found in
-    missed_serves s.chunks s.devices.items s.setting p0 w0 store c.store.invariant.store c.store.view_is want t seeks old mid after c.forget.ensures c.in-Err.ensures.reads p2 w2 (missed_still s.chunks s.devices.items s.setting p0 w0 store c.store.invariant.store c.store.view_is want t seeks old mid after c.forget.ensures c.in-Err.ensures.reads p2 w2 c.in-Err.missed found) c.requires.serves
+    missed_serves s.chunks s.devices.items s.setting p0 w0 store c.store.invariant.store c.store.view_is want t seeks old mid after c.forget.ensures
+    c.in-Err.ensures.reads p2 w2 (missed_still s.chunks s.devices.items s.setting p0 w0 store c.store.invariant.store c.store.view_is want t seeks
+    old mid after c.forget.ensures c.in-Err.ensures.reads p2 w2 c.in-Err.missed found) c.requires.serves
 
 pub returns-in-Err-clause-account : goal.returns-in-Err-clause-account
 returns-in-Err-clause-account g c =
@@ -168,7 +180,10 @@ returns-in-Err-clause-account g c =
     let mid = g.R.Rack.seen c.forget.new.self in
     let after = g.R.Rack.seen c.find.new.rack in
     let found = found_of t w0 c.lend_kept.new.kept.wants w2 p0 c.lend_kept.new.pool p2 mid after (Err c.in-Err.missed) c.in_default.ensures.none c.lend_kept.ensures.wants c.in-Err.ensures.found in
-    subst (λ f. AccountsFetch store.layout want old.account after.account (Err f)) (sym (c.fault.ensures ∙ ap (λ a. fault_of a c.in-Err.missed) c.addr.ensures)) (missed_accounts s.chunks s.devices.items s.setting p0 w0 store c.store.invariant.store c.store.view_is want t seeks old mid after c.forget.ensures c.in-Err.ensures.reads p2 w2 c.in-Err.missed found)
+    subst (λ f. AccountsFetch store.layout want old.account after.account (Err f))
+    (sym (c.fault.ensures ∙ ap (λ a. fault_of a c.in-Err.missed) c.addr.ensures))
+    (missed_accounts s.chunks s.devices.items s.setting p0 w0 store c.store.invariant.store c.store.view_is want t seeks old mid after
+    c.forget.ensures c.in-Err.ensures.reads p2 w2 c.in-Err.missed found)
 
 pub returns-in-Err-clause-again : goal.returns-in-Err-clause-again
 returns-in-Err-clause-again g c =
@@ -194,7 +209,11 @@ returns-in-Err-clause-answer g c =
     let mid = g.R.Rack.seen c.forget.new.self in
     let after = g.R.Rack.seen c.find.new.rack in
     let found = found_of t w0 c.lend_kept.new.kept.wants w2 p0 c.lend_kept.new.pool p2 mid after (Err c.in-Err.missed) c.in_default.ensures.none c.lend_kept.ensures.wants c.in-Err.ensures.found in
-    subst (λ f. FitsFetch store.layout want old after (blocks s.chunks s.devices.items s.setting (loans_of p2) (kept_in s.setting w2 p2.bytes)) (Err f)) (sym (c.fault.ensures ∙ ap (λ a. fault_of a c.in-Err.missed) c.addr.ensures)) (missed_fetched s.chunks s.devices.items s.setting p0 w0 store c.store.invariant.store c.store.view_is want t seeks old mid after c.forget.ensures c.in-Err.ensures.reads p2 w2 (blocks s.chunks s.devices.items s.setting (loans_of p2) (kept_in s.setting w2 p2.bytes)) c.in-Err.missed found)
+    subst (λ f. FitsFetch store.layout want old after (blocks s.chunks s.devices.items s.setting (loans_of p2) (kept_in s.setting w2 p2.bytes))
+    (Err f)) (sym (c.fault.ensures ∙ ap (λ a. fault_of a c.in-Err.missed) c.addr.ensures))
+    (missed_fetched s.chunks s.devices.items s.setting p0 w0 store c.store.invariant.store c.store.view_is want t seeks old mid after
+    c.forget.ensures c.in-Err.ensures.reads p2 w2 (blocks s.chunks s.devices.items s.setting (loans_of p2) (kept_in s.setting w2 p2.bytes))
+    c.in-Err.missed found)
 
 pub returns-in-Err-clause-calls : goal.returns-in-Err-clause-calls
 returns-in-Err-clause-calls g c =
@@ -206,7 +225,8 @@ returns-in-Err-clause-calls g c =
     let old = g.R.Rack.seen c.args.rack.now in
     let mid = g.R.Rack.seen c.forget.new.self in
     let after = g.R.Rack.seen c.find.new.rack in
-    calls_of store.layout want old after (blocks s.chunks s.devices.items s.setting (loans_of p2) (kept_in s.setting w2 p2.bytes)) (Err c.fault.result) (reads_more (reads_forget old mid c.forget.ensures) c.in-Err.ensures.reads) (returns-in-Err-clause-answer g c)
+    calls_of store.layout want old after (blocks s.chunks s.devices.items s.setting (loans_of p2) (kept_in s.setting w2 p2.bytes))
+    (Err c.fault.result) (reads_more (reads_forget old mid c.forget.ensures) c.in-Err.ensures.reads) (returns-in-Err-clause-answer g c)
 
 -- ---- a block that was found
 
@@ -227,7 +247,8 @@ returns-clause-serves g c =
     let new = g.R.Rack.seen c.forget-in-Ok.new.self in
     let k = c.in-Ok.slot in
     let found = found_of t w0 c.lend_kept.new.kept.wants w2 p0 c.lend_kept.new.pool p2 mid after (Ok k) c.in_default.ensures.none c.lend_kept.ensures.wants c.in-Ok.ensures.found in
-    found_serves s.chunks s.devices.items s.setting p0 w0 store c.store.invariant.store c.store.view_is want t seeks old mid after c.forget.ensures c.in-Ok.ensures.reads p2 w2 k found new c.forget-in-Ok.ensures c.requires.serves
+    found_serves s.chunks s.devices.items s.setting p0 w0 store c.store.invariant.store c.store.view_is want t seeks old mid after c.forget.ensures
+    c.in-Ok.ensures.reads p2 w2 k found new c.forget-in-Ok.ensures c.requires.serves
 
 pub returns-clause-account : goal.returns-clause-account
 returns-clause-account g c =
@@ -245,8 +266,13 @@ returns-clause-account g c =
     let after = g.R.Rack.seen c.find.new.rack in
     let new = g.R.Rack.seen c.forget-in-Ok.new.self in
     let k = c.in-Ok.slot in
-    let found = found_of t w0 c.lend_kept.new.kept.wants w2 p0 c.lend_kept.new.pool p2 mid after (Ok k) c.in_default.ensures.none c.lend_kept.ensures.wants c.in-Ok.ensures.found in
-    (ap (λ s. s.account.fresh) c.forget-in-Ok.ensures, ap (λ s. s.account.missed) c.forget-in-Ok.ensures, found_last s.chunks s.devices.items s.setting p0 w0 store c.store.invariant.store c.store.view_is want t seeks old mid after c.forget.ensures c.in-Ok.ensures.reads p2 w2 k found new c.forget-in-Ok.ensures)
+    let found = found_of t w0 c.lend_kept.new.kept.wants w2 p0 c.lend_kept.new.pool p2 mid after (Ok k) c.in_default.ensures.none c.lend_kept.ensures.wants c.in-Ok.ensures.found in (
+      ap (λ s. s.account.fresh) c.forget-in-Ok.ensures,
+      ap (λ s. s.account.missed) c.forget-in-Ok.ensures,
+      found_last s.chunks s.devices.items
+          s.setting p0 w0 store c.store.invariant.store c.store.view_is want t seeks old mid after c.forget.ensures c.in-Ok.ensures.reads p2 w2 k found
+          new c.forget-in-Ok.ensures,
+    )
 
 pub returns-clause-lent : goal.returns-clause-lent
 returns-clause-lent g c =
@@ -264,7 +290,10 @@ returns-clause-lent g c =
     let after = g.R.Rack.seen c.find.new.rack in
     let k = c.in-Ok.slot in
     let taken = taken_of p0 c.lend_kept.new.pool p2 k c.in_default.ensures.none c.in-Ok.ensures.taken in
-    lent_by s.chunks s.devices.items s.setting p0 p2 (kept_in s.setting w0 p0.bytes) (kept_in s.setting w2 p2.bytes) k c.size-len.result store want c.store.invariant.store c.store.view_is taken.free taken.writes (c.size-len.ensures.value ∙ size_is s.chunks s.devices.items s.setting p0 w0 store c.store.invariant.store c.store.view_is want t seeks old mid after c.forget.ensures c.in-Ok.ensures.reads p2 w2)
+    lent_by s.chunks s.devices.items s.setting p0 p2 (kept_in s.setting w0 p0.bytes) (kept_in s.setting w2 p2.bytes) k c.size-len.result store want
+    c.store.invariant.store c.store.view_is taken.free taken.writes
+    (c.size-len.ensures.value ∙ size_is s.chunks s.devices.items s.setting p0 w0 store c.store.invariant.store c.store.view_is want t seeks old
+    mid after c.forget.ensures c.in-Ok.ensures.reads p2 w2)
 
 pub returns-clause-again : goal.returns-clause-again
 returns-clause-again g c =
@@ -292,7 +321,8 @@ returns-clause-keeps g c =
     let new = g.R.Rack.seen c.forget-in-Ok.new.self in
     let k = c.in-Ok.slot in
     let found = found_of t w0 c.lend_kept.new.kept.wants w2 p0 c.lend_kept.new.pool p2 mid after (Ok k) c.in_default.ensures.none c.lend_kept.ensures.wants c.in-Ok.ensures.found in
-    found_keeps s.chunks s.devices.items s.setting p0 w0 store c.store.invariant.store c.store.view_is want t seeks old mid after c.forget.ensures c.in-Ok.ensures.reads p2 w2 k found new c.forget-in-Ok.ensures c.size-len.result c.size-len.ensures.value
+    found_keeps s.chunks s.devices.items s.setting p0 w0 store c.store.invariant.store c.store.view_is want t seeks old mid after c.forget.ensures
+    c.in-Ok.ensures.reads p2 w2 k found new c.forget-in-Ok.ensures c.size-len.result c.size-len.ensures.value
 
 pub returns-clause-answer : goal.returns-clause-answer
 returns-clause-answer g c =
@@ -311,7 +341,9 @@ returns-clause-answer g c =
     let new = g.R.Rack.seen c.forget-in-Ok.new.self in
     let k = c.in-Ok.slot in
     let found = found_of t w0 c.lend_kept.new.kept.wants w2 p0 c.lend_kept.new.pool p2 mid after (Ok k) c.in_default.ensures.none c.lend_kept.ensures.wants c.in-Ok.ensures.found in
-    found_fetched s.chunks s.devices.items s.setting p0 w0 store c.store.invariant.store c.store.view_is want t seeks old mid after c.forget.ensures c.in-Ok.ensures.reads p2 w2 k found new c.forget-in-Ok.ensures c.size-len.result c.size-len.ensures.value (taken_of p0 c.lend_kept.new.pool p2 k c.in_default.ensures.none c.in-Ok.ensures.taken)
+    found_fetched s.chunks s.devices.items s.setting p0 w0 store c.store.invariant.store c.store.view_is want t seeks old mid after c.forget.ensures
+    c.in-Ok.ensures.reads p2 w2 k found new c.forget-in-Ok.ensures c.size-len.result c.size-len.ensures.value
+    (taken_of p0 c.lend_kept.new.pool p2 k c.in_default.ensures.none c.in-Ok.ensures.taken)
 
 pub returns-clause-calls : goal.returns-clause-calls
 returns-clause-calls g c =

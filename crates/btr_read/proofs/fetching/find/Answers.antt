@@ -20,7 +20,8 @@ returns-in-First-clause-found g c =
         then = c.try_all.new.kept.wants;
         room = omega (arith, c.keep.ensures.room, c.slot.ensures);
         still = still;
-        one = c.keep.ensures.kept ∙ ap (λ n. set c.try_all.new.kept.wants n (kept_want c.search.inside.want.now)) c.slot.ensures ∙ ap (λ (t : Target). set c.try_all.new.kept.wants c.take_least-slot.result (kept_want t.want)) c.search.view_is;
+        one = c.keep.ensures.kept ∙ ap (λ n. set c.try_all.new.kept.wants n (kept_want c.search.inside.want.now)) c.slot.ensures
+            ∙ ap (λ (t : Target). set c.try_all.new.kept.wants c.take_least-slot.result (kept_want t.want)) c.search.view_is;
       },
       e.outcome,
     )
@@ -37,7 +38,8 @@ returns-in-First-clause-nodes g c =
     let still = still_taken w0 w0 c.take_least-slot.new.kept.wants c.try_all.new.kept.wants p0 p0 c.take_least-slot.new.pool c.try_all.new.pool c.take_least-slot.result refl refl taken.lent taken.forgotten e.kept in
     let one = c.keep.ensures.kept ∙ ap (λ n. set w3 n (kept_want c.search.inside.want.now)) c.slot.ensures in
     let nodes = c.keep.ensures.nodes ∙ ap (λ n. set n3 n false) c.slot.ensures ∙ ap (λ ns. set ns k false) (e.nodes ∙ taken.nodes) in
-    nodes_more w0 w3 c.keep.new.self.wants c.args.kept.now.nodes c.keep.new.self.nodes p0 c.try_all.new.pool k (kept_want c.search.inside.want.now) still one nodes
+    nodes_more w0 w3 c.keep.new.self.wants c.args.kept.now.nodes c.keep.new.self.nodes p0 c.try_all.new.pool k (kept_want c.search.inside.want.now)
+    still one nodes
 
 pub returns-in-Later-clause-found : goal.returns-in-Later-clause-found
 returns-in-Later-clause-found g c =
@@ -45,7 +47,11 @@ returns-in-Later-clause-found g c =
     let w0 = c.args.kept.now.wants in
     let taken = c.take_least-slot.ensures in
     let e = c.in-Later.ensures in
-    inr (still_taken w0 w0 c.take_least-slot.new.kept.wants c.try_all.new.kept.wants p0 p0 c.take_least-slot.new.pool c.try_all.new.pool c.take_least-slot.result refl refl taken.lent taken.forgotten e.kept, e.outcome)
+    inr (
+      still_taken w0 w0 c.take_least-slot.new.kept.wants c.try_all.new.kept.wants p0 p0 c.take_least-slot.new.pool c.try_all.new.pool
+          c.take_least-slot.result refl refl taken.lent taken.forgotten e.kept,
+      e.outcome,
+    )
 
 pub returns-in-Later-clause-nodes : goal.returns-in-Later-clause-nodes
 returns-in-Later-clause-nodes g c =
@@ -70,8 +76,12 @@ returns-in-Lost-clause-found g c =
     let w3 = c.try_all.new.kept.wants in
     let taken = c.take_least-slot.ensures in
     let e = c.in-Lost.ensures in
-    let still = still_taken w0 w0 c.take_least-slot.new.kept.wants w3 p0 p0 c.take_least-slot.new.pool c.try_all.new.pool c.take_least-slot.result refl refl taken.lent taken.forgotten e.kept in
-    (still_more w0 w3 w3 p0 c.try_all.new.pool c.give.new.self still (still_same w3 c.try_all.new.pool c.give.new.self (ap (λ p. p.bytes) c.give.ensures)), e.outcome.0, e.outcome.1)
+    let still = still_taken w0 w0 c.take_least-slot.new.kept.wants w3 p0 p0 c.take_least-slot.new.pool c.try_all.new.pool c.take_least-slot.result refl refl taken.lent taken.forgotten e.kept in (
+      still_more w0 w3 w3 p0 c.try_all.new.pool c.give.new.self still
+          (still_same w3 c.try_all.new.pool c.give.new.self (ap (λ p. p.bytes) c.give.ensures)),
+      e.outcome.0,
+      e.outcome.1,
+    )
 
 pub returns-in-Lost-clause-nodes : goal.returns-in-Lost-clause-nodes
 returns-in-Lost-clause-nodes g c =
@@ -83,7 +93,8 @@ returns-in-Lost-clause-nodes g c =
     let taken = c.take_least-slot.ensures in
     let e = c.in-Lost.ensures in
     let still = still_taken w0 w0 c.take_least-slot.new.kept.wants c.try_all.new.kept.wants p0 p0 c.take_least-slot.new.pool c.try_all.new.pool c.take_least-slot.result refl refl taken.lent taken.forgotten e.kept in
-    nodes_with w0 w3 c.args.kept.now.nodes c.try_all.new.kept.nodes p0 p4 (still_more w0 w3 w3 p0 p3 p4 still (still_same w3 p3 p4 (ap (λ p. p.bytes) c.give.ensures))) (e.nodes ∙ taken.nodes)
+    nodes_with w0 w3 c.args.kept.now.nodes c.try_all.new.kept.nodes p0 p4
+    (still_more w0 w3 w3 p0 p3 p4 still (still_same w3 p3 p4 (ap (λ p. p.bytes) c.give.ensures))) (e.nodes ∙ taken.nodes)
 
 pub returns-in-Unread-clause-refused : goal.returns-in-Unread-clause-refused
 returns-in-Unread-clause-refused g c =
@@ -113,4 +124,5 @@ returns-in-Unread-clause-nodes g c =
     let taken = c.take_least-slot.ensures in
     let e = c.in-Unread.ensures in
     let still = still_taken w0 w0 c.take_least-slot.new.kept.wants c.try_all.new.kept.wants p0 p0 c.take_least-slot.new.pool c.try_all.new.pool c.take_least-slot.result refl refl taken.lent taken.forgotten e.kept in
-    nodes_with w0 w3 c.args.kept.now.nodes c.try_all.new.kept.nodes p0 p4 (still_more w0 w3 w3 p0 p3 p4 still (still_same w3 p3 p4 (ap (λ p. p.bytes) c.give-in-Unread.ensures))) (e.nodes ∙ taken.nodes)
+    nodes_with w0 w3 c.args.kept.now.nodes c.try_all.new.kept.nodes p0 p4
+    (still_more w0 w3 w3 p0 p3 p4 still (still_same w3 p3 p4 (ap (λ p. p.bytes) c.give-in-Unread.ensures))) (e.nodes ∙ taken.nodes)

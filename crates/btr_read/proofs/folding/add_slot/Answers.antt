@@ -22,5 +22,6 @@ loop-done-preserved c =
     let added = subst (λ n. after ≡ with_bytes now sum (pasted (bytes_at now sum) done (plus (slice_range (bytes_at now sum) done n) (weighed c.args.parity c.args.index (slice_range (bytes_at now slice) done n))))) there e.added in
     record {
       within = omega (arith, c.min.ensures);
-      so_far = added_more c.args.parity c.args.index sum slice done end old now after c.requires.live c.requires.apart lt (omega (arith, c.min.ensures, c.requires.fits)) c.loop-done.invariant.so_far e.long whole added;
+      so_far = added_more c.args.parity c.args.index sum slice done end old now after c.requires.live c.requires.apart lt
+          (omega (arith, c.min.ensures, c.requires.fits)) c.loop-done.invariant.so_far e.long whole added;
     }

@@ -26,7 +26,8 @@ pub add_slice-requires-clause-stands : goal.add_slice-requires-clause-stands
 add_slice-requires-clause-stands g c =
     let t = c.args.search.now in
     let lt : c.loop-slice.slice < slice_count t = omega (arith, c.loop-slice-test.true, c.slice_count-slice-end.ensures.value) in
-    part_stands t c.args.candidate (Slice c.loop-slice.slice) c.requires.stands (slice_in (slice_count t) t.at.index c.args.candidate c.loop-slice.slice lt (sym c.reads.ensures ∙ c.if-reads.true))
+    part_stands t c.args.candidate (Slice c.loop-slice.slice) c.requires.stands
+    (slice_in (slice_count t) t.at.index c.args.candidate c.loop-slice.slice lt (sym c.reads.ensures ∙ c.if-reads.true))
 
 pub add_slice-requires-clause-open : goal.add_slice-requires-clause-open
 add_slice-requires-clause-open g c = open_still c.args.search.now.devices c.loop-slice.invariant.reads c.requires.open
@@ -43,7 +44,9 @@ loop-slice-init g c =
       reads = e.reads;
       writes = writes_one c.args.pool.now new sum (c.args.spare.now ∷ sum ∷ []) (λ j none. none.1.0) e.kept;
       calm = e.account;
-      sum = λ images is. gathered_none images t c.args.candidate c.args.parity (take n (bytes_at new sum)) (telling held (λ images. take n (bytes_at new sum) ≡ element images t c.part.result) e.bytes images is ∙ ap (element images t) c.part.ensures) e.slice;
+      sum = λ images is. gathered_none images t c.args.candidate c.args.parity (take n (bytes_at new sum))
+          (telling held (λ images. take n (bytes_at new sum) ≡ element images t c.part.result) e.bytes images is
+          ∙ ap (element images t) c.part.ensures) e.slice;
     }
 
 pub loop-slice-preserved : goal.loop-slice-preserved
@@ -58,19 +61,22 @@ loop-slice-preserved g c =
           rw w.rack-is (rw w.pool-is (record {
             reads = reads_more inv.reads e.reads;
             writes = writes_more c.args.pool.now c.loop-slice.pool w.add_slice.new.pool _ inv.writes e.pool;
-            calm = none_more (g.R.Rack.seen c.args.rack.now).account (g.R.Rack.seen c.loop-slice.rack).account (g.R.Rack.seen w.add_slice.new.rack).account inv.calm e.account;
+            calm = none_more (g.R.Rack.seen c.args.rack.now).account (g.R.Rack.seen c.loop-slice.rack).account
+                (g.R.Rack.seen w.add_slice.new.rack).account inv.calm e.account;
             sum = λ images is.
                 let old = bytes_at c.loop-slice.pool c.args.sum.now in
                 let new = bytes_at w.add_slice.new.pool c.args.sum.now in
                 let added = telling (g.R.Rack.seen c.loop-slice.rack).held (λ images. IsAdded images t k c.args.parity old new) e.bytes images (same_held inv.reads ∙ is) in
-                gathered_more images t c.args.candidate c.args.parity k (take n old) (take n new) (inv.sum images is) (sym c.reads.ensures ∙ w.if-reads.true) added.slice added.sum;
+                gathered_more images t c.args.candidate c.args.parity k (take n old) (take n new) (inv.sum images is)
+                (sym c.reads.ensures ∙ w.if-reads.true) added.slice added.sum;
           }))
       | else-reads w ↦
           rw w.rack-is (rw w.pool-is (record {
             reads = inv.reads;
             writes = inv.writes;
             calm = inv.calm;
-            sum = λ images is. gathered_past images t c.args.candidate c.args.parity k (take n (bytes_at c.loop-slice.pool c.args.sum.now)) (inv.sum images is) (sym c.reads.ensures ∙ w.if-reads.false);
+            sum = λ images is. gathered_past images t c.args.candidate c.args.parity k (take n (bytes_at c.loop-slice.pool c.args.sum.now))
+                (inv.sum images is) (sym c.reads.ensures ∙ w.if-reads.false);
           }))
     ]
 
@@ -89,4 +95,6 @@ pub returns-clause-bytes : goal.returns-clause-bytes
 returns-clause-bytes g c =
     let t = c.args.search.now in
     let bytes = take (size_of t) (bytes_at c.loop-slice.pool c.args.sum.now) in
-    told (g.R.Rack.seen c.args.rack.now).held (λ images. IsGathered images t c.args.candidate c.args.parity bytes) (λ images is. gathered_all images t c.args.candidate c.args.parity c.loop-slice.slice bytes (omega (arith, c.loop-slice-test.false, c.loop-slice.auto.slice-end, c.slice_count-slice-end.ensures.value)) (c.loop-slice.invariant.sum images is))
+    told (g.R.Rack.seen c.args.rack.now).held (λ images. IsGathered images t c.args.candidate c.args.parity bytes)
+    (λ images is. gathered_all images t c.args.candidate c.args.parity c.loop-slice.slice bytes
+    (omega (arith, c.loop-slice-test.false, c.loop-slice.auto.slice-end, c.slice_count-slice-end.ensures.value)) (c.loop-slice.invariant.sum images is))

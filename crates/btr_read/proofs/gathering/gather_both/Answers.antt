@@ -44,7 +44,8 @@ returns-in_err-read_part-2-clause-account g c =
     let t = c.args.search.now in
     let e = c.in_err-read_part-2.ensures.account in
     let p = err_from_is_err_and c.from_residual-in_err-read_part-2.result c.from_residual-in_err-read_part-2.ensures.1 in
-    rw (p.1, p.2) (row_missed t c.args.candidate Q _ (g.R.Rack.seen c.args.rack.now) (g.R.Rack.seen c.read_part.new.rack) (g.R.Rack.seen c.read_part-2.new.rack) (same_sure c.in_ok-read_part.ensures.reads) c.in_ok-read_part.ensures.account e tt)
+    rw (p.1, p.2) (row_missed t c.args.candidate Q _ (g.R.Rack.seen c.args.rack.now) (g.R.Rack.seen c.read_part.new.rack)
+    (g.R.Rack.seen c.read_part-2.new.rack) (same_sure c.in_ok-read_part.ensures.reads) c.in_ok-read_part.ensures.account e tt)
 
 pub add_slice_to_both-requires-clause-stands : goal.add_slice_to_both-requires-clause-stands
 add_slice_to_both-requires-clause-stands g c =
@@ -72,10 +73,12 @@ loop-slice-init g c =
     record {
       reads = reads_more first.reads second.reads;
       writes = writes;
-      calm = none_more (g.R.Rack.seen c.args.rack.now).account (g.R.Rack.seen c.read_part.new.rack).account (g.R.Rack.seen c.read_part-2.new.rack).account first.account second.account;
+      calm = none_more (g.R.Rack.seen c.args.rack.now).account (g.R.Rack.seen c.read_part.new.rack).account
+          (g.R.Rack.seen c.read_part-2.new.rack).account first.account second.account;
       of_p = λ images is.
           let read = telling (g.R.Rack.seen c.args.rack.now).held (λ images. take n (bytes_at pool p) ≡ element images t P) first.bytes images is in
-          subst (λ bytes. GatheredSoFar images t both parity.P 0 (take n bytes)) (sym same) (gathered_none images t both parity.P (take n (bytes_at pool p)) read first.slice);
+          subst (λ bytes. GatheredSoFar images t both parity.P 0 (take n bytes)) (sym same)
+          (gathered_none images t both parity.P (take n (bytes_at pool p)) read first.slice);
       of_q = λ images is.
           let read = telling (g.R.Rack.seen c.read_part.new.rack).held (λ images. take n (bytes_at new q) ≡ element images t Q) second.bytes images (same_held first.reads ∙ is) in
           gathered_none images t both parity.Q (take n (bytes_at new q)) read second.slice;
@@ -98,7 +101,8 @@ loop-slice-preserved g c =
           rw w.rack-is (rw w.pool-is (record {
             reads = reads_more inv.reads e.reads;
             writes = writes_more c.args.pool.now c.loop-slice.pool w.add_slice_to_both.new.pool _ inv.writes e.pool;
-            calm = none_more (g.R.Rack.seen c.args.rack.now).account (g.R.Rack.seen c.loop-slice.rack).account (g.R.Rack.seen w.add_slice_to_both.new.rack).account inv.calm e.account;
+            calm = none_more (g.R.Rack.seen c.args.rack.now).account (g.R.Rack.seen c.loop-slice.rack).account
+                (g.R.Rack.seen w.add_slice_to_both.new.rack).account inv.calm e.account;
             of_p = λ images is.
                 let new = bytes_at w.add_slice_to_both.new.pool c.args.p.now in
                 let added = telling held (λ images. IsAdded images t k parity.P p_old new) e.of_p images (same_held inv.reads ∙ is) in
@@ -126,18 +130,24 @@ returns-in_err-add_slice_to_both-clause-account g c =
     let e = c.in_err-add_slice_to_both.ensures.account in
     let lt : k < slice_count t = omega (arith, c.loop-slice-test.true, c.slice_count-slice-end.ensures.value) in
     let p = err_from_is_err_and c.from_residual-in_err-add_slice_to_both.result c.from_residual-in_err-add_slice_to_both.ensures.1 in
-    rw (p.1, p.2) (row_missed t c.args.candidate (Slice k) _ (g.R.Rack.seen c.args.rack.now) (g.R.Rack.seen c.loop-slice.rack) (g.R.Rack.seen c.add_slice_to_both.new.rack) (same_sure c.loop-slice.invariant.reads) c.loop-slice.invariant.calm e (lt, sym c.reads.ensures ∙ c.if-reads.true))
+    rw (p.1, p.2) (row_missed t c.args.candidate (Slice k) _ (g.R.Rack.seen c.args.rack.now) (g.R.Rack.seen c.loop-slice.rack)
+    (g.R.Rack.seen c.add_slice_to_both.new.rack) (same_sure c.loop-slice.invariant.reads) c.loop-slice.invariant.calm e
+    (lt, sym c.reads.ensures ∙ c.if-reads.true))
 
 pub returns-clause-of_p : goal.returns-clause-of_p
 returns-clause-of_p g c =
     let t = c.args.search.now in
     let both : Candidate = c.args.candidate in
     let bytes : List ℕ = take (size_of t) (bytes_at c.loop-slice.pool c.args.p.now) in
-    told (g.R.Rack.seen c.args.rack.now).held (λ images. IsGathered images t both parity.P bytes) (λ images is. gathered_all images t both parity.P c.loop-slice.slice bytes (omega (arith, c.loop-slice-test.false, c.loop-slice.auto.slice-end, c.slice_count-slice-end.ensures.value)) (c.loop-slice.invariant.of_p images is))
+    told (g.R.Rack.seen c.args.rack.now).held (λ images. IsGathered images t both parity.P bytes)
+    (λ images is. gathered_all images t both parity.P c.loop-slice.slice bytes
+    (omega (arith, c.loop-slice-test.false, c.loop-slice.auto.slice-end, c.slice_count-slice-end.ensures.value)) (c.loop-slice.invariant.of_p images is))
 
 pub returns-clause-of_q : goal.returns-clause-of_q
 returns-clause-of_q g c =
     let t = c.args.search.now in
     let both : Candidate = c.args.candidate in
     let bytes : List ℕ = take (size_of t) (bytes_at c.loop-slice.pool c.args.q.now) in
-    told (g.R.Rack.seen c.args.rack.now).held (λ images. IsGathered images t both parity.Q bytes) (λ images is. gathered_all images t both parity.Q c.loop-slice.slice bytes (omega (arith, c.loop-slice-test.false, c.loop-slice.auto.slice-end, c.slice_count-slice-end.ensures.value)) (c.loop-slice.invariant.of_q images is))
+    told (g.R.Rack.seen c.args.rack.now).held (λ images. IsGathered images t both parity.Q bytes)
+    (λ images is. gathered_all images t both parity.Q c.loop-slice.slice bytes
+    (omega (arith, c.loop-slice-test.false, c.loop-slice.auto.slice-end, c.slice_count-slice-end.ensures.value)) (c.loop-slice.invariant.of_q images is))

@@ -63,7 +63,8 @@ returns-in-Passed-clause-serves g c =
     let writes = subst (λ p. OnlyWrites k p p3) lent (only_writes p2 p3 k c.in-Passed.ensures.kept) in
     let forgotten = c.take_least-slot.ensures.forgotten in
     let still = still_taken w0 w0 w2 w2 p0 p0 p2 p3 k refl refl lent forgotten (still_written w2 k p2 p3 (ap (λ w. get_or w k None) forgotten ∙ forgotten_at w0 k) c.try_part.ensures.kept) in
-    serves_still s.chunks s.devices.items s.setting w0 w2 p0 p3 (g.R.Rack.seen c.args.rack.now) (g.R.Rack.seen c.try_part.new.rack) c.args.store.now c.store.view_is (same_slots c.try_part.ensures.reads) (same_held c.try_part.ensures.reads) still c.requires.serves (loans_of p3)
+    serves_still s.chunks s.devices.items s.setting w0 w2 p0 p3 (g.R.Rack.seen c.args.rack.now) (g.R.Rack.seen c.try_part.new.rack) c.args.store.now
+    c.store.view_is (same_slots c.try_part.ensures.reads) (same_held c.try_part.ensures.reads) still c.requires.serves (loans_of p3)
 
 pub returns-in-Passed-clause-lent : goal.returns-in-Passed-clause-lent
 returns-in-Passed-clause-lent g c =
@@ -83,7 +84,8 @@ returns-in-Passed-clause-lent g c =
     let writes = subst (λ p. OnlyWrites k p p3) lent (only_writes p2 p3 k c.in-Passed.ensures.kept) in
     let is = sought_of layout want t seeks in
     let len = c.size-len.ensures.value ∙ ap (λ z. len_of z t.want) (is.setting_is ∙ sym (ap (λ z. z.layout.setting) c.store.view_is)) ∙ ap (len_of s.setting) is.want_is in
-    lent_by s.chunks s.devices.items s.setting p0 p3 (kept_in s.setting w0 p0.bytes) (kept_in s.setting w2 p3.bytes) k c.size-len.result c.args.store.now want c.store.invariant.store c.store.view_is free writes len
+    lent_by s.chunks s.devices.items s.setting p0 p3 (kept_in s.setting w0 p0.bytes) (kept_in s.setting w2 p3.bytes) k c.size-len.result
+    c.args.store.now want c.store.invariant.store c.store.view_is free writes len
 
 pub returns-in-Passed-clause-answer : goal.returns-in-Passed-clause-answer
 returns-in-Passed-clause-answer g c =
@@ -147,7 +149,8 @@ returns-clause-serves g c =
     let still = still_taken w0 w0 w2 w2 p0 p0 p2 p3 k refl refl lent forgotten (still_written w2 k p2 p3 (ap (λ w. get_or w k None) forgotten ∙ forgotten_at w0 k) c.try_part.ensures.kept) in
     let p4 = c.give.new.self in
     let back = still_more w0 w2 w2 p0 p3 p4 still (still_same w2 p3 p4 (ap (λ p. p.bytes) c.give.ensures)) in
-    serves_still s.chunks s.devices.items s.setting w0 w2 p0 p4 (g.R.Rack.seen c.args.rack.now) (g.R.Rack.seen c.try_part.new.rack) c.args.store.now c.store.view_is (same_slots c.try_part.ensures.reads) (same_held c.try_part.ensures.reads) back c.requires.serves (loans_of p4)
+    serves_still s.chunks s.devices.items s.setting w0 w2 p0 p4 (g.R.Rack.seen c.args.rack.now) (g.R.Rack.seen c.try_part.new.rack) c.args.store.now
+    c.store.view_is (same_slots c.try_part.ensures.reads) (same_held c.try_part.ensures.reads) back c.requires.serves (loans_of p4)
 
 pub invariant_of-store : goal.invariant_of-store
 invariant_of-store g c =
@@ -160,7 +163,8 @@ invariant_of-store g c =
     let p3 = c.try_part.new.pool in
     let taken = c.take_least-slot.ensures in
     let still = still_taken w0 w0 w2 w2 p0 p0 p2 p3 k refl refl taken.lent taken.forgotten (still_written w2 k p2 p3 (ap (λ w. get_or w k None) taken.forgotten ∙ forgotten_at w0 k) c.try_part.ensures.kept) in
-    written_sound p0 p2 p3 w0 w2 s.kept.nodes c.take_least-slot.new.kept.nodes s.setting k taken.lent (only_writes p2 p3 k c.try_part.ensures.kept) still taken.nodes c.store.invariant
+    written_sound p0 p2 p3 w0 w2 s.kept.nodes c.take_least-slot.new.kept.nodes s.setting k taken.lent (only_writes p2 p3 k c.try_part.ensures.kept)
+    still taken.nodes c.store.invariant
 
 pub invariant_of-store-2 : goal.invariant_of-store-2
 invariant_of-store-2 g c =
@@ -176,4 +180,5 @@ invariant_of-store-2 g c =
     let taken = c.take_least-slot.ensures in
     let still = still_taken w0 w0 w2 w2 p0 p0 p2 p3 k refl refl taken.lent taken.forgotten (still_written w2 k p2 p3 (ap (λ w. get_or w k None) taken.forgotten ∙ forgotten_at w0 k) c.try_part.ensures.kept) in
     let written = written_sound p0 p2 p3 w0 w2 s.kept.nodes n2 s.setting k taken.lent (only_writes p2 p3 k c.try_part.ensures.kept) still taken.nodes c.store.invariant in
-    sound_still w2 w2 n2 n2 p3 p4 s.setting (store_freed p3 p4 s.setting k c.give.ensures written.store) (nodes_with w2 w2 n2 n2 p3 p4 (still_same w2 p3 p4 (ap (λ p. p.bytes) c.give.ensures)) refl) written
+    sound_still w2 w2 n2 n2 p3 p4 s.setting (store_freed p3 p4 s.setting k c.give.ensures written.store)
+    (nodes_with w2 w2 n2 n2 p3 p4 (still_same w2 p3 p4 (ap (λ p. p.bytes) c.give.ensures)) refl) written

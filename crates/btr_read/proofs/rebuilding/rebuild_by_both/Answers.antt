@@ -26,10 +26,13 @@ returns-clause-value g c =
     let solves : IsTheOne n (WeighsWith sum weighted t.at.index c.args.other) (take n slice) = subst (λ i. IsTheOne n (WeighsWith sum weighted i c.args.other) (take n slice)) c.index.ensures sized in
     let differ : t.at.index ≢ c.args.other = λ e. c.requires.rebuilt.2 (sym e) in
     told held (λ images. value_of images t both ≡ take n slice) (λ images is.
-    by_both images t c.args.other sum weighted (take n slice) e.sought.0 c.requires.rebuilt.1 differ (telling held (λ images. IsGathered images t both parity.P sum) e.of_p images is) (telling held (λ images. IsGathered images t both parity.Q weighted) e.of_q images is) solves)
+    by_both images t c.args.other sum weighted (take n slice) e.sought.0 c.requires.rebuilt.1 differ
+    (telling held (λ images. IsGathered images t both parity.P sum) e.of_p images is)
+    (telling held (λ images. IsGathered images t both parity.Q weighted) e.of_q images is) solves)
 
 pub gather_both-requires-clause-stands : goal.gather_both-requires-clause-stands
-gather_both-requires-clause-stands g c = λ part h. part_stands c.args.search.now (ByBoth c.args.other) part c.requires.stands (row_in c.args.search.now c.args.other part h)
+gather_both-requires-clause-stands g c = λ part h. part_stands c.args.search.now (ByBoth c.args.other) part c.requires.stands
+    (row_in c.args.search.now c.args.other part h)
 
 pub returns-in_err-gather_both-clause-account : goal.returns-in_err-gather_both-clause-account
 returns-in_err-gather_both-clause-account g c =

@@ -19,4 +19,6 @@ returns-clause-value g c =
     let t = c.args.search.now in
     let held = (g.R.Rack.seen c.args.rack.now).held in
     let bytes : List ℕ = take (size_of t) (bytes_at c.gather.new.pool c.args.loan.now) in
-    on_both c.gather.result (λ sought gathered. told held (λ images. value_of images t ByP ≡ bytes) (λ images is. by_p images t bytes sought.0 (telling held (λ images. IsGathered images t ByP parity.P bytes) gathered images is))) c.gather.ensures.sought c.gather.ensures.bytes
+    on_both c.gather.result (λ sought gathered. told held (λ images. value_of images t ByP ≡ bytes)
+    (λ images is. by_p images t bytes sought.0 (telling held (λ images. IsGathered images t ByP parity.P bytes) gathered images is)))
+    c.gather.ensures.sought c.gather.ensures.bytes

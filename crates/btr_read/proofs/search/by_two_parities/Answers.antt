@@ -4,8 +4,10 @@ use Rattle.btr_read.proofs.search.by_two_parities.Goals as goal
 
 pub returns-then-other-index-clause-value : goal.returns-then-other-index-clause-value
 returns-then-other-index-clause-value c = λ slices lt below.
-    pair_at slices c.args.index c.args.k (c.args.k - 3) (c.args.k - 3) lt (omega (arith, c.in_default)) (omega (arith, c.in_default, below)) (others_below slices c.args.index (c.args.k - 3) 0 c.if-other-index.true)
+    pair_at slices c.args.index c.args.k (c.args.k - 3) (c.args.k - 3) lt (omega (arith, c.in_default)) (omega (arith, c.in_default, below))
+    (others_below slices c.args.index (c.args.k - 3) 0 c.if-other-index.true)
 
 pub returns-else-other-index-clause-value : goal.returns-else-other-index-clause-value
 returns-else-other-index-clause-value c = λ slices lt below.
-    pair_at slices c.args.index c.args.k (c.args.k - 3) (c.args.k - 3 + 1) lt (omega (arith, c.in_default)) (omega (arith, c.in_default, below)) (others_above slices c.args.index (c.args.k - 3) 0 c.if-other-index.false (omega (arith, c.in_default, below)))
+    pair_at slices c.args.index c.args.k (c.args.k - 3) (c.args.k - 3 + 1) lt (omega (arith, c.in_default)) (omega (arith, c.in_default, below))
+    (others_above slices c.args.index (c.args.k - 3) 0 c.if-other-index.false (omega (arith, c.in_default, below)))

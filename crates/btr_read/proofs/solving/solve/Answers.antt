@@ -23,5 +23,6 @@ loop-done-preserved c =
     let one = subst (λ n. IsTheOne n (WeighsWith (slice_range ps done end) (slice_range qs done end) c.args.index c.args.other) X) few (subst (λ m. IsTheOne n (WeighsWith (slice_range ps done m) (slice_range qs done m) c.args.index c.args.other) X) there e.solved.1) in
     record {
       within = omega (arith, c.min.ensures);
-      so_far = solved_more c.args.index c.args.other p q done end old now c.solve_piece.new.pool c.requires.live c.requires.apart lt (omega (arith, c.min.ensures, c.requires.fits)) c.loop-done.invariant.so_far e.long X one e.solved.2;
+      so_far = solved_more c.args.index c.args.other p q done end old now c.solve_piece.new.pool c.requires.live c.requires.apart lt
+          (omega (arith, c.min.ensures, c.requires.fits)) c.loop-done.invariant.so_far e.long X one e.solved.2;
     }

@@ -39,7 +39,8 @@ returns-in-ByP-clause-syndromes g c =
     let end = c.copy_slot.new.pool in
     let same_p = still old end p loan c.requires.loans.first.ab c.copy_slot.ensures.kept in
     let same_q = still old end q loan c.requires.loans.first.ac c.copy_slot.ensures.kept in
-    subst (λ x. IfSome held (λ images. AreSyndromes images t (take n x) (take n (bytes_at end q)))) (sym same_p) (subst (λ x. IfSome held (λ images. AreSyndromes images t (take n (bytes_at old p)) (take n x))) (sym same_q) c.requires.syndromes)
+    subst (λ x. IfSome held (λ images. AreSyndromes images t (take n x) (take n (bytes_at end q)))) (sym same_p)
+    (subst (λ x. IfSome held (λ images. AreSyndromes images t (take n (bytes_at old p)) (take n x))) (sym same_q) c.requires.syndromes)
 
 pub returns-in-ByQ-clause-value : goal.returns-in-ByQ-clause-value
 returns-in-ByQ-clause-value g c =
@@ -73,4 +74,5 @@ returns-in-ByQ-clause-syndromes g c =
     let end = c.divide.new.pool in
     let same_p = still mid end p loan c.requires.loans.first.ab c.divide.ensures.kept ∙ still old mid p loan c.requires.loans.first.ab c.copy_slot-in-ByQ.ensures.kept in
     let same_q = still mid end q loan c.requires.loans.first.ac c.divide.ensures.kept ∙ still old mid q loan c.requires.loans.first.ac c.copy_slot-in-ByQ.ensures.kept in
-    subst (λ x. IfSome held (λ images. AreSyndromes images t (take n x) (take n (bytes_at end q)))) (sym same_p) (subst (λ x. IfSome held (λ images. AreSyndromes images t (take n (bytes_at old p)) (take n x))) (sym same_q) c.requires.syndromes)
+    subst (λ x. IfSome held (λ images. AreSyndromes images t (take n x) (take n (bytes_at end q)))) (sym same_p)
+    (subst (λ x. IfSome held (λ images. AreSyndromes images t (take n (bytes_at old p)) (take n x))) (sym same_q) c.requires.syndromes)

@@ -11,6 +11,8 @@ abbrev pub invariant-loop-k : goal.invariant-loop-k
 invariant-loop-k g l = record {
   reads : OnlyReads (g.R.Rack.seen l.fn.rack) (g.R.Rack.seen l.rack);
   writes : OnlyWritesIn (l.q ∷ l.spare ∷ l.loan ∷ []) l.fn.pool l.pool;
-  syndromes : IfSome (g.R.Rack.seen l.rack).held (λ images. AreSyndromes images l.search (take (size_of l.search) (bytes_at l.pool l.p)) (take (size_of l.search) (bytes_at l.pool l.q)));
-  tried : (before : Seen) → BeganAt before (g.R.Rack.seen l.fn.rack) → TriedSoFar l.search before (g.R.Rack.seen l.fn.rack) l.failed 1 → TriedSoFar l.search before (g.R.Rack.seen l.rack) l.failed l.k;
+  syndromes : IfSome (g.R.Rack.seen l.rack).held (λ images. AreSyndromes images l.search (take (size_of l.search) (bytes_at l.pool l.p))
+      (take (size_of l.search) (bytes_at l.pool l.q)));
+  tried : (before : Seen) → BeganAt before (g.R.Rack.seen l.fn.rack) → TriedSoFar l.search before (g.R.Rack.seen l.fn.rack) l.failed 1
+      → TriedSoFar l.search before (g.R.Rack.seen l.rack) l.failed l.k;
 }

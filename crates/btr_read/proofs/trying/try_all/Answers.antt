@@ -34,13 +34,19 @@ returns-clause-outcome g c =
     elim c.match-try_candidate.branch [
       | in-Differs w ↦
           let e = w.in-Differs.ensures in
-          subst (λ f. TriedSoFar t old after f 1) (sym w.failed-is) (tried_calm t old old after None 0 cand none value lt e.account (λ images im. differs_alone images t cand (value_of images t cand) (reading_stands images t cand e.attempt.0) (telling old.held (λ images. passes t.setting t.want (value_of images t cand) ≡ false) e.attempt.1 images im)))
+          subst (λ f. TriedSoFar t old after f 1) (sym w.failed-is)
+          (tried_calm t old old after None 0 cand none value lt e.account
+          (λ images im. differs_alone images t cand (value_of images t cand) (reading_stands images t cand e.attempt.0)
+          (telling old.held (λ images. passes t.setting t.want (value_of images t cand) ≡ false) e.attempt.1 images im)))
       | in-Absent w ↦
           let e = w.in-Absent.ensures in
-          subst (λ f. TriedSoFar t old after f 1) (sym w.failed-is) (tried_calm t old old after None 0 cand none value lt e.account (λ images im. absent_alone images t cand (reading_absent images t cand e.attempt)))
+          subst (λ f. TriedSoFar t old after f 1) (sym w.failed-is)
+          (tried_calm t old old after None 0 cand none value lt e.account
+          (λ images im. absent_alone images t cand (reading_absent images t cand e.attempt)))
       | in-Failed w ↦
           let e = w.in-Failed.ensures in
-          subst (λ f. TriedSoFar t old after f 1) (sym w.failed-is) (tried_failed t old old after None 0 w.in-Failed.slot cand none value lt (omega arith) refl e.attempt e.account)
+          subst (λ f. TriedSoFar t old after f 1) (sym w.failed-is)
+          (tried_failed t old old after None 0 w.in-Failed.slot cand none value lt (omega arith) refl e.attempt e.account)
     ]
     in
     c.try_behind.ensures.outcome old (began_on c.try_candidate.ensures.reads began) tried

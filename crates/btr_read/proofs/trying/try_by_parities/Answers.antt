@@ -102,7 +102,9 @@ returns-clause-kept g c =
     let writes = subst (λ x. OnlyWritesIn (q ∷ s ∷ p ∷ k ∷ []) x p4) taken c.try_row-trial.ensures.pool in
     let given = c.give-3.ensures ∙ ap (λ x. with_free x p) (c.give-2.ensures ∙ ap (λ x. with_free x q) c.give.ensures) in
     let wants = c.take_least-spare.ensures.forgotten ∙ ap (λ w. set w s None) (c.take_least-q.ensures.forgotten ∙ ap (λ w. set w q None) c.take_least-p.ensures.forgotten) in
-    subst (StillKept c.args.kept.now.wants c.take_least-spare.new.kept.wants p0) (sym given) (three_forgotten p0 k p q s c.requires.live free_p free_q free_s p4 writes c.args.kept.now.wants c.take_least-spare.new.kept.wants c.requires.forgotten wants)
+    subst (StillKept c.args.kept.now.wants c.take_least-spare.new.kept.wants p0) (sym given)
+    (three_forgotten p0 k p q s c.requires.live free_p free_q free_s p4 writes c.args.kept.now.wants c.take_least-spare.new.kept.wants
+    c.requires.forgotten wants)
 
 pub returns-clause-trial : goal.returns-clause-trial
 returns-clause-trial g c =
@@ -111,7 +113,8 @@ returns-clause-trial g c =
     let q = c.take_least-q.result in
     let s = c.take_least-spare.result in
     let given = c.give-3.ensures ∙ ap (λ x. with_free x p) (c.give-2.ensures ∙ ap (λ x. with_free x q) c.give.ensures) in
-    λ before is h. subst (λ x. FitsTrial c.args.search.now before (g.R.Rack.seen c.try_row-trial.new.rack) (bytes_at x k) c.try_row-trial.result) (sym given) (c.try_row-trial.ensures.trial before is h)
+    λ before is h. subst (λ x. FitsTrial c.args.search.now before (g.R.Rack.seen c.try_row-trial.new.rack) (bytes_at x k) c.try_row-trial.result)
+    (sym given) (c.try_row-trial.ensures.trial before is h)
 
 pub take_least-spare-requires-clause-room : goal.take_least-spare-requires-clause-room
 take_least-spare-requires-clause-room g c =

@@ -21,7 +21,8 @@ pub try_candidate-requires-clause-room : goal.try_candidate-requires-clause-room
 try_candidate-requires-clause-room g c = omega (arith, c.requires.room, ap (count_by not) c.loop-k.invariant.writes.lent)
 
 pub try_candidate-requires-clause-forgotten : goal.try_candidate-requires-clause-forgotten
-try_candidate-requires-clause-forgotten g c = still_forgets c.args.kept.now.wants c.loop-k.kept.wants c.args.pool.now c.loop-k.pool c.args.loan.now c.loop-k.invariant.still c.requires.forgotten
+try_candidate-requires-clause-forgotten g c = still_forgets c.args.kept.now.wants c.loop-k.kept.wants c.args.pool.now c.loop-k.pool c.args.loan.now
+    c.loop-k.invariant.still c.requires.forgotten
 
 pub loop-k-init : goal.loop-k-init
 loop-k-init g c = record {
@@ -33,13 +34,15 @@ loop-k-init g c = record {
 }
 
 pub returns-in-Passed-clause-pool : goal.returns-in-Passed-clause-pool
-returns-in-Passed-clause-pool g c = only_writes_more c.args.pool.now c.loop-k.pool c.try_candidate.new.pool c.args.loan.now c.loop-k.invariant.writes c.in-Passed.ensures.pool
+returns-in-Passed-clause-pool g c = only_writes_more c.args.pool.now c.loop-k.pool c.try_candidate.new.pool c.args.loan.now c.loop-k.invariant.writes
+    c.in-Passed.ensures.pool
 
 pub returns-in-Passed-clause-reads : goal.returns-in-Passed-clause-reads
 returns-in-Passed-clause-reads g c = reads_more c.loop-k.invariant.reads c.in-Passed.ensures.reads
 
 pub returns-in-Passed-clause-kept : goal.returns-in-Passed-clause-kept
-returns-in-Passed-clause-kept g c = still_more c.args.kept.now.wants c.loop-k.kept.wants c.try_candidate.new.kept.wants c.args.pool.now c.loop-k.pool c.try_candidate.new.pool c.loop-k.invariant.still c.in-Passed.ensures.kept
+returns-in-Passed-clause-kept g c = still_more c.args.kept.now.wants c.loop-k.kept.wants c.try_candidate.new.kept.wants c.args.pool.now c.loop-k.pool
+    c.try_candidate.new.pool c.loop-k.invariant.still c.in-Passed.ensures.kept
 
 pub returns-in-Passed-clause-nodes : goal.returns-in-Passed-clause-nodes
 returns-in-Passed-clause-nodes g c = c.in-Passed.ensures.nodes ∙ c.loop-k.invariant.nodes
@@ -54,8 +57,10 @@ returns-in-Passed-clause-outcome g c = λ before is h.
     let slot = bytes_at c.try_candidate.new.pool c.args.loan.now in
     let bytes : List ℕ = take (size_of t) slot in
     subst (FitsOutcome t before after slot) (sym c.passed_after.ensures)
-    (one_passes t before now after c.loop-k.failed c.loop-k.k c.candidate.result slot is.fresh (c.loop-k.invariant.tried before is h) c.candidate.ensures.value lt e.account e.attempt.0 e.attempt.1
-    (λ images im. telling now.held (λ images. value_of images t c.candidate.result ≡ bytes) e.attempt.2 images (same_held c.loop-k.invariant.reads ∙ is.held ∙ im)))
+    (one_passes t before now after c.loop-k.failed c.loop-k.k c.candidate.result slot is.fresh (c.loop-k.invariant.tried before is h)
+    c.candidate.ensures.value lt e.account e.attempt.0 e.attempt.1
+    (λ images im. telling now.held (λ images. value_of images t c.candidate.result ≡ bytes) e.attempt.2 images
+    (same_held c.loop-k.invariant.reads ∙ is.held ∙ im)))
 
 pub loop-k-preserved : goal.loop-k-preserved
 loop-k-preserved g c =
@@ -71,27 +76,36 @@ loop-k-preserved g c =
           record {
             reads = reads_more inv.reads e.reads;
             writes = only_writes_more c.args.pool.now c.loop-k.pool c.try_candidate.new.pool c.args.loan.now inv.writes e.pool;
-            still = still_more c.args.kept.now.wants c.loop-k.kept.wants c.try_candidate.new.kept.wants c.args.pool.now c.loop-k.pool c.try_candidate.new.pool inv.still e.kept;
+            still = still_more c.args.kept.now.wants c.loop-k.kept.wants c.try_candidate.new.kept.wants c.args.pool.now c.loop-k.pool
+                c.try_candidate.new.pool inv.still e.kept;
             nodes = e.nodes ∙ inv.nodes;
-            tried = λ before is h. rw w.failed-is (tried_calm t before now after c.loop-k.failed c.loop-k.k cand (inv.tried before is h) c.candidate.ensures.value lt e.account (λ images im. differs_alone images t cand (value_of images t cand) (reading_stands images t cand e.attempt.0) (telling now.held (λ images. passes t.setting t.want (value_of images t cand) ≡ false) e.attempt.1 images (same_held inv.reads ∙ is.held ∙ im))));
+            tried = λ before is h. rw w.failed-is (tried_calm t before now after c.loop-k.failed c.loop-k.k cand (inv.tried before is h)
+                c.candidate.ensures.value lt e.account (λ images im. differs_alone images t cand (value_of images t cand)
+                (reading_stands images t cand e.attempt.0) (telling now.held (λ images. passes t.setting t.want (value_of images t cand) ≡ false)
+                e.attempt.1 images (same_held inv.reads ∙ is.held ∙ im))));
           }
       | in-Absent w ↦
           let e = w.in-Absent.ensures in
           record {
             reads = reads_more inv.reads e.reads;
             writes = only_writes_more c.args.pool.now c.loop-k.pool c.try_candidate.new.pool c.args.loan.now inv.writes e.pool;
-            still = still_more c.args.kept.now.wants c.loop-k.kept.wants c.try_candidate.new.kept.wants c.args.pool.now c.loop-k.pool c.try_candidate.new.pool inv.still e.kept;
+            still = still_more c.args.kept.now.wants c.loop-k.kept.wants c.try_candidate.new.kept.wants c.args.pool.now c.loop-k.pool
+                c.try_candidate.new.pool inv.still e.kept;
             nodes = e.nodes ∙ inv.nodes;
-            tried = λ before is h. rw w.failed-is (tried_calm t before now after c.loop-k.failed c.loop-k.k cand (inv.tried before is h) c.candidate.ensures.value lt e.account (λ images im. absent_alone images t cand (reading_absent images t cand e.attempt)));
+            tried = λ before is h. rw w.failed-is (tried_calm t before now after c.loop-k.failed c.loop-k.k cand (inv.tried before is h)
+                c.candidate.ensures.value lt e.account (λ images im. absent_alone images t cand (reading_absent images t cand e.attempt)));
           }
       | in-Failed w ↦
           let e = w.in-Failed.ensures in
           record {
             reads = reads_more inv.reads e.reads;
             writes = only_writes_more c.args.pool.now c.loop-k.pool c.try_candidate.new.pool c.args.loan.now inv.writes e.pool;
-            still = still_more c.args.kept.now.wants c.loop-k.kept.wants c.try_candidate.new.kept.wants c.args.pool.now c.loop-k.pool c.try_candidate.new.pool inv.still e.kept;
+            still = still_more c.args.kept.now.wants c.loop-k.kept.wants c.try_candidate.new.kept.wants c.args.pool.now c.loop-k.pool
+                c.try_candidate.new.pool inv.still e.kept;
             nodes = e.nodes ∙ inv.nodes;
-            tried = λ before is h. rw w.failed-is (tried_failed t before now after c.loop-k.failed c.loop-k.k _ cand (inv.tried before is h) c.candidate.ensures.value lt (omega (arith, c.loop-k-test.true, c.candidate_count-k-end.type_inv)) (same_sure inv.reads ∙ is.sure) e.attempt e.account);
+            tried = λ before is h. rw w.failed-is (tried_failed t before now after c.loop-k.failed c.loop-k.k _ cand (inv.tried before is h)
+                c.candidate.ensures.value lt (omega (arith, c.loop-k-test.true, c.candidate_count-k-end.type_inv)) (same_sure inv.reads ∙ is.sure)
+                e.attempt e.account);
           }
     ]
 
@@ -101,4 +115,5 @@ returns-clause-outcome g c = λ before is h.
     let now = g.R.Rack.seen c.loop-k.rack in
     let slot = bytes_at c.loop-k.pool c.args.loan.now in
     let le : length (candidates t) ≤ c.loop-k.k = omega (arith, c.loop-k-test.false, c.candidate_count-k-end.ensures) in
-    subst (FitsOutcome t before now slot) (sym c.ended_after.ensures) (all_ended t before now c.loop-k.failed c.loop-k.k slot is.fresh le (c.loop-k.invariant.tried before is h))
+    subst (FitsOutcome t before now slot) (sym c.ended_after.ensures)
+    (all_ended t before now c.loop-k.failed c.loop-k.k slot is.fresh le (c.loop-k.invariant.tried before is h))

@@ -10,5 +10,6 @@ invariant-loop-k g l = record {
   writes : OnlyWrites l.loan l.fn.pool l.pool;
   still : StillKept l.fn.kept.wants l.kept.wants l.fn.pool l.pool;
   nodes : l.kept.nodes ≡ l.fn.kept.nodes;
-  tried : (before : Seen) → BeganAt before (g.R.Rack.seen l.fn.rack) → TriedSoFar l.search before (g.R.Rack.seen l.fn.rack) l.fn.failed l.from → TriedSoFar l.search before (g.R.Rack.seen l.rack) l.failed l.k;
+  tried : (before : Seen) → BeganAt before (g.R.Rack.seen l.fn.rack) → TriedSoFar l.search before (g.R.Rack.seen l.fn.rack) l.fn.failed l.from
+      → TriedSoFar l.search before (g.R.Rack.seen l.rack) l.failed l.k;
 }

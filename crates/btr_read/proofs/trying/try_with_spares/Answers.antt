@@ -63,4 +63,6 @@ returns-clause-kept g c =
     let writes = subst (λ p. OnlyWritesIn (q ∷ s ∷ k ∷ []) p p3) taken c.try_rebuilt-attempt.ensures.pool in
     let given = c.give-2.ensures ∙ ap (λ p. with_free p q) c.give.ensures in
     let wants = c.take_least-spare.ensures.forgotten ∙ ap (λ w. set w s None) c.take_least-q.ensures.forgotten in
-    subst (StillKept c.args.kept.now.wants c.take_least-spare.new.kept.wants p0) (sym given) (both_forgotten p0 k q s c.requires.live c.take_least-q.ensures.free free_s p3 writes c.args.kept.now.wants c.take_least-spare.new.kept.wants c.requires.forgotten wants)
+    subst (StillKept c.args.kept.now.wants c.take_least-spare.new.kept.wants p0) (sym given)
+    (both_forgotten p0 k q s c.requires.live c.take_least-q.ensures.free free_s p3 writes c.args.kept.now.wants c.take_least-spare.new.kept.wants
+    c.requires.forgotten wants)

@@ -7,4 +7,5 @@ pub returns-then-not-has_slot : goal.returns-then-not-has_slot
 returns-then-not-has_slot n c = λ yes.
     let first = c.in-Some.first.now in
     let others = c.in-Some.others.now in
-    subst HaveOwnSlots (sym c.in-Some.ensures.cases.0) (own_first first others (c.have_own_slots.ensures yes) (lacks_slot first.device.slot others (sym c.has_slot.ensures ∙ c.if-not-has_slot.true)))
+    subst HaveOwnSlots (sym c.in-Some.ensures.cases.0) (own_first first others (c.have_own_slots.ensures yes)
+    (lacks_slot first.device.slot others (sym c.has_slot.ensures ∙ c.if-not-has_slot.true)))

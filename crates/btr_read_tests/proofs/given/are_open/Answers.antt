@@ -7,7 +7,8 @@ use Rattle.btr_read.specs.declared.device.Member.{Member}
 use Rattle.btr_read.specs.Layout.{AreOpen, IsOpen, device_in}
 use Rattle.btr_read_tests.proofs.given.are_open.Goals as goal
 
-open_if : (slots : List Slot) (first : Device) (others : Option Device) (device : Device) (b : Bool) → IsOpen slots first → (others ≡ Some device → IsOpen slots device) → cond b (Some first) others ≡ Some device → IsOpen slots device
+open_if : (slots : List Slot) (first : Device) (others : Option Device) (device : Device) (b : Bool) → IsOpen slots first
+    → (others ≡ Some device → IsOpen slots device) → cond b (Some first) others ≡ Some device → IsOpen slots device
 open_if slots first others device true is are e =
     let same : first ≡ device = cc in
     subst (IsOpen slots) same is
@@ -15,14 +16,17 @@ open_if slots first others device false is are e = are e
 
 -- a device before others
 open_before : (slots : List Slot) (member : Member) (rest : List Member) → IsOpen slots member.device → AreOpen slots rest → AreOpen slots (member ∷ rest)
-open_before slots member rest is are devid device e = open_if slots member.device (device_in rest devid) device (nat_eq member.devid devid) is (are devid device) e
+open_before slots member rest is are devid device e = open_if slots member.device (device_in rest devid) device (nat_eq member.devid devid) is
+    (are devid device) e
 
 -- what stands past the last device
 abbrev no_member : Member
 no_member = record { devid = 0; device = record { slot = 0; len = 0; older = false } }
 
-open_next : (slots : List Slot) (members : List Member) (i : ℕ) → i < length members → IsOpen slots (get_or members i no_member).device → AreOpen slots (drop (i + 1) members) → AreOpen slots (drop i members)
-open_next slots members i lt is are = subst (AreOpen slots) (sym (drop_more members i no_member lt)) (open_before slots (get_or members i no_member) (drop (i + 1) members) is are)
+open_next : (slots : List Slot) (members : List Member) (i : ℕ) → i < length members → IsOpen slots (get_or members i no_member).device
+    → AreOpen slots (drop (i + 1) members) → AreOpen slots (drop i members)
+open_next slots members i lt is are = subst (AreOpen slots) (sym (drop_more members i no_member lt))
+    (open_before slots (get_or members i no_member) (drop (i + 1) members) is are)
 
 open_none : (slots : List Slot) → AreOpen slots []
 open_none slots devid device e = cc

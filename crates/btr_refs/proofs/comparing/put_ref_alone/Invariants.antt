@@ -10,4 +10,5 @@ use Rattle.btr_refs.proofs.comparing.put_ref_alone.Given as goal
 -- what is left to be put, and what was put, are all rows
 abbrev pub invariant-loop-key : goal.invariant-loop-key
 invariant-loop-key l = (extents : List Extent) → Addresses extents l.addresses
-    → (one : Finding) → (list_any (is_row (ref_alone extents l.refs.entries) one) l.key-iterator || has l.found one) ≡ (list_any (is_row (ref_alone extents l.refs.entries) one) (keys_of l.refs.entries) || has l.fn.found one)
+    → (one : Finding) → (list_any (is_row (ref_alone extents l.refs.entries) one) l.key-iterator || has l.found one)
+    ≡ (list_any (is_row (ref_alone extents l.refs.entries) one) (keys_of l.refs.entries) || has l.fn.found one)

@@ -8,4 +8,5 @@ use Rattle.btr_refs.proofs.comparing.put_ref_counts.Given as goal
 
 -- what is left to be put, and what was put, are all rows
 abbrev pub invariant-loop-key : goal.invariant-loop-key
-invariant-loop-key l = (one : Finding) → (list_any (is_row (ref_count l.forward.entries l.stored.entries) one) l.key-iterator || has l.found one) ≡ (list_any (is_row (ref_count l.forward.entries l.stored.entries) one) (keys_of l.refs.entries) || has l.fn.found one)
+invariant-loop-key l = (one : Finding) → (list_any (is_row (ref_count l.forward.entries l.stored.entries) one) l.key-iterator || has l.found one)
+    ≡ (list_any (is_row (ref_count l.forward.entries l.stored.entries) one) (keys_of l.refs.entries) || has l.fn.found one)

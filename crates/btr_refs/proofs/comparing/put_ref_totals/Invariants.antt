@@ -7,4 +7,5 @@ use Rattle.btr_refs.proofs.comparing.put_ref_totals.Given as goal
 
 -- the rows of the extents so far
 abbrev pub invariant-loop-extent : goal.invariant-loop-extent
-invariant-loop-extent l = (one : Finding) → has l.found one ≡ (list_any (is_row (ref_total l.refs.entries) one) (take l.extent-index l.extents) || has l.fn.found one)
+invariant-loop-extent l = (one : Finding) → has l.found one ≡
+    (list_any (is_row (ref_total l.refs.entries) one) (take l.extent-index l.extents) || has l.fn.found one)

@@ -14,7 +14,8 @@ returns c =
     let a = c.args.found.now in
     let b = c.put_ref_totals.new.found in
     let d = c.put_ref_alone.new.found in
-    on_ok c.put_ref_alone.result (PutsRefs (ref_alone extents stored) c.refs-refs.result.now b d) (Adds (total_findings c.args.stored.now.extents c.args.stored.now.refs) a d)
+    on_ok c.put_ref_alone.result (PutsRefs (ref_alone extents stored) c.refs-refs.result.now b d)
+    (Adds (total_findings c.args.stored.now.extents c.args.stored.now.refs) a d)
     (λ second. subst (λ (counts : RefCounts). Adds (total_findings c.args.stored.now.extents counts) a d) c.refs-refs.ensures
     (subst (λ (all : List Extent). Adds (total_findings all stored) a d) c.extents-extents.ensures
     (λ one. total_rows [] stored extents one (has a one) (has b one) (has d one) (c.in_ok-put_ref_totals.ensures one) (second one))))

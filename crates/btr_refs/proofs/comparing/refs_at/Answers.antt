@@ -12,7 +12,8 @@ returns-in-Some c =
     let addr = c.args.addr in
     let next = c.in-Some.addr in
     ap (λ (refs : RefCounts). total_at refs addr) (c.range.ensures.between tt)
-    ∙ sum_kept addr (range_contains ref_cmp (Included (first_at addr)) (Excluded (first_at next))) (λ key e. ref_within addr key e next c.in-Some.ensures.1) c.args.refs.now.entries
+    ∙ sum_kept addr (range_contains ref_cmp (Included (first_at addr)) (Excluded (first_at next)))
+    (λ key e. ref_within addr key e next c.in-Some.ensures.1) c.args.refs.now.entries
 
 pub returns-in-None : goal.returns-in-None
 returns-in-None c =

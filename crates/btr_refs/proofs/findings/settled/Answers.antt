@@ -4,4 +4,5 @@ use Rattle.btr_refs.proofs.Taking.{run_done}
 use Rattle.btr_refs.proofs.findings.settled.Goals as goal
 
 pub loop-place-preserved : goal.loop-place-preserved
-loop-place-preserved c = run_done c.args.runs.now c.loop-place.place.run c.loop-place.place.done no_run c.loop-place-test.true c.if-runs-place.true ∙ c.loop-place.invariant
+loop-place-preserved c = run_done c.args.runs.now c.loop-place.place.run c.loop-place.place.done no_run c.loop-place-test.true c.if-runs-place.true
+    ∙ c.loop-place.invariant

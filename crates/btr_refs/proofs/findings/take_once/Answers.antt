@@ -6,7 +6,8 @@ use Rattle.btr_refs.proofs.Onces.{once_more, reaching_within}
 use Rattle.btr_refs.proofs.findings.take_once.Goals as goal
 
 pub without-requires-clause-run : goal.without-requires-clause-run
-without-requires-clause-run c = subst IsWithin (sym (c.loop-i.invariant.rest c.loop-i.i no_run (omega arith))) (c.requires c.loop-i.i no_run c.loop-i-test.true).within
+without-requires-clause-run c = subst IsWithin (sym (c.loop-i.invariant.rest c.loop-i.i no_run (omega arith)))
+    (c.requires c.loop-i.i no_run c.loop-i-test.true).within
 
 pub loop-i-preserved : goal.loop-i-preserved
 loop-i-preserved c =

@@ -5,4 +5,5 @@ use Rattle.btr_refs.proofs.forward.add_items.Given as goal
 
 -- those that are left, and what was counted, are all
 abbrev pub invariant-loop-item : goal.invariant-loop-item
-invariant-loop-item l = fold with_use l.forward (flat_map (λ (item : Item). item_uses l.from item.key item.body) l.item-iterator) ≡ fold with_use l.fn.forward (flat_map (λ (item : Item). item_uses l.from item.key item.body) l.leaf)
+invariant-loop-item l = fold with_use l.forward (flat_map (λ (item : Item). item_uses l.from item.key item.body) l.item-iterator)
+    ≡ fold with_use l.fn.forward (flat_map (λ (item : Item). item_uses l.from item.key item.body) l.leaf)

@@ -11,4 +11,5 @@ returns-clause-findings c =
     let more = c.args.more.now in
     let tests : is_rule run.rule more.rule ≡ true = search rules in
     lines_join run.rule run.first run.count more.count
-    ∙ ap (λ l. lines run.rule run.first run.count ++ l) (ap (λ n. lines run.rule n more.count) c.if-run-more.false ∙ ap (λ rule. lines rule more.first more.count) (same_rule run.rule more.rule tests))
+    ∙ ap (λ l. lines run.rule run.first run.count ++ l) (ap (λ n. lines run.rule n more.count) c.if-run-more.false
+    ∙ ap (λ rule. lines rule more.first more.count) (same_rule run.rule more.rule tests))

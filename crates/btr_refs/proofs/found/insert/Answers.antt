@@ -10,6 +10,7 @@ pub returns : goal.returns
 returns c =
     let runs = c.found.inside.runs.items in
     on_ok_weaker c.insert_single.result
-    (λ keys. subst (λ (set : FoundSet). (one : Finding) → has (found_set c.insert_single.new.single runs) one ≡ (is_same one c.args.finding || has set one)) c.found.view_is
+    (λ keys. subst (λ (set : FoundSet). (one : Finding) → has (found_set c.insert_single.new.single runs) one
+    ≡ (is_same one c.args.finding || has set one)) c.found.view_is
     (single_put c.found.inside.single c.insert_single.new.single runs c.args.finding keys))
     c.insert_single.ensures

@@ -9,7 +9,8 @@ pub loop-i-preserved : goal.loop-i-preserved
 loop-i-preserved c =
     let addr : c.shown.result ≡ shown_sum (c.args.start + c.loop-i.i * 4096) = omega (arith, c.shown.ensures, c.saturating_add-addr.ensures, c.from.ensures) in
     let one : c.finding.result ≡ sector_finding c.args.rule (shown_sum (c.args.start + c.loop-i.i * 4096)) = c.finding.ensures ∙ ap (sector_finding c.args.rule) addr in
-    sectors_more c.args.rule c.args.start c.loop-i.i c.finding.result c.args.found.now c.loop-i.found c.insert.new.found one c.loop-i.invariant c.in_ok-insert.ensures
+    sectors_more c.args.rule c.args.start c.loop-i.i c.finding.result c.args.found.now c.loop-i.found c.insert.new.found one c.loop-i.invariant
+    c.in_ok-insert.ensures
 
 pub returns : goal.returns
 returns c =

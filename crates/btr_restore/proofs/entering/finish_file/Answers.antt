@@ -22,7 +22,8 @@ pub returns-clause-wrote : goal.returns-clause-wrote
 returns-clause-wrote g c =
     subst (λ (n : ℕ). Wrote (closed c.args.job.now.plan c.args.path.now c.args.counts.now c.args.plain)
     (outside (g.T.TreeSink.sink c.args.tree.now) (g.T.TreeSink.account c.args.tree.now) (g.O.Out.text c.args.out.now) (g.O.Out.account c.args.out.now))
-    (outside (g.T.TreeSink.sink c.close_file.new.tree) (g.T.TreeSink.account c.close_file.new.tree) (g.O.Out.text c.tell_unverified.new.out) (g.O.Out.account c.tell_unverified.new.out))
+    (outside (g.T.TreeSink.sink c.close_file.new.tree) (g.T.TreeSink.account c.close_file.new.tree) (g.O.Out.text c.tell_unverified.new.out)
+    (g.O.Out.account c.tell_unverified.new.out))
     (Ok (Over (record { dirs = c.args.counts.now.dirs; files = n; skipped = c.args.counts.now.skipped })))) (sym c.more-counts.ensures)
     (row_then _ _ _ _ _ _ _ (c.in-Ok.ensures.wrote (g.O.Out.text c.args.out.now) (g.O.Out.account c.args.out.now))
     (line_then _ _ _ _ _ _ _ (c.in-Ok-tell.ensures (g.T.TreeSink.sink c.close_file.new.tree) (g.T.TreeSink.account c.close_file.new.tree))

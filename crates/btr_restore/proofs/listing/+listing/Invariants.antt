@@ -16,7 +16,8 @@ decreases-list_within g l = 3 * length l.frames.now
 abbrev pub invariant-list-loop-fault : goal.invariant-list-loop-fault
 invariant-list-loop-fault g l =
     IsUnderway l.initial.tree l.tree l.job.plan l.job.sums (length l.initial.below) l.root l.dirid l.initial.path l.initial.counts
-    (world (g.R.Rack.seen l.initial.rack) l.initial.vol (outside (g.T.TreeSink.sink l.initial.tree) (g.T.TreeSink.account l.initial.tree) (g.O.Out.text l.initial.out) (g.O.Out.account l.initial.out)))
+    (world (g.R.Rack.seen l.initial.rack) l.initial.vol (outside (g.T.TreeSink.sink l.initial.tree) (g.T.TreeSink.account l.initial.tree)
+    (g.O.Out.text l.initial.out) (g.O.Out.account l.initial.out)))
     (world (g.R.Rack.seen l.rack) l.vol (outside (g.T.TreeSink.sink l.tree) (g.T.TreeSink.account l.tree) (g.O.Out.text l.out) (g.O.Out.account l.out)))
     l.counts l.here.dir l.path (length l.below)
 

@@ -10,25 +10,58 @@ use Rattle.btr_restore.proofs.Rans.{ran_halt, ran_then, ran_wrote, row_halt, row
 use Rattle.btr_restore.proofs.restoring.list_into.Goals as goal
 
 pub returns-in-Err-clause-ran : goal.returns-in-Err-clause-ran
-returns-in-Err-clause-ran g c s e = ran_wrote _ _ _ _ _ _ c.requires.ready (row_halt _ _ _ _ _ _ (c.in-Err.ensures.wrote (g.O.Out.text c.args.out.now) (g.O.Out.account c.args.out.now)))
+returns-in-Err-clause-ran g c s e = ran_wrote _ _ _ _ _ _ c.requires.ready
+    (row_halt _ _ _ _ _ _ (c.in-Err.ensures.wrote (g.O.Out.text c.args.out.now) (g.O.Out.account c.args.out.now)))
 
 pub returns-in-Ok-list-clause-ran : goal.returns-in-Ok-list-clause-ran
 returns-in-Ok-list-clause-ran g c s e =
     let places : length c.in-Some.below.now ≡ 512 = omega (arith, c.in-Some.ensures.cases.1, c.requires.frames) in
     let h = (subst (λ (k : ℕ). Ran (directory c.args.job.now.plan s c.args.job.now.sums k c.args.root.now c.args.root.now.dirid [] no_counts) (world (g.R.Rack.seen c.args.rack.now) c.args.vol.now (outside (g.T.TreeSink.sink c.start_in.new.tree) (g.T.TreeSink.account c.start_in.new.tree) (g.O.Out.text c.args.out.now) (g.O.Out.account c.args.out.now))) (world (g.R.Rack.seen c.list.new.rack) c.list.new.vol (outside (g.T.TreeSink.sink c.list.new.tree) (g.T.TreeSink.account c.list.new.tree) (g.O.Out.text c.list.new.out) (g.O.Out.account c.list.new.out))) (Ok c.list.new.counts)) places
     (subst (λ (p : List ℕ). Ran (directory c.args.job.now.plan s c.args.job.now.sums (length c.in-Some.below.now) c.args.root.now c.args.root.now.dirid p no_counts) (world (g.R.Rack.seen c.args.rack.now) c.args.vol.now (outside (g.T.TreeSink.sink c.start_in.new.tree) (g.T.TreeSink.account c.start_in.new.tree) (g.O.Out.text c.args.out.now) (g.O.Out.account c.args.out.now))) (world (g.R.Rack.seen c.list.new.rack) c.list.new.vol (outside (g.T.TreeSink.sink c.list.new.tree) (g.T.TreeSink.account c.list.new.tree) (g.O.Out.text c.list.new.out) (g.O.Out.account c.list.new.out))) (Ok c.list.new.counts)) c.requires.path (c.in-Ok-list.ensures.ran s e))) in
-    row_ran _ (Start c.args.dest.now) (bind (directory c.args.job.now.plan s c.args.job.now.sums 512 c.args.root.now c.args.root.now.dirid [] no_counts) (λ (counts : Counts). Emit (Line (counts_line counts)) (Return counts))) _ _ (outside (g.T.TreeSink.sink c.args.tree.now) (g.T.TreeSink.account c.args.tree.now) (g.O.Out.text c.args.out.now) (g.O.Out.account c.args.out.now)) (outside (g.T.TreeSink.sink c.start_in.new.tree) (g.T.TreeSink.account c.start_in.new.tree) (g.O.Out.text c.args.out.now) (g.O.Out.account c.args.out.now)) _ _ c.requires.ready
+    row_ran _ (Start c.args.dest.now) (bind (directory c.args.job.now.plan s c.args.job.now.sums 512 c.args.root.now c.args.root.now.dirid []
+    no_counts) (λ (counts : Counts). Emit (Line (counts_line counts)) (Return counts))) _ _
+    (outside (g.T.TreeSink.sink c.args.tree.now) (g.T.TreeSink.account c.args.tree.now) (g.O.Out.text c.args.out.now)
+    (g.O.Out.account c.args.out.now)) (outside (g.T.TreeSink.sink c.start_in.new.tree) (g.T.TreeSink.account c.start_in.new.tree)
+    (g.O.Out.text c.args.out.now) (g.O.Out.account c.args.out.now)) _ _ c.requires.ready
     (c.in-Ok.ensures.wrote (g.O.Out.text c.args.out.now) (g.O.Out.account c.args.out.now))
-    (ran_then (directory c.args.job.now.plan s c.args.job.now.sums 512 c.args.root.now c.args.root.now.dirid [] no_counts) (λ (counts : Counts). Emit (Line (counts_line counts)) (Return counts)) (world (g.R.Rack.seen c.args.rack.now) c.args.vol.now (outside (g.T.TreeSink.sink c.start_in.new.tree) (g.T.TreeSink.account c.start_in.new.tree) (g.O.Out.text c.args.out.now) (g.O.Out.account c.args.out.now))) (world (g.R.Rack.seen c.list.new.rack) c.list.new.vol (outside (g.T.TreeSink.sink c.list.new.tree) (g.T.TreeSink.account c.list.new.tree) (g.O.Out.text c.list.new.out) (g.O.Out.account c.list.new.out))) _ c.list.new.counts _ h (ran_wrote _ _ _ _ _ _ h.ready (c.tell_counts.ensures _ _)))
+    (ran_then (directory c.args.job.now.plan s c.args.job.now.sums 512 c.args.root.now c.args.root.now.dirid [] no_counts)
+    (λ (counts : Counts). Emit (Line (counts_line counts)) (Return counts))
+    (world (g.R.Rack.seen c.args.rack.now) c.args.vol.now
+    (outside (g.T.TreeSink.sink c.start_in.new.tree) (g.T.TreeSink.account c.start_in.new.tree) (g.O.Out.text c.args.out.now)
+    (g.O.Out.account c.args.out.now))) (world (g.R.Rack.seen c.list.new.rack) c.list.new.vol
+    (outside (g.T.TreeSink.sink c.list.new.tree) (g.T.TreeSink.account c.list.new.tree) (g.O.Out.text c.list.new.out)
+    (g.O.Out.account c.list.new.out))) _ c.list.new.counts _ h (ran_wrote _ _ _ _ _ _ h.ready (c.tell_counts.ensures _ _)))
 
 pub returns-in-Err-list-clause-ran : goal.returns-in-Err-list-clause-ran
 returns-in-Err-list-clause-ran g c s e =
     let places : length c.in-Some.below.now ≡ 512 = omega (arith, c.in-Some.ensures.cases.1, c.requires.frames) in
-    row_ran _ (Start c.args.dest.now) (bind (directory c.args.job.now.plan s c.args.job.now.sums 512 c.args.root.now c.args.root.now.dirid [] no_counts) (λ (counts : Counts). Emit (Line (counts_line counts)) (Return counts))) _ _ (outside (g.T.TreeSink.sink c.args.tree.now) (g.T.TreeSink.account c.args.tree.now) (g.O.Out.text c.args.out.now) (g.O.Out.account c.args.out.now)) (outside (g.T.TreeSink.sink c.start_in.new.tree) (g.T.TreeSink.account c.start_in.new.tree) (g.O.Out.text c.args.out.now) (g.O.Out.account c.args.out.now)) _ _ c.requires.ready
+    row_ran _ (Start c.args.dest.now) (bind (directory c.args.job.now.plan s c.args.job.now.sums 512 c.args.root.now c.args.root.now.dirid []
+    no_counts) (λ (counts : Counts). Emit (Line (counts_line counts)) (Return counts))) _ _
+    (outside (g.T.TreeSink.sink c.args.tree.now) (g.T.TreeSink.account c.args.tree.now) (g.O.Out.text c.args.out.now)
+    (g.O.Out.account c.args.out.now)) (outside (g.T.TreeSink.sink c.start_in.new.tree) (g.T.TreeSink.account c.start_in.new.tree)
+    (g.O.Out.text c.args.out.now) (g.O.Out.account c.args.out.now)) _ _ c.requires.ready
     (c.in-Ok.ensures.wrote (g.O.Out.text c.args.out.now) (g.O.Out.account c.args.out.now))
-    (ran_halt (directory c.args.job.now.plan s c.args.job.now.sums 512 c.args.root.now c.args.root.now.dirid [] no_counts) (λ (counts : Counts). Emit (Line (counts_line counts)) (Return counts)) (world (g.R.Rack.seen c.args.rack.now) c.args.vol.now (outside (g.T.TreeSink.sink c.start_in.new.tree) (g.T.TreeSink.account c.start_in.new.tree) (g.O.Out.text c.args.out.now) (g.O.Out.account c.args.out.now))) (world (g.R.Rack.seen c.list.new.rack) c.list.new.vol (outside (g.T.TreeSink.sink c.list.new.tree) (g.T.TreeSink.account c.list.new.tree) (g.O.Out.text c.list.new.out) (g.O.Out.account c.list.new.out))) (world (g.R.Rack.seen c.list.new.rack) c.list.new.vol (outside (g.T.TreeSink.sink c.list.new.tree) (g.T.TreeSink.account c.list.new.tree) (g.O.Out.text c.list.new.out) (g.O.Out.account c.list.new.out))) c.in-Err-list.stop
-    (subst (λ (k : ℕ). Ran (directory c.args.job.now.plan s c.args.job.now.sums k c.args.root.now c.args.root.now.dirid [] no_counts) (world (g.R.Rack.seen c.args.rack.now) c.args.vol.now (outside (g.T.TreeSink.sink c.start_in.new.tree) (g.T.TreeSink.account c.start_in.new.tree) (g.O.Out.text c.args.out.now) (g.O.Out.account c.args.out.now))) (world (g.R.Rack.seen c.list.new.rack) c.list.new.vol (outside (g.T.TreeSink.sink c.list.new.tree) (g.T.TreeSink.account c.list.new.tree) (g.O.Out.text c.list.new.out) (g.O.Out.account c.list.new.out))) (Err c.in-Err-list.stop)) places
-    (subst (λ (p : List ℕ). Ran (directory c.args.job.now.plan s c.args.job.now.sums (length c.in-Some.below.now) c.args.root.now c.args.root.now.dirid p no_counts) (world (g.R.Rack.seen c.args.rack.now) c.args.vol.now (outside (g.T.TreeSink.sink c.start_in.new.tree) (g.T.TreeSink.account c.start_in.new.tree) (g.O.Out.text c.args.out.now) (g.O.Out.account c.args.out.now))) (world (g.R.Rack.seen c.list.new.rack) c.list.new.vol (outside (g.T.TreeSink.sink c.list.new.tree) (g.T.TreeSink.account c.list.new.tree) (g.O.Out.text c.list.new.out) (g.O.Out.account c.list.new.out))) (Err c.in-Err-list.stop)) c.requires.path (c.in-Err-list.ensures.ran s e))))
+    (ran_halt (directory c.args.job.now.plan s c.args.job.now.sums 512 c.args.root.now c.args.root.now.dirid [] no_counts)
+    (λ (counts : Counts). Emit (Line (counts_line counts)) (Return counts))
+    (world (g.R.Rack.seen c.args.rack.now) c.args.vol.now
+    (outside (g.T.TreeSink.sink c.start_in.new.tree) (g.T.TreeSink.account c.start_in.new.tree) (g.O.Out.text c.args.out.now)
+    (g.O.Out.account c.args.out.now))) (world (g.R.Rack.seen c.list.new.rack) c.list.new.vol
+    (outside (g.T.TreeSink.sink c.list.new.tree) (g.T.TreeSink.account c.list.new.tree) (g.O.Out.text c.list.new.out)
+    (g.O.Out.account c.list.new.out))) (world (g.R.Rack.seen c.list.new.rack) c.list.new.vol
+    (outside (g.T.TreeSink.sink c.list.new.tree) (g.T.TreeSink.account c.list.new.tree) (g.O.Out.text c.list.new.out)
+    (g.O.Out.account c.list.new.out))) c.in-Err-list.stop
+    (subst (λ (k : ℕ). Ran (directory c.args.job.now.plan s c.args.job.now.sums k c.args.root.now c.args.root.now.dirid [] no_counts)
+    (world (g.R.Rack.seen c.args.rack.now) c.args.vol.now
+    (outside (g.T.TreeSink.sink c.start_in.new.tree) (g.T.TreeSink.account c.start_in.new.tree) (g.O.Out.text c.args.out.now)
+    (g.O.Out.account c.args.out.now))) (world (g.R.Rack.seen c.list.new.rack) c.list.new.vol
+    (outside (g.T.TreeSink.sink c.list.new.tree) (g.T.TreeSink.account c.list.new.tree) (g.O.Out.text c.list.new.out)
+    (g.O.Out.account c.list.new.out))) (Err c.in-Err-list.stop)) places
+    (subst (λ (p : List ℕ). Ran (directory c.args.job.now.plan s c.args.job.now.sums (length c.in-Some.below.now) c.args.root.now
+    c.args.root.now.dirid p no_counts) (world (g.R.Rack.seen c.args.rack.now) c.args.vol.now
+    (outside (g.T.TreeSink.sink c.start_in.new.tree) (g.T.TreeSink.account c.start_in.new.tree) (g.O.Out.text c.args.out.now)
+    (g.O.Out.account c.args.out.now))) (world (g.R.Rack.seen c.list.new.rack) c.list.new.vol
+    (outside (g.T.TreeSink.sink c.list.new.tree) (g.T.TreeSink.account c.list.new.tree) (g.O.Out.text c.list.new.out)
+    (g.O.Out.account c.list.new.out))) (Err c.in-Err-list.stop)) c.requires.path (c.in-Err-list.ensures.ran s e))))
 
 pub list-requires-clause-room : goal.list-requires-clause-room
 list-requires-clause-room g c = λ wet.

@@ -18,9 +18,12 @@ returns-in-Ok-None-clause-ran g c =
     look_then _ _ _ _ _ _ None _ h (c.in-Ok-None.is ∙ ap Ok c.in-Ok-None.field-0-is) (ran_no_tree c.args.plan.now.root _ h.ready)
 
 pub restore_tree-requires-clause-ready : goal.restore_tree-requires-clause-ready
-restore_tree-requires-clause-ready g c = (c.find_tree.ensures (outside (g.T.TreeSink.sink c.args.tree.now) (g.T.TreeSink.account c.args.tree.now) (g.O.Out.text c.args.out.now) (g.O.Out.account c.args.out.now)) c.args.vol.now.sup refl).ready
+restore_tree-requires-clause-ready g c = (c.find_tree.ensures
+    (outside (g.T.TreeSink.sink c.args.tree.now) (g.T.TreeSink.account c.args.tree.now) (g.O.Out.text c.args.out.now)
+    (g.O.Out.account c.args.out.now)) c.args.vol.now.sup refl).ready
 
 pub returns-clause-ran : goal.returns-clause-ran
 returns-clause-ran g c =
     let h = c.find_tree.ensures (outside (g.T.TreeSink.sink c.args.tree.now) (g.T.TreeSink.account c.args.tree.now) (g.O.Out.text c.args.out.now) (g.O.Out.account c.args.out.now)) c.args.vol.now.sup refl in
-    look_then _ _ _ _ _ _ (Some c.in-Ok-Some.root) _ h (c.in-Ok-Some.is ∙ ap Ok c.in-Ok-Some.field-0-is) (c.restore_tree.ensures.ran c.args.vol.now.sup (sym h.volume.sup))
+    look_then _ _ _ _ _ _ (Some c.in-Ok-Some.root) _ h (c.in-Ok-Some.is ∙ ap Ok c.in-Ok-Some.field-0-is)
+    (c.restore_tree.ensures.ran c.args.vol.now.sup (sym h.volume.sup))

@@ -13,7 +13,8 @@ returns-in-Ok g c sink calls = record { did = emits_line (counts_line c.args.cou
 
 pub returns-in-Err : goal.returns-in-Err
 returns-in-Err g c sink calls = record {
-  did = as_out (λ answer. Emits (Emit (Line (counts_line c.args.counts.now)) (Return c.args.counts.now)) sink sink (g.O.Out.text c.args.out.now) (g.O.Out.text c.put_counts.new.out) answer) _ c.in-Err.error c.out_stop.ensures
+  did = as_out (λ answer. Emits (Emit (Line (counts_line c.args.counts.now)) (Return c.args.counts.now)) sink sink (g.O.Out.text c.args.out.now)
+      (g.O.Out.text c.put_counts.new.out) answer) _ c.in-Err.error c.out_stop.ensures
       (breaks_line (counts_line c.args.counts.now) (Return c.args.counts.now) sink _ _ c.in-Err.ensures.text);
   sink_calls = sinks_of_out Counts calls _ c.in-Err.error c.out_stop.ensures;
   out_calls = outs_of_out (Unit {0}) Counts _ _ _ c.in-Err.error c.out_stop.ensures c.in-Err.ensures.account;

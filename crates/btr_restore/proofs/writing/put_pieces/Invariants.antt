@@ -16,7 +16,8 @@ invariant-loop-stop g l =
     × ((g.T.TreeSink.sink l.tree).stage ≡ InFile)
     × ((g.T.TreeSink.sink l.tree).depth ≡ (g.T.TreeSink.sink l.initial.tree).depth)
     × ((whole : Program Step Bool) (x : World) (text : Option (List ℕ)) (calls : CallAccount)
-    → IsWriting whole x (world (g.R.Rack.seen l.initial.rack) l.initial.vol (outside (g.T.TreeSink.sink l.initial.tree) (g.T.TreeSink.account l.initial.tree) text calls)) false l.initial.file
+    → IsWriting whole x (world (g.R.Rack.seen l.initial.rack) l.initial.vol
+    (outside (g.T.TreeSink.sink l.initial.tree) (g.T.TreeSink.account l.initial.tree) text calls)) false l.initial.file
     → IsWriting whole x (world (g.R.Rack.seen l.rack) l.vol (outside (g.T.TreeSink.sink l.tree) (g.T.TreeSink.account l.tree) text calls)) l.plain l.file)
 
 abbrev pub decreases-loop-stop : goal.decreases-loop-stop

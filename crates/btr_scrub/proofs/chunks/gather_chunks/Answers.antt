@@ -11,10 +11,12 @@ use Rattle.btr_scrub.proofs.chunks.gather_chunks.Goals as goal
 
 pub loop-i-init : goal.loop-i-init
 loop-i-init g c =
-    reaches_none (in_chunks c.args.vol.now.sup (tree_behind c.args.sums) c.args.extents.now c.args.vol.now.store.layout.chunks) (scene (g.R.Rack.seen c.args.rack.now) c.args.vol.now c.args.gathered.now) c.requires.is_list c.requires.serves
+    reaches_none (in_chunks c.args.vol.now.sup (tree_behind c.args.sums) c.args.extents.now c.args.vol.now.store.layout.chunks)
+    (scene (g.R.Rack.seen c.args.rack.now) c.args.vol.now c.args.gathered.now) c.requires.is_list c.requires.serves
 
 pub gather_chunk-requires-clause-chunk : goal.gather_chunk-requires-clause-chunk
-gather_chunk-requires-clause-chunk g c = span_in c.args.vol.now.store.layout c.loop-i.vol.store.layout c.loop-i.i c.span_at-span.result c.loop-i.invariant.volume.store.layout c.span_at-span.ensures
+gather_chunk-requires-clause-chunk g c = span_in c.args.vol.now.store.layout c.loop-i.vol.store.layout c.loop-i.i c.span_at-span.result
+    c.loop-i.invariant.volume.store.layout c.span_at-span.ensures
 
 pub returns-in-Err : goal.returns-in-Err
 returns-in-Err g c =
@@ -31,8 +33,10 @@ returns-in-Err g c =
     let rest = λ (n : ℕ). in_chunks s sums extents (drop (i + 1) chunks) in
     let there = subst (λ (l : Layout). slice_get l.chunks i ≡ Some at.chunk) c.loop-i.invariant.volume.store.layout at.at in
     reaches_ends (in_chunks s sums extents chunks) (bind here rest) x y z (Err c.in-Err.stop)
-    (subst (λ (q : Meeting (Unit {0})). Reaches (in_chunks s sums extents chunks) q x y) (chunk_first s sums extents chunks i at.chunk there) c.loop-i.invariant)
-    (gathers_halt here rest y z c.in-Err.stop (subst (λ (t : Super). Gathers (in_chunk t sums at.chunk extents) y z (Err c.in-Err.stop)) c.loop-i.invariant.volume.sup (c.in-Err.ensures at.chunk at.is (contains_at c.loop-i.vol.store.layout.chunks i at.chunk at.at))))
+    (subst (λ (q : Meeting (Unit {0})). Reaches (in_chunks s sums extents chunks) q x y) (chunk_first s sums extents chunks i at.chunk there)
+    c.loop-i.invariant)
+    (gathers_halt here rest y z c.in-Err.stop (subst (λ (t : Super). Gathers (in_chunk t sums at.chunk extents) y z (Err c.in-Err.stop))
+    c.loop-i.invariant.volume.sup (c.in-Err.ensures at.chunk at.is (contains_at c.loop-i.vol.store.layout.chunks i at.chunk at.at))))
 
 pub loop-i-preserved : goal.loop-i-preserved
 loop-i-preserved g c =
@@ -49,5 +53,7 @@ loop-i-preserved g c =
     let rest = λ (n : ℕ). in_chunks s sums extents (drop (i + 1) chunks) in
     let there = subst (λ (l : Layout). slice_get l.chunks i ≡ Some at.chunk) c.loop-i.invariant.volume.store.layout at.at in
     reaches_step (in_chunks s sums extents chunks) here rest x y
-    (subst (λ (q : Meeting (Unit {0})). Reaches (in_chunks s sums extents chunks) q x y) (chunk_first s sums extents chunks i at.chunk there) c.loop-i.invariant)
-    z c.in-Ok.field-0 (subst (λ (t : Super). Gathers (in_chunk t sums at.chunk extents) y z (Ok c.in-Ok.field-0)) c.loop-i.invariant.volume.sup (c.in-Ok.ensures at.chunk at.is (contains_at c.loop-i.vol.store.layout.chunks i at.chunk at.at)))
+    (subst (λ (q : Meeting (Unit {0})). Reaches (in_chunks s sums extents chunks) q x y) (chunk_first s sums extents chunks i at.chunk there)
+    c.loop-i.invariant)
+    z c.in-Ok.field-0 (subst (λ (t : Super). Gathers (in_chunk t sums at.chunk extents) y z (Ok c.in-Ok.field-0)) c.loop-i.invariant.volume.sup
+    (c.in-Ok.ensures at.chunk at.is (contains_at c.loop-i.vol.store.layout.chunks i at.chunk at.at)))

@@ -14,15 +14,20 @@ use Rattle.btr_scrub.proofs.collecting.gather_extent.Goals as goal
 pub returns-then-is_malformed : goal.returns-then-is_malformed
 returns-then-is_malformed g c chunk span there =
     let x = scene (g.R.Rack.seen c.args.rack.now) c.args.vol.now c.args.gathered.now in
-    gathers_from (Stop (fate.Malformed c.args.leaf)) (extent_met c.args.vol.now.sup (tree_behind c.args.sums) chunk c.args.end c.args.leaf (Some c.args.extent.now)) x x (Err (Tree (tree.Malformed c.args.leaf)))
-    (sym (extent_malformed c.args.vol.now.sup (tree_behind c.args.sums) chunk c.args.end c.args.leaf c.args.extent.now (sym c.is_malformed.ensures ∙ c.if-is_malformed.true))) (gathers_malformed c.args.leaf x c.requires.serves)
+    gathers_from (Stop (fate.Malformed c.args.leaf)) (extent_met c.args.vol.now.sup (tree_behind c.args.sums) chunk c.args.end c.args.leaf
+    (Some c.args.extent.now)) x x (Err (Tree (tree.Malformed c.args.leaf)))
+    (sym (extent_malformed c.args.vol.now.sup (tree_behind c.args.sums) chunk c.args.end c.args.leaf c.args.extent.now
+    (sym c.is_malformed.ensures ∙ c.if-is_malformed.true))) (gathers_malformed c.args.leaf x c.requires.serves)
 
 pub returns-then-is_crossing : goal.returns-then-is_crossing
 returns-then-is_crossing g c chunk span there =
     let x = scene (g.R.Rack.seen c.args.rack.now) c.args.vol.now c.args.gathered.now in
     let crosses = sym (ap (λ s. crossing s c.args.extent.now) span) ∙ sym c.is_crossing.ensures ∙ c.if-is_crossing.true in
-    gathers_from (Stop (fate.Crosses c.args.extent.now.addr)) (extent_met c.args.vol.now.sup (tree_behind c.args.sums) chunk c.args.end c.args.leaf (Some c.args.extent.now)) x x (Err (Tree (tree.Crosses c.args.extent.now.addr)))
-    (sym (extent_crosses c.args.vol.now.sup (tree_behind c.args.sums) chunk c.args.end c.args.leaf c.args.extent.now (sym c.is_malformed.ensures ∙ c.if-is_malformed.false) crosses))
+    gathers_from (Stop (fate.Crosses c.args.extent.now.addr))
+    (extent_met c.args.vol.now.sup (tree_behind c.args.sums) chunk c.args.end c.args.leaf (Some c.args.extent.now)) x x
+    (Err (Tree (tree.Crosses c.args.extent.now.addr)))
+    (sym (extent_crosses c.args.vol.now.sup (tree_behind c.args.sums) chunk c.args.end c.args.leaf c.args.extent.now
+    (sym c.is_malformed.ensures ∙ c.if-is_malformed.false) crosses))
     (gathers_crossing c.args.extent.now.addr x c.requires.serves (record { chunk = chunk; there = there; extent = c.args.extent.now; at = refl; crosses = crosses }))
 
 pub returns-in-Ok : goal.returns-in-Ok
@@ -34,7 +39,8 @@ returns-in-Ok g c chunk span there =
     let k : Unit {0} → Meeting ℕ = λ u. Return far in
     let crosses = sym (ap (λ s. crossing s c.args.extent.now) span) ∙ sym c.is_crossing.ensures ∙ c.if-is_crossing.false in
     gathers_from (bind p k) (extent_met c.args.vol.now.sup (tree_behind c.args.sums) chunk c.args.end c.args.leaf (Some c.args.extent.now)) x y (Ok far)
-    (sym (extent_gives c.args.vol.now.sup (tree_behind c.args.sums) chunk c.args.end c.args.leaf c.args.extent.now (sym c.is_malformed.ensures ∙ c.if-is_malformed.false) crosses))
+    (sym (extent_gives c.args.vol.now.sup (tree_behind c.args.sums) chunk c.args.end c.args.leaf c.args.extent.now
+    (sym c.is_malformed.ensures ∙ c.if-is_malformed.false) crosses))
     (gathers_then p k x y y tt (Ok far) c.in-Ok.ensures (gathers_value far y c.in-Ok.ensures.lists.is_list c.in-Ok.ensures.serves))
 
 pub returns-in-Err : goal.returns-in-Err
@@ -44,6 +50,8 @@ returns-in-Err g c chunk span there =
     let p = blocks_of c.args.vol.now.sup (tree_behind c.args.sums) c.args.extent.now c.args.extent.now.level in
     let k : Unit {0} → Meeting ℕ = λ u. Return (c.args.extent.now.addr + c.args.extent.now.len) in
     let crosses = sym (ap (λ s. crossing s c.args.extent.now) span) ∙ sym c.is_crossing.ensures ∙ c.if-is_crossing.false in
-    gathers_from (bind p k) (extent_met c.args.vol.now.sup (tree_behind c.args.sums) chunk c.args.end c.args.leaf (Some c.args.extent.now)) x y (Err c.in-Err.stop)
-    (sym (extent_gives c.args.vol.now.sup (tree_behind c.args.sums) chunk c.args.end c.args.leaf c.args.extent.now (sym c.is_malformed.ensures ∙ c.if-is_malformed.false) crosses))
+    gathers_from (bind p k) (extent_met c.args.vol.now.sup (tree_behind c.args.sums) chunk c.args.end c.args.leaf (Some c.args.extent.now)) x y
+    (Err c.in-Err.stop)
+    (sym (extent_gives c.args.vol.now.sup (tree_behind c.args.sums) chunk c.args.end c.args.leaf c.args.extent.now
+    (sym c.is_malformed.ensures ∙ c.if-is_malformed.false) crosses))
     (gathers_halt p k x y c.in-Err.stop c.in-Err.ensures)

@@ -20,7 +20,8 @@ loop-fault-init g c = record {
   layout = refl;
   is_list = c.requires.is_list;
   kind = refl;
-  underway = λ chunk span there. underway_first c.args.vol.now.sup (tree_behind c.args.sums) chunk (scene (g.R.Rack.seen c.args.rack.now) c.args.vol.now c.args.gathered.now) c.args.scan.now c.requires.ready c.requires.is_list c.requires.on;
+  underway = λ chunk span there. underway_first c.args.vol.now.sup (tree_behind c.args.sums) chunk
+      (scene (g.R.Rack.seen c.args.rack.now) c.args.vol.now c.args.gathered.now) c.args.scan.now c.requires.ready c.requires.is_list c.requires.on;
 }
 
 pub next_extent-requires-clause-ready : goal.next_extent-requires-clause-ready
@@ -38,9 +39,12 @@ returns-in-Err-clause-scanned g c chunk span there =
     let after : Volume = record { store = c.next_extent.new.store; sup = c.loop-fault.vol.sup } in
     let sums = tree_behind c.args.sums in
     scanned_fault c.args.vol.now.sup sums chunk (scene (g.R.Rack.seen c.args.rack.now) c.args.vol.now c.args.gathered.now) c.args.scan.now
-    (scene (g.R.Rack.seen c.loop-fault.rack) c.loop-fault.vol c.loop-fault.gathered) c.loop-fault.scan c.next_extent.new.scan c.loop-fault.end (inv.underway chunk span there)
-    (g.R.Rack.seen c.next_extent.new.rack) after refl c.in-Err.ensures.reads c.in-Err.ensures.others c.in-Err.ensures.ready c.in-Err.fault c.in-Err.ensures.cause
-    (subst (λ s. NextTold s (g.R.Rack.seen c.loop-fault.rack) (g.R.Rack.seen c.next_extent.new.rack) c.loop-fault.vol.store c.next_extent.new.store c.loop-fault.scan c.next_extent.new.scan (Err c.in-Err.fault)) inv.sup c.in-Err.ensures.content)
+    (scene (g.R.Rack.seen c.loop-fault.rack) c.loop-fault.vol c.loop-fault.gathered) c.loop-fault.scan c.next_extent.new.scan c.loop-fault.end
+    (inv.underway chunk span there)
+    (g.R.Rack.seen c.next_extent.new.rack) after refl c.in-Err.ensures.reads c.in-Err.ensures.others c.in-Err.ensures.ready c.in-Err.fault
+    c.in-Err.ensures.cause
+    (subst (λ s. NextTold s (g.R.Rack.seen c.loop-fault.rack) (g.R.Rack.seen c.next_extent.new.rack) c.loop-fault.vol.store c.next_extent.new.store
+    c.loop-fault.scan c.next_extent.new.scan (Err c.in-Err.fault)) inv.sup c.in-Err.ensures.content)
 
 pub returns-in-Ok-End-clause-ready : goal.returns-in-Ok-End-clause-ready
 returns-in-Ok-End-clause-ready g c = c.in-Ok-End.ensures.ready
@@ -51,12 +55,17 @@ returns-in-Ok-End-clause-scanned g c chunk span there =
     let after : Volume = record { store = c.next_extent.new.store; sup = c.loop-fault.vol.sup } in
     let sums = tree_behind c.args.sums in
     scanned_ends c.args.vol.now.sup sums chunk (scene (g.R.Rack.seen c.args.rack.now) c.args.vol.now c.args.gathered.now) c.args.scan.now
-    (scene (g.R.Rack.seen c.loop-fault.rack) c.loop-fault.vol c.loop-fault.gathered) c.loop-fault.scan c.next_extent.new.scan c.loop-fault.end (inv.underway chunk span there)
+    (scene (g.R.Rack.seen c.loop-fault.rack) c.loop-fault.vol c.loop-fault.gathered) c.loop-fault.scan c.next_extent.new.scan c.loop-fault.end
+    (inv.underway chunk span there)
     (g.R.Rack.seen c.next_extent.new.rack) after refl c.in-Ok-End.ensures.reads c.in-Ok-End.ensures.others c.in-Ok-End.ensures.ready
-    (subst (λ v. NextTold c.args.vol.now.sup (g.R.Rack.seen c.loop-fault.rack) (g.R.Rack.seen c.next_extent.new.rack) c.loop-fault.vol.store c.next_extent.new.store c.loop-fault.scan c.next_extent.new.scan (Ok v)) c.in-Ok-End.field-0-is (subst (λ s. NextTold s (g.R.Rack.seen c.loop-fault.rack) (g.R.Rack.seen c.next_extent.new.rack) c.loop-fault.vol.store c.next_extent.new.store c.loop-fault.scan c.next_extent.new.scan (Ok c.in-Ok-End.field-0)) inv.sup c.in-Ok-End.ensures.content))
+    (subst (λ v. NextTold c.args.vol.now.sup (g.R.Rack.seen c.loop-fault.rack) (g.R.Rack.seen c.next_extent.new.rack) c.loop-fault.vol.store
+    c.next_extent.new.store c.loop-fault.scan c.next_extent.new.scan (Ok v)) c.in-Ok-End.field-0-is
+    (subst (λ s. NextTold s (g.R.Rack.seen c.loop-fault.rack) (g.R.Rack.seen c.next_extent.new.rack) c.loop-fault.vol.store
+    c.next_extent.new.store c.loop-fault.scan c.next_extent.new.scan (Ok c.in-Ok-End.field-0)) inv.sup c.in-Ok-End.ensures.content))
 
 pub loop-fault-smaller-in-Ok-Other : goal.loop-fault-smaller-in-Ok-Other
-loop-fault-smaller-in-Ok-Other g c = subst (λ v. ItemNears (rank_of c.loop-fault.scan) (rank_of c.next_extent.new.scan) (Ok v)) c.in-Ok-Other.field-0-is c.in-Ok-Other.ensures.nears
+loop-fault-smaller-in-Ok-Other g c = subst (λ v. ItemNears (rank_of c.loop-fault.scan) (rank_of c.next_extent.new.scan) (Ok v))
+    c.in-Ok-Other.field-0-is c.in-Ok-Other.ensures.nears
 
 pub loop-fault-preserved-in-Ok-Other : goal.loop-fault-preserved-in-Ok-Other
 loop-fault-preserved-in-Ok-Other g c =
@@ -65,16 +74,22 @@ loop-fault-preserved-in-Ok-Other g c =
     let sums = tree_behind c.args.sums in
     record {
       ready = c.in-Ok-Other.ensures.ready;
-      room = room_same (without_leaf c.loop-fault.vol.store c.loop-fault.scan) (without_leaf c.next_extent.new.store c.next_extent.new.scan) 5 c.in-Ok-Other.ensures.others inv.room;
+      room = room_same (without_leaf c.loop-fault.vol.store c.loop-fault.scan) (without_leaf c.next_extent.new.store c.next_extent.new.scan) 5
+          c.in-Ok-Other.ensures.others inv.room;
       sup = inv.sup;
       layout = same_layout c.loop-fault.vol.store c.next_extent.new.store c.loop-fault.scan c.next_extent.new.scan c.in-Ok-Other.ensures.others ∙ inv.layout;
       is_list = inv.is_list;
       kind = inv.kind;
       underway = λ chunk span there.
           underway_other c.args.vol.now.sup sums chunk (scene (g.R.Rack.seen c.args.rack.now) c.args.vol.now c.args.gathered.now) c.args.scan.now
-          (scene (g.R.Rack.seen c.loop-fault.rack) c.loop-fault.vol c.loop-fault.gathered) c.loop-fault.scan c.next_extent.new.scan c.loop-fault.end (inv.underway chunk span there)
-          (g.R.Rack.seen c.next_extent.new.rack) after refl c.in-Ok-Other.ensures.reads c.in-Ok-Other.ensures.others c.in-Ok-Other.ensures.ready c.in-Ok-Other.ensures.lo c.in-Ok-Other.ensures.hi
-          (subst (λ v. NextTold c.args.vol.now.sup (g.R.Rack.seen c.loop-fault.rack) (g.R.Rack.seen c.next_extent.new.rack) c.loop-fault.vol.store c.next_extent.new.store c.loop-fault.scan c.next_extent.new.scan (Ok v)) c.in-Ok-Other.field-0-is (subst (λ s. NextTold s (g.R.Rack.seen c.loop-fault.rack) (g.R.Rack.seen c.next_extent.new.rack) c.loop-fault.vol.store c.next_extent.new.store c.loop-fault.scan c.next_extent.new.scan (Ok c.in-Ok-Other.field-0)) inv.sup c.in-Ok-Other.ensures.content));
+          (scene (g.R.Rack.seen c.loop-fault.rack) c.loop-fault.vol c.loop-fault.gathered) c.loop-fault.scan c.next_extent.new.scan c.loop-fault.end
+          (inv.underway chunk span there)
+          (g.R.Rack.seen c.next_extent.new.rack) after refl c.in-Ok-Other.ensures.reads c.in-Ok-Other.ensures.others c.in-Ok-Other.ensures.ready
+          c.in-Ok-Other.ensures.lo c.in-Ok-Other.ensures.hi
+          (subst (λ v. NextTold c.args.vol.now.sup (g.R.Rack.seen c.loop-fault.rack) (g.R.Rack.seen c.next_extent.new.rack) c.loop-fault.vol.store
+          c.next_extent.new.store c.loop-fault.scan c.next_extent.new.scan (Ok v)) c.in-Ok-Other.field-0-is
+          (subst (λ s. NextTold s (g.R.Rack.seen c.loop-fault.rack) (g.R.Rack.seen c.next_extent.new.rack) c.loop-fault.vol.store
+          c.next_extent.new.store c.loop-fault.scan c.next_extent.new.scan (Ok c.in-Ok-Other.field-0)) inv.sup c.in-Ok-Other.ensures.content));
     }
 
 pub returns-in-Ok-Broken-clause-ready : goal.returns-in-Ok-Broken-clause-ready
@@ -86,9 +101,14 @@ returns-in-Ok-Broken-clause-scanned g c chunk span there =
     let after : Volume = record { store = c.next_extent.new.store; sup = c.loop-fault.vol.sup } in
     let sums = tree_behind c.args.sums in
     scanned_broken c.args.vol.now.sup sums chunk (scene (g.R.Rack.seen c.args.rack.now) c.args.vol.now c.args.gathered.now) c.args.scan.now
-    (scene (g.R.Rack.seen c.loop-fault.rack) c.loop-fault.vol c.loop-fault.gathered) c.loop-fault.scan c.next_extent.new.scan c.loop-fault.end (inv.underway chunk span there)
-    (g.R.Rack.seen c.next_extent.new.rack) after refl c.in-Ok-Broken.ensures.reads c.in-Ok-Broken.ensures.others c.in-Ok-Broken.ensures.ready c.in-Ok-Broken.ensures.lo c.in-Ok-Broken.ensures.hi c.in-Ok-Broken.leaf
-    (subst (λ v. NextTold c.args.vol.now.sup (g.R.Rack.seen c.loop-fault.rack) (g.R.Rack.seen c.next_extent.new.rack) c.loop-fault.vol.store c.next_extent.new.store c.loop-fault.scan c.next_extent.new.scan (Ok v)) c.in-Ok-Broken.field-0-is (subst (λ s. NextTold s (g.R.Rack.seen c.loop-fault.rack) (g.R.Rack.seen c.next_extent.new.rack) c.loop-fault.vol.store c.next_extent.new.store c.loop-fault.scan c.next_extent.new.scan (Ok c.in-Ok-Broken.field-0)) inv.sup c.in-Ok-Broken.ensures.content))
+    (scene (g.R.Rack.seen c.loop-fault.rack) c.loop-fault.vol c.loop-fault.gathered) c.loop-fault.scan c.next_extent.new.scan c.loop-fault.end
+    (inv.underway chunk span there)
+    (g.R.Rack.seen c.next_extent.new.rack) after refl c.in-Ok-Broken.ensures.reads c.in-Ok-Broken.ensures.others c.in-Ok-Broken.ensures.ready
+    c.in-Ok-Broken.ensures.lo c.in-Ok-Broken.ensures.hi c.in-Ok-Broken.leaf
+    (subst (λ v. NextTold c.args.vol.now.sup (g.R.Rack.seen c.loop-fault.rack) (g.R.Rack.seen c.next_extent.new.rack) c.loop-fault.vol.store
+    c.next_extent.new.store c.loop-fault.scan c.next_extent.new.scan (Ok v)) c.in-Ok-Broken.field-0-is
+    (subst (λ s. NextTold s (g.R.Rack.seen c.loop-fault.rack) (g.R.Rack.seen c.next_extent.new.rack) c.loop-fault.vol.store
+    c.next_extent.new.store c.loop-fault.scan c.next_extent.new.scan (Ok c.in-Ok-Broken.field-0)) inv.sup c.in-Ok-Broken.ensures.content))
 
 pub gather_extent-requires-clause-serves : goal.gather_extent-requires-clause-serves
 gather_extent-requires-clause-serves g c = c.in-Ok-Found.ensures.ready.serves
@@ -96,7 +116,8 @@ gather_extent-requires-clause-serves g c = c.in-Ok-Found.ensures.ready.serves
 pub gather_extent-requires-clause-room : goal.gather_extent-requires-clause-room
 gather_extent-requires-clause-room g c =
     room_beside (g.R.Rack.seen c.next_extent.new.rack) c.next_extent.new.store c.next_extent.new.scan 4 c.in-Ok-Found.ensures.ready
-    (room_same (without_leaf c.loop-fault.vol.store c.loop-fault.scan) (without_leaf c.next_extent.new.store c.next_extent.new.scan) 5 c.in-Ok-Found.ensures.others c.loop-fault.invariant.room)
+    (room_same (without_leaf c.loop-fault.vol.store c.loop-fault.scan) (without_leaf c.next_extent.new.store c.next_extent.new.scan) 5
+    c.in-Ok-Found.ensures.others c.loop-fault.invariant.room)
 
 pub gather_extent-requires-clause-is_list : goal.gather_extent-requires-clause-is_list
 gather_extent-requires-clause-is_list g c = c.loop-fault.invariant.is_list
@@ -108,7 +129,8 @@ pub gather_extent-requires-clause-span : goal.gather_extent-requires-clause-span
 gather_extent-requires-clause-span g c = c.requires.span
 
 pub loop-fault-smaller : goal.loop-fault-smaller
-loop-fault-smaller g c = subst (λ v. ItemNears (rank_of c.loop-fault.scan) (rank_of c.next_extent.new.scan) (Ok v)) c.in-Ok-Found.field-0-is c.in-Ok-Found.ensures.nears
+loop-fault-smaller g c = subst (λ v. ItemNears (rank_of c.loop-fault.scan) (rank_of c.next_extent.new.scan) (Ok v)) c.in-Ok-Found.field-0-is
+    c.in-Ok-Found.ensures.nears
 
 pub loop-fault-preserved : goal.loop-fault-preserved
 loop-fault-preserved g c =
@@ -121,18 +143,31 @@ loop-fault-preserved g c =
     let of = c.requires.chunk in
     let one = (subst (λ s. Gathers (extent_met s sums of.chunk c.loop-fault.end c.in-Ok-Found.leaf (Some c.in-Ok-Found.extent)) (scene (g.R.Rack.seen c.next_extent.new.rack) after c.loop-fault.gathered) (scene (g.R.Rack.seen c.gather_extent.new.rack) c.gather_extent.new.vol c.gather_extent.new.gathered) (Ok c.in-Ok.next)) inv.sup (c.in-Ok.ensures of.chunk of.is (subst (λ (l : Layout). Contains l.chunks of.chunk) (sym layout) of.there))) in
     record {
-      ready = ready_same (g.R.Rack.seen c.next_extent.new.rack) (g.R.Rack.seen c.gather_extent.new.rack) c.next_extent.new.store c.gather_extent.new.vol.store c.next_extent.new.scan one.volume.store one.serves ready;
-      room = room_same (without_leaf c.next_extent.new.store c.next_extent.new.scan) (without_leaf c.gather_extent.new.vol.store c.next_extent.new.scan) 5 (without_same c.next_extent.new.store c.gather_extent.new.vol.store c.next_extent.new.scan one.volume.store)
+      ready = ready_same (g.R.Rack.seen c.next_extent.new.rack) (g.R.Rack.seen c.gather_extent.new.rack) c.next_extent.new.store
+          c.gather_extent.new.vol.store c.next_extent.new.scan one.volume.store one.serves ready;
+      room = room_same (without_leaf c.next_extent.new.store c.next_extent.new.scan)
+          (without_leaf c.gather_extent.new.vol.store c.next_extent.new.scan) 5
+          (without_same c.next_extent.new.store c.gather_extent.new.vol.store c.next_extent.new.scan one.volume.store)
           (room_same (without_leaf c.loop-fault.vol.store c.loop-fault.scan) (without_leaf c.next_extent.new.store c.next_extent.new.scan) 5 others inv.room);
       sup = one.volume.sup ∙ inv.sup;
       layout = one.volume.store.layout ∙ layout;
       is_list = one.lists.is_list;
       kind = one.lists.kind ∙ inv.kind;
-      underway = λ chunk span there. underway_extent c.args.vol.now.sup sums chunk (scene (g.R.Rack.seen c.args.rack.now) c.args.vol.now c.args.gathered.now) c.args.scan.now
-          (scene (g.R.Rack.seen c.loop-fault.rack) c.loop-fault.vol c.loop-fault.gathered) c.loop-fault.scan c.next_extent.new.scan c.loop-fault.end (inv.underway chunk span there)
-          (g.R.Rack.seen c.next_extent.new.rack) after refl c.in-Ok-Found.ensures.reads others ready c.in-Ok-Found.ensures.lo c.in-Ok-Found.ensures.hi c.in-Ok-Found.extent c.in-Ok-Found.leaf
-          (subst (λ v. NextTold c.args.vol.now.sup (g.R.Rack.seen c.loop-fault.rack) (g.R.Rack.seen c.next_extent.new.rack) c.loop-fault.vol.store c.next_extent.new.store c.loop-fault.scan c.next_extent.new.scan (Ok v)) c.in-Ok-Found.field-0-is (subst (λ s. NextTold s (g.R.Rack.seen c.loop-fault.rack) (g.R.Rack.seen c.next_extent.new.rack) c.loop-fault.vol.store c.next_extent.new.store c.loop-fault.scan c.next_extent.new.scan (Ok c.in-Ok-Found.field-0)) inv.sup c.in-Ok-Found.ensures.content))
-          (scene (g.R.Rack.seen c.gather_extent.new.rack) c.gather_extent.new.vol c.gather_extent.new.gathered) c.in-Ok.next (subst (λ s. Gathers (extent_met s sums chunk c.loop-fault.end c.in-Ok-Found.leaf (Some c.in-Ok-Found.extent)) (scene (g.R.Rack.seen c.next_extent.new.rack) after c.loop-fault.gathered) (scene (g.R.Rack.seen c.gather_extent.new.rack) c.gather_extent.new.vol c.gather_extent.new.gathered) (Ok c.in-Ok.next)) inv.sup (c.in-Ok.ensures chunk span (subst (λ (l : Layout). Contains l.chunks chunk) (sym layout) there)));
+      underway = λ chunk span there. underway_extent c.args.vol.now.sup sums chunk
+          (scene (g.R.Rack.seen c.args.rack.now) c.args.vol.now c.args.gathered.now) c.args.scan.now
+          (scene (g.R.Rack.seen c.loop-fault.rack) c.loop-fault.vol c.loop-fault.gathered) c.loop-fault.scan c.next_extent.new.scan c.loop-fault.end
+          (inv.underway chunk span there)
+          (g.R.Rack.seen c.next_extent.new.rack) after refl c.in-Ok-Found.ensures.reads others ready c.in-Ok-Found.ensures.lo c.in-Ok-Found.ensures.hi
+          c.in-Ok-Found.extent c.in-Ok-Found.leaf
+          (subst (λ v. NextTold c.args.vol.now.sup (g.R.Rack.seen c.loop-fault.rack) (g.R.Rack.seen c.next_extent.new.rack) c.loop-fault.vol.store
+          c.next_extent.new.store c.loop-fault.scan c.next_extent.new.scan (Ok v)) c.in-Ok-Found.field-0-is
+          (subst (λ s. NextTold s (g.R.Rack.seen c.loop-fault.rack) (g.R.Rack.seen c.next_extent.new.rack) c.loop-fault.vol.store
+          c.next_extent.new.store c.loop-fault.scan c.next_extent.new.scan (Ok c.in-Ok-Found.field-0)) inv.sup c.in-Ok-Found.ensures.content))
+          (scene (g.R.Rack.seen c.gather_extent.new.rack) c.gather_extent.new.vol c.gather_extent.new.gathered) c.in-Ok.next
+          (subst (λ s. Gathers (extent_met s sums chunk c.loop-fault.end c.in-Ok-Found.leaf (Some c.in-Ok-Found.extent))
+          (scene (g.R.Rack.seen c.next_extent.new.rack) after c.loop-fault.gathered)
+          (scene (g.R.Rack.seen c.gather_extent.new.rack) c.gather_extent.new.vol c.gather_extent.new.gathered) (Ok c.in-Ok.next)) inv.sup
+          (c.in-Ok.ensures chunk span (subst (λ (l : Layout). Contains l.chunks chunk) (sym layout) there)));
     }
 
 pub returns-in-Err-gather_extent-clause-ready : goal.returns-in-Err-gather_extent-clause-ready
@@ -145,7 +180,8 @@ returns-in-Err-gather_extent-clause-ready g c =
     let layout : c.next_extent.new.store.layout ≡ c.args.vol.now.store.layout = same_layout c.loop-fault.vol.store c.next_extent.new.store c.loop-fault.scan c.next_extent.new.scan others ∙ inv.layout in
     let of = c.requires.chunk in
     let one = (subst (λ s. Gathers (extent_met s sums of.chunk c.loop-fault.end c.in-Ok-Found.leaf (Some c.in-Ok-Found.extent)) (scene (g.R.Rack.seen c.next_extent.new.rack) after c.loop-fault.gathered) (scene (g.R.Rack.seen c.gather_extent.new.rack) c.gather_extent.new.vol c.gather_extent.new.gathered) (Err c.in-Err-gather_extent.stop)) inv.sup (c.in-Err-gather_extent.ensures of.chunk of.is (subst (λ (l : Layout). Contains l.chunks of.chunk) (sym layout) of.there))) in
-    ready_same (g.R.Rack.seen c.next_extent.new.rack) (g.R.Rack.seen c.gather_extent.new.rack) c.next_extent.new.store c.gather_extent.new.vol.store c.next_extent.new.scan one.volume.store one.serves ready
+    ready_same (g.R.Rack.seen c.next_extent.new.rack) (g.R.Rack.seen c.gather_extent.new.rack) c.next_extent.new.store c.gather_extent.new.vol.store
+    c.next_extent.new.scan one.volume.store one.serves ready
 
 pub returns-in-Err-gather_extent-clause-scanned : goal.returns-in-Err-gather_extent-clause-scanned
 returns-in-Err-gather_extent-clause-scanned g c chunk span there =
@@ -156,7 +192,16 @@ returns-in-Err-gather_extent-clause-scanned g c chunk span there =
     let ready = c.in-Ok-Found.ensures.ready in
     let layout : c.next_extent.new.store.layout ≡ c.args.vol.now.store.layout = same_layout c.loop-fault.vol.store c.next_extent.new.store c.loop-fault.scan c.next_extent.new.scan others ∙ inv.layout in
     scanned_stops c.args.vol.now.sup sums chunk (scene (g.R.Rack.seen c.args.rack.now) c.args.vol.now c.args.gathered.now) c.args.scan.now
-    (scene (g.R.Rack.seen c.loop-fault.rack) c.loop-fault.vol c.loop-fault.gathered) c.loop-fault.scan c.next_extent.new.scan c.loop-fault.end (inv.underway chunk span there)
-    (g.R.Rack.seen c.next_extent.new.rack) after refl c.in-Ok-Found.ensures.reads others ready c.in-Ok-Found.ensures.lo c.in-Ok-Found.ensures.hi c.in-Ok-Found.extent c.in-Ok-Found.leaf
-    (subst (λ v. NextTold c.args.vol.now.sup (g.R.Rack.seen c.loop-fault.rack) (g.R.Rack.seen c.next_extent.new.rack) c.loop-fault.vol.store c.next_extent.new.store c.loop-fault.scan c.next_extent.new.scan (Ok v)) c.in-Ok-Found.field-0-is (subst (λ s. NextTold s (g.R.Rack.seen c.loop-fault.rack) (g.R.Rack.seen c.next_extent.new.rack) c.loop-fault.vol.store c.next_extent.new.store c.loop-fault.scan c.next_extent.new.scan (Ok c.in-Ok-Found.field-0)) inv.sup c.in-Ok-Found.ensures.content))
-    (scene (g.R.Rack.seen c.gather_extent.new.rack) c.gather_extent.new.vol c.gather_extent.new.gathered) c.in-Err-gather_extent.stop (subst (λ s. Gathers (extent_met s sums chunk c.loop-fault.end c.in-Ok-Found.leaf (Some c.in-Ok-Found.extent)) (scene (g.R.Rack.seen c.next_extent.new.rack) after c.loop-fault.gathered) (scene (g.R.Rack.seen c.gather_extent.new.rack) c.gather_extent.new.vol c.gather_extent.new.gathered) (Err c.in-Err-gather_extent.stop)) inv.sup (c.in-Err-gather_extent.ensures chunk span (subst (λ (l : Layout). Contains l.chunks chunk) (sym layout) there)))
+    (scene (g.R.Rack.seen c.loop-fault.rack) c.loop-fault.vol c.loop-fault.gathered) c.loop-fault.scan c.next_extent.new.scan c.loop-fault.end
+    (inv.underway chunk span there)
+    (g.R.Rack.seen c.next_extent.new.rack) after refl c.in-Ok-Found.ensures.reads others ready c.in-Ok-Found.ensures.lo c.in-Ok-Found.ensures.hi
+    c.in-Ok-Found.extent c.in-Ok-Found.leaf
+    (subst (λ v. NextTold c.args.vol.now.sup (g.R.Rack.seen c.loop-fault.rack) (g.R.Rack.seen c.next_extent.new.rack) c.loop-fault.vol.store
+    c.next_extent.new.store c.loop-fault.scan c.next_extent.new.scan (Ok v)) c.in-Ok-Found.field-0-is
+    (subst (λ s. NextTold s (g.R.Rack.seen c.loop-fault.rack) (g.R.Rack.seen c.next_extent.new.rack) c.loop-fault.vol.store
+    c.next_extent.new.store c.loop-fault.scan c.next_extent.new.scan (Ok c.in-Ok-Found.field-0)) inv.sup c.in-Ok-Found.ensures.content))
+    (scene (g.R.Rack.seen c.gather_extent.new.rack) c.gather_extent.new.vol c.gather_extent.new.gathered) c.in-Err-gather_extent.stop
+    (subst (λ s. Gathers (extent_met s sums chunk c.loop-fault.end c.in-Ok-Found.leaf (Some c.in-Ok-Found.extent))
+    (scene (g.R.Rack.seen c.next_extent.new.rack) after c.loop-fault.gathered)
+    (scene (g.R.Rack.seen c.gather_extent.new.rack) c.gather_extent.new.vol c.gather_extent.new.gathered) (Err c.in-Err-gather_extent.stop))
+    inv.sup (c.in-Err-gather_extent.ensures chunk span (subst (λ (l : Layout). Contains l.chunks chunk) (sym layout) there)))

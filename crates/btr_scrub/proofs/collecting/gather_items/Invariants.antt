@@ -19,7 +19,8 @@ invariant-loop-fault g l = record {
   is_list : IsList l.gathered.list;
   kind : l.gathered.list.kind ≡ l.fn.gathered.list.kind;
   underway : (chunk : Chunk) → l.fn.span ≡ span_of chunk → Contains l.fn.vol.store.layout.chunks chunk
-      → Underway l.fn.vol.sup (tree_behind l.sums) chunk (scene (g.R.Rack.seen l.fn.rack) l.fn.vol l.fn.gathered) (scene (g.R.Rack.seen l.rack) l.vol l.gathered) l.fn.scan l.scan l.end;
+      → Underway l.fn.vol.sup (tree_behind l.sums) chunk (scene (g.R.Rack.seen l.fn.rack) l.fn.vol l.fn.gathered)
+      (scene (g.R.Rack.seen l.rack) l.vol l.gathered) l.fn.scan l.scan l.end;
 }
 
 abbrev pub decreases-loop-fault : goal.decreases-loop-fault

@@ -17,7 +17,8 @@ returns-in-Ok-Some-clause-content g c =
     let old = c.args.store.now in
     let new = c.next.follows.lender-at-none in
     let is = unread_by old.layout (g.R.Rack.seen c.args.rack.now) (g.R.Rack.seen c.next.new.rack) in
-    drawn old.layout (λ B. IsNextOn is B old new scan next c.next.result) (λ B. (seen : List Want) → IsOn scan.lo scan.hi B seen scan.place → NextBy s is B seen old new scan next (Ok c.extent_in.result))
+    drawn old.layout (λ B. IsNextOn is B old new scan next c.next.result)
+    (λ B. (seen : List Want) → IsOn scan.lo scan.hi B seen scan.place → NextBy s is B seen old new scan next (Ok c.extent_in.result))
     (λ B h seen on.
     let gives = subst (λ r. IsNextOn is B old new scan next r) (c.in-Ok-Some.is ∙ ap Ok c.in-Ok-Some.field-0-is) h seen on in
     next_by s is B seen old new scan next c.extent_in.result (record { item = item_of c.in-Ok-Some.found; gives = record { past = gives.past; is = gives.is; on = gives.on }; says = c.extent_in.ensures }))

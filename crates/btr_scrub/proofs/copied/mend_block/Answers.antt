@@ -1,4 +1,4 @@
-use Rattle.btr_mend.proofs.Doing.{only_slots}
+use Rattle.btr_scrub_copies.proofs.Doing.{only_slots}
 use Rattle.btr_scrub.proofs.Positions.{copy_in_stripe, is_sought}
 use Rattle.btr_scrub.proofs.Scrubbing.{can_mend_then, scrubs_block, scrubs_block_not}
 use Rattle.btr_scrub.proofs.copied.mend_block.Goals as goal
@@ -6,7 +6,9 @@ use Rattle.btr_scrub.proofs.copied.mend_block.Goals as goal
 pub returns-in-Ok-clause-ready : goal.returns-in-Ok-clause-ready
 returns-in-Ok-clause-ready g c =
     let does = (c.in-Ok.ensures.mends c.requires.copied.target c.requires.copied.is_sought).does in
-    can_mend_then c.args.write (g.R.Rack.seen c.args.rack.now) (g.R.Rack.seen c.mend_copies.new.rack) c.args.store.now c.mend_copies.new.store c.args.marks.now c.mend_copies.new.marks c.requires.ready (only_slots does.ranges does.only) c.in-Ok.ensures.loans c.in-Ok.ensures.serves c.mend_copies.auto.marks
+    can_mend_then c.args.write (g.R.Rack.seen c.args.rack.now) (g.R.Rack.seen c.mend_copies.new.rack) c.args.store.now c.mend_copies.new.store
+    c.args.marks.now c.mend_copies.new.marks c.requires.ready (only_slots does.ranges does.only) c.in-Ok.ensures.loans c.in-Ok.ensures.serves
+    c.mend_copies.auto.marks
 
 pub returns-in-Ok-clause-scrubs : goal.returns-in-Ok-clause-scrubs
 returns-in-Ok-clause-scrubs g c t e =
@@ -20,7 +22,9 @@ returns-in-Ok-clause-scrubs g c t e =
 pub returns-in-Err-clause-ready : goal.returns-in-Err-clause-ready
 returns-in-Err-clause-ready g c =
     let does = (c.in-Err.ensures.mends c.requires.copied.target c.requires.copied.is_sought).does in
-    can_mend_then c.args.write (g.R.Rack.seen c.args.rack.now) (g.R.Rack.seen c.mend_copies.new.rack) c.args.store.now c.mend_copies.new.store c.args.marks.now c.mend_copies.new.marks c.requires.ready (only_slots does.ranges does.only) c.in-Err.ensures.loans c.in-Err.ensures.serves c.mend_copies.auto.marks
+    can_mend_then c.args.write (g.R.Rack.seen c.args.rack.now) (g.R.Rack.seen c.mend_copies.new.rack) c.args.store.now c.mend_copies.new.store
+    c.args.marks.now c.mend_copies.new.marks c.requires.ready (only_slots does.ranges does.only) c.in-Err.ensures.loans c.in-Err.ensures.serves
+    c.mend_copies.auto.marks
 
 pub returns-in-Err-clause-scrubs : goal.returns-in-Err-clause-scrubs
 returns-in-Err-clause-scrubs g c t e =

@@ -7,7 +7,7 @@ use Rattle.btr_rack.proofs.Reading.{reads_more}
 use Rattle.btr_read.specs.Fate.{sought}
 use Rattle.btr_read.proofs.Keeping.{none_more}
 use Rattle.btr_read.proofs.ReadsOn.{open_still, same_held, same_sure}
-use Rattle.btr_mend.proofs.Doing.{account_then}
+use Rattle.btr_scrub_copies.proofs.Doing.{account_then}
 use Rattle.btr_scrub.specs.Doubts.{fails_at, fails_on}
 use Rattle.btr_scrub.specs.Judged.{Flags, IsOfPart}
 use Rattle.btr_scrub.proofs.Doubting.{all_of, both_of, fails_copies, flags_none, flags_then, own_copy, some_of, the_sought}

@@ -7,7 +7,8 @@ use Rattle.btr_scrub.proofs.kept.has_doubtful.Goals as goal
 
 pub returns-then-is_doubtful : goal.returns-then-is_doubtful
 returns-then-is_doubtful c =
-    sym (any_there (λ (stripe : Stripe). is_doubtful c.args.store.now.layout (flagged c.args.failing.now) stripe.devid) c.args.chunk.now.stripes c.loop-i.i c.at.result c.at.ensures (sym c.is_doubtful.ensures ∙ c.if-is_doubtful.true))
+    sym (any_there (λ (stripe : Stripe). is_doubtful c.args.store.now.layout (flagged c.args.failing.now) stripe.devid) c.args.chunk.now.stripes
+    c.loop-i.i c.at.result c.at.ensures (sym c.is_doubtful.ensures ∙ c.if-is_doubtful.true))
 
 pub returns : goal.returns
 returns c =

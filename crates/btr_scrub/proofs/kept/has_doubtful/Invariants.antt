@@ -4,4 +4,5 @@ use Rattle.btr_scrub.specs.Plain.{flagged, is_doubtful}
 use Rattle.btr_scrub.proofs.kept.has_doubtful.Given as goal
 
 abbrev pub invariant-loop-i : goal.invariant-loop-i
-invariant-loop-i l = (j : ℕ) (stripe : Stripe) → j < l.i → slice_get l.chunk.stripes j ≡ Some stripe → is_doubtful l.store.layout (flagged l.failing) stripe.devid ≡ false
+invariant-loop-i l = (j : ℕ) (stripe : Stripe) → j < l.i → slice_get l.chunk.stripes j ≡ Some stripe
+    → is_doubtful l.store.layout (flagged l.failing) stripe.devid ≡ false

@@ -1,4 +1,5 @@
-use Rattle.std.proofs.Common.{◌≡◌, ℕ, ◌+◌, ◌*◌, ◌/◌, ◌<◌, ◌≤◌, ◌&&◌, ◌||◌, Some, None, IsSomeAnd, false, not, Bool, List, get_or, slice_get, take, sym, ap, ◌∙◌, subst, arith}
+use Rattle.std.proofs.Common.{◌≡◌, ℕ, ◌+◌, ◌*◌, ◌/◌, ◌<◌, ◌≤◌, ◌&&◌, ◌||◌, Some, None, IsSomeAnd, false, not, Bool, List, get_or, slice_get, take, sym, ap, ◌∙◌}
+use Rattle.std.proofs.Common.{subst, arith}
 use Rattle.std.specs.List.{list_any, range_with_len}
 use Rattle.std.proofs.lemmas.List.{get_or-replicate, take_all}
 use Rattle.std.proofs.lemmas.List.FromFn.{length-range_with_len}
@@ -30,11 +31,15 @@ loop-slice-preserved c = λ chunk there column lt.
     let begin : k.start + (c.args.row * c.slice_count-slices.result + slice) * 65536 + column * 4096 ≡ sector_addr k c.args.row slice column =
     ap (λ m. k.start + (c.args.row * m + slice) * 65536 + column * 4096) c.slice_count-slices.ensures.count in
     let one : get_or c.mark.new.flags column false ≡ list_any f (take (slice + 1) (range_with_len 0 n)) =
-    c.mark.ensures column lt ∙ ap (λ b. b || (not c.is_surer-surer.result && is_plain plain (k.start + (c.args.row * c.slice_count-slices.result + slice) * 65536 + column * 4096))) before
-    ∙ ap (λ b. list_any f (take slice (range_with_len 0 n)) || (not b && is_plain plain (k.start + (c.args.row * c.slice_count-slices.result + slice) * 65536 + column * 4096))) (c.is_surer-surer.ensures ∙ ap (λ (fs : List Bool). is_surer layout (flagged fs) k c.args.row slice) c.deref.ensures.value)
+    c.mark.ensures column lt ∙ ap (λ b. b || (not c.is_surer-surer.result && is_plain plain
+    (k.start + (c.args.row * c.slice_count-slices.result + slice) * 65536 + column * 4096))) before
+    ∙ ap (λ b. list_any f (take slice (range_with_len 0 n)) ||
+    (not b && is_plain plain (k.start + (c.args.row * c.slice_count-slices.result + slice) * 65536 + column * 4096)))
+    (c.is_surer-surer.ensures ∙ ap (λ (fs : List Bool). is_surer layout (flagged fs) k c.args.row slice) c.deref.ensures.value)
     ∙ ap (λ a. list_any f (take slice (range_with_len 0 n)) || (not (is_surer layout failing k c.args.row slice) && is_plain plain a)) begin
     ∙ sym (slice_more f n slice below) in
-    subst (λ (k : Chunk). get_or c.mark.new.flags column false ≡ list_any (is_unsure layout failing plain k c.args.row column) (take (slice + 1) (range_with_len 0 (slices_of k)))) same one
+    subst (λ (k : Chunk). get_or c.mark.new.flags column false
+    ≡ list_any (is_unsure layout failing plain k c.args.row column) (take (slice + 1) (range_with_len 0 (slices_of k)))) same one
 
 pub overflow_mul-element-in-loop-slice : goal.overflow_mul-element-in-loop-slice
 overflow_mul-element-in-loop-slice c =
@@ -75,7 +80,8 @@ returns c =
     let k = c.at-chunk.result.now in
     let here : slice_get layout.chunks c.args.number ≡ Some k = ap (λ cs. slice_get cs c.args.number) (sym c.chunks.ensures) ∙ c.at-chunk.ensures.chunk in
     let n = slices_of k in
-    subst (λ o. IsSomeAnd o (λ chunk. (column : ℕ) → column < 16 → get_or c.loop-slice.flags column false ≡ kept_beside layout c.args.beside.now chunk c.args.row column)) (sym here) (λ column lt.
+    subst (λ o. IsSomeAnd o (λ chunk. (column : ℕ) → column < 16 → get_or c.loop-slice.flags column false
+    ≡ kept_beside layout c.args.beside.now chunk c.args.row column)) (sym here) (λ column lt.
     c.loop-slice.invariant k here column lt
     ∙ ap (list_any (is_unsure layout (flagged c.args.beside.now.failing.items) c.args.beside.now.plain k c.args.row column))
     (take_all c.loop-slice.slice (range_with_len 0 n) (omega (arith, length-range_with_len 0 n, c.loop-slice-test.false, c.slice_count-slices.ensures.count))))

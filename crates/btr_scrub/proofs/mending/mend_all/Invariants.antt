@@ -9,5 +9,6 @@ invariant-loop-number g l = record {
   ready : CanMend l.write (g.R.Rack.seen l.rack) l.store l.marks;
   loans : SameLoans l.initial.store l.store;
   rooms : HasRooms l.initial.store.layout l.room.buffer;
-  past : ChunksPast (kept_beside l.initial.store.layout l.beside) l.initial.store.layout l.initial.blocks l.write l.blocks l.number (g.R.Rack.seen l.initial.rack) (g.R.Rack.seen l.rack) l.initial.tally l.tally;
+  past : ChunksPast (kept_beside l.initial.store.layout l.beside) l.initial.store.layout l.initial.blocks l.write l.blocks l.number
+      (g.R.Rack.seen l.initial.rack) (g.R.Rack.seen l.rack) l.initial.tally l.tally;
 }

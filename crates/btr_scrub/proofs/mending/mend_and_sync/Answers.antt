@@ -11,22 +11,30 @@ pub returns-then-not-task-clause-works : goal.returns-then-not-task-clause-works
 returns-then-not-task-clause-works g c chunk there =
     let layout = c.args.store.now.layout in
     let unwritten : c.args.task.write ≡ false = search rules in
-    works_read layout c.args.task.write (chunk_writes_for (kept_beside layout c.args.beside.now) layout chunk c.args.blocks.now) (chunk_count_for (kept_beside layout c.args.beside.now) layout c.args.task.write chunk c.args.blocks.now) c.args.marks.now c.mend_chunk.new.marks
-    (g.R.Rack.seen c.args.rack.now) (g.R.Rack.seen c.mend_chunk.new.rack) c.args.tally.now c.mend_chunk.new.tally tt unwritten (c.in-Ok.ensures.scrubs chunk there)
+    works_read layout c.args.task.write (chunk_writes_for (kept_beside layout c.args.beside.now) layout chunk c.args.blocks.now)
+    (chunk_count_for (kept_beside layout c.args.beside.now) layout c.args.task.write chunk c.args.blocks.now) c.args.marks.now c.mend_chunk.new.marks
+    (g.R.Rack.seen c.args.rack.now) (g.R.Rack.seen c.mend_chunk.new.rack) c.args.tally.now c.mend_chunk.new.tally tt unwritten
+    (c.in-Ok.ensures.scrubs chunk there)
 
 pub returns-clause-ready : goal.returns-clause-ready
 returns-clause-ready g c =
-    can_mend_synced c.args.task.write (g.R.Rack.seen c.mend_chunk.new.rack) (g.R.Rack.seen c.sync_marked.new.rack) c.mend_chunk.new.store c.mend_chunk.new.marks c.sync_marked.new.marks c.in-Ok.ensures.ready c.sync_marked.ensures.only c.sync_marked.auto.marks
+    can_mend_synced c.args.task.write (g.R.Rack.seen c.mend_chunk.new.rack) (g.R.Rack.seen c.sync_marked.new.rack) c.mend_chunk.new.store
+    c.mend_chunk.new.marks c.sync_marked.new.marks c.in-Ok.ensures.ready c.sync_marked.ensures.only c.sync_marked.auto.marks
 
 pub returns-clause-works : goal.returns-clause-works
 returns-clause-works g c chunk there =
     let layout = c.args.store.now.layout in
     let written : c.args.task.write ≡ true = search rules in
-    works_synced layout c.args.task.write (chunk_writes_for (kept_beside layout c.args.beside.now) layout chunk c.args.blocks.now) (chunk_count_for (kept_beside layout c.args.beside.now) layout c.args.task.write chunk c.args.blocks.now) c.args.marks.now c.mend_chunk.new.marks c.sync_marked.new.marks
-    (g.R.Rack.seen c.args.rack.now) (g.R.Rack.seen c.mend_chunk.new.rack) (g.R.Rack.seen c.sync_marked.new.rack) c.args.tally.now c.mend_chunk.new.tally tt c.sync_marked.result written (c.in-Ok.ensures.scrubs chunk there) c.sync_marked.ensures
+    works_synced layout c.args.task.write (chunk_writes_for (kept_beside layout c.args.beside.now) layout chunk c.args.blocks.now)
+    (chunk_count_for (kept_beside layout c.args.beside.now) layout c.args.task.write chunk c.args.blocks.now) c.args.marks.now
+    c.mend_chunk.new.marks c.sync_marked.new.marks
+    (g.R.Rack.seen c.args.rack.now) (g.R.Rack.seen c.mend_chunk.new.rack) (g.R.Rack.seen c.sync_marked.new.rack) c.args.tally.now
+    c.mend_chunk.new.tally tt c.sync_marked.result written (c.in-Ok.ensures.scrubs chunk there) c.sync_marked.ensures
 
 pub returns-in-Err-clause-works : goal.returns-in-Err-clause-works
 returns-in-Err-clause-works g c chunk there =
     let layout = c.args.store.now.layout in
-    works_halted layout c.args.task.write (chunk_writes_for (kept_beside layout c.args.beside.now) layout chunk c.args.blocks.now) (chunk_count_for (kept_beside layout c.args.beside.now) layout c.args.task.write chunk c.args.blocks.now) c.args.marks.now c.mend_chunk.new.marks
-    (g.R.Rack.seen c.args.rack.now) (g.R.Rack.seen c.mend_chunk.new.rack) c.args.tally.now c.mend_chunk.new.tally c.in-Err.fault (c.in-Err.ensures.scrubs chunk there)
+    works_halted layout c.args.task.write (chunk_writes_for (kept_beside layout c.args.beside.now) layout chunk c.args.blocks.now)
+    (chunk_count_for (kept_beside layout c.args.beside.now) layout c.args.task.write chunk c.args.blocks.now) c.args.marks.now c.mend_chunk.new.marks
+    (g.R.Rack.seen c.args.rack.now) (g.R.Rack.seen c.mend_chunk.new.rack) c.args.tally.now c.mend_chunk.new.tally c.in-Err.fault
+    (c.in-Err.ensures.scrubs chunk there)

@@ -9,7 +9,8 @@ returns-then-addr-run c = sym (before_run c.args.run.count c.args.run.addr c.arg
 pub returns-then-past-eq0 : goal.returns-then-past-eq0
 returns-then-past-eq0 c =
     let past = c.args.addr - c.args.run.addr in
-    sym (in_run c.args.run.count c.args.run.addr c.args.addr c.if-addr-run.false ∙ ap (λ b. b && ltb (past / 4096) c.args.run.count) (eq-eqb (past % 4096) 0 c.if-past-eq0.true))
+    sym (in_run c.args.run.count c.args.run.addr c.args.addr c.if-addr-run.false
+    ∙ ap (λ b. b && ltb (past / 4096) c.args.run.count) (eq-eqb (past % 4096) 0 c.if-past-eq0.true))
 
 pub returns-else-past-eq0 : goal.returns-else-past-eq0
 returns-else-past-eq0 c =

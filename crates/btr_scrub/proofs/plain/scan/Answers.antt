@@ -4,7 +4,8 @@ use Rattle.btr_scrub.proofs.PlainRuns.{found, none_found}
 use Rattle.btr_scrub.proofs.plain.scan.Goals as goal
 
 pub returns-then-has_sector : goal.returns-then-has_sector
-returns-then-has_sector c = sym (found c.args.runs.now c.loop-i.i c.run_at.result c.args.addr c.run_at.ensures (sym c.has_sector.ensures ∙ c.if-has_sector.true))
+returns-then-has_sector c = sym (found c.args.runs.now c.loop-i.i c.run_at.result c.args.addr c.run_at.ensures
+    (sym c.has_sector.ensures ∙ c.if-has_sector.true))
 
 pub returns : goal.returns
 returns c =

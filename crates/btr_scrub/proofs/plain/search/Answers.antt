@@ -5,7 +5,8 @@ use Rattle.btr_scrub.proofs.plain.search.Goals as goal
 pub returns-then-low-eq0 : goal.returns-then-low-eq0
 returns-then-low-eq0 c =
     sym (none_found c.args.runs.now c.args.addr (λ j run e.
-    before_run run.count run.addr c.args.addr (c.loop-low.invariant.above j run (omega (arith, c.loop-low.invariant.order, c.loop-low-test.false, c.if-low-eq0.true)) e)))
+    before_run run.count run.addr c.args.addr (c.loop-low.invariant.above j run
+    (omega (arith, c.loop-low.invariant.order, c.loop-low-test.false, c.if-low-eq0.true)) e)))
 
 pub returns : goal.returns
 returns c =

@@ -4,11 +4,13 @@ use Rattle.btr_scrub.proofs.InRows.{collects_first, collects_more}
 use Rattle.btr_scrub.proofs.rowed.collect.Goals as goal
 
 pub loop-want-init : goal.loop-want-init
-loop-want-init c = collects_first c.args.chunk.now c.args.row c.args.first c.args.blocks.now c.push.new.wants.items c.clear.new.self.items c.clear.ensures.items c.in_ok-push.ensures
+loop-want-init c = collects_first c.args.chunk.now c.args.row c.args.first c.args.blocks.now c.push.new.wants.items c.clear.new.self.items
+    c.clear.ensures.items c.in_ok-push.ensures
 
 pub loop-want-preserved : goal.loop-want-preserved
 loop-want-preserved c =
-    collects_more c.args.chunk.now c.args.row c.args.first c.in-Some.want c.args.blocks.now c.loop-want.blocks c.next_in_row.new.blocks c.loop-want.wants.items c.push-in-Some.new.wants.items c.loop-want.invariant c.in-Some.ensures.0 c.in-Some.ensures.1 c.in_ok-push-2.ensures
+    collects_more c.args.chunk.now c.args.row c.args.first c.in-Some.want c.args.blocks.now c.loop-want.blocks c.next_in_row.new.blocks
+    c.loop-want.wants.items c.push-in-Some.new.wants.items c.loop-want.invariant c.in-Some.ensures.0 c.in-Some.ensures.1 c.in_ok-push-2.ensures
 
 pub returns : goal.returns
 returns c =

@@ -1,4 +1,5 @@
-use Rattle.std.proofs.Common.{◌≡◌, ℕ, ◌*◌, ◌≤◌, false, get_or, ◌+◌, ◌∷◌, ◌<◌, length, None, Ok, Err, Some, is_some, IsSomeAnd, slice_get, refl, sym, ap, ◌∙◌, subst, arith, length-append}
+use Rattle.std.proofs.Common.{◌≡◌, ℕ, ◌*◌, ◌≤◌, false, get_or, ◌+◌, ◌∷◌, ◌<◌, length, None, Ok, Err, Some, is_some, IsSomeAnd, slice_get, refl, sym, ap, ◌∙◌}
+use Rattle.std.proofs.Common.{subst, arith, length-append}
 use Rattle.std.proofs.lemmas.Option.{same_Some}
 use Rattle.btr_chunk.specs.Chunk.{mirrors, stripe_length}
 use Rattle.btr_chunk.specs.Table.{chunk_at}
@@ -6,9 +7,9 @@ use Rattle.btr_chunk.specs.declared.chunk.Chunk.{Chunk}
 use Rattle.btr_read.specs.Layout.{Layout}
 use Rattle.btr_read.specs.Want.{addr_of}
 use Rattle.btr_read.proofs.Serving.{serving}
-use Rattle.btr_mend.proofs.Copied.{same_loans_then}
-use Rattle.btr_row.specs.Mending.{AreKept, IsRow, IsRowOf, mended_row}
-use Rattle.btr_row.specs.Rows.{Row, row_writes}
+use Rattle.btr_scrub_copies.proofs.Copied.{same_loans_then}
+use Rattle.btr_scrub_row.specs.Mending.{AreKept, IsRow, IsRowOf, mended_row}
+use Rattle.btr_scrub_row.specs.Rows.{Row, row_writes}
 use Rattle.btr_scrub.specs.Order.{AreApart, targets}
 use Rattle.btr_scrub.specs.Repair.{row_of}
 use Rattle.btr_scrub.specs.Scrubbing.{BeginsBehind, HasRooms, IsPastChunk, Scrubs, counted_row}
@@ -27,7 +28,8 @@ loop-first-init g c = record {
   underway = λ table own given chunk there parity.
       let layout = c.args.store.now.layout in
       let is = subst (λ o. IsSomeAnd o (λ chunk. (mirrors chunk ≡ None) × AreApart layout chunk.start c.args.blocks.now)) there c.requires.chunk in
-      rows_first (kept_beside layout c.args.beside.now) layout table own given c.args.task.number chunk there parity c.args.blocks.now c.args.task.write c.args.marks.now (g.R.Rack.seen c.args.rack.now) c.args.tally.now is.1;
+      rows_first (kept_beside layout c.args.beside.now) layout table own given c.args.task.number chunk there parity c.args.blocks.now
+      c.args.task.write c.args.marks.now (g.R.Rack.seen c.args.rack.now) c.args.tally.now is.1;
 }
 
 pub collect_row-requires : goal.collect_row-requires
@@ -62,7 +64,8 @@ returns-in-Err-clause-scrubs g c chunk there =
     let is = subst (λ o. IsSomeAnd o (λ chunk. (mirrors chunk ≡ None) × AreApart layout chunk.start wants)) there c.requires.chunk in
     let b = g.R.Rack.seen c.loop-first.rack in
     let h = c.loop-first.invariant.underway table own given chunk there is.0 in
-    rows_short (kept_beside layout c.args.beside.now) layout table own given c.args.task.number chunk there is.0 wants c.args.task.write c.loop-first.blocks c.args.marks.now c.loop-first.marks a b c.args.tally.now c.loop-first.tally h
+    rows_short (kept_beside layout c.args.beside.now) layout table own given c.args.task.number chunk there is.0 wants c.args.task.write
+    c.loop-first.blocks c.args.marks.now c.loop-first.marks a b c.args.tally.now c.loop-first.tally h
 
 pub kept_columns-kept-requires : goal.kept_columns-kept-requires
 kept_columns-kept-requires g c =
@@ -84,11 +87,13 @@ kept_columns-kept-requires g c =
     let at : chunk_at layout.chunks (addr_of c.in-Some.first) ≡ Some chunk = chunk_of layout c.in-Some.first next.target next.is_sought ∙ ap Some next.mine in
     let got = c.in-Ok.ensures chunk (ap (λ (l : Layout). chunk_at l.chunks (addr_of c.in-Some.first)) c.loop-first.invariant.loans.layout ∙ at) in
     let n = next_row (kept_beside layout c.args.beside.now) layout table own given c.args.task.number chunk there is.0 wants c.args.task.write c.loop-first.blocks c.next_below.new.blocks c.collect_row.new.blocks c.args.marks.now c.loop-first.marks a b c.args.tally.now c.loop-first.tally h c.in-Some.first c.in-Ok.row c.collect_row.new.wants.items left got.0 got.1 in
-    subst (λ (l : Layout). IsSomeAnd (slice_get l.chunks c.args.task.number) (λ k. (mirrors k ≡ None) × (c.in-Ok.row * 65536 + 65536 ≤ stripe_length k))) (sym c.loop-first.invariant.loans.layout)
+    subst (λ (l : Layout). IsSomeAnd (slice_get l.chunks c.args.task.number)
+    (λ k. (mirrors k ≡ None) × (c.in-Ok.row * 65536 + 65536 ≤ stripe_length k))) (sym c.loop-first.invariant.loans.layout)
     (subst (λ o. IsSomeAnd o (λ k. (mirrors k ≡ None) × (c.in-Ok.row * 65536 + 65536 ≤ stripe_length k))) (sym there) (is.0, n.fits))
 
 pub mend_collected-requires-clause-rooms : goal.mend_collected-requires-clause-rooms
-mend_collected-requires-clause-rooms g c = subst (λ (l : Layout). HasRooms l c.loop-first.room.buffer) (sym c.loop-first.invariant.loans.layout) c.loop-first.invariant.rooms
+mend_collected-requires-clause-rooms g c = subst (λ (l : Layout). HasRooms l c.loop-first.room.buffer) (sym c.loop-first.invariant.loans.layout)
+    c.loop-first.invariant.rooms
 
 pub mend_collected-requires-clause-row : goal.mend_collected-requires-clause-row
 mend_collected-requires-clause-row g c =
@@ -162,10 +167,15 @@ loop-first-preserved g c = record {
       let kept = subst (λ o. IsSomeAnd o (λ k. (column : ℕ) → column < 16 → get_or c.kept_columns-kept.result column false ≡ kept_beside layout c.args.beside.now k c.in-Ok.row column)) there
       (subst (λ (l : Layout). IsSomeAnd (slice_get l.chunks c.args.task.number) (λ k. (column : ℕ) → column < 16 → get_or c.kept_columns-kept.result column false ≡ kept_beside l c.args.beside.now k c.in-Ok.row column)) c.loop-first.invariant.loans.layout c.kept_columns-kept.ensures) in
       let one = subst (λ (l : Layout). (r : Row) → IsRowOf l c.at-chunk.result.now.start c.in-Ok.row c.collect_row.new.wants.items r → AreKept c.kept_columns-kept.result r
-      → Scrubs {A = Unit {0}} l c.args.task.write (λ images. row_writes images l r) (λ images tally. counted_row tally (length r.blocks) (mended_row images l r c.args.task.write)) c.loop-first.marks c.mend_collected.new.marks b (g.R.Rack.seen c.mend_collected.new.rack) c.loop-first.tally c.mend_collected.new.tally (Ok tt)) c.loop-first.invariant.loans.layout c.in-Ok-mend_collected.ensures.scrubs row
+      → Scrubs {A = Unit {0}} l c.args.task.write (λ images. row_writes images l r)
+      (λ images tally. counted_row tally (length r.blocks) (mended_row images l r c.args.task.write)) c.loop-first.marks
+      c.mend_collected.new.marks b (g.R.Rack.seen c.mend_collected.new.rack) c.loop-first.tally c.mend_collected.new.tally (Ok tt))
+      c.loop-first.invariant.loans.layout c.in-Ok-mend_collected.ensures.scrubs row
       (subst (λ n. IsRowOf layout n c.in-Ok.row c.collect_row.new.wants.items row) (sym start) is_row) kept in
-      rows_more (kept_beside layout c.args.beside.now) layout table own given c.args.task.number chunk there parity wants c.args.task.write c.loop-first.blocks c.args.marks.now c.loop-first.marks a b c.args.tally.now c.loop-first.tally h
-      (λ images held. have_lengths a layout images (g.met.R.Rack.sound c.args.rack.now) was.are_open held) c.collect_row.new.blocks c.in-Ok.row c.collect_row.new.wants.items n c.mend_collected.new.marks (g.R.Rack.seen c.mend_collected.new.rack) c.mend_collected.new.tally one;
+      rows_more (kept_beside layout c.args.beside.now) layout table own given c.args.task.number chunk there parity wants c.args.task.write
+      c.loop-first.blocks c.args.marks.now c.loop-first.marks a b c.args.tally.now c.loop-first.tally h
+      (λ images held. have_lengths a layout images (g.met.R.Rack.sound c.args.rack.now) was.are_open held) c.collect_row.new.blocks c.in-Ok.row
+      c.collect_row.new.wants.items n c.mend_collected.new.marks (g.R.Rack.seen c.mend_collected.new.rack) c.mend_collected.new.tally one;
 }
 
 pub returns-in-Err-mend_collected-clause-scrubs : goal.returns-in-Err-mend_collected-clause-scrubs
@@ -194,10 +204,16 @@ returns-in-Err-mend_collected-clause-scrubs g c chunk there =
     let kept = subst (λ o. IsSomeAnd o (λ k. (column : ℕ) → column < 16 → get_or c.kept_columns-kept.result column false ≡ kept_beside layout c.args.beside.now k c.in-Ok.row column)) there
     (subst (λ (l : Layout). IsSomeAnd (slice_get l.chunks c.args.task.number) (λ k. (column : ℕ) → column < 16 → get_or c.kept_columns-kept.result column false ≡ kept_beside l c.args.beside.now k c.in-Ok.row column)) c.loop-first.invariant.loans.layout c.kept_columns-kept.ensures) in
     let one = subst (λ (l : Layout). (r : Row) → IsRowOf l c.at-chunk.result.now.start c.in-Ok.row c.collect_row.new.wants.items r → AreKept c.kept_columns-kept.result r
-    → Scrubs {A = Unit {0}} l c.args.task.write (λ images. row_writes images l r) (λ images tally. counted_row tally (length r.blocks) (mended_row images l r c.args.task.write)) c.loop-first.marks c.mend_collected.new.marks b (g.R.Rack.seen c.mend_collected.new.rack) c.loop-first.tally c.mend_collected.new.tally (Err c.in-Err-mend_collected.fault)) c.loop-first.invariant.loans.layout c.in-Err-mend_collected.ensures.scrubs row
+    → Scrubs {A = Unit {0}} l c.args.task.write (λ images. row_writes images l r)
+    (λ images tally. counted_row tally (length r.blocks) (mended_row images l r c.args.task.write)) c.loop-first.marks c.mend_collected.new.marks
+    b (g.R.Rack.seen c.mend_collected.new.rack) c.loop-first.tally c.mend_collected.new.tally (Err c.in-Err-mend_collected.fault))
+    c.loop-first.invariant.loans.layout c.in-Err-mend_collected.ensures.scrubs row
     (subst (λ n. IsRowOf layout n c.in-Ok.row c.collect_row.new.wants.items row) (sym start) is_row) kept in
-    rows_cut (kept_beside layout c.args.beside.now) layout table own given c.args.task.number chunk there is.0 wants c.args.task.write c.loop-first.blocks c.args.marks.now c.loop-first.marks a b c.args.tally.now c.loop-first.tally h
-    (λ images held. have_lengths a layout images (g.met.R.Rack.sound c.args.rack.now) was.are_open held) c.collect_row.new.blocks c.in-Ok.row c.collect_row.new.wants.items n c.mend_collected.new.marks (g.R.Rack.seen c.mend_collected.new.rack) c.mend_collected.new.tally c.in-Err-mend_collected.fault one
+    rows_cut (kept_beside layout c.args.beside.now) layout table own given c.args.task.number chunk there is.0 wants c.args.task.write
+    c.loop-first.blocks c.args.marks.now c.loop-first.marks a b c.args.tally.now c.loop-first.tally h
+    (λ images held. have_lengths a layout images (g.met.R.Rack.sound c.args.rack.now) was.are_open held) c.collect_row.new.blocks c.in-Ok.row
+    c.collect_row.new.wants.items n c.mend_collected.new.marks (g.R.Rack.seen c.mend_collected.new.rack) c.mend_collected.new.tally
+    c.in-Err-mend_collected.fault one
 
 pub returns-clause-past : goal.returns-clause-past
 returns-clause-past g c chunk there =
@@ -214,7 +230,9 @@ returns-clause-past g c chunk there =
     let b = g.R.Rack.seen c.loop-first.rack in
     let h = c.loop-first.invariant.underway table own given chunk there is.0 in
     subst (IsPastChunk layout chunk wants) (sym c.in_default.ensures.0)
-    (rows_past (kept_beside layout c.args.beside.now) layout table own given c.args.task.number chunk there is.0 wants c.args.task.write c.loop-first.blocks c.args.marks.now c.loop-first.marks a b c.args.tally.now c.loop-first.tally h (subst (λ (k : Chunk). BeginsBehind (k.start + k.length) c.loop-first.blocks) same c.in_default.ensures.1))
+    (rows_past (kept_beside layout c.args.beside.now) layout table own given c.args.task.number chunk there is.0 wants c.args.task.write
+    c.loop-first.blocks c.args.marks.now c.loop-first.marks a b c.args.tally.now c.loop-first.tally h
+    (subst (λ (k : Chunk). BeginsBehind (k.start + k.length) c.loop-first.blocks) same c.in_default.ensures.1))
 
 pub returns-clause-scrubs : goal.returns-clause-scrubs
 returns-clause-scrubs g c chunk there =
@@ -230,5 +248,8 @@ returns-clause-scrubs g c chunk there =
     let is = subst (λ o. IsSomeAnd o (λ chunk. (mirrors chunk ≡ None) × AreApart layout chunk.start wants)) there c.requires.chunk in
     let b = g.R.Rack.seen c.loop-first.rack in
     let h = c.loop-first.invariant.underway table own given chunk there is.0 in
-    rows_done (kept_beside layout c.args.beside.now) layout table own given c.args.task.number chunk there is.0 wants c.args.task.write c.loop-first.blocks c.args.marks.now c.loop-first.marks a b c.args.tally.now c.loop-first.tally h
-    (rows_past (kept_beside layout c.args.beside.now) layout table own given c.args.task.number chunk there is.0 wants c.args.task.write c.loop-first.blocks c.args.marks.now c.loop-first.marks a b c.args.tally.now c.loop-first.tally h (subst (λ (k : Chunk). BeginsBehind (k.start + k.length) c.loop-first.blocks) same c.in_default.ensures.1))
+    rows_done (kept_beside layout c.args.beside.now) layout table own given c.args.task.number chunk there is.0 wants c.args.task.write
+    c.loop-first.blocks c.args.marks.now c.loop-first.marks a b c.args.tally.now c.loop-first.tally h
+    (rows_past (kept_beside layout c.args.beside.now) layout table own given c.args.task.number chunk there is.0 wants c.args.task.write
+    c.loop-first.blocks c.args.marks.now c.loop-first.marks a b c.args.tally.now c.loop-first.tally h
+    (subst (λ (k : Chunk). BeginsBehind (k.start + k.length) c.loop-first.blocks) same c.in_default.ensures.1))

@@ -15,8 +15,11 @@ invariant-loop-first g l = record {
   ready : CanMend l.task.write (g.R.Rack.seen l.rack) l.store l.marks;
   loans : SameLoans l.fn.store l.store;
   rooms : HasRooms l.fn.store.layout l.room.buffer;
-  underway : (table : IsTable l.fn.store.layout.chunks) (own : HaveOwnSlots l.fn.store.layout.devices) (given : first_missing l.fn.store.layout ≡ None) (chunk : Chunk) (there : slice_get l.fn.store.layout.chunks l.task.number ≡ Some chunk) (parity : mirrors chunk ≡ None)
-      → RowsUnderway (kept_beside l.fn.store.layout l.beside) l.fn.store.layout table own given l.task.number chunk there parity l.fn.blocks l.task.write l.blocks l.fn.marks l.marks (g.R.Rack.seen l.fn.rack) (g.R.Rack.seen l.rack) l.fn.tally l.tally;
+  underway : (table : IsTable l.fn.store.layout.chunks) (own : HaveOwnSlots l.fn.store.layout.devices)
+      (given : first_missing l.fn.store.layout ≡ None) (chunk : Chunk) (there : slice_get l.fn.store.layout.chunks l.task.number ≡ Some chunk)
+      (parity : mirrors chunk ≡ None)
+      → RowsUnderway (kept_beside l.fn.store.layout l.beside) l.fn.store.layout table own given l.task.number chunk there parity l.fn.blocks
+      l.task.write l.blocks l.fn.marks l.marks (g.R.Rack.seen l.fn.rack) (g.R.Rack.seen l.rack) l.fn.tally l.tally;
 }
 
 abbrev pub decreases-loop-first : goal.decreases-loop-first

@@ -14,8 +14,10 @@ returns-in-Err g c =
     let s = c.args.vol.now.sup in
     let old = g.R.Rack.seen c.args.rack.now in
     let new = g.R.Rack.seen c.tree.new.rack in
-    gathers_halt (quiet (tree_of s 2)) (with_extents s c.args.vol.now.store.layout.chunks) (scene old c.args.vol.now c.args.gathered.now) (scene new c.tree.new.self c.args.gathered.now) (Tree c.in-Err.fault)
-    (gathers_fault (tree_of s 2) old new c.args.vol.now c.tree.new.self c.args.gathered.now c.in-Err.fault c.in-Err.ensures.serves c.in-Err.ensures.reads c.in-Err.ensures.same c.in-Err.ensures.cause c.in-Err.ensures.content)
+    gathers_halt (quiet (tree_of s 2)) (with_extents s c.args.vol.now.store.layout.chunks) (scene old c.args.vol.now c.args.gathered.now)
+    (scene new c.tree.new.self c.args.gathered.now) (Tree c.in-Err.fault)
+    (gathers_fault (tree_of s 2) old new c.args.vol.now c.tree.new.self c.args.gathered.now c.in-Err.fault c.in-Err.ensures.serves
+    c.in-Err.ensures.reads c.in-Err.ensures.same c.in-Err.ensures.cause c.in-Err.ensures.content)
 
 pub returns-in-Ok-None : goal.returns-in-Ok-None
 returns-in-Ok-None g c =
@@ -25,7 +27,8 @@ returns-in-Ok-None g c =
     let chunks = c.args.vol.now.store.layout.chunks in
     let mid = scene new c.tree.new.self c.args.gathered.now in
     gathers_then (quiet (tree_of s 2)) (with_extents s chunks) (scene old c.args.vol.now c.args.gathered.now) mid mid None (Err (NoTree 2))
-    (gathers_found (tree_of s 2) old new c.args.vol.now c.tree.new.self c.args.gathered.now None c.requires.is_list c.in-Ok-None.ensures.serves c.in-Ok-None.ensures.reads c.in-Ok-None.ensures.same
+    (gathers_found (tree_of s 2) old new c.args.vol.now c.tree.new.self c.args.gathered.now None c.requires.is_list c.in-Ok-None.ensures.serves
+    c.in-Ok-None.ensures.reads c.in-Ok-None.ensures.same
     (subst (λ (r : Option TreeRoot). Looks c.args.vol.now.store.layout old new (tree_of s 2) (Ok r)) c.in-Ok-None.field-0-is c.in-Ok-None.ensures.content))
     (gathers_no_tree 2 mid c.in-Ok-None.ensures.serves)
 
@@ -38,7 +41,10 @@ returns-in-Ok-Some g c =
     let extents = c.in-Ok-Some.extents in
     let end = scene (g.R.Rack.seen c.gather_extents.new.rack) c.gather_extents.new.vol c.gather_extents.new.gathered in
     let same = c.in-Ok-Some.ensures.same in
-    gathers_then (quiet (tree_of s 2)) (with_extents s chunks) (scene old c.args.vol.now c.args.gathered.now) (scene new c.tree.new.self c.args.gathered.now) end (Some extents) c.gather_extents.result
-    (gathers_found (tree_of s 2) old new c.args.vol.now c.tree.new.self c.args.gathered.now (Some extents) c.requires.is_list c.in-Ok-Some.ensures.serves c.in-Ok-Some.ensures.reads same
+    gathers_then (quiet (tree_of s 2)) (with_extents s chunks) (scene old c.args.vol.now c.args.gathered.now)
+    (scene new c.tree.new.self c.args.gathered.now) end (Some extents) c.gather_extents.result
+    (gathers_found (tree_of s 2) old new c.args.vol.now c.tree.new.self c.args.gathered.now (Some extents) c.requires.is_list
+    c.in-Ok-Some.ensures.serves c.in-Ok-Some.ensures.reads same
     (subst (λ (r : Option TreeRoot). Looks c.args.vol.now.store.layout old new (tree_of s 2) (Ok r)) c.in-Ok-Some.field-0-is c.in-Ok-Some.ensures.content))
-    (gathers_as (λ t l. with_extents t l.chunks (Some extents)) s c.tree.new.self.sup c.args.vol.now.store.layout c.tree.new.self.store.layout (scene new c.tree.new.self c.args.gathered.now) end c.gather_extents.result same.sup same.store.layout c.gather_extents.ensures)
+    (gathers_as (λ t l. with_extents t l.chunks (Some extents)) s c.tree.new.self.sup c.args.vol.now.store.layout c.tree.new.self.store.layout
+    (scene new c.tree.new.self c.args.gathered.now) end c.gather_extents.result same.sup same.store.layout c.gather_extents.ensures)

@@ -1,8 +1,8 @@
 use Rattle.std.proofs.Common.{Bool, length, Ok, Err, refl, sym, ap, subst, arith}
 use Rattle.std.specs.declared.vec.Vec.{Vec}
 use Rattle.std.specs.declared.alloc.Global.{Global}
-use Rattle.btr_mend.specs.Writes.{AreWritable}
-use Rattle.btr_mend.specs.declared.mended.MendFault.TheVariants.{Memory}
+use Rattle.btr_scrub_copies.specs.Writes.{AreWritable}
+use Rattle.btr_scrub_copies.specs.declared.mended.MendFault.TheVariants.{Memory}
 use Rattle.btr_read.proofs.ReadsOn.{same_held, same_slots}
 use Rattle.btr_read.proofs.Serving.{serves_as, serving}
 use Rattle.btr_scrub.specs.Listed.{kept_wants}

@@ -8,8 +8,8 @@ use Rattle.btr_read.specs.Fate.{sought_at, sought_in, target}
 use Rattle.btr_read.specs.declared.want.Want.{Want}
 use Rattle.btr_read.specs.declared.want.Want.TheVariants.{Sector}
 use Rattle.btr_read.proofs.Serving.{serving}
-use Rattle.btr_row.specs.Mending.{IsOn}
-use Rattle.btr_row.specs.Rows.{Row}
+use Rattle.btr_scrub_row.specs.Mending.{IsOn}
+use Rattle.btr_scrub_row.specs.Rows.{Row}
 use Rattle.btr_scrub.specs.Repair.{first_missing}
 use Rattle.btr_scrub.proofs.AcrossChunks.{element_stands}
 use Rattle.btr_scrub.proofs.Positions.{is_sought}

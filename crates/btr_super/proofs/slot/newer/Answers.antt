@@ -4,7 +4,8 @@ use Rattle.btr_super.proofs.Copies.{sofar_same, sofar_newer, Beats}
 use Rattle.btr_super.proofs.slot.newer.Goals as goal
 
 pub returns-then-newest-s : goal.returns-then-newest-s
-returns-then-newest-s c = λ found so. sofar_newer found c.args.seen.newest c.args.s c.args.seen.kind (subst (λ o. Beats o c.args.s) (sym c.in-Some.is) c.if-newest-s.true) so
+returns-then-newest-s c = λ found so. sofar_newer found c.args.seen.newest c.args.s c.args.seen.kind
+    (subst (λ o. Beats o c.args.s) (sym c.in-Some.is) c.if-newest-s.true) so
 
 pub returns-else-newest-s : goal.returns-else-newest-s
 returns-else-newest-s c = λ found so.

@@ -10,4 +10,5 @@ loop-place-init g c = record {
 }
 
 pub returns-clause-answer : goal.returns-clause-answer
-returns-clause-answer g c = ends (g.R.Rack.seen c.args.rack.now).held c.args.slot c.loop-place.place-index c.loop-place.seen _ c.loop-place-test.false c.loop-place.invariant.found c.answer.ensures.answer
+returns-clause-answer g c = ends (g.R.Rack.seen c.args.rack.now).held c.args.slot c.loop-place.place-index c.loop-place.seen _ c.loop-place-test.false
+    c.loop-place.invariant.found c.answer.ensures.answer

@@ -25,4 +25,6 @@ returns-in-Some-seek_item-clause-content g c =
     let then : LeafAt = record { spot = hand.spot; next = at + 1; end = hand.end; loan = hand.loan } in
     unread_on store.layout (λ B. AdvancesIn c.args.scope.now is B store place c.args.leaf store (record { place = place; leaf = Some then; step = Ok (Item at) }))
     (λ B seen on held. subst (λ l. MeetsItem lo hi B seen (left lo hi B store place l) store place (Some then) at) (sym c.in-Some.is)
-    (hand_meets lo hi B seen store place hand c.bytes.result.now at c.bytes.ensures.value (subst (λ xs. IsFirstFrom (is_within lo hi) xs hand.next at) c.of.ensures c.in-Some-seek_item.ensures.some) on (subst (λ l. IfSome l (IsHeld B seen store)) c.in-Some.is held)))
+    (hand_meets lo hi B seen store place hand c.bytes.result.now at c.bytes.ensures.value
+    (subst (λ xs. IsFirstFrom (is_within lo hi) xs hand.next at) c.of.ensures c.in-Some-seek_item.ensures.some) on
+    (subst (λ l. IfSome l (IsHeld B seen store)) c.in-Some.is held)))

@@ -12,5 +12,6 @@ returns c =
     let frame = c.args.frame.now in
     let is = c.of-inner.ensures in
     next_below lo hi (pointers c.args.block.now) frame (record { spot = c.child_at.result; frame = c.frame_from.result }) (sym c.if-count-frame.false ∙ c.count.ensures.all ∙ ap length is) c.requires.more
-    (subst (λ (ps : List KeyPointer). (d : KeyPointer) → c.child_at.result ≡ below (get_or ps frame.next d) (up_of (drop (frame.next + 1) ps) frame.spot.up)) is c.child_at.ensures)
+    (subst (λ (ps : List KeyPointer). (d : KeyPointer) → c.child_at.result
+    ≡ below (get_or ps frame.next d) (up_of (drop (frame.next + 1) ps) frame.spot.up)) is c.child_at.ensures)
     (subst (λ (ps : List KeyPointer). FramesFrom lo hi ps frame.spot (frame.next + 1) c.frame_from.result) is c.frame_from.ensures)

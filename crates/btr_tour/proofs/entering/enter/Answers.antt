@@ -21,10 +21,12 @@ use Rattle.btr_tour.proofs.Ranking.{leaf_nears, out_nears, node_nears, fits_fram
 use Rattle.btr_tour.proofs.entering.enter.Goals as goal
 
 pub of-requires-clause-good : goal.of-requires-clause-good
-of-requires-clause-good g c = (is_leaf_at c.args.todo.now.level c.args.todo.now.spot c.read_block.new.store c.in-Ok.loan c.bytes-then-todo-eq0.result.now c.bytes-then-todo-eq0.ensures.value c.in-Ok.ensures.good c.if-todo-eq0.true).good
+of-requires-clause-good g c = (is_leaf_at c.args.todo.now.level c.args.todo.now.spot c.read_block.new.store c.in-Ok.loan
+    c.bytes-then-todo-eq0.result.now c.bytes-then-todo-eq0.ensures.value c.in-Ok.ensures.good c.if-todo-eq0.true).good
 
 pub of-requires-in-Ok-clause-good : goal.of-requires-in-Ok-clause-good
-of-requires-in-Ok-clause-good g c = (is_inner_at c.args.todo.now.level c.args.todo.now.spot c.read_block.new.store c.in-Ok.loan c.bytes-in-Ok.result.now c.bytes-in-Ok.ensures.value c.in-Ok.ensures.good c.if-todo-eq0.false).good
+of-requires-in-Ok-clause-good g c = (is_inner_at c.args.todo.now.level c.args.todo.now.spot c.read_block.new.store c.in-Ok.loan
+    c.bytes-in-Ok.result.now c.bytes-in-Ok.ensures.value c.in-Ok.ensures.good c.if-todo-eq0.false).good
 
 pub set_frame-requires : goal.set_frame-requires
 set_frame-requires g c =
@@ -36,7 +38,8 @@ set_frame-requires g c =
 pub returns-in-Err-clause-nears : goal.returns-in-Err-clause-nears
 returns-in-Err-clause-nears g c =
     let place = c.args.place.now in
-    subst (λ (a : Arrived). StepNears (rank_on place None) (rank_on a.place a.leaf) a.step) (sym c.left_out.ensures) (out_nears place c.args.todo.now.level c.args.todo.now.spot c.in-Err.fault c.requires.todo)
+    subst (λ (a : Arrived). StepNears (rank_on place None) (rank_on a.place a.leaf) a.step) (sym c.left_out.ensures)
+    (out_nears place c.args.todo.now.level c.args.todo.now.spot c.in-Err.fault c.requires.todo)
 
 pub returns-in-Err-clause-shaped : goal.returns-in-Err-clause-shaped
 returns-in-Err-clause-shaped g c =
@@ -69,8 +72,10 @@ returns-in-Err-clause-content g c =
     let place = c.args.place.now in
     let todo = c.args.todo.now in
     let store = c.read_block.new.store in
-    drawn c.args.store.now.layout (λ B. Reads is B todo.level todo.spot store (Err c.in-Err.fault)) (λ B. Advances lo hi B is (λ seen. Unit {0}) sums place (place_left lo hi B place) store (arrived c.left_out.new.place c.left_out.result))
-    (λ B reads. subst (Advances lo hi B is (λ seen. Unit {0}) sums place (place_left lo hi B place) store) (sym c.left_out.ensures) (enter_fault lo hi B is sums place todo.level todo.spot store c.in-Err.fault c.requires.todo reads)) c.in-Err.ensures.content
+    drawn c.args.store.now.layout (λ B. Reads is B todo.level todo.spot store (Err c.in-Err.fault))
+    (λ B. Advances lo hi B is (λ seen. Unit {0}) sums place (place_left lo hi B place) store (arrived c.left_out.new.place c.left_out.result))
+    (λ B reads. subst (Advances lo hi B is (λ seen. Unit {0}) sums place (place_left lo hi B place) store) (sym c.left_out.ensures)
+    (enter_fault lo hi B is sums place todo.level todo.spot store c.in-Err.fault c.requires.todo reads)) c.in-Err.ensures.content
 
 pub returns-in-Err-clause-cause : goal.returns-in-Err-clause-cause
 returns-in-Err-clause-cause g c =
@@ -94,7 +99,8 @@ returns-then-todo-eq0-clause-hand g c =
       large = c.in-Ok.ensures.lent.large;
       small = omega (arith, c.count.ensures.small);
       within = omega arith;
-      good = some_block c.read_block.new.store c.in-Ok.loan block (λ (b : List ℕ). IsTrue (is_leaf b) × (c.count.result ≡ length (items b))) c.bytes-then-todo-eq0.ensures.value (leaf.good, end);
+      good = some_block c.read_block.new.store c.in-Ok.loan block (λ (b : List ℕ). IsTrue (is_leaf b) × (c.count.result ≡ length (items b)))
+          c.bytes-then-todo-eq0.ensures.value (leaf.good, end);
     }
 
 pub returns-then-todo-eq0-clause-nears : goal.returns-then-todo-eq0-clause-nears
@@ -115,10 +121,14 @@ returns-then-todo-eq0-clause-content g c =
     let hand : LeafAt = record { spot = todo.spot; next = 0; end = c.count.result; loan = loan } in
     let leaf = is_leaf_at todo.level todo.spot store loan block c.bytes.ensures.value c.in-Ok.ensures.good c.if-todo-eq0.true in
     let end : c.count.result ≡ length (items block) = c.count.ensures.all ∙ ap length c.of.ensures ∙ ap (λ (b : List ℕ). length (items b)) (same_block (block_of store loan) c.bytes-then-todo-eq0.result.now block c.bytes-then-todo-eq0.ensures.value c.bytes.ensures.value) in
-    drawn c.args.store.now.layout (λ B. Reads is B todo.level todo.spot store (Ok loan)) (λ B. (seen : List Want) → IsOn lo hi B seen place → Unit {0} → MeetsBlock lo hi B seen sums (place_left lo hi B place) store after (Some hand) c.place_of.result c.read.result)
-    (λ B reads seen on none. subst (λ (at : RootPlace). MeetsBlock lo hi B seen sums (place_left lo hi B place) store after (Some hand) at c.read.result) (sym c.place_of.ensures) (
+    drawn c.args.store.now.layout (λ B. Reads is B todo.level todo.spot store (Ok loan))
+    (λ B. (seen : List Want) → IsOn lo hi B seen place → Unit {0}
+    → MeetsBlock lo hi B seen sums (place_left lo hi B place) store after (Some hand) c.place_of.result c.read.result)
+    (λ B reads seen on none. subst (λ (at : RootPlace). MeetsBlock lo hi B seen sums (place_left lo hi B place) store after (Some hand) at
+    c.read.result) (sym c.place_of.ensures) (
     subst (MeetsBlock lo hi B seen sums (place_left lo hi B place) store after (Some hand) (place_of todo.level todo.spot)) (sym c.read.ensures) (
-    enter_leaf lo hi B seen sums place todo.level todo.spot store loan block c.count.result c.requires.todo c.if-todo-eq0.true leaf (block_is store loan block (λ (b : List ℕ). B (want_of todo.level todo.spot) ≡ Ok b) c.bytes.ensures.value reads) c.bytes.ensures.value end on)))
+    enter_leaf lo hi B seen sums place todo.level todo.spot store loan block c.count.result c.requires.todo c.if-todo-eq0.true leaf
+    (block_is store loan block (λ (b : List ℕ). B (want_of todo.level todo.spot) ≡ Ok b) c.bytes.ensures.value reads) c.bytes.ensures.value end on)))
     c.in-Ok.ensures.content
 
 pub returns-else-todo-eq0-clause-serves : goal.returns-else-todo-eq0-clause-serves
@@ -130,12 +140,16 @@ returns-else-todo-eq0-clause-others g c = given_back _ _ _ _ c.in-Ok.loan c.in-O
 pub returns-else-todo-eq0-clause-shaped : goal.returns-else-todo-eq0-clause-shaped
 returns-else-todo-eq0-clause-shaped g c =
     let inner = is_inner_at c.args.todo.now.level c.args.todo.now.spot c.read_block.new.store c.in-Ok.loan c.bytes-in-Ok.result.now c.bytes-in-Ok.ensures.value c.in-Ok.ensures.good c.if-todo-eq0.false in
-    (node_nears c.args.place.now c.args.todo.now.level c.args.todo.now.spot c.set_frame.new.path c.frame_from-frame.result c.requires.todo inner.some inner.few (fits_frame c.args.scope.now.lo c.args.scope.now.hi c.of-in-Ok.result c.args.todo.now.spot 0 c.frame_from-frame.result c.frame_from-frame.ensures) c.set_frame.ensures.set c.requires.shaped).0
+    (node_nears c.args.place.now c.args.todo.now.level c.args.todo.now.spot c.set_frame.new.path c.frame_from-frame.result c.requires.todo inner.some
+    inner.few (fits_frame c.args.scope.now.lo c.args.scope.now.hi c.of-in-Ok.result c.args.todo.now.spot 0 c.frame_from-frame.result
+    c.frame_from-frame.ensures) c.set_frame.ensures.set c.requires.shaped).0
 
 pub returns-else-todo-eq0-clause-nears : goal.returns-else-todo-eq0-clause-nears
 returns-else-todo-eq0-clause-nears g c =
     let inner = is_inner_at c.args.todo.now.level c.args.todo.now.spot c.read_block.new.store c.in-Ok.loan c.bytes-in-Ok.result.now c.bytes-in-Ok.ensures.value c.in-Ok.ensures.good c.if-todo-eq0.false in
-    (node_nears c.args.place.now c.args.todo.now.level c.args.todo.now.spot c.set_frame.new.path c.frame_from-frame.result c.requires.todo inner.some inner.few (fits_frame c.args.scope.now.lo c.args.scope.now.hi c.of-in-Ok.result c.args.todo.now.spot 0 c.frame_from-frame.result c.frame_from-frame.ensures) c.set_frame.ensures.set c.requires.shaped).1
+    (node_nears c.args.place.now c.args.todo.now.level c.args.todo.now.spot c.set_frame.new.path c.frame_from-frame.result c.requires.todo inner.some
+    inner.few (fits_frame c.args.scope.now.lo c.args.scope.now.hi c.of-in-Ok.result c.args.todo.now.spot 0 c.frame_from-frame.result
+    c.frame_from-frame.ensures) c.set_frame.ensures.set c.requires.shaped).1
 
 pub returns-else-todo-eq0-clause-step : goal.returns-else-todo-eq0-clause-step
 returns-else-todo-eq0-clause-step g c =
@@ -160,8 +174,13 @@ returns-else-todo-eq0-clause-content g c =
     let inner = is_inner_at todo.level todo.spot store loan block c.bytes.ensures.value c.in-Ok.ensures.good c.if-todo-eq0.false in
     let from : FramesFrom lo hi (pointers block) todo.spot 0 o =
     subst (λ (ps : List KeyPointer). FramesFrom lo hi ps todo.spot 0 o) (c.of-in-Ok.ensures ∙ ap pointers (same_block (block_of store loan) c.bytes-in-Ok.result.now block c.bytes-in-Ok.ensures.value c.bytes.ensures.value)) c.frame_from-frame.ensures in
-    drawn c.args.store.now.layout (λ B. Reads is B todo.level todo.spot store (Ok loan)) (λ B. (seen : List Want) → IsOn lo hi B seen place → Unit {0} → MeetsBlock lo hi B seen sums (place_left lo hi B place) new after None c.place_of.result c.read.result)
-    (λ B reads seen on none. subst (λ (at : RootPlace). MeetsBlock lo hi B seen sums (place_left lo hi B place) new after None at c.read.result) (sym c.place_of.ensures) (
+    drawn c.args.store.now.layout (λ B. Reads is B todo.level todo.spot store (Ok loan))
+    (λ B. (seen : List Want) → IsOn lo hi B seen place → Unit {0}
+    → MeetsBlock lo hi B seen sums (place_left lo hi B place) new after None c.place_of.result c.read.result)
+    (λ B reads seen on none. subst (λ (at : RootPlace). MeetsBlock lo hi B seen sums (place_left lo hi B place) new after None at c.read.result)
+    (sym c.place_of.ensures) (
     subst (MeetsBlock lo hi B seen sums (place_left lo hi B place) new after None (place_of todo.level todo.spot)) (sym c.read.ensures) (
-    enter_node lo hi B seen sums place todo.level todo.spot new block c.set_frame.new.path o c.requires.todo inner (block_is store loan block (λ (b : List ℕ). B (want_of todo.level todo.spot) ≡ Ok b) c.bytes.ensures.value reads) c.requires.shaped from c.set_frame.ensures.set on)))
+    enter_node lo hi B seen sums place todo.level todo.spot new block c.set_frame.new.path o c.requires.todo inner
+    (block_is store loan block (λ (b : List ℕ). B (want_of todo.level todo.spot) ≡ Ok b) c.bytes.ensures.value reads) c.requires.shaped from
+    c.set_frame.ensures.set on)))
     c.in-Ok.ensures.content

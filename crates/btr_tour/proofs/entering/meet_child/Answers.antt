@@ -17,13 +17,16 @@ use Rattle.btr_tour.proofs.entering.meet_child.Goals as goal
 pub returns-in-Err-clause-nears : goal.returns-in-Err-clause-nears
 returns-in-Err-clause-nears g c =
     let place = c.args.place.now in
-    subst (λ (a : Arrived). StepNears (rank_on place None) (rank_on a.place a.leaf) a.step) (sym c.left_out.ensures) (gone_out place c.args.low.now c.requires.todo c.requires.low c.requires.shaped c.set_frame.new.path c.in-Err.fault c.set_frame.ensures.set)
+    subst (λ (a : Arrived). StepNears (rank_on place None) (rank_on a.place a.leaf) a.step) (sym c.left_out.ensures)
+    (gone_out place c.args.low.now c.requires.todo c.requires.low c.requires.shaped c.set_frame.new.path c.in-Err.fault c.set_frame.ensures.set)
 
 pub returns-in-Err-clause-shaped : goal.returns-in-Err-clause-shaped
 returns-in-Err-clause-shaped g c =
     let place = c.args.place.now in
     let after : Where = record { path = c.set_frame.new.path; todo = None } in
-    subst (λ (a : Arrived). IsShaped a.place) (sym c.left_out.ensures) (out_shaped place after c.in-Err.fault c.requires.shaped (gone_shaped place c.args.low.now c.requires.todo c.requires.low c.requires.shaped c.set_frame.new.path c.set_frame.ensures.set))
+    subst (λ (a : Arrived). IsShaped a.place) (sym c.left_out.ensures)
+    (out_shaped place after c.in-Err.fault c.requires.shaped
+    (gone_shaped place c.args.low.now c.requires.todo c.requires.low c.requires.shaped c.set_frame.new.path c.set_frame.ensures.set))
 
 pub returns-in-Err-clause-step : goal.returns-in-Err-clause-step
 returns-in-Err-clause-step g c =
@@ -49,7 +52,8 @@ returns-in-Err-clause-content g c =
     let place = c.args.place.now in
     let low = c.args.low.now in
     let store = c.read_again.new.store in
-    drawn c.args.store.now.layout (λ B. Rereads lo hi B is (low.at + 1) low.frame (Err c.in-Err.fault)) (λ B. Advances lo hi B is (λ seen. Unit {0}) sums place (place_left lo hi B place) store (arrived c.left_out.new.place c.left_out.result))
+    drawn c.args.store.now.layout (λ B. Rereads lo hi B is (low.at + 1) low.frame (Err c.in-Err.fault))
+    (λ B. Advances lo hi B is (λ seen. Unit {0}) sums place (place_left lo hi B place) store (arrived c.left_out.new.place c.left_out.result))
     (λ B h. subst (Advances lo hi B is (λ seen. Unit {0}) sums place (place_left lo hi B place) store) (sym c.left_out.ensures) (child_fault lo hi B place low c.requires.todo c.requires.low c.requires.shaped is sums (record { path = c.set_frame.new.path; todo = None }) store c.in-Err.fault h)) c.in-Err.ensures.content
 
 pub returns-in-Err-clause-cause : goal.returns-in-Err-clause-cause
@@ -62,7 +66,8 @@ returns-in-Err-clause-cause g c =
     (out_cause layout before now place (record { path = c.set_frame.new.path; todo = None }) c.in-Err.fault (low_wanted place c.args.low.now (λ want. CauseOf layout want before now c.in-Err.fault) c.requires.todo c.requires.low c.in-Err.ensures.cause))
 
 pub returns-in-Ok-clause-nears : goal.returns-in-Ok-clause-nears
-returns-in-Ok-clause-nears g c = (child_nears c.args.place.now c.args.low.now c.requires.todo c.requires.low c.requires.shaped c.in-Ok.below c.set_frame-in-Ok.new.path c.in-Ok.ensures.fits c.set_frame-in-Ok.ensures.set).1
+returns-in-Ok-clause-nears g c = (child_nears c.args.place.now c.args.low.now c.requires.todo c.requires.low c.requires.shaped c.in-Ok.below
+    c.set_frame-in-Ok.new.path c.in-Ok.ensures.fits c.set_frame-in-Ok.ensures.set).1
 
 pub returns-in-Ok-clause-content : goal.returns-in-Ok-clause-content
 returns-in-Ok-clause-content g c =
@@ -74,6 +79,11 @@ returns-in-Ok-clause-content g c =
     let store = c.read_again.new.store in
     let b = c.in-Ok.below in
     let after : Where = record { path = c.set_frame-in-Ok.new.path; todo = Some (record { level = low.at; spot = b.spot }) } in
-    drawn c.args.store.now.layout (λ B. Rereads lo hi B is (low.at + 1) low.frame (Ok b)) (λ B. (seen : List Want) → IsOn lo hi B seen place → Unit {0} → Meets lo hi B seen (place_left lo hi B place) store after None (Child low.frame.spot.addr c.place_of.result))
-    (λ B h seen on none. subst (λ (at : RootPlace). Meets lo hi B seen (place_left lo hi B place) store after None (Child low.frame.spot.addr at)) (sym c.place_of.ensures) (
-    meets_child lo hi B place low c.requires.todo c.requires.low c.requires.shaped seen store b c.set_frame-in-Ok.new.path on (h seen (node lo hi B place low c.requires.todo c.requires.low c.requires.shaped seen on)) (fits place low c.requires.todo c.requires.low c.requires.shaped).0 c.set_frame-in-Ok.ensures.set)) c.in-Ok.ensures.content
+    drawn c.args.store.now.layout (λ B. Rereads lo hi B is (low.at + 1) low.frame (Ok b))
+    (λ B. (seen : List Want) → IsOn lo hi B seen place → Unit {0}
+    → Meets lo hi B seen (place_left lo hi B place) store after None (Child low.frame.spot.addr c.place_of.result))
+    (λ B h seen on none. subst (λ (at : RootPlace). Meets lo hi B seen (place_left lo hi B place) store after None (Child low.frame.spot.addr at))
+    (sym c.place_of.ensures) (
+    meets_child lo hi B place low c.requires.todo c.requires.low c.requires.shaped seen store b c.set_frame-in-Ok.new.path on
+    (h seen (node lo hi B place low c.requires.todo c.requires.low c.requires.shaped seen on))
+    (fits place low c.requires.todo c.requires.low c.requires.shaped).0 c.set_frame-in-Ok.ensures.set)) c.in-Ok.ensures.content

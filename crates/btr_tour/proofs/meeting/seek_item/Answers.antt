@@ -8,4 +8,5 @@ pub loop-at-preserved : goal.loop-at-preserved
 loop-at-preserved c =
     let lo = c.args.scope.now.lo in
     let hi = c.args.scope.now.hi in
-    c.loop-at.invariant ∙ filter_past (is_within lo hi) c.args.leaf.now c.loop-at.at some_item (omega arith) (ap (λ k. key_le lo k && key_le k hi) (c.key.ensures some_item) ∙ sym c.lies_within.ensures ∙ c.if-lies_within.false)
+    c.loop-at.invariant ∙ filter_past (is_within lo hi) c.args.leaf.now c.loop-at.at some_item (omega arith)
+    (ap (λ k. key_le lo k && key_le k hi) (c.key.ensures some_item) ∙ sym c.lies_within.ensures ∙ c.if-lies_within.false)

@@ -11,7 +11,8 @@ use Rattle.btr_tour.proofs.Resting.{kept_err, kept_other, kept_held}
 use Rattle.btr_tour.proofs.rest.read_kept.Goals as goal
 
 pub of-requires-clause-good : goal.of-requires-clause-good
-of-requires-clause-good g c = (is_leaf_at 0 c.args.frame.now.spot c.read_block.new.store c.in-Ok.loan c.bytes.result.now c.bytes.ensures.value c.in-Ok.ensures.good refl).good
+of-requires-clause-good g c = (is_leaf_at 0 c.args.frame.now.spot c.read_block.new.store c.in-Ok.loan c.bytes.result.now c.bytes.ensures.value
+    c.in-Ok.ensures.good refl).good
 
 pub returns-in-Err-clause-content : goal.returns-in-Err-clause-content
 returns-in-Err-clause-content g c =
@@ -34,8 +35,11 @@ returns-then-count-frame-clause-content g c =
     let store = c.read_block.new.store in
     let block = c.bytes.result.now in
     let count : c.count-count.result ≡ length (items block) = c.count-count.ensures.all ∙ ap length c.of.ensures in
-    drawn c.args.store.now.layout (λ B. Reads is B 0 frame.spot store (Ok c.in-Ok.loan)) (λ B. IsLeafAgain is B frame c.give.new.self (Err (tree.Malformed frame.spot.addr)))
-    (λ B h seen kept. absurd (kept_other B seen frame kept block (block_is store c.in-Ok.loan block (λ (b : List ℕ). B (want_of 0 frame.spot) ≡ Ok b) c.bytes.ensures.value h) (λ e. c.if-count-frame.true (count ∙ sym e)))) c.in-Ok.ensures.content
+    drawn c.args.store.now.layout (λ B. Reads is B 0 frame.spot store (Ok c.in-Ok.loan))
+    (λ B. IsLeafAgain is B frame c.give.new.self (Err (tree.Malformed frame.spot.addr)))
+    (λ B h seen kept. absurd (kept_other B seen frame kept block
+    (block_is store c.in-Ok.loan block (λ (b : List ℕ). B (want_of 0 frame.spot) ≡ Ok b) c.bytes.ensures.value h)
+    (λ e. c.if-count-frame.true (count ∙ sym e)))) c.in-Ok.ensures.content
 
 pub returns-else-count-frame-clause-lent : goal.returns-else-count-frame-clause-lent
 returns-else-count-frame-clause-lent g c =
@@ -49,7 +53,8 @@ returns-else-count-frame-clause-lent g c =
         large = c.in-Ok.ensures.lent.large;
         small = fits.1;
         within = omega (arith, fits.0);
-        good = some_block store c.in-Ok.loan block (λ (b : List ℕ). IsTrue (is_leaf b) × (c.args.frame.now.end ≡ length (items b))) c.bytes.ensures.value (leaf.good, end);
+        good = some_block store c.in-Ok.loan block (λ (b : List ℕ). IsTrue (is_leaf b) × (c.args.frame.now.end ≡ length (items b)))
+            c.bytes.ensures.value (leaf.good, end);
       },
       given_back _ _ _ _ c.in-Ok.loan c.in-Ok.ensures.lent refl,
     )
@@ -61,4 +66,5 @@ returns-else-count-frame-clause-content g c =
     let store = c.read_block.new.store in
     let block = c.bytes.result.now in
     drawn c.args.store.now.layout (λ B. Reads is B 0 frame.spot store (Ok c.in-Ok.loan)) (λ B. IsLeafAgain is B frame store (Ok (record { spot = frame.spot; next = frame.next; end = frame.end; loan = c.in-Ok.loan })))
-    (λ B h seen kept. kept_held B seen frame kept store c.in-Ok.loan block c.bytes.ensures.value (block_is store c.in-Ok.loan block (λ (b : List ℕ). B (want_of 0 frame.spot) ≡ Ok b) c.bytes.ensures.value h)) c.in-Ok.ensures.content
+    (λ B h seen kept. kept_held B seen frame kept store c.in-Ok.loan block c.bytes.ensures.value
+    (block_is store c.in-Ok.loan block (λ (b : List ℕ). B (want_of 0 frame.spot) ≡ Ok b) c.bytes.ensures.value h)) c.in-Ok.ensures.content

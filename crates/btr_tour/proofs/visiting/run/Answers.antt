@@ -18,7 +18,8 @@ loop-fault-init g c =
       others = same_none _;
       room = c.requires.room;
       layout = refl;
-      tells = unread_on c.args.store.now.layout (λ B. Led g.V.Visitor.step B c.args.store.now c.args.tour.now c.args.visitor.now is c.args.store.now c.args.tour.now c.args.visitor.now)
+      tells = unread_on c.args.store.now.layout (λ B. Led g.V.Visitor.step B c.args.store.now c.args.tour.now c.args.visitor.now is c.args.store.now
+          c.args.tour.now c.args.visitor.now)
           (λ B. led_none g.V.Visitor.step B c.args.store.now c.args.tour.now c.args.visitor.now is);
     }
 
@@ -36,9 +37,14 @@ loop-fault-preserved g c =
       room = same_room _ _ s.others l.invariant.room;
       layout = same_layout l.store c.meet_next.new.store _ _ s.others ∙ l.invariant.layout;
       tells = joined (λ B. Led g.V.Visitor.step B c.args.store.now c.args.tour.now c.args.visitor.now was l.store l.tour l.visitor)
-          (λ B. IsMet g.V.Visitor.step now B {E = g.row.E.Denot} l.store c.meet_next.new.store l.tour c.meet_next.new.tour l.visitor c.meet_next.new.visitor (Ok c.in-Ok-true.field-0))
-          (λ B. Led g.V.Visitor.step B c.args.store.now c.args.tour.now c.args.visitor.now is c.meet_next.new.store c.meet_next.new.tour c.meet_next.new.visitor) l.invariant.layout
-          (λ B led met. led_more g.V.Visitor.step B c.args.store.now c.args.tour.now c.args.visitor.now was is l.store l.tour l.visitor g.row.E.Denot now c.meet_next.new.store c.meet_next.new.tour c.meet_next.new.visitor led (subst (λ r. IsMet g.V.Visitor.step now B {E = g.row.E.Denot} l.store c.meet_next.new.store l.tour c.meet_next.new.tour l.visitor c.meet_next.new.visitor (Ok r)) c.in-Ok-true.field-0-test met))
+          (λ B. IsMet g.V.Visitor.step now B {E = g.row.E.Denot} l.store c.meet_next.new.store l.tour c.meet_next.new.tour l.visitor
+          c.meet_next.new.visitor (Ok c.in-Ok-true.field-0))
+          (λ B. Led g.V.Visitor.step B c.args.store.now c.args.tour.now c.args.visitor.now is c.meet_next.new.store c.meet_next.new.tour
+          c.meet_next.new.visitor) l.invariant.layout
+          (λ B led met. led_more g.V.Visitor.step B c.args.store.now c.args.tour.now c.args.visitor.now was is l.store l.tour l.visitor g.row.E.Denot
+          now c.meet_next.new.store c.meet_next.new.tour c.meet_next.new.visitor led
+          (subst (λ r. IsMet g.V.Visitor.step now B {E = g.row.E.Denot} l.store c.meet_next.new.store l.tour c.meet_next.new.tour l.visitor
+          c.meet_next.new.visitor (Ok r)) c.in-Ok-true.field-0-test met))
           l.invariant.tells s.content;
     }
 
@@ -49,10 +55,14 @@ returns-in-Ok-false-clause-content g c =
     let now = unread_by l.store.layout (g.R.Rack.seen l.rack) (g.R.Rack.seen c.meet_next.new.rack) in
     let is = unread_by c.args.store.now.layout (g.R.Rack.seen c.args.rack.now) (g.R.Rack.seen c.meet_next.new.rack) in
     joined (λ B. Led g.V.Visitor.step B c.args.store.now c.args.tour.now c.args.visitor.now was l.store l.tour l.visitor)
-    (λ B. IsMet g.V.Visitor.step now B {E = g.row.E.Denot} l.store c.meet_next.new.store l.tour c.meet_next.new.tour l.visitor c.meet_next.new.visitor (Ok c.in-Ok-false.field-0))
-    (λ B. IsRun g.V.Visitor.step is B {E = g.row.E.Denot} c.args.store.now c.args.tour.now c.args.visitor.now c.meet_next.new.visitor (Ok tt)) l.invariant.layout
-    (λ B led met. led_ends g.V.Visitor.step B c.args.store.now c.args.tour.now c.args.visitor.now was is l.store l.tour l.visitor g.row.E.Denot now c.meet_next.new.store c.meet_next.new.tour c.meet_next.new.visitor led
-    (subst (λ r. IsMet g.V.Visitor.step now B {E = g.row.E.Denot} l.store c.meet_next.new.store l.tour c.meet_next.new.tour l.visitor c.meet_next.new.visitor (Ok r)) c.in-Ok-false.field-0-test met))
+    (λ B. IsMet g.V.Visitor.step now B {E = g.row.E.Denot} l.store c.meet_next.new.store l.tour c.meet_next.new.tour l.visitor c.meet_next.new.visitor
+    (Ok c.in-Ok-false.field-0))
+    (λ B. IsRun g.V.Visitor.step is B {E = g.row.E.Denot} c.args.store.now c.args.tour.now c.args.visitor.now c.meet_next.new.visitor (Ok tt))
+    l.invariant.layout
+    (λ B led met. led_ends g.V.Visitor.step B c.args.store.now c.args.tour.now c.args.visitor.now was is l.store l.tour l.visitor g.row.E.Denot now
+    c.meet_next.new.store c.meet_next.new.tour c.meet_next.new.visitor led
+    (subst (λ r. IsMet g.V.Visitor.step now B {E = g.row.E.Denot} l.store c.meet_next.new.store l.tour c.meet_next.new.tour l.visitor
+    c.meet_next.new.visitor (Ok r)) c.in-Ok-false.field-0-test met))
     l.invariant.tells c.in-Ok-false.ensures.content
 
 pub returns-in-Err-clause-content : goal.returns-in-Err-clause-content
@@ -62,7 +72,10 @@ returns-in-Err-clause-content g c =
     let now = unread_by l.store.layout (g.R.Rack.seen l.rack) (g.R.Rack.seen c.meet_next.new.rack) in
     let is = unread_by c.args.store.now.layout (g.R.Rack.seen c.args.rack.now) (g.R.Rack.seen c.meet_next.new.rack) in
     joined (λ B. Led g.V.Visitor.step B c.args.store.now c.args.tour.now c.args.visitor.now was l.store l.tour l.visitor)
-    (λ B. IsMet g.V.Visitor.step now B {E = g.row.E.Denot} l.store c.meet_next.new.store l.tour c.meet_next.new.tour l.visitor c.meet_next.new.visitor (Err c.in-Err.fault))
-    (λ B. IsRun g.V.Visitor.step is B {E = g.row.E.Denot} c.args.store.now c.args.tour.now c.args.visitor.now c.meet_next.new.visitor (Err c.in-Err.fault)) l.invariant.layout
-    (λ B led met. any_fault g.V.Visitor.step B c.args.store.now c.args.tour.now c.args.visitor.now was is l.store l.tour l.visitor g.row.E.Denot now c.meet_next.new.store c.meet_next.new.tour c.meet_next.new.visitor c.in-Err.fault (since _ _ l.invariant.layout l.invariant.reads) led met)
+    (λ B. IsMet g.V.Visitor.step now B {E = g.row.E.Denot} l.store c.meet_next.new.store l.tour c.meet_next.new.tour l.visitor c.meet_next.new.visitor
+    (Err c.in-Err.fault))
+    (λ B. IsRun g.V.Visitor.step is B {E = g.row.E.Denot} c.args.store.now c.args.tour.now c.args.visitor.now c.meet_next.new.visitor
+    (Err c.in-Err.fault)) l.invariant.layout
+    (λ B led met. any_fault g.V.Visitor.step B c.args.store.now c.args.tour.now c.args.visitor.now was is l.store l.tour l.visitor g.row.E.Denot now
+    c.meet_next.new.store c.meet_next.new.tour c.meet_next.new.visitor c.in-Err.fault (since _ _ l.invariant.layout l.invariant.reads) led met)
     l.invariant.tells c.in-Err.ensures.content

@@ -13,7 +13,8 @@ invariant-loop-fault g l = record {
   others : SameLoans (without_leaf l.fn.store l.fn.tour) (without_leaf l.store l.tour);
   room : 4 ≤ free_count (without_leaf l.store l.tour);
   layout : l.store.layout ≡ l.fn.store.layout;
-  tells : TellsOf l.fn.store (g.R.Rack.seen l.fn.rack) (g.R.Rack.seen l.rack) (λ Is B. Led g.V.Visitor.step B l.fn.store l.fn.tour l.fn.visitor Is l.store l.tour l.visitor);
+  tells : TellsOf l.fn.store (g.R.Rack.seen l.fn.rack) (g.R.Rack.seen l.rack)
+      (λ Is B. Led g.V.Visitor.step B l.fn.store l.fn.tour l.fn.visitor Is l.store l.tour l.visitor);
 }
 
 abbrev pub decreases-loop-fault : goal.decreases-loop-fault

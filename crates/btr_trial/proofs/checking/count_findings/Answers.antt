@@ -9,11 +9,13 @@ returns-in-Ok-clause-count c =
     let mid = c.open_filesystem.new.rack in
     let volume = c.in-Some.volume in
     let opens : Opens mid (Some volume) = subst (Opens mid) c.in-Some.is c.in_ok-volume.ensures.opened in
-    ap Some c.count_all.ensures ∙ sym (findings_listed mid c.check.new.rack volume c.check.new.vol opens.1 c.in-Ok.findings c.in-Ok.ensures.ran) ∙ ap findings_of c.in_ok-volume.ensures.kept.held
+    ap Some c.count_all.ensures ∙ sym (findings_listed mid c.check.new.rack volume c.check.new.vol opens.1 c.in-Ok.findings c.in-Ok.ensures.ran)
+    ∙ ap findings_of c.in_ok-volume.ensures.kept.held
 
 pub returns-clause-count : goal.returns-clause-count
 returns-clause-count c =
     let mid = c.open_filesystem.new.rack in
     let volume = c.in-Some.volume in
     let opens : Opens mid (Some volume) = subst (Opens mid) c.in-Some.is c.in_ok-volume.ensures.opened in
-    sym (findings_stopped mid c.check.new.rack volume c.check.new.vol opens.1 c.in-Err.stop c.in_ok-unless_wanted-in-Err.ensures c.in-Err.ensures.ran) ∙ ap findings_of c.in_ok-volume.ensures.kept.held
+    sym (findings_stopped mid c.check.new.rack volume c.check.new.vol opens.1 c.in-Err.stop c.in_ok-unless_wanted-in-Err.ensures c.in-Err.ensures.ran)
+    ∙ ap findings_of c.in_ok-volume.ensures.kept.held

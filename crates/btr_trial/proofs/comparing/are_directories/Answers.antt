@@ -7,13 +7,15 @@ pub returns-in-None : goal.returns-in-None
 returns-in-None c =
     let i = c.loop-i.i in
     let count = c.args.number - i in
-    sym (c.loop-i.invariant ∙ ap (same_rows c.loop-i.left.now) (first_left i count (omega (arith, c.loop-i-test.true))) ∙ c.in-None.ensures (directories (i + 1) (count - 1)))
+    sym (c.loop-i.invariant ∙ ap (same_rows c.loop-i.left.now) (first_left i count (omega (arith, c.loop-i-test.true)))
+    ∙ c.in-None.ensures (directories (i + 1) (count - 1)))
 
 pub loop-i-preserved : goal.loop-i-preserved
 loop-i-preserved c =
     let i = c.loop-i.i in
     let count = c.args.number - i in
-    c.loop-i.invariant ∙ ap (same_rows c.loop-i.left.now) (first_left i count (omega (arith, c.loop-i-test.true))) ∙ c.in-Some.ensures (directories (i + 1) (count - 1))
+    c.loop-i.invariant ∙ ap (same_rows c.loop-i.left.now) (first_left i count (omega (arith, c.loop-i-test.true)))
+    ∙ c.in-Some.ensures (directories (i + 1) (count - 1))
     ∙ ap (λ n. same_rows c.in-Some.rest.now (directories (i + 1) n)) (omega arith)
 
 pub returns : goal.returns

@@ -6,4 +6,5 @@ returns-in-Ok-clause-opened c = opens_volume c.args.rack.now c.open.new.rack c.i
 
 pub returns-in_ok-unless_memory-in-Err-clause-opened : goal.returns-in_ok-unless_memory-in-Err-clause-opened
 returns-in_ok-unless_memory-in-Err-clause-opened c =
-    opens_nothing c.args.rack.now c.open.new.rack c.in-Err.ensures.reads c.in-Err.fault c.in_ok-unless_memory-in-Err.ensures c.in-Err.ensures.cause c.in-Err.ensures.content
+    opens_nothing c.args.rack.now c.open.new.rack c.in-Err.ensures.reads c.in-Err.fault c.in_ok-unless_memory-in-Err.ensures c.in-Err.ensures.cause
+    c.in-Err.ensures.content

@@ -23,11 +23,13 @@ returns-clause-lost c =
     let mid = c.open_filesystem.new.rack in
     let volume = c.in-Some.volume in
     let opens : Opens mid (Some volume) = subst (Opens mid) c.in-Some.is c.in_ok-volume.ensures.opened in
-    sym (scrub_stopped mid c.scrub.new.rack volume opens.1 c.in-Err.stop c.in_ok-unless_wanted-in-Err.ensures c.in-Err.ensures.scrubbed).lost_is ∙ ap lost_of c.in_ok-volume.ensures.kept.held
+    sym (scrub_stopped mid c.scrub.new.rack volume opens.1 c.in-Err.stop c.in_ok-unless_wanted-in-Err.ensures c.in-Err.ensures.scrubbed).lost_is
+    ∙ ap lost_of c.in_ok-volume.ensures.kept.held
 
 pub returns-clause-left : goal.returns-clause-left
 returns-clause-left c =
     let mid = c.open_filesystem.new.rack in
     let volume = c.in-Some.volume in
     let opens : Opens mid (Some volume) = subst (Opens mid) c.in-Some.is c.in_ok-volume.ensures.opened in
-    (scrub_stopped mid c.scrub.new.rack volume opens.1 c.in-Err.stop c.in_ok-unless_wanted-in-Err.ensures c.in-Err.ensures.scrubbed).left_is ∙ ap scrubbed c.in_ok-volume.ensures.kept.held
+    (scrub_stopped mid c.scrub.new.rack volume opens.1 c.in-Err.stop c.in_ok-unless_wanted-in-Err.ensures c.in-Err.ensures.scrubbed).left_is
+    ∙ ap scrubbed c.in_ok-volume.ensures.kept.held

@@ -13,7 +13,8 @@ use Rattle.btr_walk.proofs.advancing.advance.Goals as goal
 pub returns-in-Some-clause-content : goal.returns-in-Some-clause-content
 returns-in-Some-clause-content g c =
     let is = unread_by c.args.store.now.layout (g.R.Rack.seen c.args.rack.now) (g.R.Rack.seen c.from_hand.new.rack) in
-    drawn c.args.store.now.layout (λ B. FromHand c.args.lo c.args.hi is B c.args.place.now c.from_hand.new.place c.in-Some.hand c.args.store.now c.from_hand.new.store c.from_hand.result)
+    drawn c.args.store.now.layout (λ B. FromHand c.args.lo c.args.hi is B c.args.place.now c.from_hand.new.place c.in-Some.hand c.args.store.now
+    c.from_hand.new.store c.from_hand.result)
     (λ B. IsAdvanced c.args.lo c.args.hi is B (record { leaf = c.args.kept.now; rest = c.args.place.now }) c.from_hand.new.place c.args.leaf c.args.store.now c.from_hand.new.store c.from_hand.result)
     (λ B h. with_hand c.args.lo c.args.hi B is c.args.store.now c.from_hand.new.store c.args.leaf c.in-Some.hand (record { leaf = c.args.kept.now; rest = c.args.place.now }) c.from_hand.new.place c.from_hand.result c.in-Some.is h) c.from_hand.ensures.content
 
@@ -28,7 +29,8 @@ pub returns-in-Ok-clause-others : goal.returns-in-Ok-clause-others
 returns-in-Ok-clause-others g c =
     let a = c.from_hand-in-Ok.result in
     let new = c.from_hand-in-Ok.new.store in
-    subst (λ l. SameLoans (base c.args.store.now (loan_of l)) (base new (loan_of a.leaf))) (sym c.in-None.is) (same_then (leaf_back c.args.store.now c.read_leaf.new.store c.in-Ok.hand c.in-Ok.ensures.lent) c.from_hand-in-Ok.ensures.others)
+    subst (λ l. SameLoans (base c.args.store.now (loan_of l)) (base new (loan_of a.leaf))) (sym c.in-None.is)
+    (same_then (leaf_back c.args.store.now c.read_leaf.new.store c.in-Ok.hand c.in-Ok.ensures.lent) c.from_hand-in-Ok.ensures.others)
 
 pub returns-in-Ok-clause-content : goal.returns-in-Ok-clause-content
 returns-in-Ok-clause-content g c =
@@ -38,7 +40,9 @@ returns-in-Ok-clause-content g c =
     let is = unread_by c.args.store.now.layout (g.R.Rack.seen c.args.rack.now) (g.R.Rack.seen c.from_hand-in-Ok.new.rack) in
     let kept = c.in-Some-kept.frame in
     let lent = c.in-Ok.ensures.lent in
-    joined (λ B. IsLeafAgain was B kept mid (Ok c.in-Ok.hand)) (λ B. FromHand c.args.lo c.args.hi then B c.args.place.now c.from_hand-in-Ok.new.place c.in-Ok.hand mid c.from_hand-in-Ok.new.store c.from_hand-in-Ok.result)
+    joined (λ B. IsLeafAgain was B kept mid (Ok c.in-Ok.hand))
+    (λ B. FromHand c.args.lo c.args.hi then B c.args.place.now c.from_hand-in-Ok.new.place c.in-Ok.hand mid c.from_hand-in-Ok.new.store
+    c.from_hand-in-Ok.result)
     (λ B. IsAdvanced c.args.lo c.args.hi is B (record { leaf = c.args.kept.now; rest = c.args.place.now }) c.from_hand-in-Ok.new.place c.args.leaf c.args.store.now c.from_hand-in-Ok.new.store c.from_hand-in-Ok.result) lent.layout
     (λ B x h. with_kept c.args.lo c.args.hi B c.args.leaf (record { leaf = c.args.kept.now; rest = c.args.place.now }) kept c.in-None.is c.in-Some-kept.is was then is c.args.store.now mid c.from_hand-in-Ok.new.store c.in-Ok.hand c.from_hand-in-Ok.new.place c.from_hand-in-Ok.result (since _ _ lent.layout c.in-Ok.ensures.reads) c.in-Ok.ensures.same x h)
     c.in-Ok.ensures.content c.from_hand-in-Ok.ensures.content

@@ -17,12 +17,17 @@ returns-then-hand-clause-content g c =
 pub returns-clause-content : goal.returns-clause-content
 returns-clause-content g c =
     let is = unread_by c.args.store.now.layout (g.R.Rack.seen c.args.rack.now) (g.R.Rack.seen c.from_place.new.rack) in
-    drawn c.args.store.now.layout (λ B. FromPlace c.args.lo c.args.hi is B c.args.place.now c.from_place.new.place c.from_place.new.store c.from_place.result) (λ B. FromHand c.args.lo c.args.hi is B c.args.place.now c.from_place.new.place c.args.hand c.args.store.now c.from_place.new.store c.from_place.result)
-    (λ B h. hand_empty c.args.lo c.args.hi B is c.args.store.now c.from_place.new.store c.args.hand c.args.place.now c.from_place.new.place c.from_place.result c.requires.hand (omega (arith, c.if-hand.false)) h)
-    (from_as c.args.store.now.layout c.give.new.self.layout (g.R.Rack.seen c.args.rack.now) (g.R.Rack.seen c.from_place.new.rack) c.args.lo c.args.hi c.args.place.now c.from_place.new.place c.from_place.new.store c.from_place.result (ap (λ s. s.layout) c.give.ensures) c.from_place.ensures.content)
+    drawn c.args.store.now.layout (λ B. FromPlace c.args.lo c.args.hi is B c.args.place.now c.from_place.new.place c.from_place.new.store
+    c.from_place.result) (λ B. FromHand c.args.lo c.args.hi is B c.args.place.now c.from_place.new.place c.args.hand c.args.store.now
+    c.from_place.new.store c.from_place.result)
+    (λ B h. hand_empty c.args.lo c.args.hi B is c.args.store.now c.from_place.new.store c.args.hand c.args.place.now c.from_place.new.place
+    c.from_place.result c.requires.hand (omega (arith, c.if-hand.false)) h)
+    (from_as c.args.store.now.layout c.give.new.self.layout (g.R.Rack.seen c.args.rack.now) (g.R.Rack.seen c.from_place.new.rack) c.args.lo c.args.hi
+    c.args.place.now c.from_place.new.place c.from_place.new.store c.from_place.result (ap (λ s. s.layout) c.give.ensures) c.from_place.ensures.content)
 
 pub from_place-requires-clause-serves : goal.from_place-requires-clause-serves
 from_place-requires-clause-serves g c = served_back _ c.args.store.now c.give.new.self c.args.hand.loan c.requires.serves c.give.ensures
 
 pub returns-clause-others : goal.returns-clause-others
-returns-clause-others g c = subst (λ s. SameLoans s (base c.from_place.new.store (loan_of c.from_place.result.leaf))) c.give.ensures c.from_place.ensures.lent.others
+returns-clause-others g c = subst (λ s. SameLoans s (base c.from_place.new.store (loan_of c.from_place.result.leaf))) c.give.ensures
+    c.from_place.ensures.lent.others

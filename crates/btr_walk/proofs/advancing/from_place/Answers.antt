@@ -34,6 +34,8 @@ returns-in-Ok g c =
       nears = subst (λ a. StepNears (2 ^ 64 * rank place) after a.leaf a.met) same (nears_arrived old new place after o nears fits);
       item = subst (λ a. HasItem a.leaf a.met) same (item_arrived old new o lent);
       cause = subst (λ a. HasCause old.layout seen now a.met) same (no_cause_arrived old.layout seen now o);
-      content = drawn old.layout (λ B. IsReached c.args.lo c.args.hi is B place after new (Ok o)) (λ B. FromPlace c.args.lo c.args.hi is B place after new c.arrived.result)
-          (λ B h. subst (FromPlace c.args.lo c.args.hi is B place after new) same (from_arrived old new c.args.lo c.args.hi B is place after o lent h)) c.in-Ok.ensures.content;
+      content = drawn old.layout (λ B. IsReached c.args.lo c.args.hi is B place after new (Ok o))
+          (λ B. FromPlace c.args.lo c.args.hi is B place after new c.arrived.result)
+          (λ B h. subst (FromPlace c.args.lo c.args.hi is B place after new) same
+          (from_arrived old new c.args.lo c.args.hi B is place after o lent h)) c.in-Ok.ensures.content;
     }

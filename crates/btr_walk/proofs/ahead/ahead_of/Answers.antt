@@ -18,7 +18,8 @@ returns-in-Err-clause-content g c =
     let is = unread_by c.args.store.now.layout (g.R.Rack.seen c.args.rack.now) (g.R.Rack.seen c.read_again.new.rack) in
     let low = c.in-Some-lowest.low in
     drawn c.args.store.now.layout (λ B. Rereads is B (low.at + 1) low.frame (Err c.in-Err.fault)) (λ B. IsAhead is B c.args.place.now (Err c.in-Err.fault))
-    (λ B h seen on. ahead_halts B c.args.place.now low.at low.frame c.in-None.is c.in-Some-lowest.ensures.here is c.in-Err.fault seen on h) c.in-Err.ensures.content
+    (λ B h seen on. ahead_halts B c.args.place.now low.at low.frame c.in-None.is c.in-Some-lowest.ensures.here is c.in-Err.fault seen on h)
+    c.in-Err.ensures.content
 
 pub returns-in-Some-todo-clause-nears : goal.returns-in-Some-todo-clause-nears
 returns-in-Some-todo-clause-nears g c =
@@ -35,4 +36,6 @@ returns-in-Some-todo-clause-content g c =
     let low = c.in-Some-lowest.low in
     let b = c.in-Ok.below in
     drawn c.args.store.now.layout (λ B. Rereads is B (low.at + 1) low.frame (Ok b)) (λ B. IsAhead is B place (Ok (Some (record { todo = c.in-Some-todo.todo; path = c.set_frame.new.path }))))
-    (λ B h seen on. ahead_again B place low.at low.frame c.in-None.is c.in-Some-lowest.ensures.here is b c.in-Some-todo.todo c.set_frame.new.path seen c.in-Some-lowest.ensures.long c.in-Some-lowest.ensures.within c.in-Some-lowest.ensures.before c.set_frame.ensures.set c.in-Some-todo.is on h) c.in-Ok.ensures.content
+    (λ B h seen on. ahead_again B place low.at low.frame c.in-None.is c.in-Some-lowest.ensures.here is b c.in-Some-todo.todo c.set_frame.new.path seen
+    c.in-Some-lowest.ensures.long c.in-Some-lowest.ensures.within c.in-Some-lowest.ensures.before c.set_frame.ensures.set c.in-Some-todo.is on h)
+    c.in-Ok.ensures.content

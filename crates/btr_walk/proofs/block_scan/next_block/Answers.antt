@@ -8,13 +8,20 @@ use Rattle.btr_walk.proofs.block_scan.next_block.Goals as goal
 
 pub returns-in-Err : goal.returns-in-Err
 returns-in-Err g c = (
-  (refl, λ x. tt, walked_err c.args.store.now c.give_back.new.store c.step_block.new.store c.args.scan.now c.take.result c.take.ensures.value c.give_back.ensures.back _ _ c.in-Err.ensures.serves c.take.new.self c.in-Err.fault c.take.ensures.after c.in-Err.ensures.lent c.requires.ready.shaped c.in-Err.ensures.content),
+  (
+    refl,
+    λ x. tt,
+    walked_err c.args.store.now c.give_back.new.store c.step_block.new.store c.args.scan.now c.take.result c.take.ensures.value
+        c.give_back.ensures.back _ _ c.in-Err.ensures.serves c.take.new.self c.in-Err.fault c.take.ensures.after c.in-Err.ensures.lent
+        c.requires.ready.shaped c.in-Err.ensures.content,
+  ),
   record {
     after = tt;
     reads = c.in-Err.ensures.reads;
     kept = c.take.ensures.after;
     nears = refl;
-    cause = cause_of c.args.store.now c.give_back.new.store c.step_block.new.store c.args.scan.now c.take.result c.take.ensures.value c.give_back.ensures.back _ _ c.in-Err.ensures.serves c.in-Err.fault c.in-Err.ensures.cause;
+    cause = cause_of c.args.store.now c.give_back.new.store c.step_block.new.store c.args.scan.now c.take.result c.take.ensures.value
+        c.give_back.ensures.back _ _ c.in-Err.ensures.serves c.in-Err.fault c.in-Err.ensures.cause;
   },
 )
 
@@ -27,8 +34,11 @@ returns-in-Ok-None g c =
       (
         refl,
         λ x. tt,
-        walked_end c.args.store.now c.give_back.new.store c.step_block.new.store c.args.scan.now c.take.result c.take.ensures.value c.give_back.ensures.back _ _ c.in-Ok-None.ensures.serves c.take.new.self c.take.ensures.after (lends_none c.give_back.new.store new c.in-Ok-None.field-0 c.in-Ok-None.field-0-is c.in-Ok-None.ensures.lent) c.requires.ready.shaped
-            (subst (λ r. Tells mid (g.R.Rack.seen c.args.rack.now) (g.R.Rack.seen c.step_block.new.rack) (λ B. IsStep is B place new (Ok r))) c.in-Ok-None.field-0-is c.in-Ok-None.ensures.content),
+        walked_end c.args.store.now c.give_back.new.store c.step_block.new.store c.args.scan.now c.take.result c.take.ensures.value
+            c.give_back.ensures.back _ _ c.in-Ok-None.ensures.serves c.take.new.self c.take.ensures.after
+            (lends_none c.give_back.new.store new c.in-Ok-None.field-0 c.in-Ok-None.field-0-is c.in-Ok-None.ensures.lent) c.requires.ready.shaped
+            (subst (λ r. Tells mid (g.R.Rack.seen c.args.rack.now) (g.R.Rack.seen c.step_block.new.rack) (λ B. IsStep is B place new (Ok r)))
+            c.in-Ok-None.field-0-is c.in-Ok-None.ensures.content),
       ),
       record {
         after = tt;
@@ -53,7 +63,8 @@ returns-in-Some g c =
         λ x. tt,
         walked_some c.args.store.now c.give_back.new.store c.step_block.new.store c.args.scan.now c.take.result c.take.ensures.value c.give_back.ensures.back _ _ c.in-Ok-Some.ensures.serves c.keep.new.place e (record { addr = e.addr; level = e.level; bytes = c.bytes.result }) c.keep.ensures (subst (λ l. block_of new l ≡ Some c.bytes.result.now) held c.bytes.ensures.value) refl refl
             (lends_is c.give_back.new.store new c.in-Ok-Some.field-0 e c.in-Ok-Some.field-0-is c.in-Ok-Some.ensures.lent) near.0
-            (subst (λ r. Tells mid (g.R.Rack.seen c.args.rack.now) (g.R.Rack.seen c.step_block.new.rack) (λ B. IsStep is B place new (Ok r))) c.in-Ok-Some.field-0-is c.in-Ok-Some.ensures.content),
+            (subst (λ r. Tells mid (g.R.Rack.seen c.args.rack.now) (g.R.Rack.seen c.step_block.new.rack) (λ B. IsStep is B place new (Ok r)))
+            c.in-Ok-Some.field-0-is c.in-Ok-Some.ensures.content),
       ),
       record {
         after = tt;

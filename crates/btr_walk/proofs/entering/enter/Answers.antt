@@ -14,7 +14,8 @@ use Rattle.btr_walk.proofs.Entered.{enter_leaf, held_leaf, enter_inner, enter_fr
 use Rattle.btr_walk.proofs.entering.enter.Goals as goal
 
 pub part_of-part-requires-clause-good : goal.part_of-part-requires-clause-good
-part_of-part-requires-clause-good g c = (is_leaf_at c.args.todo.now.level c.args.todo.now.spot c.read_block.new.store c.in_ok-loan.loan c.bytes.result.now c.bytes.ensures.value c.in_ok-loan.ensures.good c.if-todo-eq0.true).good
+part_of-part-requires-clause-good g c = (is_leaf_at c.args.todo.now.level c.args.todo.now.spot c.read_block.new.store c.in_ok-loan.loan
+    c.bytes.result.now c.bytes.ensures.value c.in_ok-loan.ensures.good c.if-todo-eq0.true).good
 
 pub returns-then-todo-eq0-clause-lent : goal.returns-then-todo-eq0-clause-lent
 returns-then-todo-eq0-clause-lent g c =
@@ -26,7 +27,9 @@ returns-then-todo-eq0-clause-lent g c =
       after = c.in_ok-loan.ensures.lent.after;
       large = c.in_ok-loan.ensures.lent.large;
       live = c.in_ok-loan.ensures.lent.live;
-      good = some_block c.read_block.new.store c.in_ok-loan.loan c.bytes.result.now (λ (block : List ℕ). IsTrue (is_leaf block) × (c.part_of-part.result.end ≤ length (items block))) c.bytes.ensures.value (leaf.good, c.part_of-part.ensures.within);
+      good = some_block c.read_block.new.store c.in_ok-loan.loan c.bytes.result.now
+          (λ (block : List ℕ). IsTrue (is_leaf block) × (c.part_of-part.result.end ≤ length (items block))) c.bytes.ensures.value
+          (leaf.good, c.part_of-part.ensures.within);
     }
 
 pub returns-then-todo-eq0-clause-content : goal.returns-then-todo-eq0-clause-content
@@ -38,14 +41,18 @@ returns-then-todo-eq0-clause-content g c =
     let leaf = is_leaf_at todo.level todo.spot store c.in_ok-loan.loan block c.bytes.ensures.value c.in_ok-loan.ensures.good c.if-todo-eq0.true in
     drawn c.args.store.now.layout (λ B. Reads is B todo.level todo.spot store (Ok c.in_ok-loan.loan)) (λ B. IsEntered c.args.lo c.args.hi is B todo store (Ok (Leaf (record { spot = todo.spot; next = c.part_of-part.result.next; end = c.part_of-part.result.end; loan = c.in_ok-loan.loan }))))
     (λ B reads. let e = block_is store c.in_ok-loan.loan block (λ (b : List ℕ). B (want_of todo.level todo.spot) ≡ Ok b) c.bytes.ensures.value reads in (
-      some_block store c.in_ok-loan.loan block (λ (b : List ℕ). (rest : RangeProg) → exec B (range_at c.args.lo c.args.hi todo.level todo.spot rest) ≡ first (Wants (want_of todo.level todo.spot)) (exec B (emit_all (part_items todo.spot.addr b c.part_of-part.result.next c.part_of-part.result.end) rest))) c.bytes.ensures.value
+      some_block store c.in_ok-loan.loan block (λ (b : List ℕ). (rest : RangeProg) → exec B (range_at c.args.lo c.args.hi todo.level todo.spot rest)
+          ≡ first (Wants (want_of todo.level todo.spot)) (exec B
+          (emit_all (part_items todo.spot.addr b c.part_of-part.result.next c.part_of-part.result.end) rest))) c.bytes.ensures.value
           (enter_leaf c.args.lo c.args.hi B todo.level todo.spot block c.part_of-part.result leaf c.part_of-part.ensures e),
-      λ seen read. held_leaf c.args.lo c.args.hi B todo.level todo.spot block store c.part_of-part.result.next c.part_of-part.result.end c.in_ok-loan.loan seen leaf c.bytes.ensures.value e read,
+      λ seen read. held_leaf c.args.lo c.args.hi B todo.level todo.spot block store c.part_of-part.result.next c.part_of-part.result.end
+          c.in_ok-loan.loan seen leaf c.bytes.ensures.value e read,
     ))
     c.in_ok-loan.ensures.content
 
 pub below_of-below-requires-clause-good : goal.below_of-below-requires-clause-good
-below_of-below-requires-clause-good g c = (is_inner_at c.args.todo.now.level c.args.todo.now.spot c.read_block.new.store c.in_ok-loan.loan c.bytes-2.result.now c.bytes-2.ensures.value c.in_ok-loan.ensures.good c.if-todo-eq0.false).good
+below_of-below-requires-clause-good g c = (is_inner_at c.args.todo.now.level c.args.todo.now.spot c.read_block.new.store c.in_ok-loan.loan
+    c.bytes-2.result.now c.bytes-2.ensures.value c.in_ok-loan.ensures.good c.if-todo-eq0.false).good
 
 pub returns-clause-lent : goal.returns-clause-lent
 returns-clause-lent g c = given_back _ _ _ _ c.in_ok-loan.loan c.in_ok-loan.ensures.lent c.give.ensures
@@ -60,7 +67,8 @@ returns-clause-content g c =
     let store = c.read_block.new.store in
     let block = c.bytes-2.result.now in
     let inner = is_inner_at todo.level todo.spot store c.in_ok-loan.loan block c.bytes-2.ensures.value c.in_ok-loan.ensures.good c.if-todo-eq0.false in
-    drawn c.args.store.now.layout (λ B. Reads is B todo.level todo.spot store (Ok c.in_ok-loan.loan)) (λ B. IsEntered c.args.lo c.args.hi is B todo c.give.new.self (Ok (Inner c.below_of-below.result)))
+    drawn c.args.store.now.layout (λ B. Reads is B todo.level todo.spot store (Ok c.in_ok-loan.loan))
+    (λ B. IsEntered c.args.lo c.args.hi is B todo c.give.new.self (Ok (Inner c.below_of-below.result)))
     (λ B reads up.
     let e = block_is store c.in_ok-loan.loan block (λ (b : List ℕ). B (want_of todo.level todo.spot) ≡ Ok b) c.bytes-2.ensures.value reads in (
       enter_inner c.args.lo c.args.hi B todo block c.below_of-below.result inner c.below_of-below.ensures e up,

@@ -18,15 +18,28 @@ pub returns-in-Some : goal.returns-in-Some
 returns-in-Some g c =
     let same = same_lent c.in-Ok-Some.spotted.loan c.in-Some.held c.keep.new.place c.keep.ensures c.in-Some.is in
     let t = lends_is c.args.store.now c.seek_le.new.store c.in-Ok-Some.field-0 c.in-Ok-Some.spotted c.in-Ok-Some.field-0-is c.in-Ok-Some.ensures.lent in (
-      (refl, λ x. tt, lent_only (g.R.Rack.seen c.seek_le.new.rack) c.args.store.now c.seek_le.new.store c.in-Ok-Some.spotted c.keep.new.place c.in-Ok-Some.ensures.serves t c.keep.ensures),
+      (
+        refl,
+        λ x. tt,
+        lent_only (g.R.Rack.seen c.seek_le.new.rack) c.args.store.now c.seek_le.new.store c.in-Ok-Some.spotted c.keep.new.place
+            c.in-Ok-Some.ensures.serves t c.keep.ensures,
+      ),
       record {
         after = tt;
         reads = c.in-Ok-Some.ensures.reads;
         lent = ap is_some c.keep.ensures;
         cause = tt;
-        reach = drawn c.args.store.now.layout (λ B. FindsAndReaches (unread_by c.args.store.now.layout (g.R.Rack.seen c.args.rack.now) (g.R.Rack.seen c.seek_le.new.rack)) B c.args.root.now c.args.key c.seek_le.new.store (Ok c.in-Ok-Some.field-0)) (λ B. SameUpTo B c.args.root.now c.args.key c.in-Ok-Some.spotted.until)
+        reach = drawn c.args.store.now.layout (λ B. FindsAndReaches
+            (unread_by c.args.store.now.layout (g.R.Rack.seen c.args.rack.now) (g.R.Rack.seen c.seek_le.new.rack)) B c.args.root.now c.args.key
+            c.seek_le.new.store (Ok c.in-Ok-Some.field-0)) (λ B. SameUpTo B c.args.root.now c.args.key c.in-Ok-Some.spotted.until)
             (λ B h. subst (λ o. SpottedReaches B c.args.root.now c.args.key (Ok o)) c.in-Ok-Some.field-0-is h.1) c.in-Ok-Some.ensures.content;
-        content = shows_item (unread_by c.args.store.now.layout (g.R.Rack.seen c.args.rack.now) (g.R.Rack.seen c.seek_le.new.rack)) c.args.root.now c.args.key c.seek_le.new.store c.in-Ok-Some.spotted c.found_at.result c.bytes.result.now (ap (block_of c.seek_le.new.store) same ∙ c.bytes.ensures.value) c.found_at.ensures _ _ _ c.in-Ok-Some.field-0 c.in-Ok-Some.field-0-is
-            (drawn c.args.store.now.layout (λ B. FindsAndReaches (unread_by c.args.store.now.layout (g.R.Rack.seen c.args.rack.now) (g.R.Rack.seen c.seek_le.new.rack)) B c.args.root.now c.args.key c.seek_le.new.store (Ok c.in-Ok-Some.field-0)) (λ B. Finds (unread_by c.args.store.now.layout (g.R.Rack.seen c.args.rack.now) (g.R.Rack.seen c.seek_le.new.rack)) B c.args.root.now c.args.key c.seek_le.new.store (Ok c.in-Ok-Some.field-0)) (λ B h. h.0) c.in-Ok-Some.ensures.content);
+        content = shows_item (unread_by c.args.store.now.layout (g.R.Rack.seen c.args.rack.now) (g.R.Rack.seen c.seek_le.new.rack)) c.args.root.now
+            c.args.key c.seek_le.new.store c.in-Ok-Some.spotted c.found_at.result c.bytes.result.now
+            (ap (block_of c.seek_le.new.store) same ∙ c.bytes.ensures.value) c.found_at.ensures _ _ _ c.in-Ok-Some.field-0 c.in-Ok-Some.field-0-is
+            (drawn c.args.store.now.layout (λ B. FindsAndReaches
+            (unread_by c.args.store.now.layout (g.R.Rack.seen c.args.rack.now) (g.R.Rack.seen c.seek_le.new.rack)) B c.args.root.now c.args.key
+            c.seek_le.new.store (Ok c.in-Ok-Some.field-0))
+            (λ B. Finds (unread_by c.args.store.now.layout (g.R.Rack.seen c.args.rack.now) (g.R.Rack.seen c.seek_le.new.rack)) B c.args.root.now
+            c.args.key c.seek_le.new.store (Ok c.in-Ok-Some.field-0)) (λ B h. h.0) c.in-Ok-Some.ensures.content);
       },
     )

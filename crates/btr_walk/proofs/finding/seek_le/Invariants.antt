@@ -12,7 +12,8 @@ invariant-loop-loan g l = record {
   reads : OnlyReads (g.R.Rack.seen l.fn.rack) (g.R.Rack.seen l.rack);
   serves : Serves (g.R.Rack.seen l.rack) l.store;
   same : SameLoans l.fn.store l.store;
-  tells : Tells l.fn.store.layout (g.R.Rack.seen l.fn.rack) (g.R.Rack.seen l.rack) (λ B. Way B l.key l.fn.root.level (root_spot l.fn.root) l.level l.spot × Carries B l.key l.fn.root l.level l.spot);
+  tells : Tells l.fn.store.layout (g.R.Rack.seen l.fn.rack) (g.R.Rack.seen l.rack)
+      (λ B. Way B l.key l.fn.root.level (root_spot l.fn.root) l.level l.spot × Carries B l.key l.fn.root l.level l.spot);
 }
 
 abbrev pub decreases-loop-loan : goal.decreases-loop-loan

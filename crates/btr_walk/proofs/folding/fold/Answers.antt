@@ -8,23 +8,37 @@ use Rattle.btr_walk.proofs.folding.fold.Goals as goal
 pub returns-in-Err-clause-content : goal.returns-in-Err-clause-content
 returns-in-Err-clause-content g c =
     let is = unread_by c.args.store.now.layout (g.R.Rack.seen c.args.rack.now) (g.R.Rack.seen c.run-ended.new.rack) in
-    drawn c.args.store.now.layout (λ B. IsRun g.F.Folder.step g.F.Folder.answer {E = g.row.E.Denot} is B c.args.store.now c.new-scan.result c.args.state c.run-ended.new.state (Err c.in-Err.fault))
+    drawn c.args.store.now.layout (λ B. IsRun g.F.Folder.step g.F.Folder.answer {E = g.row.E.Denot} is B c.args.store.now c.new-scan.result
+    c.args.state c.run-ended.new.state (Err c.in-Err.fault))
     (λ B. FoldFollows g.F.Folder.step g.F.Folder.answer {E = g.row.E.Denot} is B c.args.state c.args.root.now c.args.lo c.args.hi (Err c.in-Err.fault))
-    (λ B h. fold_begun {E = g.row.E.Denot} g.F.Folder.step g.F.Folder.answer is B c.args.store.now c.new-scan.result c.args.root.now c.args.lo c.args.hi c.args.state c.run-ended.new.state (Err c.in-Err.fault) c.new-scan.ensures.lo c.new-scan.ensures.hi (c.new-scan.ensures.program B c.args.store.now) (c.new-scan.ensures.on B) h)
+    (λ B h. fold_begun {E = g.row.E.Denot} g.F.Folder.step g.F.Folder.answer is B c.args.store.now c.new-scan.result c.args.root.now c.args.lo
+    c.args.hi c.args.state c.run-ended.new.state (Err c.in-Err.fault) c.new-scan.ensures.lo c.new-scan.ensures.hi
+    (c.new-scan.ensures.program B c.args.store.now) (c.new-scan.ensures.on B) h)
     c.in-Err.ensures.content
 
 pub returns-in-Ok-Some-clause-content : goal.returns-in-Ok-Some-clause-content
 returns-in-Ok-Some-clause-content g c =
     let is = unread_by c.args.store.now.layout (g.R.Rack.seen c.args.rack.now) (g.R.Rack.seen c.run-ended.new.rack) in
-    drawn c.args.store.now.layout (λ B. IsRun g.F.Folder.step g.F.Folder.answer {E = g.row.E.Denot} is B c.args.store.now c.new-scan.result c.args.state c.run-ended.new.state (Ok c.in-Ok-Some.field-0))
+    drawn c.args.store.now.layout (λ B. IsRun g.F.Folder.step g.F.Folder.answer {E = g.row.E.Denot} is B c.args.store.now c.new-scan.result
+    c.args.state c.run-ended.new.state (Ok c.in-Ok-Some.field-0))
     (λ B. FoldFollows g.F.Folder.step g.F.Folder.answer {E = g.row.E.Denot} is B c.args.state c.args.root.now c.args.lo c.args.hi (Ok c.in-Ok-Some.out))
-    (λ B h. fold_begun {E = g.row.E.Denot} g.F.Folder.step g.F.Folder.answer is B c.args.store.now c.new-scan.result c.args.root.now c.args.lo c.args.hi c.args.state c.run-ended.new.state (Ok (Some c.in-Ok-Some.out)) c.new-scan.ensures.lo c.new-scan.ensures.hi (c.new-scan.ensures.program B c.args.store.now) (c.new-scan.ensures.on B) (subst (λ r. IsRun g.F.Folder.step g.F.Folder.answer {E = g.row.E.Denot} is B c.args.store.now c.new-scan.result c.args.state c.run-ended.new.state (Ok r)) c.in-Ok-Some.field-0-is h))
+    (λ B h. fold_begun {E = g.row.E.Denot} g.F.Folder.step g.F.Folder.answer is B c.args.store.now c.new-scan.result c.args.root.now c.args.lo
+    c.args.hi c.args.state c.run-ended.new.state (Ok (Some c.in-Ok-Some.out)) c.new-scan.ensures.lo c.new-scan.ensures.hi
+    (c.new-scan.ensures.program B c.args.store.now) (c.new-scan.ensures.on B)
+    (subst (λ r. IsRun g.F.Folder.step g.F.Folder.answer {E = g.row.E.Denot} is B c.args.store.now c.new-scan.result c.args.state
+    c.run-ended.new.state (Ok r)) c.in-Ok-Some.field-0-is h))
     c.in-Ok-Some.ensures.content
 
 pub returns-in-Ok-None-clause-content : goal.returns-in-Ok-None-clause-content
 returns-in-Ok-None-clause-content g c =
     let is = unread_by c.args.store.now.layout (g.R.Rack.seen c.args.rack.now) (g.R.Rack.seen c.run-ended.new.rack) in
-    drawn c.args.store.now.layout (λ B. IsRun g.F.Folder.step g.F.Folder.answer {E = g.row.E.Denot} is B c.args.store.now c.new-scan.result c.args.state c.run-ended.new.state (Ok c.in-Ok-None.field-0))
+    drawn c.args.store.now.layout (λ B. IsRun g.F.Folder.step g.F.Folder.answer {E = g.row.E.Denot} is B c.args.store.now c.new-scan.result
+    c.args.state c.run-ended.new.state (Ok c.in-Ok-None.field-0))
     (λ B. FoldFollows g.F.Folder.step g.F.Folder.answer {E = g.row.E.Denot} is B c.args.state c.args.root.now c.args.lo c.args.hi (Ok c.end.result))
-    (λ B h. fold_answers g.row.E.Denot g.F.Folder.step g.F.Folder.answer is B c.args.root.now c.args.lo c.args.hi c.args.state (g.F.Folder.answer c.run-ended.new.state) c.end.result c.end.ensures (fold_begun {E = g.row.E.Denot} g.F.Folder.step g.F.Folder.answer is B c.args.store.now c.new-scan.result c.args.root.now c.args.lo c.args.hi c.args.state c.run-ended.new.state (Ok None) c.new-scan.ensures.lo c.new-scan.ensures.hi (c.new-scan.ensures.program B c.args.store.now) (c.new-scan.ensures.on B) (subst (λ r. IsRun g.F.Folder.step g.F.Folder.answer {E = g.row.E.Denot} is B c.args.store.now c.new-scan.result c.args.state c.run-ended.new.state (Ok r)) c.in-Ok-None.field-0-is h)))
+    (λ B h. fold_answers g.row.E.Denot g.F.Folder.step g.F.Folder.answer is B c.args.root.now c.args.lo c.args.hi c.args.state
+    (g.F.Folder.answer c.run-ended.new.state) c.end.result c.end.ensures
+    (fold_begun {E = g.row.E.Denot} g.F.Folder.step g.F.Folder.answer is B c.args.store.now c.new-scan.result c.args.root.now c.args.lo c.args.hi
+    c.args.state c.run-ended.new.state (Ok None) c.new-scan.ensures.lo c.new-scan.ensures.hi (c.new-scan.ensures.program B c.args.store.now)
+    (c.new-scan.ensures.on B) (subst (λ r. IsRun g.F.Folder.step g.F.Folder.answer {E = g.row.E.Denot} is B c.args.store.now c.new-scan.result
+    c.args.state c.run-ended.new.state (Ok r)) c.in-Ok-None.field-0-is h)))
     c.in-Ok-None.ensures.content

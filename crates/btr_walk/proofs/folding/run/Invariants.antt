@@ -15,7 +15,8 @@ invariant-loop-fault g l = record {
   layout : l.store.layout ≡ l.fn.store.layout;
   lo : l.scan.lo ≡ l.fn.scan.lo;
   hi : l.scan.hi ≡ l.fn.scan.hi;
-  tells : Tells l.fn.store.layout (g.R.Rack.seen l.fn.rack) (g.R.Rack.seen l.rack) (λ B. Led g.F.Folder.step g.F.Folder.answer B l.fn.store l.fn.scan l.fn.state l.store l.scan l.state);
+  tells : Tells l.fn.store.layout (g.R.Rack.seen l.fn.rack) (g.R.Rack.seen l.rack)
+      (λ B. Led g.F.Folder.step g.F.Folder.answer B l.fn.store l.fn.scan l.fn.state l.store l.scan l.state);
 }
 
 abbrev pub decreases-loop-fault : goal.decreases-loop-fault

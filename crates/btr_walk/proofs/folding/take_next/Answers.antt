@@ -13,8 +13,10 @@ returns-in-Err-clause-content g c =
     let is = unread_by c.args.store.now.layout (g.R.Rack.seen c.args.rack.now) (g.R.Rack.seen c.next.new.rack) in
     let new = c.next.follows.lender-at-none in
     drawn c.args.store.now.layout (λ B. IsNextOn is B c.args.store.now new c.args.scan.now c.next.new.scan c.next.result)
-    (λ B. IsTurned g.F.Folder.step g.F.Folder.answer {E = g.row.E.Denot} is B c.args.store.now new c.args.scan.now c.next.new.scan c.args.state.now c.args.state.now (Err (Tree c.in-Err.fault)))
-    (λ B h. turned_err g.F.Folder.step g.F.Folder.answer B is c.args.store.now new c.args.scan.now c.next.new.scan g.row.E.Denot c.args.state.now c.in-Err.fault (subst (λ r. IsNextOn is B c.args.store.now new c.args.scan.now c.next.new.scan r) c.in-Err.is h))
+    (λ B. IsTurned g.F.Folder.step g.F.Folder.answer {E = g.row.E.Denot} is B c.args.store.now new c.args.scan.now c.next.new.scan c.args.state.now
+    c.args.state.now (Err (Tree c.in-Err.fault)))
+    (λ B h. turned_err g.F.Folder.step g.F.Folder.answer B is c.args.store.now new c.args.scan.now c.next.new.scan g.row.E.Denot c.args.state.now
+    c.in-Err.fault (subst (λ r. IsNextOn is B c.args.store.now new c.args.scan.now c.next.new.scan r) c.in-Err.is h))
     c.next.follows.holds-at-none.content
 
 pub returns-in-Ok-None-clause-content : goal.returns-in-Ok-None-clause-content
@@ -22,8 +24,10 @@ returns-in-Ok-None-clause-content g c =
     let is = unread_by c.args.store.now.layout (g.R.Rack.seen c.args.rack.now) (g.R.Rack.seen c.next.new.rack) in
     let new = c.next.follows.lender-at-none in
     drawn c.args.store.now.layout (λ B. IsNextOn is B c.args.store.now new c.args.scan.now c.next.new.scan c.next.result)
-    (λ B. IsTurned g.F.Folder.step g.F.Folder.answer {E = g.row.E.Denot} is B c.args.store.now new c.args.scan.now c.next.new.scan c.args.state.now c.args.state.now (Ok Last))
-    (λ B h. turned_last g.F.Folder.step g.F.Folder.answer B is c.args.store.now new c.args.scan.now c.next.new.scan g.row.E.Denot c.args.state.now (subst (λ r. IsNextOn is B c.args.store.now new c.args.scan.now c.next.new.scan r) (c.in-Ok-None.is ∙ ap Ok c.in-Ok-None.field-0-is) h))
+    (λ B. IsTurned g.F.Folder.step g.F.Folder.answer {E = g.row.E.Denot} is B c.args.store.now new c.args.scan.now c.next.new.scan c.args.state.now
+    c.args.state.now (Ok Last))
+    (λ B h. turned_last g.F.Folder.step g.F.Folder.answer B is c.args.store.now new c.args.scan.now c.next.new.scan g.row.E.Denot c.args.state.now
+    (subst (λ r. IsNextOn is B c.args.store.now new c.args.scan.now c.next.new.scan r) (c.in-Ok-None.is ∙ ap Ok c.in-Ok-None.field-0-is) h))
     c.next.follows.holds-at-none.content
 
 pub returns-in-Ok-Some-clause-content : goal.returns-in-Ok-Some-clause-content
@@ -31,7 +35,9 @@ returns-in-Ok-Some-clause-content g c =
     let is = unread_by c.args.store.now.layout (g.R.Rack.seen c.args.rack.now) (g.R.Rack.seen c.next.new.rack) in
     let new = c.next.follows.lender-at-none in
     drawn c.args.store.now.layout (λ B. IsNextOn is B c.args.store.now new c.args.scan.now c.next.new.scan c.next.result)
-    (λ B. IsTurned g.F.Folder.step g.F.Folder.answer is B c.args.store.now new c.args.scan.now c.next.new.scan c.args.state.now c.take_found.new.state c.take_found.result)
-    (λ B h. turned_some g.F.Folder.step g.F.Folder.answer B is c.args.store.now new c.args.scan.now c.next.new.scan c.args.state.now c.take_found.new.state c.in-Ok-Some.found c.take_found.result c.take_found.ensures
+    (λ B. IsTurned g.F.Folder.step g.F.Folder.answer is B c.args.store.now new c.args.scan.now c.next.new.scan c.args.state.now c.take_found.new.state
+    c.take_found.result)
+    (λ B h. turned_some g.F.Folder.step g.F.Folder.answer B is c.args.store.now new c.args.scan.now c.next.new.scan c.args.state.now
+    c.take_found.new.state c.in-Ok-Some.found c.take_found.result c.take_found.ensures
     (subst (λ r. IsNextOn is B c.args.store.now new c.args.scan.now c.next.new.scan r) (c.in-Ok-Some.is ∙ ap Ok c.in-Ok-Some.field-0-is) h))
     c.next.follows.holds-at-none.content

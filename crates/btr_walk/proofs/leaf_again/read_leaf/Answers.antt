@@ -19,7 +19,8 @@ returns-in-Err-clause-content g c =
     (λ B h. again_halts is B frame store c.in-Err.fault h) c.in-Err.ensures.content
 
 pub of-requires-clause-good : goal.of-requires-clause-good
-of-requires-clause-good g c = (is_leaf_at 0 c.args.frame.now.spot c.read_block.new.store c.in-Ok.loan c.bytes.result.now c.bytes.ensures.value c.in-Ok.ensures.good refl).good
+of-requires-clause-good g c = (is_leaf_at 0 c.args.frame.now.spot c.read_block.new.store c.in-Ok.loan c.bytes.result.now c.bytes.ensures.value
+    c.in-Ok.ensures.good refl).good
 
 pub returns-then-count-frame-clause-serves : goal.returns-then-count-frame-clause-serves
 returns-then-count-frame-clause-serves g c = served_back _ c.read_block.new.store c.give.new.self c.in-Ok.loan c.in-Ok.ensures.serves c.give.ensures
@@ -34,8 +35,11 @@ returns-then-count-frame-clause-content g c =
     let store = c.read_block.new.store in
     let block = c.bytes.result.now in
     let same : length c.of.result ≡ length (items block) = ap length c.of.ensures in
-    drawn c.args.store.now.layout (λ B. Reads is B 0 frame.spot store (Ok c.in-Ok.loan)) (λ B. IsLeafAgain is B frame c.give.new.self (Err (tree.Malformed frame.spot.addr)))
-    (λ B h. again_short is B frame store c.in-Ok.loan block c.bytes.ensures.value (block_is store c.in-Ok.loan block (λ (b : List ℕ). B (want_of 0 frame.spot) ≡ Ok b) c.bytes.ensures.value h) c.give.new.self frame.spot.addr (omega (arith, same, c.count-count.ensures.all, c.if-count-frame.true))) c.in-Ok.ensures.content
+    drawn c.args.store.now.layout (λ B. Reads is B 0 frame.spot store (Ok c.in-Ok.loan))
+    (λ B. IsLeafAgain is B frame c.give.new.self (Err (tree.Malformed frame.spot.addr)))
+    (λ B h. again_short is B frame store c.in-Ok.loan block c.bytes.ensures.value
+    (block_is store c.in-Ok.loan block (λ (b : List ℕ). B (want_of 0 frame.spot) ≡ Ok b) c.bytes.ensures.value h) c.give.new.self frame.spot.addr
+    (omega (arith, same, c.count-count.ensures.all, c.if-count-frame.true))) c.in-Ok.ensures.content
 
 pub returns-else-count-frame-clause-lent : goal.returns-else-count-frame-clause-lent
 returns-else-count-frame-clause-lent g c =
@@ -49,7 +53,8 @@ returns-else-count-frame-clause-lent g c =
       after = c.in-Ok.ensures.lent.after;
       large = c.in-Ok.ensures.lent.large;
       live = c.in-Ok.ensures.lent.live;
-      good = some_block c.read_block.new.store c.in-Ok.loan block (λ (b : List ℕ). IsTrue (is_leaf b) × (c.args.frame.now.end ≤ length (items b))) c.bytes.ensures.value (leaf.good, omega (arith, same, c.count-count.ensures.all, c.if-count-frame.false));
+      good = some_block c.read_block.new.store c.in-Ok.loan block (λ (b : List ℕ). IsTrue (is_leaf b) × (c.args.frame.now.end ≤ length (items b)))
+          c.bytes.ensures.value (leaf.good, omega (arith, same, c.count-count.ensures.all, c.if-count-frame.false));
     }
 
 pub returns-else-count-frame-clause-content : goal.returns-else-count-frame-clause-content
@@ -59,4 +64,5 @@ returns-else-count-frame-clause-content g c =
     let store = c.read_block.new.store in
     let block = c.bytes.result.now in
     drawn c.args.store.now.layout (λ B. Reads is B 0 frame.spot store (Ok c.in-Ok.loan)) (λ B. IsLeafAgain is B frame store (Ok (record { spot = frame.spot; next = frame.next; end = frame.end; loan = c.in-Ok.loan })))
-    (λ B h. again_held is B frame store c.in-Ok.loan block c.bytes.ensures.value (block_is store c.in-Ok.loan block (λ (b : List ℕ). B (want_of 0 frame.spot) ≡ Ok b) c.bytes.ensures.value h)) c.in-Ok.ensures.content
+    (λ B h. again_held is B frame store c.in-Ok.loan block c.bytes.ensures.value
+    (block_is store c.in-Ok.loan block (λ (b : List ℕ). B (want_of 0 frame.spot) ≡ Ok b) c.bytes.ensures.value h)) c.in-Ok.ensures.content

@@ -30,10 +30,12 @@ returns-clause-nears c =
     let ahead = c.args.ahead.now in
     let b = c.children_of-below.result in
     let inner = inner_at ahead.todo.level ahead.todo.spot c.args.block.now c.requires.good c.if-todo-eq0.false in
-    near_inner ahead.path c.set_frame.new.path ahead.todo b (fits_children ahead.todo.level ahead.todo.spot c.args.block.now b.frame b.todo inner.some inner.few c.children_of-below.ensures.few c.children_of-below.ensures.first) c.set_frame.ensures.set c.requires.shaped
+    near_inner ahead.path c.set_frame.new.path ahead.todo b (fits_children ahead.todo.level ahead.todo.spot c.args.block.now b.frame b.todo inner.some
+    inner.few c.children_of-below.ensures.few c.children_of-below.ensures.first) c.set_frame.ensures.set c.requires.shaped
 
 pub returns-clause-behind : goal.returns-clause-behind
 returns-clause-behind c = λ B seen e on.
     let ahead = c.args.ahead.now in
     let inner = inner_at ahead.todo.level ahead.todo.spot c.args.block.now c.requires.good c.if-todo-eq0.false in
-    enters_node B ahead c.args.block.now seen c.children_of-below.result c.set_frame.new.path c.requires.shaped.long inner c.set_frame.ensures.set c.children_of-below.ensures.first e on
+    enters_node B ahead c.args.block.now seen c.children_of-below.result c.set_frame.new.path c.requires.shaped.long inner c.set_frame.ensures.set
+    c.children_of-below.ensures.first e on

@@ -12,7 +12,8 @@ returns-in-Err-clause-content g c =
     let is = unread_by c.args.store.now.layout (g.R.Rack.seen c.args.rack.now) (g.R.Rack.seen c.read_block.new.rack) in
     let ahead = c.args.ahead.now in
     let store = c.read_block.new.store in
-    drawn c.args.store.now.layout (λ B. Reads is B ahead.todo.level ahead.todo.spot store (Err c.in-Err.fault)) (λ B. IsEntry is B ahead store (Err c.in-Err.fault))
+    drawn c.args.store.now.layout (λ B. Reads is B ahead.todo.level ahead.todo.spot store (Err c.in-Err.fault))
+    (λ B. IsEntry is B ahead store (Err c.in-Err.fault))
     (λ B h seen on. blocks_halt B is ahead.todo.level ahead.todo.spot store c.in-Err.fault (path_blocks B 0 ahead.path) seen h) c.in-Err.ensures.content
 
 pub returns-in-Ok-clause-content : goal.returns-in-Ok-clause-content
@@ -24,4 +25,5 @@ returns-in-Ok-clause-content g c =
     let place = c.behind-place.result in
     drawn c.args.store.now.layout (λ B. Reads is B ahead.todo.level ahead.todo.spot store (Ok c.in-Ok.loan)) (λ B. IsEntry is B ahead store (Ok (record { addr = ahead.todo.spot.addr; level = ahead.todo.level; loan = c.in-Ok.loan; place = place })))
     (λ B h seen on. some_block store c.in-Ok.loan block (λ (b : List ℕ). Enters B seen (place_of ahead) place (want_of ahead.todo.level ahead.todo.spot) (record { addr = ahead.todo.spot.addr; level = ahead.todo.level; bytes = b })) c.bytes.ensures.value
-    (c.behind-place.ensures.behind B seen (block_is store c.in-Ok.loan block (λ (b : List ℕ). B (want_of ahead.todo.level ahead.todo.spot) ≡ Ok b) c.bytes.ensures.value h) on)) c.in-Ok.ensures.content
+    (c.behind-place.ensures.behind B seen (block_is store c.in-Ok.loan block (λ (b : List ℕ). B (want_of ahead.todo.level ahead.todo.spot) ≡ Ok b)
+    c.bytes.ensures.value h) on)) c.in-Ok.ensures.content

@@ -22,12 +22,15 @@ returns-in-Err-enter_block-clause-content g c =
     let ahead = c.in-Ok-Some.ahead in
     let f = c.in-Err-enter_block.fault in
     let same = c.in-Ok-Some.ensures.store in
-    joined (λ B. IsAhead was B place (Ok c.in-Ok-Some.field-0)) (λ B. IsEntry then B ahead c.enter_block.new.store (Err f)) (λ B. IsStep is B place c.enter_block.new.store (Err f)) same.layout
-    (λ B a e. step_halts B was then is place c.enter_block.new.store ahead f (since _ _ same.layout c.in-Ok-Some.ensures.reads) (subst (λ r. IsAhead was B place (Ok r)) c.in-Ok-Some.field-0-is a) e)
+    joined (λ B. IsAhead was B place (Ok c.in-Ok-Some.field-0)) (λ B. IsEntry then B ahead c.enter_block.new.store (Err f))
+    (λ B. IsStep is B place c.enter_block.new.store (Err f)) same.layout
+    (λ B a e. step_halts B was then is place c.enter_block.new.store ahead f (since _ _ same.layout c.in-Ok-Some.ensures.reads)
+    (subst (λ r. IsAhead was B place (Ok r)) c.in-Ok-Some.field-0-is a) e)
     c.in-Ok-Some.ensures.content c.in-Err-enter_block.ensures.content
 
 pub returns-in-Ok-clause-lent : goal.returns-in-Ok-clause-lent
-returns-in-Ok-clause-lent g c = lends_block c.args.store.now c.ahead_of.new.store c.enter_block.new.store _ c.in-Ok.entry c.in-Ok-Some.ensures.store c.in-Ok.ensures.lent
+returns-in-Ok-clause-lent g c = lends_block c.args.store.now c.ahead_of.new.store c.enter_block.new.store _ c.in-Ok.entry c.in-Ok-Some.ensures.store
+    c.in-Ok.ensures.lent
 
 pub returns-in-Ok-clause-content : goal.returns-in-Ok-clause-content
 returns-in-Ok-clause-content g c =
@@ -37,6 +40,7 @@ returns-in-Ok-clause-content g c =
     let place = c.args.place.now in
     let ahead = c.in-Ok-Some.ahead in
     let same = c.in-Ok-Some.ensures.store in
-    joined (λ B. IsAhead was B place (Ok c.in-Ok-Some.field-0)) (λ B. IsEntry then B ahead c.enter_block.new.store (Ok c.in-Ok.entry)) (λ B. IsStep is B place c.enter_block.new.store (Ok (Some c.in-Ok.entry))) same.layout
+    joined (λ B. IsAhead was B place (Ok c.in-Ok-Some.field-0)) (λ B. IsEntry then B ahead c.enter_block.new.store (Ok c.in-Ok.entry))
+    (λ B. IsStep is B place c.enter_block.new.store (Ok (Some c.in-Ok.entry))) same.layout
     (λ B a e. step_gives B was then is place c.enter_block.new.store ahead c.in-Ok.entry (subst (λ r. IsAhead was B place (Ok r)) c.in-Ok-Some.field-0-is a) e)
     c.in-Ok-Some.ensures.content c.in-Ok.ensures.content

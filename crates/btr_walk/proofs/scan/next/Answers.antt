@@ -6,7 +6,13 @@ pub returns-in-Err : goal.returns-in-Err
 returns-in-Err g c =
     let a = c.advance-leaf.result in
     let free = keeps_err a.leaf c.put.new.place a.met c.in-Err.fault c.put.ensures c.in-Err.is c.advance-leaf.ensures.item in (
-      (refl, λ x. tt, next_err c.args.store.now c.advance-leaf.new.store c.args.scan.now c.take-leaf.result c.take-leaf.ensures.value c.advance-leaf.new.place a c.put.new.place c.put.ensures _ _ c.advance-leaf.ensures.serves c.in-Err.fault c.in-Err.is free c.advance-leaf.ensures.shaped c.advance-leaf.ensures.others c.advance-leaf.ensures.hand c.advance-leaf.ensures.content),
+      (
+        refl,
+        λ x. tt,
+        next_err c.args.store.now c.advance-leaf.new.store c.args.scan.now c.take-leaf.result c.take-leaf.ensures.value
+            c.advance-leaf.new.place a c.put.new.place c.put.ensures _ _ c.advance-leaf.ensures.serves c.in-Err.fault c.in-Err.is free
+            c.advance-leaf.ensures.shaped c.advance-leaf.ensures.others c.advance-leaf.ensures.hand c.advance-leaf.ensures.content,
+      ),
       record {
         after = tt;
         reads = c.advance-leaf.ensures.reads;
@@ -14,7 +20,8 @@ returns-in-Err g c =
         hi = refl;
         kept = free;
         nears = near_none c.args.scan.now c.put.new.place c.advance-leaf.new.place free c.advance-leaf.ensures.on c.requires.ready.alone;
-        place = moved_none c.args.scan.now c.advance-leaf.new.place (stays_put c.args.scan.now.place.rest c.advance-leaf.new.place a.met c.in-Err.fault c.in-Err.is c.advance-leaf.ensures.stays);
+        place = moved_none c.args.scan.now c.advance-leaf.new.place
+            (stays_put c.args.scan.now.place.rest c.advance-leaf.new.place a.met c.in-Err.fault c.in-Err.is c.advance-leaf.ensures.stays);
         cause = cause_as c.args.store.now.layout _ _ a.met c.in-Err.fault c.in-Err.is c.advance-leaf.ensures.cause;
       },
     )
@@ -23,14 +30,22 @@ pub returns-in-Some : goal.returns-in-Some
 returns-in-Some g c =
     let a = c.advance-leaf.result in
     let met = c.in-Ok-true.is ∙ ap Ok c.in-Ok-true.field-0-test in (
-      (refl, λ x. tt, next_item c.args.store.now c.advance-leaf.new.store c.args.scan.now c.take-leaf.result c.take-leaf.ensures.value c.advance-leaf.new.place a c.put.new.place c.put.ensures _ _ c.advance-leaf.ensures.serves c.in-Some.hand c.in-Some.is c.found_at.result c.bytes.result.now c.bytes.ensures.value c.found_at.ensures met c.advance-leaf.ensures.shaped c.advance-leaf.ensures.others c.advance-leaf.ensures.hand c.advance-leaf.ensures.content),
+      (
+        refl,
+        λ x. tt,
+        next_item c.args.store.now c.advance-leaf.new.store c.args.scan.now c.take-leaf.result c.take-leaf.ensures.value
+            c.advance-leaf.new.place a c.put.new.place c.put.ensures _ _ c.advance-leaf.ensures.serves c.in-Some.hand c.in-Some.is c.found_at.result
+            c.bytes.result.now c.bytes.ensures.value c.found_at.ensures met c.advance-leaf.ensures.shaped c.advance-leaf.ensures.others
+            c.advance-leaf.ensures.hand c.advance-leaf.ensures.content,
+      ),
       record {
         after = tt;
         reads = c.advance-leaf.ensures.reads;
         lo = refl;
         hi = refl;
         kept = keeps_item a.leaf c.put.new.place c.in-Some.hand a.met c.put.ensures c.in-Some.is met c.advance-leaf.ensures.item;
-        nears = near_some c.args.scan.now c.take-leaf.result c.put.new.place c.advance-leaf.new.place a c.take-leaf.ensures.value c.put.ensures c.advance-leaf.ensures.nears met;
+        nears = near_some c.args.scan.now c.take-leaf.result c.put.new.place c.advance-leaf.new.place a c.take-leaf.ensures.value c.put.ensures
+            c.advance-leaf.ensures.nears met;
         place = tt;
         cause = tt;
       },
@@ -41,7 +56,13 @@ returns-in-Ok-false g c =
     let a = c.advance-leaf.result in
     let met = c.in-Ok-false.is ∙ ap Ok c.in-Ok-false.field-0-test in
     let free = keeps_end a.leaf c.put.new.place a.met c.put.ensures met c.advance-leaf.ensures.item in (
-      (refl, λ x. tt, next_end c.args.store.now c.advance-leaf.new.store c.args.scan.now c.take-leaf.result c.take-leaf.ensures.value c.advance-leaf.new.place a c.put.new.place c.put.ensures _ _ c.advance-leaf.ensures.serves met free c.advance-leaf.ensures.shaped c.advance-leaf.ensures.others c.advance-leaf.ensures.hand c.advance-leaf.ensures.content),
+      (
+        refl,
+        λ x. tt,
+        next_end c.args.store.now c.advance-leaf.new.store c.args.scan.now c.take-leaf.result c.take-leaf.ensures.value
+            c.advance-leaf.new.place a c.put.new.place c.put.ensures _ _ c.advance-leaf.ensures.serves met free c.advance-leaf.ensures.shaped
+            c.advance-leaf.ensures.others c.advance-leaf.ensures.hand c.advance-leaf.ensures.content,
+      ),
       record {
         after = tt;
         reads = c.advance-leaf.ensures.reads;

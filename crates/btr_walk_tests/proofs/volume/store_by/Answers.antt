@@ -15,7 +15,8 @@ returns-clause-serves c =
     let devices : c.add_device.new.self.layout.devices ≡ member ∷ [] = ap (λ s. s.layout.devices) added ∙ ap (λ s. s.layout.devices ++ member ∷ []) c.in_ok-store.ensures in
     let are = open_more slots [] member (open_none slots) (record { slot = c.requires; len = sym c.len.ensures.len }) in
     let own = own_more [] member own_none (λ d a e. cc) in
-    serves_anew (seen_of c.args.rack.now) c.add_device.new.self (subst (AreOpen slots) (sym devices) are) (subst HaveOwnSlots (sym devices) own) (ap (λ s. s.kept) added)
+    serves_anew (seen_of c.args.rack.now) c.add_device.new.self (subst (AreOpen slots) (sym devices) are) (subst HaveOwnSlots (sym devices) own)
+    (ap (λ s. s.kept) added)
 
 pub returns-clause-free : goal.returns-clause-free
 returns-clause-free c = ap free_count c.in_ok-add_device.ensures.added ∙ ap free_count c.in_ok-store.ensures

@@ -7,7 +7,8 @@ use Rattle.btr_ahead.proofs.Pieces.{piece_comes, piece_says}
 use Rattle.btr_ahead.proofs.data_ahead.DataAhead.has.Goals as goal
 
 pub look-requires-clause-slot : goal.look-requires-clause-slot
-look-requires-clause-slot g c = c.in-Some.ensures.slot (g.R.Rack.seen c.args.rack.now).slots (serving (g.R.Rack.seen c.args.rack.now) c.args.store.now c.requires.serves).are_open
+look-requires-clause-slot g c = c.in-Some.ensures.slot (g.R.Rack.seen c.args.rack.now).slots
+    (serving (g.R.Rack.seen c.args.rack.now) c.args.store.now c.requires.serves).are_open
 
 pub passes_in-requires : goal.passes_in-requires
 passes_in-requires g c =
@@ -17,7 +18,8 @@ passes_in-requires g c =
 pub returns-in-Some-piece-clause-serves : goal.returns-in-Some-piece-clause-serves
 returns-in-Some-piece-clause-serves g c =
     let reads = c.look.ensures.reads in
-    serves_as (g.R.Rack.seen c.args.rack.now) (g.R.Rack.seen c.look.new.rack) c.args.store.now c.args.store.now (same_slots reads) (same_held reads) refl refl c.requires.serves
+    serves_as (g.R.Rack.seen c.args.rack.now) (g.R.Rack.seen c.look.new.rack) c.args.store.now c.args.store.now (same_slots reads) (same_held reads)
+    refl refl c.requires.serves
 
 pub returns-in-Some-piece-clause-comes : goal.returns-in-Some-piece-clause-comes
 returns-in-Some-piece-clause-comes g c = λ passed.
@@ -39,4 +41,5 @@ returns-in-Some-piece-clause-first g c = λ some steady.
 pub returns-in-None-clause-serves : goal.returns-in-None-clause-serves
 returns-in-None-clause-serves g c =
     let reads = c.look.ensures.reads in
-    serves_as (g.R.Rack.seen c.args.rack.now) (g.R.Rack.seen c.look.new.rack) c.args.store.now c.args.store.now (same_slots reads) (same_held reads) refl refl c.requires.serves
+    serves_as (g.R.Rack.seen c.args.rack.now) (g.R.Rack.seen c.look.new.rack) c.args.store.now c.args.store.now (same_slots reads) (same_held reads)
+    refl refl c.requires.serves

@@ -31,10 +31,12 @@ loop-k-preserved c =
       sent = λ j lt. subst (λ (l : List ℕ). get_or l (j + 176) 0 ≡ bit_xor (byte j) (sent near l j)) (sym is)
           (block_sent 176 144 16 n near byte ys block near_within (omega arith) long (omega (arith, before.sized, c.loop-k-test.true))
           c.kept_at-block.ensures.sums before.sent j (omega (arith, next)));
-      end = λ i le. ap (λ (l : List ℕ). get_or l i 0) is ∙ get_or-put_chunk_above (176 + n) ys block i 0 (omega (arith, long, next)) ∙ before.end i (omega (arith, next));
+      end = λ i le. ap (λ (l : List ℕ). get_or l i 0) is ∙ get_or-put_chunk_above (176 + n) ys block i 0 (omega (arith, long, next))
+          ∙ before.end i (omega (arith, next));
       fits = λ i. subst (λ (l : List ℕ). get_or l i 0 < 2 ^ 8) (sym is)
           (block_fits 16 (176 + n) (λ i. bit_xor (byte (n + i)) (sent near ys (n + i))) ys block long (omega (arith, before.sized, c.loop-k-test.true))
           c.kept_at-block.ensures.sums
-          (λ i. kept_fits c.args.dropped.now ys c.args.bytes.now (c.args.from + (n + i)) (n + i) (λ i. omega (arith, c.fits-dropped i)) before.fits (λ i. omega (arith, c.type_inv.bytes i)))
+          (λ i. kept_fits c.args.dropped.now ys c.args.bytes.now (c.args.from + (n + i)) (n + i) (λ i. omega (arith, c.fits-dropped i)) before.fits
+          (λ i. omega (arith, c.type_inv.bytes i)))
           before.fits i);
     }

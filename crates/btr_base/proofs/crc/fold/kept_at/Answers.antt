@@ -4,7 +4,8 @@ use Rattle.btr_base.specs.Fold.{near, sent, received}
 use Rattle.btr_base.proofs.Lanes.{IsBlock, summed, relaned}
 use Rattle.btr_base.proofs.crc.fold.kept_at.Goals as goal
 
-block : (c : goal.After-sent_near) → IsBlock 16 (λ i. bit_xor (received c.args.dropped.now c.args.bytes.now (c.args.from + (c.args.j + i))) (sent near c.args.nearer.now (c.args.j + i)))
+block : (c : goal.After-sent_near) → IsBlock 16 (λ i. bit_xor (received c.args.dropped.now c.args.bytes.now (c.args.from + (c.args.j + i)))
+    (sent near c.args.nearer.now (c.args.j + i)))
     (zip2 bit_xor c.received_at.result c.sent_near.result)
 block c =
     let j = c.args.j in

@@ -42,12 +42,14 @@ loop-k-preserved c =
       fits = λ i. subst (λ (l : List ℕ). get_or l i 0 < 2 ^ 8) (sym is)
           (block_fits 16 n (λ i. lane (400 + n + i)) xs block long room
           c.kept_at-block.ensures.sums
-          (λ i. kept_fits c.args.dropped.now ys c.args.bytes.now (from + (400 + n + i)) (400 + n + i) (λ i. omega (arith, c.fits-dropped i)) c.drop_kept-nearer.ensures.fits (λ i. omega (arith, c.type_inv.bytes i)))
+          (λ i. kept_fits c.args.dropped.now ys c.args.bytes.now (from + (400 + n + i)) (400 + n + i) (λ i. omega (arith, c.fits-dropped i))
+          c.drop_kept-nearer.ensures.fits (λ i. omega (arith, c.type_inv.bytes i)))
           before.fits i);
     }
 
 pub returns : goal.returns
 returns c =
     let nearer = c.drop_kept-nearer.ensures in
-    kept_left (λ j. received c.args.dropped.now c.args.bytes.now (c.args.from + j)) c.drop_kept-nearer.result c.loop-k.left (λ i. omega (arith, nearer.fits i)) nearer.none
+    kept_left (λ j. received c.args.dropped.now c.args.bytes.now (c.args.from + j)) c.drop_kept-nearer.result c.loop-k.left
+    (λ i. omega (arith, nearer.fits i)) nearer.none
     (λ j lt. nearer.sent j lt) nearer.end c.loop-k.invariant.sized c.loop-k.invariant.fits (λ j lt. c.loop-k.invariant.lasts j (omega arith))

@@ -5,7 +5,8 @@ use Rattle.btr_base.proofs.Lanes.{IsBlock, loaded, summed}
 use Rattle.btr_base.proofs.crc.fold.received_at.Given as given
 use Rattle.btr_base.proofs.crc.fold.received_at.Goals as goal
 
-block : (g : given.Over) (c : goal.After-sent_far g) → IsBlock g.row.N (λ i. received c.args.dropped.now c.args.bytes.now (c.args.j + i)) (zip2 bit_xor c.load.result c.sent_far.result)
+block : (g : given.Over) (c : goal.After-sent_far g) → IsBlock g.row.N (λ i. received c.args.dropped.now c.args.bytes.now (c.args.j + i))
+    (zip2 bit_xor c.load.result c.sent_far.result)
 block g c =
     let j = c.args.j in
     summed g.row.N (λ i. get_or c.args.bytes.now (j + i) 0) (λ i. sent far c.args.dropped.now (j + i)) c.load.result c.sent_far.result

@@ -13,7 +13,8 @@ loop-rest-init c =
     record {
       wide = c.requires.bytes;
       are_bytes = λ i. omega (arith, c.type_inv.bytes i);
-      same = begun c.args.start c.begin.new.dropped bytes (omega arith) (omega (arith, c.requires.bytes)) (λ i. omega (arith, c.type_inv.bytes i)) first.start first.zeros;
+      same = begun c.args.start c.begin.new.dropped bytes (omega arith) (omega (arith, c.requires.bytes)) (λ i. omega (arith, c.type_inv.bytes i))
+          first.start first.zeros;
     }
 
 pub loop-rest-preserved : goal.loop-rest-preserved

@@ -15,6 +15,7 @@ loop-rest-preserved c =
       are_bytes = left_fits rest 16 before.are_bytes;
       same =
           ap (register c.take_four-reg.result) (take_rest rest 16)
-          ∙ ap (λ reg. register reg (drop 16 rest)) (c.take_four-reg.ensures ∙ ap (λ (words : List ℕ). after 32 c.loop-rest.reg 4 (slice_index words)) c.four_at.ensures)
+          ∙ ap (λ reg. register reg (drop 16 rest)) (c.take_four-reg.ensures
+          ∙ ap (λ (words : List ℕ). after 32 c.loop-rest.reg 4 (slice_index words)) c.four_at.ensures)
           ∙ sym (register_words c.loop-rest.reg 4 rest before.register_lt c.loop-rest-test.true before.are_bytes) ∙ before.same;
     }

@@ -10,7 +10,8 @@ returns-in_err-chunk-clause-chunk c =
 pub returns-clause-chunk : goal.returns-clause-chunk
 returns-clause-chunk c =
     let index = c.self.invariant in
-    rw (← c.self.view_is) (sym (next_at-first c.self.inside.chunks c.args.addr c.in_ok-chunk.chunk.now index.chunks index.ordered index.few c.in_ok-chunk.ensures))
+    rw (← c.self.view_is) (sym (next_at-first c.self.inside.chunks c.args.addr c.in_ok-chunk.chunk.now index.chunks index.ordered index.few
+    c.in_ok-chunk.ensures))
 
 pub returns-clause-sound : goal.returns-clause-sound
 returns-clause-sound c =

@@ -9,7 +9,8 @@ returns-then-self-clause-steps g c =
 pub returns-clause-steps : goal.returns-clause-steps
 returns-clause-steps g c =
     sym c.self.view_is
-    ∙ more g.P.Part.part_at g.P.Part.end_of g.met.P.Part.ends_within c.self.inside.at c.place_behind-self-inside.result c.self.inside.body.now c.read_at-part.result
+    ∙ more g.P.Part.part_at g.P.Part.end_of g.met.P.Part.ends_within c.self.inside.at c.place_behind-self-inside.result c.self.inside.body.now
+    c.read_at-part.result
     c.self.invariant c.if-self.false c.read_at-part.ensures c.place_behind-self-inside.ensures
 
 pub returns-clause-goes : goal.returns-clause-goes

@@ -9,4 +9,5 @@ item_offset-requires c =
     omega (arith, leaf_fits block c.self.invariant.0 c.self.invariant.1, length-items block, ap length c.self.view_is)
 
 pub returns : goal.returns
-returns c = λ d. ap (λ (item : Item). item.offset) ((item_seen c.self.inside.block.now c.args.self.now c.self.view_is).at c.args.i d c.requires) ∙ sym c.item_offset.ensures
+returns c = λ d. ap (λ (item : Item). item.offset) ((item_seen c.self.inside.block.now c.args.self.now c.self.view_is).at c.args.i d c.requires)
+    ∙ sym c.item_offset.ensures

@@ -19,9 +19,11 @@ first_from-requires-clause-ascending c i j less within =
 pub returns-clause-before : goal.returns-clause-before
 returns-clause-before c =
     let block = c.self.inside.block.now in
-    All_seen-take (λ (item : Item). item.key) (entry_key 25 block) c.args.self.now (λ (key : Key). key_number key < key_number c.args.key) c.first_from.result (key_seen block c.args.self.now c.self.view_is) c.first_from.ensures.before
+    All_seen-take (λ (item : Item). item.key) (entry_key 25 block) c.args.self.now (λ (key : Key). key_number key < key_number c.args.key)
+    c.first_from.result (key_seen block c.args.self.now c.self.view_is) c.first_from.ensures.before
 
 pub returns-clause-behind : goal.returns-clause-behind
 returns-clause-behind c =
     let block = c.self.inside.block.now in
-    All_seen-drop (λ (item : Item). item.key) (entry_key 25 block) c.args.self.now (λ (key : Key). key_number c.args.key ≤ key_number key) c.first_from.result (key_seen block c.args.self.now c.self.view_is) (λ i behind within. c.first_from.ensures.behind i behind (omega arith))
+    All_seen-drop (λ (item : Item). item.key) (entry_key 25 block) c.args.self.now (λ (key : Key). key_number c.args.key ≤ key_number key)
+    c.first_from.result (key_seen block c.args.self.now c.self.view_is) (λ i behind within. c.first_from.ensures.behind i behind (omega arith))

@@ -21,16 +21,20 @@ pub returns-clause-none : goal.returns-clause-none
 returns-clause-none c =
     let block = c.self.inside.block.now in
     IfNone_then c.last_up_to.result c.last_up_to.ensures.none
-    (λ above. All_seen (λ (item : Item). item.key) (entry_key 25 block) c.args.self.now (λ (key : Key). key_number c.args.key < key_number key) (key_seen block c.args.self.now c.self.view_is) (λ i within. above i (omega arith)))
+    (λ above. All_seen (λ (item : Item). item.key) (entry_key 25 block) c.args.self.now (λ (key : Key). key_number c.args.key < key_number key)
+    (key_seen block c.args.self.now c.self.view_is) (λ i within. above i (omega arith)))
 
 pub returns-clause-before : goal.returns-clause-before
 returns-clause-before c =
     let block = c.self.inside.block.now in
     IfSome_then c.last_up_to.result c.last_up_to.ensures.before
-    (λ last upto. All_seen-take (λ (item : Item). item.key) (entry_key 25 block) c.args.self.now (λ (key : Key). key_number key ≤ key_number c.args.key) (last + 1) (key_seen block c.args.self.now c.self.view_is) (λ i below. upto i (omega arith)))
+    (λ last upto. All_seen-take (λ (item : Item). item.key) (entry_key 25 block) c.args.self.now
+    (λ (key : Key). key_number key ≤ key_number c.args.key) (last + 1) (key_seen block c.args.self.now c.self.view_is) (λ i below. upto i (omega arith)))
 
 pub returns-clause-behind : goal.returns-clause-behind
 returns-clause-behind c =
     let block = c.self.inside.block.now in
     IfSome_then c.last_up_to.result c.last_up_to.ensures.behind
-    (λ last above. All_seen-drop (λ (item : Item). item.key) (entry_key 25 block) c.args.self.now (λ (key : Key). key_number c.args.key < key_number key) (last + 1) (key_seen block c.args.self.now c.self.view_is) (λ i behind within. above i (omega arith) (omega arith)))
+    (λ last above. All_seen-drop (λ (item : Item). item.key) (entry_key 25 block) c.args.self.now
+    (λ (key : Key). key_number c.args.key < key_number key) (last + 1) (key_seen block c.args.self.now c.self.view_is)
+    (λ i behind within. above i (omega arith) (omega arith)))

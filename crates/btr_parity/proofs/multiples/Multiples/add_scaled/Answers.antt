@@ -10,7 +10,8 @@ loop-k-preserved c =
     let at : ℕ = 16 * c.loop-k.k in
     let next : at + 16 ≡ 16 * (c.loop-k.k + 1) = omega arith in
     over_lanes (λ x y. bit_xor x (product f y)) c.args.acc.now c.args.piece.now c.loop-k.acc _ at 16 _ c.requires c.loop-k.invariant next
-    (ap (zip2 bit_xor (chunk at 16 c.loop-k.acc)) c.times-lanes.ensures ∙ sym (zip2-map_right bit_xor (product f) (chunk at 16 c.loop-k.acc) (chunk at 16 c.args.piece.now)))
+    (ap (zip2 bit_xor (chunk at 16 c.loop-k.acc)) c.times-lanes.ensures
+    ∙ sym (zip2-map_right bit_xor (product f) (chunk at 16 c.loop-k.acc) (chunk at 16 c.args.piece.now)))
 
 pub loop-i-init : goal.loop-i-init
 loop-i-init c =
@@ -21,7 +22,8 @@ loop-i-init c =
 pub loop-i-preserved : goal.loop-i-preserved
 loop-i-preserved c =
     let f = c.args.self.now.factor in
-    over_step (λ x y. bit_xor x (product f y)) c.args.acc.now c.args.piece.now c.loop-i.acc c.loop-i.i _ c.requires (omega arith) c.loop-i.invariant (ap (bit_xor _) c.product.ensures)
+    over_step (λ x y. bit_xor x (product f y)) c.args.acc.now c.args.piece.now c.loop-i.acc c.loop-i.i _ c.requires (omega arith) c.loop-i.invariant
+    (ap (bit_xor _) c.product.ensures)
 
 pub returns : goal.returns
 returns c =

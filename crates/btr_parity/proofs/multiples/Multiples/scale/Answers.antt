@@ -11,7 +11,8 @@ loop-k-preserved c =
     let next : at + 16 ≡ 16 * (c.loop-k.k + 1) = omega arith in
     over_lanes (λ x y. product f x) c.args.slice.now c.args.slice.now c.loop-k.slice _ at 16 _ refl c.loop-k.invariant next
     (c.times-lanes.ensures ∙ sym (zip2_of_first (product f) (chunk at 16 c.loop-k.slice))
-    ∙ ap (λ b. zip2 (λ x y. product f x) (chunk at 16 c.loop-k.slice) b) (ap (chunk at 16) c.loop-k.invariant ∙ chunk-over (λ x y. product f x) at 16 c.args.slice.now c.args.slice.now refl))
+    ∙ ap (λ b. zip2 (λ x y. product f x) (chunk at 16 c.loop-k.slice) b)
+    (ap (chunk at 16) c.loop-k.invariant ∙ chunk-over (λ x y. product f x) at 16 c.args.slice.now c.args.slice.now refl))
 
 pub loop-i-init : goal.loop-i-init
 loop-i-init c =

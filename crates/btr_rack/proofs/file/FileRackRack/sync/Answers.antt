@@ -13,4 +13,5 @@ pub returns-clause-synced : goal.returns-clause-synced
 returns-clause-synced g c =
     same_seen _ _ _ _ _ _ _ (slots_set _ _ _ _ c.index_mut.ensures.value c.sync.ensures.slot)
     (c.without-self-2.ensures ∙ ap (λ (p : Place). in_others p.slot c.args.self.now.unsynced.places) c.of_slot-place.ensures)
-    (c.with_slot-self.ensures ∙ ap (λ (p : Place). c.args.self.now.never_synced.places ++ in_slot p.slot c.args.self.now.unsynced.places) c.of_slot-place.ensures)
+    (c.with_slot-self.ensures ∙ ap (λ (p : Place). c.args.self.now.never_synced.places ++ in_slot p.slot c.args.self.now.unsynced.places)
+    c.of_slot-place.ensures)

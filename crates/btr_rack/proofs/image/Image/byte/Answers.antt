@@ -10,7 +10,8 @@ returns-then-at-self c =
     let read = c.page_of.ensures (c.args.at % 4096) (omega arith) in
     let small : c.byte_of.result < 256 = omega (arith, c.byte_of.type_inv) in
     ap Some (byte_is c.byte_of.result _ small (c.byte_of.ensures ∙ read ∙ ap (kept_byte c.self.inside.pages.entries) whole))
-    ∙ sym (get_made (page_byte c.self.inside.pages.entries) 0 c.self.inside.len c.args.at c.if-at-self.true ∙ ap (λ k. Some (page_byte c.self.inside.pages.entries k)) (omega arith))
+    ∙ sym (get_made (page_byte c.self.inside.pages.entries) 0 c.self.inside.len c.args.at c.if-at-self.true
+    ∙ ap (λ k. Some (page_byte c.self.inside.pages.entries k)) (omega arith))
     ∙ ap (λ image. slice_get (bytes_in image) c.args.at) c.self.view_is
 
 pub returns-else-at-self : goal.returns-else-at-self

@@ -19,5 +19,6 @@ returns-in-Some c =
 pub returns-in-None : goal.returns-in-None
 returns-in-None c =
     let nowhere : None ≡ position (is_named c.args.name.now) c.self.inside.images.items = rw (← c.deref.ensures.value) c.in-None.ensures in
-    ap (λ found. option_and_then (λ bytes. slice_get bytes c.args.off) (option_map bytes_in found)) (sym (stands_nowhere c.args.name.now c.self.inside.images.items nowhere))
+    ap (λ found. option_and_then (λ bytes. slice_get bytes c.args.off) (option_map bytes_in found))
+    (sym (stands_nowhere c.args.name.now c.self.inside.images.items nowhere))
     ∙ ap (λ rack. option_and_then (λ bytes. slice_get bytes c.args.off) (named rack c.args.name.now)) c.self.view_is

@@ -20,8 +20,13 @@ returns-then-off-len c =
     let found = finds c.args.name.now c.self.inside.images.items c.in-Some.at c.index.result.now (stands_at c.args.name.now c.self.inside.images.items c.in-Some.at at) ∙ ap Some (sym c.index.ensures) in
     let past : c.index.result.now.slot.len < c.args.off + length c.args.bytes.now =
     elim c.then-off-len.branch [ then-off-len-via-then-off-len w ↦ omega arith | then-off-len-via-else-off-len+then-bytes-len w ↦ omega arith ] in
-    rw (← c.self.view_is)
-    (bytes_in c.index.result.now, ap (option_map bytes_in) found, omega (arith, past, length-map-range_with_len (page_byte c.index.result.now.pages) 0 c.index.result.now.slot.len), refl)
+    rw (← c.self.view_is) (
+      bytes_in c.index.result.now,
+      ap (option_map bytes_in) found,
+      omega
+          (arith, past, length-map-range_with_len (page_byte c.index.result.now.pages) 0 c.index.result.now.slot.len),
+      refl,
+    )
 
 pub returns-in_default-write_image : goal.returns-in_default-write_image
 returns-in_default-write_image c =
@@ -29,12 +34,17 @@ returns-in_default-write_image c =
     let old : MemoryRack = record { images = c.self.inside.images.items; opened = c.self.inside.opened; failing = c.self.inside.failing; unsynced = c.self.inside.unsynced.places; never_synced = c.self.inside.never_synced.places; account = c.self.inside.ledger } in
     let some = c.in_default-write_image.ensures in
     let sized : length some.0 ≡ length c.args.bytes.now = some.1 in
-    rw (← c.self.view_is)
-    (some.0, some.1, rewrites c.args.name.now c.args.off c.in-Some.at some.0 old c.write_image.new.images.items c.index.result.now at c.index.ensures (omega arith) some.2)
+    rw (← c.self.view_is) (
+      some.0,
+      some.1,
+      rewrites c.args.name.now c.args.off c.in-Some.at some.0 old c.write_image.new.images.items c.index.result.now at c.index.ensures
+          (omega arith) some.2,
+    )
 
 pub returns : goal.returns
 returns c =
     let at : Some c.in-Some.at ≡ position (is_named c.args.name.now) c.self.inside.images.items = rw (← c.deref.ensures.value) c.in-Some.ensures in
     let old : MemoryRack = record { images = c.self.inside.images.items; opened = c.self.inside.opened; failing = c.self.inside.failing; unsynced = c.self.inside.unsynced.places; never_synced = c.self.inside.never_synced.places; account = c.self.inside.ledger } in
     rw (← c.self.view_is)
-    (rewrites c.args.name.now c.args.off c.in-Some.at c.args.bytes.now old c.write_image.new.images.items c.index.result.now at c.index.ensures (omega arith) c.in-Ok.ensures)
+    (rewrites c.args.name.now c.args.off c.in-Some.at c.args.bytes.now old c.write_image.new.images.items c.index.result.now at c.index.ensures
+    (omega arith) c.in-Ok.ensures)

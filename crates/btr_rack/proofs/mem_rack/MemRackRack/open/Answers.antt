@@ -8,7 +8,8 @@ use Rattle.btr_rack.proofs.Racks.{opens, takes, on_shelf}
 use Rattle.btr_rack.proofs.Shelves.{shelf_at, shelf_nowhere}
 use Rattle.btr_rack.proofs.Sures.{unsure, call_struck}
 use Rattle.btr_rack.proofs.mem_rack.MemRackRack.open.Goals as goal
-use Rattle.btr_rack.proofs.mem_rack.MemRackRack.open.Goals.{in_default-place_on_shelf-via-in-Some+else-not-struck, in_default-place_on_shelf-via-in_default-place_on_shelf}
+use Rattle.btr_rack.proofs.mem_rack.MemRackRack.open.Goals.{in_default-place_on_shelf-via-in-Some+else-not-struck}
+use Rattle.btr_rack.proofs.mem_rack.MemRackRack.open.Goals.{in_default-place_on_shelf-via-in_default-place_on_shelf}
 
 pub returns-in-Some-clause-slots : goal.returns-in-Some-clause-slots
 returns-in-Some-clause-slots c =
@@ -16,7 +17,8 @@ returns-in-Some-clause-slots c =
     rw (← c.deref.ensures.value) c.in-Some.ensures in
     let placed = on_shelf _ _ c.in-Some.at answer in
     rw (← c.self.view_is)
-    (opens c.args.name.now c.args.write c.self.inside.images.items c.open_image.new.images.items c.self.inside.opened c.in-Some.at c.self.invariant placed.0 placed.1 c.open_image.ensures)
+    (opens c.args.name.now c.args.write c.self.inside.images.items c.open_image.new.images.items c.self.inside.opened c.in-Some.at c.self.invariant
+    placed.0 placed.1 c.open_image.ensures)
 
 pub returns-in-Some-clause-images : goal.returns-in-Some-clause-images
 returns-in-Some-clause-images c =
@@ -24,7 +26,8 @@ returns-in-Some-clause-images c =
     rw (← c.deref.ensures.value) c.in-Some.ensures in
     let placed = on_shelf _ _ c.in-Some.at answer in
     rw (← c.self.view_is)
-    (takes c.args.name.now c.args.write c.self.inside.images.items c.open_image.new.images.items c.self.inside.opened c.in-Some.at c.self.invariant placed.0 placed.1 c.open_image.ensures)
+    (takes c.args.name.now c.args.write c.self.inside.images.items c.open_image.new.images.items c.self.inside.opened c.in-Some.at c.self.invariant
+    placed.0 placed.1 c.open_image.ensures)
 
 pub returns-in-Some-clause-fails : goal.returns-in-Some-clause-fails
 returns-in-Some-clause-fails c =
@@ -45,7 +48,8 @@ returns-in_default-place_on_shelf-clause-fails c =
           let answer : None ≡ cond (list_any (is_named c.args.name.now) (take c.self.inside.opened c.self.inside.images.items)) None (position (is_named c.args.name.now) (drop c.self.inside.opened c.self.inside.images.items)) =
           rw (← c.deref.ensures.value) w.in_default-place_on_shelf.ensures in
           rw (← c.self.view_is)
-          (ap (λ shelved. call_strikes c.self.inside.failing || is_none shelved) (shelf_nowhere c.args.name.now c.self.inside.images.items c.self.inside.opened answer) ∙ or-true (call_strikes c.self.inside.failing))
+          (ap (λ shelved. call_strikes c.self.inside.failing || is_none shelved)
+          (shelf_nowhere c.args.name.now c.self.inside.images.items c.self.inside.opened answer) ∙ or-true (call_strikes c.self.inside.failing))
     ]
 
 pub returns-in_default-place_on_shelf-clause-sure : goal.returns-in_default-place_on_shelf-clause-sure

@@ -23,11 +23,13 @@ returns-then-struck-clause-rest c =
     let calm : is_calm c.self.inside.failing ≡ false =
     elim c.then-struck.branch [
       | then-struck-via-then-struck w ↦ write_struck c.self.inside.failing (sym c.write-struck.ensures.strikes ∙ w.if-struck.true)
-      | then-struck-via-else-struck+then-meets w ↦ sym (ap is_calm c.write-struck.ensures.writes) ∙ range_struck c.write-struck.new.self _ (sym w.meets.ensures ∙ w.if-meets.true)
+      | then-struck-via-else-struck+then-meets w ↦ sym (ap is_calm c.write-struck.ensures.writes)
+          ∙ range_struck c.write-struck.new.self _ (sym w.meets.ensures ∙ w.if-meets.true)
     ] in
     let old : MemoryRack = record { images = c.self.inside.images.items; opened = c.self.inside.opened; failing = c.self.inside.failing; unsynced = c.self.inside.unsynced.places; never_synced = c.self.inside.never_synced.places; account = c.self.inside.ledger } in
     let new : MemoryRack = record { images = c.tear_image.new.images.items; opened = c.self.inside.opened; failing = c.write-struck.new.self; unsynced = c.with-self-inside.result.places; never_synced = c.self.inside.never_synced.places; account = c.fail.new.self } in
-    rw (← c.self.view_is) (unsyncs (range_in c.args.slot c.args.off (length c.args.bytes.now)) old new left.2.slots (ap Some (λ i n. left.2.shelf n i)) c.with-self-inside.ensures refl (as_sure old new (ap is_calm c.write-struck.ensures.writes) (inl calm)))
+    rw (← c.self.view_is) (unsyncs (range_in c.args.slot c.args.off (length c.args.bytes.now)) old new left.2.slots
+    (ap Some (λ i n. left.2.shelf n i)) c.with-self-inside.ensures refl (as_sure old new (ap is_calm c.write-struck.ensures.writes) (inl calm)))
 
 pub returns-in_default-clause-held : goal.returns-in_default-clause-held
 returns-in_default-clause-held c =
@@ -45,7 +47,8 @@ returns-in_default-clause-rest c =
     let left = torn c.tear-tear.result c.self.inside.opened c.args.slot c.args.off (length c.args.bytes.now) c.self.inside.images.items c.tear_image.new.images.items c.tear_image.result front c.self.invariant range c.tear_image.ensures in
     let old : MemoryRack = record { images = c.self.inside.images.items; opened = c.self.inside.opened; failing = c.self.inside.failing; unsynced = c.self.inside.unsynced.places; never_synced = c.self.inside.never_synced.places; account = c.self.inside.ledger } in
     let new : MemoryRack = record { images = c.tear_image.new.images.items; opened = c.self.inside.opened; failing = c.write-struck.new.self; unsynced = c.with-self-inside.result.places; never_synced = c.self.inside.never_synced.places; account = c.self.inside.ledger } in
-    rw (← c.self.view_is) (unsyncs (range_in c.args.slot c.args.off (length c.args.bytes.now)) old new left.2.slots (ap Some (λ i n. left.2.shelf n i)) c.with-self-inside.ensures refl (as_sure old new (ap is_calm c.write-struck.ensures.writes) (inr refl)))
+    rw (← c.self.view_is) (unsyncs (range_in c.args.slot c.args.off (length c.args.bytes.now)) old new left.2.slots
+    (ap Some (λ i n. left.2.shelf n i)) c.with-self-inside.ensures refl (as_sure old new (ap is_calm c.write-struck.ensures.writes) (inr refl)))
 
 pub returns-in_default-write_image-clause-held : goal.returns-in_default-write_image-clause-held
 returns-in_default-write_image-clause-held c =
@@ -61,7 +64,8 @@ returns-in_default-write_image-clause-rest c =
     let left = partly c.self.inside.opened c.args.slot c.args.off (length c.args.bytes.now) c.self.inside.images.items c.write_image.new.images.items front c.self.invariant c.in_default-write_image.ensures in
     let old : MemoryRack = record { images = c.self.inside.images.items; opened = c.self.inside.opened; failing = c.self.inside.failing; unsynced = c.self.inside.unsynced.places; never_synced = c.self.inside.never_synced.places; account = c.self.inside.ledger } in
     let new : MemoryRack = record { images = c.write_image.new.images.items; opened = c.self.inside.opened; failing = c.write-struck.new.self; unsynced = c.with-self-inside.result.places; never_synced = c.self.inside.never_synced.places; account = c.self.inside.ledger } in
-    rw (← c.self.view_is) (unsyncs (range_in c.args.slot c.args.off (length c.args.bytes.now)) old new left.2.slots (ap Some (λ i n. left.2.shelf n i)) c.with-self-inside.ensures refl (as_sure old new (ap is_calm c.write-struck.ensures.writes) (inr refl)))
+    rw (← c.self.view_is) (unsyncs (range_in c.args.slot c.args.off (length c.args.bytes.now)) old new left.2.slots
+    (ap Some (λ i n. left.2.shelf n i)) c.with-self-inside.ensures refl (as_sure old new (ap is_calm c.write-struck.ensures.writes) (inr refl)))
 
 pub returns-clause-held : goal.returns-clause-held
 returns-clause-held c =
@@ -77,7 +81,8 @@ returns-clause-rest c =
     let left = overwritten c.self.inside.opened c.args.slot c.args.off c.args.bytes.now c.self.inside.images.items c.write_image.new.images.items front c.self.invariant c.in-Ok-write_image.ensures in
     let old : MemoryRack = record { images = c.self.inside.images.items; opened = c.self.inside.opened; failing = c.self.inside.failing; unsynced = c.self.inside.unsynced.places; never_synced = c.self.inside.never_synced.places; account = c.self.inside.ledger } in
     let new : MemoryRack = record { images = c.write_image.new.images.items; opened = c.self.inside.opened; failing = c.write-struck.new.self; unsynced = c.with-self-inside.result.places; never_synced = c.self.inside.never_synced.places; account = c.self.inside.ledger } in
-    rw (← c.self.view_is) (unsyncs (range_in c.args.slot c.args.off (length c.args.bytes.now)) old new left.slots (ap Some (λ i n. left.shelf n i)) c.with-self-inside.ensures refl (as_sure old new (ap is_calm c.write-struck.ensures.writes) (inr refl)))
+    rw (← c.self.view_is) (unsyncs (range_in c.args.slot c.args.off (length c.args.bytes.now)) old new left.slots (ap Some (λ i n. left.shelf n i))
+    c.with-self-inside.ensures refl (as_sure old new (ap is_calm c.write-struck.ensures.writes) (inr refl)))
 
 pub returns-then-struck-clause-torn : goal.returns-then-struck-clause-torn
 returns-then-struck-clause-torn c =
@@ -85,7 +90,8 @@ returns-then-struck-clause-torn c =
     open-front c.self.inside.images.items c.self.inside.opened c.args.slot (subst (λ rack. c.args.slot < length (slots_of rack)) (sym c.self.view_is) c.requires.open) in
     let tear : c.tear-tear.result ≡ c.self.inside.failing.tear = c.tear-tear.ensures ∙ ap (λ f. f.tear) c.write-struck.ensures.writes in
     rw (← c.self.view_is, ← tear)
-    (tears c.tear-tear.result c.self.inside.opened c.args.slot c.args.off (length c.args.bytes.now) c.self.inside.images.items c.tear_image.new.images.items c.in-Ok.field-0 front c.self.invariant c.in-Ok.ensures)
+    (tears c.tear-tear.result c.self.inside.opened c.args.slot c.args.off (length c.args.bytes.now) c.self.inside.images.items
+    c.tear_image.new.images.items c.in-Ok.field-0 front c.self.invariant c.in-Ok.ensures)
 
 pub returns-then-struck-clause-sure : goal.returns-then-struck-clause-sure
 returns-then-struck-clause-sure c =
@@ -93,6 +99,7 @@ returns-then-struck-clause-sure c =
     let calm : is_calm c.self.inside.failing ≡ false =
     elim c.then-struck.branch [
       | then-struck-via-then-struck w ↦ write_struck c.self.inside.failing (sym c.write-struck.ensures.strikes ∙ w.if-struck.true)
-      | then-struck-via-else-struck+then-meets w ↦ sym (ap is_calm c.write-struck.ensures.writes) ∙ range_struck c.write-struck.new.self _ (sym w.meets.ensures ∙ w.if-meets.true)
+      | then-struck-via-else-struck+then-meets w ↦ sym (ap is_calm c.write-struck.ensures.writes)
+          ∙ range_struck c.write-struck.new.self _ (sym w.meets.ensures ∙ w.if-meets.true)
     ] in
     rw (← c.self.view_is) (unsure old calm)

@@ -11,9 +11,11 @@ returns-then-is_on_older c =
     let slice = c.loop-slice.slice in
     let lt : slice < slice_count t = omega (arith, c.loop-slice-test.true, c.slice_count-slice-end.ensures.value) in
     sym (one_slice (is_on_older t) (reads_slice t.at.index c.args.candidate) (slice_count t) slice lt
-    (both (reads_slice t.at.index c.args.candidate slice) (is_on_older t (Slice slice)) (sym c.reads.ensures ∙ c.if-reads.true) (sym c.is_on_older.ensures ∙ c.if-is_on_older.true)))
+    (both (reads_slice t.at.index c.args.candidate slice) (is_on_older t (Slice slice)) (sym c.reads.ensures ∙ c.if-reads.true)
+    (sym c.is_on_older.ensures ∙ c.if-is_on_older.true)))
 
 pub returns : goal.returns
 returns c =
     let t = c.args.self.now in
-    sym (none_slice (is_on_older t) (reads_slice t.at.index c.args.candidate) (slice_count t) (λ s lt. c.loop-slice.invariant s (omega (arith, lt, c.loop-slice-test.false, c.slice_count-slice-end.ensures.value))))
+    sym (none_slice (is_on_older t) (reads_slice t.at.index c.args.candidate) (slice_count t)
+    (λ s lt. c.loop-slice.invariant s (omega (arith, lt, c.loop-slice-test.false, c.slice_count-slice-end.ensures.value))))

@@ -9,7 +9,8 @@ pub returns-then-lacks : goal.returns-then-lacks
 returns-then-lacks c =
     let t = c.args.self.now in
     let lt : c.loop-slice.slice < slice_count t = omega (arith, c.loop-slice-test.true, c.slice_count-slice-end.ensures.value) in
-    sym (one_lacks (λ part. is_some (range_of t part)) (reads_slice t.at.index c.args.candidate) (slice_count t) c.loop-slice.slice lt (sym c.lacks.ensures ∙ c.if-lacks.true))
+    sym (one_lacks (λ part. is_some (range_of t part)) (reads_slice t.at.index c.args.candidate) (slice_count t) c.loop-slice.slice lt
+    (sym c.lacks.ensures ∙ c.if-lacks.true))
 
 pub loop-slice-preserved : goal.loop-slice-preserved
 loop-slice-preserved c = λ s lt. elim (cases_lt s c.loop-slice.slice) [
@@ -23,4 +24,5 @@ loop-slice-preserved c = λ s lt. elim (cases_lt s c.loop-slice.slice) [
 pub returns : goal.returns
 returns c =
     let t = c.args.self.now in
-    sym (all_have (λ part. is_some (range_of t part)) (reads_slice t.at.index c.args.candidate) (slice_count t) (λ s lt. c.loop-slice.invariant s (omega (arith, lt, c.loop-slice-test.false, c.slice_count-slice-end.ensures.value))))
+    sym (all_have (λ part. is_some (range_of t part)) (reads_slice t.at.index c.args.candidate) (slice_count t)
+    (λ s lt. c.loop-slice.invariant s (omega (arith, lt, c.loop-slice-test.false, c.slice_count-slice-end.ensures.value))))

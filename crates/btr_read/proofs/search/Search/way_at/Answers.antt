@@ -7,7 +7,8 @@ use Rattle.btr_read.proofs.search.Search.way_at.Goals as goal
 
 pub returns-then-not-any_older : goal.returns-then-not-any_older
 returns-then-not-any_older c =
-    none_older_at c.args.self.now (ap (λ (t : Target). list_any is_older t.devices) (sym c.self.view_is) ∙ sym c.any_older.ensures ∙ c.if-not-any_older.true) c.args.k
+    none_older_at c.args.self.now (ap (λ (t : Target). list_any is_older t.devices) (sym c.self.view_is) ∙ sym c.any_older.ensures
+    ∙ c.if-not-any_older.true) c.args.k
 
 pub returns-in-Ok : goal.returns-in-Ok
 returns-in-Ok c = first_part c.args.self.now c.args.k c.in-Ok.way c.in-Ok.ensures

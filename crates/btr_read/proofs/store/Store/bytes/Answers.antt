@@ -10,7 +10,8 @@ bytes-requires c =
     let loans = ap (λ s. s.loans) c.self.view_is in
     let slot = ap (λ l. l.slot) c.loan.view_is in
     let live = subst (λ l. IsSome (get_or l c.args.loan.now.slot None)) (sym loans) c.requires.live in
-    live_of c.self.inside.pool c.loan.inside.slot c.self.invariant.store.whole (subst (λ k. IsSome (get_or (loans_of c.self.inside.pool) k None)) (sym slot) live)
+    live_of c.self.inside.pool c.loan.inside.slot c.self.invariant.store.whole
+    (subst (λ k. IsSome (get_or (loans_of c.self.inside.pool) k None)) (sym slot) live)
 
 pub returns-clause-value : goal.returns-clause-value
 returns-clause-value c =
@@ -18,7 +19,8 @@ returns-clause-value c =
     let slot = c.loan.inside.slot in
     let len = c.loan.inside.len in
     let held : IsSome (get_or (loans_of pool) slot None) =
-    subst (λ k. IsSome (get_or (loans_of pool) k None)) (sym (ap (λ l. l.slot) c.loan.view_is)) (subst (λ l. IsSome (get_or l c.args.loan.now.slot None)) (sym (ap (λ s. s.loans) c.self.view_is)) c.requires.live)
+    subst (λ k. IsSome (get_or (loans_of pool) k None)) (sym (ap (λ l. l.slot) c.loan.view_is))
+    (subst (λ l. IsSome (get_or l c.args.loan.now.slot None)) (sym (ap (λ s. s.loans) c.self.view_is)) c.requires.live)
     in
     let live : IsLive pool slot = live_of pool slot c.self.invariant.store.whole held in
     ap (λ s. block_of s c.args.loan.now) (sym c.self.view_is)

@@ -10,7 +10,8 @@ give-requires c =
     let loans = ap (λ s. s.loans) c.self.view_is in
     let slot = ap (λ l. l.slot) c.loan.view_is in
     let live = subst (λ l. IsSome (get_or l c.args.loan.slot None)) (sym loans) c.requires.live in
-    live_of c.self.inside.pool c.loan.inside.slot c.self.invariant.store.whole (subst (λ k. IsSome (get_or (loans_of c.self.inside.pool) k None)) (sym slot) live)
+    live_of c.self.inside.pool c.loan.inside.slot c.self.invariant.store.whole
+    (subst (λ k. IsSome (get_or (loans_of c.self.inside.pool) k None)) (sym slot) live)
 
 pub returns : goal.returns
 returns c =
@@ -21,5 +22,8 @@ returns c =
     let live = subst (λ l. IsSome (get_or l c.args.loan.slot None)) (sym loans) c.requires.live in
     live_of pool c.loan.inside.slot c.self.invariant.store.whole (subst (λ k. IsSome (get_or (loans_of pool) k None)) (sym slot) live)
     in
-    ap₂ (blocks c.self.inside.chunks c.self.inside.devices.items c.self.inside.setting) (ap loans_of c.give.ensures ∙ loans_of-with_free pool c.loan.inside.slot live ∙ ap (λ k. set (loans_of pool) k None) (ap (λ l. l.slot) c.loan.view_is)) (ap (λ p. kept_in c.self.inside.setting c.self.inside.kept.wants p.bytes) c.give.ensures)
+    ap₂ (blocks c.self.inside.chunks c.self.inside.devices.items c.self.inside.setting)
+    (ap loans_of c.give.ensures ∙ loans_of-with_free pool c.loan.inside.slot live
+    ∙ ap (λ k. set (loans_of pool) k None) (ap (λ l. l.slot) c.loan.view_is))
+    (ap (λ p. kept_in c.self.inside.setting c.self.inside.kept.wants p.bytes) c.give.ensures)
     ∙ ap (λ s. with_loan s c.args.loan.slot None) c.self.view_is

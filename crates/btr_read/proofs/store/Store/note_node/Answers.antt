@@ -16,5 +16,6 @@ invariant_of-self c =
     let noted = c.note_node.ensures.nodes ∙ ap (λ k. set s.kept.nodes k true) c.slot-slot.ensures in
     record {
       store = c.self.invariant.store;
-      known = nodes_noted s.kept.wants c.note_node.new.self.wants s.kept.nodes c.note_node.new.self.nodes s.pool.bytes s.setting.nodesize slot c.self.invariant.known c.note_node.ensures.wants noted whole;
+      known = nodes_noted s.kept.wants c.note_node.new.self.wants s.kept.nodes c.note_node.new.self.nodes s.pool.bytes s.setting.nodesize slot
+          c.self.invariant.known c.note_node.ensures.wants noted whole;
     }

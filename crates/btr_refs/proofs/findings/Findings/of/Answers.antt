@@ -15,10 +15,12 @@ use Rattle.btr_refs.proofs.Taking.{none_done}
 use Rattle.btr_refs.proofs.findings.Findings.of.Goals as goal
 
 pub take_once-requires : goal.take_once-requires
-take_once-requires c = subst (All IsKept) (sym c.deref_mut.ensures.value) (All-permutation IsKept c.args.runs.items c.sort_unstable_by_key.new.self.items c.sort_unstable_by_key.ensures.permutation c.requires.runs)
+take_once-requires c = subst (All IsKept) (sym c.deref_mut.ensures.value)
+    (All-permutation IsKept c.args.runs.items c.sort_unstable_by_key.new.self.items c.sort_unstable_by_key.ensures.permutation c.requires.runs)
 
 -- the runs as they are kept
-kept_is : (c : goal.In_ok-are_few) → take c.sort_unstable_by_key.new.self.len (c.take_once.new.runs ++ drop (length c.take_once.new.runs) c.sort_unstable_by_key.new.self.items) ≡ each_once no_run c.sort_unstable_by_key.new.self.items
+kept_is : (c : goal.In_ok-are_few) → take c.sort_unstable_by_key.new.self.len
+    (c.take_once.new.runs ++ drop (length c.take_once.new.runs) c.sort_unstable_by_key.new.self.items) ≡ each_once no_run c.sort_unstable_by_key.new.self.items
 kept_is c =
     let whole : take c.sort_unstable_by_key.new.self.len (c.take_once.new.runs ++ drop (length c.take_once.new.runs) c.sort_unstable_by_key.new.self.items) ≡ c.take_once.new.runs = grind (arith, common_steps) in
     whole ∙ c.take_once.ensures ∙ ap (each_once no_run) c.deref_mut.ensures.value

@@ -13,4 +13,5 @@ returns-in-Ok c = λ findings just.
     let all : c.in-Ok.single.items ≡ c.self.inside.single.keys = search rules in
     let same : in_order (c.in-Ok.single.items ++ runs_findings runs) ≡ in_order findings =
     ap (λ (l : List Finding). in_order (l ++ runs_findings runs)) all ∙ ap in_order c.self.view_is ∙ same_findings c.args.self findings just in
-    if_ok c.of.result (λ (list : List Finding). list ≡ in_order (c.in-Ok.single.items ++ runs_findings runs)) (λ (list : List Finding). list ≡ in_order findings) (λ list is. is ∙ same) c.of.ensures
+    if_ok c.of.result (λ (list : List Finding). list ≡ in_order (c.in-Ok.single.items ++ runs_findings runs))
+    (λ (list : List Finding). list ≡ in_order findings) (λ list is. is ∙ same) c.of.ensures

@@ -13,4 +13,5 @@ invariant_of-self-2 g c = (
 
 pub returns : goal.returns
 returns g c = subst (λ xs. OnOk c.grow.result (items_in c.make_room.new.full.items c.grow.new.items.items ≡ xs ++ c.args.item ∷ [])) c.self.view_is
-    (pushed_on c.make_room.new.full.items c.make_room.new.last.items c.grow.new.items.items (items_in c.self.inside.full.items c.self.inside.last.items) c.args.item c.grow.result c.in_ok-make_room.ensures.same c.grow.ensures.grown)
+    (pushed_on c.make_room.new.full.items c.make_room.new.last.items c.grow.new.items.items
+    (items_in c.self.inside.full.items c.self.inside.last.items) c.args.item c.grow.result c.in_ok-make_room.ensures.same c.grow.ensures.grown)

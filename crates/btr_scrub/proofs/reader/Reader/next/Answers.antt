@@ -8,47 +8,92 @@ use Rattle.btr_scrub.proofs.Reading.{addr_fits, at_end, at_last, at_next, at_tre
 use Rattle.btr_scrub.proofs.reader.Reader.next.Goals as goal
 
 pub returns-in_err-run : goal.returns-in_err-run
-returns-in_err-run c = gives_end c.args.self.now c.from_residual.result (sym c.self.view_is ∙ at_end c.self.inside.listed.now c.self.inside.run c.self.inside.past c.self.inside.sum c.self.inside.mark (sym c.run_at.ensures.run ∙ c.in_err-run.was)) c.from_residual.ensures
+returns-in_err-run c = gives_end c.args.self.now c.from_residual.result
+    (sym c.self.view_is ∙ at_end c.self.inside.listed.now c.self.inside.run c.self.inside.past c.self.inside.sum c.self.inside.mark
+    (sym c.run_at.ensures.run ∙ c.in_err-run.was)) c.from_residual.ensures
 
 pub returns-in_err-mark-in-TreeBlock : goal.returns-in_err-mark-in-TreeBlock
-returns-in_err-mark-in-TreeBlock c = absurd (some_mark c.self.inside.listed.now c.self.inside.run c.self.inside.past c.self.inside.sum c.self.inside.mark c.self.invariant c.in_ok-run.run' (sym c.run_at.ensures.run ∙ c.in_ok-run.was) c.in-TreeBlock.is (sym c.mark_at.ensures.mark ∙ c.in_err-mark-in-TreeBlock.was))
+returns-in_err-mark-in-TreeBlock c = absurd (some_mark c.self.inside.listed.now c.self.inside.run c.self.inside.past c.self.inside.sum
+    c.self.inside.mark c.self.invariant c.in_ok-run.run' (sym c.run_at.ensures.run ∙ c.in_ok-run.was) c.in-TreeBlock.is
+    (sym c.mark_at.ensures.mark ∙ c.in_err-mark-in-TreeBlock.was))
 
 pub overflow_add-self : goal.overflow_add-self
-overflow_add-self c = omega (arith, c.run_at.ensures.few, slice_get_within c.self.inside.listed.now.runs c.self.inside.run c.in_ok-run.run' (sym c.run_at.ensures.run ∙ c.in_ok-run.was))
+overflow_add-self c = omega (
+  arith,
+  c.run_at.ensures.few,
+  slice_get_within c.self.inside.listed.now.runs c.self.inside.run c.in_ok-run.run'
+      (sym c.run_at.ensures.run ∙ c.in_ok-run.was),
+)
 
 pub overflow_add-self-in-TreeBlock : goal.overflow_add-self-in-TreeBlock
-overflow_add-self-in-TreeBlock c = omega (arith, c.mark_at.ensures.few, slice_get_within c.self.inside.listed.now.marks c.self.inside.mark c.in_ok-mark-in-TreeBlock.mark (sym c.mark_at.ensures.mark ∙ c.in_ok-mark-in-TreeBlock.was))
+overflow_add-self-in-TreeBlock c = omega (
+  arith,
+  c.mark_at.ensures.few,
+  slice_get_within c.self.inside.listed.now.marks c.self.inside.mark
+      c.in_ok-mark-in-TreeBlock.mark (sym c.mark_at.ensures.mark ∙ c.in_ok-mark-in-TreeBlock.was),
+)
 
 pub invariant_of-self : goal.invariant_of-self
-invariant_of-self c = (at_tree c.self.inside.listed.now c.self.inside.run c.self.inside.past c.self.inside.sum c.self.inside.mark c.self.invariant c.in_ok-run.run' (sym c.run_at.ensures.run ∙ c.in_ok-run.was) c.in_ok-mark-in-TreeBlock.mark c.in-TreeBlock.is (sym c.mark_at.ensures.mark ∙ c.in_ok-mark-in-TreeBlock.was)).1
+invariant_of-self c = (at_tree c.self.inside.listed.now c.self.inside.run c.self.inside.past c.self.inside.sum c.self.inside.mark c.self.invariant
+    c.in_ok-run.run' (sym c.run_at.ensures.run ∙ c.in_ok-run.was) c.in_ok-mark-in-TreeBlock.mark c.in-TreeBlock.is
+    (sym c.mark_at.ensures.mark ∙ c.in_ok-mark-in-TreeBlock.was)).1
 
 pub sum_at-sum-requires : goal.sum_at-sum-requires
-sum_at-sum-requires c = some_sum c.self.inside.listed.now c.self.inside.run c.self.inside.past c.self.inside.sum c.self.inside.mark c.self.invariant c.in_ok-run.run' (sym c.run_at.ensures.run ∙ c.in_ok-run.was) c.in-Sectors.count c.in-Sectors.is
+sum_at-sum-requires c = some_sum c.self.inside.listed.now c.self.inside.run c.self.inside.past c.self.inside.sum c.self.inside.mark c.self.invariant
+    c.in_ok-run.run' (sym c.run_at.ensures.run ∙ c.in_ok-run.was) c.in-Sectors.count c.in-Sectors.is
 
 pub overflow_add-addr : goal.overflow_add-addr
-overflow_add-addr c = omega (arith, c.from.ensures, addr_fits c.self.inside.listed.now c.self.inside.run c.self.inside.past c.self.inside.sum c.self.inside.mark c.self.invariant c.in_ok-run.run' (sym c.run_at.ensures.run ∙ c.in_ok-run.was) c.in-Sectors.count c.in-Sectors.is)
+overflow_add-addr c = omega (
+  arith,
+  c.from.ensures,
+  addr_fits c.self.inside.listed.now c.self.inside.run c.self.inside.past c.self.inside.sum
+      c.self.inside.mark c.self.invariant c.in_ok-run.run' (sym c.run_at.ensures.run ∙ c.in_ok-run.was) c.in-Sectors.count c.in-Sectors.is,
+)
 
 pub returns-in_ok-mark-in-TreeBlock : goal.returns-in_ok-mark-in-TreeBlock
-returns-in_ok-mark-in-TreeBlock c = sym c.self.view_is ∙ (at_tree c.self.inside.listed.now c.self.inside.run c.self.inside.past c.self.inside.sum c.self.inside.mark c.self.invariant c.in_ok-run.run' (sym c.run_at.ensures.run ∙ c.in_ok-run.was) c.in_ok-mark-in-TreeBlock.mark c.in-TreeBlock.is (sym c.mark_at.ensures.mark ∙ c.in_ok-mark-in-TreeBlock.was)).0
+returns-in_ok-mark-in-TreeBlock c = sym c.self.view_is ∙ (at_tree c.self.inside.listed.now c.self.inside.run c.self.inside.past c.self.inside.sum
+    c.self.inside.mark c.self.invariant c.in_ok-run.run' (sym c.run_at.ensures.run ∙ c.in_ok-run.was) c.in_ok-mark-in-TreeBlock.mark c.in-TreeBlock.is
+    (sym c.mark_at.ensures.mark ∙ c.in_ok-mark-in-TreeBlock.was)).0
 
 pub behind-requires : goal.behind-requires
-behind-requires c = omega (arith, one_more c.self.inside.listed.now c.self.inside.run c.self.inside.past c.self.inside.sum c.self.inside.mark c.self.invariant c.in_ok-run.run' (sym c.run_at.ensures.run ∙ c.in_ok-run.was) c.in-Sectors.count c.in-Sectors.is)
+behind-requires c = omega (
+  arith,
+  one_more c.self.inside.listed.now c.self.inside.run c.self.inside.past c.self.inside.sum c.self.inside.mark
+      c.self.invariant c.in_ok-run.run' (sym c.run_at.ensures.run ∙ c.in_ok-run.was) c.in-Sectors.count c.in-Sectors.is,
+)
 
 pub invariant_of-self-in-None : goal.invariant_of-self-in-None
-invariant_of-self-in-None c = (at_last c.self.inside.listed.now c.self.inside.run c.self.inside.past c.self.inside.sum c.self.inside.mark c.self.invariant c.in_ok-run.run' (sym c.run_at.ensures.run ∙ c.in_ok-run.was) c.in-Sectors.count c.in-Sectors.is c.in-None.ensures c.size.result (c.size.ensures ∙ ap sum_size c.kind.ensures)).1
+invariant_of-self-in-None c = (at_last c.self.inside.listed.now c.self.inside.run c.self.inside.past c.self.inside.sum c.self.inside.mark
+    c.self.invariant c.in_ok-run.run' (sym c.run_at.ensures.run ∙ c.in_ok-run.was) c.in-Sectors.count c.in-Sectors.is c.in-None.ensures c.size.result
+    (c.size.ensures ∙ ap sum_size c.kind.ensures)).1
 
 pub invariant_of-self-in-Some : goal.invariant_of-self-in-Some
-invariant_of-self-in-Some c = subst (λ n. StandsIn c.self.inside.listed.now c.self.inside.run n (c.self.inside.sum + c.size.result) c.self.inside.mark) (sym c.in-Some.ensures.0) (at_next c.self.inside.listed.now c.self.inside.run c.self.inside.past c.self.inside.sum c.self.inside.mark c.self.invariant c.in_ok-run.run' (sym c.run_at.ensures.run ∙ c.in_ok-run.was) c.in-Sectors.count c.in-Sectors.is c.in-Some.ensures.1 c.size.result (c.size.ensures ∙ ap sum_size c.kind.ensures)).1
+invariant_of-self-in-Some c = subst (λ n. StandsIn c.self.inside.listed.now c.self.inside.run n (c.self.inside.sum + c.size.result)
+    c.self.inside.mark) (sym c.in-Some.ensures.0) (at_next c.self.inside.listed.now c.self.inside.run c.self.inside.past c.self.inside.sum
+    c.self.inside.mark c.self.invariant c.in_ok-run.run' (sym c.run_at.ensures.run ∙ c.in_ok-run.was) c.in-Sectors.count c.in-Sectors.is
+    c.in-Some.ensures.1 c.size.result (c.size.ensures ∙ ap sum_size c.kind.ensures)).1
 
 pub returns-in-None : goal.returns-in-None
 returns-in-None c =
-    sym c.self.view_is ∙ (at_last c.self.inside.listed.now c.self.inside.run c.self.inside.past c.self.inside.sum c.self.inside.mark c.self.invariant c.in_ok-run.run' (sym c.run_at.ensures.run ∙ c.in_ok-run.was) c.in-Sectors.count c.in-Sectors.is c.in-None.ensures c.size.result (c.size.ensures ∙ ap sum_size c.kind.ensures)).0
-    ∙ ap (λ a. Sector (c.in_ok-run.run'.addr + a * 4096) (stored_sum c.self.inside.listed.now.kind (drop c.self.inside.sum c.self.inside.listed.now.sums)) ∷ left_in c.self.inside.listed.now (c.self.inside.run + 1) 0 (c.self.inside.sum + c.size.result) c.self.inside.mark) (sym c.from.ensures)
-    ∙ ap (λ s. Sector (c.in_ok-run.run'.addr + c.from.result * 4096) s ∷ left_in c.self.inside.listed.now (c.self.inside.run + 1) 0 (c.self.inside.sum + c.size.result) c.self.inside.mark) (sym c.sum_at-sum.ensures.sum)
+    sym c.self.view_is ∙ (at_last c.self.inside.listed.now c.self.inside.run c.self.inside.past c.self.inside.sum c.self.inside.mark c.self.invariant
+    c.in_ok-run.run' (sym c.run_at.ensures.run ∙ c.in_ok-run.was) c.in-Sectors.count c.in-Sectors.is c.in-None.ensures c.size.result
+    (c.size.ensures ∙ ap sum_size c.kind.ensures)).0
+    ∙ ap (λ a. Sector (c.in_ok-run.run'.addr + a * 4096) (stored_sum c.self.inside.listed.now.kind
+    (drop c.self.inside.sum c.self.inside.listed.now.sums)) ∷ left_in c.self.inside.listed.now (c.self.inside.run + 1) 0
+    (c.self.inside.sum + c.size.result) c.self.inside.mark) (sym c.from.ensures)
+    ∙ ap (λ s. Sector (c.in_ok-run.run'.addr + c.from.result * 4096) s ∷ left_in c.self.inside.listed.now (c.self.inside.run + 1) 0
+    (c.self.inside.sum + c.size.result) c.self.inside.mark) (sym c.sum_at-sum.ensures.sum)
 
 pub returns-in-Some : goal.returns-in-Some
 returns-in-Some c =
-    sym c.self.view_is ∙ (at_next c.self.inside.listed.now c.self.inside.run c.self.inside.past c.self.inside.sum c.self.inside.mark c.self.invariant c.in_ok-run.run' (sym c.run_at.ensures.run ∙ c.in_ok-run.was) c.in-Sectors.count c.in-Sectors.is c.in-Some.ensures.1 c.size.result (c.size.ensures ∙ ap sum_size c.kind.ensures)).0
-    ∙ ap (λ n. Sector (c.in_ok-run.run'.addr + c.self.inside.past * 4096) (stored_sum c.self.inside.listed.now.kind (drop c.self.inside.sum c.self.inside.listed.now.sums)) ∷ left_in c.self.inside.listed.now c.self.inside.run n (c.self.inside.sum + c.size.result) c.self.inside.mark) (sym c.in-Some.ensures.0)
-    ∙ ap (λ a. Sector (c.in_ok-run.run'.addr + a * 4096) (stored_sum c.self.inside.listed.now.kind (drop c.self.inside.sum c.self.inside.listed.now.sums)) ∷ left_in c.self.inside.listed.now c.self.inside.run c.in-Some.past (c.self.inside.sum + c.size.result) c.self.inside.mark) (sym c.from.ensures)
-    ∙ ap (λ s. Sector (c.in_ok-run.run'.addr + c.from.result * 4096) s ∷ left_in c.self.inside.listed.now c.self.inside.run c.in-Some.past (c.self.inside.sum + c.size.result) c.self.inside.mark) (sym c.sum_at-sum.ensures.sum)
+    sym c.self.view_is ∙ (at_next c.self.inside.listed.now c.self.inside.run c.self.inside.past c.self.inside.sum c.self.inside.mark c.self.invariant
+    c.in_ok-run.run' (sym c.run_at.ensures.run ∙ c.in_ok-run.was) c.in-Sectors.count c.in-Sectors.is c.in-Some.ensures.1 c.size.result
+    (c.size.ensures ∙ ap sum_size c.kind.ensures)).0
+    ∙ ap (λ n. Sector (c.in_ok-run.run'.addr + c.self.inside.past * 4096)
+    (stored_sum c.self.inside.listed.now.kind (drop c.self.inside.sum c.self.inside.listed.now.sums)) ∷ left_in c.self.inside.listed.now
+    c.self.inside.run n (c.self.inside.sum + c.size.result) c.self.inside.mark) (sym c.in-Some.ensures.0)
+    ∙ ap (λ a. Sector (c.in_ok-run.run'.addr + a * 4096) (stored_sum c.self.inside.listed.now.kind
+    (drop c.self.inside.sum c.self.inside.listed.now.sums)) ∷ left_in c.self.inside.listed.now c.self.inside.run c.in-Some.past
+    (c.self.inside.sum + c.size.result) c.self.inside.mark) (sym c.from.ensures)
+    ∙ ap (λ s. Sector (c.in_ok-run.run'.addr + c.from.result * 4096) s ∷ left_in c.self.inside.listed.now c.self.inside.run c.in-Some.past
+    (c.self.inside.sum + c.size.result) c.self.inside.mark) (sym c.sum_at-sum.ensures.sum)

@@ -19,13 +19,18 @@ returns-then-u64_at-place c = sym (misplaced c.args.bytes.now c.args.place (sear
 pub returns-in-None : goal.returns-in-None
 returns-in-None c =
     ap (λ n. Err (SumKind n)) c.u16_at-csum_type.ensures
-    ∙ sym (other_kind c.args.bytes.now c.args.place (search rules) (sym c.u64_at.ensures ∙ c.if-u64_at-place.false) (kind_is c.args.bytes.now c.u16_at-csum_type.result c.from_type.result None c.u16_at-csum_type.ensures c.from_type.ensures c.in-None.is))
+    ∙ sym (other_kind c.args.bytes.now c.args.place (search rules) (sym c.u64_at.ensures ∙ c.if-u64_at-place.false)
+    (kind_is c.args.bytes.now c.u16_at-csum_type.result c.from_type.result None c.u16_at-csum_type.ensures c.from_type.ensures c.in-None.is))
 
 pub returns-in-Some : goal.returns-in-Some
 returns-in-Some c =
     ap Ok c.fields.ensures
-    ∙ sym (good c.args.bytes.now c.args.place (search rules) (sym c.u64_at.ensures ∙ c.if-u64_at-place.false) c.in-Some.kind (kind_is c.args.bytes.now c.u16_at-csum_type.result c.from_type.result (Some c.in-Some.kind) c.u16_at-csum_type.ensures c.from_type.ensures c.in-Some.is) (sym c.is_summed.ensures ∙ c.if-is_summed.true))
+    ∙ sym (good c.args.bytes.now c.args.place (search rules) (sym c.u64_at.ensures ∙ c.if-u64_at-place.false) c.in-Some.kind
+    (kind_is c.args.bytes.now c.u16_at-csum_type.result c.from_type.result (Some c.in-Some.kind) c.u16_at-csum_type.ensures c.from_type.ensures
+    c.in-Some.is) (sym c.is_summed.ensures ∙ c.if-is_summed.true))
 
 pub returns-in-Some-2 : goal.returns-in-Some-2
 returns-in-Some-2 c =
-    sym (no_sum c.args.bytes.now c.args.place (search rules) (sym c.u64_at.ensures ∙ c.if-u64_at-place.false) c.in-Some.kind (kind_is c.args.bytes.now c.u16_at-csum_type.result c.from_type.result (Some c.in-Some.kind) c.u16_at-csum_type.ensures c.from_type.ensures c.in-Some.is) (sym c.is_summed.ensures ∙ c.if-is_summed.false))
+    sym (no_sum c.args.bytes.now c.args.place (search rules) (sym c.u64_at.ensures ∙ c.if-u64_at-place.false) c.in-Some.kind
+    (kind_is c.args.bytes.now c.u16_at-csum_type.result c.from_type.result (Some c.in-Some.kind) c.u16_at-csum_type.ensures c.from_type.ensures
+    c.in-Some.is) (sym c.is_summed.ensures ∙ c.if-is_summed.false))

@@ -11,4 +11,6 @@ returns-in_err-flush-clause-text g c =
 pub returns-clause-text : goal.returns-clause-text
 returns-clause-text g c =
     let f = c.in_ok-flush.ensures in
-    writes_at_once (g.O.Out.text c.args.out.now) (g.O.Out.text c.flush.new.out) (g.O.Out.text c.put.new.self) c.args.self.now c.try_extend_from_slice.new.self.items c.args.bytes.now c.put.result f.text (ap (λ v. v.items) c.in-Err.ensures.err ∙ c.self.view_is ∙ f.empty) c.put.ensures.text
+    writes_at_once (g.O.Out.text c.args.out.now) (g.O.Out.text c.flush.new.out) (g.O.Out.text c.put.new.self) c.args.self.now
+    c.try_extend_from_slice.new.self.items c.args.bytes.now c.put.result f.text
+    (ap (λ v. v.items) c.in-Err.ensures.err ∙ c.self.view_is ∙ f.empty) c.put.ensures.text

@@ -15,7 +15,9 @@ returns-in_err-add-clause-text g c =
     let i = c.loop-b.b-index in
     let b = get_or bytes i 0 in
     cut_writes c.from_residual.result c.from_residual.ensures.0
-    (cut_as (bytes_text bytes) (sym (digits_around bytes i b c.loop-b-test.true refl)) (cut_longer (bytes_text (drop (i + 1) bytes)) (cut_then c.loop-b.invariant.text (cut_as (bytes_text (b ∷ [])) c.byte_digits.ensures c.in_err-add.ensures.text))))
+    (cut_as (bytes_text bytes) (sym (digits_around bytes i b c.loop-b-test.true refl))
+    (cut_longer (bytes_text (drop (i + 1) bytes)) (cut_then c.loop-b.invariant.text
+    (cut_as (bytes_text (b ∷ [])) c.byte_digits.ensures c.in_err-add.ensures.text))))
 
 pub loop-b-preserved : goal.loop-b-preserved
 loop-b-preserved g c =
@@ -23,6 +25,7 @@ loop-b-preserved g c =
     let i = c.loop-b.b-index in
     let b = get_or bytes i 0 in
     record {
-      text = wrote_as (bytes_text (take (i + 1) bytes)) (sym (digits_more bytes i b c.loop-b-test.true refl)) (wrote_then c.loop-b.invariant.text (wrote_as (bytes_text (b ∷ [])) c.byte_digits.ensures c.in_ok-add.ensures.text));
+      text = wrote_as (bytes_text (take (i + 1) bytes)) (sym (digits_more bytes i b c.loop-b-test.true refl))
+          (wrote_then c.loop-b.invariant.text (wrote_as (bytes_text (b ∷ [])) c.byte_digits.ensures c.in_ok-add.ensures.text));
       account = c.in_ok-add.ensures.account ∙ c.loop-b.invariant.account;
     }

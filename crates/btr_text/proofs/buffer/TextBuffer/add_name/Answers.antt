@@ -11,7 +11,8 @@ returns-in_err-add-clause-text g c =
     let i = c.loop-b.b-index in
     let is = c.as_slice.ensures ∙ c.show_byte-shown.ensures in
     cut_writes c.from_residual.result c.from_residual.ensures.0
-    (cut_as (name_text name) (sym (name_around name i (get_or name i 0) c.loop-b-test.true refl)) (cut_longer (name_text (drop (i + 1) name)) (cut_then c.loop-b.invariant.text (cut_as (shown (get_or name i 0)) is c.in_err-add.ensures.text))))
+    (cut_as (name_text name) (sym (name_around name i (get_or name i 0) c.loop-b-test.true refl))
+    (cut_longer (name_text (drop (i + 1) name)) (cut_then c.loop-b.invariant.text (cut_as (shown (get_or name i 0)) is c.in_err-add.ensures.text))))
 
 pub loop-b-preserved : goal.loop-b-preserved
 loop-b-preserved g c =
@@ -19,6 +20,7 @@ loop-b-preserved g c =
     let i = c.loop-b.b-index in
     let is = c.as_slice.ensures ∙ c.show_byte-shown.ensures in
     record {
-      text = wrote_as (name_text (take (i + 1) name)) (sym (name_more name i (get_or name i 0) c.loop-b-test.true refl)) (wrote_then c.loop-b.invariant.text (wrote_as (shown (get_or name i 0)) is c.in_ok-add.ensures.text));
+      text = wrote_as (name_text (take (i + 1) name)) (sym (name_more name i (get_or name i 0) c.loop-b-test.true refl))
+          (wrote_then c.loop-b.invariant.text (wrote_as (shown (get_or name i 0)) is c.in_ok-add.ensures.text));
       account = c.in_ok-add.ensures.account ∙ c.loop-b.invariant.account;
     }

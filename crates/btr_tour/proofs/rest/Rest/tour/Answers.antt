@@ -29,12 +29,14 @@ returns-in-Err-clause-content g c =
 
 pub returns-in-Ok-clause-taken : goal.returns-in-Ok-clause-taken
 returns-in-Ok-clause-taken g c =
-    taken_some c.args.self.now c.requires.fits c.in-Some.frame c.in-Some.is (g.R.Rack.seen c.read_kept.new.rack) c.args.store.now c.read_kept.new.store c.in-Ok.hand c.in-Ok.ensures.same c.in-Ok.ensures.lent c.in-Ok.ensures.serves
+    taken_some c.args.self.now c.requires.fits c.in-Some.frame c.in-Some.is (g.R.Rack.seen c.read_kept.new.rack) c.args.store.now
+    c.read_kept.new.store c.in-Ok.hand c.in-Ok.ensures.same c.in-Ok.ensures.lent c.in-Ok.ensures.serves
 
 pub returns-in-Ok-clause-content : goal.returns-in-Ok-clause-content
 returns-in-Ok-clause-content g c =
     let rest = c.args.self.now in
     let store = c.read_kept.new.store in
     let is = unread_by c.args.store.now.layout (g.R.Rack.seen c.args.rack.now) (g.R.Rack.seen c.read_kept.new.rack) in
-    drawn c.args.store.now.layout (λ B. IsLeafAgain is B c.in-Some.frame store (Ok c.in-Ok.hand)) (λ B. TakesUp is B rest store (Ok (taken rest c.requires.fits (Some c.in-Ok.hand))))
+    drawn c.args.store.now.layout (λ B. IsLeafAgain is B c.in-Some.frame store (Ok c.in-Ok.hand))
+    (λ B. TakesUp is B rest store (Ok (taken rest c.requires.fits (Some c.in-Ok.hand))))
     (λ B h. goes_on_some rest c.requires.fits c.in-Some.frame c.in-Some.is is B store c.in-Ok.hand c.in-Ok.ensures.same h) c.in-Ok.ensures.content

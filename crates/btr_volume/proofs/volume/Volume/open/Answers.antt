@@ -8,20 +8,23 @@ use Rattle.btr_read.specs.Comparing.{Compares}
 use Rattle.btr_read.specs.Layout.{Layout}
 use Rattle.btr_read.specs.Store.{Blocks, SameLoans, with_chunks}
 use Rattle.btr_volume.specs.Opening.{Opens, OpenCause, TableCause, ReadsTable, start_in}
-use Rattle.btr_volume.proofs.Opened.{same_seen, refused_early, told_early, refused_late, told_late, told_opened, told_diverged, diverged_cause, served_anew, passed}
+use Rattle.btr_volume.proofs.Opened.{same_seen, refused_early, told_early, refused_late, told_late, told_opened, told_diverged, diverged_cause, served_anew}
+use Rattle.btr_volume.proofs.Opened.{passed}
 use Rattle.btr_volume.proofs.volume.Volume.open.Goals as goal
 
 pub returns-in_err-volume-clause-cause : goal.returns-in_err-volume-clause-cause
 returns-in_err-volume-clause-cause g c =
     let old = g.R.Rack.seen c.args.rack.now in
     let new = g.R.Rack.seen c.prepare.new.rack in
-    passed (λ r. OpenCause old new r) c.from_residual.result c.in_err-volume.field-0.0 c.from_residual.ensures.1 (refused_early old new c.in_err-volume.field-0.0 Volume c.in_err-volume.ensures.cause)
+    passed (λ r. OpenCause old new r) c.from_residual.result c.in_err-volume.field-0.0 c.from_residual.ensures.1
+    (refused_early old new c.in_err-volume.field-0.0 Volume c.in_err-volume.ensures.cause)
 
 pub returns-in_err-volume-clause-content : goal.returns-in_err-volume-clause-content
 returns-in_err-volume-clause-content g c =
     let old = g.R.Rack.seen c.args.rack.now in
     let new = g.R.Rack.seen c.prepare.new.rack in
-    passed (λ r. IfSome old.held (λ images. Opens images old new r)) c.from_residual.result c.in_err-volume.field-0.0 c.from_residual.ensures.1 (told_early old new old.held c.in_err-volume.field-0.0 c.in_err-volume.ensures.content)
+    passed (λ r. IfSome old.held (λ images. Opens images old new r)) c.from_residual.result c.in_err-volume.field-0.0 c.from_residual.ensures.1
+    (told_early old new old.held c.in_err-volume.field-0.0 c.in_err-volume.ensures.content)
 
 pub returns-in_err-chunks-clause-cause : goal.returns-in_err-chunks-clause-cause
 returns-in_err-chunks-clause-cause g c =
@@ -32,7 +35,8 @@ returns-in_err-chunks-clause-cause g c =
     let layout = c.in_ok-volume.volume.store.layout in
     passed (λ r. OpenCause old new r) c.from_residual-in_err-chunks.result c.in_err-chunks.field-0.0 c.from_residual-in_err-chunks.ensures.1
     (refused_late old new (record { start = start_in c.in_ok-volume.volume; is = c.in_ok-volume.ensures.content })
-    c.in_err-chunks.field-0.0 (List Chunk) Volume (subst (λ (s : Seen). TableCause {T = List Chunk} layout s new (Err c.in_err-chunks.field-0.0)) same c.in_err-chunks.ensures.cause))
+    c.in_err-chunks.field-0.0 (List Chunk) Volume (subst (λ (s : Seen). TableCause {T = List Chunk} layout s new (Err c.in_err-chunks.field-0.0)) same
+    c.in_err-chunks.ensures.cause))
 
 pub returns-in_err-chunks-clause-content : goal.returns-in_err-chunks-clause-content
 returns-in_err-chunks-clause-content g c =
@@ -42,8 +46,11 @@ returns-in_err-chunks-clause-content g c =
     let same : mid ≡ old = same_seen old mid c.in_ok-volume.ensures.same c.in_ok-volume.ensures.cause in
     let volume = c.in_ok-volume.volume in
     let layout = volume.store.layout in
-    passed (λ r. IfSome old.held (λ images. Opens images old new r)) c.from_residual-in_err-chunks.result c.in_err-chunks.field-0.0 c.from_residual-in_err-chunks.ensures.1
-    (told_late old new volume old.held c.in_err-chunks.field-0.0 layout (List Chunk) (subst (λ (s : Seen). TableCause {T = List Chunk} layout s new (Err c.in_err-chunks.field-0.0)) same c.in_err-chunks.ensures.cause) c.in_ok-volume.ensures.content
+    passed (λ r. IfSome old.held (λ images. Opens images old new r)) c.from_residual-in_err-chunks.result c.in_err-chunks.field-0.0
+    c.from_residual-in_err-chunks.ensures.1
+    (told_late old new volume old.held c.in_err-chunks.field-0.0 layout (List Chunk)
+    (subst (λ (s : Seen). TableCause {T = List Chunk} layout s new (Err c.in_err-chunks.field-0.0)) same c.in_err-chunks.ensures.cause)
+    c.in_ok-volume.ensures.content
     (subst (λ (s : Seen). ReadsTable volume.sup layout s new (Err c.in_err-chunks.field-0.0)) same c.in_err-chunks.ensures.content))
 
 pub compare_candidates-requires-clause-serves : goal.compare_candidates-requires-clause-serves

@@ -6,7 +6,8 @@ use Rattle.btr_walk.proofs.Resting.{again_lent, some_in, tells_met, tells_unread
 use Rattle.btr_walk.proofs.rest.Rest.met_again.Goals as goal
 
 pub returns-in-Err-clause-content : goal.returns-in-Err-clause-content
-returns-in-Err-clause-content g c = tells_unread c.args.store.now.layout (g.R.Rack.seen c.args.rack.now) (g.R.Rack.seen c.read_leaf.new.rack) c.read_leaf.new.store c.args.self.now c.in-Some.frame c.in-Some.is c.in-Err.fault c.in-Err.ensures.content
+returns-in-Err-clause-content g c = tells_unread c.args.store.now.layout (g.R.Rack.seen c.args.rack.now) (g.R.Rack.seen c.read_leaf.new.rack)
+    c.read_leaf.new.store c.args.self.now c.in-Some.frame c.in-Some.is c.in-Err.fault c.in-Err.ensures.content
 
 pub returns-in-Ok-clause-lent : goal.returns-in-Ok-clause-lent
 returns-in-Ok-clause-lent g c =
@@ -18,5 +19,6 @@ returns-in-Ok-clause-content g c =
     let layout = c.args.store.now.layout in
     let before = g.R.Rack.seen c.args.rack.now in
     let now = g.R.Rack.seen c.read_leaf.new.rack in
-    subst (λ (m : MetAgain). Tells layout before now (λ B. IsMetAgain (unread_by layout before now) B c.args.self.now c.read_leaf.new.store (Ok m))) (sym c.met_in.ensures)
+    subst (λ (m : MetAgain). Tells layout before now (λ B. IsMetAgain (unread_by layout before now) B c.args.self.now c.read_leaf.new.store (Ok m)))
+    (sym c.met_in.ensures)
     (tells_met layout before now c.read_leaf.new.store c.args.self.now c.in-Some.frame c.in-Some.is c.in-Ok.hand c.in-Ok.ensures.same c.in-Ok.ensures.content)

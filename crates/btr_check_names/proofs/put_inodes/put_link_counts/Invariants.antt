@@ -1,0 +1,11 @@
+use Rattle.std.proofs.Common.{◌≡◌, ◌||◌, take}
+use Rattle.std.specs.List.{list_any}
+use Rattle.btr_refs.specs.Differences.{is_row}
+use Rattle.btr_refs.specs.Findings.{has}
+use Rattle.btr_refs.specs.declared.finding.Finding.{Finding}
+use Rattle.btr_check_names.specs.Names.{link_count}
+use Rattle.btr_check_names.proofs.put_inodes.put_link_counts.Given as goal
+
+-- what was found on those so far
+abbrev pub invariant-loop-at : goal.invariant-loop-at
+invariant-loop-at l = (one : Finding) → has l.found one ≡ (list_any (is_row (link_count l.tree l.refs) one) (take l.at-index l.inodes) || has l.fn.found one)

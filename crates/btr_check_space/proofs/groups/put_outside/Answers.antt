@@ -1,0 +1,33 @@
+use Rattle.std.proofs.Common.{◌≡◌, ◌+◌, ◌∷◌, [], get_or, None, ap, ◌∙◌, arith}
+use Rattle.std.specs.List.{list_any}
+use Rattle.btr_refs.specs.Findings.{unless, found}
+use Rattle.btr_refs.specs.declared.extent.Extent.{Extent}
+use Rattle.btr_check_space.specs.Cover.{is_held}
+use Rattle.btr_check_space.specs.Groups.{lies_in, outside_group}
+use Rattle.btr_check_space.specs.Orders.{group_stretch}
+use Rattle.btr_check_space.proofs.Prefixes.{any_map}
+use Rattle.btr_check_space.proofs.Put.{adds_row, unless_same}
+use Rattle.btr_check_space.proofs.groups.put_outside.Goals as goal
+
+abbrev nothing : Extent
+nothing = record { addr = 0; len = 0; refs = 0; flags = 0; level = None }
+
+pub loop-extent-preserved : goal.loop-extent-preserved
+loop-extent-preserved c =
+    let groups = c.args.groups.now in
+    let cover = c.in_ok-cover.cover in
+    let extents = c.args.extents.now in
+    let i = c.loop-extent.extent-index in
+    let extent : Extent = get_or extents i nothing in
+    let start : c.from-start.result ≡ extent.addr = c.from-start.ensures in
+    let end : c.from-start.result + c.from.result ≡ extent.addr + extent.len = omega arith in
+    let tests : c.holds-is_kept.result ≡ list_any (lies_in extent) groups =
+    c.holds-is_kept.ensures
+    ∙ ap (λ n. list_any (is_held n (c.from-start.result + c.from.result)) cover) start
+    ∙ ap (λ n. list_any (is_held extent.addr n) cover) end
+    ∙ c.in_ok-cover.ensures extent.addr (extent.addr + extent.len)
+    ∙ any_map (is_held extent.addr (extent.addr + extent.len)) group_stretch groups in
+    adds_row (outside_group groups) extents i nothing c.args.found.now c.loop-extent.found c.put_unless.new.found
+    (unless c.holds-is_kept.result c.row.result) c.loop-extent-test.true
+    (unless_same c.holds-is_kept.result (list_any (lies_in extent) groups) c.row.result (found 5 (extent.addr ∷ extent.len ∷ [])) tests c.row.ensures)
+    c.loop-extent.invariant c.in_ok-put_unless.ensures

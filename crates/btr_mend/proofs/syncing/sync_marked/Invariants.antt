@@ -1,5 +1,0 @@
-use Rattle.btr_mend.proofs.Syncs.{SyncedSoFar}
-use Rattle.btr_mend.proofs.syncing.sync_marked.Given as goal
-
-abbrev pub invariant-loop-slot : goal.invariant-loop-slot
-invariant-loop-slot g l = SyncedSoFar l.initial.marks l.marks l.slot (g.R.Rack.seen l.initial.rack) (g.R.Rack.seen l.rack)

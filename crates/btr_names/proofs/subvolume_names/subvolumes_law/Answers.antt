@@ -1,5 +1,0 @@
-use Rattle.btr_names.proofs.Meeting as meeting
-use Rattle.btr_names.proofs.subvolume_names.subvolumes_law.Goals as goal
-
-pub returns : goal.returns
-returns c = meeting.subvolumes_law

@@ -1,5 +1,0 @@
-use Rattle.btr_names.proofs.Meeting as meeting
-use Rattle.btr_names.proofs.tree_names.names_law.Goals as goal
-
-pub returns : goal.returns
-returns c = meeting.names_law

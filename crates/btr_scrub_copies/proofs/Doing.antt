@@ -1,0 +1,252 @@
+-- Reads and writes one after another.
+use Rattle.std.proofs.Common.{◌≡◌, ◌⊎◌, ℕ, Bool, List, [], ◌∷◌, ◌++◌, All, IfSome, IsSomeAnd, Option, Some, None, Result, Ok, Err, get_or, refl, sym, ap, ◌∙◌}
+use Rattle.std.proofs.Common.{subst, inl, inr, arith, append_assoc, append-nil}
+use Rattle.std.specs.Prelude.{fold}
+use Rattle.std.proofs.lemmas.List.Elements.{All-append, All-nil}
+use Rattle.btr_rack.specs.Rack.{NoneFailed, OnlyReads, Seen}
+use Rattle.btr_rack.specs.declared.place.Place.{Place as Range}
+use Rattle.btr_read.proofs.Keeping.{none_more, one_after}
+use Rattle.btr_read.proofs.ReadsOn.{same_held, same_sure}
+use Rattle.btr_read.proofs.Ones.{in_either, in_left, in_right}
+use Rattle.btr_scrub_copies.specs.Writes.{AccountsMend, AreAmong, Does, FailsAt, Images, In, IsMarked, IsStopped, IsTorn, Leaves, Marks, OnlyWrites, Write}
+use Rattle.btr_scrub_copies.specs.Writes.{ranges_of, write_on}
+use Rattle.btr_scrub_copies.specs.declared.mended.MendFault.{MendFault}
+use Rattle.btr_scrub_copies.specs.declared.mended.MendFault.TheVariants.{Image, Memory}
+
+-- ---- images
+
+fold-append : (images : Images) (ws vs : List Write) → fold write_on images (ws ++ vs) ≡ fold write_on (fold write_on images ws) vs
+fold-append images [] vs = refl
+fold-append images (w ∷ ws) vs = fold-append (write_on images w) ws vs
+
+torn_at : (behind : List Write) (old old' new : Images) → old ≡ old' → IsTorn behind old new → IsTorn behind old' new
+torn_at behind old old' new e t = subst (λ o. IsTorn behind o new) e t
+
+-- stopped behind some writes
+stopped_behind : (ws vs : List Write) (images new : Images) → IsStopped vs (fold write_on images ws) new → IsStopped (ws ++ vs) images new
+stopped_behind ws vs images new h = record {
+  before = ws ++ h.before;
+  behind = h.behind;
+  place = ap (λ q. ws ++ q) h.place ∙ sym (append_assoc ws h.before h.behind);
+  stands = elim h.stands as (λ _. (new ≡ fold write_on images (ws ++ h.before)) ⊎ IsTorn h.behind (fold write_on images (ws ++ h.before)) new) [
+    | inl e ↦ inl (e ∙ sym (fold-append images ws h.before))
+    | inr t ↦ inr (torn_at h.behind (fold write_on (fold write_on images ws) h.before) (fold write_on images (ws ++ h.before)) new
+        (sym (fold-append images ws h.before)) t)
+  ];
+}
+
+torn_more : (behind vs : List Write) (old new : Images) → IsTorn behind old new → IsTorn (behind ++ vs) old new
+torn_more [] vs old new t = absurd t
+torn_more (w ∷ behind) vs old new t = t
+
+-- others were to come
+stopped_before : (ws vs : List Write) (images new : Images) → IsStopped ws images new → IsStopped (ws ++ vs) images new
+stopped_before ws vs images new h = record {
+  before = h.before;
+  behind = h.behind ++ vs;
+  place = ap (λ q. q ++ vs) h.place ∙ append_assoc h.before h.behind vs;
+  stands = elim h.stands as (λ _. (new ≡ fold write_on images h.before) ⊎ IsTorn (h.behind ++ vs) (fold write_on images h.before) new) [
+    | inl e ↦ inl e
+    | inr t ↦ inr (torn_more h.behind vs (fold write_on images h.before) new t)
+  ];
+}
+
+-- nothing was written
+pub stopped_first : (ws : List Write) (images : Images) → IsStopped ws images images
+stopped_first ws images = record { before = []; behind = ws; place = refl; stands = inl refl }
+
+some_and : {X : Type 0} (P Q : X → Type 0) (o : Option X) → ((x : X) → P x → Q x) → IsSomeAnd o P → IsSomeAnd o Q
+some_and P Q None f h = h
+some_and P Q (Some x) f h = f x h
+
+leaves_then : (A U : Type 0) (ws vs : List Write) (a b c : Option Images) (u : U) (r : Result A MendFault)
+    → Leaves {A = U} {E = MendFault} (λ i. ws) a b (Ok u) → Leaves (λ i. vs) b c r → Leaves (λ i. ws ++ vs) a c r
+leaves_then A U ws vs None b c u r h g = subst (λ o. Leaves (λ i. vs) o c r) h g
+leaves_then A U ws vs (Some images) b c u (Ok x) h g =
+    let later : c ≡ Some (fold write_on (fold write_on images ws) vs) = subst (λ o. Leaves {A = A} {E = MendFault} (λ i. vs) o c (Ok x)) h g in
+    later ∙ ap Some (sym (fold-append images ws vs))
+leaves_then A U ws vs (Some images) b c u (Err e) h g =
+    some_and (IsStopped vs (fold write_on images ws)) (IsStopped (ws ++ vs) images) c (λ new s. stopped_behind ws vs images new s)
+    (subst (λ o. Leaves {A = A} {E = MendFault} (λ i. vs) o c (Err e)) h g)
+
+leaves_halt : (A B : Type 0) (ws vs : List Write) (a b : Option Images) (e : MendFault) → Leaves {A = A} (λ i. ws) a b (Err e)
+    → Leaves {A = B} (λ i. ws ++ vs) a b (Err e)
+leaves_halt A B ws vs None b e h = h
+leaves_halt A B ws vs (Some images) b e h = some_and (IsStopped ws images) (IsStopped (ws ++ vs) images) b (λ new s. stopped_before ws vs images new s) h
+
+-- the same writes, said otherwise, and another value
+leaves_as : {A B : Type 0} (f g : Images → List Write) (a b : Option Images) (x : A) (y : B)
+    → ((images : Images) → a ≡ Some images → f images ≡ g images) → Leaves {A = A} {E = MendFault} f a b (Ok x) → Leaves {A = B} {E = MendFault} g a b (Ok y)
+leaves_as f g None b x y e h = h
+leaves_as f g (Some images) b x y e h = h ∙ ap (λ ws. Some (fold write_on images ws)) (e images refl)
+
+leaves_as_halt : (A B : Type 0) (f g : Images → List Write) (a b : Option Images) (x : MendFault)
+    → ((images : Images) → a ≡ Some images → f images ≡ g images) → Leaves {A = A} f a b (Err x) → Leaves {A = B} g a b (Err x)
+leaves_as_halt A B f g None b x e h = h
+leaves_as_halt A B f g (Some images) b x e h = some_and (IsStopped (f images) images) (IsStopped (g images) images) b
+    (λ new s. subst (λ ws. IsStopped ws images new) (e images refl) s) h
+
+leaves_none : {A : Type 0} (a b : Option Images) (x : A) → b ≡ a → Leaves {A = A} {E = MendFault} (λ i. []) a b (Ok x)
+leaves_none None b x e = e
+leaves_none (Some images) b x e = e
+
+leaves_failed : (A : Type 0) (f : Images → List Write) (a b : Option Images) (x : MendFault) → b ≡ a → Leaves {A = A} f a b (Err x)
+leaves_failed A f None b x e = e
+leaves_failed A f (Some images) b x e = subst (λ o. IsSomeAnd o (IsStopped (f images) images)) (sym e) (stopped_first (f images) images)
+
+-- ---- the ranges of writes
+
+pub ranges-append : (ws vs : List Write) → ranges_of (ws ++ vs) ≡ ranges_of ws ++ ranges_of vs
+ranges-append [] vs = refl
+ranges-append (w ∷ ws) vs = ap (λ rs. w.range ∷ rs) (ranges-append ws vs)
+
+-- a range of the first writes, and one of those behind them, is one of all
+pub range_before : (ws vs : List Write) (range : Range) → In range (ranges_of ws) → In range (ranges_of (ws ++ vs))
+range_before ws vs range i = subst (In range) (sym (ranges-append ws vs)) (in_left range (ranges_of ws) (ranges_of vs) i)
+
+pub range_behind : (ws vs : List Write) (range : Range) → In range (ranges_of vs) → In range (ranges_of (ws ++ vs))
+range_behind ws vs range i = subst (In range) (sym (ranges-append ws vs)) (in_right range (ranges_of ws) (ranges_of vs) i)
+
+-- no range is among any
+pub own_none : (held : Option Images) (f : Images → List Write) → IfSome held (λ images. AreAmong {X = Range} [] (ranges_of (f images)))
+own_none None f = tt
+own_none (Some images) f = λ range i. absurd i
+
+own_then : {U : Type 0} (ws vs : List Write) (rs qs : List Range) (a b : Option Images) (u : U) → Leaves {A = U} {E = MendFault} (λ i. ws) a b (Ok u)
+    → IfSome a (λ i. AreAmong rs (ranges_of ws)) → IfSome b (λ i. AreAmong qs (ranges_of vs)) → IfSome a (λ i. AreAmong (rs ++ qs) (ranges_of (ws ++ vs)))
+own_then ws vs rs qs None b u left h g = tt
+own_then ws vs rs qs (Some images) b u left h g = λ range i. elim (in_either range rs qs i) [
+  | inl j ↦ range_before ws vs range (h range j)
+  | inr j ↦ range_behind ws vs range (subst (λ o. IfSome o (λ i. AreAmong qs (ranges_of vs))) left g range j)
+]
+
+own_halt : (ws vs : List Write) (rs : List Range) (a : Option Images) → IfSome a (λ i. AreAmong rs (ranges_of ws))
+    → IfSome a (λ i. AreAmong rs (ranges_of (ws ++ vs)))
+own_halt ws vs rs None h = tt
+own_halt ws vs rs (Some images) h = λ range i. range_before ws vs range (h range i)
+
+own_as : (f g : Images → List Write) (rs : List Range) (a : Option Images) → ((images : Images) → a ≡ Some images → f images ≡ g images)
+    → IfSome a (λ i. AreAmong rs (ranges_of (f i))) → IfSome a (λ i. AreAmong rs (ranges_of (g i)))
+own_as f g rs None e h = tt
+own_as f g rs (Some images) e h = subst (λ ws. AreAmong rs (ranges_of ws)) (e images refl) h
+
+-- ---- racks
+
+only_then : {a b c : Seen} (rs qs : List Range) → OnlyWrites rs a b → OnlyWrites qs b c → OnlyWrites (rs ++ qs) a c
+only_then {a = a} {b = b} {c = c} rs qs h g = record {
+  same = g.same ∙ ap (λ (s : Seen). record s { held = c.held; unsynced = s.unsynced ++ qs; account = c.account }) h.same ∙ ap (λ u. record a { held = c.held; unsynced = u; account = c.account }) (append_assoc a.unsynced rs qs);
+  later = omega (arith, h.later, g.later);
+  same_shut = g.same_shut ∙ h.same_shut;
+}
+
+-- reading writes nothing
+pub only_reads : {a b : Seen} → OnlyReads a b → OnlyWrites [] a b
+only_reads {a = a} {b = b} h = record {
+  same = h.same ∙ ap (λ u. record a { held = a.held; unsynced = u; account = b.account }) (sym (append-nil a.unsynced)) ∙ ap (λ o. record a { held = o; unsynced = a.unsynced ++ []; account = b.account }) (sym (ap (λ (s : Seen). s.held) h.same));
+  later = h.later;
+  same_shut = h.same_shut;
+}
+
+pub only_slots : {a b : Seen} (rs : List Range) → OnlyWrites rs a b → b.slots ≡ a.slots
+only_slots rs h = ap (λ (s : Seen). s.slots) h.same
+
+only_sure : {a b : Seen} (rs : List Range) → OnlyWrites rs a b → b.sure ≡ a.sure
+only_sure rs h = ap (λ (s : Seen). s.sure) h.same
+
+marks_none : (marks : List Bool) → Marks [] marks marks
+marks_none marks = record { added = All-nil (λ (r : Range). IsMarked marks r.slot); kept = λ slot m. m }
+
+weaker : (P Q : Range → Type 0) (rs : List Range) → ((r : Range) → P r → Q r) → All P rs → All Q rs
+weaker P Q rs f all k d lt = f (get_or rs k d) (all k d lt)
+
+marks_then : (rs qs : List Range) (a b c : List Bool) → Marks rs a b → Marks qs b c → Marks (rs ++ qs) a c
+marks_then rs qs a b c h g = record {
+  added = All-append (λ (r : Range). IsMarked c r.slot) rs qs
+      (weaker (λ r. IsMarked b r.slot) (λ r. IsMarked c r.slot) rs (λ r m. g.kept r.slot m) h.added) g.added;
+  kept = λ slot m. g.kept slot (h.kept slot m);
+}
+
+-- an image failed behind calls that did not
+pub fails_after : (P : Range → Type 0) (slot : ℕ) (a b c : Seen) → b.sure ≡ a.sure → NoneFailed a.account b.account → FailsAt P slot b c → FailsAt P slot a c
+fails_after P slot a b c sure none f = record { place = f.place; failed = one_after f.place a b c sure none f.failed; on_slot = f.on_slot; lies = f.lies }
+
+pub account_then : {A : Type 0} (P : Range → Type 0) (a b c : Seen) (r : Result A MendFault) → b.sure ≡ a.sure → NoneFailed a.account b.account
+    → AccountsMend P b c r → AccountsMend P a c r
+account_then P a b c (Ok x) sure none h = none_more a.account b.account c.account none h
+account_then P a b c (Err (Image slot)) sure none h = fails_after P slot a b c sure none h
+account_then P a b c (Err Memory) sure none h = none_more a.account b.account c.account none h
+
+account_halt : (A B : Type 0) (P : Range → Type 0) (a b : Seen) (f : MendFault) → AccountsMend {A = A} P a b (Err f) → AccountsMend {A = B} P a b (Err f)
+account_halt A B P a b (Image slot) h = h
+account_halt A B P a b Memory h = h
+
+module _ (P : Range → Type 0) where
+  -- nothing was done, or only reading
+  pub does_reads : {A : Type 0} (marks : List Bool) (a b : Seen) (x : A) → OnlyReads a b → NoneFailed a.account b.account
+      → Does P (λ i. []) marks marks a b (Ok x)
+  does_reads marks a b x reads none = record {
+    ranges = [];
+    only = only_reads reads;
+    own = own_none a.held (λ i. []);
+    marked = marks_none marks;
+    held = leaves_none a.held b.held x (ap (λ (s : Seen). s.held) reads.same);
+    account = none;
+  }
+
+  pub does_nothing : (marks : List Bool) (a : Seen) → Does {A = Unit {0}} P (λ i. []) marks marks a a (Ok tt)
+  does_nothing marks a = does_reads marks a a tt (record { same = refl; later = omega arith; same_shut = refl }) (record { faults = refl; fresh = refl; missed = refl; last = refl; opening = refl; shut = refl })
+
+  -- a read failed
+  pub does_failed : (A B : Type 0) (f : Images → List Write) (marks : List Bool) (a b : Seen) (x : MendFault) → OnlyReads a b
+      → AccountsMend {A = B} P a b (Err x) → Does {A = A} P f marks marks a b (Err x)
+  does_failed A B f marks a b x reads account = record {
+    ranges = [];
+    only = only_reads reads;
+    own = own_none a.held f;
+    marked = marks_none marks;
+    held = leaves_failed A f a.held b.held x (ap (λ (s : Seen). s.held) reads.same);
+    account = account_halt B A P a b x account;
+  }
+
+  pub does_then : (A U : Type 0) (ws vs : List Write) (m n o : List Bool) (a b c : Seen) (u : U) (r : Result A MendFault)
+      → Does P (λ i. ws) m n a b (Ok u) → Does P (λ i. vs) n o b c r → Does P (λ i. ws ++ vs) m o a c r
+  does_then A U ws vs m n o a b c u r h g = record {
+    ranges = h.ranges ++ g.ranges;
+    only = only_then h.ranges g.ranges h.only g.only;
+    own = own_then ws vs h.ranges g.ranges a.held b.held u h.held h.own g.own;
+    marked = marks_then h.ranges g.ranges m n o h.marked g.marked;
+    held = leaves_then A U ws vs a.held b.held c.held u r h.held g.held;
+    account = account_then P a b c r (only_sure h.ranges h.only) h.account g.account;
+  }
+
+  pub does_halt : (A B : Type 0) (ws vs : List Write) (m n : List Bool) (a b : Seen) (e : MendFault) → Does {A = A} P (λ i. ws) m n a b (Err e)
+      → Does {A = B} P (λ i. ws ++ vs) m n a b (Err e)
+  does_halt A B ws vs m n a b e h = record {
+    ranges = h.ranges;
+    only = h.only;
+    own = own_halt ws vs h.ranges a.held h.own;
+    marked = h.marked;
+    held = leaves_halt A B ws vs a.held b.held e h.held;
+    account = account_halt A B P a b e h.account;
+  }
+
+  -- the same writes, said otherwise
+  pub does_as : {A B : Type 0} (f g : Images → List Write) (m n : List Bool) (a b : Seen) (x : A) (y : B)
+      → ((images : Images) → a.held ≡ Some images → f images ≡ g images) → Does P f m n a b (Ok x) → Does P g m n a b (Ok y)
+  does_as f g m n a b x y e h = record { ranges = h.ranges; only = h.only; own = own_as f g h.ranges a.held e h.own; marked = h.marked; held = leaves_as f g a.held b.held x y e h.held; account = h.account }
+
+  pub does_as_halt : (A B : Type 0) (f g : Images → List Write) (m n : List Bool) (a b : Seen) (x : MendFault)
+      → ((images : Images) → a.held ≡ Some images → f images ≡ g images) → Does {A = A} P f m n a b (Err x) → Does {A = B} P g m n a b (Err x)
+  does_as_halt A B f g m n a b x e h = record { ranges = h.ranges; only = h.only; own = own_as f g h.ranges a.held e h.own; marked = h.marked; held = leaves_as_halt A B f g a.held b.held x e h.held; account = account_halt A B P a b x h.account }
+
+  -- reads before
+  pub does_behind : {A : Type 0} (f : Images → List Write) (m n : List Bool) (a b c : Seen) (r : Result A MendFault) → OnlyReads a b
+      → NoneFailed a.account b.account → Does P f m n b c r → Does P f m n a c r
+  does_behind f m n a b c r reads none h = record {
+    ranges = h.ranges;
+    only = only_then [] h.ranges (only_reads reads) h.only;
+    own = subst (λ o. IfSome o (λ images. AreAmong h.ranges (ranges_of (f images)))) (same_held reads) h.own;
+    marked = h.marked;
+    held = subst (λ o. Leaves f o c.held r) (same_held reads) h.held;
+    account = account_then P a b c r (same_sure reads) none h.account;
+  }

@@ -1,0 +1,169 @@
+-- Syncing one image after another.
+use Rattle.std.proofs.Common.{◌≡◌, ℕ, ◌+◌, ◌<◌, ◌≤◌, Bool, true, false, not, cond, eqb, List, [], ◌∷◌, ◌++◌, length, length-set, get_or, set, Result, Ok, Err}
+use Rattle.std.proofs.Common.{refl, sym, ap, ◌∙◌, subst, inl, inr, arith}
+use Rattle.std.proofs.lemmas.Bool.{false≢true, cases_eq, cases_lt, eq-eqb, eqb-true}
+use Rattle.std.proofs.lemmas.List.{get_or_past, get_or-set_other, get_or-set_same}
+use Rattle.std.specs.List.{filter}
+use Rattle.btr_rack.specs.Rack.{Accounts, NoneFailed, Seen, Syncs, in_others, in_slot}
+use Rattle.btr_rack.specs.declared.error.RackError.TheVariants as error
+use Rattle.btr_rack.specs.declared.place.Place.{Place as Range}
+use Rattle.btr_rack.specs.Rack.{range_in}
+use Rattle.btr_read.proofs.Keeping.{none_more, one_after}
+use Rattle.btr_scrub_copies.specs.Writes.{AccountsMend, In}
+use Rattle.btr_scrub_copies.specs.declared.mended.MendFault.{MendFault}
+use Rattle.btr_scrub_copies.specs.declared.mended.MendFault.TheVariants.{Image, Memory}
+use Rattle.btr_scrub_copies.specs.Syncing.{AreSynced, IsSync, OnlySyncs, SyncsOne, WaitsBehind, WaitsBehindAll, plain}
+
+pub passing_filter : {X : Type 0} (p : X → Bool) (x : X) (xs : List X) → In x (filter p xs) → In x xs × (p x ≡ true)
+passing_filter p x [] h = absurd h
+passing_filter p x (y ∷ xs) h = by (p y) refl h (passing_filter p x xs)
+  where
+    by : (b : Bool) → p y ≡ b → In x (cond b (y ∷ filter p xs) (filter p xs)) → (In x (filter p xs) → In x xs × (p x ≡ true)) → In x (y ∷ xs) × (p x ≡ true)
+    by true e (inl same) rest = (inl same, ap p (sym same) ∙ e)
+    by true e (inr i) rest = let r = rest i in (inr r.0, r.1)
+    by false e i rest = let r = rest i in (inr r.0, r.1)
+
+pub none_failed : (a : Seen) → NoneFailed a.account a.account
+none_failed a = record { faults = refl; fresh = refl; missed = refl; last = refl; opening = refl; shut = refl }
+
+pub only_none : (a : Seen) → OnlySyncs a a
+only_none a = record { same = refl; later = omega arith; same_shut = refl }
+
+pub only_more : (a b c : Seen) → OnlySyncs a b → OnlySyncs b c → OnlySyncs a c
+only_more a b c h k = record {
+  same = k.same ∙ ap (λ (s : Seen). record s { account = c.account }) h.same;
+  later = omega (arith, h.later, k.later);
+  same_shut = k.same_shut ∙ h.same_shut;
+}
+
+pub sync_sure : (a b : Seen) → OnlySyncs a b → b.sure ≡ a.sure
+sync_sure a b h = ap (λ (s : Seen). s.sure) h.same
+
+pub sync_slots : (a b : Seen) → OnlySyncs a b → b.slots ≡ a.slots
+sync_slots a b h = ap (λ (s : Seen). s.slots) h.same
+
+pub sync_held : (a b : Seen) → OnlySyncs a b → b.held ≡ a.held
+sync_held a b h = ap (λ (s : Seen). s.held) h.same
+
+-- one image was synced
+pub synced_one : (slot : ℕ) (a b : Seen) → Syncs {T = Unit {0}} slot a b (Ok tt)
+    → Accounts {T = Unit {0}} (range_in slot 0 0) a.account b.account (Ok tt) → SyncsOne true slot a b (Ok tt)
+synced_one slot a b same account = record {
+  only = record { same = ap plain same; later = omega (arith, account.faults); same_shut = account.shut };
+  account = account;
+  synced = (ap (λ (s : Seen). s.unsynced) same, ap (λ (s : Seen). s.never_synced) same);
+}
+
+pub synced_not : (slot : ℕ) (a b : Seen) → Syncs {T = Unit {0}} slot a b (Err error.Failed)
+    → Accounts {T = Unit {0}} (range_in slot 0 0) a.account b.account (Err error.Failed) → a.sure ≡ false → SyncsOne true slot a b (Err (Image slot))
+synced_not slot a b same account unsure = record {
+  only = record { same = ap plain same; later = account.0.faults.0; same_shut = account.2 };
+  account = record { place = range_in slot 0 0; failed = record { one = account.0; read = account.1; shut = account.2; unsure = unsure }; on_slot = refl; lies = refl };
+  synced = (refl, ap (λ (s : Seen). s.unsynced) same, ap (λ (s : Seen). s.never_synced) same);
+}
+
+pub synced_none : (slot : ℕ) (a : Seen) → SyncsOne false slot a a (Ok tt)
+synced_none slot a = record { only = only_none a; account = none_failed a; synced = (refl, refl) }
+
+-- so far the first n marks
+pub record SyncedSoFar (marks now : List Bool) (n : ℕ) (a b : Seen) : Type 0 where
+  pub only : OnlySyncs a b
+  pub account : NoneFailed a.account b.account
+  pub synced : AreSynced marks n a.unsynced b.unsynced
+  pub left : (k : ℕ) → n ≤ k → get_or now k false ≡ get_or marks k false
+  pub taken : (k : ℕ) → k < n → get_or now k false ≡ false
+  pub long : length now ≡ length marks
+  pub behind : (k : ℕ) → n ≤ k → in_slot k b.unsynced ≡ in_slot k a.unsynced
+  pub stranded : b.never_synced ≡ a.never_synced
+
+pub synced_first : (marks : List Bool) (a : Seen) → SyncedSoFar marks marks 0 a a
+synced_first marks a = record {
+  only = only_none a;
+  account = none_failed a;
+  synced = record { among = λ range i. (i, λ lt. absurd (omega (arith, lt))) };
+  left = λ k le. refl;
+  taken = λ k lt. absurd (omega (arith, lt));
+  long = refl;
+  behind = λ k le. refl;
+  stranded = refl;
+}
+
+not_same : (a b : ℕ) → not (eqb a b) ≡ true → a ≡ b → ⊥
+not_same a b e same = false≢true (sym (ap not (eq-eqb a b same)) ∙ e)
+
+-- the ranges of another slot are as they were behind a sync
+others_slot : (k n : ℕ) → (k ≡ n → ⊥) → (ranges : List Range) → in_slot k (in_others n ranges) ≡ in_slot k ranges
+others_slot k n apart [] = refl
+others_slot k n apart (range ∷ ranges) = by (eqb range.slot n) refl (others_slot k n apart ranges)
+  where
+    other : eqb range.slot n ≡ true → (b : Bool) → eqb range.slot k ≡ b → eqb range.slot k ≡ false
+    other e true same = absurd (apart (sym (eqb-true range.slot k same) ∙ eqb-true range.slot n e))
+    other e false differs = differs
+
+    by : (b : Bool) → eqb range.slot n ≡ b → in_slot k (in_others n ranges) ≡ in_slot k ranges
+        → in_slot k (cond (not b) (range ∷ in_others n ranges) (in_others n ranges)) ≡ in_slot k (range ∷ ranges)
+    by true e rest = rest ∙ sym (ap (λ c. cond c (range ∷ in_slot k ranges) (in_slot k ranges)) (other e (eqb range.slot k) refl))
+    by false e rest = ap (λ rs. cond (eqb range.slot k) (range ∷ rs) rs) rest
+
+-- of what was left before, so much is left now
+synced_next : (marks : List Bool) (n : ℕ) (before now left : List Range) → AreSynced marks n before now
+    → ((range : Range) → In range left → In range now × (range.slot ≡ n → get_or marks range.slot false ≡ false)) → AreSynced marks (n + 1) before left
+synced_next marks n before now left h here = record {
+  among = λ range i.
+      let at = here range i in
+      let was = h.among range at.0 in
+      (was.0, λ lt. elim (cases_lt range.slot n) [ inl below ↦ was.1 below | inr above ↦ at.1 (omega (arith, lt, above)) ]);
+}
+
+-- of what was left before, so much is left after a sync of this slot
+synced_others : (marks : List Bool) (n : ℕ) (before now left : List Range) → AreSynced marks n before now → left ≡ in_others n now
+    → AreSynced marks (n + 1) before left
+synced_others marks n before now left h is = synced_next marks n before now left h (λ range i.
+    let f = passing_filter (λ (r : Range). not (eqb r.slot n)) range now (subst (In range) is i) in
+    (f.0, λ same. absurd (not_same range.slot n f.1 same)))
+
+pub synced_more : (marks now : List Bool) (n : ℕ) (a b c : Seen) → SyncedSoFar marks now n a b → SyncsOne (get_or now n false) n b c (Ok tt)
+    → AreSynced marks (n + 1) a.unsynced c.unsynced
+synced_more marks now n a b c h one = by (get_or now n false) (sym (h.left n (omega arith))) one.synced.0
+  where
+    by : (m : Bool) → get_or marks n false ≡ m → c.unsynced ≡ cond m (in_others n b.unsynced) b.unsynced → AreSynced marks (n + 1) a.unsynced c.unsynced
+    by true e is = synced_others marks n a.unsynced b.unsynced c.unsynced h.synced is
+    by false e is = synced_next marks n a.unsynced b.unsynced c.unsynced h.synced
+        (λ range i. (subst (In range) is i, λ same. ap (λ k. get_or marks k false) same ∙ e))
+
+pub behind_more : (marks now : List Bool) (n : ℕ) (a b c : Seen) → SyncedSoFar marks now n a b → SyncsOne (get_or now n false) n b c (Ok tt) → (k : ℕ)
+    → n + 1 ≤ k → in_slot k c.unsynced ≡ in_slot k a.unsynced
+behind_more marks now n a b c h one k le = by (get_or now n false) one.synced.0 ∙ h.behind k (omega (arith, le))
+  where
+    by : (m : Bool) → c.unsynced ≡ cond m (in_others n b.unsynced) b.unsynced → in_slot k c.unsynced ≡ in_slot k b.unsynced
+    by true is = ap (in_slot k) is ∙ others_slot k n (λ same. omega (arith, le, same)) b.unsynced
+    by false is = ap (in_slot k) is
+
+-- one more mark was taken away
+pub taken_more : (marks now : List Bool) (n : ℕ) (a b : Seen) → SyncedSoFar marks now n a b → (k : ℕ) → k < n + 1 → get_or (set now n false) k false ≡ false
+taken_more marks now n a b h k lt = elim (cases_eq k n) [
+  | inl same ↦ elim (cases_lt n (length now)) [
+    | inl below ↦ subst (λ j. get_or (set now n false) j false ≡ false) (sym same) (get_or-set_same now n false false below)
+    | inr past ↦ get_or_past (set now n false) k false (omega (arith, length-set now n false, past, same))
+  ]
+  | inr other ↦ get_or-set_other now n k false false other ∙ h.taken k (omega (arith, lt, other))
+]
+
+-- what waits behind a sync that failed
+pub waits_behind : (marks now : List Bool) (n : ℕ) (m : Bool) (a b c : Seen) (fault : MendFault) → SyncedSoFar marks now n a b
+    → WaitsBehind m n b c (Err fault) → WaitsBehindAll marks a c (Err fault)
+waits_behind marks now n m a b c (Image slot) h w = subst (λ s. WaitsBehindAll marks a c (Err (Image s))) (sym w.0) (
+  synced_others marks n a.unsynced b.unsynced c.unsynced h.synced w.1,
+  w.2 ∙ (λ i. h.stranded i ++ h.behind n (omega arith) i),
+)
+waits_behind marks now n m a b c Memory h w = absurd w
+
+account_behind : {A : Type 0} (a b c : Seen) (r : Result A MendFault) → b.sure ≡ a.sure → NoneFailed a.account b.account → AccountsMend IsSync b c r
+    → AccountsMend IsSync a c r
+account_behind a b c (Ok x) sure none h = none_more a.account b.account c.account none h
+account_behind a b c (Err (Image slot)) sure none h = record { place = h.place; failed = one_after h.place a b c sure none h.failed; on_slot = h.on_slot; lies = h.lies }
+account_behind a b c (Err Memory) sure none h = none_more a.account b.account c.account none h
+
+pub sync_account : {A : Type 0} (marks now : List Bool) (n : ℕ) (a b c : Seen) (r : Result A MendFault) → SyncedSoFar marks now n a b
+    → AccountsMend IsSync b c r → AccountsMend IsSync a c r
+sync_account marks now n a b c r h k = account_behind a b c r (sync_sure a b h.only) h.account k

@@ -1,0 +1,54 @@
+use Rattle.std.proofs.Common.{Option, Ok, sym, ap, ◌∙◌, subst}
+use Rattle.btr_read.specs.Fate.{sought}
+use Rattle.btr_read.specs.Layout.{Layout}
+use Rattle.btr_read.specs.Serves.{Serves}
+use Rattle.btr_read.specs.Store.{SameLoans}
+use Rattle.btr_read.proofs.ReadsOn.{same_held}
+use Rattle.btr_read.proofs.Serving.{serves_given}
+use Rattle.btr_scrub_copies.specs.Mending.{FindsFirst, LendsFirst}
+use Rattle.btr_scrub_copies.specs.declared.finding.First.{First}
+use Rattle.btr_scrub_copies.proofs.Copied.{copy_stands}
+use Rattle.btr_scrub_copies.proofs.Outcomes.{given_behind, mends_behind, mends_failed, mends_lost}
+use Rattle.btr_scrub_copies.proofs.mending.mend_copies.Goals as goal
+
+pub mend_others-mended-requires-clause-first : goal.mend_others-mended-requires-clause-first
+mend_others-mended-requires-clause-first g c t images e told =
+    let old = c.args.store.now in
+    let lent = subst (λ v. LendsFirst c.args.want.now old c.first_good.new.store (Ok v)) c.in-Ok-Some.field-0-is c.in-Ok-Some.ensures.lent in
+    subst (λ v. FindsFirst images t c.first_good.new.store (Ok v)) c.in-Ok-Some.field-0-is
+    (c.in-Ok-Some.ensures.found t images (sym (ap (λ (l : Layout). sought l c.args.want.now) lent.layout) ∙ e)
+    (sym (same_held c.in-Ok-Some.ensures.reads) ∙ told))
+
+pub returns-in-Err-clause-mends : goal.returns-in-Err-clause-mends
+returns-in-Err-clause-mends g c t e =
+    mends_failed t c.args.write c.args.marks.now (g.R.Rack.seen c.args.rack.now) (g.R.Rack.seen c.first_good.new.rack) c.in-Err.ensures.reads
+    (Option First) c.in-Err.fault (c.in-Err.ensures.account t e)
+
+pub returns-in-Ok-None-clause-mends : goal.returns-in-Ok-None-clause-mends
+returns-in-Ok-None-clause-mends g c t e =
+    mends_lost t c.args.write c.args.marks.now (g.R.Rack.seen c.args.rack.now) (g.R.Rack.seen c.first_good.new.rack) c.in-Ok-None.ensures.reads
+    (c.in-Ok-None.ensures.account t e)
+    c.copies_of-copies.result (c.copies_of-copies.ensures.copies t e) (λ k has. copy_stands c.args.store.now.layout c.args.want.now t k c.requires.copied e has)
+    (λ images told. subst (λ v. FindsFirst images t c.first_good.new.store (Ok v)) c.in-Ok-None.field-0-is (c.in-Ok-None.ensures.found t images e told))
+
+pub returns-in-Ok-Some-clause-serves : goal.returns-in-Ok-Some-clause-serves
+returns-in-Ok-Some-clause-serves g c =
+    subst (Serves (g.R.Rack.seen c.mend_others-mended.new.rack)) (sym c.give.ensures)
+    (serves_given (g.R.Rack.seen c.mend_others-mended.new.rack) c.mend_others-mended.new.store c.in-Ok-Some.first.loan.slot
+    c.mend_others-mended.ensures.serves)
+
+pub returns-in-Ok-Some-clause-loans : goal.returns-in-Ok-Some-clause-loans
+returns-in-Ok-Some-clause-loans g c =
+    let old = c.args.store.now in
+    let lent = subst (λ v. LendsFirst c.args.want.now old c.first_good.new.store (Ok v)) c.in-Ok-Some.field-0-is c.in-Ok-Some.ensures.lent in
+    subst (SameLoans old) (sym c.give.ensures) (given_behind old c.first_good.new.store c.mend_others-mended.new.store c.args.want.now
+    c.in-Ok-Some.first.loan lent c.mend_others-mended.ensures.loans)
+
+pub returns-in-Ok-Some-clause-mends : goal.returns-in-Ok-Some-clause-mends
+returns-in-Ok-Some-clause-mends g c t e =
+    let old = c.args.store.now in
+    let lent = subst (λ v. LendsFirst c.args.want.now old c.first_good.new.store (Ok v)) c.in-Ok-Some.field-0-is c.in-Ok-Some.ensures.lent in
+    mends_behind t c.args.write c.args.marks.now c.mend_others-mended.new.marks (g.R.Rack.seen c.args.rack.now) (g.R.Rack.seen c.first_good.new.rack)
+    (g.R.Rack.seen c.mend_others-mended.new.rack) c.mend_others-mended.result
+    c.in-Ok-Some.ensures.reads (c.in-Ok-Some.ensures.account t e)
+    (c.mend_others-mended.ensures.mends t (ap (λ (l : Layout). sought l c.args.want.now) lent.layout ∙ e))

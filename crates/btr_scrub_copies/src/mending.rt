@@ -1,0 +1,104 @@
+// A block, mended by its copies.
+ghost use Rattle.std.specs.Prelude.{◌≡◌, ◌<◌, ◌≤◌, length, IsTrue, Ok, Some};
+ghost use Rattle.btr_chunk.specs.Chunk.{mirrors};
+ghost use Rattle.btr_read.specs.Candidates.{Target};
+ghost use Rattle.btr_read.specs.Fate.{sought};
+ghost use Rattle.btr_read.specs.Serves.{Serves};
+ghost use Rattle.btr_read.specs.Store.{IsLiveIn, SameLoans, free_count};
+ghost use Rattle.btr_read.specs.Want.{len_of};
+ghost use Rattle.btr_scrub_copies.specs.Mending.{HasFirst, InTold, IsCopied, MendsWant};
+ghost use Rattle.btr_scrub_copies.specs.Writes.{AreWritable};
+
+use crate::copies::copies_of;
+use crate::finding::{First, bad_copies, first_good};
+use crate::overwriting::write_over;
+use crate::{MendFault, Mended};
+use btr_rack::Rack;
+use btr_read::{Store, Want};
+
+// Mends a block whose first copy that passes is lent.
+fn mend_others<R: Rack>(
+    want: &Want,
+    write: bool,
+    copies: u32,
+    first: &First,
+    rack: &mut R,
+    store: &mut Store,
+    marks: &mut [bool],
+) -> Result<Mended, MendFault>
+    requires serves { Serves (R.seen rack.old) store.old }
+    requires room { 1 ≤ free_count store.old }
+    requires writable { IsTrue write → AreWritable (R.seen rack.old).slots }
+    requires slots { length (R.seen rack.old).slots ≤ length marks.old }
+    requires copied { IsCopied store.old.layout want.now }
+    requires few { copies ≤ 4 }
+    requires below { first.now.mirror < copies }
+    requires copies { (t : Target) → sought store.old.layout want.now ≡ Ok t → mirrors t.chunk ≡ Some copies }
+    requires live { IsLiveIn store.old first.now.loan }
+    requires len { first.now.loan.len ≡ len_of store.old.layout.setting want.now }
+    requires first { InTold store.old want.now (R.seen rack.old) (λ images t. HasFirst images t store.old first.now) }
+    ensures serves { Serves (R.seen rack.new) store.new }
+    ensures loans { SameLoans store.old store.new }
+    ensures mends { MendsWant store.old want.now write marks.old marks.new (R.seen rack.old) (R.seen rack.new) result }
+{
+    let bad = match bad_copies(want, copies, first, rack, store) {
+        Ok(bad) => bad,
+        Err(fault) => return Err(fault),
+    };
+    if !write {
+        return Ok(Mended {
+            bad: bad.count,
+            repaired: 0,
+            lost: false,
+        });
+    }
+    store.forget_kept();
+    match write_over(want, &bad, copies, &first.loan, rack, store, marks) {
+        Ok(()) => Ok(Mended {
+            bad: bad.count,
+            repaired: bad.count,
+            lost: false,
+        }),
+        Err(fault) => Err(fault),
+    }
+}
+
+/// Mends a block by its copies: each copy that is bad, as it doesn't pass or isn't the bytes of the first that does, is written over with these, by one
+/// write each, in the order of the copies. The first is by the order of the candidates: copies on older images come last. Where none passes all are bad,
+/// and nothing is written, nor where it is only to be read. The slots that were written are marked; a mark is never taken away.
+///
+/// The block lies in a chunk with copies, all of which stand, and two slots are free. Where it is to be written, each image was opened for writing.
+///
+/// `Image`: a read or a write of an image failed, and nothing was tried behind it. `Memory`: a write wanted memory.
+pub fn mend_copies<R: Rack>(
+    want: &Want,
+    write: bool,
+    rack: &mut R,
+    store: &mut Store,
+    marks: &mut [bool],
+) -> Result<Mended, MendFault>
+    requires serves { Serves (R.seen rack.old) store.old }
+    requires room { 2 ≤ free_count store.old }
+    requires writable { IsTrue write → AreWritable (R.seen rack.old).slots }
+    requires slots { length (R.seen rack.old).slots ≤ length marks.old }
+    requires copied { IsCopied store.old.layout want.now }
+    ensures serves { Serves (R.seen rack.new) store.new }
+    ensures loans { SameLoans store.old store.new }
+    ensures mends { MendsWant store.old want.now write marks.old marks.new (R.seen rack.old) (R.seen rack.new) result }
+{
+    let copies = copies_of(want, store);
+    match first_good(want, copies, rack, store) {
+        Err(fault) => Err(fault),
+        Ok(None) => Ok(Mended {
+            bad: copies,
+            repaired: 0,
+            lost: true,
+        }),
+        Ok(Some(first)) => {
+            let mended = mend_others(want, write, copies, &first, rack, store, marks);
+            let First { mirror: _, loan } = first;
+            store.give(loan);
+            mended
+        }
+    }
+}

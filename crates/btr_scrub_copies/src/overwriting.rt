@@ -1,0 +1,107 @@
+// Writing over bad copies.
+ghost use Rattle.std.specs.Prelude.{◌≡◌, ◌≤◌, [], ◌∷◌, length, Ok, Some, if◌then◌else◌};
+ghost use Rattle.btr_chunk.specs.Chunk.{mirrors};
+ghost use Rattle.btr_chunk.specs.declared.place.Part.TheVariants.{Mirror};
+ghost use Rattle.btr_read.specs.Candidates.{Target};
+ghost use Rattle.btr_read.specs.Fate.{sought};
+ghost use Rattle.btr_read.specs.Layout.{AreOpen};
+ghost use Rattle.btr_read.specs.Mirror.{HasMirror};
+ghost use Rattle.btr_read.specs.Store.{IsLiveIn};
+ghost use Rattle.btr_read.specs.Want.{len_of};
+ghost use Rattle.btr_scrub_copies.specs.Mending.{IsCopied, WritesLoan, flagged};
+ghost use Rattle.btr_scrub_copies.specs.Writes.{AreWritable};
+
+use crate::MendFault;
+use crate::copies::place_of_copy;
+use crate::finding::Bad;
+use btr_rack::{Rack, RackError};
+use btr_read::{Loan, Store, Want};
+
+// Writes a loan's bytes over a copy, and marks its slot.
+fn overwrite<R: Rack>(
+    want: &Want,
+    mirror: u32,
+    loan: &Loan,
+    rack: &mut R,
+    store: &Store,
+    marks: &mut [bool],
+) -> Result<(), MendFault>
+    requires open { AreOpen (R.seen rack.old).slots store.now.layout.devices }
+    requires writable { AreWritable (R.seen rack.old).slots }
+    requires slots { length (R.seen rack.old).slots ≤ length marks.old }
+    requires copied { IsCopied store.now.layout want.now }
+    requires mirror { (t : Target) → sought store.now.layout want.now ≡ Ok t → HasMirror mirror t }
+    requires live { IsLiveIn store.now loan.now }
+    requires len { loan.now.len ≡ len_of store.now.layout.setting want.now }
+    ensures slots { (R.seen rack.new).slots ≡ (R.seen rack.old).slots }
+    ensures writes { WritesLoan store.now want.now loan.now (Mirror mirror ∷ [])
+        marks.old marks.new (R.seen rack.old) (R.seen rack.new) result }
+{
+    let bytes = store.bytes(loan);
+    let place = place_of_copy(want, mirror, bytes.len() as u64, store);
+    marks[place.slot] = true;
+    match rack.write_at(place.slot, place.off, bytes) {
+        Ok(()) => Ok(()),
+        Err(RackError::Failed) => Err(MendFault::Image(place.slot)),
+        Err(RackError::Memory) => Err(MendFault::Memory),
+    }
+}
+
+// The same where the copy is bad.
+fn overwrite_if<R: Rack>(
+    bad: bool,
+    want: &Want,
+    mirror: u32,
+    loan: &Loan,
+    rack: &mut R,
+    store: &Store,
+    marks: &mut [bool],
+) -> Result<(), MendFault>
+    requires open { AreOpen (R.seen rack.old).slots store.now.layout.devices }
+    requires writable { AreWritable (R.seen rack.old).slots }
+    requires slots { length (R.seen rack.old).slots ≤ length marks.old }
+    requires copied { IsCopied store.now.layout want.now }
+    requires mirror { (t : Target) → sought store.now.layout want.now ≡ Ok t → HasMirror mirror t }
+    requires live { IsLiveIn store.now loan.now }
+    requires len { loan.now.len ≡ len_of store.now.layout.setting want.now }
+    ensures slots { (R.seen rack.new).slots ≡ (R.seen rack.old).slots }
+    ensures writes { WritesLoan store.now want.now loan.now (if bad then Mirror mirror ∷ [] else [])
+        marks.old marks.new (R.seen rack.old) (R.seen rack.new) result }
+{
+    if !bad {
+        return Ok(());
+    }
+    overwrite(want, mirror, loan, rack, store, marks)
+}
+
+// Writes a loan's bytes over the bad copies, and marks their slots.
+pub(crate) fn write_over<R: Rack>(
+    want: &Want,
+    bad: &Bad,
+    copies: u32,
+    loan: &Loan,
+    rack: &mut R,
+    store: &Store,
+    marks: &mut [bool],
+) -> Result<(), MendFault>
+    requires open { AreOpen (R.seen rack.old).slots store.now.layout.devices }
+    requires writable { AreWritable (R.seen rack.old).slots }
+    requires slots { length (R.seen rack.old).slots ≤ length marks.old }
+    requires copied { IsCopied store.now.layout want.now }
+    requires few { copies ≤ 4 }
+    requires copies { (t : Target) → sought store.now.layout want.now ≡ Ok t → mirrors t.chunk ≡ Some copies }
+    requires live { IsLiveIn store.now loan.now }
+    requires len { loan.now.len ≡ len_of store.now.layout.setting want.now }
+    ensures slots { (R.seen rack.new).slots ≡ (R.seen rack.old).slots }
+    ensures writes { WritesLoan store.now want.now loan.now (flagged bad.now.flags copies)
+        marks.old marks.new (R.seen rack.old) (R.seen rack.new) result }
+{
+    for mirror in 0..copies {
+        let is_bad = bad.flags[mirror as usize];
+        match overwrite_if(is_bad, want, mirror, loan, rack, store, marks) {
+            Ok(()) => {}
+            Err(fault) => return Err(fault),
+        }
+    }
+    Ok(())
+}

@@ -1,0 +1,199 @@
+-- The candidates of a block of a row, tried in their order.
+use Rattle.std.proofs.Common.{◌≡◌, ◌≢◌, ◌⊎◌, ℕ, ◌+◌, ◌-◌, ◌<◌, ◌≤◌, ◌&&◌, ◌||◌, eqb, Bool, true, false, [], length, map, take, get_or, slice_get, Some, None}
+use Rattle.std.proofs.Common.{Result, Ok, Err, IsOkAnd, IsSome, IsNone, is_some, refl, sym, ap, ◌∙◌, subst, inl, inr, arith}
+use Rattle.std.proofs.lemmas.Bool.{eqb-true}
+use Rattle.std.proofs.lemmas.Option.{same_Some, slice_get-get_or, slice_get_within}
+use Rattle.std.specs.List.{filter, list_all, range_with_len}
+use Rattle.btr_chunk.specs.Chunk.{data_count, mirrors}
+use Rattle.btr_chunk.specs.Mapping.{HasPart, IsPosition}
+use Rattle.btr_chunk.specs.declared.place.Part.{Part}
+use Rattle.btr_chunk.specs.declared.place.Part.TheVariants.{Slice, P, Q}
+use Rattle.btr_chunk.specs.declared.profile.Profile.{Profile}
+use Rattle.btr_chunk.specs.declared.profile.Profile.TheVariants as profile
+use Rattle.btr_chunk.specs.declared.profile.Profile.TheVariants.{Raid5, Raid6}
+use Rattle.btr_chunk.proofs.Rows.{without_copies}
+use Rattle.btr_read.specs.Candidates.{Target, candidates, element, range_of, reads_slice, rebuilt, slice_count, stands, value_of, ways}
+use Rattle.btr_read.specs.Fate.{Fault}
+use Rattle.btr_read.specs.Order.{IsWayAt}
+use Rattle.btr_read.specs.Sought.{IsTwoParities}
+use Rattle.btr_read.specs.Want.{passes}
+use Rattle.btr_read.specs.declared.candidate.Candidate.{Candidate}
+use Rattle.btr_read.specs.declared.candidate.Candidate.TheVariants.{Read, ByP, ByQ, ByBoth}
+use Rattle.btr_read.proofs.InOrder.{length-with_p_and_q, with_p, with_p_and_q}
+use Rattle.btr_read.proofs.Standing.{all_read, both}
+use Rattle.btr_read.specs.Trial.{passing_of}
+use Rattle.btr_read.proofs.Ones.{In}
+use Rattle.btr_read.proofs.Order.{in_candidates, length-candidates}
+use Rattle.btr_read.proofs.Trials.{fails_where_none, first_then, none_of_all, none_then}
+use Rattle.btr_scrub_copies.specs.Blocks.{accepted}
+use Rattle.btr_scrub_copies.specs.Writes.{Images}
+use Rattle.btr_scrub_row.specs.Memory.{IsGone, IsSited, ReadsQ}
+use Rattle.btr_scrub_row.specs.declared.spot.Spot.{Spot}
+
+-- a profile has Q or not
+pub has_q : (p : Profile) → (p ≡ Raid6) ⊎ (p ≢ Raid6)
+has_q profile.Single = inr (λ e. cc)
+has_q profile.Dup = inr (λ e. cc)
+has_q profile.Raid0 = inr (λ e. cc)
+has_q profile.Raid1 = inr (λ e. cc)
+has_q profile.Raid1c3 = inr (λ e. cc)
+has_q profile.Raid1c4 = inr (λ e. cc)
+has_q profile.Raid10 = inr (λ e. cc)
+has_q profile.Raid5 = inr (λ e. cc)
+has_q profile.Raid6 = inl refl
+
+-- the number of ways, as it is computed
+pub record IsCount (spot : Spot) (count : ℕ) : Type 0 where
+  pub six : spot.shape.profile ≡ Raid6 → count ≡ spot.shape.slices + 2
+  pub five : spot.shape.profile ≢ Raid6 → count ≡ 2
+
+-- the way of a number, as it is computed
+pub record IsAt (index k : ℕ) (c : Candidate) : Type 0 where
+  pub one : (slices : ℕ) → k < 2 → slice_get (rebuilt Raid5 slices index) k ≡ Some c
+  pub two : (slices : ℕ) → index < slices → k < slices + 2 → slice_get (rebuilt Raid6 slices index) k ≡ Some c
+  pub parts : (slices : ℕ) → index < slices → k < slices + 2 → IsTwoParities slices index c
+  pub first : k < 2 → ReadsQ c → ⊥
+
+-- what a candidate within the number reads is there
+pub q_there : (spot : Spot) (count k : ℕ) (c : Candidate) → IsCount spot count → k < count → IsAt spot.index k c → ReadsQ c → spot.shape.profile ≡ Raid6
+q_there spot count k c is lt at reads = elim (has_q spot.shape.profile) [
+  | inl six ↦ six
+  | inr five ↦ absurd (at.first (omega (arith, lt, is.five five)) reads)
+]
+
+pub in_count : (spot : Spot) (count k : ℕ) → IsCount spot count → 0 < spot.shape.slices → k < count → k < spot.shape.slices + 2
+in_count spot count k is some lt = elim (has_q spot.shape.profile) [
+  | inl six ↦ omega (arith, lt, is.six six)
+  | inr five ↦ omega (arith, lt, is.five five, some)
+]
+
+-- what is said of what is sought
+pub the_target : (r : Result Target Fault) (Fact : Target → Type 0) → IsOkAnd r Fact → (t : Target) × (r ≡ Ok t) × Fact t
+the_target (Err fault) Fact h = absurd h
+the_target (Ok t) Fact h = (t, refl, h)
+
+pub sited_at : (r : Result Target Fault) (spot : Spot) (t : Target) → r ≡ Ok t → IsOkAnd r (IsSited spot) → IsSited spot t
+sited_at r spot t e h = subst (λ r. IsOkAnd r (IsSited spot)) e h
+
+-- the block's own place passes too
+pub own_good : (good own : Bool) (way : ℕ) → own ≡ good → (way ≡ 0 → good ≡ true) → good ≡ ((eqb way 0) || own)
+own_good good own way same zero = by (eqb way 0) refl
+  where
+    by : (b : Bool) → eqb way 0 ≡ b → good ≡ (b || own)
+    by true e = zero (eqb-true way 0 e)
+    by false e = sym same
+
+-- ---- standing candidates
+
+module _ (t : Target) (parity : mirrors t.chunk ≡ None) (stand : (part : Part) → HasPart t.chunk.profile (length t.chunk.stripes) part → IsSome (range_of t part)) where
+  none : IsNone (mirrors t.chunk)
+  none = subst IsNone (sym parity) refl
+
+  slice_stands : (s : ℕ) → s < slice_count t → IsSome (range_of t (Slice s))
+  slice_stands s lt = stand (Slice s) (none, lt)
+
+  slices_stand : (c : Candidate) → list_all (λ part. is_some (range_of t part))
+      (map Slice (filter (reads_slice t.at.index c) (range_with_len 0 (slice_count t)))) ≡ true
+  slices_stand c = all_read (λ part. is_some (range_of t part)) (reads_slice t.at.index c) (slice_count t) (λ s lt e. slice_stands s lt)
+
+  pub stands_all : (c : Candidate) → t.at.index < slice_count t → IsTwoParities (slice_count t) t.at.index c → (ReadsQ c → t.chunk.profile ≡ Raid6)
+      → stands t c ≡ true
+  stands_all (Read part) lt is q = both (is_some (range_of t part)) true (subst (λ p. IsSome (range_of t p)) (sym is) (slice_stands t.at.index lt)) refl
+  stands_all ByP lt is q = both (is_some (range_of t P)) _ (stand P none) (slices_stand ByP)
+  stands_all ByQ lt is q = both (is_some (range_of t Q)) _ (stand Q (q tt)) (slices_stand ByQ)
+  stands_all (ByBoth j) lt is q = both (is_some (range_of t P)) _ (stand P none) (both (is_some (range_of t Q)) _ (stand Q (q tt)) (slices_stand (ByBoth j)))
+
+-- ---- the order
+
+-- the slice that is sought is one of the row
+slice_below : (t : Target) → IsPosition t.chunk t.at → t.chunk.profile ≡ Raid6 → t.at.index < data_count Raid6 (length t.chunk.stripes)
+slice_below t h e = subst (λ p. t.at.index < data_count p (length t.chunk.stripes)) e h.index
+
+module _ (t : Target) (spot : Spot) (sited : IsSited spot t) (count : ℕ) (is : IsCount spot count) where
+  either : (t.chunk.profile ≡ Raid5) ⊎ (t.chunk.profile ≡ Raid6)
+  either = without_copies t.chunk.profile (length t.chunk.stripes) sited.parity
+
+  not_six : t.chunk.profile ≡ Raid5 → spot.shape.profile ≢ Raid6
+  not_six five e = let never : Raid5 ≡ Raid6 = sym five ∙ sym sited.place.profile ∙ e in cc
+
+  six : t.chunk.profile ≡ Raid6 → spot.shape.profile ≡ Raid6
+  six e = sited.place.profile ∙ e
+
+  index_below : t.at.index < slice_count t
+  index_below = sited.position.index
+
+  length-ways : length (ways t) ≡ count
+  length-ways = elim either [
+    | inl five ↦ ap length (with_p t five) ∙ sym (is.five (not_six five))
+    | inr e ↦
+        let n : slice_count t ≡ length t.chunk.stripes - 2 = ap (λ p. data_count p (length t.chunk.stripes)) e in
+        ap length (with_p_and_q t e) ∙ length-with_p_and_q (length t.chunk.stripes - 2) t.at.index (slice_below t sited.position e)
+        ∙ ap (λ m. m + 2) (sym n ∙ sym sited.place.slices) ∙ sym (is.six (six e))
+  ]
+
+  pub length-candidates_are : length (candidates t) ≡ count
+  length-candidates_are = length-candidates t ∙ length-ways
+
+  -- the block's own place is one of them
+  own_way : In (Read (Slice t.at.index)) (ways t)
+  own_way = elim either [
+    | inl five ↦ subst (In (Read (Slice t.at.index))) (sym (with_p t five)) (inl refl)
+    | inr e ↦ subst (In (Read (Slice t.at.index))) (sym (with_p_and_q t e)) (inl refl)
+  ]
+
+  first_way : slice_get (ways t) 0 ≡ Some (Read (Slice t.at.index))
+  first_way = elim either [
+    | inl five ↦ ap (λ cs. slice_get cs 0) (with_p t five)
+    | inr e ↦ ap (λ cs. slice_get cs 0) (with_p_and_q t e)
+  ]
+
+  module _ (k way : ℕ) (lt : k < count) (order : IsWayAt k way t) where
+    pub way_below : way < count
+    way_below =
+        let own : Candidate = Read (Slice t.at.index) in
+        let there = slice_get-get_or (candidates t) k own (omega (arith, lt, length-candidates_are)) in
+        omega (arith, slice_get_within (ways t) way (get_or (candidates t) k own) (order ∙ there), length-ways)
+
+    module _ (c : Candidate) (at : IsAt spot.index way c) where
+      at' : IsAt t.at.index way c
+      at' = subst (λ i. IsAt i way c) sited.place.index at
+
+      way_is : slice_get (ways t) way ≡ Some c
+      way_is = elim either [
+        | inl five ↦ ap (λ cs. slice_get cs way) (with_p t five) ∙ at'.one (length t.chunk.stripes - 1) (omega (arith, way_below, is.five (not_six five)))
+        | inr e ↦
+            let n : slice_count t ≡ length t.chunk.stripes - 2 = ap (λ p. data_count p (length t.chunk.stripes)) e in
+            ap (λ cs. slice_get cs way) (with_p_and_q t e) ∙ at'.two (length t.chunk.stripes - 2) (slice_below t sited.position e)
+            (omega (arith, way_below, is.six (six e), sited.place.slices, n))
+      ]
+
+      candidate_is : slice_get (candidates t) k ≡ Some c
+      candidate_is = sym order ∙ way_is
+
+      parts_are : IsTwoParities (slice_count t) t.at.index c
+      parts_are = at'.parts (slice_count t) index_below (omega
+          (arith, in_count spot count way is (omega (arith, index_below, sited.place.slices)) way_below, sited.place.slices))
+
+      module _ (stand : (part : Part) → HasPart t.chunk.profile (length t.chunk.stripes) part → IsSome (range_of t part)) where
+        candidate_stands : stands t c ≡ true
+        candidate_stands = stands_all t sited.parity stand c index_below parts_are
+            (λ reads. sym sited.place.profile ∙ q_there spot count way c is way_below at reads)
+
+        -- one more that doesn't pass, or the first that does
+        module _ (images : Images) (so_far : passing_of images t (take k (candidates t)) ≡ []) where
+          pub tried_more : passes t.setting t.want (value_of images t c) ≡ false → passing_of images t (take (k + 1) (candidates t)) ≡ []
+          tried_more test = none_then images t k c candidate_is (omega (arith, lt, length-candidates_are)) candidate_stands so_far test
+
+          pub one_accepted : passes t.setting t.want (value_of images t c) ≡ true → accepted images t ≡ Some (value_of images t c)
+          one_accepted test = first_then images t k c candidate_is (omega (arith, lt, length-candidates_are)) candidate_stands so_far test
+
+          -- the first way is the block's own place
+          pub own_value : way ≡ 0 → value_of images t c ≡ element images t (Slice t.at.index)
+          own_value z = ap (value_of images t) (same_Some c (Read (Slice t.at.index)) (sym way_is ∙ ap (slice_get (ways t)) z ∙ first_way))
+
+  -- none passes
+  pub none_accepted : (images : Images) (k : ℕ) → IsSome (range_of t (Slice t.at.index)) → count ≤ k → passing_of images t (take k (candidates t))
+      ≡ [] → IsGone images t
+  none_accepted images k stands le so_far =
+      let none = none_of_all images t k (omega (arith, le, length-candidates_are)) so_far in
+      record { bytes = ap (λ xs. slice_get xs 0) none; good = fails_where_none images t (Read (Slice t.at.index)) none (in_candidates t (Read (Slice t.at.index)) own_way) (ap (λ b. b && true) stands) }

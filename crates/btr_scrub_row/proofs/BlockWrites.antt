@@ -1,0 +1,109 @@
+-- The write that mends a block, as it is made from the bytes in memory.
+use Rattle.std.proofs.Common.{◌≡◌, ℕ, ◌+◌, ◌^◌, ◌<◌, ◌≤◌, Bool, true, false, not, cond, List, [], ◌∷◌, length, take, Some, None, Ok, IsNone, refl, sym, ap, ◌∙◌}
+use Rattle.std.proofs.Common.{subst, arith, length-take}
+use Rattle.std.specs.Option.{option_map_or}
+use Rattle.btr_chunk.specs.Chunk.{mirrors}
+use Rattle.btr_chunk.specs.Mapping.{HasPart}
+use Rattle.btr_chunk.specs.declared.place.Part.TheVariants.{Slice}
+use Rattle.btr_rack.specs.Rack.{Seen, Slot, len_of, range_in}
+use Rattle.btr_rack.specs.declared.place.Place.{Place as Range}
+use Rattle.btr_read.specs.Candidates.{Target, range_of, size_of}
+use Rattle.btr_read.specs.Fate.{sought}
+use Rattle.btr_read.specs.Layout.{AreOpen, Layout}
+use Rattle.btr_read.specs.declared.want.Want.{Want}
+use Rattle.btr_read.proofs.Fates.{sought_of}
+use Rattle.btr_read.proofs.Keeping.{none_failed}
+use Rattle.btr_scrub_copies.specs.Blocks.{block_writes, is_good}
+use Rattle.btr_scrub_copies.specs.Writes.{Does, Images}
+use Rattle.btr_scrub_copies.proofs.Doing.{does_reads}
+use Rattle.btr_scrub_row.specs.Rows.{Row, range_in_element}
+use Rattle.btr_scrub_row.specs.Mending.{IsOfRow, IsOn}
+use Rattle.btr_scrub_row.specs.Memory.{IsAccepted, IsGone, IsStripeOf}
+use Rattle.btr_scrub_row.specs.Judging.{IsPlaced}
+use Rattle.btr_scrub_row.specs.Writing.{write_at}
+use Rattle.btr_scrub_row.specs.declared.spot.Spot.{Spot}
+use Rattle.btr_scrub_row.specs.declared.stripe.FullStripe.{FullStripe}
+use Rattle.btr_scrub_row.proofs.Elements.{Lies, block_lies, is_at, is_of_row, lies, open_at}
+use Rattle.btr_scrub_row.proofs.Held.{good}
+use Rattle.btr_scrub_row.proofs.Judges.{written_at, writes_one}
+
+-- nothing is done
+pub does_nothing : (P : Range → Type 0) (marks : List Bool) (a : Seen) → Does {A = Unit {0}} P (λ i. []) marks marks a a (Ok tt)
+does_nothing P marks a = does_reads P marks a a tt (record { same = refl; later = omega arith; same_shut = refl }) (none_failed a.account)
+
+module _ (layout : Layout) (stripe : FullStripe) (row : Row) (of : IsStripeOf layout stripe row) (want : Want) (t : Target) (e : sought layout want ≡ Ok t) (on : IsOn row t) (spot : Spot) (p : IsPlaced stripe.shape t spot) where
+  no_copies : mirrors t.chunk ≡ None
+  no_copies = ap mirrors on.chunk ∙ of.is.parity
+
+  has : HasPart row.chunk.profile (length row.chunk.stripes) (Slice t.at.index)
+  has = subst (λ c. HasPart c.profile (length c.stripes) (Slice t.at.index)) on.chunk (subst IsNone (sym no_copies) refl, p.position.index)
+
+  l : Lies layout row (Slice t.at.index)
+  l = lies layout stripe.chunk stripe.number row (good layout stripe row of) (Slice t.at.index) has
+
+  -- the element's place, as it is computed
+  pub record Written (element : Range) (slots : List Slot) : Type 0 where
+    pub open_slot : element.slot < length slots
+    pub within : element.off + spot.rest + spot.len ≤ len_of slots element.slot
+    pub small : element.off + spot.rest < 2 ^ 64
+
+  module _ (element : Range) (is : range_in_element layout row (Slice spot.index) 0 65536 ≡ Some element) where
+    is' : range_in_element layout row (Slice t.at.index) 0 65536 ≡ Some element
+    is' = ap (λ i. range_in_element layout row (Slice i) 0 65536) (sym p.index) ∙ is
+
+    pub written : (slots : List Slot) → AreOpen slots layout.devices → Written element slots
+    written slots are =
+        let a = is_at layout stripe.chunk stripe.number row (good layout stripe row of) (Slice t.at.index) has l element is' in
+        let there = open_at layout stripe.chunk stripe.number row (good layout stripe row of) (Slice t.at.index) has l slots are in
+        record {
+          open_slot = omega (arith, a.slot, there.0);
+          within = omega (arith, ap (len_of slots) a.slot, a.off, there.1, p.rest, p.len, p.inside);
+          small = omega (arith, a.off, l.small, p.rest, p.len, p.inside);
+        }
+
+    -- the range is one of the row's
+    pub in_the_row : (n : ℕ) → n ≡ spot.len → IsOfRow layout row (range_in element.slot (element.off + spot.rest) n)
+    in_the_row n long =
+        let a = is_at layout stripe.chunk stripe.number row (good layout stripe row of) (Slice t.at.index) has l element is' in
+        subst (λ s. IsOfRow layout row (range_in s (element.off + spot.rest) n)) (sym a.slot)
+        (subst (λ o. IsOfRow layout row (range_in l.slot (o + spot.rest) n)) (sym a.off)
+        (is_of_row layout stripe.chunk stripe.number row (good layout stripe row of) (Slice t.at.index) has l spot.rest n
+        (omega (arith, long, p.rest, p.len, p.inside))))
+
+    -- one write, where another candidate than the block's own place is accepted
+    pub writes_it : (images : Images) (block : List ℕ) → size_of t ≤ length block → IsAccepted images t block false
+        → write_at element.slot (element.off + spot.rest) (take spot.len block) ∷ [] ≡ block_writes images t
+    writes_it images block long a =
+        let at = is_at layout stripe.chunk stripe.number row (good layout stripe row of) (Slice t.at.index) has l element is' in
+        let devices = sought_of layout want t e in
+        let stands : range_of t (Slice t.at.index) ≡ Some (range_in l.slot (l.off + t.at.rest) (size_of t)) = block_lies layout stripe.chunk stripe.number row (good layout stripe row of) (Slice t.at.index) has l t on devices.devices_is p.position p.inside in
+        let bytes = take (size_of t) block in
+        let size : length bytes ≡ size_of t = omega (arith, length-take (size_of t) block, long) in
+        ap (λ n. write_at element.slot (element.off + spot.rest) (take n block) ∷ []) p.len
+        ∙ ap (λ s. write_at s (element.off + spot.rest) bytes ∷ []) at.slot
+        ∙ ap (λ o. write_at l.slot (o + spot.rest) bytes ∷ []) at.off
+        ∙ ap (λ r. write_at l.slot (l.off + r) bytes ∷ []) p.rest
+        ∙ ap (λ n. written_at (range_in l.slot (l.off + t.at.rest) n) bytes ∷ []) size
+        ∙ sym (
+        writes_one images t no_copies (range_in l.slot (l.off + t.at.rest) (size_of t)) stands
+        ∙ ap (λ o. option_map_or (λ bytes. cond (not (is_good images t (Slice t.at.index)))
+        (written_at (range_in l.slot (l.off + t.at.rest) (size_of t)) bytes ∷ []) []) o []) a.bytes
+        ∙ ap (λ b. cond (not b) (written_at (range_in l.slot (l.off + t.at.rest) (size_of t)) bytes ∷ []) []) a.good)
+
+  -- no write
+  module _ (images : Images) where
+    stands' : range_of t (Slice t.at.index) ≡ Some (range_in l.slot (l.off + t.at.rest) (size_of t))
+    stands' = let devices = sought_of layout want t e in block_lies layout stripe.chunk stripe.number row (good layout stripe row of) (Slice t.at.index) has l t on devices.devices_is p.position p.inside
+
+    pub writes_no_good : (block : List ℕ) → IsAccepted images t block true → [] ≡ block_writes images t
+    writes_no_good block a = sym (
+        writes_one images t no_copies (range_in l.slot (l.off + t.at.rest) (size_of t)) stands'
+        ∙ ap (λ o. option_map_or (λ bytes. cond (not (is_good images t (Slice t.at.index)))
+        (written_at (range_in l.slot (l.off + t.at.rest) (size_of t)) bytes ∷ []) []) o []) a.bytes
+        ∙ ap (λ b. cond (not b) (written_at (range_in l.slot (l.off + t.at.rest) (size_of t)) (take (size_of t) block) ∷ []) []) a.good)
+
+    pub writes_no_gone : IsGone images t → [] ≡ block_writes images t
+    writes_no_gone a = sym (
+        writes_one images t no_copies (range_in l.slot (l.off + t.at.rest) (size_of t)) stands'
+        ∙ ap (λ o. option_map_or (λ bytes. cond (not (is_good images t (Slice t.at.index)))
+        (written_at (range_in l.slot (l.off + t.at.rest) (size_of t)) bytes ∷ []) []) o []) a.bytes)

@@ -1,0 +1,176 @@
+-- The sectors of a parity, column by column.
+use Rattle.std.proofs.Common.{◌≡◌, ℕ, suc, ◌+◌, ◌*◌, ◌^◌, ◌<◌, ◌≤◌, ◌&&◌, ◌||◌, Bool, true, false, not, cond, List, [], ◌∷◌, ◌++◌, length, take, get_or}
+use Rattle.std.proofs.Common.{slice_range, Option, Some, None, IsSome, is_some, is_none, count_by, refl, sym, ap, ◌∙◌, subst, arith}
+use Rattle.std.proofs.lemmas.Bool.{false≢true}
+use Rattle.std.specs.List.{cons_option, filter, filter_map, flat_map, list_all, list_any, range_with_len}
+use Rattle.std.proofs.lemmas.List.Sums.{sum_by-cons}
+use Rattle.std.specs.Option.{option_map}
+use Rattle.std.proofs.lemmas.List.FromFn.{get_or-range_with_len, length-range_with_len}
+use Rattle.std.specs.Str.{bytes_eq}
+use Rattle.btr_chunk.specs.Mapping.{HasPart}
+use Rattle.btr_chunk.specs.declared.place.Part.{Part}
+use Rattle.btr_rack.specs.Rack.{Slot, len_of, range_in}
+use Rattle.btr_rack.specs.declared.place.Place.{Place as Range}
+use Rattle.btr_read.specs.Candidates.{Target}
+use Rattle.btr_read.specs.Layout.{AreOpen, Layout}
+use Rattle.btr_scrub_copies.specs.Blocks.{accepted, is_lost}
+use Rattle.btr_scrub_copies.specs.Writes.{Images, Write}
+use Rattle.btr_scrub_row.specs.Rows.{Row, column_of, differs, element, element_with, is_decided, meets, parity_writes, range_in_element, sector_write}
+use Rattle.btr_scrub_row.specs.Mending.{IsOfRow}
+use Rattle.btr_scrub_row.specs.Memory.{IsStripeOf, element_in}
+use Rattle.btr_scrub_row.specs.Writing.{column_writes, write_at}
+use Rattle.btr_scrub_row.specs.declared.stripe.FullStripe.{FullStripe}
+use Rattle.btr_read.proofs.Pieces.{range-range}
+use Rattle.btr_scrub_row.proofs.Elements.{Lies, is_at, is_of_row, lies, lies_at, open_at}
+use Rattle.btr_scrub_row.proofs.Held.{good}
+use Rattle.btr_scrub_row.proofs.Pasted.{length-range}
+
+abbrev made : Range → List ℕ → Write
+made range bytes = record { range = range; bytes = bytes }
+
+-- ---- decided columns
+
+-- a column meets no block that is lost
+none_lost : (images : Images) (column : ℕ) (ts : List Target) → not (list_any (λ t. is_lost images t && meets column t) ts)
+    ≡ list_all (λ t. not (meets column t) || is_some (accepted images t)) ts
+none_lost images column [] = refl
+none_lost images column (t ∷ ts) = by (accepted images t) (meets column t) (list_any (λ t. is_lost images t && meets column t) ts)
+    (list_all (λ t. not (meets column t) || is_some (accepted images t)) ts) (none_lost images column ts)
+  where
+    by : (o : Option (List ℕ)) (m rest all : Bool) → not rest ≡ all → not ((is_none o && m) || rest) ≡ ((not m || is_some o) && all)
+    by None true rest all e = refl
+    by None false rest all e = e
+    by (Some x) true rest all e = e
+    by (Some x) false rest all e = e
+
+pub decided_is : (images : Images) (layout : Layout) (row : Row) (column : ℕ) (met broken : Bool) → met ≡ list_any (meets column) row.blocks → broken
+    ≡ (row.kept column || list_any (λ t. is_lost images t && meets column t) row.blocks) → (met && not broken) ≡ is_decided images layout row column
+decided_is images layout row column met broken e h =
+    ap (λ b. b && not broken) e ∙ ap (λ b. list_any (meets column) row.blocks && not b) h
+    ∙ ap (λ b. list_any (meets column) row.blocks && b) (neither (row.kept column) (list_any (λ t. is_lost images t && meets column t) row.blocks))
+    ∙ ap (λ b. list_any (meets column) row.blocks && (not (row.kept column) && b)) (none_lost images column row.blocks)
+  where
+    neither : (a b : Bool) → not (a || b) ≡ (not a && not b)
+    neither true b = refl
+    neither false b = refl
+
+-- ---- ranges
+
+pub front_range : (xs : List ℕ) (n a b : ℕ) → a ≤ b → b ≤ n → slice_range (take n xs) a b ≡ slice_range xs a b
+front_range xs n a b le most =
+    let cut : take n xs ≡ slice_range xs 0 (0 + n) = ap (λ m. take m xs) (omega arith) in
+    ap (λ zs. slice_range zs a b) cut ∙ range-range xs 0 n a b le most ∙ ap (λ m. slice_range xs m (0 + b)) (omega arith) ∙ ap (slice_range xs a) (omega arith)
+
+-- whether a column differs, as it is compared in memory
+pub differs_is : (images : Images) (layout : Layout) (row : Row) (part : Part) (column e start : ℕ) (old sums : List ℕ) → column < 16 → start
+    ≡ e * 65536 + column * 4096 → element_in old e ≡ element images layout row part
+    → take 65536 sums ≡ element_with images layout (accepted images) row part
+    → not (bytes_eq (slice_range old start (start + 4096)) (slice_range sums (column * 4096) (column * 4096 + 4096))) ≡ differs images layout row part column
+differs_is images layout row part column e start old sums lt at is new =
+    let one : slice_range old start (start + 4096) ≡ column_of column (element images layout row part) =
+    ap (λ s. slice_range old s (s + 4096)) at ∙ ap (slice_range old (e * 65536 + column * 4096)) (omega arith)
+    ∙ sym (range-range old (e * 65536) 65536 (column * 4096) (column * 4096 + 4096) (omega arith) (omega (arith, lt))) ∙ ap (column_of column) is in
+    let two : slice_range sums (column * 4096) (column * 4096 + 4096) ≡ column_of column (element_with images layout (accepted images) row part) =
+    sym (front_range sums 65536 (column * 4096) (column * 4096 + 4096) (omega arith) (omega (arith, lt))) ∙ ap (column_of column) new in
+    ap (λ x. not (bytes_eq x (slice_range sums (column * 4096) (column * 4096 + 4096)))) one
+    ∙ ap (λ y. not (bytes_eq (column_of column (element images layout row part)) y)) two
+
+-- ---- the writes of a parity, column by column
+
+cons_first : (o : Option Write) (rest : List Write) → cons_option o [] ++ rest ≡ cons_option o rest
+cons_first None rest = refl
+cons_first (Some w) rest = refl
+
+flat_filter : (f : ℕ → Option Write) (p : ℕ → Bool) (xs : List ℕ) → flat_map (λ x. cond (p x) (cons_option (f x) []) []) xs ≡ filter_map f (filter p xs)
+flat_filter f p [] = refl
+flat_filter f p (x ∷ xs) = by (p x) (flat_map (λ x. cond (p x) (cons_option (f x) []) []) xs) (filter p xs) (flat_filter f p xs)
+  where
+    by : (b : Bool) (rest : List Write) (ys : List ℕ) → rest ≡ filter_map f ys → cond b (cons_option (f x) []) [] ++ rest ≡ filter_map f (cond b (x ∷ ys) ys)
+    by true rest ys e = cons_first (f x) rest ∙ ap (cons_option (f x)) e
+    by false rest ys e = e
+
+count_filter : (f : ℕ → Option Write) (p : ℕ → Bool) (xs : List ℕ) → ((i d : ℕ) → i < length xs → IsSome (f (get_or xs i d)))
+    → length (filter_map f (filter p xs)) ≡ count_by p xs
+count_filter f p [] h = refl
+count_filter f p (x ∷ xs) h = by (p x) (filter p xs) (count_by p xs) (count_filter f p xs (λ i d lt. h (suc i) d (omega (arith, lt))))
+    ∙ sym (sum_by-cons (λ x. cond (p x) 1 0) x xs)
+  where
+    one : (o : Option Write) (rest : List Write) → IsSome o → length (cons_option o rest) ≡ 1 + length rest
+    one None rest s = absurd (false≢true s)
+    one (Some w) rest s = omega arith
+
+    by : (b : Bool) (ys : List ℕ) (n : ℕ) → length (filter_map f ys) ≡ n → length (filter_map f (cond b (x ∷ ys) ys)) ≡ cond b 1 0 + n
+    by true ys n e = one (f x) (filter_map f ys) (h 0 x (omega arith)) ∙ ap (λ m. 1 + m) e
+    by false ys n e = e ∙ omega arith
+
+pub columns_are : (images : Images) (layout : Layout) (row : Row) (part : Part)
+    → flat_map (column_writes layout row part images) (range_with_len 0 16) ≡ parity_writes images layout row part
+columns_are images layout row part = flat_filter (sector_write images layout row part)
+    (λ column. is_decided images layout row column && differs images layout row part column) (range_with_len 0 16)
+
+-- the number of the i-th
+pub column_at : (i d : ℕ) → i < 16 → get_or (range_with_len 0 16) i d ≡ i
+column_at i d lt = get_or-range_with_len 0 16 i d lt ∙ omega arith
+
+module _ (layout : Layout) (stripe : FullStripe) (row : Row) (of : IsStripeOf layout stripe row) (part : Part) (has : HasPart row.chunk.profile (length row.chunk.stripes) part) where
+  l : Lies layout row part
+  l = lies layout stripe.chunk stripe.number row (good layout stripe row of) part has
+
+  sector_at : (images : Images) (column : ℕ) → column < 16 → sector_write images layout row part column
+      ≡ Some (made (range_in l.slot (l.off + column * 4096) 4096) (column_of column (element_with images layout (accepted images) row part)))
+  sector_at images column lt = ap (option_map (λ (range : Range). made range
+      (column_of column (element_with images layout (accepted images) row part))))
+      (lies_at layout stripe.chunk stripe.number row (good layout stripe row of) part has l (column * 4096) 4096 (omega (arith, lt)) (omega (arith, lt)))
+
+  pub counted_all : (images : Images) → count_by (λ column. is_decided images layout row column && differs images layout row part column)
+      (range_with_len 0 16) ≡ length (parity_writes images layout row part)
+  counted_all images = sym (count_filter (sector_write images layout row part)
+      (λ column. is_decided images layout row column && differs images layout row part column) (range_with_len 0 16)
+      (λ i d lt. let below : i < 16 = omega (arith, lt, length-range_with_len 0 16) in
+      subst IsSome (sym (ap (sector_write images layout row part) (column_at i d below) ∙ sector_at images i below)) refl))
+
+  -- the sector's place, as it is computed
+  pub record Written (element : Range) (column : ℕ) (slots : List Slot) : Type 0 where
+    pub open_slot : element.slot < length slots
+    pub within : element.off + column * 4096 + 4096 ≤ len_of slots element.slot
+    pub small : element.off + column * 4096 < 2 ^ 64
+
+  module _ (element : Range) (is : range_in_element layout row part 0 65536 ≡ Some element) (column : ℕ) (lt : column < 16) where
+    pub written : (slots : List Slot) → AreOpen slots layout.devices → Written element column slots
+    written slots are =
+        let a = is_at layout stripe.chunk stripe.number row (good layout stripe row of) part has l element is in
+        let there = open_at layout stripe.chunk stripe.number row (good layout stripe row of) part has l slots are in
+        record {
+          open_slot = omega (arith, a.slot, there.0);
+          within = omega (arith, ap (len_of slots) a.slot, a.off, there.1, lt);
+          small = omega (arith, a.off, l.small, lt);
+        }
+
+    pub in_the_row : (n : ℕ) → n ≡ 4096 → IsOfRow layout row (range_in element.slot (element.off + column * 4096) n)
+    in_the_row n long =
+        let a = is_at layout stripe.chunk stripe.number row (good layout stripe row of) part has l element is in
+        subst (λ s. IsOfRow layout row (range_in s (element.off + column * 4096) n)) (sym a.slot)
+        (subst (λ o. IsOfRow layout row (range_in l.slot (o + column * 4096) n)) (sym a.off)
+        (is_of_row layout stripe.chunk stripe.number row (good layout stripe row of) part has l (column * 4096) n (omega (arith, long, lt))))
+
+    -- one write, where the parity is wrong
+    pub writes_sector : (images : Images) (sums : List ℕ) → 65536 ≤ length sums → take 65536 sums
+        ≡ element_with images layout (accepted images) row part → (is_decided images layout row column && differs images layout row part column) ≡ true
+        → write_at element.slot (element.off + column * 4096) (slice_range sums (column * 4096) (column * 4096 + 4096)) ∷ []
+        ≡ column_writes layout row part images column
+    writes_sector images sums room new wrong =
+        let a = is_at layout stripe.chunk stripe.number row (good layout stripe row of) part has l element is in
+        let bytes = slice_range sums (column * 4096) (column * 4096 + 4096) in
+        let long : length bytes ≡ 4096 = length-range sums (column * 4096) 4096 (omega (arith, room, lt)) in
+        let same : bytes ≡ column_of column (element_with images layout (accepted images) row part) = sym (front_range sums 65536 (column * 4096) (column * 4096 + 4096) (omega arith) (omega (arith, lt))) ∙ ap (column_of column) new in
+        ap (λ s. write_at s (element.off + column * 4096) bytes ∷ []) a.slot
+        ∙ ap (λ o. write_at l.slot (o + column * 4096) bytes ∷ []) a.off
+        ∙ ap (λ n. made (range_in l.slot (l.off + column * 4096) n) bytes ∷ []) long
+        ∙ ap (λ bs. made (range_in l.slot (l.off + column * 4096) 4096) bs ∷ []) same
+        ∙ sym (ap (λ b. cond b (cons_option (sector_write images layout row part column) []) []) wrong
+        ∙ ap (λ o. cons_option o []) (sector_at images column lt))
+
+-- and none where it isn't
+pub writes_none : (images : Images) (layout : Layout) (row : Row) (part : Part) (column : ℕ)
+    → (is_decided images layout row column && differs images layout row part column) ≡ false → [] ≡ column_writes layout row part images column
+writes_none images layout row part column right = sym (ap (λ b. cond b (cons_option (sector_write images layout row part column) []) []) right)

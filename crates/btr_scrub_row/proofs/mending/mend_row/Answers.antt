@@ -1,0 +1,140 @@
+use Rattle.std.proofs.Common.{◌≡◌, length, Some, Ok, Err, refl, sym, ap, ◌∙◌, subst}
+use Rattle.btr_read.specs.Layout.{AreOpen, Layout}
+use Rattle.btr_read.specs.Store.{Blocks}
+use Rattle.btr_read.proofs.ReadsOn.{open_still, same_held, same_slots}
+use Rattle.btr_read.proofs.Serving.{serves_as, serving}
+use Rattle.btr_scrub_copies.specs.Writes.{Images}
+use Rattle.btr_scrub_copies.proofs.Outcomes.{serves_forgot}
+use Rattle.std.specs.List.{sum_by}
+use Rattle.btr_scrub_row.specs.Rows.{Row, parities, parity_writes}
+use Rattle.btr_scrub_row.specs.Memory.{IsStripeOf}
+use Rattle.btr_scrub_row.specs.Preparing.{IsPrepared, WritesInTurn}
+use Rattle.btr_scrub_row.proofs.Outcomes.{mends_cut, mends_failed, mends_read, mends_wrote, room_all, row_of, tells_prepared}
+use Rattle.btr_scrub_row.proofs.mending.mend_row.Goals as goal
+
+pub prepare-requires-clause-open : goal.prepare-requires-clause-open
+prepare-requires-clause-open g c = let was = serving (g.R.Rack.seen c.args.rack.now) c.args.store.now c.requires.serves in was.are_open
+
+pub returns-in-Err-clause-serves : goal.returns-in-Err-clause-serves
+returns-in-Err-clause-serves g c = serves_as (g.R.Rack.seen c.args.rack.now) (g.R.Rack.seen c.prepare.new.rack) c.args.store.now c.args.store.now
+    (same_slots c.prepare.ensures.reads) (same_held c.prepare.ensures.reads) refl refl c.requires.serves
+
+pub returns-then-not-write-clause-serves : goal.returns-then-not-write-clause-serves
+returns-then-not-write-clause-serves g c = serves_as (g.R.Rack.seen c.args.rack.now) (g.R.Rack.seen c.prepare.new.rack) c.args.store.now
+    c.args.store.now (same_slots c.prepare.ensures.reads) (same_held c.prepare.ensures.reads) refl refl c.requires.serves
+
+pub returns-in-Err-clause-mends : goal.returns-in-Err-clause-mends
+returns-in-Err-clause-mends g c row is kept =
+    let layout = c.args.store.now.layout in
+    let of = c.full_stripe-stripe.ensures row is.stripe in
+    mends_failed layout row c.args.write c.args.marks.now (g.R.Rack.seen c.args.rack.now) (g.R.Rack.seen c.prepare.new.rack) c.prepare.ensures.reads
+    c.in-Err.fault (c.in-Err.ensures.account row of)
+
+pub count_parities-requires-clause-room : goal.count_parities-requires-clause-room
+count_parities-requires-clause-room g c = λ row of.
+    let layout = c.args.store.now.layout in
+    let r = c.requires.row in
+    let of0 = c.full_stripe-stripe.ensures r.row r.is.stripe in
+    c.prepare.ensures.room (length row.chunk.stripes) (room_all layout c.full_stripe-stripe.result r.row row c.args.buffer.now of0 of (c.requires.room r.row r.is))
+
+pub returns-then-not-write-clause-mends : goal.returns-then-not-write-clause-mends
+returns-then-not-write-clause-mends g c row is kept =
+    let layout = c.args.store.now.layout in
+    let stripe = c.full_stripe-stripe.result in
+    let of = c.full_stripe-stripe.ensures row is.stripe in
+    let rows = row_of layout stripe c.args.at.chunk c.args.at.number c.args.wants.now row of is in
+    let a = g.R.Rack.seen c.args.rack.now in
+    let b = g.R.Rack.seen c.prepare.new.rack in
+    let judged = c.in-Ok.judged in
+    let buffer = c.prepare.new.buffer in
+    let prepared = λ (images : Images) (e : a.held ≡ Some images). c.in-Ok.ensures.prepared images row e of rows kept in
+    mends_read layout row c.args.write c.args.marks.now a b c.prepare.ensures.reads (c.in-Ok.ensures.account row of) judged buffer prepared
+    c.count_parities.result
+    (λ images e. c.count_parities.ensures images row of (prepared images e)) c.if-not-write.true
+
+pub write_row-requires-clause-open : goal.write_row-requires-clause-open
+write_row-requires-clause-open g c =
+    let was = serving (g.R.Rack.seen c.args.rack.now) c.args.store.now c.requires.serves in
+    let same : c.args.store.now.layout ≡ c.forget_kept.new.self.layout = sym (ap (λ (s : Blocks). s.layout) c.forget_kept.ensures) in
+    subst (λ (l : Layout). AreOpen (g.R.Rack.seen c.prepare.new.rack).slots l.devices) same
+    (open_still c.args.store.now.layout.devices c.prepare.ensures.reads was.are_open)
+
+pub write_row-requires-clause-room : goal.write_row-requires-clause-room
+write_row-requires-clause-room g c = λ row of.
+    let layout = c.args.store.now.layout in
+    let same : c.forget_kept.new.self.layout ≡ layout = ap (λ (s : Blocks). s.layout) c.forget_kept.ensures in
+    let r = c.requires.row in
+    let of0 = c.full_stripe-stripe.ensures r.row r.is.stripe in
+    c.prepare.ensures.room (length row.chunk.stripes) (room_all layout c.full_stripe-stripe.result r.row row c.args.buffer.now of0
+    (subst (λ l. IsStripeOf l c.full_stripe-stripe.result row) same of) (c.requires.room r.row r.is))
+
+pub count_parities-requires-in-Ok-write_row-clause-room : goal.count_parities-requires-in-Ok-write_row-clause-room
+count_parities-requires-in-Ok-write_row-clause-room g c = λ row of.
+    let layout = c.args.store.now.layout in
+    let same : c.forget_kept.new.self.layout ≡ layout = ap (λ (s : Blocks). s.layout) c.forget_kept.ensures in
+    let r = c.requires.row in
+    let of0 = c.full_stripe-stripe.ensures r.row r.is.stripe in
+    c.write_row.ensures.room (length row.chunk.stripes)
+    (c.prepare.ensures.room (length row.chunk.stripes) (room_all layout c.full_stripe-stripe.result r.row row c.args.buffer.now of0
+    (subst (λ l. IsStripeOf l c.full_stripe-stripe.result row) same of) (c.requires.room r.row r.is)))
+
+pub returns-in-Ok-write_row-clause-serves : goal.returns-in-Ok-write_row-clause-serves
+returns-in-Ok-write_row-clause-serves g c =
+    serves_forgot (g.R.Rack.seen c.args.rack.now) (g.R.Rack.seen c.write_row.new.rack) c.args.store.now c.forget_kept.new.self c.requires.serves
+    c.forget_kept.ensures (c.write_row.ensures.slots ∙ same_slots c.prepare.ensures.reads)
+
+pub returns-in-Err-write_row-clause-serves : goal.returns-in-Err-write_row-clause-serves
+returns-in-Err-write_row-clause-serves g c =
+    serves_forgot (g.R.Rack.seen c.args.rack.now) (g.R.Rack.seen c.write_row.new.rack) c.args.store.now c.forget_kept.new.self c.requires.serves
+    c.forget_kept.ensures (c.write_row.ensures.slots ∙ same_slots c.prepare.ensures.reads)
+
+pub returns-in-Ok-write_row-clause-room : goal.returns-in-Ok-write_row-clause-room
+returns-in-Ok-write_row-clause-room g c = λ n room. c.write_row.ensures.room n (c.prepare.ensures.room n room)
+
+pub returns-in-Err-write_row-clause-room : goal.returns-in-Err-write_row-clause-room
+returns-in-Err-write_row-clause-room g c = λ n room. c.write_row.ensures.room n (c.prepare.ensures.room n room)
+
+pub returns-in-Ok-write_row-clause-mends : goal.returns-in-Ok-write_row-clause-mends
+returns-in-Ok-write_row-clause-mends g c row is kept =
+    let layout = c.args.store.now.layout in
+    let stripe = c.full_stripe-stripe.result in
+    let same : c.forget_kept.new.self.layout ≡ layout = ap (λ (s : Blocks). s.layout) c.forget_kept.ensures in
+    let of = c.full_stripe-stripe.ensures row is.stripe in
+    let rows = row_of layout stripe c.args.at.chunk c.args.at.number c.args.wants.now row of is in
+    let a = g.R.Rack.seen c.args.rack.now in
+    let b = g.R.Rack.seen c.prepare.new.rack in
+    let d = g.R.Rack.seen c.write_row.new.rack in
+    let judged = c.in-Ok.judged in
+    let buffer = c.prepare.new.buffer in
+    let m = c.args.marks.now in
+    let m' = c.write_row.new.marks in
+    let prepared = λ (images : Images) (e : a.held ≡ Some images). c.in-Ok.ensures.prepared images row e of rows kept in
+    let turns = subst (λ (l : Layout). WritesInTurn {A = Unit {0}} l stripe c.args.wants.now judged buffer m m' b d (Ok tt)) same c.in-Ok-write_row.ensures.writes in
+    let later = subst (λ (l : Layout). (images : Images) (row : Row) → IsPrepared images l row judged buffer → IsPrepared images l row judged c.write_row.new.buffer) same c.in-Ok-write_row.ensures.prepared in
+    let of' : IsStripeOf c.forget_kept.new.self.layout stripe row = subst (λ l. IsStripeOf l stripe row) (sym same) of in
+    mends_wrote layout row c.args.write m a b c.prepare.ensures.reads c.if-not-write.false m' d (c.in-Ok.ensures.account row of) judged buffer
+    prepared c.count_parities-in-Ok-write_row.result
+    (λ images e. subst (λ (l : Layout). c.count_parities-in-Ok-write_row.result
+    ≡ sum_by (λ part. length (parity_writes images l row part)) (parities row.chunk.profile)) same
+    (c.count_parities-in-Ok-write_row.ensures images row of'
+    (subst (λ (l : Layout). IsPrepared images l row judged c.write_row.new.buffer) (sym same) (later images row (prepared images e)))))
+    (turns a.held row of rows (tells_prepared layout row judged buffer a b c.prepare.ensures.reads prepared))
+
+pub returns-in-Err-write_row-clause-mends : goal.returns-in-Err-write_row-clause-mends
+returns-in-Err-write_row-clause-mends g c row is kept =
+    let layout = c.args.store.now.layout in
+    let stripe = c.full_stripe-stripe.result in
+    let same : c.forget_kept.new.self.layout ≡ layout = ap (λ (s : Blocks). s.layout) c.forget_kept.ensures in
+    let of = c.full_stripe-stripe.ensures row is.stripe in
+    let rows = row_of layout stripe c.args.at.chunk c.args.at.number c.args.wants.now row of is in
+    let a = g.R.Rack.seen c.args.rack.now in
+    let b = g.R.Rack.seen c.prepare.new.rack in
+    let d = g.R.Rack.seen c.write_row.new.rack in
+    let judged = c.in-Ok.judged in
+    let buffer = c.prepare.new.buffer in
+    let m = c.args.marks.now in
+    let m' = c.write_row.new.marks in
+    let prepared = λ (images : Images) (e : a.held ≡ Some images). c.in-Ok.ensures.prepared images row e of rows kept in
+    let fault = c.in-Err-write_row.fault in
+    let turns = subst (λ (l : Layout). WritesInTurn {A = Unit {0}} l stripe c.args.wants.now judged buffer m m' b d (Err fault)) same c.in-Err-write_row.ensures.writes in
+    mends_cut layout row c.args.write m a b c.prepare.ensures.reads c.if-not-write.false m' d (c.in-Ok.ensures.account row of) fault (turns a.held row of rows (tells_prepared layout row judged buffer a b c.prepare.ensures.reads prepared))

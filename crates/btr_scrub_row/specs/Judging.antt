@@ -1,0 +1,89 @@
+-- What comes of one block, and of the first blocks of a row.
+use Rattle.std.specs.Prelude.{◌≡◌, ℕ, ◌+◌, ◌*◌, ◌≤◌, ◌<◌, ◌&&◌, ◌||◌, Bool, false, not, List, length, nat_lt, slice_index_or, Some, None, IsSome, Ok, count_by, ◌==◌, if◌then◌else◌}
+use Rattle.std.specs.List.{filter, fold, list_any, sum_by}
+use Rattle.std.specs.Option.{option_map_or}
+use Rattle.btr_chunk.specs.Chunk.{IsChunk, mirrors}
+use Rattle.btr_chunk.specs.Mapping.{IsPosition}
+use Rattle.btr_chunk.specs.declared.place.Part.TheVariants.{Slice}
+use Rattle.btr_rack.specs.Rack.{pasted}
+use Rattle.btr_read.specs.Candidates as candidates
+use Rattle.btr_read.specs.Candidates.{Target, range_of, size_of}
+use Rattle.btr_read.specs.Fate.{sought}
+use Rattle.btr_read.specs.Layout.{Layout}
+use Rattle.btr_read.specs.declared.want.Want.{Want}
+use Rattle.btr_scrub_copies.specs.Blocks.{accepted, bad_parts, block_writes, is_good, is_lost}
+use Rattle.btr_scrub_copies.specs.Writes.{Images}
+use Rattle.btr_scrub_row.specs.Rows.{Row, element, meets, slice_count, with_block}
+use Rattle.btr_scrub_row.specs.Mending.{AreKept, IsOn, IsRowOf}
+use Rattle.btr_scrub_row.specs.Memory.{HoldsRow, IsSpot, IsStripeOf, element_in}
+use Rattle.btr_scrub_row.specs.declared.judged.Judged.{Judged}
+use Rattle.btr_scrub_row.specs.declared.judging.Verdict.{Verdict}
+use Rattle.btr_scrub_row.specs.declared.shape.Shape.{Shape}
+use Rattle.btr_scrub_row.specs.declared.spot.Spot.{Spot}
+use Rattle.btr_scrub_row.specs.declared.stripe.FullStripe.{FullStripe}
+
+-- a want's block lies in a full stripe
+pub record IsIn (layout : Layout) (stripe : FullStripe) (want : Want) : Type 0 where
+  pub target : Target
+  pub is_sought : sought layout want ≡ Ok target
+  pub row : Row
+  pub of : IsStripeOf layout stripe row
+  pub on : IsOn row target
+
+-- a block's place, in a chunk that keeps the rule
+pub record IsPlaced (shape : Shape) (t : Target) (spot : Spot) : Type 0 where
+  pub shape_is : spot.shape ≡ shape
+  pub index : spot.index ≡ t.at.index
+  pub rest : spot.rest ≡ t.at.rest
+  pub len : spot.len ≡ size_of t
+  pub keeps_rule : IsChunk t.chunk
+  pub position : IsPosition t.chunk t.at
+  pub inside : t.at.rest + size_of t ≤ 65536
+
+-- what comes of a block, and of the new data
+pub record FitsVerdict (images : Images) (t : Target) (old new : List ℕ) (verdict : Verdict) : Type 0 where
+  pub parity : mirrors t.chunk ≡ None
+  pub index : t.at.index < candidates.slice_count t
+  pub inside : t.at.rest + size_of t ≤ 65536
+  pub stand : IsSome (range_of t (Slice t.at.index))
+  pub long : (bytes : List ℕ) → accepted images t ≡ Some bytes → length bytes ≡ size_of t
+  pub spot : IsSpot t verdict.spot
+  pub good : verdict.good ≡ is_good images t (Slice t.at.index)
+  pub lost : verdict.lost ≡ is_lost images t
+  pub pasted_is : new ≡ option_map_or (pasted old (t.at.index * 65536 + t.at.rest)) (accepted images t) old
+
+-- what comes of a wanted block of a row in memory
+abbrev pub JudgesBlock : Layout → FullStripe → Want → List ℕ → List ℕ → List ℕ → Verdict → Type 0
+JudgesBlock layout stripe want bytes old new verdict =
+    (images : Images) (row : Row) (t : Target) → IsStripeOf layout stripe row → HoldsRow images layout row bytes → sought layout want ≡ Ok t → FitsVerdict images t old new verdict
+
+-- a column's flag
+abbrev pub flag : List Bool → ℕ → Bool
+flag flags column = slice_index_or flags column false
+
+-- a block has bytes in a column
+abbrev pub meets_spot : ℕ → Spot → Bool
+meets_spot column spot = nat_lt spot.rest (column * 4096 + 4096) && nat_lt (column * 4096) (spot.rest + spot.len)
+
+-- one more block was counted
+pub record IsCounted (old : Judged) (verdict : Verdict) (new : Judged) : Type 0 where
+  pub bad : new.bad ≡ old.bad + (if not verdict.good then 1 else 0)
+  pub rebuilt : new.rebuilt ≡ old.rebuilt + (if not verdict.good && not verdict.lost then 1 else 0)
+  pub lost : new.lost ≡ old.lost + (if verdict.lost then 1 else 0)
+  pub met : (column : ℕ) → column < 16 → slice_index_or new.met column false ≡ (slice_index_or old.met column false || meets_spot column verdict.spot)
+  pub broken : (column : ℕ) → column < 16 → slice_index_or new.broken column false ≡ (slice_index_or old.broken column false || (verdict.lost && meets_spot column verdict.spot))
+
+-- what some blocks of a row come to: the new data, the counts, and the columns
+pub record AreJudged (images : Images) (layout : Layout) (row : Row) (ts : List Target) (new : List ℕ) (judged : Judged) : Type 0 where
+  pub slices : (i : ℕ) → i < slice_count row → element_in new i ≡ fold (with_block images layout (accepted images)) (element images layout row (Slice i)) (filter (λ t. t.at.index == i) ts)
+  pub bad : judged.bad ≡ sum_by (λ t. length (bad_parts images t)) ts
+  pub rebuilt : judged.rebuilt ≡ sum_by (λ t. length (block_writes images t)) ts
+  pub lost : judged.lost ≡ count_by (is_lost images) ts
+  pub met : (column : ℕ) → column < 16 → slice_index_or judged.met column false ≡ list_any (meets column) ts
+  pub broken : (column : ℕ) → column < 16 → slice_index_or judged.broken column false ≡ (row.kept column || list_any (λ t. is_lost images t && meets column t) ts)
+
+-- the wanted blocks of a row in memory were judged
+abbrev pub JudgesRow : Layout → FullStripe → List Want → List Bool → List ℕ → List ℕ → Judged → Type 0
+JudgesRow layout stripe wants kept old new judged =
+    (images : Images) (row : Row) → IsStripeOf layout stripe row → IsRowOf layout stripe.chunk stripe.number wants row → AreKept kept row → HoldsRow images layout row old
+    → AreJudged images layout row row.blocks new judged

@@ -1,0 +1,211 @@
+-- A row's bytes in memory, element by element: the slices, P, and Q; and a block of it.
+use Rattle.std.specs.List.{All, range_with_len}
+use Rattle.std.specs.Prelude.{◌≡◌, ℕ, ◌+◌, ◌*◌, ◌<◌, ◌≤◌, ◌==◌, Bool, false, List, length, map, nat_lt, take, Option, Some, None, IfSome, IsSome, Result, Ok, slice_get, slice_range, if◌then◌else◌}
+use Rattle.btr_chunk.specs.Chunk.{IsChunk, mirrors}
+use Rattle.btr_chunk.specs.Mapping.{HasPart, IsPosition}
+use Rattle.btr_chunk.specs.declared.place.Part.{Part}
+use Rattle.btr_chunk.specs.declared.place.Part.TheVariants.{Slice, P, Q}
+use Rattle.btr_chunk.specs.declared.profile.Profile.{Profile}
+use Rattle.btr_chunk.specs.declared.profile.Profile.TheVariants.{Raid6}
+use Rattle.btr_parity.specs.Field.{power}
+use Rattle.btr_parity.specs.Slices.{IsSlice, plus, scaled, parity_p, parity_q}
+use Rattle.btr_read.specs.Candidates as candidates
+use Rattle.btr_read.specs.Candidates.{Target, rebuilt, size_of, value_of}
+use Rattle.btr_read.specs.Fate.{sought}
+use Rattle.btr_read.specs.Gathering.{read_slices}
+use Rattle.btr_read.specs.Layout.{Layout}
+use Rattle.btr_read.specs.declared.candidate.Candidate.{Candidate}
+use Rattle.btr_read.specs.declared.candidate.Candidate.TheVariants.{Read, ByP, ByQ, ByBoth}
+use Rattle.btr_read.specs.declared.want.Want.{Want}
+use Rattle.btr_rack.specs.Rack.{Seen}
+use Rattle.btr_scrub_copies.specs.Blocks.{accepted, is_good}
+use Rattle.btr_scrub_copies.specs.Writes.{AccountsMend, Images}
+use Rattle.btr_scrub_copies.specs.declared.mended.MendFault.{MendFault}
+use Rattle.btr_scrub_row.specs.Rows.{Row, element, parities, slice_count}
+use Rattle.btr_scrub_row.specs.Mending.{IsFullStripe, IsOfRow}
+use Rattle.btr_scrub_row.specs.declared.stripe.FullStripe.{FullStripe}
+use Rattle.btr_scrub_row.specs.declared.parity.Parity.{Parity}
+use Rattle.btr_scrub_row.specs.declared.parity.Parity.TheVariants as parity
+use Rattle.btr_scrub_row.specs.declared.shape.Shape.{Shape}
+use Rattle.btr_scrub_row.specs.declared.spot.Spot.{Spot}
+
+-- the profile of a row, and how many slices it has
+pub record IsShape (row : Row) (shape : Shape) : Type 0 where
+  pub slices : shape.slices ≡ slice_count row
+  pub profile : shape.profile ≡ row.chunk.profile
+
+-- the bytes of an element
+abbrev pub element_in : List ℕ → ℕ → List ℕ
+element_in bytes e = slice_range bytes (e * 65536) (e * 65536 + 65536)
+
+-- the first elements, as slices
+abbrev pub slices_in : List ℕ → ℕ → List (List ℕ)
+slices_in bytes n = map (element_in bytes) (range_with_len 0 n)
+
+-- so many bytes from a place on
+abbrev pub piece_at : List ℕ → ℕ → ℕ → List ℕ
+piece_at bytes start len = slice_range bytes start (start + len)
+
+-- the part whose element has a number, of k slices
+abbrev pub part_at : ℕ → ℕ → Part
+part_at k e = if nat_lt e k then Slice e else (if e == k then P else Q)
+
+-- how many elements a row has
+abbrev pub element_count : Row → ℕ
+element_count row = slice_count row + length (parities row.chunk.profile)
+
+-- the first elements of a row are in memory
+pub record HoldsFirst (images : Images) (layout : Layout) (row : Row) (bytes : List ℕ) (n : ℕ) : Type 0 where
+  pub elements : (e : ℕ) → e < n → element_in bytes e ≡ element images layout row (part_at (slice_count row) e)
+
+-- all are
+abbrev pub HoldsRow : Images → Layout → Row → List ℕ → Type 0
+HoldsRow images layout row bytes = HoldsFirst images layout row bytes (element_count row)
+
+-- a full stripe is this row, in a chunk that keeps the rule
+pub record IsStripeOf (layout : Layout) (stripe : FullStripe) (row : Row) : Type 0 where
+  pub is : IsFullStripe layout stripe.chunk stripe.number row
+  pub shape : IsShape row stripe.shape
+  pub keeps_rule : IsChunk row.chunk
+  pub nodesize : stripe.nodesize ≡ layout.setting.nodesize
+
+-- there is such a row
+pub record IsStripe (layout : Layout) (stripe : FullStripe) : Type 0 where
+  pub row : Row
+  pub of : IsStripeOf layout stripe row
+
+-- this holds of it
+abbrev pub OfRow : Layout → FullStripe → (Row → Type 0) → Type 0
+OfRow layout stripe Fact = (row : Row) → IsStripeOf layout stripe row → Fact row
+
+-- it has a part
+abbrev pub IsPartOf : Layout → FullStripe → Part → Type 0
+IsPartOf layout stripe part = (row : Row) → IsStripeOf layout stripe row → HasPart row.chunk.profile (length row.chunk.stripes) part
+
+-- the account is as before, but where one of its elements failed
+abbrev pub AccountsRow : {A : Type 0} → Layout → FullStripe → Seen → Seen → Result A MendFault → Type 0
+AccountsRow layout stripe old new result = (row : Row) → IsStripeOf layout stripe row → AccountsMend (IsOfRow layout row) old new result
+
+-- an element was read, where no read failed
+abbrev pub ReadsElement : Layout → FullStripe → Part → List ℕ → Option Images → Type 0
+ReadsElement layout stripe part bytes held = IfSome held (λ images. (row : Row) → IsStripeOf layout stripe row → bytes ≡ element images layout row part)
+
+-- so were all
+abbrev pub ReadsRow : Layout → FullStripe → List ℕ → Option Images → Type 0
+ReadsRow layout stripe bytes held = IfSome held (λ images. (row : Row) → IsStripeOf layout stripe row → HoldsRow images layout row bytes)
+
+-- ---- a block
+
+-- the bytes of an element at a block's place
+abbrev pub piece_in : List ℕ → Spot → ℕ → List ℕ
+piece_in bytes spot e = slice_range bytes (e * 65536 + spot.rest) (e * 65536 + spot.rest + spot.len)
+
+-- a block's place in a row
+pub record IsSpot (t : Target) (spot : Spot) : Type 0 where
+  pub slices : spot.shape.slices ≡ candidates.slice_count t
+  pub profile : spot.shape.profile ≡ t.chunk.profile
+  pub index : spot.index ≡ t.at.index
+  pub rest : spot.rest ≡ t.at.rest
+  pub len : spot.len ≡ size_of t
+
+-- a block's place in a row of a chunk that keeps the rule, and has parity
+pub record IsSited (spot : Spot) (t : Target) : Type 0 where
+  pub place : IsSpot t spot
+  pub keeps_rule : IsChunk t.chunk
+  pub position : IsPosition t.chunk t.at
+  pub parity : mirrors t.chunk ≡ None
+
+-- a place that lies in the elements in memory
+pub record FitsIn (bytes : List ℕ) (spot : Spot) : Type 0 where
+  pub few : spot.shape.slices ≤ 63
+  pub index : spot.index < spot.shape.slices
+  pub inside : spot.rest + spot.len ≤ 65536
+  pub p : (spot.shape.slices + 1) * 65536 ≤ length bytes
+  pub q : spot.shape.profile ≡ Raid6 → (spot.shape.slices + 2) * 65536 ≤ length bytes
+
+-- all that a block's candidates read is in memory
+pub record HoldsBlock (images : Images) (t : Target) (spot : Spot) (bytes : List ℕ) : Type 0 where
+  pub keeps_rule : IsChunk t.chunk
+  pub position : IsPosition t.chunk t.at
+  pub parity : mirrors t.chunk ≡ None
+  pub stand : (part : Part) → HasPart t.chunk.profile (length t.chunk.stripes) part → IsSome (candidates.range_of t part)
+  pub slices : (i : ℕ) → i < candidates.slice_count t → piece_in bytes spot i ≡ candidates.element images t (Slice i)
+  pub p : piece_in bytes spot (candidates.slice_count t) ≡ candidates.element images t P
+  pub q : t.chunk.profile ≡ Raid6 → piece_in bytes spot (candidates.slice_count t + 1) ≡ candidates.element images t Q
+
+-- a block with its place, whose candidates are in memory
+pub record IsHeld (images : Images) (t : Target) (spot : Spot) (bytes : List ℕ) : Type 0 where
+  pub place : IsSpot t spot
+  pub block : HoldsBlock images t spot bytes
+
+-- ---- what the parities leave of slices
+
+-- the part of a full stripe that a parity is
+abbrev pub part_of : Parity → Part
+part_of parity.P = P
+part_of parity.Q = Q
+
+-- the number of a parity's element: P's comes after the slices, and then Q's
+abbrev pub element_of : Parity → ℕ → ℕ
+element_of parity.P slices = slices
+element_of parity.Q slices = slices + 1
+
+-- what a slice adds to a parity
+abbrev pub weighed : Parity → ℕ → List ℕ → List ℕ
+weighed parity.P i slice = slice
+weighed parity.Q i slice = scaled (power i) slice
+
+-- the parity of slices
+abbrev pub parity_of : Parity → ℕ → List (List ℕ) → List ℕ
+parity_of parity.P size slices = parity_p size slices
+parity_of parity.Q size slices = parity_q size slices
+
+-- a parity less the slices that a candidate reads
+pub record IsLeft (images : Images) (t : Target) (c : Candidate) (p : Parity) (bytes : List ℕ) : Type 0 where
+  pub slices : All (IsSlice (size_of t)) (read_slices images t c)
+  pub whole : IsSlice (size_of t) (candidates.element images t (part_of p))
+  pub sum : bytes ≡ plus (candidates.element images t (part_of p)) (parity_of p (size_of t) (read_slices images t c))
+
+-- the row has a parity
+abbrev pub HasParity : Profile → Parity → Type 0
+HasParity profile parity.P = Unit {0}
+HasParity profile parity.Q = profile ≡ Raid6
+
+-- a candidate reads Q
+abbrev pub ReadsQ : Candidate → Type 0
+ReadsQ (Read part) = ⊥
+ReadsQ ByP = ⊥
+ReadsQ ByQ = Unit {0}
+ReadsQ (ByBoth j) = Unit {0}
+
+-- the front of a buffer has what a parity leaves of the slices that a candidate doesn't read
+abbrev pub Gathers : Spot → List ℕ → Candidate → Parity → List ℕ → Type 0
+Gathers spot bytes c p sum = (images : Images) (t : Target) → IsHeld images t spot bytes → IsLeft images t c p (take spot.len sum)
+
+-- the front of a buffer has what a candidate gives
+abbrev pub Computes : Spot → List ℕ → Candidate → List ℕ → Type 0
+Computes spot bytes c block = (images : Images) (t : Target) → IsHeld images t spot bytes → value_of images t c ≡ take spot.len block
+
+-- a candidate for slice i is the way of a number, of so many slices
+abbrev pub IsCandidate : Profile → ℕ → ℕ → ℕ → Candidate → Type 0
+IsCandidate profile slices i k c = slice_get (rebuilt profile slices i) k ≡ Some c
+
+-- what is accepted for the block is in the front of a buffer, and whether the block passes at its own place
+pub record IsAccepted (images : Images) (t : Target) (block : List ℕ) (own : Bool) : Type 0 where
+  pub bytes : accepted images t ≡ Some (take (size_of t) block)
+  pub good : is_good images t (Slice t.at.index) ≡ own
+
+-- no candidate passes
+pub record IsGone (images : Images) (t : Target) : Type 0 where
+  pub bytes : accepted images t ≡ None
+  pub good : is_good images t (Slice t.at.index) ≡ false
+
+-- what is accepted for a block
+abbrev pub Accepts : Images → Target → List ℕ → Option Bool → Type 0
+Accepts images t block (Some own) = IsAccepted images t block own
+Accepts images t block None = IsGone images t
+
+-- the same for a wanted block
+abbrev pub AcceptsWant : Layout → Want → Spot → List ℕ → List ℕ → Option Bool → Type 0
+AcceptsWant layout want spot bytes block own =
+    (images : Images) (t : Target) → sought layout want ≡ Ok t → IsHeld images t spot bytes → Accepts images t block own

@@ -1,0 +1,101 @@
+// What the parities leave of slices, in memory.
+ghost use Rattle.std.specs.Prelude.{◌≡◌, ◌≢◌, ◌+◌, ◌≤◌, length, take};
+ghost use Rattle.btr_parity.specs.Slices.{plus};
+ghost use Rattle.btr_parity.specs.Solutions.{IsTheOne, Weighs, WeighsWith};
+ghost use Rattle.btr_read.specs.Candidates.{reads_slice};
+ghost use Rattle.btr_scrub_row.specs.Memory.{FitsIn, Gathers, HasParity, piece_at, weighed};
+
+use crate::parity::Parity;
+use crate::spot::Spot;
+use btr_parity::{fold_p, fold_q, rebuild_pq, rebuild_q};
+use btr_read::Candidate;
+
+// Copies some bytes into the front of a buffer.
+pub(crate) fn copy_front(front: &mut [u8], bytes: &[u8], start: usize, len: usize)
+    requires fits { len ≤ length front.old }
+    requires within { start + len ≤ length bytes.now }
+    ensures front { take len front.new ≡ piece_at bytes.now start len }
+    ensures long { length front.new ≡ length front.old }
+{
+    front[..len].copy_from_slice(&bytes[start..start + len]);
+}
+
+// Adds some bytes of a slice to what the front of a buffer has of a parity.
+pub(crate) fn add_front(
+    parity: Parity,
+    front: &mut [u8],
+    bytes: &[u8],
+    start: usize,
+    len: usize,
+    index: u8,
+)
+    requires fits { len ≤ length front.old }
+    requires within { start + len ≤ length bytes.now }
+    requires is_index { index ≤ 62 }
+    ensures sum { take len front.new ≡ plus (take len front.old) (weighed parity index (piece_at bytes.now start len)) }
+    ensures long { length front.new ≡ length front.old }
+{
+    let piece = &bytes[start..start + len];
+    match parity {
+        Parity::P => fold_p(&mut front[..len], piece),
+        Parity::Q => fold_q(&mut front[..len], piece, index),
+    }
+}
+
+// Makes a slice of what Q leaves of it, in the front of a buffer.
+pub(crate) fn divide_front(front: &mut [u8], len: usize, index: u8)
+    requires fits { len ≤ length front.old }
+    requires is_index { index ≤ 62 }
+    ensures one { IsTheOne len (Weighs index (take len front.old)) (take len front.new) }
+    ensures long { length front.new ≡ length front.old }
+{
+    rebuild_q(&mut front[..len], index);
+}
+
+// Makes the first of two slices of what P and Q leave of them, in the fronts of two buffers.
+pub(crate) fn solve_front(p: &mut [u8], q: &[u8], len: usize, index: u8, other: u8)
+    requires fits { len ≤ length p.old }
+    requires q_fits { len ≤ length q.now }
+    requires is_index { index ≤ 62 }
+    requires is_other_index { other ≤ 62 }
+    requires differ { index ≢ other }
+    ensures one { IsTheOne len (WeighsWith (take len p.old) (take len q.now) index other) (take len p.new) }
+    ensures long { length p.new ≡ length p.old }
+{
+    rebuild_pq(&mut p[..len], &q[..len], index, other);
+}
+
+// Whether a candidate for slice `index` reads a slice.
+fn reads(candidate: Candidate, index: u32, slice: u32) -> bool
+    ensures { result ≡ reads_slice index candidate slice }
+{
+    match candidate {
+        Candidate::Read(_) => false,
+        Candidate::ByP => slice != index,
+        Candidate::ByQ => slice != index,
+        Candidate::ByBoth(other) => slice != index && slice != other,
+    }
+}
+
+// What a parity leaves of the slices that a candidate doesn't read, in the front of a buffer.
+pub(crate) fn gather(
+    bytes: &[u8],
+    spot: &Spot,
+    candidate: Candidate,
+    parity: Parity,
+    sum: &mut [u8],
+)
+    requires within { FitsIn bytes.now spot.now }
+    requires fits { spot.now.len ≤ length sum.old }
+    requires has { HasParity spot.now.shape.profile parity }
+    ensures left { Gathers spot.now bytes.now candidate parity sum.new }
+    ensures long { length sum.new ≡ length sum.old }
+{
+    let element = parity.element(spot.shape.slices);
+    copy_front(sum, bytes, spot.start(element), spot.len);
+    for slice in 0..spot.shape.slices {
+        if reads(candidate, spot.index, slice) {
+            add_front(parity, sum, bytes, spot.start(slice), spot.len, slice as u8);
+        }
+    }
+}

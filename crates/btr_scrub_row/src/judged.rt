@@ -1,0 +1,113 @@
+// The counts of the blocks of a row, and its columns.
+ghost use Rattle.std.specs.Prelude.{◌≡◌, ℕ, ◌+◌, ◌*◌, ◌<◌, ◌≤◌, ◌^◌, ◌||◌, length};
+ghost use Rattle.btr_scrub_row.specs.Mending.{IsRow};
+ghost use Rattle.btr_scrub_row.specs.Memory.{IsStripe, OfRow};
+ghost use Rattle.btr_scrub_row.specs.Judging.{IsCounted, JudgesRow, flag, meets_spot};
+
+use crate::buffer::ELEMENT;
+use crate::gathering::copy_front;
+use crate::judging::{Verdict, judge_block};
+use crate::spot::Spot;
+use crate::stripe::FullStripe;
+use btr_read::{Store, Want};
+
+// What the checked blocks of a row come to.
+#[derive(Clone, Copy, Debug, PartialEq, Eq)]
+pub(crate) struct Judged {
+    // How many don't pass at their own place.
+    pub(crate) bad: u64,
+    // How many of those have a candidate that passes.
+    pub(crate) rebuilt: u64,
+    // How many have none.
+    pub(crate) lost: u64,
+    // By column, whether it meets a block.
+    pub(crate) met: [bool; 16],
+    // By column, whether its parities are to be kept, or it meets a block that is lost.
+    pub(crate) broken: [bool; 16],
+}
+
+// Whether a block has bytes in a column.
+fn meets(column: usize, spot: &Spot) -> bool
+    requires column { column < 16 }
+    requires inside { spot.now.rest + spot.now.len ≤ 65536 }
+    ensures { result ≡ meets_spot column spot.now }
+{
+    spot.rest < column * 4096 + 4096 && column * 4096 < spot.rest + spot.len
+}
+
+fn either(one: bool, other: bool) -> bool
+    ensures { result ≡ (one || other) }
+{
+    one || other
+}
+
+// Flags by column, and those of the columns that a block meets.
+fn marked(flags: [bool; 16], spot: &Spot) -> [bool; 16]
+    requires inside { spot.now.rest + spot.now.len ≤ 65536 }
+    ensures { (column : ℕ) → column < 16 → flag result column ≡ (flag flags column || meets_spot column spot.now) }
+{
+    let mut flags = flags;
+    for column in 0..16 {
+        flags[column] = either(flags[column], meets(column, spot));
+    }
+    flags
+}
+
+// One more block.
+fn counted(judged: &Judged, verdict: &Verdict) -> Judged
+    requires inside { verdict.now.spot.rest + verdict.now.spot.len ≤ 65536 }
+    requires bad { judged.now.bad + 1 < 2 ^ 64 }
+    requires rebuilt { judged.now.rebuilt + 1 < 2 ^ 64 }
+    requires lost { judged.now.lost + 1 < 2 ^ 64 }
+    ensures { IsCounted judged.now verdict.now result }
+{
+    let is_rebuilt = !verdict.good && !verdict.lost;
+    Judged {
+        bad: judged.bad + u64::from(!verdict.good),
+        rebuilt: judged.rebuilt + u64::from(is_rebuilt),
+        lost: judged.lost + u64::from(verdict.lost),
+        met: marked(judged.met, &verdict.spot),
+        broken: if verdict.lost {
+            marked(judged.broken, &verdict.spot)
+        } else {
+            judged.broken
+        },
+    }
+}
+
+// Judges the blocks of a row as it was read, and makes the new data. The parities of some columns are to be kept.
+pub(crate) fn judge(
+    wants: &[Want],
+    stripe: &FullStripe,
+    kept: [bool; 16],
+    store: &Store,
+    old: &[u8],
+    new: &mut [u8],
+    block: &mut [u8],
+    spare: &mut [u8],
+) -> Judged
+    requires row { IsRow store.now.layout stripe.now.chunk stripe.now.number wants.now }
+    requires stripe { IsStripe store.now.layout stripe.now }
+    requires room { OfRow store.now.layout stripe.now (λ row. length row.chunk.stripes * 65536 ≤ length old.now) }
+    requires new_room { OfRow store.now.layout stripe.now (λ row. length row.chunk.stripes * 65536 ≤ length new.old) }
+    requires block { 65536 ≤ length block.old }
+    requires spare { 65536 ≤ length spare.old }
+    ensures judged { JudgesRow store.now.layout stripe.now wants.now kept old.now new.new result }
+    ensures long { length new.new ≡ length new.old }
+    ensures block_long { length block.new ≡ length block.old }
+    ensures spare_long { length spare.new ≡ length spare.old }
+{
+    copy_front(new, old, 0, stripe.shape.slices as usize * ELEMENT);
+    let mut judged = Judged {
+        bad: 0,
+        rebuilt: 0,
+        lost: 0,
+        met: [false; 16],
+        broken: kept,
+    };
+    for want in wants {
+        let verdict = judge_block(want, stripe, store, old, new, block, spare);
+        judged = counted(&judged, &verdict);
+    }
+    judged
+}

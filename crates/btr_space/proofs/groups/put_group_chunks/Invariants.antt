@@ -1,8 +1,0 @@
-use Rattle.std.proofs.Common.{take, filter_map}
-use Rattle.btr_refs.specs.Findings.{Adds}
-use Rattle.btr_space.specs.Groups.{group_chunk}
-use Rattle.btr_space.proofs.groups.put_group_chunks.Given as goal
-
--- the findings of the block groups so far
-abbrev pub invariant-loop-group : goal.invariant-loop-group
-invariant-loop-group l = Adds (filter_map (group_chunk l.fn.chunks) (take l.group-index l.groups)) l.fn.found l.found

@@ -1,8 +1,0 @@
-use Rattle.btr_sums.proofs.Keeping.{keeps_runs, keeps_uses}
-use Rattle.btr_sums.proofs.laws.keeps_law.Goals as goal
-
-pub returns : goal.returns
-returns c = record {
-  runs = keeps_runs;
-  uses = keeps_uses;
-}
