@@ -1,11 +1,12 @@
 -- A rack that reads ahead, and what is seen of it.
-use Rattle.std.specs.Prelude.{◌≡◌, ◌⊎◌, ◌<◌, false, ℕ, List, Option, IfSome, Box, Result, Err}
+use Rattle.std.specs.Prelude.{◌≡◌, ◌⊎◌, ◌<◌, false, ℕ, List, All, Option, IfSome, Box, Result, Err}
 use Rattle.btr_rack.specs.Rack.{Account, Accounts, IsRack, NoneFailed, Seen, range_in}
 use Rattle.btr_rack.specs.declared.error.RackError.{RackError}
 use Rattle.btr_rack.specs.declared.error.RackError.TheVariants.{Failed}
 use Rattle.btr_rack.specs.declared.place.Place.{Place}
 use Rattle.btr_ahead.specs.Ahead.{AreRead}
 use Rattle.btr_ahead.specs.declared.kept_bytes.KeptBytes.{KeptBytes}
+use Rattle.btr_ahead.specs.declared.kept_run.KeptRun.{KeptRun}
 
 -- the rack below, and the failed calls of this one
 pub record Reader (R : Type 0) : Type 0 where
@@ -19,6 +20,15 @@ reader rack account = record { rack = rack; account = account }
 -- what is kept, if anything is, are bytes of the images, where they are told
 abbrev pub KeepsRead : {A : Type 0} → Option (List (List ℕ)) → Option (Box KeptBytes A) → Type 0
 KeepsRead held kept = IfSome kept (λ b. AreRead held b.value)
+
+-- what a run keeps are bytes of the images, where they are told
+abbrev pub HasRead : Option (List (List ℕ)) → KeptRun → Type 0
+HasRead held run = KeepsRead held run.kept
+
+-- what each run keeps, the one in use and the others
+pub record HaveRead (held : Option (List (List ℕ))) (current : KeptRun) (others : List KeptRun) : Type 0 where
+  pub first : HasRead held current
+  pub rest : All (HasRead held) others
 
 -- what is seen of it: what is seen of the rack below, but that it isn't sure, and has an account of its own
 abbrev pub seen_ahead : Seen → Account → Seen

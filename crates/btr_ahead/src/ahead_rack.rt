@@ -1,41 +1,40 @@
 // A rack that reads sectors ahead.
-ghost use Rattle.std.specs.Prelude.{◌≡◌, ◌+◌, ◌<◌, ◌≤◌, List, ℕ, Option, length, false, IsTrue, OnOk, IsErrOf};
+ghost use Rattle.std.specs.Prelude.{◌≡◌, ◌+◌, ◌<◌, ◌≤◌, length, false, IsTrue, OnOk, IsErrOf};
 ghost use Rattle.btr_rack.specs.Rack.{AreBytesOf, Accounts, AccountsCall, AccountsNextOpening, FailsUnsure, OnlyCounts, OnlyReads, Opens, OpensSurely, Syncs, TakesFromShelf, Unsyncs, Writes, len_of, no_failure, opened_to_write, range_in};
-ghost use Rattle.btr_ahead.specs.Ahead.{AreRead, IsInSlot};
-ghost use Rattle.btr_ahead.specs.Reader.{AccountsAhead, KeepsRead, MayFailAhead, reader, seen_ahead};
+ghost use Rattle.btr_ahead.specs.Reader.{AccountsAhead, MayFailAhead, reader, seen_ahead};
 
-use crate::first_place::{FirstPlace, SECTOR};
-use crate::kept_bytes::{KeptBytes, NOWHERE, begins_in};
-use crate::sector_run::SectorRun;
+use crate::first_place::SECTOR;
+use crate::kept_bytes::{NOWHERE, begins_in};
+use crate::runs::Runs;
 use btr_rack::{Ledger, Opening, Place, Rack, RackError};
 use std::alloc::Global;
 use std::marker::Model;
 
 /// A rack that asks another one for sectors less often: where they are asked for one behind another, as many are read by one read as came
-/// before, up to 64, and kept for the calls that follow. All else is asked for as it comes.
+/// before, up to 64, and kept for the calls that follow. Four such runs are followed at once, so that each of up to four copies that are read in
+/// turn is read ahead; for a new run the one that was unused longest is given up. All else is asked for as it comes.
 ///
 /// A read of more sectors than were asked for isn't counted where it fails: then those that it was to read are read one by one, so that no good one is
-/// missed, and a bad one isn't tried again for each before it. The 262144 bytes that it keeps are had with the second sector of a run; where they can't
-/// be had, no more is read than is asked for.
+/// missed, and a bad one isn't tried again for each before it. The 262144 bytes that a run keeps are had with its second sector, and taken over by
+/// later ones; where they can't be had, no more is read than is asked for. A write or an opening ends all runs.
 #[derive(Drop)]
 pub struct AheadRack<R: Rack> {
     rack: R,
     alloc: Global,
-    kept: Option<Box<KeptBytes>>,
-    run: SectorRun,
+    runs: Runs,
     // Where the last read that was asked for failed: there no more is read than is asked for.
     failed: Place,
     ledger: Ledger,
 }
 
 impl<R: Rack> Model for AheadRack<R> {
-    ghost use Rattle.btr_ahead.specs.Reader.{Reader, reader, KeepsRead};
+    ghost use Rattle.btr_ahead.specs.Reader.{Reader, reader, HaveRead};
 
     ghost Value = { Reader R };
 
     ghost view = { λ a. reader a.rack a.ledger };
 
-    ghost invariant = { λ a. KeepsRead (R.seen a.rack).held a.kept };
+    ghost invariant = { λ a. HaveRead (R.seen a.rack).held a.runs.current a.runs.others };
 }
 
 // Counts a call at a place, if it failed.
@@ -53,66 +52,16 @@ fn counted(
     answer
 }
 
-// Makes room for what is kept, if there is none and it can be had.
-fn make_room(kept: &mut Option<Box<KeptBytes>>, alloc: Global)
-    ensures { (held : Option (List (List ℕ))) → KeepsRead held kept.old → KeepsRead held kept.new }
-{
-    if kept.is_none() {
-        *kept = Box::new(alloc, KeptBytes::new()).ok();
-    }
-}
-
-// Keeps nothing any more.
-fn clear(kept: &mut Option<Box<KeptBytes>>)
-    ensures { (held : Option (List (List ℕ))) → KeepsRead held kept.new }
-{
-    if let Some(kept) = kept {
-        kept.clear();
-    }
-}
-
-// Reads the sector of a place with those behind it, so many in all, unless it is kept, none stands behind it, or a read of more failed there.
-fn look<R: Rack>(kept: &mut KeptBytes, place: Place, count: u64, rack: &mut R)
-    requires slot { IsInSlot (R.seen rack.old).slots place }
-    requires ahead { AreRead (R.seen rack.old).held kept.old }
-    ensures reads { OnlyReads (R.seen rack.old) (R.seen rack.new) }
-    ensures ahead { AreRead (R.seen rack.new).held kept.new }
-    ensures below { MayFailAhead place (R.seen rack.old).account (R.seen rack.new).account }
-{
-    if count < 2 || rack.len(place.slot) - place.off <= SECTOR || kept.has_failed_at(place) {
-        return;
-    }
-    if kept.piece(place).is_none() {
-        let reach = u64::MAX;
-        kept.read_from(&FirstPlace { place, reach }, count, rack);
-    }
-}
-
-// Fills `buf` with the sector of a place, if it is kept.
-fn copy_kept(kept: &KeptBytes, place: Place, buf: &mut [u8]) -> bool
-    requires sector { place.len ≡ 4096 }
-    requires size { length buf.old ≡ 4096 }
-    ensures { (held : Option (List (List ℕ))) → AreRead held kept.now → IsTrue result → AreBytesOf held place.slot place.off 4096 buf.new }
-{
-    match kept.piece(place) {
-        Some(piece) => {
-            buf.copy_from_slice(piece);
-            true
-        }
-        None => false,
-    }
-}
-
 impl<R: Rack> AheadRack<R> {
     /// A rack over another one, of which no call failed yet.
     pub fn new(rack: R, alloc: Global) -> AheadRack<R>
         ensures { result ≡ reader rack no_failure }
     {
+        let runs = Runs::new();
         AheadRack {
             rack,
             alloc,
-            kept: None,
-            run: SectorRun::new(),
+            runs,
             failed: NOWHERE,
             ledger: Ledger::new(),
         }
@@ -131,20 +80,12 @@ impl<R: Rack> AheadRack<R> {
         if place.len != SECTOR {
             return false;
         }
-        let mut count = self.run.add(place);
-        if begins_in(place, self.failed) {
-            count = 1;
-        }
-        if count > 1 {
-            make_room(&mut self.kept, self.alloc);
-        }
-        match &mut self.kept {
-            Some(kept) => {
-                look(kept, place, count, &mut self.rack);
-                copy_kept(kept, place, buf)
-            }
-            None => false,
-        }
+        let most = if begins_in(place, self.failed) {
+            1
+        } else {
+            u64::MAX
+        };
+        self.runs.fill(place, most, self.alloc, &mut self.rack, buf)
     }
 }
 
@@ -169,7 +110,7 @@ impl<R: Rack> Rack for AheadRack<R> {
         let Ok(opening) = Opening::new(self.alloc, name, write) else {
             return Err(RackError::Memory);
         };
-        clear(&mut self.kept);
+        self.runs.clear();
         let place = Place::of_slot(self.rack.count());
         let answer = self.rack.open(name, write);
         if let Err(RackError::Failed) = answer {
@@ -223,7 +164,7 @@ impl<R: Rack> Rack for AheadRack<R> {
         ensures below { AccountsCall (range_in slot off (length bytes.now)) (R.seen self.old.rack) (R.seen self.new.rack) result }
     {
         let len = bytes.len() as u64;
-        clear(&mut self.kept);
+        self.runs.clear();
         let answer = self.rack.write_at(slot, off, bytes);
         counted(&mut self.ledger, Place { slot, off, len }, answer)
     }

@@ -5,13 +5,16 @@
 //! The layer above is promised that a sector that passes here comes to bytes, over whatever images, and, where no read failed and some
 //! sectors are wanted, exactly whether the first copy passes. `specs/Ahead.antt` says what is kept.
 //!
-//! `AheadRack` is for all other readers: a rack over another one, which meets the same contract with fewer reads (`specs/Reader.antt`).
+//! `AheadRack` is for all other readers: a rack over another one, which meets the same contract with fewer reads (`specs/Reader.antt`). It follows four
+//! runs of sectors at once (`Runs`).
 #![tactic(auto)]
 
 mod ahead_rack;
 mod data_ahead;
 mod first_place;
 mod kept_bytes;
+mod kept_run;
+mod runs;
 mod sector_run;
 #[cfg(test)]
 mod tests;

@@ -19,10 +19,19 @@ impl SectorRun {
         }
     }
 
+    /// Whether the sector of a place follows the last one.
+    pub(crate) fn ends_at(&self, place: Place) -> bool {
+        place.slot == self.slot && place.off == self.end
+    }
+
+    /// Counts anew: the next sector is the first.
+    pub(crate) fn restart(&mut self) {
+        self.count = 0;
+    }
+
     /// Adds the sector of a place, and answers how many stand one behind another with it, itself among them.
     pub(crate) fn add(&mut self, place: Place) -> u64 {
-        let follows = place.slot == self.slot && place.off == self.end;
-        self.count = if follows {
+        self.count = if self.ends_at(place) {
             self.count.saturating_add(1)
         } else {
             1

@@ -211,6 +211,24 @@ fn a_run_is_read_by_few_reads(rt: HostRuntime) -> Result<(), Fail> {
 }
 
 #[test]
+fn runs_that_alternate_are_each_read_by_few_reads(rt: HostRuntime) -> Result<(), Fail> {
+    let mut below = image(rt.alloc())?;
+    add_image(&mut below, "other")?;
+
+    // Two openings. Then 1, 2, 4, 8, 16, 32 and 64 sectors are read at once in each of four runs, two in each image.
+    below.fail_call(31)?;
+    let mut rack = AheadRack::new(below, rt.alloc());
+    for k in 0..64u64 {
+        assert!(rt; reads_in(&rt, &mut rack, 0, k)?);
+        assert!(rt; reads_in(&rt, &mut rack, 0, 64 + k)?);
+        assert!(rt; reads_in(&rt, &mut rack, 1, k)?);
+        assert!(rt; reads_in(&rt, &mut rack, 1, 64 + k)?);
+    }
+    assert_eq!(rt; reads(&rt, &mut rack, 0), Err(RackError::Failed));
+    Ok(())
+}
+
+#[test]
 fn a_bad_sector_fails_alone(rt: HostRuntime) -> Result<(), Fail> {
     let mut below = image(rt.alloc())?;
     add_image(&mut below, "other")?;
@@ -291,14 +309,17 @@ fn what_was_written_is_read(rt: HostRuntime) -> Result<(), Fail> {
     assert!(rt; rack.len(0) == 3 * MIB);
     rack.write_at(0, MIB + 8192, &sector(2))?;
     assert!(rt; !reads(&rt, &mut rack, 1)?);
+    assert!(rt; !reads(&rt, &mut rack, 65)?);
     assert!(rt; reads(&rt, &mut rack, 2)?);
+    assert!(rt; !reads(&rt, &mut rack, 66)?);
 
-    // With sector 2 the third was read, which is kept.
+    // With sectors 2 and 66 those behind them were read, which are kept.
     assert!(rt; rack.count() == 1 && rack.len(0) == 3 * MIB);
     rack.write_at(0, MIB + 12288, &sector(3))?;
     assert!(rt; rack.count() == 1);
     rack.sync(0)?;
     rack.forget();
+    assert!(rt; !reads(&rt, &mut rack, 67)?);
     assert!(rt; reads(&rt, &mut rack, 3)?);
     Ok(())
 }

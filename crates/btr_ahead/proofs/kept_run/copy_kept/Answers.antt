@@ -1,5 +1,5 @@
 use Rattle.btr_ahead.proofs.Pieces.{piece_read}
-use Rattle.btr_ahead.proofs.ahead_rack.copy_kept.Goals as goal
+use Rattle.btr_ahead.proofs.kept_run.copy_kept.Goals as goal
 
 -- what is copied is the piece of what is kept
 pub returns-in-Some : goal.returns-in-Some
