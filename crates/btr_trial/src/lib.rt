@@ -16,5 +16,6 @@ mod restoring;
 mod scrubbing;
 mod tried;
 mod trying;
+mod whole_files;
 
 pub use trying::trial;

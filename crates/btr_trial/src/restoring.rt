@@ -8,9 +8,10 @@ ghost use Rattle.btr_trial.specs.Trial.{restored_same};
 use crate::comparing::are_made;
 use crate::opening::{open_filesystem, unless_wanted};
 use crate::rack::SureRack;
+use crate::whole_files::WholeFiles;
 use btr_base::Memory;
 use btr_files::RestorePlan;
-use btr_rack::{MemOut, MemTree};
+use btr_rack::MemOut;
 use btr_restore::restore;
 use std::alloc::Global;
 
@@ -48,7 +49,7 @@ fn compare_files(alloc: Global, number: u64, rack: &mut SureRack) -> Result<Opti
     let Some(mut volume) = open_filesystem(alloc, rack)? else {
         return Ok(None);
     };
-    let mut tree = MemTree::new(alloc);
+    let mut tree = WholeFiles::new(alloc);
     let mut out = MemOut::new(alloc);
     match restore(alloc, &WHOLE, "out", rack, &mut volume, &mut tree, &mut out) {
         Ok(_) => Ok(Some(are_made(tree.rows(), number))),
