@@ -3,10 +3,10 @@
 
     python3 tests/shared.py PROGRAM
 
-It makes a filesystem by a mount, of a subvolume with files and three snapshots, between which files change; so some blocks are reached by one tree and some by
-two, three or four. Then, in the first, a middle and the last leaf of each of these, it changes a number and makes the block's checksum right again: a finding
-that names a tree has to come once for each tree that reaches the leaf, and one that names a block once. It needs root, loop devices, btrfs-progs, and half a
-minute. The gate doesn't run it. Ends with 0 where all is found.
+It makes a filesystem by a mount, of a subvolume with files and three snapshots, between which files change, and two more that are the same as it; so some
+blocks are reached by one tree and some by up to six. Then, in the first, a middle and the last leaf of each of these, it changes a number and makes the
+block's checksum right again: a finding that names a tree has to come once for each tree that reaches the leaf, and one that names a block once. It needs root,
+loop devices, btrfs-progs, and half a minute. The gate doesn't run it. Ends with 0 where all is found.
 """
 import collections
 import os
@@ -121,6 +121,8 @@ def make(path, mounted):
         for i, first in enumerate((100, 1500, 2900)):
             run_quietly("btrfs", "subvolume", "snapshot", f"{mounted}/files", f"{mounted}/snapshot{i}")
             write_files(f"{mounted}/files", first, 60)
+        for i in range(2):
+            run_quietly("btrfs", "subvolume", "snapshot", f"{mounted}/files", f"{mounted}/same{i}")
     finally:
         run_quietly("umount", mounted)
 

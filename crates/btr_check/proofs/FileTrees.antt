@@ -46,7 +46,7 @@ filter_by : {X : Type 0} (p : X → Bool) (x : X) (xs : List X) (b : Bool) → p
 filter_by p x xs true is rest = ap (λ b. cond b (x ∷ filter p (filter p xs)) (filter p (filter p xs))) is ∙ ap (λ l. x ∷ l) rest
 filter_by p x xs false is rest = rest
 
-filter_twice : {X : Type 0} (p : X → Bool) (xs : List X) → filter p (filter p xs) ≡ filter p xs
+pub filter_twice : {X : Type 0} (p : X → Bool) (xs : List X) → filter p (filter p xs) ≡ filter p xs
 filter_twice p [] = refl
 filter_twice p (x ∷ xs) = filter_by p x xs (p x) refl (filter_twice p xs)
 

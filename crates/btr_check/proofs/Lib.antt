@@ -16,6 +16,7 @@ mod Ranges
 pub mod Referring
 mod Roots
 pub mod Runs
+pub mod SoundTrees
 pub mod Spaces
 pub mod Summing
 mod Texts

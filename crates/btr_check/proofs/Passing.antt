@@ -47,7 +47,7 @@ edges_then [] ys = refl
 edges_then (x ∷ xs) ys =
     ap (joined (edge_of (Some x))) (edges_then xs ys) ∙ sym (joined-assoc (edge_of (Some x)) (edges_of xs) (edges_of ys))
 
-items_then : (xs ys : List Mark) → items_met (xs ++ ys) ≡ items_met xs ++ items_met ys
+pub items_then : (xs ys : List Mark) → items_met (xs ++ ys) ≡ items_met xs ++ items_met ys
 items_then [] ys = refl
 items_then (Block place block ∷ xs) ys = items_then xs ys
 items_then (Child addr place ∷ xs) ys = items_then xs ys

@@ -12,7 +12,7 @@ use Rattle.btr_refs.specs.declared.finding.Finding.{Finding}
 use Rattle.btr_refs.specs.Findings.{Adds, FoundSet}
 use Rattle.btr_check_space.specs.Cover.{HoldSame}
 use Rattle.btr_check_space.specs.declared.cover.Stretch.{Stretch}
-use Rattle.btr_check_sums.specs.Items.{uses_step, loose_in, used_in}
+use Rattle.btr_check_sums.specs.Items.{UsesMet, uses_step, loose_in, used_in}
 use Rattle.btr_check_sums.specs.Sums.{run_stretch, tree_missing}
 use Rattle.btr_tour.specs.Tour.{Mark}
 use Rattle.btr_volume.specs.declared.root.TreeRoot.{TreeRoot}
@@ -50,9 +50,16 @@ abbrev pub entries_if : Bool → ℕ → List Entry → Subvolumes → Subvolume
 entries_if true tree entries names = subvolumes_at names tree entries
 entries_if false tree entries names = names
 
--- by the ranges of addresses that have checksums, what is missing of those of a tree was put
-abbrev pub AddsMissing : ℕ → FileTree → List Chunk → List Stretch → FoundSet → FoundSet → Result Bool Memory → Type 0
-AddsMissing tree met chunks sums old new result =
+-- by the ranges of addresses that have checksums, what is missing of those of a tree was put; and whether nothing is
+abbrev pub AddsMissing : ℕ → UsesMet → List Chunk → List Stretch → FoundSet → FoundSet → Result Bool Memory → Type 0
+AddsMissing tree uses chunks sums old new result =
+    (runs : List SumRun) → HoldSame (map run_stretch runs) sums → IfOk result
+    (λ summed. Adds (tree_missing chunks runs tree uses.loose uses.used) old new
+    × (summed ≡ true → tree_missing chunks runs tree uses.loose uses.used ≡ []))
+
+-- the same of what was met of a tree, without an answer to the second
+abbrev pub PutsMissing : ℕ → FileTree → List Chunk → List Stretch → FoundSet → FoundSet → Result Bool Memory → Type 0
+PutsMissing tree met chunks sums old new result =
     (runs : List SumRun) → HoldSame (map run_stretch runs) sums → IfOk result
     (λ paired. Adds (tree_missing chunks runs tree met.uses.loose met.uses.used) old new)
 

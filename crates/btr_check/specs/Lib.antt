@@ -14,4 +14,5 @@ pub mod Passes
 pub mod FileTrees
 pub mod Data
 pub mod Families
+pub mod SoundTrees
 pub mod Findings

@@ -1,21 +1,23 @@
 // What is wrong with trees of files.
-ghost use Rattle.std.specs.Prelude.{◌≡◌, ◌∷◌, [], OnOk, IfOk, filter};
+ghost use Rattle.std.specs.Prelude.{◌≡◌, ◌∷◌, [], List, true, OnOk, IfOk, filter};
 ghost use Rattle.btr_check_names.specs.Names.{names_findings};
 ghost use Rattle.btr_check_names.specs.Subvolumes.{subvolumes_in};
 ghost use Rattle.btr_check_names.specs.Subvolumes as names;
 ghost use Rattle.btr_check_names.specs.Unpaired.{are_paired};
-ghost use Rattle.btr_refs.specs.Findings.{Adds};
+ghost use Rattle.btr_refs.specs.declared.finding.Finding.{Finding};
+ghost use Rattle.btr_refs.specs.Findings.{Adds, HasJust};
 ghost use Rattle.btr_check.specs.Counting.{Unless};
 ghost use Rattle.btr_check.specs.Filesystem.{is_file_tree, root_items};
-ghost use Rattle.btr_check.specs.Data.{sum_runs};
 ghost use Rattle.btr_check.specs.Families.{IsCoverOf, found_on_files};
-ghost use Rattle.btr_check.specs.FileTrees.{AddsMissing, KeepsEntries, Treats, TreatsNames};
+ghost use Rattle.btr_check.specs.FileTrees.{AddsMissing, KeepsEntries, PutsMissing, TreatsNames};
 ghost use Rattle.btr_check.specs.Passes.{Lists, Puts};
 ghost use Rattle.btr_check.specs.Running.{world, IsReady, Ran};
+ghost use Rattle.btr_check.specs.SoundTrees.{AreBelow, AreKept, KeepsSound, TreatsAll};
 
 use crate::collecting::{collect, or_memory};
 use crate::file_tree::FileTree;
 use crate::refusing::is_file_tree;
+use crate::sound_tree::{RootedTree, SoundTree, keep_sound, pass_like, read_rooted};
 use crate::trees::{ROOT_TREE, push_tree};
 use btr_base::Memory;
 use btr_check_names::{
@@ -23,11 +25,18 @@ use btr_check_names::{
     subvolumes_law, unpaired_law,
 };
 use btr_check_space::Cover;
-use btr_check_sums::{SumPlaces, keeps_law, put_missing_sums};
+use btr_check_sums::{SumPlaces, Uses, keeps_law, put_missing_sums};
 use btr_rack::Rack;
-use btr_refs::{Finding, Found};
+use btr_refs::Found;
 use btr_volume::{Stop, TreeRoot, Volume, named_root, root_root};
 use std::alloc::Global;
+
+// What is kept of the trees of files: the names of subvolumes, and trees that are sound.
+#[derive(Drop)]
+struct KeptTrees {
+    subvolumes: SubvolumeNames,
+    sound: Vec<SoundTree>,
+}
 
 // The trees of files among some trees.
 fn file_trees(alloc: Global, trees: &[TreeRoot]) -> Result<Vec<TreeRoot>, Memory>
@@ -42,34 +51,59 @@ fn file_trees(alloc: Global, trees: &[TreeRoot]) -> Result<Vec<TreeRoot>, Memory
     Ok(files)
 }
 
-// Puts what is missing of the checksums of what was met of a tree of files, and keeps its names of subvolumes where all names are paired. The
-// answer is whether they are.
+// Whether nothing was found.
+fn is_nothing(alloc: Global, found: Found) -> Result<bool, Memory>
+    ensures { (all : List Finding) → HasJust all found → IfOk result (λ nothing. nothing ≡ true → all ≡ []) }
+{
+    let mut list = found.list(alloc)?;
+    Ok(list.next().is_none())
+}
+
+// Puts what is missing of the checksums of the sectors that a tree's files use. The answer is whether nothing is.
+fn put_missing(
+    alloc: Global,
+    found: &mut Found,
+    tree: u64,
+    uses: &Uses,
+    places: &SumPlaces<'_>,
+) -> Result<bool, Memory>
+    ensures { AddsMissing tree uses.now places.now.chunks.now places.now.sums.now found.old found.new result }
+{
+    let mut missing = Found::new(alloc);
+    put_missing_sums(alloc, &mut missing, tree, uses.loose(), uses.used(), places)?;
+    if is_nothing(alloc, missing)? {
+        return Ok(true);
+    }
+    put_missing_sums(alloc, found, tree, uses.loose(), uses.used(), places)?;
+    Ok(false)
+}
+
+// Puts what is missing of the checksums of what was met of a tree of files, and keeps its names of subvolumes where all names are paired, and
+// the tree where it is sound. The answer is whether its names are paired.
 fn put_met(
     alloc: Global,
     found: &mut Found,
-    subvolumes: &mut SubvolumeNames,
-    tree: u64,
+    kept: &mut KeptTrees,
+    rooted: RootedTree,
     met: FileTree,
     places: &SumPlaces<'_>,
 ) -> Result<bool, Memory>
-    ensures found { AddsMissing tree met places.now.chunks.now places.now.sums.now found.old found.new result }
+    ensures found { PutsMissing rooted.tree.id met places.now.chunks.now places.now.sums.now found.old found.new result }
     ensures paired { IfOk result (λ paired. paired ≡ are_paired met.names) }
-    ensures entries { KeepsEntries tree met subvolumes.old subvolumes.new result }
+    ensures entries { KeepsEntries rooted.tree.id met kept.old.subvolumes kept.new.subvolumes result }
+    ensures sound { KeepsSound rooted met places.now.chunks.now places.now.sums.now kept.old.sound.items kept.new.sound.items result }
 {
-    put_missing_sums(
-        alloc,
-        found,
-        tree,
-        met.uses.loose(),
-        met.uses.used(),
-        places,
-    )?;
-    if met.names.are_paired() {
-        subvolumes.take_kept(tree, &met.names)?;
-        Ok(true)
-    } else {
-        Ok(false)
+    let tree = rooted.tree.id;
+    let FileTree { names, uses } = met;
+    let summed = put_missing(alloc, found, tree, &uses, places)?;
+    if !names.are_paired() {
+        return Ok(false);
     }
+    kept.subvolumes.take_kept(tree, &names)?;
+    if summed {
+        keep_sound(&mut kept.sound, SoundTree { rooted, names })?;
+    }
+    Ok(true)
 }
 
 // Puts what is wrong with the names in a tree of files, and keeps its names of subvolumes.
@@ -108,37 +142,64 @@ fn put_names<R: Rack>(
     }
 }
 
-// Visits a tree of files, puts what is wrong with it, and keeps its names of subvolumes.
-fn put_file_tree<R: Rack>(
+// Visits a tree of files, puts what is wrong with it, and keeps its names of subvolumes, and the tree where it is sound.
+fn put_visited<R: Rack>(
     alloc: Global,
     found: &mut Found,
-    subvolumes: &mut SubvolumeNames,
-    tree: &TreeRoot,
+    kept: &mut KeptTrees,
+    rooted: RootedTree,
     sums: &Cover,
     rack: &mut R,
     vol: &mut Volume,
 ) -> Result<(), Stop>
     requires ready { IsReady (world (R.seen rack.old) vol.old) }
-    ensures ran { Ran (λ fs. IsCoverOf fs sums.now → Unless (λ u. Treats fs.blocks fs.chunks (sum_runs fs)
-        (tree.now ∷ []) found.old found.new subvolumes.old subvolumes.new) result)
+    ensures ran { Ran (λ fs. IsCoverOf fs sums.now → AreKept fs kept.old.sound.items → AreBelow fs rooted.tree rooted.children.items
+        → Unless (λ u. TreatsAll fs (rooted.tree ∷ []) found.old found.new kept.old.subvolumes kept.new.subvolumes kept.new.sound.items) result)
         (world (R.seen rack.old) vol.old) (world (R.seen rack.new) vol.new) result }
 {
     unpaired_law();
     keeps_law();
-    let met = match collect(Some(*tree), FileTree::new(alloc, tree), rack, vol) {
+    let tree = rooted.tree;
+    let met = match collect(Some(tree), FileTree::new(alloc, &tree), rack, vol) {
         Ok(met) => met,
         Err(stop) => return Err(stop),
     };
     let chunks = vol.store.chunks();
     let places = SumPlaces { chunks, sums };
-    let paired = match put_met(alloc, found, subvolumes, tree.id, met, &places) {
+    let paired = match put_met(alloc, found, kept, rooted, met, &places) {
         Ok(paired) => paired,
         Err(Memory) => return Err(Stop::Memory),
     };
     if paired {
         Ok(())
     } else {
-        put_names(alloc, found, subvolumes, tree, rack, vol)
+        put_names(alloc, found, &mut kept.subvolumes, &tree, rack, vol)
+    }
+}
+
+// Passes a tree of files that has the same blocks below its root as a sound one, or visits it.
+fn put_file_tree<R: Rack>(
+    alloc: Global,
+    found: &mut Found,
+    kept: &mut KeptTrees,
+    tree: &TreeRoot,
+    sums: &Cover,
+    rack: &mut R,
+    vol: &mut Volume,
+) -> Result<(), Stop>
+    requires ready { IsReady (world (R.seen rack.old) vol.old) }
+    ensures ran { Ran (λ fs. IsCoverOf fs sums.now → AreKept fs kept.old.sound.items → Unless (λ u. TreatsAll fs
+        (tree.now ∷ []) found.old found.new kept.old.subvolumes kept.new.subvolumes kept.new.sound.items) result)
+        (world (R.seen rack.old) vol.old) (world (R.seen rack.new) vol.new) result }
+{
+    let rooted = match read_rooted(alloc, tree, rack, vol) {
+        Ok(rooted) => rooted,
+        Err(stop) => return Err(stop),
+    };
+    match pass_like(kept.sound.as_slice(), &rooted, &mut kept.subvolumes) {
+        Ok(true) => Ok(()),
+        Ok(false) => put_visited(alloc, found, kept, rooted, sums, rack, vol),
+        Err(Memory) => Err(Stop::Memory),
     }
 }
 
@@ -146,19 +207,19 @@ fn put_file_tree<R: Rack>(
 fn put_file_trees<R: Rack>(
     alloc: Global,
     found: &mut Found,
-    subvolumes: &mut SubvolumeNames,
+    kept: &mut KeptTrees,
     files: &[TreeRoot],
     sums: &Cover,
     rack: &mut R,
     vol: &mut Volume,
 ) -> Result<(), Stop>
     requires ready { IsReady (world (R.seen rack.old) vol.old) }
-    ensures ran { Ran (λ fs. IsCoverOf fs sums.now → Unless (λ u. Treats fs.blocks fs.chunks
-        (sum_runs fs) files.now found.old found.new subvolumes.old subvolumes.new) result)
+    ensures ran { Ran (λ fs. IsCoverOf fs sums.now → AreKept fs kept.old.sound.items → Unless (λ u. TreatsAll fs
+        files.now found.old found.new kept.old.subvolumes kept.new.subvolumes kept.new.sound.items) result)
         (world (R.seen rack.old) vol.old) (world (R.seen rack.new) vol.new) result }
 {
     for tree in files {
-        match put_file_tree(alloc, found, subvolumes, tree, sums, rack, vol) {
+        match put_file_tree(alloc, found, kept, tree, sums, rack, vol) {
             Ok(()) => {}
             Err(stop) => return Err(stop),
         }
@@ -202,12 +263,16 @@ pub(crate) fn put_files<R: Rack>(
         Ok(files) => files,
         Err(Memory) => return Err(Stop::Memory),
     };
-    let mut subvolumes = match read_subvolumes(alloc, rack, vol) {
+    let subvolumes = match read_subvolumes(alloc, rack, vol) {
         Ok(subvolumes) => subvolumes,
         Err(stop) => return Err(stop),
     };
-    match put_file_trees(alloc, found, &mut subvolumes, &files, sums, rack, vol) {
+    let mut kept = KeptTrees {
+        subvolumes,
+        sound: Vec::new(alloc),
+    };
+    match put_file_trees(alloc, found, &mut kept, &files, sums, rack, vol) {
         Err(stop) => Err(stop),
-        Ok(()) => or_memory(put_subvolume_findings(alloc, found, &subvolumes)),
+        Ok(()) => or_memory(put_subvolume_findings(alloc, found, &kept.subvolumes)),
     }
 }

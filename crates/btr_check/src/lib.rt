@@ -5,14 +5,16 @@
 //! that has nothing wrong is walked once, and passed where another tree reaches it with the same bounds.
 //! Where it finds nothing, one pass after another visits trees and puts what is wrong with what they say into one set: `references` for
 //! extents and what uses them, which `count_uses` counts block by block; `space` for block groups and devices; `sums` and `readable` for
-//! checksums of data and the data itself; and `file_trees` for files and names. What a pass has kept is let go behind it. `put_findings` puts
-//! the lines of findings. It is promised to the layer above that, so far as reads were steady, each is what the definitions say
-//! of the block map, and that an answer of a block that could not be read has its cause.
+//! checksums of data and the data itself; and `file_trees` for files and names, which passes a tree that has the same blocks below its root as
+//! a sound one (`sound_tree`). What a pass has kept is let go behind it. `put_findings` puts the lines of findings. It is promised to the layer
+//! above that, so far as reads were steady, each is what the definitions say of the block map, and that an answer of a block that could not be
+//! read has its cause.
 //!
 //! The definitions are in `specs/`: `Findings` is the list of all findings, and `Families` has what each pass finds. `Trees` and `Filesystem`
 //! say what is checked, `Before` why it isn't, `Walks` has kinds 1 to 4, `Passing` what is kept of a subtree, `Uses` kinds 7 to 11, `Data`
-//! kind 31, `FileTrees` what is met of a tree of files, and `Text` the lines; the other kinds are those of `btr_check_names`, `btr_check_space` and
-//! `btr_check_sums`. `Running` is what each call that reads promises, and `Passes` what a pass puts.
+//! kind 31, `FileTrees` what is met of a tree of files, `SoundTrees` what is kept of sound ones, and `Text` the lines; the other kinds are
+//! those of `btr_check_names`, `btr_check_space` and `btr_check_sums`. `Running` is what each call that reads promises, and `Passes` what a
+//! pass puts.
 #![tactic(auto)]
 
 mod adding;
@@ -31,6 +33,7 @@ mod readable;
 mod references;
 mod refusing;
 mod root_walk;
+mod sound_tree;
 mod space;
 mod subtrees;
 mod sums;

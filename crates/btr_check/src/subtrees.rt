@@ -64,8 +64,8 @@ pub(crate) struct Subtrees {
     known: BTreeMap<Place, Subtree>,
 }
 
-// Whether two bounds are the same.
-fn same_bound(one: Option<Key>, other: Option<Key>) -> bool
+/// Whether two bounds are the same.
+pub(crate) fn same_bound(one: Option<Key>, other: Option<Key>) -> bool
     ensures { MatchBool result (one ≡ other) (one ≡ other → ⊥) }
 {
     match (one, other) {

@@ -1,4 +1,4 @@
-use Rattle.std.proofs.Common.{◌≡◌, true, [], Ok, Err, refl, ◌∙◌}
+use Rattle.std.proofs.Common.{◌≡◌, true, [], Ok, Err, refl, sym, ◌∙◌, subst}
 use Rattle.btr_check_names.specs.Subvolumes.{subvolumes_in, subvolume_findings}
 use Rattle.btr_refs.specs.Findings.{Adds}
 use Rattle.btr_volume.specs.declared.stop.Stop.TheVariants.{Memory as NoMemory}
@@ -8,6 +8,7 @@ use Rattle.btr_check.specs.Filesystem.{root_items}
 use Rattle.btr_check.specs.FileTrees.{Treats}
 use Rattle.btr_check.specs.Passes.{Lists}
 use Rattle.btr_check.specs.Running.{world, filesystem, is_outside}
+use Rattle.btr_check.specs.SoundTrees.{AreKept, TreatsAll}
 use Rattle.btr_check.proofs.FileTrees.{files_put}
 use Rattle.btr_check.proofs.Passes.{on_done, ran_put, ran_memory}
 use Rattle.btr_check.proofs.Runs.{ran_stop, ran_then}
@@ -38,9 +39,11 @@ returns-in-Err-put_file_trees g c =
     let stop = c.in-Err-put_file_trees.stop in
     let names = c.in-Ok-read_subvolumes.subvolumes in
     record {
-      ran = ran_then {C = Unit {0}} (λ fs. names ≡ subvolumes_in (root_items fs) []) (λ fs. IsCoverOf fs c.args.sums.now → is_outside stop ≡ true)
+      ran = ran_then {C = Unit {0}} (λ fs. names ≡ subvolumes_in (root_items fs) [])
+          (λ fs. IsCoverOf fs c.args.sums.now → AreKept fs c.new.result.items → is_outside stop ≡ true)
           (λ fs. Lists c.args.listed.now fs × IsCoverOf fs c.args.sums.now → is_outside stop ≡ true)
-          x y z names (Err stop) c.in-Ok-read_subvolumes.ensures.ran c.in-Err-put_file_trees.ensures.ran (λ B p q known. q known.1);
+          x y z names (Err stop) c.in-Ok-read_subvolumes.ensures.ran c.in-Err-put_file_trees.ensures.ran
+          (λ B p q known. q known.1 (subst (AreKept (filesystem c.args.vol.now B)) (sym c.new.ensures.items) tt));
     }
 
 pub returns : goal.returns
@@ -49,15 +52,17 @@ returns g c =
     let y = world (g.R.Rack.seen c.read_subvolumes.new.rack) c.read_subvolumes.new.vol in
     let z = world (g.R.Rack.seen c.put_file_trees.new.rack) c.put_file_trees.new.vol in
     let names = c.in-Ok-read_subvolumes.subvolumes in
-    let names' = c.put_file_trees.new.subvolumes in
+    let kept = c.put_file_trees.new.kept in
+    let names' = kept.subvolumes in
     let files = c.deref.result.now in
     let found = c.args.found.now in
     let found' = c.put_file_trees.new.found in
     let both = ran_then {C = Unit {0}} (λ fs. names ≡ subvolumes_in (root_items fs) [])
-    (λ fs. IsCoverOf fs c.args.sums.now → Treats fs.blocks fs.chunks (sum_runs fs) files found found' names names')
+    (λ fs. IsCoverOf fs c.args.sums.now → AreKept fs c.new.result.items → TreatsAll fs files found found' names names' kept.sound.items)
     (λ fs. (names ≡ subvolumes_in (root_items fs) [])
     × (IsCoverOf fs c.args.sums.now → Treats fs.blocks fs.chunks (sum_runs fs) files found found' names names'))
-    x y z names (Ok tt) c.in-Ok-read_subvolumes.ensures.ran c.in-Ok-put_file_trees.ensures.ran (λ B p q. (p, q)) in
+    x y z names (Ok tt) c.in-Ok-read_subvolumes.ensures.ran c.in-Ok-put_file_trees.ensures.ran
+    (λ B p q. (p, λ same. (q same (subst (AreKept (filesystem c.args.vol.now B)) (sym c.new.ensures.items) tt)).treats)) in
     record {
       ran = ran_put {A = Unit {0}} (λ fs. (names ≡ subvolumes_in (root_items fs) [])
           × (IsCoverOf fs c.args.sums.now → Treats fs.blocks fs.chunks (sum_runs fs) files found found' names names'))

@@ -1,0 +1,31 @@
+use Rattle.std.proofs.Common.{◌≡◌, true, refl, sym, subst}
+use Rattle.std.specs.Bool.{⊤}
+use Rattle.btr_walk.specs.Le.{root_spot}
+use Rattle.btr_check.specs.Passing.{Opens}
+use Rattle.btr_check.specs.Running.{world, filesystem, is_outside}
+use Rattle.btr_check.specs.SoundTrees.{AreBelow}
+use Rattle.btr_check.specs.declared.opening.Opened.{Opened}
+use Rattle.btr_check.specs.declared.sound_tree.RootedTree.{RootedTree}
+use Rattle.btr_check.proofs.Openings.{AreChildren}
+use Rattle.btr_check.proofs.Runs.{ran_stop, ran_value}
+use Rattle.btr_check.proofs.SoundTrees.{opens_below}
+use Rattle.btr_check.proofs.sound_tree.read_rooted.Goals as goal
+
+pub returns-in-Err-clause-ran : goal.returns-in-Err-clause-ran
+returns-in-Err-clause-ran g c =
+    ran_stop {A = Opened} {C = RootedTree} (λ fs. ⊤) (λ fs. is_outside c.in-Err.stop ≡ true) (world (g.R.Rack.seen c.args.rack.now) c.args.vol.now)
+    (world (g.R.Rack.seen c.open_block.new.rack) c.open_block.new.vol) c.in-Err.stop c.in-Err.ensures.ran (λ B h. c.in-Err.ensures.outside)
+
+pub returns-clause-ran : goal.returns-clause-ran
+returns-clause-ran g c =
+    let tree = c.args.tree.now in
+    let opened = c.in-Ok-Children.field-0 in
+    let children = c.in-Ok-Children.children in
+    let old = c.new-walk.result in
+    let new = c.open_block.new.walk in
+    let rooted : RootedTree = record { tree = tree; children = children } in
+    let are : AreChildren opened children.items = subst (λ o. AreChildren o children.items) (sym c.in-Ok-Children.field-0-is) refl in
+    ran_value {A = Opened} {C = RootedTree} (λ fs. Opens fs tree.place.level (root_spot tree.place) old new opened) (λ fs. AreBelow fs tree children.items)
+    (world (g.R.Rack.seen c.args.rack.now) c.args.vol.now) (world (g.R.Rack.seen c.open_block.new.rack) c.open_block.new.vol) opened rooted
+    c.in-Ok-Children.ensures.ran
+    (λ B h. opens_below (filesystem c.args.vol.now B) tree old new opened children.items h are)
