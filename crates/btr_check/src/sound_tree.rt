@@ -69,7 +69,7 @@ fn is_like(sound: &SoundTree, rooted: &RootedTree) -> bool
         && same_spots(sound.rooted.children.as_slice(), rooted.children.as_slice())
 }
 
-/// PassesTree a tree that has the same blocks below its root as a sound one: nothing is wrong with it either, and its names of subvolumes are kept.
+/// Passes a tree that has the same blocks below its root as a sound one: nothing is wrong with it either, and its names of subvolumes are kept.
 /// The answer is whether it was passed. `Memory`: there is no memory for the names.
 pub(crate) fn pass_like(
     sound: &[SoundTree],
