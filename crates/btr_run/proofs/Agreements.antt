@@ -33,20 +33,18 @@ use Rattle.btr_walk.specs.Reading.{Map, Tells, UnreadBlock, halt_of, unread_by}
 use Rattle.btr_walk.specs.declared.fault.TreeFault.{TreeFault}
 use Rattle.btr_walk.specs.declared.fault.TreeFault.TheVariants as tree
 use Rattle.btr_restore.specs.Running.{Outside}
-use Rattle.btr_run.specs.Agreeing.{AgreesOn, AreAgreed, AreAgreedOn, IsCheckedOrUnread, IsOrUnopened, IsRestoredOrUnopened, IsTreesOrUnread}
+use Rattle.btr_run.specs.Agreeing.{IsCheckedOrUnread}
+use Rattle.btr_run.specs.Unopened.{AreAgreed, IsOrUnopened}
 use Rattle.btr_run.specs.Checked.{check_in, check_outcome, filesystem_by, listing, unless_refused}
 use Rattle.btr_run.specs.Faults.{open_answer, stop_answer, tree_answer}
-use Rattle.btr_run.specs.Filesystem.{Filesystem, OpensAs, answer_as, fault_answer, filesystem_in, filesystem_of, with_roots, with_start, with_table}
-use Rattle.btr_run.specs.Outcomes.{Comes, IsNoFault, OrBare, Outcome, Shows, refused, showing}
-use Rattle.btr_run.specs.Restored.{IsRestored}
-use Rattle.btr_run.specs.Trees.{ShowsUpTo, call_answer, trees_in}
+use Rattle.btr_run.specs.Filesystem.{OpensAs, answer_as, fault_answer, filesystem_in, filesystem_of, with_roots, with_start, with_table}
+use Rattle.btr_run.specs.Outcomes.{Comes, IsNoFault, Outcome, Shows, refused, showing}
 use Rattle.btr_run.specs.declared.answer.Answer.{Answer}
 use Rattle.btr_run.specs.declared.answer.Answer.TheVariants.{Lost, Unmapped, Crosses, Malformed}
-use Rattle.btr_run.specs.declared.plan.DumpChoice.{DumpChoice}
-use Rattle.btr_run.proofs.Coming.{comes_also, comes_bare, shows_bare, shows_also}
+use Rattle.btr_run.proofs.Coming.{comes_bare, shows_bare, shows_also}
 use Rattle.btr_run.proofs.Coming.{when_told}
 use Rattle.btr_run.proofs.Orders.{scan_follows}
-use Rattle.btr_run.proofs.Refusals.{open_line, open_no_fault}
+use Rattle.btr_run.proofs.Refusals.{open_no_fault}
 use Rattle.btr_run.proofs.Wanted.{names_wanted}
 
 -- The images agree: what opening them came to, whatever failed.
@@ -190,37 +188,17 @@ module _ (wanted : Images → Outcome) (bare : (images : Images) (answer : Answe
       (open_no_fault r))) opens)
 
   -- what a command comes to that does steps
-  pub unopened_comes : (old new : Seen) (answer result : Answer) → result ≡ answer → (x : Outside)
+  pub unopened_comes : (May : Type 0) (old new : Seen) (answer result : Answer) → result ≡ answer → (x : Outside)
       → IfSome old.held (λ images. OpensAs images old new (Err answer))
-      → IfSome old.held (λ images. AreAgreed images → Comes (Unit {0}) (IsOrUnopened images (wanted images)) x x result)
-  unopened_comes old new answer result is x opens =
-      when_told old.held (λ images. AreAgreed images → (result ≡ answer) → Comes (Unit {0}) (IsOrUnopened images (wanted images)) x x result)
-      (λ images. AreAgreed images → Comes (Unit {0}) (IsOrUnopened images (wanted images)) x x result)
+      → IfSome old.held (λ images. AreAgreed images → Comes May (IsOrUnopened images (wanted images)) x x result)
+  unopened_comes May old new answer result is x opens =
+      when_told old.held (λ images. AreAgreed images → (result ≡ answer) → Comes May (IsOrUnopened images (wanted images)) x x result)
+      (λ images. AreAgreed images → Comes May (IsOrUnopened images (wanted images)) x x result)
       (λ images h agreed. h agreed is)
-      (unopened_where (λ images a. (result ≡ a) → Comes (Unit {0}) (IsOrUnopened images (wanted images)) x x result) old new answer
-      (λ images told agreed r opens same. subst (Comes (Unit {0}) (IsOrUnopened images (wanted images)) x x) (sym same)
-      (comes_bare (Unit {0}) (IsOrUnopened images (wanted images)) x (open_answer r) (unopened old new images told agreed (wanted images) (bare images) r opens)
+      (unopened_where (λ images a. (result ≡ a) → Comes May (IsOrUnopened images (wanted images)) x x result) old new answer
+      (λ images told agreed r opens same. subst (Comes May (IsOrUnopened images (wanted images)) x x) (sym same)
+      (comes_bare May (IsOrUnopened images (wanted images)) x (open_answer r) (unopened old new images told agreed (wanted images) (bare images) r opens)
       (open_no_fault r))) opens)
-
--- what a restore comes to: a refusal by the superblocks, whatever else failed
-pub unrestored : (old new : Seen) (answer result : Answer) → result ≡ answer → (x : Outside) → IfSome old.held (λ images. OpensAs images old new (Err answer))
-    → IfSome old.held (λ images. AreAgreed images → Comes (Unit {0}) (IsRestoredOrUnopened images) x x result)
-unrestored old new answer result is x opens =
-    when_told old.held (λ images. AreAgreed images → (result ≡ answer) → Comes (Unit {0}) (IsRestoredOrUnopened images) x x result)
-    (λ images. AreAgreed images → Comes (Unit {0}) (IsRestoredOrUnopened images) x x result)
-    (λ images comes agreed. comes agreed is)
-    (unopened_where (λ images a. (result ≡ a) → Comes (Unit {0}) (IsRestoredOrUnopened images) x x result) old new answer
-    (λ images told agreed r opens same. subst (Comes (Unit {0}) (IsRestoredOrUnopened images) x x) (sym same)
-    (comes_bare (Unit {0}) (IsRestoredOrUnopened images) x (open_answer r)
-    (inr (refl, open_line r), λ refusal begun. unopened old new images told agreed (refused (open_answer refusal)) (refused_so images refusal begun) r opens)
-    (open_no_fault r))) opens)
-  where
-    refused_so : (images : Images) (refusal : OpenFault) → start_of images ≡ Err refusal → (a : Answer) → filesystem_of images ≡ Err a
-        → refused (open_answer refusal) ≡ refused a
-    refused_so images refusal begun a is = let e = sym (ap (with_start images) begun) ∙ is in ap refused (one (open_answer refusal) a e)
-      where
-        one : (a b : Answer) → ◌≡◌ {A = Result Filesystem Answer} (Err a) (Err b) → a ≡ b
-        one a b e = cc e
 
 -- The filesystem is open.
 module _ (old mid : Seen) (volume : Volume) (opens : IfSome old.held (λ images. OpensAs images old mid (Ok volume))) where
@@ -244,14 +222,6 @@ module _ (old mid : Seen) (volume : Volume) (opens : IfSome old.held (λ images.
           → IfSome held (λ images. AreAgreed images → Q images)
       of None told opens = tt
       of (Some images) told opens = λ agreed. by images told opens.opening opens.opens opens.same agreed
-
-  -- what a restore comes to over an open filesystem
-  pub restored_agreed : (x y : Outside) (result : Answer) → Comes (Unit {0}) (OrBare IsRestored) x y result
-      → IfSome old.held (λ images. AreAgreed images → Comes (Unit {0}) (IsRestoredOrUnopened images) x y result)
-  restored_agreed x y result comes =
-      agreeing_opened (λ images. Comes (Unit {0}) (IsRestoredOrUnopened images) x y result) (λ images told o agreed.
-      comes_also (Unit {0}) (Unit {0}) (OrBare IsRestored) (IsRestoredOrUnopened images) x y result (λ u. u)
-      (λ outcome one. (one, λ refusal begun. absurd (cc (sym (ap (with_start images) begun) ∙ o)))) comes)
 
 -- The filesystem is open, and this was told of it.
 module _ (read_data : Bool) (old mid new : Seen) (first : OnlyReads old mid) (volume : Volume)
@@ -317,28 +287,3 @@ module _ (read_data : Bool) (old mid new : Seen) (first : OnlyReads old mid) (vo
         (λ outcome e. inl (inl (ap (check_in read_data images) opened ∙ ap
         (λ r. unless_refused r (listing (findings read_data (filesystem_by images (filesystem_in volume))))) h.0
         ∙ ap (λ l. showing (listing l)) (sym h.1) ∙ sym e))) shows)
-
--- The filesystem is open, and its trees were shown.
-module _ (choice : DumpChoice) (old mid : Seen) (first : OnlyReads old mid) (volume : Volume)
-    (opens : IfSome old.held (λ images. OpensAs images old mid (Ok volume))) where
-  abbrev layout : Layout
-  layout = volume.store.layout
-
-  pub shown_agreed : (text text' : Option Text) (before after : CallAccount) (answer : Answer) (result : Result (Unit {0}) Stop) → answer ≡ call_answer result
-      → IfSome mid.held (λ images. Agreed images layout → AgreesOn choice images layout → Shows
-      (ShowsUpTo choice (fate images layout) volume.sup) text text' before after (call_answer result))
-      → IfSome old.held (λ images. AreAgreedOn choice images → Shows (IsTreesOrUnread choice images) text text' before after answer)
-  shown_agreed text text' before after answer result is shows =
-      when_told old.held (λ images. AreAgreed images → AreAgreedOn choice images → Shows (IsTreesOrUnread choice images) text text' before after answer)
-      (λ images. AreAgreedOn choice images → Shows (IsTreesOrUnread choice images) text text' before after answer)
-      (λ images so on. so on.0 on)
-      (agreeing_opened old mid volume opens (λ images. AreAgreedOn choice images → Shows (IsTreesOrUnread choice images) text text' before after answer)
-      (λ images told opened agreed on.
-      let held : mid.held ≡ Some images = ap (λ (s : Seen). s.held) first.same ∙ told in
-      let so = subst (λ (o : Option Images). IfSome o
-      (λ i. Agreed i layout → AgreesOn choice i layout → Shows (ShowsUpTo choice (fate i layout) volume.sup) text text' before after
-      (call_answer result))) held shows in
-      subst (Shows (IsTreesOrUnread choice images) text text' before after) (sym is)
-      (shows_also (ShowsUpTo choice (fate images layout) volume.sup) (IsTreesOrUnread choice images) text text' before after (call_answer result)
-      (λ outcome one. ⊎_elim (λ e. inl (ap (trees_in choice images) opened ∙ sym e)) (λ broken. inr (inl (filesystem_in volume, opened, broken))) one)
-      (so agreed (on.1 (filesystem_in volume) opened)))))

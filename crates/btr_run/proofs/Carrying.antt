@@ -9,7 +9,7 @@ use Rattle.std.proofs.lemmas.Bool.Decides.{nat_tests}
 use Rattle.std.proofs.lemmas.List.{drop-map, take_rest}
 use Rattle.btr_rack.specs.Rack.{Seen, Slot, Rose, Steady, Shelf}
 use Rattle.btr_restore.specs.Running.{Outside}
-use Rattle.btr_run.specs.Agreeing.{ComesAgreed, FollowsAgreed, IsUnopened}
+use Rattle.btr_run.specs.Agreeing.{ComesAgreed, FollowsAgreed}
 use Rattle.btr_run.specs.Answers.{error_line}
 use Rattle.btr_run.specs.Causes.{IsBehindWords}
 use Rattle.btr_run.specs.Commands.{command_outcome}
@@ -21,6 +21,7 @@ use Rattle.btr_run.specs.Outcomes.{refused, Comes, IsNoFault, OrBare, OrMemory}
 use Rattle.btr_run.specs.Checked.{found}
 use Rattle.btr_run.specs.Repaired.{AsksToWrite, KeepsRepair, LeavesImages}
 use Rattle.btr_run.specs.Scrubbed.{mending_writes}
+use Rattle.btr_run.specs.Unopened.{IsUnopened}
 use Rattle.btr_run.specs.Words.{Words, IsUsageAt}
 use Rattle.btr_run.specs.declared.plan.Command.{Command}
 use Rattle.btr_run.specs.declared.plan.Command.TheVariants.{Super, Dump, Resolve, Check, Restore, Salvage, Scrub, Send, SelfTest}
@@ -81,7 +82,7 @@ agreed_before (Dump choice) words images answer line unread = inr (inr unread)
 agreed_before (Resolve addr) words images answer line unread = inr (inr unread)
 agreed_before (Check read_data) words images answer line unread = inl (inr unread)
 agreed_before (Scrub write) words images answer line unread = inl (inr unread)
-agreed_before (Restore dest plan) words images answer line unread = (inr (refl, line), λ refusal begun. inr unread)
+agreed_before (Restore dest plan) words images answer line unread = inr (inr unread)
 agreed_before (Salvage dest plan) words images answer line unread = inr (inr unread)
 agreed_before (Send dest file plan) words images answer line unread = inr (inr unread)
 agreed_before (SelfTest number) words images answer line unread = inr (refl, line)

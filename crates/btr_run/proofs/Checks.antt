@@ -22,7 +22,7 @@ use Rattle.btr_walk.specs.declared.fault.TreeFault.{TreeFault}
 use Rattle.btr_walk.specs.declared.fault.TreeFault.TheVariants as tree
 use Rattle.btr_dump.specs.Pieces.{Text}
 use Rattle.btr_run.specs.Answers.{error_line}
-use Rattle.btr_run.specs.Behind.{IfSteady, IsBehind, IsUnread, HasToldCause}
+use Rattle.btr_run.specs.Behind.{IfSteady, IsBehind, IsLayoutOf, IsUnread, HasToldCause}
 use Rattle.btr_run.specs.Checked.{IsCheckOutcome, check_in, check_outcome, filesystem_by, found, listing, unless_refused}
 use Rattle.btr_run.specs.Faults.{stop_answer}
 use Rattle.btr_run.specs.Filesystem.{OpensFilesystem, MayMend, filesystem_in, filesystem_of}
@@ -170,8 +170,8 @@ module _ (read_data : Bool) (old mid new : Seen) (first : OnlyReads old mid) (se
   stopped_told text account = subst (λ a. Shows (OrBare IsCheckOutcome) text text account account a) (sym is)
       (shows_bare (OrBare IsCheckOutcome) text account (stop_answer end) (inr (refl, stop_line end reading)) (stop_calm end reading))
 
-  stopped_cause : HasToldCause IsUnread old new (stop_answer end)
-  stopped_cause fault e told = (layout, of end cause (ap tree_in e ∙ tree_back fault))
+  stopped_cause : IsLayoutOf old layout → HasToldCause IsUnread old new (stop_answer end)
+  stopped_cause own fault e told = (layout, own, of end cause (ap tree_in e ∙ tree_back fault))
     where
       by : (f : TreeFault) → IsUnread f → StopUnread layout mid new (stop.Tree f) → FaultCause layout old new f
       by (tree.Lost a) u c = absurd u
@@ -191,11 +191,11 @@ module _ (read_data : Bool) (old mid new : Seen) (first : OnlyReads old mid) (se
       of stop.Out c e = absurd (cc e)
       of stop.Memory c e = absurd (cc e)
 
-  pub stopped_behind : IsBehind MayMend IsUnread old new answer
-  stopped_behind = subst (IsBehind MayMend IsUnread old new) (sym is) (record {
+  pub stopped_behind : IsLayoutOf old layout → IsBehind MayMend IsUnread old new answer
+  stopped_behind own = subst (IsBehind MayMend IsUnread old new) (sym is) (record {
     reads = reads_more first second;
     image = λ slot e. absurd (stop_no_image end reading slot e);
-    tree = stopped_cause;
+    tree = stopped_cause own;
     hidden = inr (inr (mends_of (stop_answer end) (stop_none end reading)));
     no_usage = λ at e. subst NoneOf e (stop_none end reading);
     no_limit = λ n e. subst NoneOf e (stop_none end reading);

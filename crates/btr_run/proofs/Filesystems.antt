@@ -4,27 +4,30 @@ use Rattle.std.specs.Option.{IfSome}
 use Rattle.btr_prog.specs.Prog.{exec}
 use Rattle.btr_prog.specs.Answers.{Halt, Fault as halts, Follows, no_part}
 use Rattle.btr_prog.specs.Calls.{First}
-use Rattle.btr_rack.specs.Rack.{Seen, Rose, Steady}
+use Rattle.btr_rack.specs.Rack.{OnlyReads, Seen, Rose, Steady}
 use Rattle.btr_read.specs.Fate.{Fault, fate}
 use Rattle.btr_read.specs.Fate as fault
-use Rattle.btr_walk.specs.Reading.{UnreadBlock, unread_by, halt_of}
+use Rattle.btr_read.specs.Layout.{Layout}
+use Rattle.btr_walk.specs.Reading.{FaultCause, UnreadBlock, unread_by, halt_of}
 use Rattle.btr_walk.specs.declared.fault.TreeFault.{TreeFault}
 use Rattle.btr_walk.specs.declared.fault.TreeFault.TheVariants as tree
 use Rattle.btr_volume.specs.Maps.{array_layout}
 use Rattle.btr_volume.specs.Tree.{root_want}
 use Rattle.btr_read.proofs.Compared.{compares_steady}
-use Rattle.btr_volume.specs.Opening.{OpenCause, Opens, Opened, RootsDiffer, Scans, Starts}
+use Rattle.btr_volume.specs.Opening.{OpenCause, Opens, Opened, RootsDiffer, Scans, StartOf, Starts, start_in}
 use Rattle.btr_volume.specs.Start.{Images, Start, start_of, layout_by}
 use Rattle.btr_volume.specs.Table.{TableResult, refusal_of, table_scan}
 use Rattle.btr_volume.specs.declared.fault.OpenFault.{OpenFault}
 use Rattle.btr_volume.specs.declared.fault.OpenFault.TheVariants as opening
 use Rattle.btr_volume.specs.declared.fault.TableFault.{TableFault}
 use Rattle.btr_volume.specs.declared.volume.Volume.{Volume}
-use Rattle.btr_run.specs.Behind.{IfSteady}
+use Rattle.btr_run.specs.Behind.{HasTreeCause, IfSteady, IsLayoutOf}
 use Rattle.btr_run.specs.Faults.{open_answer, tree_answer}
-use Rattle.btr_run.specs.Filesystem.{OpensAs, OpensFilesystem, filesystem_of, filesystem_in, with_roots, with_start, with_table}
+use Rattle.btr_run.specs.Filesystem.{OpensAs, OpensFilesystem, answer_as, filesystem_of, filesystem_in, with_roots, with_start, with_table}
 use Rattle.btr_run.specs.declared.answer.Answer.{Answer}
 use Rattle.btr_run.specs.declared.answer.Answer.TheVariants.{Diverged}
+use Rattle.btr_run.proofs.Coming.{when_told}
+use Rattle.btr_run.proofs.Faulting.{tree_back, tree_in}
 
 steady_not_rose : (before now : ℕ) → Steady before now → Rose before now → ⊥
 steady_not_rose before now steady rose = omega (arith, steady.0, steady.1, rose.0, rose.1)
@@ -142,3 +145,73 @@ refused_as old new refusal result is = of old.held
     of : (held : Option Images) → IfSome held (λ images. Opens images old new (Err refusal)) → IfSome held (λ images. OpensAs images old new result)
     of None opens = tt
     of (Some images) opens = record { opening = Err refusal; opens = opens; same = sym is }
+
+-- a volume that was opened is read by the chunks that a scan of the chunk tree came to
+pub opened_layout : (old mid : Seen) (volume : Volume) → OnlyReads old mid → IfSome old.held (λ images. OpensAs images old mid (Ok volume))
+    → IsLayoutOf old volume.store.layout
+opened_layout old mid volume first = of old.held refl
+  where
+    volume_is : (other : Volume) → ◌≡◌ {A = Result Volume Answer} (Ok other) (Ok volume) → other ≡ volume
+    volume_is other e = cc e
+
+    -- by this start, where the images are told
+    Told : Start → Images → Type 0
+    Told start images = (start_of images ≡ Ok start)
+        × ((volume.store.layout.chunks ≡ start.array)
+        ⊎ ((later : Seen) × OnlyReads old later × Scans start old later (Ok (Ok volume.store.layout.chunks))))
+
+    by : (images : Images) → old.held ≡ Some images → (opening : Result Volume OpenFault) → Opens images old mid opening → answer_as opening ≡ Ok volume
+        → IsLayoutOf old volume.store.layout
+    by images told (Err refusal) opens same = absurd (cc same)
+    by images told (Ok other) opens same =
+        let o = subst (Opened images old mid) (volume_is other same) opens in record {
+          start = o.start;
+          chunks = volume.store.layout.chunks;
+          by = o.by.layout;
+          is = subst (λ (h : Option Images). IfSome h (Told o.start)) (sym told) (o.is, inr (mid, first, o.scans));
+        }
+
+    of : (held : Option Images) → old.held ≡ held → IfSome held (λ images. OpensAs images old mid (Ok volume)) → IsLayoutOf old volume.store.layout
+    of None told opens = record {
+      start = start_in volume;
+      chunks = volume.store.layout.chunks;
+      by = refl;
+      is = subst (λ (h : Option Images). IfSome h (Told (start_in volume))) (sym told) tt;
+    }
+    of (Some images) told opens = by images told opens.opening opens.opens opens.same
+
+-- a fault of the chunk tree has its cause by the chunks of the array
+pub refused_tree : (old new : Seen) (refusal : OpenFault) (answer : Answer) → answer ≡ open_answer refusal → OpenCause {T = Volume} old new (Err refusal)
+    → HasTreeCause old new answer
+refused_tree old new refusal answer is cause fault e = of refusal cause (ap tree_in (sym is ∙ e) ∙ tree_back fault)
+  where
+    Caused : Type 0
+    Caused = (layout : Layout) × IsLayoutOf old layout × FaultCause layout old new fault
+
+    by_array : (f : TreeFault) → f ≡ fault → (begun : StartOf old) → FaultCause (array_layout begun.start) old new f → Caused
+    by_array f same begun caused = (
+      array_layout begun.start,
+      record {
+        start = begun.start;
+        chunks = begun.start.array;
+        by = refl;
+        is = when_told old.held (λ images. start_of images ≡ Ok begun.start) _ (λ images e. (e, inl refl)) begun.is;
+      },
+      subst (FaultCause (array_layout begun.start) old new) same caused,
+    )
+
+    of : (r : OpenFault) → OpenCause {T = Volume} old new (Err r) → tree_in (open_answer r) ≡ Some fault → Caused
+    of (opening.Tree f) c t = by_array f (cc (sym (tree_back f) ∙ t)) c.0 c.1
+    of (opening.ImageFault slot) c t = absurd (cc t)
+    of (opening.NoSuper slot) c t = absurd (cc t)
+    of (opening.SumKind kind) c t = absurd (cc t)
+    of (opening.Foreign slot) c t = absurd (cc t)
+    of (opening.Twin slot) c t = absurd (cc t)
+    of (opening.Diverged slot) c t = absurd (cc t)
+    of (opening.Unsupported bits) c t = absurd (cc t)
+    of opening.Geometry c t = absurd (cc t)
+    of opening.LogPending c t = absurd (cc t)
+    of opening.BadArray c t = absurd (cc t)
+    of (opening.BadChunk start) c t = absurd (cc t)
+    of (opening.Limit which count) c t = absurd (cc t)
+    of opening.Memory c t = absurd (cc t)

@@ -1,7 +1,6 @@
 -- What a command comes to that lists is its run, whole where the answer is that all was done.
 use Rattle.std.proofs.Common.{◌≡◌, ℕ, List, Option, Some, None, Result, Ok, Err, refl, sym, ap, ◌∙◌, subst}
 use Rattle.btr_chunk.specs.declared.chunk.Chunk.{Chunk}
-use Rattle.btr_files.specs.declared.plan.RestorePlan.{RestorePlan}
 use Rattle.btr_listing.specs.Step.{Step}
 use Rattle.btr_prog.specs.Prog.{Run, exec, steps_of}
 use Rattle.btr_read.specs.Fate.{Fault, fate}
@@ -15,7 +14,6 @@ use Rattle.btr_salvage.specs.Left.{IsLeft}
 use Rattle.btr_salvage.specs.Salvaging.{salvage_run}
 use Rattle.btr_send.specs.Restored.{GivesSectors, IsStreamOf, SentLaw, members_of_rows, restores, sends}
 use Rattle.btr_send.specs.Sectors.{ImagesGiveSectors}
-use Rattle.btr_send.specs.declared.plan.SendPlan.{SendPlan}
 use Rattle.btr_volume.specs.Maps.{array_layout, roots_differ}
 use Rattle.btr_volume.specs.Start.{Images, Start, layout_by, start_of}
 use Rattle.btr_volume.specs.Table.{TableResult, table_scan}
@@ -25,9 +23,11 @@ use Rattle.btr_run.specs.Honest.{SalvageIsCommitted, SendIsStream}
 use Rattle.btr_run.specs.Listed.{listed_answer, listed_by}
 use Rattle.btr_run.specs.Outcomes.{Outcome}
 use Rattle.btr_run.specs.Restored.{skipped_in}
-use Rattle.btr_run.specs.Salvaged.{missed_in, salvage_outcome, salvaged_in}
-use Rattle.btr_run.specs.Sent.{send_outcome, sent_in}
+use Rattle.btr_run.specs.Rows.{row_outcome}
+use Rattle.btr_run.specs.Salvaged.{missed_in, salvage_row}
+use Rattle.btr_run.specs.Sent.{send_row}
 use Rattle.btr_run.specs.declared.answer.Answer.TheVariants.{Done}
+use Rattle.btr_run.proofs.Rows.{row_opened}
 
 -- a listing came to its end, with this much left out
 record Ended {A : Type 0} (left_out : A → ℕ) (r : Run Want Fault Step A) (n : ℕ) : Type 0 where
@@ -49,18 +49,10 @@ ended {A = A} left_out r n is = of r.ending refl is
     of (Err (fault.Malformed addr)) e is = absurd (cc is)
     of (Err (fault.NoTree id)) e is = absurd (cc is)
 
-salvage_by : (plan : RestorePlan) (dest : List ℕ) (images : Images) → salvage_outcome plan dest images ≡ salvaged_in plan dest images (filesystem_of images)
-unfolding salvage_outcome
-salvage_by plan dest images = refl
-
-send_by : (plan : SendPlan) (dest name : List ℕ) (images : Images) → send_outcome plan dest name images ≡ sent_in plan dest name images (filesystem_of images)
-unfolding send_outcome
-send_by plan dest name images = refl
-
 pub salvage_is_committed : HonestSalvage → SalvageIsCommitted
 salvage_is_committed law plan dest images fs C counts missed dry opened honest ends answer =
     let r = salvage_run (fate images fs.layout) plan dest fs.sup in
-    let is : salvage_outcome plan dest images ≡ listed_by missed_in r = salvage_by plan dest images ∙ ap (salvaged_in plan dest images) opened in
+    let is : row_outcome (salvage_row plan dest) images ≡ listed_by missed_in r = row_opened (salvage_row plan dest) images fs opened in
     let end = ended missed_in r missed (sym (ap (λ (o : Outcome). o.answer) is) ∙ answer) in
     record {
       salvaged = end.value;
@@ -110,7 +102,7 @@ send_is_stream law give plan dest name images fs skipped opened bytes named answ
     let sectors = subst (λ layout. GivesSectors (fate images layout)) is_found.layout
     (give images is_found.start is_found.table bytes is_found.starts is_found.scanned) in
     let r = exec B (sends fs.sup plan.root dest name) in
-    let is : send_outcome plan dest name images ≡ listed_by skipped_in r = send_by plan dest name images ∙ ap (sent_in plan dest name images) opened in
+    let is : row_outcome (send_row plan dest name) images ≡ listed_by skipped_in r = row_opened (send_row plan dest name) images fs opened in
     let end = ended skipped_in r skipped (sym (ap (λ (o : Outcome). o.answer) is) ∙ answer) in
     let sent = law B fs.sup plan.root dest name end.value sectors named end.ends in
     record {

@@ -27,11 +27,9 @@ pub mod Checks
 pub mod Orders
 pub mod Agreements
 pub mod Listings
-pub mod Runs
-pub mod Restorings
+pub mod Rows
+pub mod Dumps
 pub mod Resolvings
-pub mod Sendings
-pub mod Salvagings
 pub mod Performing
 pub mod Promises
 pub mod Mendings

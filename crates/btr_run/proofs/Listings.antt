@@ -21,9 +21,9 @@ use Rattle.btr_volume.specs.declared.volume.Volume.{Volume}
 use Rattle.btr_walk.specs.Reading.{FaultCause, UnreadBlock, unread_by}
 use Rattle.btr_walk.specs.declared.fault.TreeFault.{TreeFault}
 use Rattle.btr_walk.specs.declared.fault.TreeFault.TheVariants as tree
-use Rattle.btr_run.specs.Agreeing.{AreAgreed}
+use Rattle.btr_run.specs.Unopened.{AreAgreed}
 use Rattle.btr_run.specs.Answers.{error_line}
-use Rattle.btr_run.specs.Behind.{AnyFault, IfSteady, IsBehind, HasTreeCause}
+use Rattle.btr_run.specs.Behind.{AnyFault, IfSteady, IsBehind, IsLayoutOf, HasTreeCause}
 use Rattle.btr_run.specs.Faults.{tree_answer}
 use Rattle.btr_run.specs.Filesystem.{IsRefusal, MayMend, OpensAs, OpensFilesystem, filesystem_in, filesystem_of}
 use Rattle.btr_run.specs.Listed.{ListsUpTo, listed_answer, listed_by, stopped_answer}
@@ -73,24 +73,24 @@ lists_up_to layout old new r u upto rest place named =
     record { unread = u; before = upto; behind = rest; place = place; wanted = names_addr layout old new u (wants_of upto) named; is = refl }
 
 -- the filesystem isn't opened
-module _ (answer result : Answer) (is : result ≡ answer) (refusal : IsRefusal answer) where
+module _ (May : Type 0) (answer result : Answer) (is : result ≡ answer) (refusal : IsRefusal answer) where
   no_fault : IsNoFault answer
   no_fault = subst IsNoFault (sym refusal.is) (open_no_fault refusal.refusal)
 
   pub unopened_effect : (wanted : Images → Outcome) → ((images : Images) (a : Answer) → filesystem_of images ≡ Err a → wanted images ≡ refused a)
       → (old new : Account) (held : Option Images) (x : Outside) → IfSteady held old new (λ images. OpensFilesystem images (Err answer))
-      → IfSteady held old new (λ images. Comes (Unit {0}) (OrMemory (λ outcome. wanted images ≡ outcome)) x x result)
+      → IfSteady held old new (λ images. Comes May (OrMemory (λ outcome. wanted images ≡ outcome)) x x result)
   unopened_effect wanted bare old new held x =
       when_told held (λ images. Steady old.faults new.faults → OpensFilesystem images (Err answer))
-      (λ images. Steady old.faults new.faults → Comes (Unit {0}) (OrMemory (λ outcome. wanted images ≡ outcome)) x x result)
-      (λ images opens steady. subst (λ a. Comes (Unit {0}) (OrMemory (λ outcome. wanted images ≡ outcome)) x x a) (sym is)
-      (comes_bare (Unit {0}) (OrMemory (λ outcome. wanted images ≡ outcome)) x answer
+      (λ images. Steady old.faults new.faults → Comes May (OrMemory (λ outcome. wanted images ≡ outcome)) x x result)
+      (λ images opens steady. subst (λ a. Comes May (OrMemory (λ outcome. wanted images ≡ outcome)) x x a) (sym is)
+      (comes_bare May (OrMemory (λ outcome. wanted images ≡ outcome)) x answer
       (⊎_elim (λ none. inl (bare images answer none)) (λ want. inr (ap refused want)) (opens steady)) no_fault))
 
-  pub unopened_told : (IsOne : Outcome → Type 0) (x : Outside) → Comes (Unit {0}) (OrBare IsOne) x x result
+  pub unopened_told : (IsOne : Outcome → Type 0) (x : Outside) → Comes May (OrBare IsOne) x x result
   unopened_told IsOne x =
-      subst (λ a. Comes (Unit {0}) (OrBare IsOne) x x a) (sym is)
-      (comes_bare (Unit {0}) (OrBare IsOne) x answer (inr (refl, λ e. open_line refusal.refusal (ap error_line (sym refusal.is) ∙ e))) no_fault)
+      subst (λ a. Comes May (OrBare IsOne) x x a) (sym is)
+      (comes_bare May (OrBare IsOne) x answer (inr (refl, λ e. open_line refusal.refusal (ap error_line (sym refusal.is) ∙ e))) no_fault)
 
 -- The filesystem is open, and a call did these steps.
 module _ {A : Type 0} (left_out : A → ℕ) (layout : Layout) (mid new : Seen) (x y : Outside) (done : List Step) (stands : Stands x y done [])
@@ -295,8 +295,8 @@ module _ {A : Type 0} (left_out : A → ℕ) (layout : Layout) (mid new : Seen) 
   -- since the filesystem was opened
   module _ (old : Seen) (first : OnlyReads old mid) (second : OnlyReads mid new) (volume : Volume) (is_layout : volume.store.layout ≡ layout) (answer : Answer)
       (is : answer ≡ answered result) where
-    tree_cause : HasTreeCause old new (answered result)
-    tree_cause fault is = (layout, of result cause (ap tree_in is ∙ tree_back fault))
+    tree_cause : IsLayoutOf old layout → HasTreeCause old new (answered result)
+    tree_cause own fault is = (layout, own, of result cause (ap tree_in is ∙ tree_back fault))
       where
         of : (r : Result A Stop) → StopCause layout mid new r → tree_in (answered r) ≡ Some fault → FaultCause layout old new fault
         of (Ok a) cause e = absurd (cc e)
@@ -311,11 +311,11 @@ module _ {A : Type 0} (left_out : A → ℕ) (layout : Layout) (mid new : Seen) 
         of (Err (stop.Missing id)) cause e = absurd cause
         of (Err (stop.Image other)) cause e = absurd cause
 
-    pub listed_behind : IsBehind MayMend AnyFault old new answer
-    listed_behind = subst (IsBehind MayMend AnyFault old new) (sym is) (record {
+    pub listed_behind : IsLayoutOf old layout → IsBehind MayMend AnyFault old new answer
+    listed_behind own = subst (IsBehind MayMend AnyFault old new) (sym is) (record {
       reads = reads_more first second;
       image = λ slot e. absurd (no_image slot e);
-      tree = λ fault is told. tree_cause fault is;
+      tree = λ fault is told. tree_cause own fault is;
       hidden = inr (inr (mends_of (answered result) none_of));
       no_usage = λ at e. subst NoneOf e none_of;
       no_limit = λ n e. subst NoneOf e none_of;

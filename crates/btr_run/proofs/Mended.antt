@@ -7,7 +7,7 @@ use Rattle.btr_scrub_copies.specs.declared.mended.MendFault.TheVariants as mend
 use Rattle.btr_prog.specs.Answers.{Follows, no_part}
 use Rattle.btr_prog.specs.Prog.{exec}
 use Rattle.btr_rack.specs.Rack.{OnlyReads, Seen}
-use Rattle.btr_read.specs.Fate.{Agreed, Fault, fate}
+use Rattle.btr_read.specs.Fate.{Agreed, Fault}
 use Rattle.btr_read.specs.Fate as fault
 use Rattle.btr_read.specs.Layout.{Layout}
 use Rattle.btr_scrub.specs.Filesystem as scrubbed
@@ -26,7 +26,8 @@ use Rattle.btr_volume.specs.declared.volume.Volume.{Volume}
 use Rattle.btr_walk.specs.Reading.{unread_by}
 use Rattle.btr_walk.specs.declared.fault.TreeFault.{TreeFault}
 use Rattle.btr_walk.specs.declared.fault.TreeFault.TheVariants as tree
-use Rattle.btr_run.specs.Agreeing.{AreAgreed, LacksUnits, ScrubsAgreed}
+use Rattle.btr_run.specs.Agreeing.{LacksUnits, ScrubsAgreed}
+use Rattle.btr_run.specs.Unopened.{AreAgreed}
 use Rattle.btr_run.specs.Faults.{stop_answer}
 use Rattle.btr_run.specs.Filesystem.{OpensAs, filesystem_in, filesystem_of}
 use Rattle.btr_run.specs.Outcomes.{Outcome, refused, showing}

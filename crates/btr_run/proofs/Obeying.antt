@@ -12,9 +12,10 @@ use Rattle.btr_restore.specs.Running.{Outside}
 use Rattle.btr_read.specs.Layout.{Layout}
 use Rattle.btr_volume.specs.Start.{Start}
 use Rattle.btr_walk.specs.Reading.{FaultCause}
-use Rattle.btr_run.specs.Agreeing.{AreAgreedFor, ComesAgreed, FollowsAgreed, IsUnopened}
+use Rattle.btr_run.specs.Agreeing.{AreAgreedFor, ComesAgreed, FollowsAgreed}
+use Rattle.btr_run.specs.Unopened.{IsUnopened}
 use Rattle.btr_run.specs.Answers.{error_line}
-use Rattle.btr_run.specs.Behind.{IfSteady, IsFault}
+use Rattle.btr_run.specs.Behind.{IfSteady, IsFault, IsLayoutOf}
 use Rattle.btr_run.specs.Causes.{IsBehindWords, opened_with}
 use Rattle.btr_run.specs.Commands.{ImageFails, IsBehindCommand, IsScrub, IsUnmended, command_outcome, MayCome, MayWant, opens_to_write}
 use Rattle.btr_run.specs.Effects.{FollowsWords, IsDecided, IsOutcome, MayFollow, MayWantBy, images_outcome}
@@ -64,6 +65,11 @@ asks_scrub words plan sentence asks = writing plan.command (ap (λ (q : Plan). o
 module _ (words names : Words) (plan : Plan) (sentence : IsSentence plan words) (named : images_of plan words ≡ names) where
   outcome_is : (shelf : Shelf) (outcome : Outcome) → images_outcome plan.command words names shelf ≡ Some outcome → IsOutcome words shelf outcome
   outcome_is shelf outcome is = inr (inl (plan, sentence, ap (λ l. images_outcome plan.command words l shelf) named ∙ is))
+
+  -- the same in two steps
+  outcome_by : (o : Option Outcome) (shelf : Shelf) (outcome : Outcome) → images_outcome plan.command words names shelf ≡ o → o ≡ Some outcome
+      → IsOutcome words shelf outcome
+  outcome_by o shelf outcome comes is = outcome_is shelf outcome (comes ∙ is)
 
   -- what the words alone decide is that there are too many images
   too_many_decided : (answer : Answer) → IsDecided words answer → (most_images < length names) × (answer ≡ Limit images_limit (length names))
@@ -246,7 +252,9 @@ module _ (words names : Words) (plan : Plan) (sentence : IsSentence plan words) 
         of (Some at) (Some images) opens effect = λ steady.
             comes_also (MayWant plan.command x.out_calls) (MayWantBy words x.out_calls)
             (OrMemory (λ outcome. command_outcome plan.command words images ≡ Some outcome)) (OrMemory (IsOutcome words at)) x y answer (may_want x)
-            (λ outcome one. ⊎_elim (λ is. inl (outcome_is at outcome (taken_outcome plan.command words names at images few opens ∙ is))) (λ want. inr want) one)
+            (λ outcome one. ⊎_elim (λ (is : command_outcome plan.command words images ≡ Some outcome).
+            inl (outcome_by (command_outcome plan.command words images) at outcome (taken_outcome plan.command words names at images few opens) is))
+            (λ want. inr want) one)
             (effect (subst (λ n. Steady n new.account.faults) (sym opened.faults) steady))
 
     pub command_told : (x y : Outside) → Comes (MayWant plan.command x.out_calls) (OrBare (MayCome plan.command)) x y answer
@@ -322,7 +330,7 @@ module _ (words names : Words) (plan : Plan) (sentence : IsSentence plan words) 
       tree = λ fault e. record {
         plan = plan;
         sentence = sentence;
-        cause = λ told. let tree = behind.tree fault e in subst (λ s. (layout : Layout) × FaultCause layout s new fault)
+        cause = λ told. let tree = behind.tree fault e in subst (λ s. (layout : Layout) × IsLayoutOf s layout × FaultCause layout s new fault)
             (opened_again old mid new opened tree.0.same) (tree.1 told);
       };
     }

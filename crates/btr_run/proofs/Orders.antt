@@ -24,8 +24,8 @@ use Rattle.btr_restore.specs.InOrder as journey
 use Rattle.btr_restore.specs.Journey.{listing}
 use Rattle.btr_restore.specs.Journey as whole
 use Rattle.btr_restore.specs.Outcome.{text_of}
-use Rattle.btr_restore.specs.Restoring.{StopCause, ended}
-use Rattle.btr_restore.specs.Running.{Outside, Ran, world}
+use Rattle.btr_restore.specs.Restoring.{Did, StopCause, ended, text_after}
+use Rattle.btr_restore.specs.Running.{Outside, Ran, scene_of, world}
 use Rattle.btr_listing.specs.Step.{Step, part}
 use Rattle.btr_volume.specs.Maps.{array_layout, table_of, table_or, volume_map}
 use Rattle.btr_volume.specs.Opening.{ComparesRoots, Opens, RootsDiffer, Scans, Starts}
@@ -40,7 +40,7 @@ use Rattle.btr_volume.specs.declared.stop.Stop.{Stop}
 use Rattle.btr_volume.specs.declared.stop.Stop.TheVariants as stop
 use Rattle.btr_volume.specs.declared.volume.Volume.{Volume}
 use Rattle.btr_text.proofs.Writing.{adds_nothing, adds_twice}
-use Rattle.btr_walk.specs.Reading.{UnreadBlock, halt_of, unread_by}
+use Rattle.btr_walk.specs.Reading.{Map, UnreadBlock, halt_of, unread_by}
 use Rattle.btr_walk.specs.declared.fault.TreeFault.{TreeFault}
 use Rattle.btr_walk.specs.declared.fault.TreeFault.TheVariants as tree
 use Rattle.btr_walk.proofs.Fetched.{unread_since}
@@ -64,6 +64,16 @@ no_steps (step ∷ steps) = absurd step
 -- where nothing was done
 pub nothing_stands : (x : Outside) → Stands x x [] []
 nothing_stands x = record { sink = refl; text = adds_nothing x.text }
+
+-- where some steps were put
+adds_after : (old new : Option (List ℕ)) (steps : List Step) → new ≡ text_after old steps → Adds old new (text_of steps ++ [])
+adds_after None new steps is = is
+adds_after (Some text) new steps is = is ∙ ap (λ l. Some (text ++ l)) (sym (append-nil (text_of steps)))
+
+-- what a call did stands
+pub did_stand : {Says : (UnreadBlock → Want → Type 0) → (ℕ → Map) → List Step → Type 0} (layout : Layout) (mid new : Seen) (volume after : Volume) (x y : Outside)
+    (did : Did layout (scene_of (world mid volume x)) (scene_of (world new after y)) Says) → Stands x y did.done []
+did_stand layout mid new volume after x y did = record { sink = did.sink; text = adds_after x.text y.text did.done did.text }
 
 -- nothing may be done of a journey
 pub nothing_done : (plan : RestorePlan) (dest : List ℕ) (images : Images) (start : Start) (old new : Seen)
@@ -271,16 +281,16 @@ module _ (plan : RestorePlan) (dest : List ℕ) (images : Images) (start : Start
 module _ (plan : RestorePlan) (dest : List ℕ) (old new : Seen) (then : (start : Start) → journey.OpenedThen plan dest start old new)
     (refused : (start : Start) → journey.OpenRefused plan dest start old new) (halted : (start : Start) → journey.OpenHalted plan dest start old new) where
   -- the filesystem isn't opened
-  pub unopened_in_order : (x : Outside) (answer result : Answer) → Stands x x [] [] → result ≡ answer
+  pub unopened_in_order : (x : Outside) (answer result : Answer) → result ≡ answer
       → IfSome old.held (λ images. OpensAs images old new (Err answer)) → IfSome old.held (λ images. InOrder plan dest images old new x x result)
-  unopened_in_order x answer result stands is = of old.held refl
+  unopened_in_order x answer result is = of old.held refl
     where
       by : (images : Images) → old.held ≡ Some images → (opening : Result Volume OpenFault) → Opens images old new opening → answer_as opening ≡ Err answer
           → InOrder plan dest images old new x x result
       by images told (Ok volume) opens same = absurd (cc same)
       by images told (Err refusal) opens same = λ start begun agreed.
           subst (KeepsTo (journey.Follows plan dest start old new (choices images)) x x []) (refusal_is refusal same ∙ sym is)
-          (unopened_order plan dest images start begun agreed old new (then start) (refused start) (halted start) told x stands refusal opens)
+          (unopened_order plan dest images start begun agreed old new (then start) (refused start) (halted start) told x (nothing_stands x) refusal opens)
         where
           refusal_is : (refusal : OpenFault) → ◌≡◌ {A = Result Volume Answer} (Err (open_answer refusal)) (Err answer) → open_answer refusal ≡ answer
           refusal_is refusal e = cc e
@@ -293,9 +303,9 @@ module _ (plan : RestorePlan) (dest : List ℕ) (old new : Seen) (then : (start 
   -- it is open, and it was restored from
   pub opened_in_order : (mid : Seen) (volume after : Volume) (x y : Outside) (answer : Answer) (result : Result Counts Stop)
       → answer ≡ stopped_answer skipped_in result → OnlyReads old mid → IfSome old.held (λ images. OpensAs images old mid (Ok volume))
-      → (ran : Ran (listing plan dest volume.sup) (world mid volume x) (world new after y) result) → Stands x y ran.did.done []
+      → Ran (listing plan dest volume.sup) (world mid volume x) (world new after y) result
       → IfSome old.held (λ images. InOrder plan dest images old new x y answer)
-  opened_in_order mid volume after x y answer result is first opens ran stands = of old.held refl opens
+  opened_in_order mid volume after x y answer result is first opens ran = of old.held refl opens
     where
       volume_is : (opened : Volume) → ◌≡◌ {A = Result Volume Answer} (Ok opened) (Ok volume) → opened ≡ volume
       volume_is opened e = cc e
@@ -306,7 +316,8 @@ module _ (plan : RestorePlan) (dest : List ℕ) (old new : Seen) (then : (start 
       by images told (Ok opened) opens same = λ start begun agreed.
           subst (KeepsTo (journey.Follows plan dest start old new (choices images)) x y []) (sym is)
           (opened_order plan dest images start begun agreed old new (then start) (refused start) (halted start) told mid volume after x y result first
-          (subst (λ v. Opens images old mid (Ok v)) (volume_is opened same) opens) ran stands)
+          (subst (λ v. Opens images old mid (Ok v)) (volume_is opened same) opens) ran
+          (did_stand volume.store.layout mid new volume after x y ran.did))
 
       of : (held : Option Images) → old.held ≡ held → IfSome held (λ images. OpensAs images old mid (Ok volume))
           → IfSome held (λ images. InOrder plan dest images old new x y answer)

@@ -34,7 +34,8 @@ use Rattle.btr_run.specs.Filesystem.{with_roots, with_start, with_table}
 use Rattle.btr_run.specs.Outcomes as tool
 use Rattle.btr_run.specs.Promise.{IsOutcomeOf, KeepsHeadline, KeepsOutcome, StandsAs, ended_answer}
 use Rattle.btr_run.specs.Listed.{listed_answer}
-use Rattle.btr_run.specs.Restored.{restored, restored_in, skipped_in}
+use Rattle.btr_run.specs.Restored.{restore_row, skipped_in}
+use Rattle.btr_run.specs.Rows.{row_in, row_outcome}
 use Rattle.btr_run.specs.Words.{Words, IsSentence, images_of}
 use Rattle.btr_run.specs.declared.answer.Answer.{Answer}
 use Rattle.btr_run.specs.declared.plan.Command.TheVariants.{Restore}
@@ -63,7 +64,7 @@ module _ (seen : Seen) (settles : SettledLaw) (then : (plan : RestorePlan) (dest
 
     -- the table of chunks was scanned, and the listing done
     with_listing : (table : List Chunk) → scan.ending ≡ Ok (Ok table) → diverged_at images start ≡ None
-        → IsOutcomeOf (restored_in plan dest images (with_roots start table None)) (restore_outcome plan dest images)
+        → IsOutcomeOf (row_in (restore_row plan dest) images (with_roots start table None)) (restore_outcome plan dest images)
     with_listing table scanned none = of r.ending refl
       where
         r : Run Want Fault Step Counts
@@ -87,7 +88,7 @@ module _ (seen : Seen) (settles : SettledLaw) (then : (plan : RestorePlan) (dest
             (ap (listed_answer skipped_in) ended)
 
     with_chunks : (table : List Chunk) → scan.ending ≡ Ok (Ok table) → (d : Option ℕ) → roots_differ images start (Ok (Ok table)) ≡ d
-        → IsOutcomeOf (restored_in plan dest images (with_roots start table d)) (restore_outcome plan dest images)
+        → IsOutcomeOf (row_in (restore_row plan dest) images (with_roots start table d)) (restore_outcome plan dest images)
     with_chunks table scanned None is = with_listing table scanned (by_roots (Ok (Ok table)) scanned ∙ is)
     with_chunks table scanned (Some slot) is =
         let here = outcome (exec (volume_map start (fate images)) (journey plan dest start)) in
@@ -95,7 +96,7 @@ module _ (seen : Seen) (settles : SettledLaw) (then : (plan : RestorePlan) (dest
         (sym (ap (from_start plan dest images) begun ∙ ap (λ d. unless_diverged d here) (by_roots (Ok (Ok table)) scanned ∙ is))) refl
 
     by_scan : (s : Result TableResult Fault) → scan.ending ≡ s
-        → IsOutcomeOf (restored_in plan dest images (with_table images start s)) (restore_outcome plan dest images)
+        → IsOutcomeOf (row_in (restore_row plan dest) images (with_table images start s)) (restore_outcome plan dest images)
     by_scan (Ok (Ok table)) scanned = with_chunks table scanned (roots_differ images start (Ok (Ok table))) refl
     by_scan (Ok (Err fault)) scanned =
         by_steps [] (Ok (Err (refusal_of fault))) _ (restore_outcome plan dest images)
@@ -108,17 +109,17 @@ module _ (seen : Seen) (settles : SettledLaw) (then : (plan : RestorePlan) (dest
         (halted plan dest start (λ n. fate images) (halt_fault f)
         (scan, goes_map (λ (n : ℕ). fate images (array_layout start)) 0 (table_scan start), (no_steps (steps_of scan.marks), scanned)))) refl
 
-  is_outcome : (plan : RestorePlan) (dest : List ℕ) (images : Images) → IsOutcomeOf (restored plan dest images) (restore_outcome plan dest images)
-  unfolding restored
+  is_outcome : (plan : RestorePlan) (dest : List ℕ) (images : Images) → IsOutcomeOf (row_outcome (restore_row plan dest) images) (restore_outcome plan dest images)
+  unfolding row_outcome
   is_outcome plan dest images = of (start_of images) refl
     where
-      of : (r : Result Start OpenFault) → start_of images ≡ r → IsOutcomeOf (restored_in plan dest images (with_start images (start_of images)))
+      of : (r : Result Start OpenFault) → start_of images ≡ r → IsOutcomeOf (row_in (restore_row plan dest) images (with_start images (start_of images)))
           (restore_outcome plan dest images)
       of (Err refusal) is =
-          subst (λ f. IsOutcomeOf (restored_in plan dest images (with_start images f)) (restore_outcome plan dest images)) (sym is)
+          subst (λ f. IsOutcomeOf (row_in (restore_row plan dest) images (with_start images f)) (restore_outcome plan dest images)) (sym is)
           (by_steps [] (Ok (Err refusal)) _ (restore_outcome plan dest images) (sym (ap (from_start plan dest images) is)) refl)
       of (Ok start) is =
-          subst (λ f. IsOutcomeOf (restored_in plan dest images (with_start images f)) (restore_outcome plan dest images)) (sym is)
+          subst (λ f. IsOutcomeOf (row_in (restore_row plan dest) images (with_start images f)) (restore_outcome plan dest images)) (sym is)
           (by_scan plan dest images start is (exec (fate images (array_layout start)) (table_scan start)).ending refl)
 
   -- a step in a sink, and in what it tells
@@ -181,11 +182,11 @@ module _ (seen : Seen) (settles : SettledLaw) (then : (plan : RestorePlan) (dest
         stands_as effect.outcome (restore_outcome plan dest images) effect.stands effect.answered
         (subst (λ o. IsOutcomeOf o (restore_outcome plan dest images)) one (is_outcome plan dest images))
       where
-        one : restored plan dest images ≡ effect.outcome
+        one : row_outcome (restore_row plan dest) images ≡ effect.outcome
         one = cc (⊎_elim (λ usage. absurd (usage.1.no_sentence _ from.sentence))
             (λ rest. ⊎_elim
             (λ (same : (p : Plan) × IsSentence p words × (images_outcome p.command words (images_of p words) shelf ≡ Some effect.outcome)).
-            sym (ap (λ d. Some (restored plan d images)) from.named) ∙ sym
+            sym (ap (λ d. Some (row_outcome (restore_row plan d) images)) from.named) ∙ sym
             (taken_outcome (Restore from.number plan) words (drop from.first words) shelf images from.few from.from)
             ∙ ap (λ p. images_outcome p.command words (images_of p words) shelf) (one_plan words _ same.0 from.sentence same.1) ∙ same.2)
             (λ (trial : (n : ℕ) × AsksToTry words n × IsTrialOutcome n effect.outcome).

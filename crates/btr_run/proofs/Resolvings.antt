@@ -1,5 +1,5 @@
 -- What resolving an address comes to.
-use Rattle.std.proofs.Common.{◌≡◌, inl, inr, ℕ, true, List, [], ◌∷◌, ◌++◌, map, fold, Option, Some, None, Result, Ok, Err, refl, sym, ap, ◌∙◌, subst}
+use Rattle.std.proofs.Common.{◌≡◌, inl, inr, ℕ, List, [], ◌∷◌, ◌++◌, map, fold, Option, Some, None, Result, Ok, Err, refl, sym, ap, ◌∙◌, subst}
 use Rattle.std.specs.Option.{IfSome, option_to_list}
 use Rattle.std.proofs.lemmas.List.{append-nil, map-append}
 use Rattle.btr_listing.specs.Step.{Step, Line}
@@ -8,7 +8,7 @@ use Rattle.btr_prog.specs.Answers.{Breaks, Follows, Halt, Leaves, Fault as halt_
 use Rattle.btr_prog.specs.Prog.{Mark, Wants, Does, Run, exec, steps_of, wants_of}
 use Rattle.btr_rack.specs.Out.{Adds, CallAccount}
 use Rattle.btr_rack.specs.Rack.{Seen, OnlyReads}
-use Rattle.btr_rack.specs.Sink.{NotStarted, Sink}
+use Rattle.btr_rack.specs.Sink.{Sink}
 use Rattle.btr_read.specs.Fate.{Agreed, Fault, fate}
 use Rattle.btr_read.specs.Layout.{Layout}
 use Rattle.btr_read.specs.declared.want.Want.{Want}
@@ -22,14 +22,17 @@ use Rattle.btr_volume.specs.declared.stop.Stop.{Stop}
 use Rattle.btr_volume.specs.declared.stop.Stop.TheVariants as stop
 use Rattle.btr_volume.specs.declared.volume.Volume.{Volume}
 use Rattle.btr_walk.specs.Reading.{Map, UnreadBlock, unread_by}
-use Rattle.btr_run.specs.Agreeing.{AreAgreed, IsResolvedOrUnread}
-use Rattle.btr_run.specs.Behind.{AnyFault, IfSteady, IsBehind}
-use Rattle.btr_run.specs.Filesystem.{MayMend, OpensAs, OpensFilesystem, filesystem_in, filesystem_of}
+use Rattle.btr_run.specs.Behind.{IfSteady}
+use Rattle.btr_run.specs.Filesystem.{OpensAs, OpensFilesystem, filesystem_in}
 use Rattle.btr_run.specs.Listed.{BesideSinks, lined, line_mark, listed_by, stopped_answer}
-use Rattle.btr_run.specs.Outcomes.{refused, Comes, Stands, OrBare, OrMemory}
-use Rattle.btr_run.specs.Resolved.{IsResolved, none_left_out, owners_run, resolve_outcome, resolved_in}
+use Rattle.btr_run.specs.Outcomes.{Stands}
+use Rattle.btr_run.specs.Resolved.{IsResolved, none_left_out, owners_run, resolve_row}
+use Rattle.btr_run.specs.Rows.{IsRowDone, IsRowOrUnread, Row, row_outcome}
 use Rattle.btr_run.specs.declared.answer.Answer.{Answer}
+use Rattle.btr_run.proofs.Coming.{when_told}
+use Rattle.btr_run.proofs.Filesystems.{opened_layout}
 use Rattle.btr_run.proofs.Listings as listings
+use Rattle.btr_run.proofs.Rows.{row_opened}
 use Rattle.btr_run.proofs.TreesShown.{steadily, told_agreed}
 
 -- lines as steps
@@ -108,11 +111,6 @@ module _ {A : Type 0} (Is : UnreadBlock → Want → Type 0) (r : Run Want Fault
   follows_lined (Err Broke) f = breaks_lined call.part step.part (λ ws. Unit {0}) part_leaves f
 
 -- ---- the call
-
--- an address in a filesystem that isn't opened
-pub bare : (addr : ℕ) (images : Images) (a : Answer) → filesystem_of images ≡ Err a → resolve_outcome addr images ≡ refused a
-unfolding resolve_outcome
-bare addr images a none = ap (resolved_in addr images) none
 
 -- its causes and counts, in the words of a listing
 module _ (layout : Layout) (old new : Seen) where
@@ -200,62 +198,50 @@ module _ (addr : ℕ) (old mid new : Seen) (first : OnlyReads old mid) (volume a
   abbrev IsFollowed : Map → Type 0
   IsFollowed B = Follows (unread_by layout mid new) call.part [] (exec B (resolved volume.sup layout.chunks addr)) ran.lines (call.ended result)
 
-  is_resolved : (images : Images) → filesystem_of images ≡ Ok (filesystem_in volume) → resolve_outcome addr images ≡ listed_by none_left_out (run images)
-  unfolding resolve_outcome
-  is_resolved images opened = ap (resolved_in addr images) opened
+  abbrev row : Row
+  row = resolve_row addr
 
-  pub resolved_effect : IfSteady old.held old.account mid.account (λ images. OpensFilesystem images (Ok volume))
-      → BesideSinks text calls text' calls' (λ a b. IfSteady old.held old.account new.account
-      (λ images. Comes (Unit {0}) (OrMemory (λ outcome. resolve_outcome addr images ≡ outcome)) a b answer))
-  resolved_effect opens s c =
-      listings.listed_effect none_left_out layout mid new (x s c) (y s c) done (did s c) result (cause_is layout mid new result ran.cause)
-      (no_sink layout mid new c result ran.cause)
-      (counts_are layout mid new calls calls' result ran.cause ran.calls) old first ran.reads volume refl answer is run (resolve_outcome addr) is_resolved
-      (when_followed mid.held (steadily layout mid new IsFollowed ran.content)) opens
-    where
-      when_followed : (held : Option Images) → IfSteady held mid.account new.account (λ images. IsFollowed (fate images layout))
-          → IfSteady held mid.account new.account (λ images. Follows (unread_by layout mid new) step.part [] (run images) done (ended result))
-      when_followed None f = tt
-      when_followed (Some images) f = λ steady. follows (fate images layout) (f steady)
+  -- what was told where no read failed
+  steady_run : (held : Option Images) → IfSteady held mid.account new.account (λ images. IsFollowed (fate images layout))
+      → IfSteady held mid.account new.account (λ images. Follows (unread_by layout mid new) step.part [] (run images) done (ended result))
+  steady_run None f = tt
+  steady_run (Some images) f = λ steady. follows (fate images layout) (f steady)
 
-  pub resolved_told : BesideSinks text calls text' calls' (λ a b. Comes (Unit {0}) (OrBare IsResolved) a b answer)
-  resolved_told s c =
-      listings.listed_told none_left_out layout mid new (x s c) (y s c) done (did s c) result (cause_is layout mid new result ran.cause)
-      (no_sink layout mid new c result ran.cause)
-      (counts_are layout mid new calls calls' result ran.cause ran.calls) old first ran.reads volume refl answer is IsResolved
-      (λ n. record { lines = ran.lines; are = refl; ends = inl refl }) (λ f. record { lines = ran.lines; are = refl; ends = inr (f, refl) })
-      (λ id none. absurd (no_tree layout mid new id result none ran.cause))
+  -- where the images agree
+  agreed_run : (held : Option Images) → IfSome held (λ images. Agreed images layout → IsFollowed (fate images layout))
+      → IfSome held (λ images. Agreed images layout → (r : Run Want Fault Step ℕ) × (run images ≡ r)
+      × Follows (unread_by layout mid new) step.part [] r done (ended result))
+  agreed_run None f = tt
+  agreed_run (Some images) f = λ agreed. (run images, refl, follows (fate images layout) (f agreed))
 
-  pub resolved_agreed : IfSome old.held (λ images. OpensAs images old mid (Ok volume))
-      → BesideSinks text calls text' calls' (λ a b. IfSome old.held (λ images. AreAgreed images → Comes (Unit {0}) (IsResolvedOrUnread addr images) a b answer))
-  resolved_agreed opens s c =
-      listings.listed_agreed none_left_out layout mid new (x s c) (y s c) done (did s c) result (cause_is layout mid new result ran.cause)
-      (no_sink layout mid new c result ran.cause)
-      (counts_are layout mid new calls calls' result ran.cause ran.calls) old first ran.reads volume refl answer is (λ images r. run images ≡ r)
-      (IsResolvedOrUnread addr)
-      (λ images opened r same. inl (is_resolved images opened ∙ ap (listed_by none_left_out) same))
-      (λ images opened r same u upto rest place named. inr (inl (record {
-        fs = filesystem_in volume;
-        opened = opened;
-        upto = listings.lists_up_to layout mid new (run images) u upto rest (ap (λ (q : Run Want Fault Step ℕ). q.marks) same ∙ place) named;
-      })))
-      (when_agreed mid.held (told_agreed layout mid new IsFollowed ran.content)) opens
-    where
-      when_agreed : (held : Option Images) → IfSome held (λ images. Agreed images layout → IsFollowed (fate images layout))
-          → IfSome held (λ images. Agreed images layout → (r : Run Want Fault Step ℕ) × (run images ≡ r)
-          × Follows (unread_by layout mid new) step.part [] r done (ended result))
-      when_agreed None f = tt
-      when_agreed (Some images) f = λ agreed. (run images, refl, follows (fate images layout) (f agreed))
-
-  -- whatever the sink is
-  some_sink : Sink
-  some_sink = record { stage = NotStarted; depth = 0; tree = None }
-
-  some_calls : CallAccount
-  some_calls = record { faults = 0; sure = true; ample = true }
-
-  pub resolved_behind : IsBehind MayMend AnyFault old new answer
-  resolved_behind =
-      listings.listed_behind none_left_out layout mid new (x some_sink some_calls) (y some_sink some_calls) done (did some_sink some_calls) result
-      (cause_is layout mid new result ran.cause) (no_sink layout mid new some_calls result ran.cause)
-      (counts_are layout mid new calls calls' result ran.cause ran.calls) old first ran.reads volume refl answer is
+  pub resolved_done : IfSteady old.held old.account mid.account (λ images. OpensFilesystem images (Ok volume))
+      → IfSome old.held (λ images. OpensAs images old mid (Ok volume))
+      → BesideSinks text calls text' calls' (λ a b. IsRowDone row old new a b answer)
+  resolved_done content opened s c = record {
+    effect = listings.listed_effect none_left_out layout mid new (x s c) (y s c) done (did s c) result (cause_is layout mid new result ran.cause)
+        (no_sink layout mid new c result ran.cause) (counts_are layout mid new calls calls' result ran.cause ran.calls) old first ran.reads volume refl answer
+        is
+        run (row_outcome row) (λ images o. row_opened row images (filesystem_in volume) o)
+        (steady_run mid.held (steadily layout mid new IsFollowed ran.content)) content;
+    agreed = when_told old.held _ _ (λ images comes agreed. comes agreed.0)
+        (listings.listed_agreed none_left_out layout mid new (x s c) (y s c) done (did s c) result (cause_is layout mid new result ran.cause)
+        (no_sink layout mid new c result ran.cause) (counts_are layout mid new calls calls' result ran.cause ran.calls) old first ran.reads volume refl answer
+        is
+        (λ images r. run images ≡ r) (IsRowOrUnread row)
+        (λ images o r same. inl (row_opened row images (filesystem_in volume) o ∙ ap (listed_by none_left_out) same))
+        (λ images o r same u upto rest place named. inr (inl (
+          filesystem_in volume,
+          o,
+          listings.lists_up_to layout mid new (run images) u upto rest (ap (λ (q : Run Want Fault Step ℕ). q.marks) same ∙ place) named,
+        )))
+        (agreed_run mid.held (told_agreed layout mid new IsFollowed ran.content)) opened);
+    told = listings.listed_told none_left_out layout mid new (x s c) (y s c) done (did s c) result (cause_is layout mid new result ran.cause)
+        (no_sink layout mid new c result ran.cause) (counts_are layout mid new calls calls' result ran.cause ran.calls) old first ran.reads volume refl answer
+        is
+        IsResolved (λ n. record { lines = ran.lines; are = refl; ends = inl refl }) (λ f. record { lines = ran.lines; are = refl; ends = inr (f, refl) })
+        (λ id none. absurd (no_tree layout mid new id result none ran.cause));
+    cause = listings.listed_behind none_left_out layout mid new (x s c) (y s c) done (did s c) result (cause_is layout mid new result ran.cause)
+        (no_sink layout mid new c result ran.cause) (counts_are layout mid new calls calls' result ran.cause ran.calls) old first ran.reads volume refl answer
+        is
+        (opened_layout old mid volume first opened);
+  }

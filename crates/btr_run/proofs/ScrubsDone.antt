@@ -40,7 +40,7 @@ use Rattle.btr_walk.proofs.Fetched.{cause_since}
 use Rattle.btr_walk.specs.Reading.{FaultCause, Map, Tells, unread_by}
 use Rattle.btr_walk.specs.declared.fault.TreeFault.{TreeFault}
 use Rattle.btr_walk.specs.declared.fault.TreeFault.TheVariants as tree
-use Rattle.btr_run.specs.Agreeing.{AreAgreed}
+use Rattle.btr_run.specs.Unopened.{AreAgreed}
 use Rattle.btr_run.specs.Behind.{HasToldCause, IfSteady, IsBehind, IsNoCrossing}
 use Rattle.btr_run.specs.Answers.{error_line}
 use Rattle.btr_run.specs.Checked.{found}
@@ -54,6 +54,7 @@ use Rattle.btr_run.specs.Scrubbed.{tally_shown, writes_in}
 use Rattle.btr_run.specs.declared.answer.Answer.{Answer}
 use Rattle.btr_run.specs.declared.answer.Answer.TheVariants.{ImageFault, Memory, MissingDevice}
 use Rattle.btr_run.specs.declared.plan.Command.TheVariants.{Scrub}
+use Rattle.btr_run.proofs.Filesystems.{opened_layout}
 use Rattle.btr_run.proofs.Agreements.{agreeing, agreeing_opened}
 use Rattle.btr_run.proofs.Found.{found_line, found_no_memory}
 use Rattle.btr_run.proofs.Causing.{rose_behind, some_fresh}
@@ -173,7 +174,7 @@ module _ (write : Bool) (old mid : Seen) (first : OnlyReads old mid) (volume : V
           of stop.Memory c = tt
 
       told_cause : HasToldCause IsNoCrossing old at (stop_answer why)
-      told_cause f e told = (layout, of why cause (ap tree_in e ∙ tree_back f))
+      told_cause f e told = (layout, opened_layout old mid volume first opened, of why cause (ap tree_in e ∙ tree_back f))
         where
           by : (g : TreeFault) → IsNoCrossing g → TreeCause layout mid at g → FaultCause layout old at g
           by (tree.Lost a) t c = cause_since at layout layout (tree.Lost a) refl first c

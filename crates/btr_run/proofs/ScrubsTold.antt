@@ -7,7 +7,8 @@ use Rattle.btr_rack.specs.declared.error.SinkError.TheVariants.{Failed, Memory a
 use Rattle.btr_rack.specs.Rack.{Seen, Steady}
 use Rattle.btr_scrub.specs.declared.tally.Tally.{Tally}
 use Rattle.btr_volume.specs.Start.{Images}
-use Rattle.btr_run.specs.Agreeing.{AreAgreed, IsScrubbedOrUnread, ScrubsAgreed}
+use Rattle.btr_run.specs.Agreeing.{IsScrubbedOrUnread, ScrubsAgreed}
+use Rattle.btr_run.specs.Unopened.{AreAgreed}
 use Rattle.btr_run.specs.Behind.{IfSteady}
 use Rattle.btr_run.specs.Checked.{found}
 use Rattle.btr_run.specs.Commands.{IsBehindCommand}

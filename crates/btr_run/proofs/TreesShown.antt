@@ -24,22 +24,20 @@ use Rattle.btr_volume.specs.declared.fault.OpenFault.{OpenFault}
 use Rattle.btr_volume.specs.declared.fault.OpenFault.TheVariants as opening
 use Rattle.btr_volume.specs.declared.stop.Stop.{Stop}
 use Rattle.btr_volume.specs.declared.stop.Stop.TheVariants as stop
-use Rattle.btr_volume.specs.declared.volume.Volume.{Volume}
 use Rattle.btr_volume.specs.declared.which.Which.TheVariants.{Images as images_limit}
 use Rattle.btr_walk.specs.Reading.{Map, UnreadBlock, FaultCause, Tells, unread_by}
 use Rattle.btr_walk.specs.declared.fault.TreeFault.{TreeFault}
 use Rattle.btr_walk.specs.declared.fault.TreeFault.TheVariants as tree
 use Rattle.btr_run.specs.Answers.{error_line}
-use Rattle.btr_run.specs.Behind.{AnyFault, IfSteady, IsBehind, IsFault, HasTreeCause}
+use Rattle.btr_run.specs.Behind.{AnyFault, IfSteady, IsBehind, IsFault, IsLayoutOf, HasTreeCause}
 use Rattle.btr_run.specs.Faults.{open_answer, tree_answer}
-use Rattle.btr_run.specs.Filesystem.{Filesystem, OpensFilesystem, IsBySupers, IsRefusal, MayMend, filesystem_in, filesystem_of}
+use Rattle.btr_run.specs.Filesystem.{Filesystem, OpensFilesystem, IsBySupers, IsRefusal, MayMend, filesystem_of}
 use Rattle.btr_run.specs.Outcomes.{Outcome, IsNoFault, Shows, OrBare, OrMemory, refused, showing}
-use Rattle.btr_run.specs.Trees.{BreaksOff, IsTreesOutcome, asked_answer, call_answer, shown_by, trees_in, trees_outcome, trees_shown, whole_answer}
-use Rattle.btr_run.specs.declared.plan.DumpChoice.{DumpChoice}
+use Rattle.btr_run.specs.Trees.{BreaksOff, IsTreesOutcome, asked_answer, call_answer, shown_by, whole_answer}
 use Rattle.btr_run.specs.declared.answer.Answer.{Answer}
 use Rattle.btr_run.specs.declared.answer.Answer.TheVariants.{Done, Usage, NoSuper, SumKind, Foreign, Twin, Unsupported, Geometry, LogPending, BadArray, Limit}
 use Rattle.btr_run.specs.declared.answer.Answer.TheVariants.{NoTree, ImageFault}
-use Rattle.btr_run.proofs.Coming.{shows_bare, shows_also}
+use Rattle.btr_run.proofs.Coming.{shows_bare}
 use Rattle.btr_run.proofs.Coming.{when_told}
 use Rattle.btr_run.proofs.Faulting.{tree_in, tree_back}
 use Rattle.btr_run.proofs.Refusals.{open_line, open_no_fault, open_no_usage}
@@ -216,35 +214,6 @@ module _ (answer result : Answer) (is : result ≡ answer) (refusal : IsRefusal 
     no_limit = λ n e. counted n (sym is ∙ e);
   }
 
--- The filesystem is open, and its trees were shown.
-module _ (choice : DumpChoice) (old mid new : Seen) (first : OnlyReads old mid) (second : OnlyReads mid new) (text text' : Option Text)
-    (before after : CallAccount) (answer : Answer) (result : Result (Unit {0}) Stop) (is : answer ≡ call_answer result) where
-  pub shown_effect : (volume : Volume) → IfSteady old.held old.account mid.account (λ images. OpensFilesystem images (Ok volume))
-      → IfSteady mid.held mid.account new.account
-      (λ images. Shows (λ outcome. outcome ≡ showing (trees_shown choice (fate images volume.store.layout) volume.sup)) text text' before after
-      (call_answer result))
-      → IfSteady old.held old.account new.account
-      (λ images. Shows (OrMemory (λ outcome. Some (trees_outcome choice images) ≡ Some outcome)) text text' before after answer)
-  shown_effect volume opens shows = of old.held opens
-      (subst (λ held. IfSteady held mid.account new.account
-      (λ images. Shows (λ outcome. outcome ≡ showing (trees_shown choice (fate images volume.store.layout) volume.sup)) text text' before after
-      (call_answer result))) (ap (λ (s : Seen). s.held) first.same) shows)
-    where
-      of : (held : Option Images) → IfSteady held old.account mid.account (λ images. OpensFilesystem images (Ok volume))
-          → IfSteady held mid.account new.account (λ images. Shows
-          (λ outcome. outcome ≡ showing (trees_shown choice (fate images volume.store.layout) volume.sup)) text text' before after (call_answer result))
-          → IfSteady held old.account new.account (λ images. Shows (OrMemory
-          (λ outcome. Some (trees_outcome choice images) ≡ Some outcome)) text text' before after answer)
-      of None opens shows = tt
-      of (Some images) opens shows = λ steady.
-          let opened : filesystem_of images ≡ Ok (filesystem_in volume) = opens
-          (omega (arith, steady.0, second.later), omega (arith, steady.1, second.later)) in
-          subst (λ a. Shows (OrMemory (λ outcome. Some (trees_outcome choice images) ≡ Some outcome)) text text' before after a) (sym is)
-          (shows_also (λ outcome. outcome ≡ showing (trees_shown choice (fate images volume.store.layout) volume.sup))
-          (OrMemory (λ outcome. Some (trees_outcome choice images) ≡ Some outcome)) text text' before after (call_answer result)
-          (λ outcome e. inl (ap (λ f. Some (trees_in choice images f)) opened ∙ ap (λ o. Some o) (sym e)))
-          (shows (omega (arith, steady.0, first.later), steady.1)))
-
 -- a tree that can't be read on is neither a fault of the output nor of the sink
 pub tree_no_fault : (f : TreeFault) → IsNoFault (tree_answer f)
 tree_no_fault (tree.Lost a) = record { no_out = λ e. cc; no_sink = λ e. cc }
@@ -385,8 +354,8 @@ module _ (old mid new : Seen) (first : OnlyReads old mid) (second : OnlyReads mi
       of (Err (stop.Image other)) = tt
       of (Err stop.Sink) = tt
 
-  tree_cause : (layout : Layout) → StopCause layout mid new result → HasTreeCause old new (call_answer result)
-  tree_cause layout cause fault is = (layout, of result cause (ap tree_in is ∙ tree_back fault))
+  tree_cause : (layout : Layout) → IsLayoutOf old layout → StopCause layout mid new result → HasTreeCause old new (call_answer result)
+  tree_cause layout own cause fault is = (layout, own, of result cause (ap tree_in is ∙ tree_back fault))
     where
       of : (r : Result (Unit {0}) Stop) → StopCause layout mid new r → tree_in (call_answer r) ≡ Some fault → FaultCause layout old new fault
       of (Ok u) cause e = absurd (cc e)
@@ -401,11 +370,11 @@ module _ (old mid new : Seen) (first : OnlyReads old mid) (second : OnlyReads mi
       of (Err (stop.Image other)) cause e = absurd (cc e)
       of (Err stop.Sink) cause e = absurd (cc e)
 
-  pub shown_behind : (layout : Layout) → StopCause layout mid new result → IsBehind MayMend AnyFault old new answer
-  shown_behind layout cause = subst (IsBehind MayMend AnyFault old new) (sym is) (record {
+  pub shown_behind : (layout : Layout) → IsLayoutOf old layout → StopCause layout mid new result → IsBehind MayMend AnyFault old new answer
+  shown_behind layout own cause = subst (IsBehind MayMend AnyFault old new) (sym is) (record {
     reads = reads_more first second;
     image = λ slot is. absurd (no_image slot is);
-    tree = λ fault e told. tree_cause layout cause fault e;
+    tree = λ fault e told. tree_cause layout own cause fault e;
     hidden = inr (inr (mends_of (call_answer result) none_of));
     no_usage = λ at e. subst NoneOf e none_of;
     no_limit = λ n e. subst NoneOf e none_of;

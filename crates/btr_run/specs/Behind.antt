@@ -1,10 +1,12 @@
 -- What lies behind the answer of a command over opened images.
-use Rattle.std.specs.Prelude.{◌≡◌, ◌≢◌, ◌⊎◌, ℕ, Option, IfSome}
+use Rattle.std.specs.Prelude.{◌≡◌, ◌≢◌, ◌⊎◌, ℕ, List, Option, IfSome, Ok}
+use Rattle.btr_chunk.specs.declared.chunk.Chunk.{Chunk}
 use Rattle.btr_rack.specs.Out.{CallAccount}
 use Rattle.btr_rack.specs.Rack.{Seen, Account, Steady, NoneFailed, OnlyReads}
 use Rattle.btr_read.specs.Layout.{Layout}
 use Rattle.btr_run.specs.Faults.{tree_answer}
-use Rattle.btr_volume.specs.Opening.{SuperUnread}
+use Rattle.btr_volume.specs.Opening.{Scans, SuperUnread}
+use Rattle.btr_volume.specs.Start.{Start, layout_by, start_of}
 use Rattle.btr_walk.specs.Reading.{FaultCause}
 use Rattle.btr_walk.specs.declared.fault.TreeFault.{TreeFault}
 use Rattle.btr_walk.specs.declared.fault.TreeFault.TheVariants.{Lost, Unread, Unmapped, Crosses, Malformed}
@@ -24,13 +26,23 @@ IfServed sink new_sink out new_out answer P = Steady sink.faults new_sink.faults
 abbrev pub IsFault : Answer → Type 0
 IsFault answer = ((slot : ℕ) × (answer ≡ ImageFault slot)) ⊎ (answer ≡ SinkFault) ⊎ (answer ≡ OutFault) ⊎ (answer ≡ Memory)
 
--- a fault of a tree has its cause: by some layout some block was lost, has no position, or could not be read
+-- A layout by which the images of a rack are read: by their start, and the chunks of its array, or those that a scan of the chunk tree came to, which
+-- was found by that array. Where the rack doesn't tell its images it is one by some start.
+pub record IsLayoutOf (rack : Seen) (layout : Layout) : Type 0 where
+  pub start : Start
+  pub chunks : List Chunk
+  pub by : layout ≡ layout_by start chunks
+  pub is : IfSome rack.held (λ images. (start_of images ≡ Ok start)
+      × ((chunks ≡ start.array) ⊎ ((later : Seen) × OnlyReads rack later × Scans start rack later (Ok (Ok chunks)))))
+
+-- a fault of a tree has its cause: by a layout of the images some block was lost, has no position, or could not be read
 abbrev pub HasTreeCause : Seen → Seen → Answer → Type 0
-HasTreeCause old new answer = (fault : TreeFault) → answer ≡ tree_answer fault → (layout : Layout) × FaultCause layout old new fault
+HasTreeCause old new answer = (fault : TreeFault) → answer ≡ tree_answer fault → (layout : Layout) × IsLayoutOf old layout × FaultCause layout old new fault
 
 -- the same for the faults whose cause is told
 abbrev pub HasToldCause : (TreeFault → Type 0) → Seen → Seen → Answer → Type 0
-HasToldCause IsTold old new answer = (fault : TreeFault) → answer ≡ tree_answer fault → IsTold fault → (layout : Layout) × FaultCause layout old new fault
+HasToldCause IsTold old new answer =
+    (fault : TreeFault) → answer ≡ tree_answer fault → IsTold fault → (layout : Layout) × IsLayoutOf old layout × FaultCause layout old new fault
 
 -- all of them
 abbrev pub AnyFault : TreeFault → Type 0

@@ -4,7 +4,7 @@ use Rattle.btr_rack.specs.Rack.{Account, Seen, Shelf, NoneFailed}
 use Rattle.btr_read.specs.Layout.{Layout}
 use Rattle.btr_walk.specs.Reading.{FaultCause}
 use Rattle.btr_walk.specs.declared.fault.TreeFault.{TreeFault}
-use Rattle.btr_run.specs.Behind.{IsFault}
+use Rattle.btr_run.specs.Behind.{IsFault, IsLayoutOf}
 use Rattle.btr_run.specs.Commands.{ImageFails, MayFail, TellsCause, opens_to_write}
 use Rattle.btr_run.specs.Faults.{tree_answer}
 use Rattle.btr_run.specs.Images.{IsMissing}
@@ -45,7 +45,8 @@ opened_with account seen = record seen { account = account }
 pub record CauseTold (words : Words) (old new : Seen) (fault : TreeFault) : Type 0 where
   pub plan : Plan
   pub sentence : IsSentence plan words
-  pub cause : TellsCause plan.command fault → (layout : Layout) × FaultCause layout (opened_with old.account new) new fault
+  pub cause : TellsCause plan.command fault
+      → (layout : Layout) × IsLayoutOf (opened_with old.account new) layout × FaultCause layout (opened_with old.account new) new fault
 
 -- a fault of a tree has its cause, where the command that the words ask for tells it
 abbrev pub TreeCause : Words → Seen → Seen → Answer → Type 0

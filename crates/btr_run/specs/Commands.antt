@@ -10,19 +10,20 @@ use Rattle.btr_volume.specs.Opening.{SuperUnread}
 use Rattle.btr_volume.specs.declared.which.Which.TheVariants.{Images as images_limit}
 use Rattle.btr_walk.specs.Reading.{FaultCause}
 use Rattle.btr_walk.specs.declared.fault.TreeFault.{TreeFault}
-use Rattle.btr_run.specs.Behind.{AnyFault, IsFault, IsNoCrossing, IsUnread}
+use Rattle.btr_run.specs.Behind.{AnyFault, IsFault, IsLayoutOf, IsNoCrossing, IsUnread}
 use Rattle.btr_run.specs.Checked.{check_outcome, IsCheckOutcome}
 use Rattle.btr_run.specs.Filesystem.{MayMend}
 use Rattle.btr_run.specs.Newest.{super_outcome, IsSuperOutcome}
 use Rattle.btr_run.specs.Outcomes.{Outcome}
-use Rattle.btr_run.specs.Resolved.{resolve_outcome, IsResolved}
-use Rattle.btr_run.specs.Restored.{restored, IsRestored}
+use Rattle.btr_run.specs.Resolved.{resolve_row, IsResolved}
+use Rattle.btr_run.specs.Restored.{restore_row}
+use Rattle.btr_run.specs.Rows.{IsRestored, row_outcome}
 use Rattle.btr_run.specs.Faults.{tree_answer}
 use Rattle.btr_run.specs.Scrubbed.{scrub_outcome, IsScrubOutcome}
-use Rattle.btr_run.specs.Salvaged.{salvage_outcome}
+use Rattle.btr_run.specs.Salvaged.{salvage_row}
 use Rattle.btr_run.specs.SelfTested.{IsTrialOutcome}
-use Rattle.btr_run.specs.Sent.{send_outcome}
-use Rattle.btr_run.specs.Trees.{trees_outcome, IsTreesOutcome}
+use Rattle.btr_run.specs.Sent.{send_row}
+use Rattle.btr_run.specs.Trees.{dump_row, IsTreesOutcome}
 use Rattle.btr_run.specs.Words.{Words}
 use Rattle.btr_run.specs.declared.answer.Answer.{Answer}
 use Rattle.btr_run.specs.declared.answer.Answer.TheVariants.{Usage, Limit, ImageFault}
@@ -32,13 +33,13 @@ use Rattle.btr_run.specs.declared.plan.Command.TheVariants.{Super, Dump, Resolve
 -- what a command of some words comes to over the bytes of its images; a self-test has none
 abbrev pub command_outcome : Command → Words → List (List ℕ) → Option Outcome
 command_outcome Super words images = super_outcome images
-command_outcome (Dump choice) words images = Some (trees_outcome choice images)
-command_outcome (Resolve addr) words images = Some (resolve_outcome addr images)
+command_outcome (Dump choice) words images = Some (row_outcome (dump_row choice) images)
+command_outcome (Resolve addr) words images = Some (row_outcome (resolve_row addr) images)
 command_outcome (Check read_data) words images = Some (check_outcome read_data images)
 command_outcome (Scrub write) words images = Some (scrub_outcome write images)
-command_outcome (Restore dest plan) words images = Some (restored plan (get_or words dest []) images)
-command_outcome (Salvage dest plan) words images = Some (salvage_outcome plan (get_or words dest []) images)
-command_outcome (Send dest file plan) words images = Some (send_outcome plan (get_or words dest []) (get_or words file []) images)
+command_outcome (Restore dest plan) words images = Some (row_outcome (restore_row plan (get_or words dest [])) images)
+command_outcome (Salvage dest plan) words images = Some (row_outcome (salvage_row plan (get_or words dest [])) images)
+command_outcome (Send dest file plan) words images = Some (row_outcome (send_row plan (get_or words dest []) (get_or words file [])) images)
 command_outcome (SelfTest number) words images = None
 
 -- what a command may come to whatever its images hold, and whatever fails, beside refusals before anything else
@@ -186,7 +187,7 @@ pub record IsBehindCommand (command : Command) (old new : Seen) (answer : Answer
   pub held : opens_to_write command ≡ false → new.held ≡ old.held
   pub image : (slot : ℕ) → answer ≡ ImageFault slot → ImageFails command old new slot
   pub tree : (fault : TreeFault) → answer ≡ tree_answer fault → OnlyReads old new
-      × (TellsCause command fault → (layout : Layout) × FaultCause layout old new fault)
+      × (TellsCause command fault → (layout : Layout) × IsLayoutOf old layout × FaultCause layout old new fault)
   pub hidden : NoneFailed old.account new.account ⊎ IsFault answer ⊎ MayFail command answer
   pub no_usage : (at : ℕ) → answer ≢ Usage at
   pub no_limit : (n : ℕ) → answer ≢ Limit images_limit n

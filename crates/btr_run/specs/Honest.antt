@@ -16,8 +16,9 @@ use Rattle.btr_send.specs.declared.plan.SendPlan.{SendPlan}
 use Rattle.btr_volume.specs.Start.{Images}
 use Rattle.btr_run.specs.Filesystem.{Filesystem, filesystem_of}
 use Rattle.btr_run.specs.Restored.{skipped_in}
-use Rattle.btr_run.specs.Salvaged.{missed_in, salvage_outcome}
-use Rattle.btr_run.specs.Sent.{send_outcome}
+use Rattle.btr_run.specs.Rows.{row_outcome}
+use Rattle.btr_run.specs.Salvaged.{missed_in, salvage_row}
+use Rattle.btr_run.specs.Sent.{send_row}
 use Rattle.btr_run.specs.declared.answer.Answer.TheVariants.{Done}
 
 -- what `restore -i` left of the committed listing of a filesystem, where so much was missed
@@ -26,7 +27,7 @@ pub record LeavesCommitted
   pub salvaged : Salvaged
   pub missing : missed ≡ missed_in salvaged
   pub left : IsLeft plan dest fs.sup (fate images fs.layout) (committed C images fs.layout) counts salvaged
-      (steps_of (exec (committed C images fs.layout) (listing plan dest fs.sup)).marks) (salvage_outcome plan dest images).steps
+      (steps_of (exec (committed C images fs.layout) (listing plan dest fs.sup)).marks) (row_outcome (salvage_row plan dest) images).steps
 
 -- Over honest images, where `restore` would come to its end in the committed blocks: what `restore -i` does is the
 -- committed listing, but for entries that are named with a block that is lost.
@@ -37,7 +38,7 @@ SalvageIsCommitted =
     → filesystem_of images ≡ Ok fs
     → IsHonest C images fs.layout
     → (exec (committed C images fs.layout) (listing plan dest fs.sup)).ending ≡ Ok counts
-    → (salvage_outcome plan dest images).answer ≡ Done missed
+    → (row_outcome (salvage_row plan dest) images).answer ≡ Done missed
     → LeavesCommitted plan dest images fs C counts missed
 
 -- what `send` leaves, where so much was left out: one stream, whose replay is what `restore`
@@ -46,7 +47,7 @@ pub record LeavesStream (plan : SendPlan) (dest name : List ℕ) (images : Image
   pub counts : Counts
   pub missing : skipped ≡ skipped_in counts
   pub restored : (exec (fate images fs.layout) (restores fs.sup plan.root dest name)).ending ≡ Ok counts
-  pub stream : IsStreamOf dest name (tree_after (send_outcome plan dest name images).steps).rows
+  pub stream : IsStreamOf dest name (tree_after (row_outcome (send_row plan dest name) images).steps).rows
       (members_of_rows (tree_after (steps_of (exec (fate images fs.layout) (restores fs.sup plan.root dest name)).marks)).rows)
 
 -- Where a send of images of bytes comes to its end, that is what it leaves.
@@ -56,5 +57,5 @@ SendIsStream =
     → filesystem_of images ≡ Ok fs
     → AreBytes images
     → IsStreamName name
-    → (send_outcome plan dest name images).answer ≡ Done skipped
+    → (row_outcome (send_row plan dest name) images).answer ≡ Done skipped
     → LeavesStream plan dest name images fs skipped

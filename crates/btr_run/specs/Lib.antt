@@ -13,10 +13,14 @@ pub mod Opening
 pub mod Behind
 pub mod Newest
 pub mod Filesystem
-pub mod Trees
 pub mod Checked
 pub mod Scrubbed
 pub mod Listed
+pub mod Promise
+pub mod Order
+pub mod Unopened
+pub mod Rows
+pub mod Trees
 pub mod Restored
 pub mod Resolved
 pub mod Sent
@@ -25,8 +29,6 @@ pub mod Salvaged
 pub mod Commands
 pub mod Causes
 pub mod Effects
-pub mod Promise
-pub mod Order
 pub mod Agreeing
 pub mod Repaired
 pub mod Rescued

@@ -9,11 +9,10 @@ use Rattle.btr_read.specs.Fate.{Fault}
 use Rattle.btr_read.specs.Want.{addr_of}
 use Rattle.btr_read.specs.declared.want.Want.{Want}
 use Rattle.btr_restore.specs.Running.{Outside, outside}
-use Rattle.btr_volume.specs.Start.{Images}
 use Rattle.btr_volume.specs.declared.stop.Stop.{Stop}
 use Rattle.btr_walk.specs.Reading.{UnreadBlock}
 use Rattle.btr_run.specs.Faults.{stop_answer}
-use Rattle.btr_run.specs.Filesystem.{Filesystem, fault_answer, filesystem_of}
+use Rattle.btr_run.specs.Filesystem.{fault_answer}
 use Rattle.btr_run.specs.Outcomes.{Outcome}
 use Rattle.btr_run.specs.declared.answer.Answer.{Answer}
 use Rattle.btr_run.specs.declared.answer.Answer.TheVariants.{Done, Unread}
@@ -41,13 +40,11 @@ pub record ListsUpTo {A : Type 0} (r : Run Want Fault Step A) (outcome : Outcome
   pub wanted : Names (λ u want. u.addr ≡ addr_of want) unread (wants_of before)
   pub is : outcome ≡ record { answer = Unread unread.addr unread.slot; steps = steps_of before }
 
--- what listing over the filesystem of some images comes to by a run, one of several, as by several candidates of a
--- sector that is tested by nothing: the whole of it, or it up to a block that could not be read
-pub record ListsOver {A : Type 0} (images : Images) (left_out : A → ℕ) (IsRun : Filesystem → Run Want Fault Step A → Type 0) (outcome : Outcome) : Type 0 where
-  pub fs : Filesystem
-  pub opened : filesystem_of images ≡ Ok fs
+-- what listing comes to by a run, one of several, as by several candidates of a sector that is tested by nothing: the whole of it,
+-- or it up to a block that could not be read
+pub record ListsTo {A : Type 0} (left_out : A → ℕ) (IsRun : Run Want Fault Step A → Type 0) (outcome : Outcome) : Type 0 where
   pub run : Run Want Fault Step A
-  pub is_run : IsRun fs run
+  pub is_run : IsRun run
   pub comes : (listed_by left_out run ≡ outcome) ⊎ ListsUpTo run outcome
 
 -- a mark of a run of lines, whose step puts the line on the output

@@ -6,7 +6,7 @@ use Rattle.btr_scrub.specs.Repair.{blocks}
 use Rattle.btr_scrub.specs.Right.{Committed, IsRepairable, StandsFor}
 use Rattle.btr_scrub.specs.declared.tally.Tally.{Tally}
 use Rattle.btr_volume.specs.Start.{Images}
-use Rattle.btr_run.specs.Agreeing.{AreAgreed}
+use Rattle.btr_run.specs.Unopened.{AreAgreed}
 use Rattle.btr_run.specs.Answers.{error_line}
 use Rattle.btr_run.specs.Behind.{IfSteady, IsFault}
 use Rattle.btr_run.specs.Checked.{found}

@@ -1,20 +1,23 @@
 -- The commands that show trees of a filesystem.
-use Rattle.std.specs.Prelude.{◌≡◌, ◌⊎◌, ℕ, List, ◌++◌, Option, Some, None, Result, Ok, Err}
+use Rattle.std.specs.Prelude.{◌≡◌, ◌⊎◌, ℕ, false, List, ◌++◌, Option, Some, None, Result, Ok, Err}
 use Rattle.btr_dump.specs.Pieces.{Text, all_trees, asked_tree, block_shown, kind_in, roots_shown}
 use Rattle.btr_dump.specs.Showing.{TextRun, whole}
 use Rattle.btr_prog.specs.Answers.{Names}
 use Rattle.btr_prog.specs.Prog.{Mark, exec, steps_of, wants_of}
-use Rattle.btr_read.specs.Fate.{Fault, fate}
+use Rattle.btr_read.specs.Fate.{Agree, Fault, fate}
+use Rattle.btr_read.specs.Layout.{Layout}
 use Rattle.btr_read.specs.Want.{addr_of}
 use Rattle.btr_read.specs.declared.want.Want.{Want}
+use Rattle.btr_read.specs.declared.want.Want.TheVariants as want
 use Rattle.btr_super.specs.declared.superblock.Super.{Super}
 use Rattle.btr_volume.specs.Start.{Images}
 use Rattle.btr_volume.specs.declared.stop.Stop.{Stop}
 use Rattle.btr_walk.specs.Reading.{Map, UnreadBlock}
 use Rattle.btr_walk.specs.declared.fault.TreeFault.{TreeFault}
 use Rattle.btr_run.specs.Faults.{stop_answer, tree_answer}
-use Rattle.btr_run.specs.Filesystem.{Filesystem, fault_answer, filesystem_of}
-use Rattle.btr_run.specs.Outcomes.{Outcome, Shown, refused, showing}
+use Rattle.btr_run.specs.Filesystem.{fault_answer}
+use Rattle.btr_run.specs.Outcomes.{Outcome, Shown, showing}
+use Rattle.btr_run.specs.Rows.{Row}
 use Rattle.btr_run.specs.declared.answer.Answer.{Answer}
 use Rattle.btr_run.specs.declared.answer.Answer.TheVariants.{Done, NoTree, Unread}
 use Rattle.btr_run.specs.declared.plan.DumpChoice.{DumpChoice}
@@ -65,15 +68,6 @@ BreaksOffIn RootLines blocks s outcome = BreaksOff (exec blocks (roots_shown s))
 abbrev pub ShowsUpTo : DumpChoice → Map → Super → Outcome → Type 0
 ShowsUpTo choice blocks s outcome = (outcome ≡ showing (trees_shown choice blocks s)) ⊎ BreaksOffIn choice blocks s outcome
 
--- what showing the trees of the filesystem of some images comes to, or its answer where there is none
-abbrev pub trees_in : DumpChoice → Images → Result Filesystem Answer → Outcome
-trees_in choice images (Ok fs) = showing (trees_shown choice (fate images fs.layout) fs.sup)
-trees_in choice images (Err answer) = refused answer
-
--- what showing trees of the filesystem of some images comes to
-abbrev pub trees_outcome : DumpChoice → Images → Outcome
-trees_outcome choice images = trees_in choice images (filesystem_of images)
-
 -- the answer of a call that shows a text
 abbrev pub call_answer : Result (Unit {0}) Stop → Answer
 call_answer (Ok u) = Done 0
@@ -85,3 +79,20 @@ pub record IsTreesOutcome (outcome : Outcome) : Type 0 where
   pub shown : Shown
   pub is : outcome ≡ showing shown
   pub ends : (shown.answer ≡ Done 0) ⊎ ((id : ℕ) × (shown.answer ≡ NoTree id)) ⊎ ((fault : TreeFault) × (shown.answer ≡ tree_answer fault))
+
+-- a block that is shown by its address alone is tested by less than a block of a tree, and its copies agree too
+abbrev pub AgreesOn : DumpChoice → Images → Layout → Type 0
+AgreesOn All images layout = Unit {0}
+AgreesOn (Block addr) images layout = Agree images layout (want.Block addr)
+AgreesOn (Tree id) images layout = Unit {0}
+AgreesOn RootLines images layout = Unit {0}
+
+-- the row of showing trees: the pieces of their text, whole or up to a block that could not be read
+abbrev pub dump_row : DumpChoice → Row
+dump_row choice = record {
+  whole = λ images fs. showing (trees_shown choice (fate images fs.layout) fs.sup);
+  IsUpTo = λ images fs outcome. BreaksOffIn choice (fate images fs.layout) fs.sup outcome;
+  Agrees = AgreesOn choice;
+  MayBe = IsTreesOutcome;
+  MayWant = λ out. out.ample ≡ false;
+}

@@ -1,11 +1,12 @@
 // The command `check`.
 ghost use Rattle.std.specs.Prelude.{◌≡◌, ◌<◌, length, IfSome, Some};
-ghost use Rattle.btr_run.specs.Agreeing.{AreAgreed, IsCheckedOrUnread};
+ghost use Rattle.btr_run.specs.Agreeing.{IsCheckedOrUnread};
 ghost use Rattle.btr_run.specs.Answers.{answer_of};
 ghost use Rattle.btr_run.specs.Behind.{IfSteady, IsBehind, IsUnread};
 ghost use Rattle.btr_run.specs.Checked.{IsCheckOutcome, check_outcome, found};
 ghost use Rattle.btr_run.specs.Filesystem.{MayMend};
 ghost use Rattle.btr_run.specs.Outcomes.{OrBare, OrMemory, Shows};
+ghost use Rattle.btr_run.specs.Unopened.{AreAgreed};
 
 use crate::answer::Answer;
 use crate::filesystem::open_filesystem;

@@ -1,12 +1,9 @@
 // The command `inspect-internal logical-resolve`.
-ghost use Rattle.std.specs.Prelude.{◌≡◌, ◌<◌, length, IfSome};
-ghost use Rattle.btr_run.specs.Agreeing.{AreAgreed, IsResolvedOrUnread};
+ghost use Rattle.std.specs.Prelude.{◌<◌, length};
 ghost use Rattle.btr_run.specs.Answers.{answer_of};
-ghost use Rattle.btr_run.specs.Behind.{AnyFault, IfSteady, IsBehind};
-ghost use Rattle.btr_run.specs.Filesystem.{MayMend};
 ghost use Rattle.btr_run.specs.Listed.{BesideSinks};
-ghost use Rattle.btr_run.specs.Outcomes.{Comes, OrBare, OrMemory};
-ghost use Rattle.btr_run.specs.Resolved.{IsResolved, resolve_outcome};
+ghost use Rattle.btr_run.specs.Resolved.{resolve_row};
+ghost use Rattle.btr_run.specs.Rows.{IsRowDone};
 
 use crate::answer::Answer;
 use crate::filesystem::open_filesystem;
@@ -25,15 +22,8 @@ pub(crate) fn show_owners<R: Rack, O: Out>(
     out: &mut O,
 ) -> Result<Answer, Answer>
     requires { 0 < length (R.seen rack.old).slots }
-    ensures effect { BesideSinks (O.text out.old) (O.account out.old) (O.text out.new) (O.account out.new) (λ x y.
-        IfSteady (R.seen rack.old).held (R.seen rack.old).account (R.seen rack.new).account (λ images.
-        Comes (Unit {0}) (OrMemory (λ outcome. resolve_outcome addr images ≡ outcome)) x y (answer_of result))) }
-    ensures agreed { BesideSinks (O.text out.old) (O.account out.old) (O.text out.new) (O.account out.new) (λ x y.
-        IfSome (R.seen rack.old).held (λ images.
-        AreAgreed images → Comes (Unit {0}) (IsResolvedOrUnread addr images) x y (answer_of result))) }
-    ensures told { BesideSinks (O.text out.old) (O.account out.old) (O.text out.new) (O.account out.new) (λ x y.
-        Comes (Unit {0}) (OrBare IsResolved) x y (answer_of result)) }
-    ensures cause { IsBehind MayMend AnyFault (R.seen rack.old) (R.seen rack.new) (answer_of result) }
+    ensures { BesideSinks (O.text out.old) (O.account out.old) (O.text out.new) (O.account out.new) (λ x y.
+        IsRowDone (resolve_row addr) (R.seen rack.old) (R.seen rack.new) x y (answer_of result)) }
 {
     let mut volume = open_filesystem(alloc, rack)?;
     resolve(alloc, addr, rack, &mut volume, out)?;

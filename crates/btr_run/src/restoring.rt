@@ -1,14 +1,11 @@
 // The command `restore`, where it writes files.
 ghost use Rattle.std.specs.Prelude.{◌≡◌, ◌<◌, length, IfSome};
 ghost use Rattle.btr_rack.specs.Sink.{NotStarted};
-ghost use Rattle.btr_restore.specs.Running.{KeepsSink, outside};
-ghost use Rattle.btr_run.specs.Agreeing.{AreAgreed, IsRestoredOrUnopened};
+ghost use Rattle.btr_restore.specs.Running.{KeepsSink, outside_of};
 ghost use Rattle.btr_run.specs.Answers.{answer_of};
-ghost use Rattle.btr_run.specs.Behind.{AnyFault, IfSteady, IsBehind};
-ghost use Rattle.btr_run.specs.Filesystem.{MayMend};
 ghost use Rattle.btr_run.specs.Order.{InOrder};
-ghost use Rattle.btr_run.specs.Outcomes.{Comes, OrBare, OrMemory};
-ghost use Rattle.btr_run.specs.Restored.{IsRestored, restored};
+ghost use Rattle.btr_run.specs.Restored.{restore_row};
+ghost use Rattle.btr_run.specs.Rows.{IsRowDone};
 ghost use Rattle.btr_run.specs.Stored.{IsStored};
 
 use crate::answer::Answer;
@@ -33,24 +30,15 @@ pub(crate) fn restore_files<R: Rack, T: TreeSink, O: Out>(
 ) -> Result<Answer, Answer>
     requires open { 0 < length (R.seen rack.old).slots }
     requires fresh { (T.sink tree.old).stage ≡ NotStarted }
-    ensures effect { IfSteady (R.seen rack.old).held (R.seen rack.old).account (R.seen rack.new).account (λ images.
-        Comes (Unit {0}) (OrMemory (λ outcome. restored plan.now dest.now images ≡ outcome))
-        (outside (T.sink tree.old) (T.account tree.old) (O.text out.old) (O.account out.old))
-        (outside (T.sink tree.new) (T.account tree.new) (O.text out.new) (O.account out.new)) (answer_of result)) }
-    ensures told { Comes (Unit {0}) (OrBare IsRestored)
-        (outside (T.sink tree.old) (T.account tree.old) (O.text out.old) (O.account out.old))
-        (outside (T.sink tree.new) (T.account tree.new) (O.text out.new) (O.account out.new)) (answer_of result) }
+    ensures done { IsRowDone (restore_row plan.now dest.now) (R.seen rack.old) (R.seen rack.new)
+        (outside_of T.sink T.account O.text O.account tree.old out.old)
+        (outside_of T.sink T.account O.text O.account tree.new out.new) (answer_of result) }
     ensures order { IfSome (R.seen rack.old).held (λ images.
         InOrder plan.now dest.now images (R.seen rack.old) (R.seen rack.new)
-        (outside (T.sink tree.old) (T.account tree.old) (O.text out.old) (O.account out.old))
-        (outside (T.sink tree.new) (T.account tree.new) (O.text out.new) (O.account out.new)) (answer_of result)) }
-    ensures agreed { IfSome (R.seen rack.old).held (λ images. AreAgreed images →
-        Comes (Unit {0}) (IsRestoredOrUnopened images)
-        (outside (T.sink tree.old) (T.account tree.old) (O.text out.old) (O.account out.old))
-        (outside (T.sink tree.new) (T.account tree.new) (O.text out.new) (O.account out.new)) (answer_of result)) }
+        (outside_of T.sink T.account O.text O.account tree.old out.old)
+        (outside_of T.sink T.account O.text O.account tree.new out.new) (answer_of result)) }
     ensures stored { IsStored (T.waits tree.new) (answer_of result) }
     ensures dry { KeepsSink plan.now.dry tree.old tree.new }
-    ensures cause { IsBehind MayMend AnyFault (R.seen rack.old) (R.seen rack.new) (answer_of result) }
 {
     opened_then();
     let mut volume = open_filesystem(alloc, rack)?;

@@ -1,14 +1,10 @@
 // The command `restore -i`.
-ghost use Rattle.std.specs.Prelude.{◌≡◌, ◌<◌, false, length, IfSome};
+ghost use Rattle.std.specs.Prelude.{◌≡◌, ◌<◌, false, length};
 ghost use Rattle.btr_rack.specs.Sink.{NotStarted};
-ghost use Rattle.btr_restore.specs.Running.{outside};
-ghost use Rattle.btr_run.specs.Agreeing.{AreAgreed, IsSalvagedOrUnread};
+ghost use Rattle.btr_restore.specs.Running.{outside_of};
 ghost use Rattle.btr_run.specs.Answers.{answer_of};
-ghost use Rattle.btr_run.specs.Behind.{AnyFault, IfSteady, IsBehind};
-ghost use Rattle.btr_run.specs.Filesystem.{MayMend};
-ghost use Rattle.btr_run.specs.Outcomes.{Comes, OrBare, OrMemory};
-ghost use Rattle.btr_run.specs.Restored.{IsRestored};
-ghost use Rattle.btr_run.specs.Salvaged.{salvage_outcome};
+ghost use Rattle.btr_run.specs.Rows.{IsRowDone};
+ghost use Rattle.btr_run.specs.Salvaged.{salvage_row};
 ghost use Rattle.btr_run.specs.Stored.{IsStored};
 
 use crate::answer::Answer;
@@ -35,19 +31,10 @@ pub(crate) fn salvage_files<R: Rack, T: TreeSink, O: Out>(
     requires open { 0 < length (R.seen rack.old).slots }
     requires fresh { (T.sink tree.old).stage ≡ NotStarted }
     requires wet { plan.now.dry ≡ false }
-    ensures effect { IfSteady (R.seen rack.old).held (R.seen rack.old).account (R.seen rack.new).account (λ images.
-        Comes (Unit {0}) (OrMemory (λ outcome. salvage_outcome plan.now dest.now images ≡ outcome))
-        (outside (T.sink tree.old) (T.account tree.old) (O.text out.old) (O.account out.old))
-        (outside (T.sink tree.new) (T.account tree.new) (O.text out.new) (O.account out.new)) (answer_of result)) }
-    ensures told { Comes (Unit {0}) (OrBare IsRestored)
-        (outside (T.sink tree.old) (T.account tree.old) (O.text out.old) (O.account out.old))
-        (outside (T.sink tree.new) (T.account tree.new) (O.text out.new) (O.account out.new)) (answer_of result) }
-    ensures agreed { IfSome (R.seen rack.old).held (λ images.
-        AreAgreed images → Comes (Unit {0}) (IsSalvagedOrUnread plan.now dest.now images)
-        (outside (T.sink tree.old) (T.account tree.old) (O.text out.old) (O.account out.old))
-        (outside (T.sink tree.new) (T.account tree.new) (O.text out.new) (O.account out.new)) (answer_of result)) }
+    ensures done { IsRowDone (salvage_row plan.now dest.now) (R.seen rack.old) (R.seen rack.new)
+        (outside_of T.sink T.account O.text O.account tree.old out.old)
+        (outside_of T.sink T.account O.text O.account tree.new out.new) (answer_of result) }
     ensures stored { IsStored (T.waits tree.new) (answer_of result) }
-    ensures cause { IsBehind MayMend AnyFault (R.seen rack.old) (R.seen rack.new) (answer_of result) }
 {
     let mut volume = open_filesystem(alloc, rack)?;
     let salvaged = salvage(alloc, plan, dest, rack, &mut volume, tree, out)?;

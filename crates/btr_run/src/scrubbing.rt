@@ -3,7 +3,8 @@ ghost use Rattle.std.specs.Prelude.{◌≡◌, ◌≢◌, ◌<◌, ℕ, [], true
 ghost use Rattle.btr_scrub_copies.specs.Writes.{AreWritable};
 ghost use Rattle.btr_rack.specs.Rack.{Steady};
 ghost use Rattle.btr_text.specs.Pieces.{text_of};
-ghost use Rattle.btr_run.specs.Agreeing.{AreAgreed, IsScrubbedOrUnread, ScrubsAgreed};
+ghost use Rattle.btr_run.specs.Agreeing.{IsScrubbedOrUnread, ScrubsAgreed};
+ghost use Rattle.btr_run.specs.Unopened.{AreAgreed};
 ghost use Rattle.btr_run.specs.Answers.{answer_of};
 ghost use Rattle.btr_run.specs.Behind.{IfSteady};
 ghost use Rattle.btr_run.specs.Checked.{found};

@@ -6,12 +6,12 @@ ghost use Rattle.btr_rack.specs.Rack.{OnlyReads};
 ghost use Rattle.btr_read.specs.Fate.{Agreed, fate};
 ghost use Rattle.btr_read.specs.Serves.{Serves};
 ghost use Rattle.btr_read.specs.Store.{free_count};
-ghost use Rattle.btr_run.specs.Agreeing.{AgreesOn, AreAgreedOn, IsTreesOrUnread};
 ghost use Rattle.btr_run.specs.Answers.{answer_of};
-ghost use Rattle.btr_run.specs.Behind.{AnyFault, IfSteady, IsBehind};
-ghost use Rattle.btr_run.specs.Filesystem.{MayMend};
-ghost use Rattle.btr_run.specs.Outcomes.{OrBare, OrMemory, Shows, showing};
-ghost use Rattle.btr_run.specs.Trees.{IsTreesOutcome, ShowsUpTo, call_answer, trees_outcome, trees_shown};
+ghost use Rattle.btr_run.specs.Behind.{IfSteady};
+ghost use Rattle.btr_run.specs.Listed.{BesideSinks};
+ghost use Rattle.btr_run.specs.Outcomes.{Shows, showing};
+ghost use Rattle.btr_run.specs.Rows.{IsRowDone};
+ghost use Rattle.btr_run.specs.Trees.{AgreesOn, ShowsUpTo, call_answer, dump_row, trees_shown};
 
 use crate::answer::Answer;
 use crate::filesystem::open_filesystem;
@@ -32,15 +32,8 @@ pub(crate) fn show_trees<R: Rack, O: Out>(
     out: &mut O,
 ) -> Result<Answer, Answer>
     requires { 0 < length (R.seen rack.old).slots }
-    ensures effect { IfSteady (R.seen rack.old).held (R.seen rack.old).account (R.seen rack.new).account (λ images.
-        Shows (OrMemory (λ outcome. Some (trees_outcome choice images) ≡ Some outcome))
-        (O.text out.old) (O.text out.new) (O.account out.old) (O.account out.new) (answer_of result)) }
-    ensures agreed { IfSome (R.seen rack.old).held (λ images. AreAgreedOn choice images →
-        Shows (IsTreesOrUnread choice images)
-        (O.text out.old) (O.text out.new) (O.account out.old) (O.account out.new) (answer_of result)) }
-    ensures told { Shows (OrBare IsTreesOutcome)
-        (O.text out.old) (O.text out.new) (O.account out.old) (O.account out.new) (answer_of result) }
-    ensures cause { IsBehind MayMend AnyFault (R.seen rack.old) (R.seen rack.new) (answer_of result) }
+    ensures { BesideSinks (O.text out.old) (O.account out.old) (O.text out.new) (O.account out.new) (λ x y.
+        IsRowDone (dump_row choice) (R.seen rack.old) (R.seen rack.new) x y (answer_of result)) }
 {
     let mut volume = open_filesystem(alloc, rack)?;
     show(choice, rack, &mut volume, out)?;

@@ -31,7 +31,6 @@ use Rattle.btr_restore.specs.Running.{Outside}
 use Rattle.btr_salvage.specs.Salvaging.{salvage_run}
 use Rattle.btr_scrub.specs.Repair.{first_missing, meeting}
 use Rattle.btr_send.specs.Sending.{sending}
-use Rattle.btr_send.specs.declared.plan.SendPlan.{SendPlan}
 use Rattle.btr_super.specs.Newest.{newest, newest_index}
 use Rattle.btr_super.specs.declared.superblock.Super.{Super}
 use Rattle.btr_trial.specs.Shown.{differing}
@@ -52,13 +51,14 @@ use Rattle.btr_run.specs.Listed.{listed_answer, listed_by}
 use Rattle.btr_run.specs.Newest.{newest_shown, shown}
 use Rattle.btr_run.specs.Outcomes.{Outcome, showing}
 use Rattle.btr_run.specs.Promise.{StandsAs, ended_answer}
-use Rattle.btr_run.specs.Resolved.{none_left_out, owners_run, resolve_outcome, resolved_in}
-use Rattle.btr_run.specs.Restored.{restored, restored_in, skipped_in}
-use Rattle.btr_run.specs.Salvaged.{missed_in, salvage_outcome, salvaged_in}
+use Rattle.btr_run.specs.Resolved.{none_left_out, owners_run, resolve_row}
+use Rattle.btr_run.specs.Restored.{restore_row, skipped_in}
+use Rattle.btr_run.specs.Rows.{Row, row_outcome}
+use Rattle.btr_run.specs.Salvaged.{missed_in, salvage_row}
 use Rattle.btr_run.specs.Scrubbed.{counts, filesystem_as, scrub_ended, scrub_in, scrub_outcome, scrub_unless, tally_shown}
 use Rattle.btr_run.specs.SelfTested.{AsksToTry, IsTrialOutcome, TakesImages}
-use Rattle.btr_run.specs.Sent.{send_outcome, sent_in}
-use Rattle.btr_run.specs.Trees.{asked_answer, ending_answer, shown_by, trees_in, trees_outcome, trees_shown, whole_answer}
+use Rattle.btr_run.specs.Sent.{send_row}
+use Rattle.btr_run.specs.Trees.{asked_answer, dump_row, ending_answer, shown_by, trees_shown, whole_answer}
 use Rattle.btr_run.specs.Words.{Words, IsSentence, images_of}
 use Rattle.btr_run.specs.declared.answer.Answer.{Answer}
 use Rattle.btr_run.specs.declared.answer.Answer.TheVariants.{Done}
@@ -69,6 +69,7 @@ use Rattle.btr_run.specs.declared.plan.DumpChoice.TheVariants.{All, Block, Tree,
 use Rattle.btr_run.specs.declared.plan.Plan.{Plan}
 use Rattle.btr_run.proofs.Apart.{one_plan}
 use Rattle.btr_run.proofs.Carrying.{taken_outcome}
+use Rattle.btr_run.proofs.Rows.{row_opened}
 use Rattle.btr_run.proofs.SelfTests.{no_trial, some_trial}
 use Rattle.btr_run_laws.specs.Complete.{AreShown, CommandsComplete, HasNeeds, IsDone, RestoreCompletes, SelfTestCompletes}
 use Rattle.btr_run_laws.proofs.Serving.{served_ends}
@@ -130,9 +131,6 @@ module _ (images : Images) (fs : Filesystem) (opened : filesystem_of images ≡ 
   newest_in (Ok all) = newest all
   newest_in (Err refusal) = None
 
-  trees_are : (choice : DumpChoice) → trees_outcome choice images ≡ showing (trees_shown choice B fs.sup)
-  trees_are choice = ap (trees_in choice images) opened
-
   shown_ends : {A : Type 0} (answer : A → Answer) (r : TextRun A) (a : A) → r.ending ≡ Ok a → (shown_by answer r).answer ≡ answer a
   shown_ends answer r a is = ap (ending_answer answer) is
 
@@ -156,31 +154,19 @@ module _ (images : Images) (fs : Filesystem) (opened : filesystem_of images ≡ 
   scrub_is write missing ends = ap (scrub_in write images) opened ∙ ap (scrub_unless write images (filesystem_as fs)) missing
       ∙ ap (scrub_ended write images (filesystem_as fs)) ends
 
-  resolve_is : (addr : ℕ) → resolve_outcome addr images ≡ listed_by none_left_out (owners_run addr images fs)
-  unfolding resolve_outcome
-  resolve_is addr = ap (resolved_in addr images) opened
-
-  restored_is : (plan : RestorePlan) (dest : List ℕ) → restored plan dest images ≡ listed_by skipped_in (exec B (listing plan dest fs.sup))
-  unfolding restored
-  restored_is plan dest = ap (restored_in plan dest images) opened
-
-  salvaged_is : (plan : RestorePlan) (dest : List ℕ) → salvage_outcome plan dest images ≡ listed_by missed_in (salvage_run B plan dest fs.sup)
-  unfolding salvage_outcome
-  salvaged_is plan dest = ap (salvaged_in plan dest images) opened
-
-  sent_is : (plan : SendPlan) (dest name : List ℕ) → send_outcome plan dest name images ≡ listed_by skipped_in (exec B (sending dest name fs.sup plan))
-  unfolding send_outcome
-  sent_is plan dest name = ap (sent_in plan dest name images) opened
+  -- what a row comes to
+  row_is : (row : Row) → ◌≡◌ {A = Option Outcome} (Some (row_outcome row images)) (Some (row.whole images fs))
+  row_is row = ap (λ o. Some o) (row_opened row images fs opened)
 
   pub completes : (command : Command) (words : Words) → HasNeeds command words images fs → Comes command words
   completes super_command words needs =
       super_shown (supers_from 0 images) refl (newest_in (supers_from 0 images)) (λ all is. sym (ap newest_in is)) refl words
   completes (Dump choice) words needs =
-      (showing (trees_shown choice B fs.sup), ap (λ o. Some o) (trees_are choice), dumped choice needs)
+      (showing (trees_shown choice B fs.sup), row_is (dump_row choice), dumped choice needs)
   completes (Resolve addr) words needs =
       let e = served_ends B (resolved fs.sup fs.layout.chunks addr) needs in
       let r = owners_run addr images fs in
-      (listed_by none_left_out r, ap (λ o. Some o) (resolve_is addr), listed none_left_out r.ending e.0 e.1)
+      (listed_by none_left_out r, row_is (resolve_row addr), listed none_left_out r.ending e.0 e.1)
   completes (Check read_data) words needs =
       (showing (listing_shown (findings read_data (filesystem_by images fs))), ap (λ o. Some o) (check_is read_data needs), refl)
   completes (Scrub write) words needs =
@@ -188,15 +174,15 @@ module _ (images : Images) (fs : Filesystem) (opened : filesystem_of images ≡ 
   completes (Restore dest plan) words needs =
       let p = listing plan (get_or words dest []) fs.sup in
       let e = served_ends B p needs in
-      (listed_by skipped_in (exec B p), ap (λ o. Some o) (restored_is plan (get_or words dest [])), listed skipped_in (exec B p).ending e.0 e.1)
+      (listed_by skipped_in (exec B p), row_is (restore_row plan (get_or words dest [])), listed skipped_in (exec B p).ending e.0 e.1)
   completes (Salvage dest plan) words needs =
       let r = salvage_run B plan (get_or words dest []) fs.sup in
-      (listed_by missed_in r, ap (λ o. Some o) (salvaged_is plan (get_or words dest [])), listed missed_in r.ending needs.0 needs.1)
+      (listed_by missed_in r, row_is (salvage_row plan (get_or words dest [])), listed missed_in r.ending needs.0 needs.1)
   completes (Send dest file plan) words needs =
       let p = sending (get_or words dest []) (get_or words file []) fs.sup plan in
       let e = served_ends B p needs in (
         listed_by skipped_in (exec B p),
-        ap (λ o. Some o) (sent_is plan (get_or words dest []) (get_or words file [])),
+        row_is (send_row plan (get_or words dest []) (get_or words file [])),
         listed skipped_in (exec B p).ending e.0 e.1,
       )
   completes (SelfTest number) words needs = absurd needs

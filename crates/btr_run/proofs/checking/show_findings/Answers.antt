@@ -3,7 +3,8 @@ use Rattle.btr_check.specs.Before.{refusal}
 use Rattle.btr_check.specs.Findings.{findings}
 use Rattle.btr_check.specs.Running.{is_outside}
 use Rattle.btr_rack.specs.declared.error.SinkError.{SinkError}
-use Rattle.btr_run.specs.Agreeing.{IsCheckedOrUnread, IsOrUnopened}
+use Rattle.btr_run.specs.Agreeing.{IsCheckedOrUnread}
+use Rattle.btr_run.specs.Unopened.{IsOrUnopened}
 use Rattle.btr_run.specs.Answers.{answer_of, output_answer}
 use Rattle.btr_run.specs.Behind.{IsUnread}
 use Rattle.btr_run.specs.Checked.{IsCheckOutcome, check_in, check_outcome, found, listing}
@@ -13,6 +14,7 @@ use Rattle.btr_run.proofs.Agreements.{listed_agreed, stopped_agreed, unopened_ag
 use Rattle.btr_run.proofs.Checks.{listed, listed_behind, listed_effect, listed_told, stop_calm, stopped_behind, stopped_effect, stopped_told}
 use Rattle.btr_run.proofs.Coming.{answer_gives, shows_also, when_told}
 use Rattle.btr_run.proofs.TreesShown.{steadily, unopened_effect, unopened_told, unopened_behind}
+use Rattle.btr_run.proofs.Filesystems.{opened_layout}
 use Rattle.btr_run.proofs.checking.show_findings.Goals as goal
 
 pub returns-in_err-volume-clause-effect : goal.returns-in_err-volume-clause-effect
@@ -92,6 +94,7 @@ returns-in_err-findings-clause-cause g c =
     let result = answer_of c.from_residual-in_err-findings.result in
     let gives = answer_gives c.from_residual-in_err-findings.result (stop_answer end) c.from_residual-in_err-findings.ensures.1 in
     stopped_behind c.args.read_data old mid new c.in_ok-volume.ensures.reads ran.reads volume.store.layout end ran.quiet ran.cause result gives
+    (opened_layout old mid volume c.in_ok-volume.ensures.reads c.in_ok-volume.ensures.opened)
 
 pub returns-in_err-findings-clause-agreed : goal.returns-in_err-findings-clause-agreed
 returns-in_err-findings-clause-agreed g c =

@@ -1,7 +1,8 @@
 use Rattle.std.proofs.Common.{inl, Ok, Err, sym, ap, ◌∙◌, subst}
 use Rattle.std.proofs.lemmas.Result.{err_from_is_err_and}
 use Rattle.std.specs.Option.{IfSome}
-use Rattle.btr_run.specs.Agreeing.{AreAgreed, IsOrUnopened, ScrubsAgreed}
+use Rattle.btr_run.specs.Agreeing.{ScrubsAgreed}
+use Rattle.btr_run.specs.Unopened.{AreAgreed, IsOrUnopened}
 use Rattle.btr_run.specs.Outcomes.{refused}
 use Rattle.btr_run.specs.Repaired.{Scrubs}
 use Rattle.btr_run.specs.Scrubbed.{scrub_in, scrub_outcome}

@@ -3,10 +3,9 @@ use Rattle.std.specs.Option.{IfSome}
 use Rattle.btr_dump.specs.Pieces.{all_trees, asked_tree, block_shown, kind_in, roots_shown}
 use Rattle.btr_prog.specs.Prog.{exec}
 use Rattle.btr_read.specs.Fate.{Agreed, fate}
-use Rattle.btr_run.specs.Agreeing.{AgreesOn}
 use Rattle.btr_run.specs.Behind.{IfSteady}
 use Rattle.btr_run.specs.Outcomes.{Shows, showing}
-use Rattle.btr_run.specs.Trees.{ShowsUpTo, call_answer, trees_shown}
+use Rattle.btr_run.specs.Trees.{AgreesOn, ShowsUpTo, call_answer, trees_shown}
 use Rattle.btr_run.proofs.Coming.{when_told}
 use Rattle.btr_run.proofs.TreesShown.{run_comes, run_agreed, block_comes, block_agreed, tree_comes, tree_agreed}
 use Rattle.btr_run.proofs.trees.show.Goals as goal
