@@ -11,8 +11,8 @@ page is as before or as after the whole scrub. What a restore left has to be a f
 lack bytes at its end.
 
 STEP=N in the environment tries each Nth request alone, and ONLY="WORD.." the commands of these first words. It needs Linux on x86-64, cc, and btrfs-progs
-where no image is given. It makes some 6,300 calls: a quarter of an hour on a busy machine, most of it for `self-test`. The gate doesn't run it. Ends with
-0 where nothing is wrong.
+where no image is given. It makes some 6,300 calls, in six minutes on a busy machine, of which `self-test` takes the most. The gate doesn't run it. Ends
+with 0 where nothing is wrong.
 """
 import collections, os, random, re, shutil, struct, subprocess, sys, tempfile
 
