@@ -24,7 +24,7 @@ use Rattle.btr_read.specs.declared.want.Want.{Want}
 use Rattle.btr_read.proofs.Fates.{sought_of}
 use Rattle.btr_scrub_copies.specs.Blocks.{copy_writes}
 use Rattle.btr_scrub_copies.specs.Mending.{IsOfCopy, Overwrites}
-use Rattle.btr_scrub_copies.specs.Writes.{AreAmong, Does, Images, IsMarked, IsStopped, Leaves, Marks, Write, ranges_of}
+use Rattle.btr_scrub_copies.specs.Writes.{AreAmong, Does, Images, In, IsMarked, IsStopped, Leaves, Marks, Write, ranges_of}
 use Rattle.btr_scrub_copies.specs.declared.mended.MendFault.{MendFault}
 use Rattle.btr_scrub_copies.specs.declared.mended.MendFault.TheVariants.{Image, Memory}
 
