@@ -1,5 +1,5 @@
 -- What a call of scrub answers, and what stands in the images behind it, whatever failed.
-use Rattle.std.specs.Prelude.{◌≡◌, ◌⊎◌, ℕ, ◌≤◌, Bool, false, List, map, None, IfSome, IsSomeAnd, Result, Ok, Err, ⊤}
+use Rattle.std.specs.Prelude.{◌≡◌, ◌⊎◌, ℕ, ◌≤◌, Bool, false, List, [], map, None, IfSome, IsSomeAnd, Result, Ok, Err, ⊤}
 use Rattle.std.specs.List.{All}
 use Rattle.btr_scrub_copies.specs.Writes.{Images, IsStopped, Write}
 use Rattle.btr_rack.specs.Rack.{OnlyReads, Rose, Seen, Steady}
