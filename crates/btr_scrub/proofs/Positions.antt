@@ -288,10 +288,10 @@ on_stripe layout t part table is has =
     }
 
 -- a range in a block's part lies in a stripe of its chunk
-pub in_chunk : (layout : Layout) (t : Target) (part : Part) (range inner : Range) → IsTable layout.chunks → IsSought layout t
+pub part_in_chunk : (layout : Layout) (t : Target) (part : Part) (range inner : Range) → IsTable layout.chunks → IsSought layout t
     → HasPart t.chunk.profile (length t.chunk.stripes) part
     → range_of t part ≡ Some range → LiesIn inner range → LiesInChunk layout t.chunk inner
-in_chunk layout t part range inner table is has e lies =
+part_in_chunk layout t part range inner table is has e lies =
     let on = on_stripe layout t part table is has in
     let place = place_at t.chunk part t.at in
     let s = stands_on place.offset (size_of t) (device_in t.devices place.devid) (ap is_some e) in
@@ -322,7 +322,7 @@ pub in_stripe : (layout : Layout) (t : Target) (part : Part) (range inner : Rang
     → range_of t part ≡ Some range → LiesIn inner range → LiesInStripe layout inner
 in_stripe layout t part range inner table is has e lies =
     any_at (λ chunk. LiesInChunk layout chunk inner) layout.chunks is.number t.chunk
-    (slice_get_within layout.chunks is.number t.chunk is.there) is.there (in_chunk layout t part range inner table is has e lies)
+    (slice_get_within layout.chunks is.number t.chunk is.there) is.there (part_in_chunk layout t part range inner table is has e lies)
 
 -- a range lies in a stripe of a chunk, where that is the only one
 pub lies_alone : (layout : Layout) (chunk : Chunk) (range : Range) → LiesInChunk layout chunk range → LiesInStripe (alone layout chunk) range
@@ -345,7 +345,7 @@ copy_in_stripe layout t range table is h = lies_alone layout t.chunk range (by (
     by (Some r) e a = at a.0 a.1 a.2 a.3 a.4
       where
         at : (k : ℕ) (x : Range) → k < 1 → get_or (r ∷ []) k x ≡ x → LiesIn range x → LiesInChunk layout t.chunk range
-        at zero x lt same lies = in_chunk layout t (Mirror h.mirror) r range table is h.has e (subst (LiesIn range) (sym same) lies)
+        at zero x lt same lies = part_in_chunk layout t (Mirror h.mirror) r range table is h.has e (subst (LiesIn range) (sym same) lies)
         at (suc k) x lt same lies = absurd (omega (arith, lt))
 
 -- ---- chunks with rows

@@ -58,7 +58,7 @@ returns-in-Err-clause-works g c =
     let at = at_number layout c.loop-number.number (omega (arith, c.loop-number-test.true, c.count-number-end.ensures.count, ap length c.chunks.ensures)) in
     let only = subst (λ (l : Layout). (chunk : Chunk) → slice_get l.chunks c.loop-number.number ≡ Some chunk
     → Works {A = Unit {0}} (alone l chunk) c.args.write (chunk_writes_for (kept_beside l c.args.beside.now) l chunk c.loop-number.blocks) (chunk_count_for (kept_beside l c.args.beside.now) l c.args.write chunk c.loop-number.blocks) b z c.loop-number.tally c.mend_and_sync.new.tally (Err c.in-Err.fault)) c.loop-number.invariant.loans.layout c.in-Err.ensures.works at.0 at.1 in
-    let one = works_alone {A = Unit {0}} layout c.args.write c.loop-number.number at.0 at.1 (chunk_writes_for (kept_beside layout c.args.beside.now) layout at.0 c.loop-number.blocks) (chunk_count_for (kept_beside layout c.args.beside.now) layout c.args.write at.0 c.loop-number.blocks) b z c.loop-number.tally c.mend_and_sync.new.tally (Err c.in-Err.fault) only in
+    let one = works_alone layout c.args.write {A = Unit {0}} c.loop-number.number at.0 at.1 (chunk_writes_for (kept_beside layout c.args.beside.now) layout at.0 c.loop-number.blocks) (chunk_count_for (kept_beside layout c.args.beside.now) layout c.args.write at.0 c.loop-number.blocks) b z c.loop-number.tally c.mend_and_sync.new.tally (Err c.in-Err.fault) only in
     chunks_cut (kept_beside layout c.args.beside.now) layout table c.args.blocks.now c.loop-number.number at.0 at.1 c.args.write c.loop-number.blocks
     c.mend_and_sync.new.blocks a b z c.args.tally.now c.loop-number.tally c.mend_and_sync.new.tally c.loop-number.invariant.past
     (chunk_unmoved (kept_beside layout c.args.beside.now) layout c.args.write c.args.blocks.now a.held c.loop-number.number at.0 table was.own_slots
@@ -77,7 +77,7 @@ loop-number-preserved g c =
     let at = at_number layout c.loop-number.number (omega (arith, c.loop-number-test.true, c.count-number-end.ensures.count, ap length c.chunks.ensures)) in
     let only = subst (λ (l : Layout). (chunk : Chunk) → slice_get l.chunks c.loop-number.number ≡ Some chunk
     → Works {A = Unit {0}} (alone l chunk) c.args.write (chunk_writes_for (kept_beside l c.args.beside.now) l chunk c.loop-number.blocks) (chunk_count_for (kept_beside l c.args.beside.now) l c.args.write chunk c.loop-number.blocks) b z c.loop-number.tally c.mend_and_sync.new.tally (Ok tt)) inv.loans.layout c.in-Ok.ensures.works at.0 at.1 in
-    let one = works_alone {A = Unit {0}} layout c.args.write c.loop-number.number at.0 at.1 (chunk_writes_for (kept_beside layout c.args.beside.now) layout at.0 c.loop-number.blocks) (chunk_count_for (kept_beside layout c.args.beside.now) layout c.args.write at.0 c.loop-number.blocks) b z c.loop-number.tally c.mend_and_sync.new.tally (Ok tt) only in
+    let one = works_alone layout c.args.write {A = Unit {0}} c.loop-number.number at.0 at.1 (chunk_writes_for (kept_beside layout c.args.beside.now) layout at.0 c.loop-number.blocks) (chunk_count_for (kept_beside layout c.args.beside.now) layout c.args.write at.0 c.loop-number.blocks) b z c.loop-number.tally c.mend_and_sync.new.tally (Ok tt) only in
     let past = subst (λ (l : Layout). (chunk : Chunk) → slice_get l.chunks c.loop-number.number ≡ Some chunk → IsPastChunk l chunk c.loop-number.blocks c.mend_and_sync.new.blocks) inv.loans.layout c.in-Ok.ensures.past at.0 at.1 in
     record {
       ready = c.in-Ok.ensures.ready;
