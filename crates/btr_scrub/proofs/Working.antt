@@ -136,9 +136,9 @@ waits_before layout a b z among (inl w) = inl (λ range i. elim (w range i) as (
 ])
 waits_before layout a b z among (inr w) = inr (any_of (λ chunk. WaitsAt (LiesInChunk layout chunk) b z) (λ chunk. WaitsAt (LiesInChunk layout chunk) a z)
     layout.chunks (λ chunk h range i. elim (h range i) as (λ _. In range (waiting a) ⊎ LiesInChunk layout chunk range) [
-  | inl j ↦ inl (among range j)
-  | inr p ↦ inr p
-]) w)
+      | inl j ↦ inl (among range j)
+      | inr p ↦ inr p
+    ]) w)
 
 module _ (layout : Layout) (write : Bool) where
   -- a chunk of the table was mended
