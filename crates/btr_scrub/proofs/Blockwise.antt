@@ -30,7 +30,7 @@ use Rattle.btr_scrub.specs.Order.{AreApart, IsSought, targets}
 use Rattle.btr_scrub.specs.Repair.{first_missing, is_in_chunk, is_missing, missing_stripes, ok_or_none}
 use Rattle.btr_scrub.specs.Scrubbing.{BeginsBehind, IsPastChunk, Scrubs, blocks_count, blocks_in, blocks_writes, count_block, counted}
 use Rattle.btr_scrub.specs.Devices.{HaveLengths}
-use Rattle.btr_scrub.specs.Leaves.{Fits, KeepsOutside}
+use Rattle.btr_scrub.specs.Leaves.{Fits, KeepsOutside, alone}
 use Rattle.btr_scrub.specs.declared.tally.Tally.{Tally}
 use Rattle.btr_scrub.proofs.Scrubbing.{IsUnmoved, scrubs_as, scrubs_cut, scrubs_none, scrubs_then, told}
 use Rattle.btr_chunk.proofs.Rule.{facts}
@@ -50,7 +50,7 @@ pub record IsUnderway (layout : Layout) (write : Bool) (chunk : Chunk) (wants le
   pub from : chunk.start ≤ end
   pub sound : (t : Target) → In t (targets layout past) → IsSought layout t × (t.chunk ≡ chunk) × (addr_of t.want + size_of t ≤ end)
   pub apart : AreApart layout end left
-  pub done : Scrubs {A = Unit {0}} layout write (blocks_writes (targets layout past)) (blocks_count write (targets layout past)) marks marks' old new
+  pub done : Scrubs {A = Unit {0}} (alone layout chunk) write (blocks_writes (targets layout past)) (blocks_count write (targets layout past)) marks marks' old new
       tally tally' (Ok tt)
 
 -- ---- lists
@@ -301,7 +301,7 @@ next_copied layout table chunk end want rest copies none next = record {
 
 module _ (layout : Layout) (write : Bool) (table : IsTable layout.chunks) (own : HaveOwnSlots layout.devices) (number : ℕ) (chunk : Chunk) (there : slice_get layout.chunks number ≡ Some chunk) (copies : IsSome (mirrors chunk)) (wants : List Want) (m : List Bool) (a : Seen) (tally : Tally) where
   pub underway_first : AreApart layout chunk.start wants → IsUnderway layout write chunk wants wants m m a a tally tally
-  underway_first apart = record { past = []; split = refl; end = chunk.start; from = omega arith; sound = λ t i. absurd i; apart = apart; done = scrubs_none layout write m a tally tt }
+  underway_first apart = record { past = []; split = refl; end = chunk.start; from = omega arith; sound = λ t i. absurd i; apart = apart; done = scrubs_none (alone layout chunk) write m a tally tt }
 
   module _ (left : List Want) (m' : List Bool) (b : Seen) (tally' : Tally) (h : IsUnderway layout write chunk wants left m m' a b tally tally') where
     -- those of the chunk are past
@@ -313,12 +313,12 @@ module _ (layout : Layout) (write : Bool) (table : IsTable layout.chunks) (own :
         later (w ∷ ws) begins apart = (begins, apart.1, apart.2)
 
     pub chunk_mended : (left' : List Want) → IsPastChunk layout chunk wants left' → left' ≡ left
-        → Scrubs {A = Unit {0}} layout write (blocks_writes (blocks_in layout chunk wants)) (blocks_count write (blocks_in layout chunk wants)) m m' a
+        → Scrubs {A = Unit {0}} (alone layout chunk) write (blocks_writes (blocks_in layout chunk wants)) (blocks_count write (blocks_in layout chunk wants)) m m' a
         b tally tally' (Ok tt)
     chunk_mended left' past same =
         let are : blocks_in layout chunk wants ≡ targets layout h.past = ap (blocks_in layout chunk) h.split ∙ blocks_are layout table number chunk there h.past left (λ t i. (h.sound t i).1)
         (λ w i. all_behind layout (chunk.start + chunk.length) left (subst (AreApart layout (chunk.start + chunk.length)) same past.behind) w i) in
-        subst (λ ts. Scrubs {A = Unit {0}} layout write (blocks_writes ts) (blocks_count write ts) m m' a b tally tally' (Ok tt)) (sym are) h.done
+        subst (λ ts. Scrubs {A = Unit {0}} (alone layout chunk) write (blocks_writes ts) (blocks_count write ts) m m' a b tally tally' (Ok tt)) (sym are) h.done
 
     module _ (lengths : (images : Images) → a.held ≡ Some images → HaveLengths images layout) (want : Want) (rest : List Want) (is : left ≡ want ∷ rest) (next : IsNext layout chunk h.end want rest) (m'' : List Bool) (z : Seen) (tally'' : Tally) where
       same_before : IsUnmoved layout write (blocks_writes (targets layout h.past)) (λ images. block_writes images next.target)
@@ -327,16 +327,16 @@ module _ (layout : Layout) (write : Bool) (table : IsTable layout.chunks) (own :
           let n = some_of (mirrors chunk) copies in
           unmoved layout write chunk n.0 n.1 table own h.past h.end a.held next.target h.sound next.is next.mine next.behind lengths
 
-      both_done : (r : Result (Unit {0}) MendFault) → Scrubs {A = Unit {0}} layout write (λ images. block_writes images next.target)
+      both_done : (r : Result (Unit {0}) MendFault) → Scrubs {A = Unit {0}} (alone layout chunk) write (λ images. block_writes images next.target)
           (λ images tally. count_block images write tally next.target) m' m'' b z tally' tally'' r
-          → Scrubs {A = Unit {0}} layout write (λ images. blocks_writes (targets layout h.past) images ++ block_writes images next.target)
+          → Scrubs {A = Unit {0}} (alone layout chunk) write (λ images. blocks_writes (targets layout h.past) images ++ block_writes images next.target)
           (λ images y. count_block images write (blocks_count write (targets layout h.past) images y) next.target) m m'' a z tally tally'' r
-      both_done r one = scrubs_then layout write (Unit {0}) (Unit {0}) (blocks_writes (targets layout h.past))
+      both_done r one = scrubs_then (alone layout chunk) write (Unit {0}) (Unit {0}) (blocks_writes (targets layout h.past))
           (λ images. block_writes images next.target) (blocks_count write (targets layout h.past))
           (λ images tally. count_block images write tally next.target) m m' m'' a b z tally tally' tally'' tt r same_before h.done one
 
       -- one more is past
-      pub underway_more : Scrubs {A = Unit {0}} layout write (λ images. block_writes images next.target)
+      pub underway_more : Scrubs {A = Unit {0}} (alone layout chunk) write (λ images. block_writes images next.target)
           (λ images tally. count_block images write tally next.target) m' m'' b z tally' tally'' (Ok tt)
           → IsUnderway layout write chunk wants rest m m'' a z tally tally''
       underway_more one =
@@ -353,8 +353,8 @@ module _ (layout : Layout) (write : Bool) (table : IsTable layout.chunks) (own :
               | inr (inr j) ↦ absurd j
             ];
             apart = next.apart;
-            done = subst (λ us. Scrubs {A = Unit {0}} layout write (blocks_writes us) (blocks_count write us) m m'' a z tally tally'' (Ok tt)) (sym ts)
-                (scrubs_as layout write (λ images. blocks_writes (targets layout h.past) images ++ block_writes images next.target)
+            done = subst (λ us. Scrubs {A = Unit {0}} (alone layout chunk) write (blocks_writes us) (blocks_count write us) m m'' a z tally tally'' (Ok tt)) (sym ts)
+                (scrubs_as (alone layout chunk) write (λ images. blocks_writes (targets layout h.past) images ++ block_writes images next.target)
                 (blocks_writes (targets layout h.past ++ next.target ∷ []))
                 (λ images y. count_block images write (blocks_count write (targets layout h.past) images y) next.target)
                 (blocks_count write (targets layout h.past ++ next.target ∷ [])) m m'' a z tally tally'' (Ok tt)
@@ -366,20 +366,20 @@ module _ (layout : Layout) (write : Bool) (table : IsTable layout.chunks) (own :
           }
 
       -- it came to a halt
-      pub underway_cut : (fault : MendFault) → Scrubs {A = Unit {0}} layout write (λ images. block_writes images next.target)
+      pub underway_cut : (fault : MendFault) → Scrubs {A = Unit {0}} (alone layout chunk) write (λ images. block_writes images next.target)
           (λ images tally. count_block images write tally next.target) m' m'' b z tally' tally'' (Err fault)
-          → Scrubs {A = Unit {0}} layout write (blocks_writes (blocks_in layout chunk wants)) (blocks_count write (blocks_in layout chunk wants)) m
+          → Scrubs {A = Unit {0}} (alone layout chunk) write (blocks_writes (blocks_in layout chunk wants)) (blocks_count write (blocks_in layout chunk wants)) m
           m'' a z tally tally'' (Err fault)
       underway_cut fault one =
           let us = blocks_in layout chunk rest in
           let are : blocks_in layout chunk wants ≡ targets layout h.past ++ next.target ∷ us =
           ap (blocks_in layout chunk) (h.split ∙ ap (λ ws. h.past ++ ws) is) ∙ blocks_begin layout table number chunk there h.past want next.target rest (λ t i. (h.sound t i).1) next.mine next.is_sought in
           let ts = targets layout h.past ++ next.target ∷ us in
-          subst (λ ts. Scrubs {A = Unit {0}} layout write (blocks_writes ts) (blocks_count write ts) m m'' a z tally tally'' (Err fault)) (sym are)
-          (scrubs_as layout write (λ images. (blocks_writes (targets layout h.past) images ++ block_writes images next.target)
+          subst (λ ts. Scrubs {A = Unit {0}} (alone layout chunk) write (blocks_writes ts) (blocks_count write ts) m m'' a z tally tally'' (Err fault)) (sym are)
+          (scrubs_as (alone layout chunk) write (λ images. (blocks_writes (targets layout h.past) images ++ block_writes images next.target)
           ++ blocks_writes us images) (blocks_writes ts) (blocks_count write ts) (blocks_count write ts) m m'' a z tally tally'' (Err fault)
           (λ images e. (writes_rest images (targets layout h.past) next.target us, refl))
-          (scrubs_cut layout write (Unit {0}) (Unit {0}) (λ images. blocks_writes (targets layout h.past) images ++ block_writes images next.target)
+          (scrubs_cut (alone layout chunk) write (Unit {0}) (Unit {0}) (λ images. blocks_writes (targets layout h.past) images ++ block_writes images next.target)
           (blocks_writes us)
           (λ images y. count_block images write (blocks_count write (targets layout h.past) images y) next.target) (blocks_count write ts) m m'' a z
           tally tally'' fault (both_done (Err fault) one)))

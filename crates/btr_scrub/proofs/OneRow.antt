@@ -32,14 +32,14 @@ use Rattle.btr_scrub_row.specs.Mending.{AreKept, HasRoom, IsFullStripe, IsOfRow,
 use Rattle.btr_scrub_row.specs.Rows.{Row, range_in_element, row_writes}
 use Rattle.btr_scrub_row.specs.declared.buffer.RowBuffer.{RowBuffer}
 use Rattle.btr_scrub_row.specs.declared.mended.MendedRow.{MendedRow}
-use Rattle.btr_scrub.specs.Leaves.{LiesInStripe}
+use Rattle.btr_scrub.specs.Leaves.{LiesInChunk, LiesInStripe, alone}
 use Rattle.btr_scrub.specs.Repair.{first_missing}
 use Rattle.btr_scrub.specs.Scrubbing.{CanMend, HasRooms, IsOfScrub, Scrubs, counted_row}
 use Rattle.btr_scrub.specs.declared.tally.Tally.{Tally}
 use Rattle.btr_scrub_copies.proofs.Turning.{strands_same}
 use Rattle.btr_scrub_row.proofs.Elements.{range_stands, stands_on}
-use Rattle.btr_scrub.proofs.Positions.{find_at}
-use Rattle.btr_scrub.proofs.Scrubbing.{does_fault, does_value, does_weaker, tell, told}
+use Rattle.btr_scrub.proofs.Positions.{find_at, lies_alone}
+use Rattle.btr_scrub.proofs.Scrubbing.{does_fault, does_value, does_weaker, tell, told, waits_weaker}
 use Rattle.btr_scrub.proofs.Lists.{all_from, all_in}
 use Rattle.btr_scrub.proofs.Some.{any_at}
 
@@ -83,16 +83,16 @@ still_ready write a b old new m n can serves same slots long = record {
   given = ap first_missing same.layout ∙ can.given;
 }
 
--- a range in an element lies in a stripe of the table
+-- a range in an element lies in a stripe of the row's chunk
 pub row_in_stripe : (layout : Layout) (start number : ℕ) (row : Row) (range : Range) → IsTable layout.chunks → IsFullStripe layout start number row
-    → IsOfRow layout row range → LiesInStripe layout range
-row_in_stripe layout start number row range table is of = by (range_in_element layout row of.part 0 65536) refl of.lies
+    → IsOfRow layout row range → LiesInStripe (alone layout row.chunk) range
+row_in_stripe layout start number row range table is of = lies_alone layout row.chunk range (by (range_in_element layout row of.part 0 65536) refl of.lies)
   where
     pick : (b : Bool) (outer : Range) → LiesIn range outer → IfSome (cond b (Some outer) None) (LiesIn range)
     pick true outer h = h
     pick false outer h = tt
 
-    by : (o : Option Range) → range_in_element layout row of.part 0 65536 ≡ o → IsSomeAnd o (LiesIn range) → LiesInStripe layout range
+    by : (o : Option Range) → range_in_element layout row of.part 0 65536 ≡ o → IsSomeAnd o (LiesIn range) → LiesInChunk layout row.chunk range
     by None e h = absurd h
     by (Some outer) e h =
         let n = chunk_number layout start number row is in
@@ -115,28 +115,26 @@ row_in_stripe layout start number row range table is of = by (range_in_element l
           from = omega (arith, h.from, off, offset);
           to = omega (arith, h.to, off, len, offset, is.inside, is.number_is);
         })) in
-        any_at (λ chunk. Any (λ (stripe : Stripe). IfSome (range_on stripe.offset (stripe_length chunk) (device_in layout.devices stripe.devid))
-        (LiesIn range)) chunk.stripes) layout.chunks n.0 row.chunk
-        (slice_get_within layout.chunks n.0 row.chunk n.1) n.1
-        (any_at (λ (stripe : Stripe). IfSome (range_on stripe.offset (stripe_length row.chunk) (device_in layout.devices stripe.devid))
-        (LiesIn range)) row.chunk.stripes k p.stripe (slice_get_within row.chunk.stripes k p.stripe p.there) p.there whole)
+        any_at (λ (stripe : Stripe). IfSome (range_on stripe.offset (stripe_length row.chunk) (device_in layout.devices stripe.devid))
+        (LiesIn range)) row.chunk.stripes k p.stripe (slice_get_within row.chunk.stripes k p.stripe p.there) p.there whole
 
 -- it was mended, and counted
-module _ (layout : Layout) (write : Bool) (row : Row) (m n : List Bool) (a b : Seen) (in_stripe : (range : Range) → IsOfRow layout row range → LiesInStripe layout range) where
+module _ (layout : Layout) (write : Bool) (row : Row) (m n : List Bool) (a b : Seen) (in_stripe : (range : Range) → IsOfRow layout row range → LiesInStripe (alone layout row.chunk) range) where
   abbrev the_writes : Images → List Write
   the_writes images = writes_if write (row_writes images layout row)
 
-  in_scrub : (range : Range) → IsSyncOr (IsOfRow layout row) range → IsOfScrub layout range
+  in_scrub : (range : Range) → IsSyncOr (IsOfRow layout row) range → IsOfScrub (alone layout row.chunk) range
   in_scrub range (inl sync) = inl sync
   in_scrub range (inr of) = inr (in_stripe range of)
 
   pub scrubs_row : (tally tally' : Tally) (mended : MendedRow) → MendsRow layout row write m n a b (Ok mended) → tally'
       ≡ counted_row tally (length row.blocks) mended
-      → Scrubs {A = Unit {0}} layout write (λ images. row_writes images layout row)
+      → Scrubs {A = Unit {0}} (alone layout row.chunk) write (λ images. row_writes images layout row)
       (λ images tally. counted_row tally (length row.blocks) (mended_row images layout row write)) m n a b tally tally' (Ok (tt {0}))
   scrubs_row tally tally' mended h e = record {
-    does = does_value (IsOfScrub layout) the_writes [] [] (plain a) (plain b) mended tt
-        (does_weaker (IsSyncOr (IsOfRow layout row)) (IsOfScrub layout) the_writes [] [] (plain a) (plain b) (Ok mended) in_scrub h.does);
+    does = does_value (IsOfScrub (alone layout row.chunk)) the_writes [] [] (plain a) (plain b) mended tt
+        (does_weaker (IsSyncOr (IsOfRow layout row)) (IsOfScrub (alone layout row.chunk)) the_writes [] [] (plain a) (plain b) (Ok mended) in_scrub h.does);
+    waits = waits_weaker (IsOfRow layout row) (LiesInStripe (alone layout row.chunk)) a b in_stripe h.lie;
     marked = h.marked;
     stranded = h.stranded;
     counts = tell a.held (λ images. tally' ≡ counted_row tally (length row.blocks) (mended_row images layout row write))
@@ -146,11 +144,12 @@ module _ (layout : Layout) (write : Bool) (row : Row) (m n : List Bool) (a b : S
   }
 
   pub scrubs_row_not : (tally : Tally) (fault : MendFault) → MendsRow layout row write m n a b (Err fault)
-      → Scrubs {A = Unit {0}} layout write (λ images. row_writes images layout row)
+      → Scrubs {A = Unit {0}} (alone layout row.chunk) write (λ images. row_writes images layout row)
       (λ images tally. counted_row tally (length row.blocks) (mended_row images layout row write)) m n a b tally tally (Err fault)
   scrubs_row_not tally fault h = record {
-    does = does_fault {A = MendedRow} {B = Unit {0}} (IsOfScrub layout) the_writes [] [] (plain a) (plain b) fault
-        (does_weaker {A = MendedRow} (IsSyncOr (IsOfRow layout row)) (IsOfScrub layout) the_writes [] [] (plain a) (plain b) (Err fault) in_scrub h.does);
+    does = does_fault {A = MendedRow} {B = Unit {0}} (IsOfScrub (alone layout row.chunk)) the_writes [] [] (plain a) (plain b) fault
+        (does_weaker {A = MendedRow} (IsSyncOr (IsOfRow layout row)) (IsOfScrub (alone layout row.chunk)) the_writes [] [] (plain a) (plain b) (Err fault) in_scrub h.does);
+    waits = waits_weaker (IsOfRow layout row) (LiesInStripe (alone layout row.chunk)) a b in_stripe h.lie;
     marked = h.marked;
     stranded = strands_same MendedRow (Unit {0}) fault a.never_synced b.never_synced h.stranded;
     counts = tt;

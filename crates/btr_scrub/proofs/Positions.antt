@@ -31,7 +31,7 @@ use Rattle.btr_read.specs.Want.{addr_of, len_of}
 use Rattle.btr_read.specs.declared.device.Device.{Device}
 use Rattle.btr_read.specs.declared.want.Want.{Want}
 use Rattle.btr_scrub_copies.specs.Mending.{IsOfCopy as IsOfMirror}
-use Rattle.btr_scrub.specs.Leaves.{LiesInStripe}
+use Rattle.btr_scrub.specs.Leaves.{LiesInChunk, LiesInStripe, alone}
 use Rattle.btr_scrub.specs.Order.{IsSought}
 use Rattle.btr_scrub.specs.Repair.{covers}
 use Rattle.btr_scrub_row.proofs.Elements.{range_stands, stands_on}
@@ -287,11 +287,11 @@ on_stripe layout t part table is has =
       end = omega (arith, offset, inside);
     }
 
--- a range in a block's part lies in a stripe of the table
-pub in_stripe : (layout : Layout) (t : Target) (part : Part) (range inner : Range) → IsTable layout.chunks → IsSought layout t
+-- a range in a block's part lies in a stripe of its chunk
+pub part_in_chunk : (layout : Layout) (t : Target) (part : Part) (range inner : Range) → IsTable layout.chunks → IsSought layout t
     → HasPart t.chunk.profile (length t.chunk.stripes) part
-    → range_of t part ≡ Some range → LiesIn inner range → LiesInStripe layout inner
-in_stripe layout t part range inner table is has e lies =
+    → range_of t part ≡ Some range → LiesIn inner range → LiesInChunk layout t.chunk inner
+part_in_chunk layout t part range inner table is has e lies =
     let on = on_stripe layout t part table is has in
     let place = place_at t.chunk part t.at in
     let s = stands_on place.offset (size_of t) (device_in t.devices place.devid) (ap is_some e) in
@@ -308,27 +308,44 @@ in_stripe layout t part range inner table is has e lies =
       from = omega (arith, lies.from, off, on.begin);
       to = omega (arith, lies.to, off, len, on.end);
     })) in
-    any_at (λ chunk. Any (λ (stripe : Stripe). IfSome (range_on stripe.offset (stripe_length chunk) (device_in layout.devices stripe.devid))
-    (LiesIn inner)) chunk.stripes) layout.chunks is.number t.chunk
-    (slice_get_within layout.chunks is.number t.chunk is.there) is.there
-    (any_at (λ (stripe : Stripe). IfSome (range_on stripe.offset (stripe_length t.chunk) (device_in layout.devices stripe.devid)) (LiesIn inner))
+    any_at (λ (stripe : Stripe). IfSome (range_on stripe.offset (stripe_length t.chunk) (device_in layout.devices stripe.devid)) (LiesIn inner))
     t.chunk.stripes on.number on.stripe
-    (slice_get_within t.chunk.stripes on.number on.stripe on.there) on.there whole)
+    (slice_get_within t.chunk.stripes on.number on.stripe on.there) on.there whole
   where
     by : (b : Bool) (outer : Range) → LiesIn inner outer → IfSome (cond b (Some outer) None) (LiesIn inner)
     by true outer h = h
     by false outer h = tt
 
--- a range in a copy of a block lies in a stripe of the table
-pub copy_in_stripe : (layout : Layout) (t : Target) (range : Range) → IsTable layout.chunks → IsSought layout t → IsOfMirror t range → LiesInStripe layout range
-copy_in_stripe layout t range table is h = by (range_of t (Mirror h.mirror)) refl h.lies
+-- so it lies in a stripe of the table
+pub in_stripe : (layout : Layout) (t : Target) (part : Part) (range inner : Range) → IsTable layout.chunks → IsSought layout t
+    → HasPart t.chunk.profile (length t.chunk.stripes) part
+    → range_of t part ≡ Some range → LiesIn inner range → LiesInStripe layout inner
+in_stripe layout t part range inner table is has e lies =
+    any_at (λ chunk. LiesInChunk layout chunk inner) layout.chunks is.number t.chunk
+    (slice_get_within layout.chunks is.number t.chunk is.there) is.there (part_in_chunk layout t part range inner table is has e lies)
+
+-- a range lies in a stripe of a chunk, where that is the only one
+pub lies_alone : (layout : Layout) (chunk : Chunk) (range : Range) → LiesInChunk layout chunk range → LiesInStripe (alone layout chunk) range
+lies_alone layout chunk range h = any_at (λ c. LiesInChunk (alone layout chunk) c range) (chunk ∷ []) 0 chunk (omega arith) refl h
+
+pub alone_lies : (layout : Layout) (chunk : Chunk) (range : Range) → LiesInStripe (alone layout chunk) range → LiesInChunk layout chunk range
+alone_lies layout chunk range any = at any.0 any.1 any.2 any.3 any.4
   where
-    by : (o : Option Range) → range_of t (Mirror h.mirror) ≡ o → Any (LiesIn range) (cons_option o []) → LiesInStripe layout range
+    at : (k : ℕ) (c : Chunk) → k < 1 → get_or (chunk ∷ []) k c ≡ c → LiesInChunk layout c range → LiesInChunk layout chunk range
+    at zero c lt same lies = subst (λ d. LiesInChunk layout d range) (sym same) lies
+    at (suc k) c lt same lies = absurd (omega (arith, lt))
+
+-- a range in a copy of a block lies in a stripe of its chunk
+pub copy_in_stripe : (layout : Layout) (t : Target) (range : Range) → IsTable layout.chunks → IsSought layout t → IsOfMirror t range
+    → LiesInStripe (alone layout t.chunk) range
+copy_in_stripe layout t range table is h = lies_alone layout t.chunk range (by (range_of t (Mirror h.mirror)) refl h.lies)
+  where
+    by : (o : Option Range) → range_of t (Mirror h.mirror) ≡ o → Any (LiesIn range) (cons_option o []) → LiesInChunk layout t.chunk range
     by None e a = absurd (omega (arith, a.2))
     by (Some r) e a = at a.0 a.1 a.2 a.3 a.4
       where
-        at : (k : ℕ) (x : Range) → k < 1 → get_or (r ∷ []) k x ≡ x → LiesIn range x → LiesInStripe layout range
-        at zero x lt same lies = in_stripe layout t (Mirror h.mirror) r range table is h.has e (subst (LiesIn range) (sym same) lies)
+        at : (k : ℕ) (x : Range) → k < 1 → get_or (r ∷ []) k x ≡ x → LiesIn range x → LiesInChunk layout t.chunk range
+        at zero x lt same lies = part_in_chunk layout t (Mirror h.mirror) r range table is h.has e (subst (LiesIn range) (sym same) lies)
         at (suc k) x lt same lies = absurd (omega (arith, lt))
 
 -- ---- chunks with rows

@@ -23,6 +23,7 @@ use Rattle.btr_scrub_row.specs.Mending.{mended_row}
 use Rattle.btr_scrub_row.specs.Rows.{row_writes}
 use Rattle.btr_scrub.specs.Devices.{HaveLengths}
 use Rattle.btr_scrub.specs.Glue.{In}
+use Rattle.btr_scrub.specs.Leaves.{alone}
 use Rattle.btr_scrub.specs.Order.{AreApart, IsSought, targets}
 use Rattle.btr_scrub.specs.Repair.{first_missing, is_in_row, ok_or_none, row_of, rows_in}
 use Rattle.btr_scrub.specs.Rowing.{BeginsElse, Collects, row_in}
@@ -48,7 +49,7 @@ module _ (kept : KeptColumns) (layout : Layout) (table : IsTable layout.chunks) 
     pub from : chunk.start ≤ end
     pub apart : AreApart layout end left
     pub ahead : (t : Target) → In t (targets layout left) → t.chunk ≡ chunk → q ≤ t.at.row
-    pub done : Scrubs {A = Unit {0}} layout write (rows_writes layout (rows_to kept (targets layout wants) chunk q))
+    pub done : Scrubs {A = Unit {0}} (alone layout chunk) write (rows_writes layout (rows_to kept (targets layout wants) chunk q))
         (rows_count layout write (rows_to kept (targets layout wants) chunk q)) m m' a b tally tally' (Ok tt)
 
   pub rows_first : (write : Bool) (m : List Bool) (a : Seen) (tally : Tally) → AreApart layout chunk.start wants → RowsUnderway write wants m m a a tally tally
@@ -62,7 +63,7 @@ module _ (kept : KeptColumns) (layout : Layout) (table : IsTable layout.chunks) 
     from = omega arith;
     apart = apart;
     ahead = λ t i e. omega arith;
-    done = scrubs_none layout write m a tally tt;
+    done = scrubs_none (alone layout chunk) write m a tally tt;
   }
 
   -- ---- which row comes next
@@ -158,14 +159,14 @@ module _ (kept : KeptColumns) (layout : Layout) (table : IsTable layout.chunks) 
             let out = all_behind layout (chunk.start + chunk.length) left p.behind w.0 w.1 in
             row_is_not layout table number chunk there parity k t (sought_is left t i) (λ c e. let held = (row_of_block layout table number chunk there parity w.0 t w.2 c).0 in omega (arith, out, ltb-true (addr_of w.0) (chunk.start + chunk.length) (and_parts (leb chunk.start (addr_of w.0)) (ltb (addr_of w.0) (chunk.start + chunk.length)) held).1))
 
-    pub rows_done : IsPastChunk layout chunk wants left → Scrubs {A = Unit {0}} layout write
+    pub rows_done : IsPastChunk layout chunk wants left → Scrubs {A = Unit {0}} (alone layout chunk) write
         (rows_writes layout (rows_in kept (targets layout wants) chunk)) (rows_count layout write (rows_in kept (targets layout wants) chunk)) m m' a
         b tally tally' (Ok tt)
     rows_done p =
         let n = stripe_length chunk / 65536 in
-        subst (λ rs. Scrubs {A = Unit {0}} layout write (rows_writes layout rs) (rows_count layout write rs) m m' a b tally tally' (Ok (tt {0})))
+        subst (λ rs. Scrubs {A = Unit {0}} (alone layout chunk) write (rows_writes layout rs) (rows_count layout write rs) m m' a b tally tally' (Ok (tt {0})))
         (sym (all_rows kept (targets layout wants) chunk parity))
-        (scrubs_as layout write (rows_writes layout (rows_to kept (targets layout wants) chunk h.q))
+        (scrubs_as (alone layout chunk) write (rows_writes layout (rows_to kept (targets layout wants) chunk h.q))
         (rows_writes layout (rows_to kept (targets layout wants) chunk n))
         (rows_count layout write (rows_to kept (targets layout wants) chunk h.q))
         (rows_count layout write (rows_to kept (targets layout wants) chunk n)) m m' a b tally tally' (Ok (tt {0}))
@@ -176,7 +177,7 @@ module _ (kept : KeptColumns) (layout : Layout) (table : IsTable layout.chunks) 
         )) h.done)
 
     -- there was no memory for the blocks of the next row
-    pub rows_short : Scrubs {A = Unit {0}} layout write (rows_writes layout (rows_in kept (targets layout wants) chunk))
+    pub rows_short : Scrubs {A = Unit {0}} (alone layout chunk) write (rows_writes layout (rows_in kept (targets layout wants) chunk))
         (rows_count layout write (rows_in kept (targets layout wants) chunk)) m m' a b tally tally' (Err Memory)
     rows_short =
         let n = stripe_length chunk / 65536 in
@@ -186,9 +187,9 @@ module _ (kept : KeptColumns) (layout : Layout) (table : IsTable layout.chunks) 
         let from_q : 0 + h.q ≡ h.q = omega arith in
         let parts : rows_to kept (targets layout wants) chunk n ≡ rows_to kept (targets layout wants) chunk h.q ++ rest =
         ap (rows_to kept (targets layout wants) chunk) whole ∙ ap (map (row_of kept (targets layout wants) chunk)) (range_split 0 h.q d) ∙ map-append (row_of kept (targets layout wants) chunk) (range_with_len 0 h.q) (range_with_len (0 + h.q) d) ∙ ap (λ k. rows_to kept (targets layout wants) chunk h.q ++ map (row_of kept (targets layout wants) chunk) (range_with_len k d)) from_q in
-        subst (λ rs. Scrubs {A = Unit {0}} layout write (rows_writes layout rs) (rows_count layout write rs) m m' a b tally tally' (Err Memory))
+        subst (λ rs. Scrubs {A = Unit {0}} (alone layout chunk) write (rows_writes layout rs) (rows_count layout write rs) m m' a b tally tally' (Err Memory))
         (sym (all_rows kept (targets layout wants) chunk parity ∙ parts))
-        (scrubs_as layout write (λ i. (rows_writes layout (rows_to kept (targets layout wants) chunk h.q) i ++ []) ++ rows_writes layout rest i)
+        (scrubs_as (alone layout chunk) write (λ i. (rows_writes layout (rows_to kept (targets layout wants) chunk h.q) i ++ []) ++ rows_writes layout rest i)
         (rows_writes layout (rows_to kept (targets layout wants) chunk h.q ++ rest))
         (rows_count layout write (rows_to kept (targets layout wants) chunk h.q ++ rest))
         (rows_count layout write (rows_to kept (targets layout wants) chunk h.q ++ rest)) m m' a b tally tally' (Err Memory)
@@ -198,36 +199,36 @@ module _ (kept : KeptColumns) (layout : Layout) (table : IsTable layout.chunks) 
               ∙ sym (flat_map-append (row_writes images layout) (rows_to kept (targets layout wants) chunk h.q) rest),
           refl,
         ))
-        (scrubs_cut layout write (Unit {0}) (Unit {0}) (λ i. rows_writes layout (rows_to kept (targets layout wants) chunk h.q) i ++ [])
+        (scrubs_cut (alone layout chunk) write (Unit {0}) (Unit {0}) (λ i. rows_writes layout (rows_to kept (targets layout wants) chunk h.q) i ++ [])
         (rows_writes layout rest) (rows_count layout write (rows_to kept (targets layout wants) chunk h.q))
         (rows_count layout write (rows_to kept (targets layout wants) chunk h.q ++ rest)) m m' a b tally tally' Memory
-        (scrubs_then layout write (Unit {0}) (Unit {0}) (rows_writes layout (rows_to kept (targets layout wants) chunk h.q)) (λ i. [])
+        (scrubs_then (alone layout chunk) write (Unit {0}) (Unit {0}) (rows_writes layout (rows_to kept (targets layout wants) chunk h.q)) (λ i. [])
         (rows_count layout write (rows_to kept (targets layout wants) chunk h.q)) (λ i y. y) m m' m' a b b tally tally' tally' tt (Err Memory)
         (λ images e. (refl, λ x. refl)) h.done
-        (scrubs_nothing layout write m' b tally'))))
+        (scrubs_nothing (alone layout chunk) write m' b tally'))))
 
     module _ (lengths : (images : Images) → a.held ≡ Some images → HaveLengths images layout) (left' : List Want) (r : ℕ) (mine : List Want) (n : IsNextRow kept layout table own given number chunk there parity wants h.q h.past left' r mine) (m'' : List Bool) (z : Seen) (tally'' : Tally) where
       both : (e : Result (Unit {0}) MendFault)
-          → Scrubs {A = Unit {0}} layout write (λ images. row_writes images layout (row_of kept (targets layout wants) chunk r))
+          → Scrubs {A = Unit {0}} (alone layout chunk) write (λ images. row_writes images layout (row_of kept (targets layout wants) chunk r))
           (λ images x. counted_row x (length (row_of kept (targets layout wants) chunk r).blocks)
           (mended_row images layout (row_of kept (targets layout wants) chunk r) write)) m' m'' b z tally' tally'' e
-          → Scrubs {A = Unit {0}} layout write (λ images. rows_writes layout (rows_to kept (targets layout wants) chunk h.q) images
+          → Scrubs {A = Unit {0}} (alone layout chunk) write (λ images. rows_writes layout (rows_to kept (targets layout wants) chunk h.q) images
           ++ row_writes images layout (row_of kept (targets layout wants) chunk r))
           (λ images x. count_row images layout write (rows_count layout write (rows_to kept (targets layout wants) chunk h.q) images x)
           (row_of kept (targets layout wants) chunk r)) m m'' a z tally tally'' e
       both e one =
           let row = row_of kept (targets layout wants) chunk r in
-          scrubs_then layout write (Unit {0}) (Unit {0}) (rows_writes layout (rows_to kept (targets layout wants) chunk h.q))
+          scrubs_then (alone layout chunk) write (Unit {0}) (Unit {0}) (rows_writes layout (rows_to kept (targets layout wants) chunk h.q))
           (λ images. row_writes images layout row) (rows_count layout write (rows_to kept (targets layout wants) chunk h.q))
           (λ images x. count_row images layout write x row) m m' m'' a b z tally tally' tally'' tt e
           (unmoved_row kept layout table own given number chunk there parity wants h.q h.past left' r mine n write a.held lengths) h.done
-          (scrubs_as layout write (λ images. row_writes images layout row) (λ images. row_writes images layout row)
+          (scrubs_as (alone layout chunk) write (λ images. row_writes images layout row) (λ images. row_writes images layout row)
           (λ images x. counted_row x (length row.blocks) (mended_row images layout row write)) (λ images x. count_row images layout write x row)
           m' m'' b z tally' tally'' e
           (λ images q. (refl, counts_row kept layout table own given number chunk there parity wants h.q h.past left' r mine n write images tally')) one)
 
       -- one row more
-      pub rows_more : Scrubs {A = Unit {0}} layout write (λ images. row_writes images layout (row_of kept (targets layout wants) chunk r))
+      pub rows_more : Scrubs {A = Unit {0}} (alone layout chunk) write (λ images. row_writes images layout (row_of kept (targets layout wants) chunk r))
           (λ images x. counted_row x (length (row_of kept (targets layout wants) chunk r).blocks)
           (mended_row images layout (row_of kept (targets layout wants) chunk r) write)) m' m'' b z tally' tally'' (Ok (tt {0}))
           → RowsUnderway write left' m m'' a z tally tally''
@@ -244,7 +245,7 @@ module _ (kept : KeptColumns) (layout : Layout) (table : IsTable layout.chunks) 
         from = n.from;
         apart = n.apart;
         ahead = n.behind;
-        done = scrubs_as layout write (λ images. rows_writes layout (rows_to kept (targets layout wants) chunk h.q) images
+        done = scrubs_as (alone layout chunk) write (λ images. rows_writes layout (rows_to kept (targets layout wants) chunk h.q) images
             ++ row_writes images layout (row_of kept (targets layout wants) chunk r)) (rows_writes layout (rows_to kept (targets layout wants) chunk (r + 1)))
             (λ images x. count_row images layout write (rows_count layout write (rows_to kept (targets layout wants) chunk h.q) images x)
             (row_of kept (targets layout wants) chunk r)) (rows_count layout write (rows_to kept (targets layout wants) chunk (r + 1))) m m'' a z
@@ -258,10 +259,10 @@ module _ (kept : KeptColumns) (layout : Layout) (table : IsTable layout.chunks) 
 
       -- a halt in it
       pub rows_cut : (fault : MendFault)
-          → Scrubs {A = Unit {0}} layout write (λ images. row_writes images layout (row_of kept (targets layout wants) chunk r))
+          → Scrubs {A = Unit {0}} (alone layout chunk) write (λ images. row_writes images layout (row_of kept (targets layout wants) chunk r))
           (λ images x. counted_row x (length (row_of kept (targets layout wants) chunk r).blocks)
           (mended_row images layout (row_of kept (targets layout wants) chunk r) write)) m' m'' b z tally' tally'' (Err fault)
-          → Scrubs {A = Unit {0}} layout write (rows_writes layout (rows_in kept (targets layout wants) chunk))
+          → Scrubs {A = Unit {0}} (alone layout chunk) write (rows_writes layout (rows_in kept (targets layout wants) chunk))
           (rows_count layout write (rows_in kept (targets layout wants) chunk)) m m'' a z tally tally'' (Err fault)
       rows_cut fault one =
           let row = row_of kept (targets layout wants) chunk r in
@@ -272,9 +273,9 @@ module _ (kept : KeptColumns) (layout : Layout) (table : IsTable layout.chunks) 
           let from_r : 0 + (r + 1) ≡ r + 1 = omega arith in
           let parts : rows_to kept (targets layout wants) chunk all ≡ rows_to kept (targets layout wants) chunk (r + 1) ++ rest =
           ap (rows_to kept (targets layout wants) chunk) whole ∙ ap (map (row_of kept (targets layout wants) chunk)) (range_split 0 (r + 1) d) ∙ map-append (row_of kept (targets layout wants) chunk) (range_with_len 0 (r + 1)) (range_with_len (0 + (r + 1)) d) ∙ ap (λ k. rows_to kept (targets layout wants) chunk (r + 1) ++ map (row_of kept (targets layout wants) chunk) (range_with_len k d)) from_r in
-          subst (λ rs. Scrubs {A = Unit {0}} layout write (rows_writes layout rs) (rows_count layout write rs) m m'' a z tally tally'' (Err fault))
+          subst (λ rs. Scrubs {A = Unit {0}} (alone layout chunk) write (rows_writes layout rs) (rows_count layout write rs) m m'' a z tally tally'' (Err fault))
           (sym (all_rows kept (targets layout wants) chunk parity ∙ parts))
-          (scrubs_as layout write (λ i. (rows_writes layout (rows_to kept (targets layout wants) chunk h.q) i ++ row_writes i layout row)
+          (scrubs_as (alone layout chunk) write (λ i. (rows_writes layout (rows_to kept (targets layout wants) chunk h.q) i ++ row_writes i layout row)
           ++ rows_writes layout rest i) (rows_writes layout (rows_to kept (targets layout wants) chunk (r + 1) ++ rest))
           (rows_count layout write (rows_to kept (targets layout wants) chunk (r + 1) ++ rest))
           (rows_count layout write (rows_to kept (targets layout wants) chunk (r + 1) ++ rest)) m m'' a z tally tally'' (Err fault)
@@ -284,7 +285,7 @@ module _ (kept : KeptColumns) (layout : Layout) (table : IsTable layout.chunks) 
                 ∙ sym (flat_map-append (row_writes images layout) (rows_to kept (targets layout wants) chunk (r + 1)) rest),
             refl,
           ))
-          (scrubs_cut layout write (Unit {0}) (Unit {0}) (λ i. rows_writes layout (rows_to kept (targets layout wants) chunk h.q) i
+          (scrubs_cut (alone layout chunk) write (Unit {0}) (Unit {0}) (λ i. rows_writes layout (rows_to kept (targets layout wants) chunk h.q) i
           ++ row_writes i layout row) (rows_writes layout rest)
           (λ images x. count_row images layout write (rows_count layout write (rows_to kept (targets layout wants) chunk h.q) images x) row)
           (rows_count layout write (rows_to kept (targets layout wants) chunk (r + 1) ++ rest)) m m'' a z tally tally'' fault (both (Err fault) one)))

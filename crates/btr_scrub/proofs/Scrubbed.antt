@@ -21,10 +21,12 @@ use Rattle.btr_walk.specs.declared.fault.TreeFault.{TreeFault}
 use Rattle.btr_walk.specs.declared.fault.TreeFault.TheVariants as tree
 use Rattle.btr_volume.specs.declared.stop.Stop.{Stop}
 use Rattle.btr_volume.specs.declared.stop.Stop.TheVariants as stop
-use Rattle.btr_scrub_copies.specs.Writes.{AccountsMend, FailsAt, Images, IsStopped, Leaves, Write, write_on, writes_if}
+use Rattle.btr_scrub_copies.specs.Writes.{AccountsMend, FailsAt, Images, In, IsStopped, Leaves, Write, write_on, writes_if}
 use Rattle.btr_scrub_copies.specs.declared.mended.MendFault.{MendFault}
 use Rattle.btr_scrub_copies.specs.declared.mended.MendFault.TheVariants.{Image, Memory}
+use Rattle.btr_scrub_copies.specs.Turns.{waiting}
 use Rattle.btr_scrub_copies.proofs.Doing.{stopped_first}
+use Rattle.btr_scrub_copies.proofs.Turning.{read_at}
 use Rattle.btr_scrub.specs.Devices.{HaveLengths}
 use Rattle.btr_scrub.specs.Gathering.{StopCause, checked_among, count_met, stop_halt}
 use Rattle.btr_scrub.specs.Leaves.{KeepsOutside}
@@ -44,7 +46,7 @@ use Rattle.btr_scrub.proofs.Safe.{lie_in_wrong, may_hold_anything}
 use Rattle.btr_scrub.proofs.Scrubbing.{tell, told}
 use Rattle.btr_scrub.proofs.Tallying.{listed_counts}
 use Rattle.btr_scrub.proofs.Told.{listed_writes}
-use Rattle.btr_scrub.proofs.Working.{some_and}
+use Rattle.btr_scrub.proofs.Working.{some_and, waits_before}
 
 -- what is said of the images before and behind, where they are told
 of_images : (c : Called) (P : Images → Images → Type 0) → ((images : Images) → c.old.held ≡ Some images → (left : Images) × (c.new.held ≡ Some left))
@@ -105,6 +107,7 @@ module _ (c : Called) where
       reads = subst (ReadsAt c) (sym answer) same;
       unwritten = λ w. subst (OnlyReads c.old) (sym same) none_read;
       image = λ slot e. absurd (other stripe.devid slot (sym answer ∙ e));
+      waits = λ none. inl (λ range i. inl (subst (λ s. In range (waiting s)) same i));
     }
       where
         other : (devid slot : ℕ) → ◌≡◌ {A = Result Tally Stop} (Err (stop.Missing devid)) (Err (stop.Image slot)) → ⊥
@@ -179,6 +182,7 @@ module _ (c : Called) where
           reads = subst (ReadsAt c) (sym answer) (reads_at why cause);
           unwritten = λ w. reads_new mid reads same;
           image = λ slot e. absurd (no_image why slot cause (sym answer ∙ e));
+          waits = λ none. inl (read_at c.old c.new (reads_new mid reads same) (λ range. ⊥));
         }
 
     -- a list that is refused
@@ -191,6 +195,7 @@ module _ (c : Called) where
       reads = subst (ReadsAt c) (sym answer) (reads_new mid reads same);
       unwritten = λ w. reads_new mid reads same;
       image = λ slot e. absurd (other slot (sym answer ∙ e));
+      waits = λ none. inl (read_at c.old c.new (reads_new mid reads same) (λ range. ⊥));
     }
       where
         other : (slot : ℕ) → ◌≡◌ {A = Result Tally Stop} (Err (stop.Tree f)) (Err (stop.Image slot)) → ⊥
@@ -325,6 +330,8 @@ module _ (c : Called) where
             (λ images left e g. left_as images left e g (done_of images e sure));
         reads = subst (ReadsAt c) (sym says) (reads_by ended);
         unwritten = λ w. reads_more reads (works.unwritten w);
+        waits = λ none. waits_before layout c.old mid c.new (λ range i. subst (In range) (ap waiting reads.same) i)
+            (works.waits (ap (λ (s : Seen). s.unsynced) reads.same ∙ none));
         image = λ slot e. image_by slot ended works.does.account (sym says ∙ e);
       }
 

@@ -1,6 +1,6 @@
 -- Mending one thing after another.
-use Rattle.std.proofs.Common.{◌≡◌, Bool, true, false, List, [], ◌++◌, length, Option, Some, None, IfSome, OnOk, is_none, is_some, Result, Ok, Err, refl, sym}
-use Rattle.std.proofs.Common.{ap, ◌∙◌, subst, inr, arith}
+use Rattle.std.proofs.Common.{◌≡◌, ◌⊎◌, Bool, true, false, List, [], ◌++◌, length, Option, Some, None, IfSome, OnOk, is_none, is_some, Result, Ok, Err, refl, sym}
+use Rattle.std.proofs.Common.{ap, ◌∙◌, subst, inl, inr, arith}
 use Rattle.std.proofs.lemmas.Bool.{false≢true}
 use Rattle.std.proofs.lemmas.Option.{same_Some}
 use Rattle.std.specs.List.{count_by, fold}
@@ -15,12 +15,13 @@ use Rattle.btr_read.specs.Store.{Blocks, SameLoans}
 use Rattle.btr_scrub_copies.specs.Blocks.{block_writes}
 use Rattle.btr_scrub_copies.specs.Mending.{IsOfCopy, Mends, mended_of}
 use Rattle.btr_scrub_copies.specs.declared.mended.Mended.{Mended}
-use Rattle.btr_scrub_copies.specs.Writes.{AccountsMend, AreWritable, Does, Images, Leaves, Write, writes_if, write_on}
+use Rattle.btr_scrub_copies.specs.Writes.{AccountsMend, AreWritable, Does, Images, In, Leaves, Write, writes_if, write_on}
 use Rattle.btr_scrub_copies.specs.declared.mended.MendFault.{MendFault}
 use Rattle.btr_scrub_copies.specs.declared.mended.MendFault.TheVariants.{Image, Memory}
 use Rattle.btr_scrub_copies.specs.Syncing.{Strands, plain}
+use Rattle.btr_scrub_copies.specs.Turns.{WaitsAt, waiting}
 use Rattle.btr_scrub_copies.proofs.Doing.{does_as, does_as_halt, does_failed, does_halt, does_reads, does_then}
-use Rattle.btr_scrub_copies.proofs.Turning.{does_plain, marked_after, same_never, strands_none, strands_same}
+use Rattle.btr_scrub_copies.proofs.Turning.{does_plain, marked_after, same_never, strands_none, strands_same, waits_at}
 use Rattle.btr_scrub.specs.Leaves.{LiesInStripe}
 use Rattle.btr_scrub.specs.Repair.{first_missing}
 use Rattle.btr_scrub.specs.Scrubbing.{CanMend, IsOfScrub, Scrubs, count_block, counted}
@@ -47,7 +48,7 @@ account_weaker P Q a b (Err Memory) weak h = h
 
 pub does_weaker : {A : Type 0} (P Q : Range → Type 0) (f : Images → List Write) (m n : List Bool) (a b : Seen) (r : Result A MendFault)
     → ((range : Range) → P range → Q range) → Does P f m n a b r → Does Q f m n a b r
-does_weaker P Q f m n a b r weak h = record { ranges = h.ranges; only = h.only; own = h.own; marked = h.marked; held = h.held; account = account_weaker P Q a b r weak h.account }
+does_weaker P Q f m n a b r weak h = record { ranges = h.ranges; only = h.only; own = h.own; lie = λ range i. weak range (h.lie range i); marked = h.marked; held = h.held; account = account_weaker P Q a b r weak h.account }
 
 account_other : (A B : Type 0) (P : Range → Type 0) (a b : Seen) (f : MendFault) → AccountsMend {A = A} P a b (Err f) → AccountsMend {A = B} P a b (Err f)
 account_other A B P a b (Image slot) h = h
@@ -62,14 +63,21 @@ leaves_value : {A B : Type 0} (f : Images → List Write) (a b : Option Images) 
 leaves_value f None b x y h = h
 leaves_value f (Some images) b x y h = h
 
+-- what waits at some places
+pub waits_weaker : (P Q : Range → Type 0) (a b : Seen) → ((range : Range) → P range → Q range) → WaitsAt P a b → WaitsAt Q a b
+waits_weaker P Q a b weak h range i = elim (h range i) as (λ _. In range (waiting a) ⊎ Q range) [
+  | inl j ↦ inl j
+  | inr p ↦ inr (weak range p)
+]
+
 -- with another value
 pub does_value : {A B : Type 0} (P : Range → Type 0) (f : Images → List Write) (m n : List Bool) (a b : Seen) (x : A) (y : B)
     → Does P f m n a b (Ok x) → Does P f m n a b (Ok y)
-does_value P f m n a b x y h = record { ranges = h.ranges; only = h.only; own = h.own; marked = h.marked; held = leaves_value f a.held b.held x y h.held; account = h.account }
+does_value P f m n a b x y h = record { ranges = h.ranges; only = h.only; own = h.own; lie = h.lie; marked = h.marked; held = leaves_value f a.held b.held x y h.held; account = h.account }
 
 pub does_fault : {A B : Type 0} (P : Range → Type 0) (f : Images → List Write) (m n : List Bool) (a b : Seen) (e : MendFault)
     → Does {A = A} P f m n a b (Err e) → Does {A = B} P f m n a b (Err e)
-does_fault {A = A} {B = B} P f m n a b e h = record { ranges = h.ranges; only = h.only; own = h.own; marked = h.marked; held = leaves_other A B f a.held b.held e h.held; account = account_other A B P a b e h.account }
+does_fault {A = A} {B = B} P f m n a b e h = record { ranges = h.ranges; only = h.only; own = h.own; lie = h.lie; marked = h.marked; held = leaves_other A B f a.held b.held e h.held; account = account_other A B P a b e h.account }
 
 -- the same writes, said otherwise
 pub recast : {A : Type 0} (P : Range → Type 0) (f g : Images → List Write) (m n : List Bool) (a b : Seen) (r : Result A MendFault)
@@ -135,6 +143,7 @@ module _ (layout : Layout) (write : Bool) where
   scrubs_as {A = A} f g c d m n a b t u r same h = record {
     does = recast (IsOfScrub layout) (λ i. writes_if write (f i)) (λ i. writes_if write (g i)) [] [] (plain a) (plain b) r
         (λ images e. ap (writes_if write) (same images e).0) h.does;
+    waits = h.waits;
     marked = h.marked;
     stranded = h.stranded;
     counts = by r h.counts;
@@ -159,6 +168,10 @@ module _ (layout : Layout) (write : Bool) where
         (plain z) r (λ images e. if_append write (f images) (g images))
         (does_next A U (IsOfScrub layout) (λ i. writes_if write (f i)) (λ i. writes_if write (g i)) [] [] [] (plain a) (plain b) (plain z) x r
         (λ images e. ap (writes_if write) (same images e).0) h.does k.does);
+    waits = λ range i. elim (k.waits range i) as (λ _. In range (waiting a) ⊎ LiesInStripe layout range) [
+      | inl j ↦ h.waits range j
+      | inr p ↦ inr p
+    ];
     marked = λ all. k.marked (h.marked all);
     stranded = subst (λ never. Strands never z.never_synced r) h.stranded k.stranded;
     counts = by r k.counts;
@@ -178,6 +191,7 @@ module _ (layout : Layout) (write : Bool) where
     does = recast {A = B} (IsOfScrub layout) (λ i. writes_if write (f i) ++ writes_if write (g i)) (λ i. writes_if write (f i ++ g i)) [] [] (plain a)
         (plain b) (Err x) (λ images e. if_append write (f images) (g images))
         (does_cut A B (IsOfScrub layout) (λ i. writes_if write (f i)) (λ i. writes_if write (g i)) [] [] (plain a) (plain b) x h.does);
+    waits = h.waits;
     marked = h.marked;
     stranded = strands_same A B x a.never_synced b.never_synced h.stranded;
     counts = tt;
@@ -190,6 +204,7 @@ module _ (layout : Layout) (write : Bool) where
   scrubs_none marks a t x = record {
     does = recast (IsOfScrub layout) (λ i. []) (λ i. writes_if write []) [] [] (plain a) (plain a) (Ok x) (λ images e. none write)
         (does_reads (IsOfScrub layout) [] (plain a) (plain a) x (record { same = refl; later = omega arith; same_shut = refl }) (record { faults = refl; fresh = refl; missed = refl; last = refl; opening = refl; shut = refl }));
+    waits = λ range i. inl i;
     marked = λ all. all;
     stranded = refl;
     counts = tell a.held (λ images. t ≡ t) (λ images e. refl);
@@ -205,6 +220,7 @@ pub scrubs_nothing : (layout : Layout) (write : Bool) (marks : List Bool) (a : S
     → Scrubs {A = Unit {0}} layout write (λ i. []) (λ i y. y) marks marks a a t t (Err Memory)
 scrubs_nothing layout write marks a t = record {
   does = does_failed (IsOfScrub layout) (Unit {0}) (Unit {0}) (λ i. writes_if write []) [] (plain a) (plain a) Memory (record { same = refl; later = omega arith; same_shut = refl }) (record { faults = refl; fresh = refl; missed = refl; last = refl; opening = refl; shut = refl });
+  waits = λ range i. inl i;
   marked = λ all. all;
   stranded = refl;
   counts = tt;
@@ -226,6 +242,7 @@ module _ (layout : Layout) (write : Bool) (t : Target) (m n : List Bool) (a b : 
   scrubs_block tally tally' mended h e = record {
     does = does_value (IsOfScrub layout) the_writes [] [] (plain a) (plain b) mended tt
         (does_plain (IsOfCopy t) (IsOfScrub layout) the_writes m n a b (Ok mended) in_scrub h.does);
+    waits = waits_weaker (IsOfCopy t) (LiesInStripe layout) a b in_stripe (waits_at (IsOfCopy t) the_writes m n a b (Ok mended) h.does);
     marked = marked_after (IsOfCopy t) the_writes m n a b (Ok mended) h.does;
     stranded = strands_none {A = Unit {0}} (Ok tt) a.never_synced b.never_synced (same_never (IsOfCopy t) the_writes m n a b (Ok mended) h.does);
     counts = tell a.held (λ images. tally' ≡ count_block images write tally t)
@@ -238,6 +255,7 @@ module _ (layout : Layout) (write : Bool) (t : Target) (m n : List Bool) (a b : 
   scrubs_block_not tally fault h = record {
     does = does_fault {A = Mended} {B = Unit {0}} (IsOfScrub layout) the_writes [] [] (plain a) (plain b) fault
         (does_plain {A = Mended} (IsOfCopy t) (IsOfScrub layout) the_writes m n a b (Err fault) in_scrub h.does);
+    waits = waits_weaker (IsOfCopy t) (LiesInStripe layout) a b in_stripe (waits_at {A = Mended} (IsOfCopy t) the_writes m n a b (Err fault) h.does);
     marked = marked_after {A = Mended} (IsOfCopy t) the_writes m n a b (Err fault) h.does;
     stranded = strands_none {A = Unit {0}} (Err fault) a.never_synced b.never_synced
         (same_never {A = Mended} (IsOfCopy t) the_writes m n a b (Err fault) h.does);

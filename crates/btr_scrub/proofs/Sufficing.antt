@@ -11,11 +11,12 @@ use Rattle.btr_rack.proofs.Reading.{reads_more}
 use Rattle.btr_read.specs.Layout.{Layout}
 use Rattle.btr_read.specs.declared.want.Want.{Want}
 use Rattle.btr_scrub_copies.specs.Syncing.{Strands, plain}
+use Rattle.btr_scrub_copies.specs.Turns.{waiting}
 use Rattle.btr_scrub_copies.specs.Writes.{AccountsMend, Images, Write, writes_if}
 use Rattle.btr_scrub_copies.specs.declared.mended.MendFault.{MendFault}
 use Rattle.btr_scrub_copies.specs.declared.mended.MendFault.TheVariants.{Image, Memory}
 use Rattle.btr_scrub_copies.proofs.Doing.{does_behind, does_failed}
-use Rattle.btr_scrub_copies.proofs.Turning.{reads_plain, strands_none}
+use Rattle.btr_scrub_copies.proofs.Turning.{read_at, reads_plain, strands_none}
 use Rattle.btr_scrub.specs.Doubts.{failing}
 use Rattle.btr_scrub.specs.Glue.{In}
 use Rattle.btr_scrub.specs.Judged.{Suffices, some_parity}
@@ -28,7 +29,7 @@ use Rattle.btr_scrub.specs.Scrubbing.{chunk_writes_for, rows_count, rows_writes}
 use Rattle.btr_scrub.specs.Whole.{listed_columns, listed_count_for, listed_writes_for}
 use Rattle.btr_scrub.specs.declared.tally.Tally.{Tally}
 use Rattle.btr_scrub.proofs.Scrubbing.{told}
-use Rattle.btr_scrub.proofs.Working.{works_as}
+use Rattle.btr_scrub.proofs.Working.{waits_before, works_as}
 
 -- ---- columns that are kept alike
 
@@ -141,6 +142,7 @@ module _ (layout : Layout) (write : Bool) (f : Images → List Write) (c : Image
     does = does_behind (IsOfScrub layout) (λ i. writes_if write (f i)) [] [] (plain a) (plain b) (plain z) r (reads_plain a b reads) none h.does;
     counts = subst (λ held. OnOk r (IfSome held (λ images. u ≡ c images t))) (ap (λ (s : Seen). s.held) reads.same) h.counts;
     synced = subst (λ waits. OnOk r (waits ≡ [] → z.unsynced ≡ [])) (ap (λ (s : Seen). s.unsynced) reads.same) h.synced;
+    waits = λ none. waits_before layout a b z (λ range i. subst (In range) (ap waiting reads.same) i) (h.waits (ap (λ (s : Seen). s.unsynced) reads.same ∙ none));
     stranded = subst (λ never. Strands never z.never_synced r) (ap (λ (s : Seen). s.never_synced) reads.same) h.stranded;
     unwritten = λ w. reads_more reads (h.unwritten w);
   }
@@ -164,6 +166,7 @@ module _ (layout : Layout) (write : Bool) (f : Images → List Write) (c : Image
         (account_scrub B e account);
     counts = tt;
     synced = tt;
+    waits = λ none. inl (read_at a b reads (λ range. ⊥));
     stranded = strands_none {A = Unit {0}} (Err e) a.never_synced b.never_synced (ap (λ (s : Seen). s.never_synced) reads.same);
     unwritten = λ w. reads;
   }

@@ -1,12 +1,12 @@
 -- Chunk after chunk, each with its syncs.
-use Rattle.std.proofs.Common.{◌≡◌, ℕ, zero, suc, ◌+◌, ◌<◌, ◌≤◌, Bool, true, false, cond, ◌&&◌, eqb, leb, ltb, ◌/◌, List, [], ◌∷◌, ◌++◌, length, take, drop}
+use Rattle.std.proofs.Common.{◌≡◌, ◌⊎◌, get_or, ℕ, zero, suc, ◌+◌, ◌<◌, ◌≤◌, Bool, true, false, cond, ◌&&◌, eqb, leb, ltb, ◌/◌, List, [], ◌∷◌, ◌++◌, length, take, drop}
 use Rattle.std.proofs.Common.{slice_get, Option, Some, None, is_none, IfSome, IsSomeAnd, OnOk, Result, Ok, Err, refl, sym, ap, ◌∙◌, subst, inl, inr, arith}
 use Rattle.std.proofs.Common.{append-nil, append_assoc, add-one}
 use Rattle.std.proofs.lemmas.Bool.{false≢true, and_parts, cases_lt, cases_order, eqb-true, leb-true, ltb-true}
 use Rattle.std.proofs.lemmas.Grind.{flat_map-append}
 use Rattle.std.proofs.lemmas.List.{take-append-drop}
 use Rattle.std.proofs.lemmas.List.Elements.{filter-append, filter_map-append}
-use Rattle.std.proofs.lemmas.Option.{same_Some}
+use Rattle.std.proofs.lemmas.Option.{same_Some, slice_get_within}
 use Rattle.std.specs.List.{filter, fold, range_with_len}
 use Rattle.btr_chunk.specs.Chunk.{mirrors, stripe_length}
 use Rattle.btr_chunk.specs.Table.{IsTable}
@@ -21,17 +21,19 @@ use Rattle.btr_read.specs.Layout.{Layout}
 use Rattle.btr_read.specs.Want.{addr_of}
 use Rattle.btr_read.specs.declared.want.Want.{Want}
 use Rattle.btr_read.proofs.Fates.{sought_of}
+use Rattle.btr_read.proofs.Ones.{in_either, in_right}
 use Rattle.btr_read.proofs.Serving.{serves_as}
 use Rattle.btr_read.specs.Store.{Blocks}
 use Rattle.btr_scrub_copies.specs.Syncing.{AreMarked, OnlySyncs, Strands, SyncsMarked, WaitsBehindAll, plain}
-use Rattle.btr_scrub_copies.specs.Writes.{AreWritable, Images, Write, writes_if, write_on}
+use Rattle.btr_scrub_copies.specs.Turns.{WaitsAt, waiting}
+use Rattle.btr_scrub_copies.specs.Writes.{AreAmong, AreWritable, Images, Write, writes_if, write_on}
 use Rattle.btr_scrub_copies.specs.declared.mended.MendFault.{MendFault}
 use Rattle.btr_scrub_copies.specs.declared.mended.MendFault.TheVariants.{Image, Memory}
 use Rattle.btr_scrub_copies.proofs.Doing.{does_failed, does_reads}
 use Rattle.btr_scrub_copies.proofs.Syncs.{sync_held, sync_slots}
-use Rattle.btr_scrub_copies.proofs.Turning.{does_sync, marked_below}
+use Rattle.btr_scrub_copies.proofs.Turning.{among_synced, does_sync, marked_below}
 use Rattle.btr_scrub.specs.Glue.{In}
-use Rattle.btr_scrub.specs.Leaves.{LiesInStripe}
+use Rattle.btr_scrub.specs.Leaves.{LiesInChunk, LiesInStripe, WaitsInOne, alone}
 use Rattle.btr_scrub.specs.Order.{AreApart, targets}
 use Rattle.btr_scrub.specs.Repair.{is_in_chunk, is_in_row, ok_or_none, row_of, rows_in}
 use Rattle.btr_scrub.specs.Scrubbing.{CanMend, IsOfScrub, IsPastChunk, Scrubs, Works, all_count_for, all_writes_for, blocks_count, blocks_in, blocks_writes}
@@ -39,9 +41,11 @@ use Rattle.btr_scrub.specs.Scrubbing.{chunk_count_for, chunk_writes_for, rows_co
 use Rattle.btr_scrub.specs.declared.tally.Tally.{Tally}
 use Rattle.btr_scrub.proofs.Blockwise.{filter_none, fold_append, in_append, ok_of}
 use Rattle.btr_scrub.proofs.Firsts.{drop_one}
-use Rattle.btr_scrub.proofs.Positions.{is_sought}
+use Rattle.btr_scrub.proofs.Positions.{alone_lies, is_sought}
 use Rattle.btr_scrub.proofs.RowAgreeing.{map_same}
-use Rattle.btr_scrub.proofs.Scrubbing.{IsUnmoved, does_cut, does_next, held_after, if_append, recast, tell, told}
+use Rattle.btr_scrub.proofs.Scrubbing.{IsUnmoved, does_cut, does_next, does_weaker, held_after, if_append, recast, tell, told, waits_weaker}
+use Rattle.btr_scrub.proofs.Some.{any_at}
+use Rattle.btr_scrub.proofs.Stripes.{any_of}
 use Rattle.btr_scrub.specs.Plain.{KeptColumns}
 
 -- ---- one chunk
@@ -50,7 +54,15 @@ nothing : {X : Type 0} (xs : List X) → ((x : X) → In x xs → ⊥) → xs �
 nothing [] h = refl
 nothing (x ∷ xs) h = absurd (h x (inl refl))
 
-module _ (layout : Layout) (write : Bool) where
+-- what waits where there is one chunk alone
+in_alone : (whole : Layout) (chunk : Chunk) (a b : Seen) → WaitsAt (LiesInStripe (alone whole chunk)) a b → WaitsInOne (alone whole chunk) a b
+in_alone whole chunk a b h = inr (any_at (λ c. WaitsAt (LiesInChunk whole c) a b) (chunk ∷ []) 0 chunk (omega arith) refl
+    (waits_weaker (LiesInStripe (alone whole chunk)) (LiesInChunk whole chunk) a b (alone_lies whole chunk) h))
+
+module _ (whole : Layout) (chunk : Chunk) (write : Bool) where
+  abbrev layout : Layout
+  layout = alone whole chunk
+
   -- nothing waits behind the syncs of all images that are marked
   none_waits : (m n : List Bool) (b z : Seen) (x : Unit {0}) → SyncsMarked m n b z (Ok x) → AreMarked m b.unsynced → z.unsynced ≡ []
   none_waits m n b z x s all = nothing z.unsynced (λ range i.
@@ -69,6 +81,7 @@ module _ (layout : Layout) (write : Bool) where
         h.does (does_sync (LiesInStripe layout) m' n b z r s));
     counts = counted r;
     synced = waits r s;
+    waits = λ none. in_alone whole chunk a z (λ range i. h.waits range (among_synced m' n b z r s range i));
     stranded = strands r s.synced;
     unwritten = λ w. absurd (false≢true (sym w ∙ writing));
   }
@@ -96,6 +109,7 @@ module _ (layout : Layout) (write : Bool) where
     does = h.does;
     counts = h.counts;
     synced = λ none. ap (λ (s : Seen). s.unsynced) (h.unwritten reading).same ∙ none;
+    waits = λ none. in_alone whole chunk a b h.waits;
     stranded = ap (λ (s : Seen). s.never_synced) (h.unwritten reading).same;
     unwritten = h.unwritten;
   }
@@ -107,11 +121,51 @@ module _ (layout : Layout) (write : Bool) where
     does = h.does;
     counts = tt;
     synced = tt;
+    waits = λ none. in_alone whole chunk a b h.waits;
     stranded = h.stranded;
     unwritten = h.unwritten;
   }
 
-  -- ---- one after another
+-- ---- one after another
+
+-- what waits behind a call waits behind it and those before, behind which no more waited
+pub waits_before : (layout : Layout) (a b z : Seen) → AreAmong (waiting b) (waiting a) → WaitsInOne layout b z → WaitsInOne layout a z
+waits_before layout a b z among (inl w) = inl (λ range i. elim (w range i) as (λ _. In range (waiting a) ⊎ ⊥) [
+  | inl j ↦ inl (among range j)
+  | inr f ↦ absurd f
+])
+waits_before layout a b z among (inr w) = inr (any_of (λ chunk. WaitsAt (LiesInChunk layout chunk) b z) (λ chunk. WaitsAt (LiesInChunk layout chunk) a z)
+    layout.chunks (λ chunk h range i. elim (h range i) as (λ _. In range (waiting a) ⊎ LiesInChunk layout chunk range) [
+      | inl j ↦ inl (among range j)
+      | inr p ↦ inr p
+    ]) w)
+
+module _ (layout : Layout) (write : Bool) where
+  -- a chunk of the table was mended
+  pub works_alone : {A : Type 0} (k : ℕ) (chunk : Chunk) → slice_get layout.chunks k ≡ Some chunk → (f : Images → List Write) (c : Images → Tally → Tally) (a b : Seen)
+      (t u : Tally) (r : Result A MendFault) → Works (alone layout chunk) write f c a b t u r → Works layout write f c a b t u r
+  works_alone k chunk there f c a b t u r h = record {
+    does = does_weaker (IsOfScrub (alone layout chunk)) (IsOfScrub layout) (λ i. writes_if write (f i)) [] [] (plain a) (plain b) r
+        (λ range s. elim s as (λ _. IsOfScrub layout range) [
+          | inl sync ↦ inl sync
+          | inr lies ↦ inr (any_at (λ c. LiesInChunk layout c range) layout.chunks k chunk (slice_get_within layout.chunks k chunk there) there
+              (alone_lies layout chunk range lies))
+        ]) h.does;
+    counts = h.counts;
+    synced = h.synced;
+    waits = λ none. wider (h.waits none);
+    stranded = h.stranded;
+    unwritten = h.unwritten;
+  }
+    where
+      wider : WaitsInOne (alone layout chunk) a b → WaitsInOne layout a b
+      wider (inl w) = inl w
+      wider (inr w) = inr (any_at (λ c. WaitsAt (LiesInChunk layout c) a b) layout.chunks k chunk (slice_get_within layout.chunks k chunk there) there
+          (at w.0 w.1 w.2 w.3 w.4))
+        where
+          at : (i : ℕ) (c : Chunk) → i < 1 → get_or (chunk ∷ []) i c ≡ c → WaitsAt (LiesInChunk layout c) a b → WaitsAt (LiesInChunk layout chunk) a b
+          at zero c lt same h = subst (λ d. WaitsAt (LiesInChunk layout d) a b) (sym same) h
+          at (suc i) c lt same h = absurd (omega (arith, lt))
 
   pub works_as : (f g : Images → List Write) (c d : Images → Tally → Tally) (a b : Seen) (t u : Tally) (r : Result (Unit {0}) MendFault)
       → ((images : Images) → a.held ≡ Some images → (f images ≡ g images) × (c images t ≡ d images t)) → Works layout write f c a b t u r
@@ -121,6 +175,7 @@ module _ (layout : Layout) (write : Bool) where
         (λ images e. ap (writes_if write) (same images e).0) h.does;
     counts = by r h.counts;
     synced = h.synced;
+    waits = h.waits;
     stranded = h.stranded;
     unwritten = h.unwritten;
   }
@@ -139,6 +194,7 @@ module _ (layout : Layout) (write : Bool) where
         (plain z) x r (λ images e. ap (writes_if write) (same images e).0) h.does k.does);
     counts = by r k.counts;
     synced = waits r k.synced;
+    waits = λ none. waits_before layout a b z (no_more (h.synced none)) (k.waits (h.synced none));
     stranded = subst (λ never. Strands never z.never_synced r) h.stranded k.stranded;
     unwritten = λ w. reads_more (h.unwritten w) (k.unwritten w);
   }
@@ -149,6 +205,12 @@ module _ (layout : Layout) (write : Bool) where
           told b.held (λ images. v ≡ d images u) (fold write_on images (writes_if write (f images))) after l
           ∙ (same images e).1 u ∙ ap (d images) (told a.held (λ images. u ≡ c images t) images e h.counts))
       by (Err y) l = tt
+
+      no_more : b.unsynced ≡ [] → AreAmong (waiting b) (waiting a)
+      no_more none range i = elim (in_either range b.unsynced b.never_synced i) as (λ _. In range (waiting a)) [
+        | inl j ↦ absurd (subst (In range) none j)
+        | inr j ↦ in_right range a.unsynced a.never_synced (subst (In range) h.stranded j)
+      ]
 
       waits : (r : Result (Unit {0}) MendFault) → OnOk r (b.unsynced ≡ [] → z.unsynced ≡ []) → OnOk r (a.unsynced ≡ [] → z.unsynced ≡ [])
       waits (Ok y) l = λ none. l (h.synced none)
@@ -162,6 +224,7 @@ module _ (layout : Layout) (write : Bool) where
         (does_cut (Unit {0}) (Unit {0}) (IsOfScrub layout) (λ i. writes_if write (f i)) (λ i. writes_if write (g i)) [] [] (plain a) (plain b) x h.does);
     counts = tt;
     synced = tt;
+    waits = h.waits;
     stranded = h.stranded;
     unwritten = h.unwritten;
   }
@@ -172,6 +235,7 @@ module _ (layout : Layout) (write : Bool) where
         (does_reads (IsOfScrub layout) [] (plain a) (plain a) tt (record { same = refl; later = omega arith; same_shut = refl }) (record { faults = refl; fresh = refl; missed = refl; last = refl; opening = refl; shut = refl }));
     counts = tell a.held (λ images. t ≡ t) (λ images e. refl);
     synced = λ none. none;
+    waits = λ none. inl (λ range i. inl i);
     stranded = refl;
     unwritten = λ w. record { same = refl; later = omega arith; same_shut = refl };
   }
@@ -384,6 +448,7 @@ works_nothing layout write f c a t = record {
   does = does_failed (IsOfScrub layout) (Unit {0}) (Unit {0}) (λ i. writes_if write (f i)) [] (plain a) (plain a) Memory (record { same = refl; later = omega arith; same_shut = refl }) (record { faults = refl; fresh = refl; missed = refl; last = refl; opening = refl; shut = refl });
   counts = tt;
   synced = tt;
+  waits = λ none. inl (λ range i. inl i);
   stranded = refl;
   unwritten = λ w. record { same = refl; later = omega arith; same_shut = refl };
 }

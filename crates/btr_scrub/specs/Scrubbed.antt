@@ -1,5 +1,5 @@
 -- What a call of scrub answers, and what stands in the images behind it, whatever failed.
-use Rattle.std.specs.Prelude.{◌≡◌, ◌⊎◌, ℕ, ◌≤◌, Bool, false, List, map, None, IfSome, IsSomeAnd, Result, Ok, Err, ⊤}
+use Rattle.std.specs.Prelude.{◌≡◌, ◌⊎◌, ℕ, ◌≤◌, Bool, false, List, [], map, None, IfSome, IsSomeAnd, Result, Ok, Err, ⊤}
 use Rattle.std.specs.List.{All}
 use Rattle.btr_scrub_copies.specs.Writes.{Images, IsStopped, Write}
 use Rattle.btr_rack.specs.Rack.{OnlyReads, Rose, Seen, Steady}
@@ -10,7 +10,7 @@ use Rattle.btr_volume.specs.declared.volume.Volume.{Volume}
 use Rattle.btr_walk.specs.declared.fault.TreeFault.{TreeFault}
 use Rattle.btr_walk.specs.declared.fault.TreeFault.TheVariants as tree
 use Rattle.btr_scrub.specs.Filesystem.{Filesystem}
-use Rattle.btr_scrub.specs.Leaves.{KeepsOutside}
+use Rattle.btr_scrub.specs.Leaves.{KeepsOutside, WaitsInOne}
 use Rattle.btr_scrub.specs.Repair.{blocks, effect}
 use Rattle.btr_scrub.specs.Right.{Committed, IsRepairable, RangesLieInWrong, RangesMayHoldAnything, StandsFor}
 use Rattle.btr_scrub.specs.Scrubbing.{IsOfScrub}
@@ -92,13 +92,14 @@ pub record IsImageFault (c : Called) (slot : ℕ) : Type 0 where
   pub on_slot : c.new.account.last.slot ≡ slot
   pub place : IsOfScrub c.fs.layout c.new.account.last
 
--- Scrub as a whole, at every exit.
+-- Scrub as a whole, at every exit. Where nothing waited for a sync before, what does then lies in stripes of one chunk.
 pub record IsScrubbed (c : Called) : Type 0 where
   pub answers : IsSure c → OfImages c (λ images left. AnswersAs c images left c.result)
   pub left : IsSure c → OfImages c (λ images left. IsLeftBy (effect c.write images c.fs).writes images left)
   pub reads : ReadsAt c c.result
   pub unwritten : c.write ≡ false → OnlyReads c.old c.new
   pub image : (slot : ℕ) → c.result ≡ Err (stop.Image slot) → IsImageFault c slot
+  pub waits : c.old.unsynced ≡ [] → WaitsInOne c.fs.layout c.old c.new
 
 -- Whatever bytes stand in the ranges that are written, each checked block can be had, and nothing right lies there; so
 -- each can be had from what is left, whatever failed.

@@ -14,6 +14,7 @@ use Rattle.btr_read.specs.declared.want.Want.{Want}
 use Rattle.btr_scrub_copies.specs.Blocks.{block_writes}
 use Rattle.btr_scrub_copies.specs.Mending.{mended_of}
 use Rattle.btr_scrub_copies.specs.Syncing.{AreMarked, IsSyncOr, Strands, plain}
+use Rattle.btr_scrub_copies.specs.Turns.{WaitsAt}
 use Rattle.btr_scrub_copies.specs.Writes.{AreWritable, Does, Images, Write, writes_if}
 use Rattle.btr_scrub_copies.specs.declared.mended.MendFault.{MendFault}
 use Rattle.btr_scrub_copies.specs.declared.mended.Mended.{Mended}
@@ -23,7 +24,7 @@ use Rattle.btr_scrub_row.specs.declared.buffer.RowBuffer.{RowBuffer}
 use Rattle.btr_scrub_row.specs.Rows.{Row, row_writes}
 use Rattle.btr_scrub_row.specs.declared.mended.MendedRow.{MendedRow}
 use Rattle.btr_scrub.specs.Glue.{In}
-use Rattle.btr_scrub.specs.Leaves.{LiesInStripe}
+use Rattle.btr_scrub.specs.Leaves.{LiesInStripe, WaitsInOne, alone}
 use Rattle.btr_scrub.specs.Order.{AreApart, targets}
 use Rattle.btr_scrub.specs.Plain.{KeptColumns}
 use Rattle.btr_scrub.specs.Repair.{first_missing, is_in_chunk, rows_in, stood}
@@ -68,10 +69,11 @@ abbrev pub IsOfScrub : Layout → Range → Type 0
 IsOfScrub layout = IsSyncOr (LiesInStripe layout)
 
 -- Images were read and written, and synced within a full stripe: exactly the writes that follow from
--- what they held, or those up to a call that failed. What follows from what they held was counted. Where
--- all that waited for a sync was marked, it is.
+-- what they held, or those up to a call that failed. What follows from what they held was counted. What
+-- waits for a sync then waited before, or lies in a stripe; where all that waited was marked, it is.
 pub record Scrubs {A : Type 0} (layout : Layout) (write : Bool) (writes : Images → List Write) (count : Images → Tally → Tally) (marks marks' : List Bool) (old new : Seen) (tally tally' : Tally) (result : Result A MendFault) : Type 0 where
   pub does : Does (IsOfScrub layout) (λ images. writes_if write (writes images)) [] [] (plain old) (plain new) result
+  pub waits : WaitsAt (LiesInStripe layout) old new
   pub marked : AreMarked marks old.unsynced → AreMarked marks' new.unsynced
   pub stranded : Strands old.never_synced new.never_synced result
   pub counts : OnOk result (IfSome old.held (λ images. tally' ≡ count images tally))
@@ -117,7 +119,7 @@ PassesChunk layout number old new = (chunk : Chunk) → slice_get layout.chunks 
 -- exactly the writes that are its own were made, or those up to one that failed, and what it counts was counted
 abbrev pub ScrubsChunk : {A : Type 0} → Layout → ℕ → Bool → (Chunk → Images → List Write) → (Chunk → Images → Tally → Tally) → List Bool → List Bool → Seen → Seen → Tally → Tally → Result A MendFault → Type 0
 ScrubsChunk layout number write writes count marks marks' old new tally tally' result =
-    (chunk : Chunk) → slice_get layout.chunks number ≡ Some chunk → Scrubs layout write (writes chunk) (count chunk) marks marks' old new tally tally' result
+    (chunk : Chunk) → slice_get layout.chunks number ≡ Some chunk → Scrubs (alone layout chunk) write (writes chunk) (count chunk) marks marks' old new tally tally' result
 
 -- ---- chunks with parity
 
@@ -173,18 +175,19 @@ all_count_for kept layout write chunks wants images tally = fold (λ tally chunk
 -- ---- with syncs
 
 -- Images were read, written and synced: exactly the writes that follow from what they held, or those up to a call that
--- failed. Where nothing waited for a sync nothing does.
+-- failed. Where nothing waited for a sync nothing does at the end, and at a halt what lies in stripes of one chunk.
 pub record Works {A : Type 0} (layout : Layout) (write : Bool) (writes : Images → List Write) (count : Images → Tally → Tally) (old new : Seen) (tally tally' : Tally) (result : Result A MendFault) : Type 0 where
   pub does : Does (IsOfScrub layout) (λ images. writes_if write (writes images)) [] [] (plain old) (plain new) result
   pub counts : OnOk result (IfSome old.held (λ images. tally' ≡ count images tally))
   pub synced : OnOk result (old.unsynced ≡ [] → new.unsynced ≡ [])
+  pub waits : old.unsynced ≡ [] → WaitsInOne layout old new
   pub stranded : Strands old.never_synced new.never_synced result
   pub unwritten : write ≡ false → OnlyReads old new
 
 -- the same for the chunk of a number
 abbrev pub WorksChunk : {A : Type 0} → Layout → ℕ → Bool → (Chunk → Images → List Write) → (Chunk → Images → Tally → Tally) → Seen → Seen → Tally → Tally → Result A MendFault → Type 0
 WorksChunk layout number write writes count old new tally tally' result =
-    (chunk : Chunk) → slice_get layout.chunks number ≡ Some chunk → Works layout write (writes chunk) (count chunk) old new tally tally' result
+    (chunk : Chunk) → slice_get layout.chunks number ≡ Some chunk → Works (alone layout chunk) write (writes chunk) (count chunk) old new tally tally' result
 
 -- a buffer has room for each full stripe of the table
 abbrev pub HasRooms : Layout → RowBuffer → Type 0

@@ -5,6 +5,7 @@ ghost use Rattle.btr_read.specs.Fate.{sought};
 ghost use Rattle.btr_read.specs.Store.{SameLoans};
 ghost use Rattle.btr_scrub_copies.specs.Blocks.{block_writes};
 ghost use Rattle.btr_scrub_copies.specs.Mending.{IsCopied};
+ghost use Rattle.btr_scrub.specs.Leaves.{alone};
 ghost use Rattle.btr_scrub.specs.Scrubbing.{CanMend, CopiesComeNext, GivesBelow, PassesChunk, Scrubs, ScrubsChunk, blocks_count, blocks_in, blocks_writes, count_block, counted};
 
 use crate::reader::Reader;
@@ -54,7 +55,7 @@ fn mend_block<R: Rack>(
     ensures ready { CanMend write (R.seen rack.new) store.new marks.new }
     ensures loans { SameLoans store.old store.new }
     ensures scrubs { (t : Target) → sought store.old.layout want.now ≡ Ok t
-        → Scrubs store.old.layout write (λ images. block_writes images t)
+        → Scrubs (alone store.old.layout t.chunk) write (λ images. block_writes images t)
         (λ images tally. count_block images write tally t)
         marks.old marks.new (R.seen rack.old) (R.seen rack.new) tally.old tally.new result }
 {

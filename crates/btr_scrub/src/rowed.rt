@@ -7,6 +7,7 @@ ghost use Rattle.btr_read.specs.Store.{SameLoans};
 ghost use Rattle.btr_read.specs.Want.{addr_of};
 ghost use Rattle.btr_scrub_row.specs.Mending.{AreKept, IsRow, IsRowOf, mended_row};
 ghost use Rattle.btr_scrub_row.specs.Rows.{Row, row_writes};
+ghost use Rattle.btr_scrub.specs.Leaves.{alone};
 ghost use Rattle.btr_scrub.specs.Order.{targets};
 ghost use Rattle.btr_scrub.specs.Judged.{kept_beside};
 ghost use Rattle.btr_scrub.specs.Repair.{rows_in};
@@ -142,7 +143,7 @@ fn mend_collected<R: Rack>(
     ensures loans { SameLoans store.old store.new }
     ensures rooms { HasRooms store.old.layout room.new.buffer }
     ensures scrubs { (r : Row) → IsRowOf store.old.layout at.chunk at.number room.old.wants.items r → AreKept at.kept r
-        → Scrubs store.old.layout write (λ images. row_writes images store.old.layout r)
+        → Scrubs (alone store.old.layout r.chunk) write (λ images. row_writes images store.old.layout r)
         (λ images tally. counted_row tally (length r.blocks) (mended_row images store.old.layout r write))
         marks.old marks.new (R.seen rack.old) (R.seen rack.new) tally.old tally.new result }
 {

@@ -188,6 +188,7 @@ module _ (P : Range → Type 0) where
     ranges = [];
     only = only_reads reads;
     own = own_none a.held (λ i. []);
+    lie = λ range i. absurd i;
     marked = marks_none marks;
     held = leaves_none a.held b.held x (ap (λ (s : Seen). s.held) reads.same);
     account = none;
@@ -203,6 +204,7 @@ module _ (P : Range → Type 0) where
     ranges = [];
     only = only_reads reads;
     own = own_none a.held f;
+    lie = λ range i. absurd i;
     marked = marks_none marks;
     held = leaves_failed A f a.held b.held x (ap (λ (s : Seen). s.held) reads.same);
     account = account_halt B A P a b x account;
@@ -214,6 +216,7 @@ module _ (P : Range → Type 0) where
     ranges = h.ranges ++ g.ranges;
     only = only_then h.ranges g.ranges h.only g.only;
     own = own_then ws vs h.ranges g.ranges a.held b.held u h.held h.own g.own;
+    lie = λ range i. elim (in_either range h.ranges g.ranges i) [ inl j ↦ h.lie range j | inr j ↦ g.lie range j ];
     marked = marks_then h.ranges g.ranges m n o h.marked g.marked;
     held = leaves_then A U ws vs a.held b.held c.held u r h.held g.held;
     account = account_then P a b c r (only_sure h.ranges h.only) h.account g.account;
@@ -225,6 +228,7 @@ module _ (P : Range → Type 0) where
     ranges = h.ranges;
     only = h.only;
     own = own_halt ws vs h.ranges a.held h.own;
+    lie = h.lie;
     marked = h.marked;
     held = leaves_halt A B ws vs a.held b.held e h.held;
     account = account_halt A B P a b e h.account;
@@ -233,11 +237,11 @@ module _ (P : Range → Type 0) where
   -- the same writes, said otherwise
   pub does_as : {A B : Type 0} (f g : Images → List Write) (m n : List Bool) (a b : Seen) (x : A) (y : B)
       → ((images : Images) → a.held ≡ Some images → f images ≡ g images) → Does P f m n a b (Ok x) → Does P g m n a b (Ok y)
-  does_as f g m n a b x y e h = record { ranges = h.ranges; only = h.only; own = own_as f g h.ranges a.held e h.own; marked = h.marked; held = leaves_as f g a.held b.held x y e h.held; account = h.account }
+  does_as f g m n a b x y e h = record { ranges = h.ranges; only = h.only; own = own_as f g h.ranges a.held e h.own; lie = h.lie; marked = h.marked; held = leaves_as f g a.held b.held x y e h.held; account = h.account }
 
   pub does_as_halt : (A B : Type 0) (f g : Images → List Write) (m n : List Bool) (a b : Seen) (x : MendFault)
       → ((images : Images) → a.held ≡ Some images → f images ≡ g images) → Does {A = A} P f m n a b (Err x) → Does {A = B} P g m n a b (Err x)
-  does_as_halt A B f g m n a b x e h = record { ranges = h.ranges; only = h.only; own = own_as f g h.ranges a.held e h.own; marked = h.marked; held = leaves_as_halt A B f g a.held b.held x e h.held; account = account_halt A B P a b x h.account }
+  does_as_halt A B f g m n a b x e h = record { ranges = h.ranges; only = h.only; own = own_as f g h.ranges a.held e h.own; lie = h.lie; marked = h.marked; held = leaves_as_halt A B f g a.held b.held x e h.held; account = account_halt A B P a b x h.account }
 
   -- reads before
   pub does_behind : {A : Type 0} (f : Images → List Write) (m n : List Bool) (a b c : Seen) (r : Result A MendFault) → OnlyReads a b
@@ -246,6 +250,7 @@ module _ (P : Range → Type 0) where
     ranges = h.ranges;
     only = only_then [] h.ranges (only_reads reads) h.only;
     own = subst (λ o. IfSome o (λ images. AreAmong h.ranges (ranges_of (f images)))) (same_held reads) h.own;
+    lie = h.lie;
     marked = h.marked;
     held = subst (λ o. Leaves f o c.held r) (same_held reads) h.held;
     account = account_then P a b c r (same_sure reads) none h.account;

@@ -24,7 +24,7 @@ use Rattle.btr_read.specs.declared.want.Want.{Want}
 use Rattle.btr_read.proofs.Fates.{sought_of}
 use Rattle.btr_scrub_copies.specs.Blocks.{copy_writes}
 use Rattle.btr_scrub_copies.specs.Mending.{IsOfCopy, Overwrites}
-use Rattle.btr_scrub_copies.specs.Writes.{AreAmong, Does, Images, IsMarked, IsStopped, Leaves, Marks, Write, ranges_of}
+use Rattle.btr_scrub_copies.specs.Writes.{AreAmong, Does, Images, In, IsMarked, IsStopped, Leaves, Marks, Write, ranges_of}
 use Rattle.btr_scrub_copies.specs.declared.mended.MendFault.{MendFault}
 use Rattle.btr_scrub_copies.specs.declared.mended.MendFault.TheVariants.{Image, Memory}
 
@@ -97,6 +97,10 @@ module _ (t : Target) (m : ℕ) (bytes : List ℕ) (place : Range) (marks : List
     ];
   }
 
+  own_lies : (range : Range) → In range (place ∷ []) → IsOfCopy t range
+  own_lies range (inl e) = subst (IsOfCopy t) e of_copy
+  own_lies range (inr i) = absurd i
+
   module _ (A : Type 0) where
     leaves_ok : (held left : Option Images) (x : Unit {0}) (y : A) → Writes {T = Unit {0}} place.slot place.off bytes held left (Ok x)
         → Leaves {A = A} {E = MendFault} (λ i. the_write ∷ []) held left (Ok y)
@@ -120,6 +124,7 @@ module _ (t : Target) (m : ℕ) (bytes : List ℕ) (place : Range) (marks : List
         ranges = place ∷ [];
         only = record { same = same_place; later = omega (arith, account.faults); same_shut = account.shut };
         own = own_one a.held;
+        lie = own_lies;
         marked = marked;
         held = leaves_ok a.held b.held x y held;
         account = account;
@@ -132,6 +137,7 @@ module _ (t : Target) (m : ℕ) (bytes : List ℕ) (place : Range) (marks : List
         ranges = place ∷ [];
         only = record { same = same_place; later = account.0.faults.0; same_shut = account.2 };
         own = own_one a.held;
+        lie = own_lies;
         marked = marked;
         held = leaves_err a.held b.held error.Failed (Image place.slot) held;
         account = record {
@@ -149,6 +155,7 @@ module _ (t : Target) (m : ℕ) (bytes : List ℕ) (place : Range) (marks : List
         ranges = place ∷ [];
         only = record { same = same_place; later = omega (arith, account.faults); same_shut = account.shut };
         own = own_one a.held;
+        lie = own_lies;
         marked = marked;
         held = leaves_err a.held b.held error.Memory Memory held;
         account = account;

@@ -10,7 +10,7 @@ use Rattle.btr_rack.specs.declared.place.Place.{Place as Range}
 use Rattle.btr_read.proofs.Ones.{in_either, in_left, in_right}
 use Rattle.btr_read.proofs.ReadsOn.{same_held}
 use Rattle.btr_scrub_copies.specs.Syncing.{AreMarked, IsSync, IsSyncOr, OnlySyncs, Strands, SyncsIf, SyncsMarked, WaitsBehindAll, plain}
-use Rattle.btr_scrub_copies.specs.Turns.{IsInTurn, TakesTurns, WaitsInTurn, waiting}
+use Rattle.btr_scrub_copies.specs.Turns.{IsInTurn, TakesTurns, WaitsAt, WaitsInTurn, waiting}
 use Rattle.btr_scrub_copies.specs.Writes.{AccountsMend, AreAmong, Does, Images, In, IsMarked, IsStopped, IsTorn, Leaves, Marks, Write, ranges_of, write_on}
 use Rattle.btr_scrub_copies.specs.declared.mended.MendFault.{MendFault}
 use Rattle.btr_scrub_copies.specs.declared.mended.MendFault.TheVariants.{Image, Memory}
@@ -39,6 +39,7 @@ does_plain P Q f m n a b r weak h = record {
   ranges = [];
   only = record { same = ap plain h.only.same; later = h.only.later; same_shut = h.only.same_shut };
   own = own_none a.held f;
+  lie = λ range i. absurd i;
   marked = no_marks;
   held = h.held;
   account = fails_plain P Q a b r weak h.account;
@@ -105,6 +106,13 @@ module _ {A : Type 0} (P : Range → Type 0) (f : Images → List Write) (m n : 
     | inr j ↦ in_left range (waiting a) h.ranges (in_right range a.unsynced a.never_synced (subst (In range) same_never j))
   ]
 
+  -- at a place of which P holds
+  pub waits_at : WaitsAt P a b
+  waits_at range i = elim (in_either range (waiting a) h.ranges (among_after range i)) as (λ _. In range (waiting a) ⊎ P range) [
+    | inl j ↦ inl j
+    | inr j ↦ inr (h.lie range j)
+  ]
+
 pub marked_synced : (m n : List Bool) (a b : Seen) (r : Result (Unit {0}) MendFault) → SyncsMarked m n a b r → AreMarked m a.unsynced → AreMarked n b.unsynced
 marked_synced m n a b (Ok x) h all range i =
     let among = h.synced.0.among range i in
@@ -122,7 +130,7 @@ marked_synced m n a b (Err Memory) h all range i = absurd h.synced
 -- ---- what waits behind a sync
 
 -- at most what waited before
-among_synced : (m n : List Bool) (a b : Seen) (r : Result (Unit {0}) MendFault) → SyncsMarked m n a b r → AreAmong (waiting b) (waiting a)
+pub among_synced : (m n : List Bool) (a b : Seen) (r : Result (Unit {0}) MendFault) → SyncsMarked m n a b r → AreAmong (waiting b) (waiting a)
 among_synced m n a b (Ok x) h range i = elim (in_either range b.unsynced b.never_synced i) [
   | inl j ↦ in_left range a.unsynced a.never_synced (h.synced.0.among range j).0
   | inr j ↦ in_right range a.unsynced a.never_synced (subst (In range) h.synced.1 j)
@@ -189,6 +197,9 @@ module _ (a b : Seen) (reads : OnlyReads a b) where
     turn = subst (λ o. IsSomeAnd o (λ left. IsInTurn ws vs images left [])) (sym (same_held reads ∙ is)) (inl (stopped_first ws images, λ range i. absurd i));
   }
 
+  pub read_at : (P : Range → Type 0) → WaitsAt P a b
+  read_at P range i = inl (subst (In range) same_waiting i)
+
   pub read_marked : (m : List Bool) → AreMarked m a.unsynced → AreMarked m b.unsynced
   read_marked m all range i = all range (subst (In range) (ap (λ (s : Seen). s.unsynced) reads.same) i)
 
@@ -203,6 +214,7 @@ module _ (a b : Seen) (reads : OnlyReads a b) where
     waits = tell a.held (λ images. WaitsInTurn ws vs images a d) (λ images is.
         let w = told_of b.held (λ images. WaitsInTurn ws vs images b d) images (same_held reads ∙ is) h.waits in
         record { own = w.own; among = λ range i. subst (λ rs. In range (rs ++ w.own)) same_waiting (w.among range i); turn = w.turn });
+    lie = λ range i. subst (λ rs. In range rs ⊎ P range) same_waiting (h.lie range i);
     marked = λ all. h.marked (read_marked m all);
     stranded = subst (λ never. Strands never d.never_synced r) (ap (λ (s : Seen). s.never_synced) reads.same) h.stranded;
   }
@@ -224,6 +236,7 @@ module _ (P : Range → Type 0) (ws vs : List Write) (m n : List Bool) (a b : Se
           (λ left s. inl (s, told_of a.held (λ i. AreAmong h.ranges (ranges_of ws)) images is h.own))
           (stopped_by {A = A} ws images b.held (Err e) (subst (λ o. Leaves {A = A} (λ i. ws) o b.held (Err e)) is h.held));
     });
+    lie = waits_at P (λ i. ws) m n a b (Err e) h;
     marked = marked_after P (λ i. ws) m n a b (Err e) h;
     stranded = strands_none {A = B} (Err e) a.never_synced b.never_synced (same_never P (λ i. ws) m n a b (Err e) h);
   }
@@ -248,6 +261,7 @@ module _ (P : Range → Type 0) (ws vs : List Write) (m n : List Bool) (a b : Se
         turn = subst (λ o. IsSomeAnd o (λ left. IsInTurn ws vs images left first.ranges)) (sym (sync_held b d s.only ∙ done images is))
             (inl (stopped_whole ws images, first_own images is));
       });
+      lie = λ range i. waits_at P (λ i. ws) m n a b (Ok u) first range (among_synced n o b d (Err e) s range i);
       marked = λ all. marked_synced n o b d (Err e) s (marked_after P (λ i. ws) m n a b (Ok u) first all);
       stranded = strands e s.synced;
     }
@@ -296,6 +310,10 @@ module _ (P : Range → Type 0) (ws vs : List Write) (m n : List Bool) (a b : Se
               turn = some_map (IsStopped vs (fold write_on images ws)) (λ left. IsInTurn ws vs images left second.ranges) z.held
                   (λ left t. inr (t, second_own (fold write_on images ws) now)) (second_stopped (fold write_on images ws) now);
             });
+        lie = λ range i. elim (waits_at P (λ i. vs) o q d z r second range i) as (λ _. In range (waiting a) ⊎ P range) [
+          | inl j ↦ inl (before range j)
+          | inr p ↦ inr p
+        ];
         marked = λ all. marked_after P (λ i. vs) o q d z r second (marked_synced n o b d (Ok tt) s (marked_after P (λ i. ws) m n a b (Ok u) first all));
         stranded = strands_none r a.never_synced z.never_synced
             (same_never P (λ i. vs) o q d z r second ∙ s.synced.1 ∙ same_never P (λ i. ws) m n a b (Ok u) first);
@@ -326,6 +344,10 @@ module _ (P : Range → Type 0) (ws vs : List Write) (m n : List Bool) (a b : Se
                   (λ left t. one_turn images left (first_own images is) (second_own (fold write_on images ws) now) t empty)
                   (second_stopped (fold write_on images ws) now);
             });
+        lie = λ range i. elim (waits_at P (λ i. vs) o q d z r second range i) as (λ _. In range (waiting a) ⊎ P range) [
+          | inl j ↦ waits_at P (λ i. ws) m n a b (Ok u) first range (subst (λ s. In range (waiting s)) same j)
+          | inr p ↦ inr p
+        ];
         marked = λ all. marked_after P (λ i. vs) o q d z r second
             (subst (λ k. AreMarked k d.unsynced) (sym marks)
             (subst (λ (s : Seen). AreMarked n s.unsynced) (sym same) (marked_after P (λ i. ws) m n a b (Ok u) first all)));

@@ -3,12 +3,16 @@ use Rattle.std.specs.Prelude.{◌⊎◌, Bool, List, [], ◌++◌, fold, IfSome,
 use Rattle.btr_rack.specs.Rack.{Seen}
 use Rattle.btr_rack.specs.declared.place.Place.{Place as Range}
 use Rattle.btr_scrub_copies.specs.Syncing.{AreMarked, IsSyncOr, Strands, plain}
-use Rattle.btr_scrub_copies.specs.Writes.{AreAmong, Does, Images, IsStopped, Write, ranges_of, write_on}
+use Rattle.btr_scrub_copies.specs.Writes.{AreAmong, Does, Images, In, IsStopped, Write, ranges_of, write_on}
 use Rattle.btr_scrub_copies.specs.declared.mended.MendFault.{MendFault}
 
 -- all that waits for a sync, also what waits for good
 abbrev pub waiting : Seen → List Range
 waiting rack = rack.unsynced ++ rack.never_synced
+
+-- what waits behind a call waited before, or is at a place of which P holds
+abbrev pub WaitsAt : (Range → Type 0) → Seen → Seen → Type 0
+WaitsAt P old new = (range : Range) → In range (waiting new) → In range (waiting old) ⊎ P range
 
 -- Writes in two turns, as they were stopped: in the first turn, and at most ranges of that wait; or the first is done
 -- and stored, they were stopped in the second, and at most ranges of that wait.
@@ -28,5 +32,6 @@ pub record WaitsInTurn (first second : List Write) (images : Images) (old new : 
 pub record TakesTurns {A : Type 0} (P : Range → Type 0) (first second : List Write) (marks marks' : List Bool) (old new : Seen) (result : Result A MendFault) : Type 0 where
   pub does : Does (IsSyncOr P) (λ images. first ++ second) [] [] (plain old) (plain new) result
   pub waits : IfSome old.held (λ images. WaitsInTurn first second images old new)
+  pub lie : WaitsAt P old new
   pub marked : AreMarked marks old.unsynced → AreMarked marks' new.unsynced
   pub stranded : Strands old.never_synced new.never_synced result

@@ -88,11 +88,12 @@ AccountsMend P old new (Err (Image slot)) = FailsAt P slot old new
 AccountsMend P old new (Err Memory) = NoneFailed old.account new.account
 
 -- Images were read and written: exactly the writes that follow from what they held, or those up to one that failed.
--- Ranges of these writes wait for a sync, and are marked by their slots.
+-- Ranges of these writes, at places of which P holds, wait for a sync, and are marked by their slots.
 pub record Does {A : Type 0} (P : Range → Type 0) (writes : Images → List Write) (marks marks' : List Bool) (old new : Seen) (result : Result A MendFault) : Type 0 where
   pub ranges : List Range
   pub only : OnlyWrites ranges old new
   pub own : IfSome old.held (λ images. AreAmong ranges (ranges_of (writes images)))
+  pub lie : (range : Range) → In range ranges → P range
   pub marked : Marks ranges marks marks'
   pub held : Leaves writes old.held new.held result
   pub account : AccountsMend P old new result

@@ -15,7 +15,7 @@ use Rattle.btr_scrub_copies.specs.Turns.{TakesTurns, WaitsInTurn}
 use Rattle.btr_scrub_copies.specs.Writes.{AccountsMend, Images, Write, writes_if}
 use Rattle.btr_scrub_copies.specs.declared.mended.MendFault.{MendFault}
 use Rattle.btr_scrub_copies.proofs.Doing.{does_as, does_as_halt, does_failed, does_reads}
-use Rattle.btr_scrub_copies.proofs.Turning.{fails_plain, read_marked, read_stranded, read_waits, reads_plain, strands_same, told_of, turns_behind}
+use Rattle.btr_scrub_copies.proofs.Turning.{fails_plain, read_at, read_marked, read_stranded, read_waits, reads_plain, strands_same, told_of, turns_behind}
 use Rattle.btr_scrub_row.specs.Rows.{Row, parities, parities_writes, parity_writes, rebuilt_writes, row_writes}
 use Rattle.btr_scrub_row.specs.Mending.{HasRoom, IsOfRow, IsRowOf, MendsRow, mended_row}
 use Rattle.btr_scrub_row.specs.Memory.{IsStripeOf}
@@ -72,6 +72,7 @@ module _ (layout : Layout) (row : Row) (write : Bool) (marks : List Bool) (a b :
         (fails_plain {A = Judged} (IsOfRow layout row) Call a b (Err fault) (λ range of. inr of) account);
     waits = tell a.held (λ images. WaitsInTurn (rebuilt images) (parities' images) images a b)
         (λ images is. read_waits a b reads (rebuilt images) (parities' images) images is);
+    lie = read_at a b reads (IsOfRow layout row);
     marked = read_marked a b reads marks;
     stranded = read_stranded a b reads {A = MendedRow} (Err fault);
     counts = tt;
@@ -90,6 +91,7 @@ module _ (layout : Layout) (row : Row) (write : Bool) (marks : List Bool) (a b :
           (does_reads Call [] (plain a) (plain b) (made judged.bad 0 judged.lost parity) (reads_plain a b reads) none);
       waits = tell a.held (λ images. WaitsInTurn (rebuilt images) (parities' images) images a b)
           (λ images is. read_waits a b reads (rebuilt images) (parities' images) images is);
+      lie = read_at a b reads (IsOfRow layout row);
       marked = read_marked a b reads marks;
       stranded = read_stranded a b reads (Ok (made judged.bad 0 judged.lost parity));
       counts = tell a.held (λ images. made judged.bad 0 judged.lost parity ≡ mended_row images layout row write)
@@ -138,6 +140,7 @@ module _ (layout : Layout) (row : Row) (write : Bool) (marks : List Bool) (a b :
           does = does_as Call (λ i. told_rebuilt ++ told_parities) (λ images. writes_if write (row_writes images layout row)) [] [] (plain a)
               (plain d) tt (made judged.bad judged.rebuilt judged.lost parity) all_are h.does;
           waits = turns_are (Ok (tt {0})) h;
+          lie = h.lie;
           marked = h.marked;
           stranded = h.stranded;
           counts = tell a.held (λ images. made judged.bad judged.rebuilt judged.lost parity ≡ mended_row images layout row write)
@@ -155,6 +158,7 @@ module _ (layout : Layout) (row : Row) (write : Bool) (marks : List Bool) (a b :
           does = does_as_halt Call (Unit {0}) MendedRow (λ i. told_rebuilt ++ told_parities)
               (λ images. writes_if write (row_writes images layout row)) [] [] (plain a) (plain d) fault all_are h.does;
           waits = turns_are {A = Unit {0}} (Err fault) h;
+          lie = h.lie;
           marked = h.marked;
           stranded = strands_same (Unit {0}) MendedRow fault a.never_synced d.never_synced h.stranded;
           counts = tt;

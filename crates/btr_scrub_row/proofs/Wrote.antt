@@ -10,7 +10,7 @@ use Rattle.btr_rack.specs.Rack.{Accounts, Seen, Unsyncs, Writes, range_in}
 use Rattle.btr_rack.specs.declared.error.RackError.{RackError}
 use Rattle.btr_rack.specs.declared.error.RackError.TheVariants as error
 use Rattle.btr_rack.specs.declared.place.Place.{Place as Range}
-use Rattle.btr_scrub_copies.specs.Writes.{AreAmong, Does, Images, IsMarked, IsStopped, Leaves, Marks, Write, ranges_of}
+use Rattle.btr_scrub_copies.specs.Writes.{AreAmong, Does, Images, In, IsMarked, IsStopped, Leaves, Marks, Write, ranges_of}
 use Rattle.btr_scrub_copies.proofs.Doing.{does_halt, does_then}
 use Rattle.btr_scrub_copies.specs.declared.mended.MendFault.{MendFault}
 use Rattle.btr_scrub_copies.specs.declared.mended.MendFault.TheVariants.{Image, Memory}
@@ -36,6 +36,10 @@ module _ (P : Range → Type 0) (slot off : ℕ) (bytes : List ℕ) (marks : Lis
   own_one None = tt
   own_one (Some images) = λ range i. i
 
+  own_lies : (range : Range) → In range (place ∷ []) → P range
+  own_lies range (inl e) = subst P e lies
+  own_lies range (inr i) = absurd i
+
   module _ (A : Type 0) where
     leaves_ok : (held left : Option Images) (x : Unit {0}) (y : A) → Writes {T = Unit {0}} slot off bytes held left (Ok x)
         → Leaves {A = A} {E = MendFault} (λ i. write_at slot off bytes ∷ []) held left (Ok y)
@@ -55,6 +59,7 @@ module _ (P : Range → Type 0) (slot off : ℕ) (bytes : List ℕ) (marks : Lis
         ranges = place ∷ [];
         only = record { same = unsyncs; later = omega (arith, account.faults); same_shut = account.shut };
         own = own_one a.held;
+        lie = own_lies;
         marked = marked;
         held = leaves_ok a.held b.held x y held;
         account = account;
@@ -67,6 +72,7 @@ module _ (P : Range → Type 0) (slot off : ℕ) (bytes : List ℕ) (marks : Lis
         ranges = place ∷ [];
         only = record { same = unsyncs; later = account.0.faults.0; same_shut = account.2 };
         own = own_one a.held;
+        lie = own_lies;
         marked = marked;
         held = leaves_err a.held b.held error.Failed (Image slot) held;
         account = record {
@@ -84,6 +90,7 @@ module _ (P : Range → Type 0) (slot off : ℕ) (bytes : List ℕ) (marks : Lis
         ranges = place ∷ [];
         only = record { same = unsyncs; later = omega (arith, account.faults); same_shut = account.shut };
         own = own_one a.held;
+        lie = own_lies;
         marked = marked;
         held = leaves_err a.held b.held error.Memory Memory held;
         account = account;
@@ -98,6 +105,7 @@ does_untold P f g marks marks' a b r none h = record {
   ranges = h.ranges;
   only = h.only;
   own = no_own a.held none;
+  lie = h.lie;
   marked = h.marked;
   held = untold a.held b.held none h.held;
   account = h.account;

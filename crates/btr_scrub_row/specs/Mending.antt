@@ -14,7 +14,7 @@ use Rattle.btr_read.specs.Layout.{Layout}
 use Rattle.btr_read.specs.declared.want.Want.{Want}
 use Rattle.btr_scrub_copies.specs.Blocks.{bad_parts, block_writes, is_lost}
 use Rattle.btr_scrub_copies.specs.Syncing.{AreMarked, IsSyncOr, Strands, plain}
-use Rattle.btr_scrub_copies.specs.Turns.{WaitsInTurn}
+use Rattle.btr_scrub_copies.specs.Turns.{WaitsAt, WaitsInTurn}
 use Rattle.btr_scrub_copies.specs.Writes.{Does, Images, writes_if}
 use Rattle.btr_scrub_copies.specs.declared.mended.MendFault.{MendFault}
 use Rattle.btr_scrub_row.specs.Rows.{Row, parities, parities_writes, parity_writes, range_in_element, rebuilt_writes, row_writes}
@@ -103,6 +103,7 @@ CountsRow held layout row write (Err fault) = Unit {0}
 pub record MendsRow (layout : Layout) (row : Row) (write : Bool) (marks marks' : List Bool) (old new : Seen) (result : Result MendedRow MendFault) : Type 0 where
   pub does : Does (IsSyncOr (IsOfRow layout row)) (λ images. writes_if write (row_writes images layout row)) [] [] (plain old) (plain new) result
   pub waits : IfSome old.held (λ images. WaitsInTurn (writes_if write (rebuilt_writes images layout row)) (writes_if write (parities_writes images layout row)) images old new)
+  pub lie : WaitsAt (IsOfRow layout row) old new
   pub marked : AreMarked marks old.unsynced → AreMarked marks' new.unsynced
   pub stranded : Strands old.never_synced new.never_synced result
   pub counts : CountsRow old.held layout row write result

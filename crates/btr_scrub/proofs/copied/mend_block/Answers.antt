@@ -1,4 +1,5 @@
 use Rattle.btr_scrub_copies.proofs.Doing.{only_slots}
+use Rattle.btr_scrub.specs.Leaves.{alone}
 use Rattle.btr_scrub.proofs.Positions.{copy_in_stripe, is_sought}
 use Rattle.btr_scrub.proofs.Scrubbing.{can_mend_then, scrubs_block, scrubs_block_not}
 use Rattle.btr_scrub.proofs.copied.mend_block.Goals as goal
@@ -15,7 +16,7 @@ returns-in-Ok-clause-scrubs g c t e =
     let layout = c.args.store.now.layout in
     let a = g.R.Rack.seen c.args.rack.now in
     let b = g.R.Rack.seen c.mend_copies.new.rack in
-    scrubs_block layout c.args.write t c.args.marks.now c.mend_copies.new.marks a b
+    scrubs_block (alone layout t.chunk) c.args.write t c.args.marks.now c.mend_copies.new.marks a b
     (λ range of. copy_in_stripe layout t range c.requires.ready.table (is_sought layout c.args.want.now t e) of)
     c.args.tally.now c.counted.result c.in-Ok.mended (c.in-Ok.ensures.mends t e) c.counted.ensures
 
@@ -31,6 +32,6 @@ returns-in-Err-clause-scrubs g c t e =
     let layout = c.args.store.now.layout in
     let a = g.R.Rack.seen c.args.rack.now in
     let b = g.R.Rack.seen c.mend_copies.new.rack in
-    scrubs_block_not layout c.args.write t c.args.marks.now c.mend_copies.new.marks a b
+    scrubs_block_not (alone layout t.chunk) c.args.write t c.args.marks.now c.mend_copies.new.marks a b
     (λ range of. copy_in_stripe layout t range c.requires.ready.table (is_sought layout c.args.want.now t e) of)
     c.args.tally.now c.in-Err.fault (c.in-Err.ensures.mends t e)

@@ -10,6 +10,7 @@ use Rattle.btr_read.proofs.Serving.{serving}
 use Rattle.btr_scrub_copies.specs.Blocks.{block_writes}
 use Rattle.btr_scrub_copies.specs.Mending.{IsCopied}
 use Rattle.btr_scrub_copies.proofs.Copied.{same_loans_then}
+use Rattle.btr_scrub.specs.Leaves.{alone}
 use Rattle.btr_scrub.specs.Order.{AreApart}
 use Rattle.btr_scrub.specs.Scrubbing.{BeginsBehind, IsPastChunk, Scrubs, count_block}
 use Rattle.btr_scrub.proofs.Blockwise.{chunk_mended, have_lengths, next_block, next_copied, past_chunk, underway_cut, underway_first, underway_more}
@@ -55,8 +56,10 @@ loop-want-preserved g c = record {
       let left : c.loop-want.blocks ≡ c.in-Some.want ∷ c.next_below.new.blocks = c.in-Some.ensures.0 in
       let below : addr_of c.in-Some.want < chunk.start + chunk.length = subst (λ (k : Chunk). addr_of c.in-Some.want < k.start + k.length) same c.in-Some.ensures.1 in
       let next = next_block layout c.requires.ready.table c.args.number chunk there h.end c.in-Some.want c.next_below.new.blocks h.from (subst (AreApart layout h.end) left h.apart) below in
-      let one = subst (λ (l : Layout). (t : Target) → sought l c.in-Some.want ≡ Ok t → Scrubs {A = Unit {0}} l c.args.write (λ images. block_writes images t) (λ images tally. count_block images c.args.write tally t) c.loop-want.marks c.mend_block.new.marks
+      let own_one = subst (λ (l : Layout). (t : Target) → sought l c.in-Some.want ≡ Ok t → Scrubs {A = Unit {0}} (alone l t.chunk) c.args.write (λ images. block_writes images t) (λ images tally. count_block images c.args.write tally t) c.loop-want.marks c.mend_block.new.marks
       (g.R.Rack.seen c.loop-want.rack) (g.R.Rack.seen c.mend_block.new.rack) c.loop-want.tally c.mend_block.new.tally (Ok tt)) c.loop-want.invariant.loans.layout c.in-Ok.ensures.scrubs next.target next.is_sought in
+      let one = subst (λ k. Scrubs {A = Unit {0}} (alone layout k) c.args.write (λ images. block_writes images next.target) (λ images tally. count_block images c.args.write tally next.target) c.loop-want.marks c.mend_block.new.marks
+      (g.R.Rack.seen c.loop-want.rack) (g.R.Rack.seen c.mend_block.new.rack) c.loop-want.tally c.mend_block.new.tally (Ok tt)) next.mine own_one in
       underway_more layout c.args.write c.requires.ready.table was.own_slots c.args.number chunk there is.0 c.args.blocks.now c.args.marks.now a
       c.args.tally.now c.loop-want.blocks c.loop-want.marks (g.R.Rack.seen c.loop-want.rack) c.loop-want.tally h
       (λ images held. have_lengths a layout images (g.met.R.Rack.sound c.args.rack.now) was.are_open held) c.in-Some.want c.next_below.new.blocks left
@@ -75,8 +78,10 @@ returns-in-Err-clause-scrubs g c chunk there =
     let left : c.loop-want.blocks ≡ c.in-Some.want ∷ c.next_below.new.blocks = c.in-Some.ensures.0 in
     let below : addr_of c.in-Some.want < chunk.start + chunk.length = subst (λ (k : Chunk). addr_of c.in-Some.want < k.start + k.length) same c.in-Some.ensures.1 in
     let next = next_block layout c.requires.ready.table c.args.number chunk there h.end c.in-Some.want c.next_below.new.blocks h.from (subst (AreApart layout h.end) left h.apart) below in
-    let one = subst (λ (l : Layout). (t : Target) → sought l c.in-Some.want ≡ Ok t → Scrubs {A = Unit {0}} l c.args.write (λ images. block_writes images t) (λ images tally. count_block images c.args.write tally t) c.loop-want.marks c.mend_block.new.marks
+    let own_one = subst (λ (l : Layout). (t : Target) → sought l c.in-Some.want ≡ Ok t → Scrubs {A = Unit {0}} (alone l t.chunk) c.args.write (λ images. block_writes images t) (λ images tally. count_block images c.args.write tally t) c.loop-want.marks c.mend_block.new.marks
     (g.R.Rack.seen c.loop-want.rack) (g.R.Rack.seen c.mend_block.new.rack) c.loop-want.tally c.mend_block.new.tally (Err c.in-Err.fault)) c.loop-want.invariant.loans.layout c.in-Err.ensures.scrubs next.target next.is_sought in
+    let one = subst (λ k. Scrubs {A = Unit {0}} (alone layout k) c.args.write (λ images. block_writes images next.target) (λ images tally. count_block images c.args.write tally next.target) c.loop-want.marks c.mend_block.new.marks
+    (g.R.Rack.seen c.loop-want.rack) (g.R.Rack.seen c.mend_block.new.rack) c.loop-want.tally c.mend_block.new.tally (Err c.in-Err.fault)) next.mine own_one in
     underway_cut layout c.args.write c.requires.ready.table was.own_slots c.args.number chunk there is.0 c.args.blocks.now c.args.marks.now a
     c.args.tally.now c.loop-want.blocks c.loop-want.marks (g.R.Rack.seen c.loop-want.rack) c.loop-want.tally h
     (λ images held. have_lengths a layout images (g.met.R.Rack.sound c.args.rack.now) was.are_open held) c.in-Some.want c.next_below.new.blocks left

@@ -4,12 +4,13 @@ use Rattle.btr_chunk.specs.declared.chunk.Chunk.{Chunk}
 use Rattle.btr_read.specs.Layout.{Layout}
 use Rattle.btr_read.proofs.Serving.{serving}
 use Rattle.btr_scrub_copies.proofs.Copied.{same_loans_then}
+use Rattle.btr_scrub.specs.Leaves.{alone}
 use Rattle.btr_scrub.specs.Order.{AreApart}
 use Rattle.btr_scrub.specs.Scrubbing.{HasRooms, IsPastChunk, Works, all_count_for, all_writes_for, chunk_count_for, chunk_writes_for}
 use Rattle.btr_scrub.specs.Judged.{kept_beside}
 use Rattle.btr_scrub.proofs.Blockwise.{have_lengths}
 use Rattle.btr_scrub.proofs.AcrossChunks.{chunk_unmoved}
-use Rattle.btr_scrub.proofs.Working.{at_number, begins_there, chunks_cut, chunks_more, chunks_none}
+use Rattle.btr_scrub.proofs.Working.{at_number, begins_there, chunks_cut, chunks_more, chunks_none, works_alone}
 use Rattle.btr_scrub.proofs.mending.mend_all.Goals as goal
 
 pub loop-number-init : goal.loop-number-init
@@ -55,8 +56,9 @@ returns-in-Err-clause-works g c =
     let z = g.R.Rack.seen c.mend_and_sync.new.rack in
     let was = serving a c.args.store.now c.requires.ready.serves in
     let at = at_number layout c.loop-number.number (omega (arith, c.loop-number-test.true, c.count-number-end.ensures.count, ap length c.chunks.ensures)) in
-    let one = subst (λ (l : Layout). (chunk : Chunk) → slice_get l.chunks c.loop-number.number ≡ Some chunk
-    → Works {A = Unit {0}} l c.args.write (chunk_writes_for (kept_beside l c.args.beside.now) l chunk c.loop-number.blocks) (chunk_count_for (kept_beside l c.args.beside.now) l c.args.write chunk c.loop-number.blocks) b z c.loop-number.tally c.mend_and_sync.new.tally (Err c.in-Err.fault)) c.loop-number.invariant.loans.layout c.in-Err.ensures.works at.0 at.1 in
+    let only = subst (λ (l : Layout). (chunk : Chunk) → slice_get l.chunks c.loop-number.number ≡ Some chunk
+    → Works {A = Unit {0}} (alone l chunk) c.args.write (chunk_writes_for (kept_beside l c.args.beside.now) l chunk c.loop-number.blocks) (chunk_count_for (kept_beside l c.args.beside.now) l c.args.write chunk c.loop-number.blocks) b z c.loop-number.tally c.mend_and_sync.new.tally (Err c.in-Err.fault)) c.loop-number.invariant.loans.layout c.in-Err.ensures.works at.0 at.1 in
+    let one = works_alone layout c.args.write {A = Unit {0}} c.loop-number.number at.0 at.1 (chunk_writes_for (kept_beside layout c.args.beside.now) layout at.0 c.loop-number.blocks) (chunk_count_for (kept_beside layout c.args.beside.now) layout c.args.write at.0 c.loop-number.blocks) b z c.loop-number.tally c.mend_and_sync.new.tally (Err c.in-Err.fault) only in
     chunks_cut (kept_beside layout c.args.beside.now) layout table c.args.blocks.now c.loop-number.number at.0 at.1 c.args.write c.loop-number.blocks
     c.mend_and_sync.new.blocks a b z c.args.tally.now c.loop-number.tally c.mend_and_sync.new.tally c.loop-number.invariant.past
     (chunk_unmoved (kept_beside layout c.args.beside.now) layout c.args.write c.args.blocks.now a.held c.loop-number.number at.0 table was.own_slots
@@ -73,8 +75,9 @@ loop-number-preserved g c =
     let z = g.R.Rack.seen c.mend_and_sync.new.rack in
     let was = serving a c.args.store.now c.requires.ready.serves in
     let at = at_number layout c.loop-number.number (omega (arith, c.loop-number-test.true, c.count-number-end.ensures.count, ap length c.chunks.ensures)) in
-    let one = subst (λ (l : Layout). (chunk : Chunk) → slice_get l.chunks c.loop-number.number ≡ Some chunk
-    → Works {A = Unit {0}} l c.args.write (chunk_writes_for (kept_beside l c.args.beside.now) l chunk c.loop-number.blocks) (chunk_count_for (kept_beside l c.args.beside.now) l c.args.write chunk c.loop-number.blocks) b z c.loop-number.tally c.mend_and_sync.new.tally (Ok tt)) inv.loans.layout c.in-Ok.ensures.works at.0 at.1 in
+    let only = subst (λ (l : Layout). (chunk : Chunk) → slice_get l.chunks c.loop-number.number ≡ Some chunk
+    → Works {A = Unit {0}} (alone l chunk) c.args.write (chunk_writes_for (kept_beside l c.args.beside.now) l chunk c.loop-number.blocks) (chunk_count_for (kept_beside l c.args.beside.now) l c.args.write chunk c.loop-number.blocks) b z c.loop-number.tally c.mend_and_sync.new.tally (Ok tt)) inv.loans.layout c.in-Ok.ensures.works at.0 at.1 in
+    let one = works_alone layout c.args.write {A = Unit {0}} c.loop-number.number at.0 at.1 (chunk_writes_for (kept_beside layout c.args.beside.now) layout at.0 c.loop-number.blocks) (chunk_count_for (kept_beside layout c.args.beside.now) layout c.args.write at.0 c.loop-number.blocks) b z c.loop-number.tally c.mend_and_sync.new.tally (Ok tt) only in
     let past = subst (λ (l : Layout). (chunk : Chunk) → slice_get l.chunks c.loop-number.number ≡ Some chunk → IsPastChunk l chunk c.loop-number.blocks c.mend_and_sync.new.blocks) inv.loans.layout c.in-Ok.ensures.past at.0 at.1 in
     record {
       ready = c.in-Ok.ensures.ready;

@@ -10,6 +10,7 @@ use Rattle.btr_read.proofs.Serving.{serving}
 use Rattle.btr_scrub_copies.proofs.Copied.{same_loans_then}
 use Rattle.btr_scrub_row.specs.Mending.{AreKept, IsRow, IsRowOf, mended_row}
 use Rattle.btr_scrub_row.specs.Rows.{Row, row_writes}
+use Rattle.btr_scrub.specs.Leaves.{alone}
 use Rattle.btr_scrub.specs.Order.{AreApart, targets}
 use Rattle.btr_scrub.specs.Repair.{row_of}
 use Rattle.btr_scrub.specs.Scrubbing.{BeginsBehind, HasRooms, IsPastChunk, Scrubs, counted_row}
@@ -167,7 +168,7 @@ loop-first-preserved g c = record {
       let kept = subst (λ o. IsSomeAnd o (λ k. (column : ℕ) → column < 16 → get_or c.kept_columns-kept.result column false ≡ kept_beside layout c.args.beside.now k c.in-Ok.row column)) there
       (subst (λ (l : Layout). IsSomeAnd (slice_get l.chunks c.args.task.number) (λ k. (column : ℕ) → column < 16 → get_or c.kept_columns-kept.result column false ≡ kept_beside l c.args.beside.now k c.in-Ok.row column)) c.loop-first.invariant.loans.layout c.kept_columns-kept.ensures) in
       let one = subst (λ (l : Layout). (r : Row) → IsRowOf l c.at-chunk.result.now.start c.in-Ok.row c.collect_row.new.wants.items r → AreKept c.kept_columns-kept.result r
-      → Scrubs {A = Unit {0}} l c.args.task.write (λ images. row_writes images l r)
+      → Scrubs {A = Unit {0}} (alone l r.chunk) c.args.task.write (λ images. row_writes images l r)
       (λ images tally. counted_row tally (length r.blocks) (mended_row images l r c.args.task.write)) c.loop-first.marks
       c.mend_collected.new.marks b (g.R.Rack.seen c.mend_collected.new.rack) c.loop-first.tally c.mend_collected.new.tally (Ok tt))
       c.loop-first.invariant.loans.layout c.in-Ok-mend_collected.ensures.scrubs row
@@ -204,7 +205,7 @@ returns-in-Err-mend_collected-clause-scrubs g c chunk there =
     let kept = subst (λ o. IsSomeAnd o (λ k. (column : ℕ) → column < 16 → get_or c.kept_columns-kept.result column false ≡ kept_beside layout c.args.beside.now k c.in-Ok.row column)) there
     (subst (λ (l : Layout). IsSomeAnd (slice_get l.chunks c.args.task.number) (λ k. (column : ℕ) → column < 16 → get_or c.kept_columns-kept.result column false ≡ kept_beside l c.args.beside.now k c.in-Ok.row column)) c.loop-first.invariant.loans.layout c.kept_columns-kept.ensures) in
     let one = subst (λ (l : Layout). (r : Row) → IsRowOf l c.at-chunk.result.now.start c.in-Ok.row c.collect_row.new.wants.items r → AreKept c.kept_columns-kept.result r
-    → Scrubs {A = Unit {0}} l c.args.task.write (λ images. row_writes images l r)
+    → Scrubs {A = Unit {0}} (alone l r.chunk) c.args.task.write (λ images. row_writes images l r)
     (λ images tally. counted_row tally (length r.blocks) (mended_row images l r c.args.task.write)) c.loop-first.marks c.mend_collected.new.marks
     b (g.R.Rack.seen c.mend_collected.new.rack) c.loop-first.tally c.mend_collected.new.tally (Err c.in-Err-mend_collected.fault))
     c.loop-first.invariant.loans.layout c.in-Err-mend_collected.ensures.scrubs row
