@@ -170,7 +170,7 @@ module _ (read_data : Bool) (old mid new : Seen) (first : OnlyReads old mid) (se
   stopped_told text account = subst (λ a. Shows (OrBare IsCheckOutcome) text text account account a) (sym is)
       (shows_bare (OrBare IsCheckOutcome) text account (stop_answer end) (inr (refl, stop_line end reading)) (stop_calm end reading))
 
-  stopped_cause : IsLayoutOf old layout → HasToldCause IsUnread old new (stop_answer end)
+  stopped_cause : IsLayoutOf old new layout → HasToldCause IsUnread old new (stop_answer end)
   stopped_cause own fault e told = (layout, own, of end cause (ap tree_in e ∙ tree_back fault))
     where
       by : (f : TreeFault) → IsUnread f → StopUnread layout mid new (stop.Tree f) → FaultCause layout old new f
@@ -191,7 +191,7 @@ module _ (read_data : Bool) (old mid new : Seen) (first : OnlyReads old mid) (se
       of stop.Out c e = absurd (cc e)
       of stop.Memory c e = absurd (cc e)
 
-  pub stopped_behind : IsLayoutOf old layout → IsBehind MayMend IsUnread old new answer
+  pub stopped_behind : IsLayoutOf old new layout → IsBehind MayMend IsUnread old new answer
   stopped_behind own = subst (IsBehind MayMend IsUnread old new) (sym is) (record {
     reads = reads_more first second;
     image = λ slot e. absurd (stop_no_image end reading slot e);

@@ -87,7 +87,7 @@ module _ (choice : DumpChoice) (old mid new : Seen) (first : OnlyReads old mid) 
         (λ images. Shows (IsShown images) text text' before after (call_answer result))) (ap (λ (q : Seen). q.held) first.same) shows));
     agreed = when_told old.held _ _ (λ images shown agree. comes (IsRowOrUnread row images) (shown agree)) (agreed_text opened agreed);
     told = comes (OrBare IsTreesOutcome) (shown_told text text' before after answer result is counts grows);
-    cause = shown_behind old mid new first second before after answer result is counts layout (opened_layout old mid volume first opened) cause;
+    cause = shown_behind old mid new first second before after answer result is counts layout (opened_layout old mid new volume first second opened) cause;
   }
     where
       comes : (IsOne : Outcome → Type 0) → Shows IsOne text text' before after answer

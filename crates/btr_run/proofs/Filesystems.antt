@@ -147,9 +147,9 @@ refused_as old new refusal result is = of old.held
     of (Some images) opens = record { opening = Err refusal; opens = opens; same = sym is }
 
 -- a volume that was opened is read by the chunks that a scan of the chunk tree came to
-pub opened_layout : (old mid : Seen) (volume : Volume) → OnlyReads old mid → IfSome old.held (λ images. OpensAs images old mid (Ok volume))
-    → IsLayoutOf old volume.store.layout
-opened_layout old mid volume first = of old.held refl
+pub opened_layout : (old mid new : Seen) (volume : Volume) → OnlyReads old mid → OnlyReads mid new
+    → IfSome old.held (λ images. OpensAs images old mid (Ok volume)) → IsLayoutOf old new volume.store.layout
+opened_layout old mid new volume first second = of old.held refl
   where
     volume_is : (other : Volume) → ◌≡◌ {A = Result Volume Answer} (Ok other) (Ok volume) → other ≡ volume
     volume_is other e = cc e
@@ -158,20 +158,20 @@ opened_layout old mid volume first = of old.held refl
     Told : Start → Images → Type 0
     Told start images = (start_of images ≡ Ok start)
         × ((volume.store.layout.chunks ≡ start.array)
-        ⊎ ((later : Seen) × OnlyReads old later × Scans start old later (Ok (Ok volume.store.layout.chunks))))
+        ⊎ ((at : Seen) × OnlyReads old at × OnlyReads at new × Scans start old at (Ok (Ok volume.store.layout.chunks))))
 
     by : (images : Images) → old.held ≡ Some images → (opening : Result Volume OpenFault) → Opens images old mid opening → answer_as opening ≡ Ok volume
-        → IsLayoutOf old volume.store.layout
+        → IsLayoutOf old new volume.store.layout
     by images told (Err refusal) opens same = absurd (cc same)
     by images told (Ok other) opens same =
         let o = subst (Opened images old mid) (volume_is other same) opens in record {
           start = o.start;
           chunks = volume.store.layout.chunks;
           by = o.by.layout;
-          is = subst (λ (h : Option Images). IfSome h (Told o.start)) (sym told) (o.is, inr (mid, first, o.scans));
+          is = subst (λ (h : Option Images). IfSome h (Told o.start)) (sym told) (o.is, inr (mid, first, second, o.scans));
         }
 
-    of : (held : Option Images) → old.held ≡ held → IfSome held (λ images. OpensAs images old mid (Ok volume)) → IsLayoutOf old volume.store.layout
+    of : (held : Option Images) → old.held ≡ held → IfSome held (λ images. OpensAs images old mid (Ok volume)) → IsLayoutOf old new volume.store.layout
     of None told opens = record {
       start = start_in volume;
       chunks = volume.store.layout.chunks;
@@ -186,7 +186,7 @@ pub refused_tree : (old new : Seen) (refusal : OpenFault) (answer : Answer) → 
 refused_tree old new refusal answer is cause fault e = of refusal cause (ap tree_in (sym is ∙ e) ∙ tree_back fault)
   where
     Caused : Type 0
-    Caused = (layout : Layout) × IsLayoutOf old layout × FaultCause layout old new fault
+    Caused = (layout : Layout) × IsLayoutOf old new layout × FaultCause layout old new fault
 
     by_array : (f : TreeFault) → f ≡ fault → (begun : StartOf old) → FaultCause (array_layout begun.start) old new f → Caused
     by_array f same begun caused = (

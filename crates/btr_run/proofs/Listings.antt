@@ -295,7 +295,7 @@ module _ {A : Type 0} (left_out : A → ℕ) (layout : Layout) (mid new : Seen) 
   -- since the filesystem was opened
   module _ (old : Seen) (first : OnlyReads old mid) (second : OnlyReads mid new) (volume : Volume) (is_layout : volume.store.layout ≡ layout) (answer : Answer)
       (is : answer ≡ answered result) where
-    tree_cause : IsLayoutOf old layout → HasTreeCause old new (answered result)
+    tree_cause : IsLayoutOf old new layout → HasTreeCause old new (answered result)
     tree_cause own fault is = (layout, own, of result cause (ap tree_in is ∙ tree_back fault))
       where
         of : (r : Result A Stop) → StopCause layout mid new r → tree_in (answered r) ≡ Some fault → FaultCause layout old new fault
@@ -311,7 +311,7 @@ module _ {A : Type 0} (left_out : A → ℕ) (layout : Layout) (mid new : Seen) 
         of (Err (stop.Missing id)) cause e = absurd cause
         of (Err (stop.Image other)) cause e = absurd cause
 
-    pub listed_behind : IsLayoutOf old layout → IsBehind MayMend AnyFault old new answer
+    pub listed_behind : IsLayoutOf old new layout → IsBehind MayMend AnyFault old new answer
     listed_behind own = subst (IsBehind MayMend AnyFault old new) (sym is) (record {
       reads = reads_more first second;
       image = λ slot e. absurd (no_image slot e);

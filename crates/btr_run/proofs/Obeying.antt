@@ -330,7 +330,7 @@ module _ (words names : Words) (plan : Plan) (sentence : IsSentence plan words) 
       tree = λ fault e. record {
         plan = plan;
         sentence = sentence;
-        cause = λ told. let tree = behind.tree fault e in subst (λ s. (layout : Layout) × IsLayoutOf s layout × FaultCause layout s new fault)
+        cause = λ told. let tree = behind.tree fault e in subst (λ s. (layout : Layout) × IsLayoutOf s new layout × FaultCause layout s new fault)
             (opened_again old mid new opened tree.0.same) (tree.1 told);
       };
     }

@@ -243,5 +243,5 @@ module _ (addr : ℕ) (old mid new : Seen) (first : OnlyReads old mid) (volume a
     cause = listings.listed_behind none_left_out layout mid new (x s c) (y s c) done (did s c) result (cause_is layout mid new result ran.cause)
         (no_sink layout mid new c result ran.cause) (counts_are layout mid new calls calls' result ran.cause ran.calls) old first ran.reads volume refl answer
         is
-        (opened_layout old mid volume first opened);
+        (opened_layout old mid new volume first ran.reads opened);
   }

@@ -170,7 +170,7 @@ module _ {A : Type 0} (left_out : A → ℕ) (run_by : Filesystem → Map → Ru
     told = listings.listed_told left_out layout mid new x y did.done stands result cause sink_calls out_calls old first reads volume refl answer is
         IsRestored (λ a. inl (left_out a, refl)) (λ f. inr (inr (f, refl))) (λ id none. inr (inl (id, refl)));
     cause = listings.listed_behind left_out layout mid new x y did.done stands result cause sink_calls out_calls old first reads volume refl answer is
-        (opened_layout old mid volume first opened);
+        (opened_layout old mid new volume first reads opened);
   }
 
 -- ---- the rows

@@ -174,7 +174,7 @@ module _ (write : Bool) (old mid : Seen) (first : OnlyReads old mid) (volume : V
           of stop.Memory c = tt
 
       told_cause : HasToldCause IsNoCrossing old at (stop_answer why)
-      told_cause f e told = (layout, opened_layout old mid volume first opened, of why cause (ap tree_in e ∙ tree_back f))
+      told_cause f e told = (layout, opened_layout old mid at volume first second opened, of why cause (ap tree_in e ∙ tree_back f))
         where
           by : (g : TreeFault) → IsNoCrossing g → TreeCause layout mid at g → FaultCause layout old at g
           by (tree.Lost a) t c = cause_since at layout layout (tree.Lost a) refl first c

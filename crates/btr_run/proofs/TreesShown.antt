@@ -354,7 +354,7 @@ module _ (old mid new : Seen) (first : OnlyReads old mid) (second : OnlyReads mi
       of (Err (stop.Image other)) = tt
       of (Err stop.Sink) = tt
 
-  tree_cause : (layout : Layout) → IsLayoutOf old layout → StopCause layout mid new result → HasTreeCause old new (call_answer result)
+  tree_cause : (layout : Layout) → IsLayoutOf old new layout → StopCause layout mid new result → HasTreeCause old new (call_answer result)
   tree_cause layout own cause fault is = (layout, own, of result cause (ap tree_in is ∙ tree_back fault))
     where
       of : (r : Result (Unit {0}) Stop) → StopCause layout mid new r → tree_in (call_answer r) ≡ Some fault → FaultCause layout old new fault
@@ -370,7 +370,7 @@ module _ (old mid new : Seen) (first : OnlyReads old mid) (second : OnlyReads mi
       of (Err (stop.Image other)) cause e = absurd (cc e)
       of (Err stop.Sink) cause e = absurd (cc e)
 
-  pub shown_behind : (layout : Layout) → IsLayoutOf old layout → StopCause layout mid new result → IsBehind MayMend AnyFault old new answer
+  pub shown_behind : (layout : Layout) → IsLayoutOf old new layout → StopCause layout mid new result → IsBehind MayMend AnyFault old new answer
   shown_behind layout own cause = subst (IsBehind MayMend AnyFault old new) (sym is) (record {
     reads = reads_more first second;
     image = λ slot is. absurd (no_image slot is);

@@ -26,23 +26,23 @@ IfServed sink new_sink out new_out answer P = Steady sink.faults new_sink.faults
 abbrev pub IsFault : Answer → Type 0
 IsFault answer = ((slot : ℕ) × (answer ≡ ImageFault slot)) ⊎ (answer ≡ SinkFault) ⊎ (answer ≡ OutFault) ⊎ (answer ≡ Memory)
 
--- A layout by which the images of a rack are read: by their start, and the chunks of its array, or those that a scan of the chunk tree came to, which
--- was found by that array. Where the rack doesn't tell its images it is one by some start.
-pub record IsLayoutOf (rack : Seen) (layout : Layout) : Type 0 where
+-- A layout by which the images of a rack were read up to some call: by their start, and the chunks of its array, or those that a scan of the chunk
+-- tree came to, which was found by that array and ended before that call. Where the rack doesn't tell its images it is one by some start.
+pub record IsLayoutOf (old new : Seen) (layout : Layout) : Type 0 where
   pub start : Start
   pub chunks : List Chunk
   pub by : layout ≡ layout_by start chunks
-  pub is : IfSome rack.held (λ images. (start_of images ≡ Ok start)
-      × ((chunks ≡ start.array) ⊎ ((later : Seen) × OnlyReads rack later × Scans start rack later (Ok (Ok chunks)))))
+  pub is : IfSome old.held (λ images. (start_of images ≡ Ok start)
+      × ((chunks ≡ start.array) ⊎ ((mid : Seen) × OnlyReads old mid × OnlyReads mid new × Scans start old mid (Ok (Ok chunks)))))
 
 -- a fault of a tree has its cause: by a layout of the images some block was lost, has no position, or could not be read
 abbrev pub HasTreeCause : Seen → Seen → Answer → Type 0
-HasTreeCause old new answer = (fault : TreeFault) → answer ≡ tree_answer fault → (layout : Layout) × IsLayoutOf old layout × FaultCause layout old new fault
+HasTreeCause old new answer = (fault : TreeFault) → answer ≡ tree_answer fault → (layout : Layout) × IsLayoutOf old new layout × FaultCause layout old new fault
 
 -- the same for the faults whose cause is told
 abbrev pub HasToldCause : (TreeFault → Type 0) → Seen → Seen → Answer → Type 0
 HasToldCause IsTold old new answer =
-    (fault : TreeFault) → answer ≡ tree_answer fault → IsTold fault → (layout : Layout) × IsLayoutOf old layout × FaultCause layout old new fault
+    (fault : TreeFault) → answer ≡ tree_answer fault → IsTold fault → (layout : Layout) × IsLayoutOf old new layout × FaultCause layout old new fault
 
 -- all of them
 abbrev pub AnyFault : TreeFault → Type 0

@@ -46,7 +46,7 @@ pub record CauseTold (words : Words) (old new : Seen) (fault : TreeFault) : Type
   pub plan : Plan
   pub sentence : IsSentence plan words
   pub cause : TellsCause plan.command fault
-      → (layout : Layout) × IsLayoutOf (opened_with old.account new) layout × FaultCause layout (opened_with old.account new) new fault
+      → (layout : Layout) × IsLayoutOf (opened_with old.account new) new layout × FaultCause layout (opened_with old.account new) new fault
 
 -- a fault of a tree has its cause, where the command that the words ask for tells it
 abbrev pub TreeCause : Words → Seen → Seen → Answer → Type 0

@@ -187,7 +187,7 @@ pub record IsBehindCommand (command : Command) (old new : Seen) (answer : Answer
   pub held : opens_to_write command ≡ false → new.held ≡ old.held
   pub image : (slot : ℕ) → answer ≡ ImageFault slot → ImageFails command old new slot
   pub tree : (fault : TreeFault) → answer ≡ tree_answer fault → OnlyReads old new
-      × (TellsCause command fault → (layout : Layout) × IsLayoutOf old layout × FaultCause layout old new fault)
+      × (TellsCause command fault → (layout : Layout) × IsLayoutOf old new layout × FaultCause layout old new fault)
   pub hidden : NoneFailed old.account new.account ⊎ IsFault answer ⊎ MayFail command answer
   pub no_usage : (at : ℕ) → answer ≢ Usage at
   pub no_limit : (n : ℕ) → answer ≢ Limit images_limit n

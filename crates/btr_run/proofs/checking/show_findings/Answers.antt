@@ -94,7 +94,7 @@ returns-in_err-findings-clause-cause g c =
     let result = answer_of c.from_residual-in_err-findings.result in
     let gives = answer_gives c.from_residual-in_err-findings.result (stop_answer end) c.from_residual-in_err-findings.ensures.1 in
     stopped_behind c.args.read_data old mid new c.in_ok-volume.ensures.reads ran.reads volume.store.layout end ran.quiet ran.cause result gives
-    (opened_layout old mid volume c.in_ok-volume.ensures.reads c.in_ok-volume.ensures.opened)
+    (opened_layout old mid new volume c.in_ok-volume.ensures.reads ran.reads c.in_ok-volume.ensures.opened)
 
 pub returns-in_err-findings-clause-agreed : goal.returns-in_err-findings-clause-agreed
 returns-in_err-findings-clause-agreed g c =
