@@ -210,10 +210,7 @@ const OF_FILES: &[(&[&str], [(&[u8], u8); 2])] = &[
     (
         &["inspect-internal", "dump-tree", "-t", "5", "a"],
         [
-            (
-                b"tree 5 offset 0\nerror: malformed block 2146304\n",
-                1,
-            ),
+            (b"tree 5 offset 0\nerror: malformed block 2146304\n", 1),
             (b"tree 5 offset 0\nerror: lost block 2146304\n", 1),
         ],
     ),
