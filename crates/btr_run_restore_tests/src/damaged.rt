@@ -157,3 +157,87 @@ fn a_directory_in_itself(rt: HostRuntime) -> Result<(), CallFault> {
     let owner = b"tree 5 inode 260 position 0 path /a\nowners 1\n";
     tells(&rt, alloc, &RESOLVE, owner, 0)
 }
+
+// Other commands, which opening the damaged filesystem or its root tree stops as it stops a restore.
+const STOPPED: [&[&str]; 4] = [
+    &["check", "a"],
+    &["scrub", "start", "a"],
+    &["restore", "-D", "out", "a"],
+    &["inspect-internal", "dump-tree", "-t", "5", "a"],
+];
+
+#[test]
+fn other_commands_are_stopped_too(rt: HostRuntime) -> Result<(), CallFault> {
+    for words in STOPPED {
+        for (edit, text, code, _) in DAMAGED.iter().skip(2) {
+            let rack = &mut edited(rt.alloc(), edit)?;
+            restores_rows(&rt, rt.alloc(), rack, words, text, *code, b"")?;
+        }
+    }
+    Ok(())
+}
+
+// Words, and what they tell, with the exit status, where the only leaf of the files is malformed,
+// and where it is lost. A scrub doesn't look at what stands in a leaf.
+const OF_FILES: &[(&[&str], [(&[u8], u8); 2])] = &[
+    (
+        &["check", "a"],
+        [
+            (b"malformed 2146304\nfindings 1\n", 1),
+            (b"lost 2146304\nfindings 1\n", 1),
+        ],
+    ),
+    (
+        &["scrub", "start", "a"],
+        [
+            (
+                b"blocks 8 bad 0 repaired 0 lost 0 parity 0 unchecked 0\n",
+                0,
+            ),
+            (
+                b"blocks 8 bad 1 repaired 0 lost 1 parity 0 unchecked 0\n",
+                1,
+            ),
+        ],
+    ),
+    (
+        &["restore", "-D", "out", "a"],
+        [
+            (b"error: malformed block 2146304\n", 1),
+            (b"error: lost block 2146304\n", 1),
+        ],
+    ),
+    (
+        &["inspect-internal", "dump-tree", "-t", "5", "a"],
+        [
+            (b"tree 5 offset 0\nerror: malformed block 2146304\n", 1),
+            (b"tree 5 offset 0\nerror: lost block 2146304\n", 1),
+        ],
+    ),
+];
+
+#[test]
+fn other_commands_where_files_are_damaged(rt: HostRuntime) -> Result<(), CallFault> {
+    for (words, told) in OF_FILES {
+        for ((edit, ..), (text, code)) in DAMAGED.iter().zip(told) {
+            let rack = &mut edited(rt.alloc(), edit)?;
+            restores_rows(&rt, rt.alloc(), rack, words, text, *code, b"")?;
+        }
+    }
+    Ok(())
+}
+
+const ROOTS: &[u8] = b"tree 1 offset 0 bytenr 2097152 level 0 generation 7\n\
+tree 3 offset 0 bytenr 1048576 level 0 generation 7\n";
+
+// A list of roots begins with two that the superblock names.
+#[test]
+fn roots_of_a_lost_root_tree(rt: HostRuntime) -> Result<(), CallFault> {
+    let alloc = rt.alloc();
+    let text = both(alloc, ROOTS, b"error: lost block 2097152\n")?;
+    for (edit, ..) in DAMAGED.iter().skip(2).take(1) {
+        let rack = &mut edited(alloc, edit)?;
+        restores_rows(&rt, alloc, rack, &["restore", "-l", "a"], &text, 1, b"")?;
+    }
+    Ok(())
+}

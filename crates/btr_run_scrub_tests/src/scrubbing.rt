@@ -2,7 +2,7 @@
 use crate::answers::answers;
 use btr_make::{RowVolume, row, seal};
 use btr_rack::MemRack;
-use btr_test_calls::CallFault;
+use btr_test_calls::{CallFault, Failing, call_where};
 use std::alloc::Global;
 use std::process::Abort;
 
@@ -103,4 +103,20 @@ fn a_wrong_parity(rt: HostRuntime) -> Result<(), CallFault> {
     scrubs(&rt, alloc, rack, &all, WRONG, PARITY, right)?;
     let text = b"error: device 3 is not given\n";
     answers(&rt, alloc, rack, &["scrub", "start", "a", "b"], text, 3)
+}
+
+// The output refuses the line of a scrub, before which the copy was mended.
+#[test]
+fn a_failing_output(rt: HostRuntime) -> Result<(), CallFault> {
+    let alloc = rt.alloc();
+    let mut rack = row(alloc, RowVolume::V1d)?;
+    let right = turn(&mut rack, COPY.image, COPY.off)?;
+    let words = ["scrub", "start", "a"];
+    let told = call_where(alloc, &mut rack, &words, Failing::Output(1))?;
+    assert_eq!(rt; told.code, 4);
+    assert!(rt; REPAIRED.starts_with(&told.text));
+    assert!(rt; told.text.len() < REPAIRED.len());
+    rack.close_all();
+    assert_eq!(rt; rack.byte(COPY.image, COPY.off), Some(right));
+    Ok(())
 }
