@@ -177,56 +177,6 @@ fn other_commands_are_stopped_too(rt: HostRuntime) -> Result<(), CallFault> {
     Ok(())
 }
 
-// Words, and what they tell, with the exit status, where the only leaf of the files is malformed,
-// and where it is lost. A scrub doesn't look at what stands in a leaf.
-const OF_FILES: &[(&[&str], [(&[u8], u8); 2])] = &[
-    (
-        &["check", "a"],
-        [
-            (b"malformed 2146304\nfindings 1\n", 1),
-            (b"lost 2146304\nfindings 1\n", 1),
-        ],
-    ),
-    (
-        &["scrub", "start", "a"],
-        [
-            (
-                b"blocks 8 bad 0 repaired 0 lost 0 parity 0 unchecked 0\n",
-                0,
-            ),
-            (
-                b"blocks 8 bad 1 repaired 0 lost 1 parity 0 unchecked 0\n",
-                1,
-            ),
-        ],
-    ),
-    (
-        &["restore", "-D", "out", "a"],
-        [
-            (b"error: malformed block 2146304\n", 1),
-            (b"error: lost block 2146304\n", 1),
-        ],
-    ),
-    (
-        &["inspect-internal", "dump-tree", "-t", "5", "a"],
-        [
-            (b"tree 5 offset 0\nerror: malformed block 2146304\n", 1),
-            (b"tree 5 offset 0\nerror: lost block 2146304\n", 1),
-        ],
-    ),
-];
-
-#[test]
-fn other_commands_where_files_are_damaged(rt: HostRuntime) -> Result<(), CallFault> {
-    for (words, told) in OF_FILES {
-        for ((edit, ..), (text, code)) in DAMAGED.iter().zip(told) {
-            let rack = &mut edited(rt.alloc(), edit)?;
-            restores_rows(&rt, rt.alloc(), rack, words, text, *code, b"")?;
-        }
-    }
-    Ok(())
-}
-
 const ROOTS: &[u8] = b"tree 1 offset 0 bytenr 2097152 level 0 generation 7\n\
 tree 3 offset 0 bytenr 1048576 level 0 generation 7\n";
 
