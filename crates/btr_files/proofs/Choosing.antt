@@ -1,6 +1,6 @@
 -- The pieces of a file are its bytes, also where a sector without a checksum may come to any of its copies.
-use Rattle.std.proofs.Common.{◌≡◌, ◌⊎◌, ℕ, zero, suc, ◌+◌, ◌-◌, ◌<◌, ◌≤◌, Bool, true, false, cond, not, IsTrue, List, [], ◌∷◌, ◌++◌, length, Option, Some, None}
-use Rattle.std.proofs.Common.{Result, Ok, Err, refl, sym, ap, ◌∙◌, subst, inl, inr, arith}
+use Rattle.std.proofs.Common.{◌≡◌, ℕ, zero, suc, ◌+◌, ◌-◌, ◌<◌, ◌≤◌, Bool, true, false, cond, not, IsTrue, List, [], ◌∷◌, length, Option}
+use Rattle.std.proofs.Common.{Result, Ok, Err, refl, sym, ap, ◌∙◌, inr, arith}
 use Rattle.std.specs.Prelude.{nat_eq, nat_le, slice_index, take}
 use Rattle.std.proofs.lemmas.Bool.Decides.{nat_tests}
 use Rattle.std.proofs.lemmas.List.{get_or-append_right, get_or_append_left, length-append, length-take}
@@ -8,12 +8,11 @@ use Rattle.btr_base.specs.declared.kind.SumKind.{SumKind}
 use Rattle.btr_items.specs.declared.shape.Shape.{Shape}
 use Rattle.btr_items.specs.declared.shape.Shape.TheVariants.{Inline, Regular, Prealloc}
 use Rattle.btr_items.specs.FileExtent.{end_of}
-use Rattle.btr_prog.specs.Goes.{GoesTo}
-use Rattle.btr_prog.specs.Prog.{Return, Need, Emit, Run, bind, exec, steps_of}
+use Rattle.btr_prog.specs.Prog.{Return, Need, Emit, bind, exec, steps_of}
 use Rattle.btr_prog.specs.Quiet.{quiet}
 use Rattle.btr_prog.specs.Thread.{thread}
 use Rattle.btr_prog.proofs.Showing.{shows_quiet}
-use Rattle.btr_read.specs.Fate.{Fault, is_plain}
+use Rattle.btr_read.specs.Fate.{is_plain}
 use Rattle.btr_read.specs.declared.want.Want.{Want}
 use Rattle.btr_read.specs.declared.want.Want.TheVariants.{Tree, Block, Sector, Plain}
 use Rattle.btr_volume.specs.declared.root.TreeRoot.{TreeRoot}

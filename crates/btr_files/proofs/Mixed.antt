@@ -6,7 +6,6 @@ use Rattle.btr_prog.specs.Blind.{IsAlike}
 use Rattle.btr_prog.specs.Goes.{GoesTo, goes_given}
 use Rattle.btr_prog.specs.Maps.{IsWhole}
 use Rattle.btr_prog.specs.Prog.{BlockMap, Prog, Return, Stop, Need, Emit, Wants, Does, Run, run, first, given, exec, steps, steps_of, bind}
-use Rattle.btr_prog.specs.Quiet.{quiet}
 use Rattle.btr_prog.specs.Shows.{AreAlike, OnlyShows}
 use Rattle.btr_prog.specs.Thread.{thread, go_on}
 

@@ -146,7 +146,7 @@ module _ (kind : SumKind) (source : Source) (Bs : ℕ → Map) (p : Progress) (p
           (λ b go. goes_first Bs given (Emit given S) S b refl go) (left_behind q h)))
 
     -- its bytes are given
-    module _ (Is : UnreadBlock → Want → Type 0) (store : Blocks) (loan : Lent) (block : List ℕ) (is : block_of store loan ≡ Some block) (len : ℕ) (verified : Bool) (len_is : len ≡ min left (length block)) (verified_is : verified ≡ not (is_plain want)) where
+    module _ (Is : UnreadBlock → Want → Type 0) (store : Blocks) (loan : Lent) (block : List ℕ) (is : block_of store loan ≡ Some block) (len : ℕ) (verified : Bool) (crc : Option ℕ) (len_is : len ≡ min left (length block)) (verified_is : verified ≡ not (is_plain want)) where
       abbrev shown_by : Option (List ℕ) → Piece
       shown_by o = Bytes (take len (unwrap_or o [])) verified
 
@@ -157,7 +157,7 @@ module _ (kind : SumKind) (source : Source) (Bs : ℕ → Map) (p : Progress) (p
           ∙ ap shown_by (sym is)
 
       pub sector_given : SectorComes Is Bs want store (Ok loan)
-          → IsGiven kind source Is Bs p (behind_sector source.size p part) store (Ok (shown.Bytes loan (span.Sector len verified)))
+          → IsGiven kind source Is Bs p (behind_sector source.size p part) store (Ok (shown.Bytes loan (span.Sector len verified crc)))
       sector_given h seen g =
           let came : Bs h.0 want ≡ Ok block = subst (λ o. IsSomeAnd o (λ b. Bs h.0 want ≡ Ok b)) is h.1 in
           record {

@@ -1,5 +1,6 @@
 -- How a file gives its next piece.
-use Rattle.std.specs.Prelude.{◌≡◌, ℕ, ◌+◌, ◌-◌, ◌%◌, ◌<◌, ◌≤◌, true, nat_le, if◌then◌else◌, List, [], ◌++◌, length, take, slice_index_or, Option, Some, None, IsSomeAnd, IsTrue, unwrap_or, Result, Ok, Err}
+use Rattle.std.specs.Prelude.{◌≡◌, ℕ, ◌+◌, ◌-◌, ◌%◌, ◌<◌, ◌≤◌, true, nat_le, if◌then◌else◌, List, [], ◌++◌, length, take, slice_index_or, Option, Some, None, IfSome, IsSomeAnd, IsTrue, unwrap_or, Result, Ok, Err}
+use Rattle.btr_base.specs.Crc.{crc32c}
 use Rattle.btr_base.specs.declared.kind.SumKind.{SumKind}
 use Rattle.btr_items.specs.FileExtent.{inline_data}
 use Rattle.btr_node.specs.Block.{items, is_leaf}
@@ -7,7 +8,10 @@ use Rattle.btr_prog.specs.Prog.{Run, Does, first, prepend, want_marks}
 use Rattle.btr_prog.specs.Answers.{Halt, Follows, no_part}
 use Rattle.btr_read.specs.Fate as fate
 use Rattle.btr_read.specs.Fate.{Fault}
+use Rattle.btr_read.specs.Layout.{Layout}
 use Rattle.btr_read.specs.Store.{Blocks, Lent, SameLoans, block_of, IsLiveIn}
+use Rattle.btr_read.specs.Want.{passes}
+use Rattle.btr_read.specs.declared.setting.Setting.{Setting}
 use Rattle.btr_read.specs.declared.want.Want.{Want}
 use Rattle.btr_read.specs.declared.want.Want.TheVariants as want
 use Rattle.btr_walk.specs.declared.fault.TreeFault.{TreeFault}
@@ -60,12 +64,12 @@ body_at block at = (slice_index_or (items block) at (record { key = key 0 0 0; o
 abbrev pub IsSpan : List ℕ → Span → Type 0
 IsSpan block (span.Inline at len) =
     (101 ≤ length block) × IsTrue (is_leaf block) × (at < length (items block)) × (0 < len) × (21 + len ≤ length (body_at block at))
-IsSpan block (span.Sector len verified) = (0 < len) × (len ≤ length block)
+IsSpan block (span.Sector len verified crc) = (0 < len) × (len ≤ length block) × IfSome crc (λ c. c ≡ crc32c (take len block))
 
 -- the piece that a block has for a span of an extent
 abbrev pub span_piece : List ℕ → Span → Piece
 span_piece block (span.Inline at len) = Bytes (take len (inline_data (body_at block at))) true
-span_piece block (span.Sector len verified) = Bytes (take len block) verified
+span_piece block (span.Sector len verified crc) = Bytes (take len block) verified
 
 -- the piece that is given
 abbrev pub shown_piece : Blocks → Shown → Piece
@@ -78,6 +82,14 @@ IsSectorWant (want.Tree addr generation level) = ⊥
 IsSectorWant (want.Block addr) = ⊥
 IsSectorWant (want.Sector addr sum) = addr % 4096 ≡ 0
 IsSectorWant (want.Plain addr) = Unit {0}
+
+-- a number is the CRC-32C of all bytes that pass for a want
+abbrev pub IsCrcFor : Want → ℕ → Type 0
+IsCrcFor w crc = (setting : Setting) (bytes : List ℕ) → passes setting w bytes ≡ true → crc ≡ crc32c bytes
+
+-- the bytes of a loan pass for a want
+abbrev pub PassesFor : Layout → Want → Blocks → Lent → Type 0
+PassesFor layout w store loan = IsSomeAnd (block_of store loan) (λ block. passes layout.setting w block ≡ true)
 
 -- the loan of a sector is new and live, and the other loans are as before
 pub record IsSectorLent (old new : Blocks) (loan : Lent) : Type 0 where

@@ -2,6 +2,7 @@
 use Rattle.std.specs.Prelude.{◌≡◌, ℕ, ◌+◌, ◌-◌, ◌*◌, ◌^◌, ◌%◌, ◌<◌, ◌≤◌, nat_le, if◌then◌else◌, true, length, List, [], ◌++◌, take, Option, Some, None, IfSome, IsSomeAnd, Result, Ok, Err, ⊤}
 use Rattle.std.specs.Borrow.{follows_so, MutBor, Fml}
 use mathlib.Core.Option.{none}
+use Rattle.btr_base.specs.Crc.{crc32c}
 use Rattle.btr_base.specs.declared.kind.SumKind.{SumKind}
 use Rattle.btr_items.specs.FileExtent.{file_extent_of, end_of, inline_data}
 use Rattle.btr_items.specs.declared.file_extent.FileExtent.{FileExtent}
@@ -39,12 +40,12 @@ use Rattle.btr_files.specs.Sums.{kind_in}
 -- a piece without the place that it is lent from
 abbrev pub piece_of : Lending → Piece
 piece_of (lending.Gap count) = Gap count
-piece_of (lending.Bytes bytes verified) = Bytes bytes.now verified
+piece_of (lending.Bytes bytes verified crc) = Bytes bytes.now verified
 
--- a piece isn't empty
+-- a piece isn't empty, and a CRC-32C that is told with it is that of its bytes
 abbrev pub IsPiece : Lending → Type 0
 IsPiece (lending.Gap count) = 0 < count
-IsPiece (lending.Bytes bytes verified) = 0 < length bytes.now
+IsPiece (lending.Bytes bytes verified crc) = (0 < length bytes.now) × IfSome crc (λ c. c ≡ crc32c bytes.now)
 
 -- how far a file has been given, and where the extent that was met last ends
 pub record Given : Type 0 where

@@ -8,5 +8,7 @@ pub enum Piece<'e> {
         bytes: &'e [u8],
         /// A checksum covers them: the sector's own, or that of the leaf that an inline extent stands in.
         verified: bool,
+        /// Their CRC-32C, where they are a whole sector that was read by a checksum of that kind.
+        crc: Option<u32>,
     },
 }

@@ -1,17 +1,18 @@
 // The sectors of a file.
-ghost use Rattle.std.specs.Prelude.{◌≡◌, ◌≤◌, ◌%◌, not, IfOk};
+ghost use Rattle.std.specs.Prelude.{◌≡◌, ◌≤◌, ◌%◌, not, IfOk, IfSome};
 ghost use Rattle.btr_rack.specs.Rack.{OnlyReads};
 ghost use Rattle.btr_read.specs.Fate.{is_plain};
 ghost use Rattle.btr_read.specs.Serves.{Serves};
 ghost use Rattle.btr_read.specs.Store.{free_count};
 ghost use Rattle.btr_walk.specs.Reading.{HasCause};
 ghost use Rattle.btr_volume.specs.Looking.{SameVolume};
-ghost use Rattle.btr_files.specs.Giving.{IsSectorWant, LendsSector};
+ghost use Rattle.btr_files.specs.Giving.{IsCrcFor, IsSectorWant, LendsSector, PassesFor};
 ghost use Rattle.btr_files.specs.Told.{KeepsSums, TellsWant, TellsSector};
 
 use crate::progress::Source;
 use crate::sums::{kind_of, sum_ahead};
 use crate::sums_ahead::SumsAhead;
+use btr_base::{SumKind, u32_at};
 use btr_rack::Rack;
 use btr_read::{Loan, Store, Want, fetch};
 use btr_volume::Volume;
@@ -24,6 +25,21 @@ pub(crate) fn is_tested(want: &Want) -> bool
     match want {
         Want::Tree { .. } | Want::Block { .. } | Want::Sector { .. } => true,
         Want::Plain { .. } => false,
+    }
+}
+
+// The CRC-32C of the first `len` bytes of those that pass for a want: where these are a whole sector, and its checksum is one, which its size tells.
+pub(crate) fn crc_of(want: &Want, len: usize) -> Option<u32>
+    ensures { IfSome result (λ crc. (len ≡ 4096) × IsCrcFor want.now crc) }
+{
+    match want {
+        Want::Sector { sum, .. } => {
+            if len != 4096 || usize::from(sum.size) != SumKind::Crc32c.size() {
+                return None;
+            }
+            Some(u32_at(&sum.bytes, 0))
+        }
+        Want::Tree { .. } | Want::Block { .. } | Want::Plain { .. } => None,
     }
 }
 
@@ -71,6 +87,7 @@ pub(crate) fn read_sector<R: Rack>(
     ensures serves { Serves (R.seen rack.new) store.new }
     ensures reads { OnlyReads (R.seen rack.old) (R.seen rack.new) }
     ensures lent { LendsSector store.old store.new result }
+    ensures passes { IfOk result (PassesFor store.old.layout want.now store.new) }
     ensures cause { HasCause store.old.layout (R.seen rack.old) (R.seen rack.new) result }
     ensures content { TellsSector store.old.layout (R.seen rack.old) (R.seen rack.new) want.now store.new result }
 {

@@ -14,7 +14,7 @@ ghost use Rattle.btr_files.specs.Told.{TellsStep, TellsSummed, TellsNextStep};
 use crate::extent::find_next;
 use crate::lookup::{give_back, keep};
 use crate::progress::{InlinePart, Progress, SectorPart, Source, Todo};
-use crate::sector::{is_tested, read_sector, want_of};
+use crate::sector::{crc_of, is_tested, read_sector, want_of};
 use crate::sums_ahead::SumsAhead;
 use crate::{FileBytes, Piece};
 use btr_items::FileExtent;
@@ -28,9 +28,16 @@ use btr_walk::{MetAgain, TreeFault};
 #[derive(Clone, Copy, Debug)]
 pub(crate) enum Span {
     /// The first `len` bytes of the inline extent that item `at` of the leaf holds.
-    Inline { at: usize, len: usize },
-    /// The first `len` bytes of the sector; it may have been tested.
-    Sector { len: usize, verified: bool },
+    Inline {
+        at: usize,
+        len: usize,
+    },
+    /// The first `len` bytes of the sector; it may have been tested, and their CRC-32C be known.
+    Sector {
+        len: usize,
+        verified: bool,
+        crc: Option<u32>,
+    },
 }
 
 /// A piece that is given, with the loan of its bytes.
@@ -157,8 +164,9 @@ fn give_sector<R: Rack>(
     let left = source.size - part.start;
     let len = left.min(vol.store.bytes(&loan).len() as u64) as usize;
     let verified = is_tested(&want);
+    let crc = crc_of(&want, len);
     pass_sector(source.size, progress, part);
-    Ok(Shown::Bytes(loan, Span::Sector { len, verified }))
+    Ok(Shown::Bytes(loan, Span::Sector { len, verified, crc }))
 }
 
 // Gives the next piece of what is at hand, and goes on behind it.
@@ -251,11 +259,13 @@ fn piece_in(block: &[u8], span: Span) -> Piece<'_>
             Piece::Bytes {
                 bytes: &FileExtent::inline_data(body)[..len],
                 verified: true,
+                crc: None,
             }
         }
-        Span::Sector { len, verified } => Piece::Bytes {
+        Span::Sector { len, verified, crc } => Piece::Bytes {
             bytes: &block[..len],
             verified,
+            crc,
         },
     }
 }

@@ -15,10 +15,12 @@ use btr_walk::TreeFault;
 use std::alloc::{AllocError, Global};
 use std::test::Fail;
 
-/// A piece: so many zeros; or bytes by their count, the first and the last of them, covered by a checksum or not; or a fault in its place.
+/// A piece: so many zeros; or bytes by their count, the first and the last of them, with their CRC-32C, or else covered by a checksum or not; or a fault
+/// in its place.
 #[derive(Clone, Copy, Debug, PartialEq, Eq)]
 enum Part {
     Gap(u64),
+    Summed(usize, u8, u8),
     Verified(usize, u8, u8),
     Plain(usize, u8, u8),
     Fault(TreeFault),
@@ -47,12 +49,16 @@ fn part_of(piece: Piece<'_>) -> Part
 {
     match piece {
         Piece::Gap(count) => Part::Gap(count),
-        Piece::Bytes { bytes, verified } => {
+        Piece::Bytes {
+            bytes,
+            verified,
+            crc,
+        } => {
             let (first, last) = (bytes[0], bytes[bytes.len() - 1]);
-            if verified {
-                Part::Verified(bytes.len(), first, last)
-            } else {
-                Part::Plain(bytes.len(), first, last)
+            match (verified, crc) {
+                (true, Some(_)) => Part::Summed(bytes.len(), first, last),
+                (true, None) => Part::Verified(bytes.len(), first, last),
+                (false, _) => Part::Plain(bytes.len(), first, last),
             }
         }
     }
@@ -165,8 +171,8 @@ const PIECES: [(u64, u64, &[Part]); 9] = [
         30000,
         &[
             Part::Gap(4096),
-            Part::Verified(4096, 1, 1),
-            Part::Verified(4096, 2, 2),
+            Part::Summed(4096, 1, 1),
+            Part::Summed(4096, 2, 2),
             Part::Gap(17712),
         ],
     ),
@@ -179,8 +185,8 @@ const PIECES: [(u64, u64, &[Part]); 9] = [
         260,
         16384,
         &[
-            Part::Verified(4096, 1, 1),
-            Part::Verified(4096, 2, 2),
+            Part::Summed(4096, 1, 1),
+            Part::Summed(4096, 2, 2),
             Part::Fault(TreeFault::Lost(DATA + 8192)),
         ],
     ),
@@ -188,8 +194,8 @@ const PIECES: [(u64, u64, &[Part]); 9] = [
         261,
         12288,
         &[
-            Part::Verified(4096, 1, 1),
-            Part::Verified(4096, 2, 2),
+            Part::Summed(4096, 1, 1),
+            Part::Summed(4096, 2, 2),
             Part::Fault(TreeFault::Malformed(START + 16384)),
         ],
     ),
@@ -247,14 +253,13 @@ const TWO_RUNS: [Run<'static>; 2] = [
     },
 ];
 
-const BY_TWO_RUNS: [Part; 6] = [
-    Part::Verified(4096, 3, 3),
-    Part::Verified(4096, 4, 4),
-    Part::Plain(4096, 5, 5),
-    Part::Verified(4096, 6, 6),
-    Part::Verified(4096, 7, 7),
-    Part::Plain(4096, 8, 8),
-];
+// A sector that was tested by a checksum of a kind.
+fn tested(kind: SumKind, byte: u8) -> Part {
+    match kind {
+        SumKind::Crc32c => Part::Summed(4096, byte, byte),
+        SumKind::Xxh64 | SumKind::Sha256 => Part::Verified(4096, byte, byte),
+    }
+}
 
 #[test]
 fn checksums_of_each_kind(rt: HostRuntime) -> Result<(), Fail> {
@@ -264,8 +269,16 @@ fn checksums_of_each_kind(rt: HostRuntime) -> Result<(), Fail> {
             runs: &TWO_RUNS,
             failing: 0,
         };
+        let wanted = [
+            tested(kind, 3),
+            tested(kind, 4),
+            Part::Plain(4096, 5, 5),
+            tested(kind, 6),
+            tested(kind, 7),
+            Part::Plain(4096, 8, 8),
+        ];
         let found = parts(rt.alloc(), &setting, file(263, 24576))?;
-        assert_eq!(rt; found.as_slice(), BY_TWO_RUNS.as_slice());
+        assert_eq!(rt; found.as_slice(), wanted.as_slice());
     }
     Ok(())
 }

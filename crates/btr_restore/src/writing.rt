@@ -35,7 +35,11 @@ fn put_piece<T: TreeSink>(piece: Piece<'_>, plain: bool, tree: &mut T) -> Result
             Ok(()) => Ok(plain),
             Err(error) => Err(sink_stop(error)),
         },
-        Piece::Bytes { bytes, verified } => match tree.put(bytes) {
+        Piece::Bytes {
+            bytes,
+            verified,
+            ..
+        } => match tree.put(bytes) {
             Ok(()) => Ok(is_plain(plain, verified)),
             Err(error) => Err(sink_stop(error)),
         },

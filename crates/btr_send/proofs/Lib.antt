@@ -1,4 +1,5 @@
 pub mod Encoding
+pub mod Shifting
 mod Putting
 mod Writings
 mod Treats

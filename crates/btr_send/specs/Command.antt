@@ -1,8 +1,8 @@
 -- The bytes of a send stream of version 1: a header, and commands with their attributes
 -- and checksums. All numbers are little-endian.
-use Rattle.std.specs.Prelude.{ℕ, List, [], ◌∷◌, ◌++◌, codes, drop, length}
+use Rattle.std.specs.Prelude.{◌≡◌, ℕ, ◌+◌, ◌-◌, ◌≤◌, List, [], ◌∷◌, ◌++◌, codes, drop, length}
 use Rattle.std.specs.Int.{to_le_bytes, w16, w32, w64}
-use Rattle.btr_base.specs.Crc.{register}
+use Rattle.btr_base.specs.Crc.{crc32c, register}
 
 -- the stream begins with its magic, a zero byte and the version
 abbrev pub header : List ℕ
@@ -20,6 +20,10 @@ command_with sum number attributes =
 -- a command: its checksum is the register from 0 over it with a checksum of 0, not inverted
 unfoldable pub command : ℕ → List ℕ → List ℕ
 command number attributes = command_with (register 0 (command_with 0 number attributes)) number attributes
+
+-- a number is the CRC-32C of the last 4096 bytes of a command, all behind its head
+abbrev pub IsLastCrc : List ℕ → ℕ → Type 0
+IsLastCrc command crc = (10 + 4096 ≤ length command) × (crc ≡ crc32c (drop (length command - 4096) command))
 
 -- a number of 8 bytes as an attribute
 abbrev pub number_attribute : ℕ → ℕ → List ℕ

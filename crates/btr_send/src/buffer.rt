@@ -1,7 +1,9 @@
 // One command of the stream.
-ghost use Rattle.std.specs.Prelude.{◌≡◌, ◌+◌, ◌≤◌, ◌<◌, ◌++◌, IfOk, OnOk, [], drop, length, replicate, take};
-ghost use Rattle.btr_send.specs.Command.{attribute, below, command, end, mkdir, mkfile, subvol, truncate, write};
+ghost use Rattle.std.specs.Prelude.{◌≡◌, ◌+◌, ◌≤◌, ◌<◌, ◌++◌, IfOk, IfSome, OnOk, [], drop, length, replicate, take};
+ghost use Rattle.btr_base.specs.Crc.{crc32c, register};
+ghost use Rattle.btr_send.specs.Command.{attribute, below, command, end, mkdir, mkfile, subvol, truncate, write, IsLastCrc};
 
+use crate::shift::{SECTOR, SectorShift};
 use btr_base::{Memory, crc_register};
 use std::alloc::Global;
 use std::marker::Model;
@@ -37,6 +39,7 @@ const END: u16 = 21;
 #[derive(Drop)]
 pub(crate) struct Buffer {
     bytes: Vec<u8>,
+    shift: SectorShift,
 }
 
 impl Model for Buffer {
@@ -65,15 +68,38 @@ fn write_at(bytes: &mut [u8], at: usize, part: &[u8])
     bytes[at..at + part.len()].copy_from_slice(part);
 }
 
+// The CRC-32C of a part, where that is a whole sector.
+fn of_sector(part: &[u8], crc: Option<u32>) -> Option<u32>
+    requires { IfSome crc (λ c. c ≡ crc32c part.now) }
+    ensures { IfSome result (λ c. (length part.now ≡ 4096) × (c ≡ crc32c part.now)) }
+{
+    if part.len() == SECTOR { crc } else { None }
+}
+
+// The register from 0 after a command, of whose last bytes the CRC-32C may be known.
+fn register_of(bytes: &[u8], crc: Option<u32>, shift: &SectorShift) -> u32
+    requires { IfSome crc (IsLastCrc bytes.now) }
+    ensures { result ≡ register 0 bytes.now }
+{
+    match crc {
+        None => crc_register(0, bytes),
+        Some(crc) => {
+            let front = &bytes[..bytes.len() - SECTOR];
+            shift.register_behind(crc_register(0, front), crc)
+        }
+    }
+}
+
 // Writes the first ten bytes of a command: the length of its attributes, its number and its checksum.
-fn write_head(bytes: &mut [u8], number: u16, len: u32)
+fn write_head(bytes: &mut [u8], number: u16, len: u32, crc: Option<u32>, shift: &SectorShift)
     requires blank { take 10 bytes.old ≡ replicate 10 0 }
     requires long { length bytes.old ≡ 10 + len }
+    requires known { IfSome crc (IsLastCrc bytes.old) }
     ensures { bytes.new ≡ command number (drop 10 bytes.old) }
 {
     write_at(bytes, 0, &len.to_le_bytes());
     write_at(bytes, 4, &number.to_le_bytes());
-    let sum = crc_register(0, bytes);
+    let sum = register_of(bytes, crc, shift);
     write_at(bytes, 6, &sum.to_le_bytes());
 }
 
@@ -83,7 +109,10 @@ impl Buffer {
         ensures { IfOk result (λ buffer. buffer ≡ []) }
     {
         match Vec::with_capacity(alloc, MOST_BYTES) {
-            Ok(bytes) => Ok(Buffer { bytes }),
+            Ok(bytes) => Ok(Buffer {
+                bytes,
+                shift: SectorShift::new(),
+            }),
             Err(_) => Err(Memory),
         }
     }
@@ -122,6 +151,18 @@ impl Buffer {
         self.add(part)
     }
 
+    // Ends a command, behind its attributes. Of its last bytes the CRC-32C may be known.
+    fn finish_by(&mut self, number: u16, crc: Option<u32>)
+        requires blank { take 10 self.old ≡ replicate 10 0 }
+        requires long { 10 ≤ length self.old }
+        requires fits { length self.old < 65536 }
+        requires known { IfSome crc (IsLastCrc self.old) }
+        ensures { self.new ≡ command number (drop 10 self.old) }
+    {
+        let len = (self.bytes.len() - 10) as u32;
+        write_head(self.bytes.as_mut_slice(), number, len, crc, &self.shift);
+    }
+
     // Ends a command, behind its attributes.
     fn finish(&mut self, number: u16)
         requires blank { take 10 self.old ≡ replicate 10 0 }
@@ -129,9 +170,9 @@ impl Buffer {
         requires fits { length self.old < 65536 }
         ensures { self.new ≡ command number (drop 10 self.old) }
     {
-        let len = (self.bytes.len() - 10) as u32;
-        write_head(self.bytes.as_mut_slice(), number, len);
+        self.finish_by(number, None);
     }
+
     /// The command of the subvolume. `Memory`: the buffer has no room, which it has for a name of 255 bytes.
     #[tactic(auto, using(crate::proofs::Encoding::attribute_length))]
     pub(crate) fn fill_subvol(
@@ -176,18 +217,25 @@ impl Buffer {
         Ok(())
     }
 
-    /// The command that writes bytes of a file from an offset on.
+    /// The command that writes bytes of a file from an offset on. Their CRC-32C may be known: then those of a whole sector aren't summed once more.
     #[tactic(auto, using(crate::proofs::Encoding::attribute_length))]
-    pub(crate) fn fill_write(&mut self, path: &[u8], offset: u64, part: &[u8]) -> Result<(), Memory>
+    pub(crate) fn fill_write(
+        &mut self,
+        path: &[u8],
+        offset: u64,
+        part: &[u8],
+        crc: Option<u32>,
+    ) -> Result<(), Memory>
         requires short { length path.now ≤ 4096 }
         requires few { length part.now ≤ 4096 }
+        requires sum { IfSome crc (λ c. c ≡ crc32c part.now) }
         ensures { OnOk result (self.new ≡ write path.now offset part.now) }
     {
         self.begin()?;
         self.add_attribute(PATH, below(path))?;
         self.add_attribute(FILE_OFFSET, &offset.to_le_bytes())?;
         self.add_attribute(DATA, part)?;
-        self.finish(WRITE);
+        self.finish_by(WRITE, of_sector(part, crc));
         Ok(())
     }
 

@@ -1,5 +1,6 @@
 // The commands of the stream, each put whole into the one file.
-ghost use Rattle.std.specs.Prelude.{◌≡◌, ◌≢◌, ◌≤◌, ◌<◌, [], OnOk, length};
+ghost use Rattle.std.specs.Prelude.{◌≡◌, ◌≢◌, ◌≤◌, ◌<◌, [], IfSome, OnOk, length};
+ghost use Rattle.btr_base.specs.Crc.{crc32c};
 ghost use Rattle.btr_prog.specs.Prog.{Emit, Return};
 ghost use Rattle.btr_rack.specs.Name.{IsGoodName};
 ghost use Rattle.btr_rack.specs.Sink.{NotStarted, BetweenFiles, InFile, started, begun};
@@ -127,21 +128,23 @@ pub(crate) fn put_mkdir<T: TreeSink>(
     }
 }
 
-// Writes at most 4096 bytes of a file from an offset on.
+// Writes at most 4096 bytes of a file from an offset on. Their CRC-32C may be known.
 fn put_write<T: TreeSink>(
     path: &[u8],
     offset: u64,
     part: &[u8],
+    crc: Option<u32>,
     buffer: &mut Buffer,
     tree: &mut T,
 ) -> Result<(), Stop>
     requires begun { (T.sink tree.old).stage ≡ InFile }
     requires short { length path.now ≤ 4096 }
     requires few { length part.now ≤ 4096 }
+    requires sum { IfSome crc (λ c. c ≡ crc32c part.now) }
     ensures wrote { WroteIn (tells (write path.now offset part.now) (Return tt)) T.sink T.account tree.old tree.new result }
     ensures stage { (T.sink tree.new).stage ≡ InFile }
 {
-    match buffer.fill_write(path, offset, part) {
+    match buffer.fill_write(path, offset, part, crc) {
         Ok(()) => put_bytes(buffer.as_bytes(), tree),
         Err(_) => Err(Stop::Memory),
     }
@@ -154,26 +157,28 @@ pub(crate) fn behind(offset: u64, n: u64) -> u64
     offset.saturating_add(n)
 }
 
-/// Writes bytes of a file from an offset on: at most 4096 with each command.
+/// Writes bytes of a file from an offset on: at most 4096 with each command. Their CRC-32C may be known.
 pub(crate) fn put_writes<T: TreeSink>(
     path: &[u8],
     offset: u64,
     part: &[u8],
+    crc: Option<u32>,
     buffer: &mut Buffer,
     tree: &mut T,
 ) -> Result<(), Stop>
     requires begun { (T.sink tree.old).stage ≡ InFile }
     requires short { length path.now ≤ 4096 }
     requires some { 0 < length part.now }
+    requires sum { IfSome crc (λ c. c ≡ crc32c part.now) }
     ensures wrote { WroteIn (writes path.now offset part.now) T.sink T.account tree.old tree.new result }
     ensures stage { (T.sink tree.new).stage ≡ InFile }
 {
     if part.len() <= 4096 {
-        return put_write(path, offset, part, buffer, tree);
+        return put_write(path, offset, part, crc, buffer, tree);
     }
     let (front, rest) = part.split_at(4096);
-    match put_write(path, offset, front, buffer, tree) {
-        Ok(()) => put_writes(path, behind(offset, 4096), rest, buffer, tree),
+    match put_write(path, offset, front, None, buffer, tree) {
+        Ok(()) => put_writes(path, behind(offset, 4096), rest, None, buffer, tree),
         Err(stop) => Err(stop),
     }
 }

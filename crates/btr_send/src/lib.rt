@@ -14,6 +14,7 @@ mod listing;
 mod plan;
 mod progress;
 mod sending;
+mod shift;
 mod source;
 mod treating;
 mod writing;

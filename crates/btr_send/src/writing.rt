@@ -43,8 +43,12 @@ fn put_piece<T: TreeSink>(
             offset: behind(now.offset, count),
             plain: now.plain,
         }),
-        Piece::Bytes { bytes, verified } => {
-            match put_writes(path, now.offset, bytes, buffer, tree) {
+        Piece::Bytes {
+            bytes,
+            verified,
+            crc,
+        } => {
+            match put_writes(path, now.offset, bytes, crc, buffer, tree) {
                 Err(stop) => Err(stop),
                 Ok(()) => Ok(Progress {
                     offset: behind(now.offset, bytes.len() as u64),

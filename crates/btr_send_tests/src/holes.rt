@@ -40,7 +40,7 @@ fn empty(alloc: Global, size: u64) -> Result<Scene, Fail> {
 
 #[test]
 fn sizes_within_a_sector(rt: HostRuntime) -> Result<(), Fail> {
-    for size in [1, 4095, 4096, 4097, 8191, 12289] {
+    for size in [1, 4095, 4096, 4097, 8191, 9000, 12289] {
         let bytes = pattern(rt.alloc(), size, size)?;
         let mut scene = empty(rt.alloc(), size)?;
         scene.extent(257, 0, bytes.as_slice())?;

@@ -93,7 +93,7 @@ returns-clause-content g c =
     let some : 0 < part.count = (subst (FitsTodo source.size p.at p.end) c.requires.todo c.requires.underway.fits).1 in
     let looked = λ (r : Result Want TreeFault) (B : Map). Follows (unread_by layout a b) no_part [] (exec B (sector_want kind source.sums source.nosum part.addr)) [] (answer_of r) in
     let comes = λ (r : Result Lent TreeFault) (Bs : ℕ → Map). SectorComes (unread_by mid b d) Bs want new r in
-    let given : Shown = shown.Bytes loan (span.Sector c.min-len.result c.is_tested-verified.result) in
+    let given : Shown = shown.Bytes loan (span.Sector c.min-len.result c.is_tested-verified.result c.crc_of-crc.result) in
     subst (λ (x : Progress). TellsAll layout a d (λ Bs. GivenWithSums kind source is Bs p x new c.args.ahead.now c.want_of.new.ahead (Ok given)))
     (sym c.pass_sector.ensures)
     (all_joined (λ Bs. with_sums (looked c.want_of.result) source.sums c.args.ahead.now c.want_of.new.ahead (Bs 0)) (comes c.read_sector.result)
@@ -102,7 +102,7 @@ returns-clause-content g c =
     (λ Bs h k summed. let both = h summed in (
       sector_given kind source Bs p part c.requires.todo c.requires.begun some want (unread_by layout a b)
           (subst (λ r. looked r (Bs 0)) (c.in_ok-want.was {u = tt}) both.0) is new loan c.bytes.result.now c.bytes.ensures.value c.min-len.result
-          c.is_tested-verified.result c.min-len.ensures c.is_tested-verified.ensures
+          c.is_tested-verified.result c.crc_of-crc.result c.min-len.ensures c.is_tested-verified.ensures
           (subst (λ r. comes r Bs) (c.in_ok-loan.was {u = tt}) k),
       both.1,
     ))

@@ -43,7 +43,7 @@ returns-in-Ok-put-clause-wrote g c text calls =
     subst (λ (p : Piece). Wrote (put c.args.plain (piece_of p))
     (outside (g.T.TreeSink.sink c.args.tree.now) (g.T.TreeSink.account c.args.tree.now) text calls)
     (outside (g.T.TreeSink.sink c.put.new.self) (g.T.TreeSink.account c.put.new.self) text calls) (Ok c.is_plain.result)) (sym c.in-Bytes.is)
-    (subst (λ (b : Bool). Wrote (put c.args.plain (piece_of (lending.Bytes c.in-Bytes.bytes c.in-Bytes.verified)))
+    (subst (λ (b : Bool). Wrote (put c.args.plain (piece_of (lending.Bytes c.in-Bytes.bytes c.in-Bytes.verified c.in-Bytes.crc)))
     (outside (g.T.TreeSink.sink c.args.tree.now) (g.T.TreeSink.account c.args.tree.now) text calls)
     (outside (g.T.TreeSink.sink c.put.new.self) (g.T.TreeSink.account c.put.new.self) text calls) (Ok b)) (sym c.is_plain.ensures)
     (record { did = emits_step (Bytes c.in-Bytes.bytes.now) _ _ text _ refl c.in-Ok-put.ensures.step; sink_calls = c.in-Ok-put.ensures.account; out_calls = refl; stops = tt }))
@@ -55,7 +55,7 @@ returns-in-Err-put-clause-wrote g c text calls =
     (outside (g.T.TreeSink.sink c.args.tree.now) (g.T.TreeSink.account c.args.tree.now) text calls)
     (outside (g.T.TreeSink.sink c.put.new.self) (g.T.TreeSink.account c.put.new.self) text calls) (Err c.sink_stop-in-Err-put.result)) (sym c.in-Bytes.is)
     (record {
-      did = as_sink (λ answer. Emits (put c.args.plain (piece_of (lending.Bytes c.in-Bytes.bytes c.in-Bytes.verified)))
+      did = as_sink (λ answer. Emits (put c.args.plain (piece_of (lending.Bytes c.in-Bytes.bytes c.in-Bytes.verified c.in-Bytes.crc)))
           (g.T.TreeSink.sink c.args.tree.now) (g.T.TreeSink.sink c.put.new.self) text text answer) _ c.in-Err-put.error c.sink_stop-in-Err-put.ensures
           (emits_part (Bytes c.in-Bytes.bytes.now) _ _ text (Bytes (take cut.0 c.in-Bytes.bytes.now)) cut.0
           (Return (c.args.plain || not c.in-Bytes.verified)) refl refl cut.1);

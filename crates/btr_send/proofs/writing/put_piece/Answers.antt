@@ -35,7 +35,7 @@ returns-in-Ok-clause-wrote g c text calls =
     let y = outside (g.T.TreeSink.sink c.put_writes.new.tree) (g.T.TreeSink.account c.put_writes.new.tree) text calls in
     let sent = progress (behind c.args.now.offset (length c.in-Bytes.bytes.now)) (c.args.now.plain || not c.in-Bytes.verified) in
     subst (λ (p : Piece). Wrote (put c.args.path.now c.args.now (piece_of p)) x y (Ok (progress c.behind-in-Ok.result c.is_plain.result))) (sym c.in-Bytes.is)
-    (subst (λ (s : Progress). Wrote (put c.args.path.now c.args.now (piece_of (lending.Bytes c.in-Bytes.bytes c.in-Bytes.verified))) x y (Ok s))
+    (subst (λ (s : Progress). Wrote (put c.args.path.now c.args.now (piece_of (lending.Bytes c.in-Bytes.bytes c.in-Bytes.verified c.in-Bytes.crc))) x y (Ok s))
     (sym (ap (λ (n : ℕ). progress n c.is_plain.result) c.behind-in-Ok.ensures ∙ ap (λ (b : Bool). progress (behind c.args.now.offset
     (length c.in-Bytes.bytes.now)) b) c.is_plain.ensures))
     (wrote_then (writes c.args.path.now c.args.now.offset c.in-Bytes.bytes.now) (λ u. Return sent) x y y tt (Ok sent) (c.in-Ok.ensures.wrote text calls)
