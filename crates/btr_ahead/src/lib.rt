@@ -16,8 +16,6 @@ mod kept_bytes;
 mod kept_run;
 mod runs;
 mod sector_run;
-#[cfg(test)]
-mod tests;
 
 pub use ahead_rack::AheadRack;
 pub use data_ahead::DataAhead;
