@@ -1,6 +1,9 @@
 -- Claims and names that are the same.
-use Rattle.std.proofs.Common.{◌≡◌, ℕ, Bool, true, false, ◌&&◌, List, refl, sym, ◌∙◌, eqb-true, eq-eqb, true≢false}
+use Rattle.std.proofs.Common.{◌≡◌, ℕ, Bool, true, false, ◌&&◌, List, refl, sym, ap, ◌∙◌, eqb-true, eq-eqb, true≢false}
 use Rattle.std.proofs.lemmas.Slice.Eq.{bytes_eq-Decides}
+use Rattle.std.proofs.lemmas.Cmp.{on_total, then_total, nat_cmp_total}
+use Rattle.std.specs.Cmp.{IsTotalOrder}
+use Rattle.std.specs.FinMap.{IsAntisymmetric}
 use Rattle.std.specs.Ordering.{is_eq, nat_cmp, ordering_then}
 use Rattle.std.specs.Str.{bytes_eq}
 use Rattle.std.specs.declared.cmp.Ordering.{Ordering}
@@ -58,3 +61,15 @@ claim_itself a =
     then_both (nat_cmp a.dir a.dir) (ordering_then (nat_cmp a.offset a.offset) last) (number_itself a.dir)
     (then_both (nat_cmp a.offset a.offset) last (number_itself a.offset)
     (then_both (target_cmp a.target a.target) (nat_cmp a.kind a.kind) (target_itself a.target) (number_itself a.kind)))
+
+targets_total : IsTotalOrder target_cmp
+targets_total = then_total (on_total (λ (t : Target). t.objectid) nat_cmp_total) (then_total (on_total (λ (t : Target). t.kind) nat_cmp_total) (on_total (λ (t : Target). t.offset) nat_cmp_total))
+
+-- the order of claims
+pub claims_total : IsTotalOrder claim_cmp
+claims_total =
+    then_total (on_total (λ (c : Claim). c.dir) nat_cmp_total) (then_total (on_total (λ (c : Claim). c.offset) nat_cmp_total)
+    (then_total (on_total (λ (c : Claim). c.target) targets_total) (on_total (λ (c : Claim). c.kind) nat_cmp_total)))
+
+pub one_claim : IsAntisymmetric claim_cmp
+one_claim a b same = same_claim a b (ap is_eq same)

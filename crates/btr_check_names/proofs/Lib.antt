@@ -2,10 +2,12 @@ pub mod Claims
 pub mod Pairing
 pub mod Packing
 pub mod Reading
+pub mod Joining
 pub mod Looking
 pub mod MetEntries
 pub mod MetInodes
 pub mod MetNames
 pub mod Rules
+pub mod Slotted
 pub mod Meeting
 pub mod Together

@@ -7,6 +7,7 @@ pub mod Pairs
 pub mod Sets
 pub mod Shown
 pub mod ShownNames
+pub mod Slots
 pub mod Subvolume
 pub mod Subvolumes
 pub mod Standing

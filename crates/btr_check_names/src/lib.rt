@@ -10,6 +10,7 @@
 //! and `ShownNames` say how names lie in a buffer, and `Sets` what the sets and sums have.
 #![tactic(auto)]
 
+mod ascending;
 mod claim;
 mod current;
 mod dir_entry;
@@ -29,12 +30,14 @@ mod put_inodes;
 mod put_subvolumes;
 mod putting;
 mod sets;
+mod slot;
 mod subvolume_list;
 mod subvolume_name;
 mod subvolume_names;
 mod taking;
 mod tree_names;
 mod unpaired;
+mod waiting;
 
 use dir_entry::{DirEntry, Target};
 use entry_list::EntryList;

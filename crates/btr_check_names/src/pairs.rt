@@ -1,19 +1,17 @@
 // Names that two items each are to give.
-ghost use Rattle.std.specs.Prelude.{◌≡◌, OnOk, IfOk};
+ghost use Rattle.std.specs.Prelude.{◌≡◌, IfOk, OnOk};
 ghost use Rattle.btr_check_names.specs.Pairs.{no_pairs, met, met_fits, waiting_at, waiting_then, are_met};
 
 use crate::claim::Claim;
-use crate::half::Half;
+use crate::waiting::Waiting;
 use btr_base::Memory;
 use std::alloc::Global;
-use std::collections::BTreeMap;
 use std::marker::Model;
 
 /// Names that two items each are to give: those that one has given and the other hasn't yet, and whether two have given different names.
 #[derive(Drop)]
 pub(crate) struct Pairs {
-    alloc: Global,
-    waiting: BTreeMap<Claim, Half>,
+    waiting: Waiting,
     differ: bool,
 }
 
@@ -22,7 +20,9 @@ impl Model for Pairs {
 
     ghost Value = { pairs.Pairs };
 
-    ghost view = { λ pairs. record { waiting = pairs.waiting.entries; differ = pairs.differ } };
+    ghost coded = { pairs.coded_pairs };
+
+    ghost view = { λ pairs. record { waiting = pairs.waiting; differ = pairs.differ } };
 }
 
 impl Pairs {
@@ -31,8 +31,7 @@ impl Pairs {
         ensures { result ≡ no_pairs }
     {
         Pairs {
-            alloc,
-            waiting: BTreeMap::new(alloc),
+            waiting: Waiting::new(alloc),
             differ: false,
         }
     }
@@ -41,7 +40,7 @@ impl Pairs {
     pub(crate) fn meet(&mut self, claim: Claim, is_first: bool, name: &[u8]) -> Result<(), Memory>
         ensures { OnOk result (self.new ≡ met self.old claim is_first name.now) }
     {
-        if !meet_other(self.alloc, &mut self.waiting, claim, is_first, name)? {
+        if !meet_other(&mut self.waiting, claim, is_first, name)? {
             self.differ = true;
         }
         Ok(())
@@ -57,21 +56,17 @@ impl Pairs {
 
 // A name is given: where the other item waits for it, that is let go, and the answer is whether it gives the same; else it waits itself.
 fn meet_other(
-    alloc: Global,
-    waiting: &mut BTreeMap<Claim, Half>,
+    waiting: &mut Waiting,
     claim: Claim,
     is_first: bool,
     name: &[u8],
 ) -> Result<bool, Memory>
-    ensures fits { IfOk result (λ same. same ≡ met_fits (waiting_at waiting.old.entries claim) is_first name.now) }
-    ensures left { OnOk result (waiting.new.entries ≡ waiting_then waiting.old.entries claim is_first name.now) }
+    ensures fits { IfOk result (λ same. same ≡ met_fits (waiting_at waiting.old claim) is_first name.now) }
+    ensures left { OnOk result (waiting.new ≡ waiting_then waiting.old claim is_first name.now) }
 {
-    if let Some(half) = waiting.remove(&claim) {
-        return Ok(half.fits(is_first, name));
+    if let Some(fits) = waiting.meet(&claim, is_first, name)? {
+        return Ok(fits);
     }
-    let half = Half::new(alloc, is_first, name)?;
-    match waiting.insert(claim, half) {
-        Ok(_) => Ok(true),
-        Err(_) => Err(Memory),
-    }
+    waiting.wait(claim, is_first, name)?;
+    Ok(true)
 }
