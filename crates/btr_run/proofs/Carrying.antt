@@ -24,7 +24,7 @@ use Rattle.btr_run.specs.Scrubbed.{mending_writes}
 use Rattle.btr_run.specs.Unopened.{IsUnopened}
 use Rattle.btr_run.specs.Words.{Words, IsUsageAt}
 use Rattle.btr_run.specs.declared.plan.Command.{Command}
-use Rattle.btr_run.specs.declared.plan.Command.TheVariants.{Super, Dump, Resolve, Check, Restore, Salvage, Scrub, Send, SelfTest}
+use Rattle.btr_run.specs.declared.plan.Command.TheVariants.{Super, Ask, Check, Scrub, SelfTest}
 use Rattle.btr_run.specs.declared.opening.OpeningFault.{OpeningFault}
 use Rattle.btr_run.specs.declared.opening.OpeningFault.TheVariants.{TooMany, Failed, Memory as memory_fault}
 use Rattle.btr_volume.specs.declared.which.Which.TheVariants.{Images as images_limit}
@@ -78,13 +78,9 @@ as_opened calm (Some at) (Some images) slots answer other opens = (images, opens
 pub agreed_before : (command : Command) (words : Words) (images : Images) (answer : Answer) → error_line answer ≢ [] → IsUnopened images (refused answer)
     → ComesAgreed command words images (refused answer)
 agreed_before Super words images answer line unread = inr (refl, line)
-agreed_before (Dump choice) words images answer line unread = inr (inr unread)
-agreed_before (Resolve addr) words images answer line unread = inr (inr unread)
+agreed_before (Ask query) words images answer line unread = inr (inr unread)
 agreed_before (Check read_data) words images answer line unread = inl (inr unread)
 agreed_before (Scrub write) words images answer line unread = inl (inr unread)
-agreed_before (Restore dest plan) words images answer line unread = inr (inr unread)
-agreed_before (Salvage dest plan) words images answer line unread = inr (inr unread)
-agreed_before (Send dest file plan) words images answer line unread = inr (inr unread)
 agreed_before (SelfTest number) words images answer line unread = inr (refl, line)
 
 -- words that are no sentence

@@ -2,6 +2,7 @@
 use Rattle.std.proofs.Common.{ℕ, Bool, true, false, ◌+◌, ◌<◌, ◌≤◌, List, [], ◌∷◌, length, refl, sym, ap, subst, arith}
 use Rattle.std.proofs.lemmas.List.{length-append, length-drop}
 use Rattle.btr_run.specs.Commands.{HasWords}
+use Rattle.btr_run.specs.Queries.{HasQueryWords}
 use Rattle.btr_run.specs.Restores.{options_words, plan_by}
 use Rattle.btr_run.specs.Words.{Destination, File, IsSentence, Number, Part, Reads, TakesDestination, Volume, Word, Words, command_of, images_of, nothing_of}
 use Rattle.btr_run.specs.SelfTested.{TakesImages}
@@ -9,8 +10,7 @@ use Rattle.btr_run.specs.Words.{parts_of, restore_of}
 use Rattle.btr_run.specs.declared.place.Read.{Read}
 use Rattle.btr_run.specs.declared.plan.Plan.{Plan}
 use Rattle.btr_run.specs.declared.sentence.Sentence.{Sentence}
-use Rattle.btr_run.specs.declared.sentence.Sentence.TheVariants.{Super, DumpAll, DumpBlock, DumpTree, DumpRoots, Resolve, Check, CheckData, Scrub, ScrubRead}
-use Rattle.btr_run.specs.declared.sentence.Sentence.TheVariants.{Roots, Restore, Send, SelfTest}
+use Rattle.btr_run.specs.declared.sentence.Sentence.TheVariants.{Restore, Send, SelfTest}
 use Rattle.btr_run.proofs.Apart.{begins_so}
 
 -- images are named behind some parts
@@ -109,41 +109,18 @@ names_there (Destination ∷ left) at words old new bound reads before within =
 
 -- the words that a sentence's command cites
 cited : (sentence : Sentence) (read : Read) (n : ℕ) → AreThere read n → HasWords (command_of sentence read) n
-cited Super read n lt = tt
-cited DumpAll read n lt = tt
-cited DumpBlock read n lt = tt
-cited DumpTree read n lt = tt
-cited DumpRoots read n lt = tt
-cited Resolve read n lt = tt
-cited Check read n lt = tt
-cited CheckData read n lt = tt
-cited Scrub read n lt = tt
-cited ScrubRead read n lt = tt
-cited Roots read n lt = tt
 cited Restore read n lt = of read.options.salvage
   where
-    of : (salvage : Bool) → HasWords (restore_of salvage read.name (plan_by read.options)) n
+    of : (salvage : Bool) → HasQueryWords (restore_of salvage read.name (plan_by read.options)) n
     of true = lt.0
     of false = lt.0
 cited Send read n lt = lt
-cited SelfTest read n lt = tt
+cited sentence read n lt = tt
 
 -- all other forms than the self-test's name images
 names_images : (sentence : Sentence) (read : Read) → TakesImages (command_of sentence read) → NamesImages (parts_of sentence)
-names_images Super read takes = tt
-names_images DumpAll read takes = tt
-names_images DumpBlock read takes = tt
-names_images DumpTree read takes = tt
-names_images DumpRoots read takes = tt
-names_images Resolve read takes = tt
-names_images Check read takes = tt
-names_images CheckData read takes = tt
-names_images Scrub read takes = tt
-names_images ScrubRead read takes = tt
-names_images Roots read takes = tt
-names_images Restore read takes = tt
-names_images Send read takes = tt
 names_images SelfTest read takes = absurd (takes read.number refl)
+names_images sentence read takes = tt
 
 module _ (plan : Plan) (words : Words) (s : IsSentence plan words) where
   pub first_image : plan.images ≤ length words

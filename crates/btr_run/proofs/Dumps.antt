@@ -19,7 +19,7 @@ use Rattle.btr_run.specs.Rows.{AreAgreedBy, IsRowDone, IsRowOrUnread, Row, row_o
 use Rattle.btr_run.specs.Trees.{AgreesOn, IsTreesOutcome, ShowsUpTo, call_answer, dump_row, trees_shown}
 use Rattle.btr_run.specs.Unopened.{AreAgreed}
 use Rattle.btr_run.specs.declared.answer.Answer.{Answer}
-use Rattle.btr_run.specs.declared.plan.DumpChoice.{DumpChoice}
+use Rattle.btr_run.specs.declared.query.DumpChoice.{DumpChoice}
 use Rattle.btr_run.proofs.Agreements.{agreeing_opened}
 use Rattle.btr_run.proofs.Coming.{comes_shown, shows_also, when_told}
 use Rattle.btr_run.proofs.Filesystems.{opened_layout}

@@ -21,7 +21,7 @@ use Rattle.btr_run.specs.Outcomes.{Outcome, refused, CallFailed, Comes, HasEnded
 use Rattle.btr_run.specs.Outcomes.{MayEnd, OrBare, OrMemory, Stands, StandsPartly}
 use Rattle.btr_run.specs.Images.{taken}
 use Rattle.btr_run.specs.Checked.{found}
-use Rattle.btr_run.specs.Repaired.{AreLeft, KeepsRepair, LeavesImages, MayWrite}
+use Rattle.btr_run.specs.Repaired.{AreLeft, KeepsRepair, LeavesImages, MayWrite, NamesChunk}
 use Rattle.btr_run.specs.Stored.{IsStored, IsStoredOrTold}
 use Rattle.btr_run.specs.Words.{Words}
 use Rattle.btr_volume.specs.Start.{Images}
@@ -190,6 +190,28 @@ module _ {R T O : Type 0} (run : Run R T O) (out : O) (result : Answer)
         },
       )
 
+  -- an image is at fault only where it was before
+  at_fault : (slot : ℕ) → result ≡ ImageFault slot → answer ≡ ImageFault slot
+  at_fault slot is = ⊎_elim (λ same. sym same ∙ is) (λ rest. ⊎_elim (λ out. absurd (cc (sym out ∙ is))) (λ want. absurd (cc (sym want ∙ is))) rest) ends
+
+  -- what waits for a sync lies in one chunk
+  in_chunk : (seen seen' : Seen) → NamesChunk words seen seen' answer → NamesChunk words seen seen' result
+  in_chunk seen seen' n = record {
+    plan = n.plan;
+    sentence = n.sentence;
+    opened = n.opened;
+    is = n.is;
+    waits = record {
+      mid = n.waits.mid;
+      reads = n.waits.reads;
+      later = n.waits.later;
+      since = λ slot e. n.waits.since slot (at_fault slot e);
+      layout = n.waits.layout;
+      is = n.waits.is;
+      waits = n.waits.waits;
+    };
+  }
+
   decided : (one : Answer) → answer ≡ one → (result ≡ one) ⊎ (result ≡ OutFault) ⊎ (result ≡ Memory)
   decided one is = subst (λ a. Ends a result) is ends
 
@@ -198,10 +220,6 @@ module _ {R T O : Type 0} (run : Run R T O) (out : O) (result : Answer)
       ⊎_elim (λ same. subst (FollowsWords words) (sym same) follows)
       (λ rest. ⊎_elim (λ out. record { usage = λ at is. absurd (cc (sym out ∙ is)); limit = λ n is. absurd (cc (sym out ∙ is)) })
       (λ want. record { usage = λ at is. absurd (cc (sym want ∙ is)); limit = λ n is. absurd (cc (sym want ∙ is)) }) rest) ends
-
-  -- an image is at fault only where it was before
-  at_fault : (slot : ℕ) → result ≡ ImageFault slot → answer ≡ ImageFault slot
-  at_fault slot is = ⊎_elim (λ same. sym same ∙ is) (λ rest. ⊎_elim (λ out. absurd (cc (sym out ∙ is))) (λ want. absurd (cc (sym want ∙ is))) rest) ends
 
   module _ (seen seen' : Seen) (behind : IsBehindWords words seen seen' answer) where
     image : (slot : ℕ) → result ≡ ImageFault slot → ImageCause words seen seen' slot
@@ -313,4 +331,5 @@ module _ {R T O : Type 0} (run : Run R T O) (out : O) (result : Answer)
           left (AreImagesSteady run) (before run).shelf (behind run).slots (behind run).held
           (obeyed.left asks);
       synced = λ asks lost e. obeyed.synced asks lost (still_found lost e);
+      waits = λ asks none. ⊎_elim (λ same. inl same) (λ lies. inr (in_chunk (before run) (behind run) lies)) (obeyed.waits asks none);
     }

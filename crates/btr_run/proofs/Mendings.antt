@@ -3,7 +3,8 @@ use Rattle.std.proofs.Common.{◌≡◌, ◌≢◌, ◌⊎◌, inl, inr, ⊎_eli
 use Rattle.std.proofs.Common.{subst, arith}
 use Rattle.std.specs.Option.{IfSome}
 use Rattle.std.proofs.lemmas.List.{append-nil}
-use Rattle.btr_scrub_copies.specs.Writes.{IsStopped, IsTorn, Leaves, Write, write_on}
+use Rattle.btr_scrub_copies.specs.Turns.{waiting}
+use Rattle.btr_scrub_copies.specs.Writes.{In, IsStopped, IsTorn, Leaves, Write, write_on}
 use Rattle.btr_scrub_copies.specs.declared.mended.MendFault.{MendFault}
 use Rattle.btr_rack.specs.Rack.{NoneFailed, OnlyReads, Rose, Seen, Steady}
 use Rattle.btr_scrub.specs.declared.tally.Tally.{Tally}
@@ -16,7 +17,7 @@ use Rattle.btr_run.specs.Answers.{error_line}
 use Rattle.btr_run.specs.Faults.{stop_answer}
 use Rattle.btr_run.specs.Filesystem.{IsRefusal, MayMend, OpensFilesystem, filesystem_of}
 use Rattle.btr_run.specs.Outcomes.{IsNoFault}
-use Rattle.btr_run.specs.Repaired.{IsBare, LeavesImages, Scrubs, ScrubsTo}
+use Rattle.btr_run.specs.Repaired.{IsBare, LeavesImages, LeavesScrubbed, Scrubs, ScrubsTo}
 use Rattle.btr_run.specs.Scrubbed.{mending_writes, scrub_in, scrub_outcome, scrubbed_images, scrubbed_in, writes_in}
 use Rattle.btr_run.specs.declared.answer.Answer.{Answer}
 use Rattle.btr_run.specs.declared.answer.Answer.TheVariants.{ImageFault, Memory, Limit}
@@ -70,17 +71,22 @@ module _ (write : Bool) (old new : Seen) (answer : Answer) (behind : IsBehind Ma
     content = content;
     bare = bare;
     behind = only_reads (Scrub write) old new answer behind;
-    repaired = λ is. each_told old.held (λ images. Steady old.account.faults new.account.faults → (answer ≡ Memory → ⊥)
-        → new.held ≡ Some (scrubbed_images images))
-        (λ images told steady enough.
-        ⊎_elim (λ both. same_held ∙ told ∙ ap (λ (i : Images). Some i) (sym both.1)) (λ want. absurd (enough want))
-        (told_at old.held (λ i. Steady old.account.faults new.account.faults → ScrubsTo write i (Err answer)) images told content steady));
-    left = λ is. each_told old.held (λ images. IfSome new.held (λ left. LeavesImages (Steady old.account.faults new.account.faults) images left answer))
-        (λ images told. each_told new.held (λ left. LeavesImages (Steady old.account.faults new.account.faults) images left answer)
-        (λ left told'. as_they_were (Steady old.account.faults new.account.faults) images left answer (λ lost e. bare.line (ap error_line e ∙ found_line lost))
-        (the_images left images (sym told' ∙ same_held ∙ told))));
-    synced = λ w lost e. absurd (bare.line (ap error_line e ∙ found_line lost));
+    leaves = λ is. leaves;
   }
+    where
+      leaves : LeavesScrubbed old new answer
+      leaves = record {
+        repaired = each_told old.held (λ images. Steady old.account.faults new.account.faults → answer ≢ Memory → new.held ≡ Some (scrubbed_images images))
+            (λ images told steady enough.
+            ⊎_elim (λ both. same_held ∙ told ∙ ap (λ (i : Images). Some i) (sym both.1)) (λ want. absurd (enough want))
+            (told_at old.held (λ i. Steady old.account.faults new.account.faults → ScrubsTo write i (Err answer)) images told content steady));
+        left = each_told old.held (λ images. IfSome new.held (λ left. LeavesImages (Steady old.account.faults new.account.faults) images left answer))
+            (λ images told. each_told new.held (λ left. LeavesImages (Steady old.account.faults new.account.faults) images left answer)
+            (λ left told'. as_they_were (Steady old.account.faults new.account.faults) images left answer
+            (λ lost e. bare.line (ap error_line e ∙ found_line lost)) (the_images left images (sym told' ∙ same_held ∙ told))));
+        synced = λ lost e. absurd (bare.line (ap error_line e ∙ found_line lost));
+        waits = λ none. inl (λ range there. inl (subst (λ (s : Seen). In range (waiting s)) behind.reads.same there));
+      }
 
 -- the filesystem isn't opened
 pub not_opened : (write : Bool) (old new : Seen) (answer result : Answer) → result ≡ answer → IsRefusal answer → OnlyReads old new

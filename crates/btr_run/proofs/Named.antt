@@ -8,6 +8,7 @@ use Rattle.std.proofs.Math.Seq.{get_or-append_seam}
 use Rattle.btr_rack.specs.Name.{is_bad}
 use Rattle.btr_send.specs.Names.{IsStreamName}
 use Rattle.btr_run.specs.Commands.{IsFit}
+use Rattle.btr_run.specs.Queries.{IsQueryFit}
 use Rattle.btr_run.specs.Restores.{plan_by}
 use Rattle.btr_run.specs.Words.{Destination, File, IsSentence, Number, Part, Reads, TakesDestination, Word, Words, command_of, is_file, is_name, nothing_of}
 use Rattle.btr_run.specs.Words.{Volume, images_of, is_volume, parts_of, restore_of}
@@ -16,8 +17,7 @@ use Rattle.btr_run.specs.declared.plan.Command.TheVariants as command
 use Rattle.btr_run.specs.declared.place.Read.{Read}
 use Rattle.btr_run.specs.declared.plan.Plan.{Plan}
 use Rattle.btr_run.specs.declared.sentence.Sentence.{Sentence}
-use Rattle.btr_run.specs.declared.sentence.Sentence.TheVariants.{Super, DumpAll, DumpBlock, DumpTree, DumpRoots, Resolve, Check, CheckData, Scrub, ScrubRead}
-use Rattle.btr_run.specs.declared.sentence.Sentence.TheVariants.{Roots, Restore, Send, SelfTest}
+use Rattle.btr_run.specs.declared.sentence.Sentence.TheVariants.{Restore, Send, SelfTest}
 
 -- the word of this number names a file
 abbrev IsFileAt : Words → ℕ → Type 0
@@ -96,49 +96,23 @@ volume_size n is = let tests = both (nat_le 1 n) (nat_le n 1000) is in (grind (a
 
 named : (sentence : Sentence) (words : Words) (read : Read) → Reads (parts_of sentence) 0 words (nothing_of sentence) read
     → IsFit (command_of sentence read) words
-named Super words read is = tt
-named DumpAll words read is = tt
-named DumpBlock words read is = tt
-named DumpTree words read is = tt
-named DumpRoots words read is = tt
-named Resolve words read is = tt
-named Check words read is = tt
-named CheckData words read is = tt
-named Scrub words read is = tt
-named ScrubRead words read is = tt
-named Roots words read is = tt
 named Restore words read is = of read.options.salvage
   where
-    of : (salvage : Bool) → IsFit (restore_of salvage read.name (plan_by read.options)) words
+    of : (salvage : Bool) → IsQueryFit (restore_of salvage read.name (plan_by read.options)) words
     of true = refl
     of false = tt
 named Send words read is =
     stream_name (get_or words read.file []) (file_named words [] (parts_of Send) 0 words (nothing_of Send) read refl refl is (inl tt))
 named SelfTest words read is = subst (λ n. (1 ≤ n) × (n ≤ 1000)) (sym (ap (λ (r : Read). r.number) is.5.5)) (volume_size is.5.0 is.5.3)
+named sentence words read is = tt
 
 pub is_fit : (plan : Plan) (words : Words) → IsSentence plan words → IsFit plan.command words
 is_fit plan words s = subst (λ (p : Plan). IsFit p.command words) (sym s.plan_is) (named s.sentence words s.read s.is_read)
 
 -- only its own form asks for a self-test
 its_form : (sentence : Sentence) (read : Read) (number : ℕ) → command_of sentence read ≡ command.SelfTest number → sentence ≡ SelfTest
-its_form Super read number e = absurd (cc e)
-its_form DumpAll read number e = absurd (cc e)
-its_form DumpBlock read number e = absurd (cc e)
-its_form DumpTree read number e = absurd (cc e)
-its_form DumpRoots read number e = absurd (cc e)
-its_form Resolve read number e = absurd (cc e)
-its_form Check read number e = absurd (cc e)
-its_form CheckData read number e = absurd (cc e)
-its_form Scrub read number e = absurd (cc e)
-its_form ScrubRead read number e = absurd (cc e)
-its_form Roots read number e = absurd (cc e)
-its_form Restore read number e = absurd (of read.options.salvage e)
-  where
-    of : (salvage : Bool) → restore_of salvage read.name (plan_by read.options) ≡ command.SelfTest number → ⊥
-    of true e = cc e
-    of false e = cc e
-its_form Send read number e = absurd (cc e)
 its_form SelfTest read number e = refl
+its_form sentence read number e = absurd (cc e)
 
 -- no word of it names an image
 all_read : (words : Words) (read : Read) → Reads (parts_of SelfTest) 0 words (nothing_of SelfTest) read → length words ≤ read.images

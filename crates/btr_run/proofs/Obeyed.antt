@@ -1,11 +1,13 @@
 -- The words are obeyed, by the step that ends it.
-use Rattle.std.proofs.Common.{◌≡◌, ◌∙◌, ⊎_elim, inl, inr, false, ℕ, ◌<◌, ◌≤◌, length, Option, Ok, Err, refl, sym, ap, subst, true}
-use Rattle.btr_rack.specs.Rack.{NoneFailed}
+use Rattle.std.proofs.Common.{◌≡◌, ◌∙◌, ⊎_elim, inl, inr, false, ℕ, ◌<◌, ◌≤◌, ◌++◌, length, Option, Err, refl, sym, ap, ap₂, subst, true}
+use Rattle.btr_rack.specs.Rack.{Seen}
+use Rattle.btr_scrub_copies.specs.Turns.{waiting}
+use Rattle.btr_scrub_copies.specs.Writes.{In}
 use Rattle.btr_run.specs.Agreeing.{ComesAgreed}
-use Rattle.btr_run.specs.Commands.{MayCome, TakesMemory, opens_to_write}
+use Rattle.btr_run.specs.Commands.{MayCome, MayWant, opens_to_write}
 use Rattle.btr_run.specs.Effects.{IsOutcome, MayFollow, MayWantBy}
 use Rattle.btr_run.specs.Images.{AreOpenedAs, AreUnchanged, IsMissing, most_images}
-use Rattle.btr_run.specs.Opening.{HasTooMany, OpeningCause, OpensAll, opening_answer}
+use Rattle.btr_run.specs.Opening.{HasTooMany, IsOpened, OpeningCause, opening_answer}
 use Rattle.btr_restore.specs.Running.{Outside}
 use Rattle.btr_run.specs.Outcomes.{Comes, OrBare, OrMemory}
 use Rattle.btr_run.specs.Repaired.{AsksToWrite}
@@ -25,6 +27,10 @@ use Rattle.btr_run.proofs.Coming.{comes_also}
 use Rattle.btr_run.proofs.Named.{none_named}
 use Rattle.btr_run.proofs.Obeying as obeying
 use Rattle.btr_run.proofs.SelfTests.{IsPlain, is_plain, its_command, no_trial, plain_cause, some_trial}
+
+-- what waits for a sync is the same
+waits_as : (a b : Seen) → a.unsynced ≡ b.unsynced → a.never_synced ≡ b.never_synced → waiting a ≡ waiting b
+waits_as a b unsynced never_synced = ap₂ (λ l m. l ++ m) unsynced never_synced
 
 module _ {R T O : Type 0} (eyes : Eyes R T O) (words : Words) (old : Given R T O) (stored : eyes.waits old.tree ≡ false) where
   -- a run that ends with this answer, after these changes
@@ -49,6 +55,7 @@ module _ {R T O : Type 0} (eyes : Eyes R T O) (words : Words) (old : Given R T O
     repaired = carrying.usage_repaired words at is (eyes.seen old.rack).shelf _ (eyes.seen old.rack).held;
     left = λ asks. absurd (carrying.usage_left words at is asks);
     synced = λ asks. absurd (carrying.usage_left words at is asks);
+    waits = λ asks. absurd (carrying.usage_left words at is asks);
   }
 
   -- a self-test
@@ -68,7 +75,7 @@ module _ {R T O : Type 0} (eyes : Eyes R T O) (words : Words) (old : Given R T O
     plain = is_plain volume number x y answer comes
 
     may : Unit {0} → MayWantBy words x.out_calls
-    may t = inr (plan, sentence, subst TakesMemory (sym is) tt)
+    may t = inr (plan, sentence, subst (λ c. MayWant c words x.out_calls) (sym is) tt)
 
     other : (p : Plan) → IsSentence p words → TakesImages p.command → ⊥
     other p s takes = no_trial words p number s asks takes
@@ -92,7 +99,7 @@ module _ {R T O : Type 0} (eyes : Eyes R T O) (words : Words) (old : Given R T O
           comes_also (Unit {0}) (MayWantBy words x.out_calls) (IsTrialOf volume number) (OrMemory (IsOutcome words s)) x y answer may
           (λ outcome one. inl (inr (inr (number, asks, some_trial volume number outcome one)))) comes);
       told = comes_also (Unit {0}) (MayWantBy words x.out_calls) (IsTrialOf volume number) (OrBare (MayFollow words)) x y answer may
-          (λ outcome one. inl (plan, sentence, subst (λ c. MayCome c outcome) (sym is) (some_trial volume number outcome one))) comes;
+          (λ outcome one. inl (plan, sentence, subst (λ c. MayCome c words outcome) (sym is) (some_trial volume number outcome one))) comes;
       order = carrying.all_told (eyes.seen old.rack).shelf _ (λ s p dest images from. absurd (other _ from.sentence (λ n e. cc)));
       agreed = carrying.all_told (eyes.seen old.rack).shelf _ (λ s p images from agreed.
           comes_also (Unit {0}) (MayWantBy words x.out_calls) (IsTrialOf volume number) (ComesAgreed p.command words images) x y answer may
@@ -109,6 +116,7 @@ module _ {R T O : Type 0} (eyes : Eyes R T O) (words : Words) (old : Given R T O
       repaired = carrying.all_told (eyes.seen old.rack).shelf _ (λ s calm enough images from. absurd (other _ from.sentence (λ n e. cc)));
       left = λ asks. absurd (never_writes asks);
       synced = λ asks. absurd (never_writes asks);
+      waits = λ asks. absurd (never_writes asks);
     }
 
   -- the images aren't open
@@ -118,8 +126,9 @@ module _ {R T O : Type 0} (eyes : Eyes R T O) (words : Words) (old : Given R T O
         → (most_images < length names → rack ≡ old.rack)
         → ((slot : ℕ) → fault ≡ Failed slot → (eyes.seen old.rack).sure ≡ true → IsMissing names (eyes.seen old.rack).shelf slot)
         → AreOpenedAs (opens_to_write plan.command) (eyes.seen old.rack).shelf (eyes.seen rack).slots (eyes.seen rack).held
+        → (eyes.seen rack).unsynced ≡ (eyes.seen old.rack).unsynced → (eyes.seen rack).never_synced ≡ (eyes.seen old.rack).never_synced
         → (answer : Answer) → answer ≡ opening_answer fault → IsObeyed (ends rack old.tree old.out answer)
-    unopened rack fault many cause early sure opened answer is = record {
+    unopened rack fault many cause early sure opened unsynced never_synced answer is = record {
       effect = obeying.opening_effect words names plan sentence named (eyes.seen old.rack) (eyes.seen rack) fault many cause (eyes.seen old.rack).shelf
           (outside_in eyes old) answer is;
       told = obeying.opening_told words names plan sentence named (eyes.seen old.rack) (eyes.seen rack) fault many cause (outside_in eyes old) answer is;
@@ -139,16 +148,14 @@ module _ {R T O : Type 0} (eyes : Eyes R T O) (words : Words) (old : Given R T O
       left = obeying.opening_left words names plan sentence named (eyes.seen old.rack) (eyes.seen rack) fault many cause _ answer is opened;
       synced = λ asks lost e. absurd (obeying.opening_unfinished words names plan sentence named (eyes.seen old.rack)
           (eyes.seen rack) fault many cause answer is lost e);
+      waits = λ asks none. inl (λ range there. inl (subst (In range) (waits_as (eyes.seen rack) (eyes.seen old.rack) unsynced never_synced) there));
     }
 
     -- the command was done, or not
     pub performed : (mid rack : R) (tree : T) (out : O) (answer : Answer)
         → length names ≤ most_images
-        → NoneFailed (eyes.seen old.rack).account (eyes.seen mid).account
-        → OpensAll names (eyes.seen old.rack).shelf (eyes.seen mid).held (Ok tt)
+        → IsOpened names (eyes.seen old.rack) (eyes.seen mid)
         → AreOpenedAs (opens_to_write plan.command) (eyes.seen old.rack).shelf (eyes.seen mid).slots (eyes.seen mid).held
-        → (eyes.seen mid).sure ≡ (eyes.seen old.rack).sure
-        → (eyes.seen mid).unsynced ≡ (eyes.seen old.rack).unsynced
         → IsPerformed (record {
           eyes = eyes;
           words = words;
@@ -158,28 +165,40 @@ module _ {R T O : Type 0} (eyes : Eyes R T O) (words : Words) (old : Given R T O
               answer;
         }) plan.command
         → IsObeyed (ends rack tree out answer)
-    performed mid rack tree out answer few quiet opens opened kept unsynced did = record {
-      effect = obeying.command_effect words names plan sentence named (eyes.seen old.rack) (eyes.seen mid) (eyes.seen rack) few quiet answer did.cause
-          (outside_in eyes old) y opens did.effect;
-      told = obeying.command_told words names plan sentence named (eyes.seen old.rack) (eyes.seen mid) (eyes.seen rack) few quiet answer did.cause
+    performed mid rack tree out answer few opens opened did = record {
+      effect = obeying.command_effect words names plan sentence named (eyes.seen old.rack) (eyes.seen mid) (eyes.seen rack) few opens.account answer did.cause
+          (outside_in eyes old) y opens.images did.effect;
+      told = obeying.command_told words names plan sentence named (eyes.seen old.rack) (eyes.seen mid) (eyes.seen rack) few opens.account answer did.cause
           (outside_in eyes old) y did.told;
-      order = obeying.command_order words names plan sentence named (eyes.seen old.rack) (eyes.seen mid) (eyes.seen rack) few quiet answer did.cause
-          (outside_in eyes old) y opens did.order;
-      agreed = obeying.command_agreed words names plan sentence named (eyes.seen old.rack) (eyes.seen mid) (eyes.seen rack) few quiet answer did.cause
-          (outside_in eyes old) y opens did.agreed;
+      order = obeying.command_order words names plan sentence named (eyes.seen old.rack) (eyes.seen mid) (eyes.seen rack) few opens.account answer did.cause
+          (outside_in eyes old) y opens.images did.order;
+      agreed = obeying.command_agreed words names plan sentence named (eyes.seen old.rack) (eyes.seen mid) (eyes.seen rack) few opens.account answer did.cause
+          (outside_in eyes old) y opens.images did.agreed;
       decided = λ other decided. absurd (obeying.none_decided words names plan sentence named (eyes.seen old.rack) (eyes.seen mid)
-          (eyes.seen rack) few quiet answer did.cause other decided);
-      stated = obeying.command_stated words names plan sentence named (eyes.seen old.rack) (eyes.seen mid) (eyes.seen rack) few quiet answer did.cause;
+          (eyes.seen rack) few opens.account answer did.cause other decided);
+      stated = obeying.command_stated words names plan sentence named (eyes.seen old.rack) (eyes.seen mid) (eyes.seen rack) few opens.account answer did.cause;
       stored = did.stored;
       alone = λ never. did.alone (λ calls. never (plan, sentence, calls));
-      cause = obeying.command_cause words names plan sentence named (eyes.seen old.rack) (eyes.seen mid) (eyes.seen rack) few quiet answer did.cause kept;
+      cause = obeying.command_cause words names plan sentence named (eyes.seen old.rack) (eyes.seen mid)
+          (eyes.seen rack) few opens.account answer did.cause opens;
       unchanged = obeying.command_unchanged words names plan sentence named (eyes.seen old.rack) (eyes.seen mid)
-          (eyes.seen rack) few quiet answer did.cause opened;
+          (eyes.seen rack) few opens.account answer did.cause opened;
       repaired = obeying.command_repaired words names plan sentence named (eyes.seen old.rack) (eyes.seen mid)
-          (eyes.seen rack) few quiet answer did.cause opens did.repaired;
+          (eyes.seen rack) few opens.account answer did.cause opens.images (λ is. (did.leaves is).repaired);
       left = obeying.command_left words names plan sentence named (eyes.seen old.rack) (eyes.seen mid)
-          (eyes.seen rack) few quiet answer did.cause opens opened did.left;
-      synced = λ asks lost e none. did.synced (obeying.asks_scrub words plan sentence asks) lost e (unsynced ∙ none);
+          (eyes.seen rack) few opens.account answer did.cause opens.images opened (λ is. (did.leaves is).left);
+      synced = λ asks lost e none. (did.leaves (obeying.asks_scrub words plan sentence asks)).synced lost e (opens.unsynced ∙ none);
+      waits = λ asks none.
+          ⊎_elim (λ before. inl (λ range there.
+          ⊎_elim (λ was. inl (subst (In range) (waits_as (eyes.seen mid) (eyes.seen old.rack) opens.unsynced opens.never_synced) was))
+          (λ never. absurd never) (before range there)))
+          (λ waits. inr (record {
+            plan = plan;
+            sentence = sentence;
+            opened = eyes.seen mid;
+            is = subst (λ l. IsOpened l (eyes.seen old.rack) (eyes.seen mid)) (sym named) opens;
+            waits = waits;
+          })) ((did.leaves (obeying.asks_scrub words plan sentence asks)).waits (opens.unsynced ∙ none));
     }
       where
         y : Outside

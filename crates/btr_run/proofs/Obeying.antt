@@ -3,7 +3,7 @@ use Rattle.std.proofs.Common.{◌≡◌, ◌≢◌, inl, inr, ⊎_elim, Bool, tr
 use Rattle.std.proofs.Common.{ap, ◌∙◌, subst, arith}
 use Rattle.std.specs.List.{All}
 use Rattle.std.specs.Option.{IfSome}
-use Rattle.btr_rack.specs.Rack.{Seen, Slot, Rose, Steady, NoneFailed, Shelf}
+use Rattle.btr_rack.specs.Rack.{Seen, Slot, Steady, NoneFailed, Shelf}
 use Rattle.btr_files.specs.declared.plan.RestorePlan.{RestorePlan}
 use Rattle.btr_prog.specs.Answers.{Broke}
 use Rattle.btr_read.specs.Fate.{choices}
@@ -17,10 +17,10 @@ use Rattle.btr_run.specs.Unopened.{IsUnopened}
 use Rattle.btr_run.specs.Answers.{error_line}
 use Rattle.btr_run.specs.Behind.{IfSteady, IsFault, IsLayoutOf}
 use Rattle.btr_run.specs.Causes.{IsBehindWords, opened_with}
-use Rattle.btr_run.specs.Commands.{ImageFails, IsBehindCommand, IsScrub, IsUnmended, command_outcome, MayCome, MayWant, opens_to_write}
+use Rattle.btr_run.specs.Commands.{IsBehindCommand, IsScrub, command_outcome, MayCome, MayWant, opens_to_write}
 use Rattle.btr_run.specs.Effects.{FollowsWords, IsDecided, IsOutcome, MayFollow, MayWantBy, images_outcome}
 use Rattle.btr_run.specs.Images.{AreOpenedAs, AreUnchanged, IsMissing, most_images, taken}
-use Rattle.btr_run.specs.Opening.{HasTooMany, OpeningCause, OpeningFailed, OpensAll, opening_answer}
+use Rattle.btr_run.specs.Opening.{HasTooMany, IsOpened, OpeningCause, OpeningFailed, OpensAll, opening_answer}
 use Rattle.btr_run.specs.Order.{FollowsOrder, InOrder, KeepsTo}
 use Rattle.btr_run.specs.Outcomes.{Outcome, refused, Comes, OrBare, OrMemory}
 use Rattle.btr_run.specs.Checked.{found}
@@ -28,11 +28,11 @@ use Rattle.btr_run.specs.Repaired.{AreLeft, AsksToWrite, KeepsRepair, LeavesImag
 use Rattle.btr_run.specs.Scrubbed.{scrubbed_images}
 use Rattle.btr_run.specs.Words.{Words, IsSentence, images_of}
 use Rattle.btr_run.specs.declared.plan.Command.{Command}
-use Rattle.btr_run.specs.declared.plan.Command.TheVariants.{Super, Dump, Resolve, Check, Restore, Salvage, Scrub, Send, SelfTest}
+use Rattle.btr_run.specs.declared.plan.Command.TheVariants.{Ask, Scrub}
+use Rattle.btr_run.specs.declared.query.Query.TheVariants.{Restore}
 use Rattle.btr_run.specs.declared.plan.Plan.{Plan}
 use Rattle.btr_run.specs.declared.opening.OpeningFault.{OpeningFault}
 use Rattle.btr_run.specs.declared.opening.OpeningFault.TheVariants.{TooMany, Failed, Memory as memory_fault}
-use Rattle.btr_volume.specs.Opening.{SuperUnread}
 use Rattle.btr_volume.specs.declared.which.Which.TheVariants.{Images as images_limit}
 use Rattle.btr_run.specs.declared.answer.Answer.{Answer}
 use Rattle.btr_run.specs.declared.answer.Answer.TheVariants.{Limit, ImageFault, Memory}
@@ -52,14 +52,7 @@ asks_scrub words plan sentence asks = writing plan.command (ap (λ (q : Plan). o
   where
     writing : (command : Command) → opens_to_write command ≡ true → command ≡ Scrub true
     writing (Scrub write) is = ap (λ b. Scrub b) is
-    writing Super is = absurd (cc is)
-    writing (Dump choice) is = absurd (cc is)
-    writing (Resolve addr) is = absurd (cc is)
-    writing (Check read_data) is = absurd (cc is)
-    writing (Restore dest p) is = absurd (cc is)
-    writing (Salvage dest p) is = absurd (cc is)
-    writing (Send dest file p) is = absurd (cc is)
-    writing (SelfTest number) is = absurd (cc is)
+    writing command is = absurd (cc is)
 
 -- words that are a sentence: their images
 module _ (words names : Words) (plan : Plan) (sentence : IsSentence plan words) (named : images_of plan words ≡ names) where
@@ -232,49 +225,49 @@ module _ (words names : Words) (plan : Plan) (sentence : IsSentence plan words) 
   -- the images are open, and the command was done, or not
   module _ (old mid new : Seen) (few : length names ≤ most_images) (opened : NoneFailed old.account mid.account) (answer : Answer)
       (behind : IsBehindCommand plan.command mid new answer) where
-    may_want : (x : Outside) → MayWant plan.command x.out_calls → MayWantBy words x.out_calls
-    may_want x may = ⊎_elim (λ scarce. inl scarce) (λ writes. inr (plan, sentence, writes)) may
+    may_want : (x : Outside) → MayWant plan.command words x.out_calls → MayWantBy words x.out_calls
+    may_want x may = inr (plan, sentence, may)
 
     pub command_effect : (x y : Outside) → OpensAll names old.shelf mid.held (Ok tt)
-        → IfSome mid.held (λ images. Steady mid.account.faults new.account.faults → Comes (MayWant plan.command x.out_calls)
+        → IfSome mid.held (λ images. Steady mid.account.faults new.account.faults → Comes (MayWant plan.command words x.out_calls)
         (OrMemory (λ outcome. command_outcome plan.command words images ≡ Some outcome)) x y answer)
         → IfSome old.shelf (λ shelf. Steady old.account.faults new.account.faults → Comes (MayWantBy words x.out_calls)
         (OrMemory (IsOutcome words shelf)) x y answer)
     command_effect x y = of old.shelf mid.held
       where
         of : (shelf : Option Shelf) (held : Option Images) → OpensAll names shelf held (Ok tt)
-            → IfSome held (λ images. Steady mid.account.faults new.account.faults → Comes (MayWant plan.command x.out_calls)
+            → IfSome held (λ images. Steady mid.account.faults new.account.faults → Comes (MayWant plan.command words x.out_calls)
             (OrMemory (λ outcome. command_outcome plan.command words images ≡ Some outcome)) x y answer)
             → IfSome shelf (λ shelf. Steady old.account.faults new.account.faults → Comes (MayWantBy words x.out_calls)
             (OrMemory (IsOutcome words shelf)) x y answer)
         of None held opens effect = tt
         of (Some at) None opens effect = absurd opens
         of (Some at) (Some images) opens effect = λ steady.
-            comes_also (MayWant plan.command x.out_calls) (MayWantBy words x.out_calls)
+            comes_also (MayWant plan.command words x.out_calls) (MayWantBy words x.out_calls)
             (OrMemory (λ outcome. command_outcome plan.command words images ≡ Some outcome)) (OrMemory (IsOutcome words at)) x y answer (may_want x)
             (λ outcome one. ⊎_elim (λ (is : command_outcome plan.command words images ≡ Some outcome).
             inl (outcome_by (command_outcome plan.command words images) at outcome (taken_outcome plan.command words names at images few opens) is))
             (λ want. inr want) one)
             (effect (subst (λ n. Steady n new.account.faults) (sym opened.faults) steady))
 
-    pub command_told : (x y : Outside) → Comes (MayWant plan.command x.out_calls) (OrBare (MayCome plan.command)) x y answer
+    pub command_told : (x y : Outside) → Comes (MayWant plan.command words x.out_calls) (OrBare (MayCome plan.command words)) x y answer
         → Comes (MayWantBy words x.out_calls) (OrBare (MayFollow words)) x y answer
     command_told x y comes =
-        comes_also (MayWant plan.command x.out_calls) (MayWantBy words x.out_calls) (OrBare (MayCome plan.command)) (OrBare (MayFollow words)) x y answer
-        (may_want x)
+        comes_also (MayWant plan.command words x.out_calls) (MayWantBy words x.out_calls) (OrBare (MayCome plan.command words)) (OrBare (MayFollow words)) x y
+        answer (may_want x)
         (λ outcome one. ⊎_elim (λ is. inl (plan, sentence, is)) (λ bare. inr bare) one) comes
 
     the_images : (a b : Images) → ◌≡◌ {A = Option Images} (Some a) (Some b) → a ≡ b
     the_images a b e = cc e
 
     pub command_order : (x y : Outside) → OpensAll names old.shelf mid.held (Ok tt)
-        → ((number : ℕ) (p : RestorePlan) → plan.command ≡ Restore number p → IfSome mid.held
+        → ((number : ℕ) (p : RestorePlan) → plan.command ≡ Ask (Restore number p) → IfSome mid.held
         (λ images. InOrder p (get_or words number []) images mid new x y answer))
         → IfSome old.shelf (λ shelf. FollowsOrder words shelf (opened_with old.account new) new x y answer)
     command_order x y = of old.shelf mid.held
       where
         of : (shelf : Option Shelf) (held : Option Images) → OpensAll names shelf held (Ok tt)
-            → ((number : ℕ) (p : RestorePlan) → plan.command ≡ Restore number p → IfSome held
+            → ((number : ℕ) (p : RestorePlan) → plan.command ≡ Ask (Restore number p) → IfSome held
             (λ images. InOrder p (get_or words number []) images mid new x y answer))
             → IfSome shelf (λ shelf. FollowsOrder words shelf (opened_with old.account new) new x y answer)
         of None held opens order = tt
@@ -290,13 +283,13 @@ module _ (words names : Words) (plan : Plan) (sentence : IsSentence plan words) 
             (order from.number p (sym (ap (λ (q : Plan). q.command) one)))))
 
     pub command_agreed : (x y : Outside) → OpensAll names old.shelf mid.held (Ok tt)
-        → IfSome mid.held (λ images. AreAgreedFor plan.command images → Comes (MayWant plan.command x.out_calls)
+        → IfSome mid.held (λ images. AreAgreedFor plan.command words images → Comes (MayWant plan.command words x.out_calls)
         (ComesAgreed plan.command words images) x y answer)
         → IfSome old.shelf (λ shelf. FollowsAgreed words shelf x y answer)
     command_agreed x y = of old.shelf mid.held
       where
         Comes_so : Command → Images → Type 0
-        Comes_so command images = AreAgreedFor command images → Comes (MayWant command x.out_calls) (ComesAgreed command words images) x y answer
+        Comes_so command images = AreAgreedFor command words images → Comes (MayWant command words x.out_calls) (ComesAgreed command words images) x y answer
 
         of : (shelf : Option Shelf) (held : Option Images) → OpensAll names shelf held (Ok tt) → IfSome held (λ images. Comes_so plan.command images)
             → IfSome shelf (λ shelf. FollowsAgreed words shelf x y answer)
@@ -308,9 +301,9 @@ module _ (words names : Words) (plan : Plan) (sentence : IsSentence plan words) 
             (ap (λ (q : Plan). taken (images_of q words) at) one ∙ ap (λ l. taken l at) named) ∙ asks.from in
             let by_command : Comes_so p.command images = subst (λ c. Comes_so c images) (sym (ap (λ (q : Plan). q.command) one))
             (subst (λ i. Comes_so plan.command i) (the_images held images same) comes) in
-            comes_also (MayWant p.command x.out_calls) (MayWantBy words x.out_calls) (ComesAgreed p.command words images)
+            comes_also (MayWant p.command words x.out_calls) (MayWantBy words x.out_calls) (ComesAgreed p.command words images)
             (ComesAgreed p.command words images) x y answer
-            (subst (λ c. MayWant c x.out_calls → MayWantBy words x.out_calls) (sym (ap (λ (q : Plan). q.command) one)) (may_want x)) (λ outcome o. o)
+            (subst (λ c. MayWant c words x.out_calls → MayWantBy words x.out_calls) (sym (ap (λ (q : Plan). q.command) one)) (may_want x)) (λ outcome o. o)
             (by_command agreed)
 
     pub none_decided : (other : Answer) → IsDecided words other → ⊥
@@ -319,14 +312,18 @@ module _ (words names : Words) (plan : Plan) (sentence : IsSentence plan words) 
     pub command_stated : FollowsWords words answer
     command_stated = record { usage = λ at is. absurd (behind.no_usage at is); limit = λ n is. absurd (behind.no_limit n is) }
 
-    pub command_cause : mid.sure ≡ old.sure → IsBehindWords words old new answer
-    command_cause kept = record {
-      image = λ slot is. record { plan = plan; sentence = sentence; failed = inr (since (behind.image slot is)) };
+    pub command_cause : IsOpened names old mid → IsBehindWords words old new answer
+    command_cause opens = record {
+      image = λ slot is. record {
+        plan = plan;
+        sentence = sentence;
+        failed = inr (mid, subst (λ l. IsOpened l old mid) (sym named) opens, behind.image slot is);
+      };
       shut = λ more. absurd (omega (arith, more, behind.keeps.same_shut, opened.shut));
       hidden = ⊎_elim (λ none. inl (none_failed_twice old.account mid.account new.account opened none))
           (λ rest. ⊎_elim (λ fault. inr (inl fault)) (λ may. inr (inr (plan, sentence, may))) rest) behind.hidden;
-      sure = λ slot is certain. absurd (⊎_elim (λ super. cc (sym certain ∙ sym kept ∙ super.unsure)) (λ own. cc (sym certain ∙ sym kept ∙ own.1.1.unsure))
-          (behind.image slot is));
+      sure = λ slot is certain. absurd (⊎_elim (λ super. cc (sym certain ∙ sym opens.sure ∙ super.unsure))
+          (λ own. cc (sym certain ∙ sym opens.sure ∙ sym (ap (λ (s : Seen). s.sure) own.1.reads.same) ∙ own.1.failed.unsure)) (behind.image slot is));
       tree = λ fault e. record {
         plan = plan;
         sentence = sentence;
@@ -334,33 +331,6 @@ module _ (words names : Words) (plan : Plan) (sentence : IsSentence plan words) 
             (opened_again old mid new opened tree.0.same) (tree.1 told);
       };
     }
-      where
-        own_since : {layout : Layout} {slot : ℕ} → IsUnmended layout mid new slot → IsUnmended layout old new slot
-        own_since failed = record {
-          place = failed.place;
-          of_scrub = failed.of_scrub;
-          on_slot = failed.on_slot;
-          unsure = sym kept ∙ failed.unsure;
-          last = failed.last;
-          no_opening = failed.no_opening;
-          faults = subst (λ n. Rose n new.account.faults) opened.faults failed.faults;
-          fresh = failed.fresh;
-          shut = failed.shut ∙ opened.shut;
-        }
-
-        super_since : {slot : ℕ} → SuperUnread mid new slot → SuperUnread old new slot
-        super_since failed = record {
-          place = failed.place;
-          of_super = failed.of_super;
-          unsure = sym kept ∙ failed.unsure;
-          last = failed.last;
-          faults = subst (λ n. Rose n new.account.faults) opened.faults failed.faults;
-          fresh = failed.fresh;
-          shut = failed.shut ∙ opened.shut;
-        }
-
-        since : {slot : ℕ} → ImageFails plan.command mid new slot → ImageFails plan.command old new slot
-        since fails = ⊎_elim (λ super. inl (super_since super)) (λ own. inr (own.0, (own.1.0, own_since own.1.1))) fails
 
     same_slots : new.slots ≡ mid.slots
     same_slots = ap (λ (s : Seen). s.slots) behind.keeps.same

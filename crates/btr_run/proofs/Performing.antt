@@ -1,51 +1,52 @@
--- What a command that only shows something comes to, and a row of the table, as a command among others.
-use Rattle.std.proofs.Common.{◌≡◌, ◌≢◌, false, refl, inl, inr, ⊎_elim, ℕ, Bool, true, List, [], get_or, Option, Some, None, sym, ap, ◌∙◌, subst}
+-- What a command that only shows something comes to, and a query, as a command among others.
+use Rattle.std.proofs.Common.{◌≡◌, false, refl, inl, inr, ⊎_elim, ℕ, Bool, true, List, [], get_or, Option, Some, None, sym, ap, ◌∙◌, subst}
 use Rattle.std.specs.Option.{IfSome}
 use Rattle.btr_files.specs.declared.plan.RestorePlan.{RestorePlan}
 use Rattle.btr_rack.specs.Rack.{Account, OnlyReads, Seen, Steady}
 use Rattle.btr_restore.specs.Running.{Outside}
 use Rattle.btr_run.specs.Agreeing.{AreAgreedFor, ComesAgreed}
-use Rattle.btr_run.specs.Behind.{AnyFault, IfSteady, IsBehind}
-use Rattle.btr_run.specs.Commands.{CallsSink, IsBehindCommand, KeepsRack, MayCome, MayFail, MayWant, TellsCause, command_outcome}
+use Rattle.btr_run.specs.Behind.{IfSteady, IsBehind}
+use Rattle.btr_run.specs.Commands.{IsBehindCommand, KeepsRack, MayCome, MayFail, MayWant, TellsCause, command_outcome}
 use Rattle.btr_run.specs.Order.{InOrder}
 use Rattle.btr_run.specs.Outcomes.{Outcome, Comes, OrBare, OrMemory, Shows}
-use Rattle.btr_run.specs.Filesystem.{MayMend}
-use Rattle.btr_run.specs.Repaired.{LeavesImages}
+use Rattle.btr_run.specs.Queries.{query_row}
+use Rattle.btr_run.specs.Repaired.{LeavesScrubbed}
 use Rattle.btr_run.specs.Restored.{restore_row}
-use Rattle.btr_run.specs.Rows.{AreAgreedBy, IsRowDone, IsRowOrUnread, Row, row_outcome}
-use Rattle.btr_run.specs.Run.{AreImagesSteady, Eyes, Given, IsPerformed, IsSynced, Run, before, behind, outside_before, outside_behind}
-use Rattle.btr_run.specs.Scrubbed.{scrubbed_images}
+use Rattle.btr_run.specs.Rows.{IsRowDone, Row, row_outcome}
+use Rattle.btr_run.specs.Run.{Eyes, Given, IsAsked, IsPerformed, Run, before, behind, outside_before, outside_behind}
 use Rattle.btr_run.specs.Stored.{IsStored}
 use Rattle.btr_run.specs.Words.{Words}
 use Rattle.btr_run.specs.declared.answer.Answer.{Answer}
 use Rattle.btr_run.specs.declared.plan.Command.{Command}
-use Rattle.btr_run.specs.declared.plan.Command.TheVariants.{Restore, Scrub}
-use Rattle.btr_run.specs.declared.answer.Answer.TheVariants.{Memory}
+use Rattle.btr_run.specs.declared.plan.Command.TheVariants.{Ask, Scrub}
+use Rattle.btr_run.specs.declared.query.Query.{Query}
+use Rattle.btr_run.specs.declared.query.Query.TheVariants.{Restore}
 use Rattle.btr_run.proofs.Coming.{comes_also, comes_shown, when_told}
 use Rattle.btr_run.proofs.Openings.{Images}
 
-module _ (command : Command) (x y : Outside) (same : y.sink ≡ x.sink) (same_calls : y.sink_calls ≡ x.sink_calls) (answer : Answer) where
+module _ (May : Type 0) (x y : Outside) (scarce : x.out_calls.ample ≡ false → May) (same : y.sink ≡ x.sink) (same_calls : y.sink_calls ≡ x.sink_calls)
+    (answer : Answer) where
   pub shown_effect : (IsOne : Images → Outcome → Type 0) (held : Option Images) (old new : Account)
       → IfSteady held old new (λ images. Shows (OrMemory (IsOne images)) x.text y.text x.out_calls y.out_calls answer)
-      → IfSteady held old new (λ images. Comes (MayWant command x.out_calls) (OrMemory (IsOne images)) x y answer)
+      → IfSteady held old new (λ images. Comes May (OrMemory (IsOne images)) x y answer)
   shown_effect IsOne held old new =
       when_told held (λ images. Steady old.faults new.faults → Shows (OrMemory (IsOne images)) x.text y.text x.out_calls y.out_calls answer)
-      (λ images. Steady old.faults new.faults → Comes (MayWant command x.out_calls) (OrMemory (IsOne images)) x y answer)
-      (λ images shows steady. comes_shown (MayWant command x.out_calls) (OrMemory (IsOne images)) x y answer same same_calls (λ scarce. inl scarce)
+      (λ images. Steady old.faults new.faults → Comes May (OrMemory (IsOne images)) x y answer)
+      (λ images shows steady. comes_shown May (OrMemory (IsOne images)) x y answer same same_calls scarce
       (shows steady))
 
   pub shown_told : (IsOne : Outcome → Type 0) → Shows (OrBare IsOne) x.text y.text x.out_calls y.out_calls answer
-      → Comes (MayWant command x.out_calls) (OrBare IsOne) x y answer
-  shown_told IsOne shows = comes_shown (MayWant command x.out_calls) (OrBare IsOne) x y answer same same_calls (λ scarce. inl scarce) shows
+      → Comes May (OrBare IsOne) x y answer
+  shown_told IsOne shows = comes_shown May (OrBare IsOne) x y answer same same_calls scarce shows
 
   -- what it comes to where the images agree
   pub shown_so : (Agrees : Images → Type 0) (IsOne : Images → Outcome → Type 0) (held : Option Images)
       → IfSome held (λ images. Agrees images → Shows (IsOne images) x.text y.text x.out_calls y.out_calls answer)
-      → IfSome held (λ images. Agrees images → Comes (MayWant command x.out_calls) (IsOne images) x y answer)
+      → IfSome held (λ images. Agrees images → Comes May (IsOne images) x y answer)
   shown_so Agrees IsOne held =
       when_told held (λ images. Agrees images → Shows (IsOne images) x.text y.text x.out_calls y.out_calls answer)
-      (λ images. Agrees images → Comes (MayWant command x.out_calls) (IsOne images) x y answer)
-      (λ images shows agreed. comes_shown (MayWant command x.out_calls) (IsOne images) x y answer same same_calls (λ scarce. inl scarce) (shows agreed))
+      (λ images. Agrees images → Comes May (IsOne images) x y answer)
+      (λ images shows agreed. comes_shown May (IsOne images) x y answer same same_calls scarce (shows agreed))
 
 -- reading keeps a rack
 pub reads_keep : (old new : Seen) → OnlyReads old new → KeepsRack old new
@@ -90,104 +91,87 @@ module _ {R T O : Type 0} (eyes : Eyes R T O) (words : Words) (old : Given R T O
   abbrev y : Outside
   y = outside_behind beside
 
-  module _ (command : Command) (stored : eyes.waits old.tree ≡ false) (other : (number : ℕ) (plan : RestorePlan) → command ≡ Restore number plan → ⊥) where
+  module _ (command : Command) (stored : eyes.waits old.tree ≡ false) (scarce : x.out_calls.ample ≡ false → MayWant command words x.out_calls)
+      (other : (query : Query) → command ≡ Ask query → ⊥) where
+    abbrev May : Type 0
+    May = MayWant command words x.out_calls
+
     -- what a scrub promises
     pub mended : IfSteady (before beside).held (before beside).account (behind beside).account (λ images.
         Shows (OrMemory (λ outcome. command_outcome command words images ≡ Some outcome)) x.text y.text x.out_calls y.out_calls answer)
-        → Shows (OrBare (MayCome command)) x.text y.text x.out_calls y.out_calls answer
-        → IfSome (before beside).held (λ images. AreAgreedFor command images → Shows
+        → Shows (OrBare (MayCome command words)) x.text y.text x.out_calls y.out_calls answer
+        → IfSome (before beside).held (λ images. AreAgreedFor command words images → Shows
         (ComesAgreed command words images) x.text y.text x.out_calls y.out_calls answer)
         → IsBehindCommand command (before beside) (behind beside) answer
-        → (command ≡ Scrub true → IfSteady (before beside).held (before beside).account (behind beside).account
-        (λ images. answer ≢ Memory → (behind beside).held ≡ Some (scrubbed_images images)))
-        → (command ≡ Scrub true → IfSome (before beside).held
-        (λ images. IfSome (behind beside).held (λ left. LeavesImages (AreImagesSteady beside) images left answer)))
-        → (command ≡ Scrub true → IsSynced beside)
+        → (command ≡ Scrub true → LeavesScrubbed (before beside) (behind beside) answer)
         → IsPerformed beside command
-    mended effect told agreed cause repaired left synced = record {
-      effect = shown_effect command x y refl refl answer (λ images outcome. command_outcome command words images ≡ Some outcome) (before beside).held
+    mended effect told agreed cause leaves = record {
+      effect = shown_effect May x y scarce refl refl answer (λ images outcome. command_outcome command words images ≡ Some outcome) (before beside).held
           (before beside).account (behind beside).account effect;
-      told = shown_told command x y refl refl answer (MayCome command) told;
-      order = λ number plan is. absurd (other number plan is);
-      agreed = shown_so command x y refl refl answer (AreAgreedFor command) (ComesAgreed command words) (before beside).held agreed;
+      told = shown_told May x y scarce refl refl answer (MayCome command words) told;
+      order = λ number plan is. absurd (other (Restore number plan) is);
+      agreed = shown_so May x y scarce refl refl answer (AreAgreedFor command words) (ComesAgreed command words) (before beside).held agreed;
       stored = λ undone no_sink. stored;
       alone = λ never. refl;
       cause = cause;
-      repaired = repaired;
-      left = left;
-      synced = synced;
+      leaves = leaves;
     }
 
     -- what a command promises that only reads
     pub shown : (command ≡ Scrub true → ⊥)
         → IfSteady (before beside).held (before beside).account (behind beside).account (λ images.
         Shows (OrMemory (λ outcome. command_outcome command words images ≡ Some outcome)) x.text y.text x.out_calls y.out_calls answer)
-        → Shows (OrBare (MayCome command)) x.text y.text x.out_calls y.out_calls answer
-        → IfSome (before beside).held (λ images. AreAgreedFor command images → Shows
+        → Shows (OrBare (MayCome command words)) x.text y.text x.out_calls y.out_calls answer
+        → IfSome (before beside).held (λ images. AreAgreedFor command words images → Shows
         (ComesAgreed command words images) x.text y.text x.out_calls y.out_calls answer)
         → IsBehind (MayFail command) (TellsCause command) (before beside) (behind beside) answer
         → IsPerformed beside command
     shown reads effect told agreed cause =
-        mended effect told agreed (only_reads command (before beside) (behind beside) answer cause) (λ is. absurd (reads is)) (λ is. absurd (reads is))
-        (λ is. absurd (reads is))
+        mended effect told agreed (only_reads command (before beside) (behind beside) answer cause) (λ is. absurd (reads is))
 
 -- what is told of a command whatever its images hold is told of images that agree
 pub so_too : {Images : Type 0} (held : Option Images) (Agrees : Images → Type 0) (P : Type 0) → P → IfSome held (λ images. Agrees images → P)
 so_too None Agrees P p = tt
 so_too (Some images) Agrees P p = λ agreed. p
 
--- a row, as a command; each premise is by the command's own case of a table
+-- a query that was done: its row, and what stands beside it
+pub asked : {R T O : Type 0} (run : Run R T O) (query : Query)
+    → IsRowDone (query_row query run.words) (before run) (behind run) (outside_before run) (outside_behind run) run.answer
+    → ((number : ℕ) (plan : RestorePlan) → query ≡ Restore number plan → IfSome (before run).held
+    (λ images. InOrder plan (get_or run.words number []) images (before run) (behind run) (outside_before run) (outside_behind run) run.answer))
+    → IsStored (run.eyes.waits run.new.tree) run.answer → (((query_row query run.words).CallsSink → ⊥) → run.new.tree ≡ run.old.tree)
+    → IsAsked run query
+asked run query done order stored alone = record { done = done; order = order; stored = stored; alone = alone }
+
+-- what a row comes to, as what a command comes to
 module _ {R T O : Type 0} (run : Run R T O) (command : Command) (row : Row)
-    (wants : row.MayWant (outside_before run).out_calls → MayWant command (outside_before run).out_calls)
-    (comes_to : (images : Images) → command_outcome command run.words images ≡ Some (row_outcome row images))
-    (may_be : (outcome : Outcome) → row.MayBe outcome → MayCome command outcome)
-    (agrees : (images : Images) → AreAgreedFor command images → AreAgreedBy row images)
-    (or_unread : (images : Images) (outcome : Outcome) → IsRowOrUnread row images outcome → ComesAgreed command run.words images outcome)
-    (may_fail : (answer : Answer) → MayMend answer → MayFail command answer) (no_scrub : command ≡ Scrub true → ⊥) where
-  abbrev u : Outside
-  u = outside_before run
+    (comes_to : (images : Images) → command_outcome command run.words images ≡ Some (row_outcome row images)) where
+  row_effect : IfSteady (before run).held (before run).account (behind run).account (λ images.
+      Comes (row.MayWant (outside_before run).out_calls) (OrMemory (λ outcome. row_outcome row images ≡ outcome))
+      (outside_before run) (outside_behind run) run.answer)
+      → IfSteady (before run).held (before run).account (behind run).account (λ images.
+      Comes (row.MayWant (outside_before run).out_calls) (OrMemory (λ outcome. command_outcome command run.words images ≡ Some outcome))
+      (outside_before run) (outside_behind run) run.answer)
+  row_effect = when_told (before run).held _ _ (λ images comes steady.
+      comes_also (row.MayWant (outside_before run).out_calls) (row.MayWant (outside_before run).out_calls)
+      (OrMemory (λ outcome. row_outcome row images ≡ outcome)) (OrMemory (λ outcome. command_outcome command run.words images ≡ Some outcome))
+      (outside_before run) (outside_behind run) run.answer (λ may. may)
+      (λ outcome one. ⊎_elim (λ is. inl (comes_to images ∙ ap (λ o. Some o) is)) (λ want. inr want) one) (comes steady))
 
-  abbrev v : Outside
-  v = outside_behind run
+-- a query, as a command
+pub query_performed : {R T O : Type 0} (run : Run R T O) (query : Query) → IsAsked run query → IsPerformed run (Ask query)
+query_performed run query asks = record {
+  effect = row_effect run (Ask query) (query_row query run.words) (λ images. refl) asks.done.effect;
+  told = asks.done.told;
+  order = λ number plan is. asks.order number plan (cc is);
+  agreed = asks.done.agreed;
+  stored = asks.stored;
+  alone = asks.alone;
+  cause = only_reads (Ask query) (before run) (behind run) run.answer asks.done.cause;
+  leaves = λ is. absurd (cc is);
+}
 
-  its_cause : IsBehind MayMend AnyFault (before run) (behind run) run.answer → IsBehind (MayFail command) (TellsCause command) (before run) (behind run)
-      run.answer
-  its_cause b = record {
-    reads = b.reads;
-    image = b.image;
-    tree = λ fault is told. b.tree fault is tt;
-    hidden = ⊎_elim (λ none. inl none) (λ rest. ⊎_elim (λ fault. inr (inl fault)) (λ mends. inr (inr (may_fail run.answer mends))) rest) b.hidden;
-    no_usage = b.no_usage;
-    no_limit = b.no_limit;
-  }
-
-  pub row_performed : IsRowDone row (before run) (behind run) u v run.answer
-      → ((number : ℕ) (plan : RestorePlan) → command ≡ Restore number plan
-      → IfSome (before run).held (λ images. InOrder plan (get_or run.words number []) images (before run) (behind run) u v run.answer))
-      → IsStored (run.eyes.waits run.new.tree) run.answer
-      → ((CallsSink command → ⊥) → run.new.tree ≡ run.old.tree)
-      → IsPerformed run command
-  row_performed done order stored alone = record {
-    effect = when_told (before run).held _ _ (λ images comes steady.
-        comes_also (row.MayWant u.out_calls) (MayWant command u.out_calls) (OrMemory (λ outcome. row_outcome row images ≡ outcome))
-        (OrMemory (λ outcome. command_outcome command run.words images ≡ Some outcome)) u v run.answer wants
-        (λ outcome one. ⊎_elim (λ is. inl (comes_to images ∙ ap (λ o. Some o) is)) (λ want. inr want) one) (comes steady)) done.effect;
-    told = comes_also (row.MayWant u.out_calls) (MayWant command u.out_calls) (OrBare row.MayBe) (OrBare (MayCome command)) u v run.answer wants
-        (λ outcome one. ⊎_elim (λ is. inl (may_be outcome is)) (λ bare. inr bare) one) done.told;
-    order = order;
-    agreed = when_told (before run).held _ _ (λ images comes agreed.
-        comes_also (row.MayWant u.out_calls) (MayWant command u.out_calls) (IsRowOrUnread row images) (ComesAgreed command run.words images) u v run.answer
-        wants
-        (or_unread images) (comes (agrees images agreed))) done.agreed;
-    stored = stored;
-    alone = alone;
-    cause = only_reads command (before run) (behind run) run.answer (its_cause done.cause);
-    repaired = λ is. absurd (no_scrub is);
-    left = λ is. absurd (no_scrub is);
-    synced = λ is. absurd (no_scrub is);
-  }
-
--- the row by a word that a command cites
+-- the row by a word that a query cites
 pub by_word : (row : List ℕ → Row) (old new : Seen) (x y : Outside) (answer : Answer) (word dest : List ℕ) → word ≡ dest → IsRowDone (row dest) old new x y
     answer
     → IsRowDone (row word) old new x y answer
@@ -219,13 +203,12 @@ module _ {R T O : Type 0} (run : Run R T O) (number : ℕ) (plan : RestorePlan) 
       same_number : Restore number plan ≡ Restore other given → number ≡ other
       same_number e = cc e
 
-  pub restore_performed : (dest : List ℕ) → get_or run.words number [] ≡ dest
+  pub restore_asked : (dest : List ℕ) → get_or run.words number [] ≡ dest
       → IsRowDone (restore_row plan dest) (before run) (behind run) (outside_before run) (outside_behind run) run.answer
       → IfSome (before run).held (λ images. InOrder plan dest images (before run) (behind run) (outside_before run) (outside_behind run) run.answer)
       → IsStored (run.eyes.waits run.new.tree) run.answer → (plan.dry ≡ true → run.new.tree ≡ run.old.tree)
-      → IsPerformed run (Restore number plan)
-  restore_performed dest named done order stored dry =
-      row_performed run (Restore number plan) (restore_row plan (get_or run.words number [])) (λ want. inr tt) (λ images. refl) (λ outcome is. is)
-      (λ images agreed. (agreed, λ fs opened. tt)) (λ images outcome is. is) (λ answer mends. mends) (λ is. absurd (cc is))
+      → IsAsked run (Restore number plan)
+  restore_asked dest named done order stored dry =
+      asked run (Restore number plan)
       (by_word (restore_row plan) (before run) (behind run) (outside_before run) (outside_behind run) run.answer (get_or run.words number []) dest named done)
       (its_order dest named order) stored (keeps_alone dry)

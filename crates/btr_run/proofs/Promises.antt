@@ -38,7 +38,8 @@ use Rattle.btr_run.specs.Restored.{restore_row, skipped_in}
 use Rattle.btr_run.specs.Rows.{row_in, row_outcome}
 use Rattle.btr_run.specs.Words.{Words, IsSentence, images_of}
 use Rattle.btr_run.specs.declared.answer.Answer.{Answer}
-use Rattle.btr_run.specs.declared.plan.Command.TheVariants.{Restore}
+use Rattle.btr_run.specs.declared.plan.Command.TheVariants.{Ask}
+use Rattle.btr_run.specs.declared.query.Query.TheVariants.{Restore}
 use Rattle.btr_run.specs.declared.plan.Plan.{Plan}
 use Rattle.btr_run.proofs.Carrying.{taken_outcome}
 use Rattle.btr_run.proofs.Orders.{no_steps}
@@ -187,7 +188,7 @@ module _ (seen : Seen) (settles : SettledLaw) (then : (plan : RestorePlan) (dest
             (λ rest. ⊎_elim
             (λ (same : (p : Plan) × IsSentence p words × (images_outcome p.command words (images_of p words) shelf ≡ Some effect.outcome)).
             sym (ap (λ d. Some (row_outcome (restore_row plan d) images)) from.named) ∙ sym
-            (taken_outcome (Restore from.number plan) words (drop from.first words) shelf images from.few from.from)
+            (taken_outcome (Ask (Restore from.number plan)) words (drop from.first words) shelf images from.few from.from)
             ∙ ap (λ p. images_outcome p.command words (images_of p words) shelf) (one_plan words _ same.0 from.sentence same.1) ∙ same.2)
             (λ (trial : (n : ℕ) × AsksToTry words n × IsTrialOutcome n effect.outcome).
             absurd (no_trial words _ trial.0 from.sentence trial.1 (λ n e. cc e))) rest) effect.is)

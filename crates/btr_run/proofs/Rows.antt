@@ -1,5 +1,5 @@
 -- What a row of the table comes to: where the filesystem isn't opened, and where a call did what some run of its program says, whatever failed.
-use Rattle.std.proofs.Common.{◌≡◌, ◌≢◌, ◌⊎◌, inl, inr, ⊎_elim, ℕ, List, [], ◌∷◌, Option, Some, None, Result, Ok, Err, refl, ap, ◌∙◌, sym, subst, arith}
+use Rattle.std.proofs.Common.{◌≡◌, ◌≢◌, ◌⊎◌, inl, inr, ⊎_elim, false, ℕ, List, [], ◌∷◌, Option, Some, None, Result, Ok, Err, refl, ap, ◌∙◌, sym, subst, arith}
 use Rattle.std.specs.Option.{IfSome}
 use Rattle.btr_files.specs.declared.counts.Counts.{Counts}
 use Rattle.btr_files.specs.declared.plan.RestorePlan.{RestorePlan}
@@ -96,7 +96,7 @@ abbrev pub Follows_by : {A : Type 0} → ((ℕ → Map) → Run Want Fault Step 
 Follows_by {A} IsRun result Is Bs done = (r : Run Want Fault Step A) × IsRun Bs r × Follows Is part [] r done (ended result)
 
 -- The filesystem is open, and a call was made over it, whose run is some run of the row.
-module _ {A : Type 0} (left_out : A → ℕ) (run_by : Filesystem → Map → Run Want Fault Step A)
+module _ {A : Type 0} (CallsSink : Type 0) (left_out : A → ℕ) (run_by : Filesystem → Map → Run Want Fault Step A)
     (IsRun : Filesystem → (ℕ → Map) → Run Want Fault Step A → Type 0)
     (one : (fs : Filesystem) (B : Map) (r : Run Want Fault Step A) → IsRun fs (λ n. B) r → r ≡ run_by fs B)
     (old mid new : Seen) (first : OnlyReads old mid) (volume after : Volume) (x y : Outside) (answer : Answer) (result : Result A Stop)
@@ -114,7 +114,7 @@ module _ {A : Type 0} (left_out : A → ℕ) (run_by : Filesystem → Map → Ru
   fs = filesystem_in volume
 
   abbrev row : Row
-  row = listing_row left_out run_by IsRun
+  row = listing_row CallsSink left_out run_by IsRun
 
   -- its run over the images
   abbrev run : Images → Run Want Fault Step A
@@ -181,7 +181,7 @@ module _ (old mid new : Seen) (first : OnlyReads old mid) (volume after : Volume
       → IfSteady old.held old.account mid.account (λ images. OpensFilesystem images (Ok volume))
       → IfSome old.held (λ images. OpensAs images old mid (Ok volume)) → IsRowDone (restore_row plan dest) old new x y answer
   restored_done plan dest result is ran =
-      row_done skipped_in (λ fs B. exec B (listing plan dest fs.sup)) (λ fs Bs r. GoesTo Bs (listing plan dest fs.sup) r)
+      row_done (plan.dry ≡ false) skipped_in (λ fs B. exec B (listing plan dest fs.sup)) (λ fs Bs. GoesTo Bs (listing plan dest fs.sup))
       (λ fs. one_run (listing plan dest fs.sup)) old mid new first volume after x y answer result is ran.reads ran.did ran.cause ran.sink_calls ran.out_calls
 
   pub salvaged_done : (plan : RestorePlan) (dest : List ℕ) (result : Result Salvaged Stop) → answer ≡ stopped_answer missed_in result
@@ -189,7 +189,7 @@ module _ (old mid new : Seen) (first : OnlyReads old mid) (volume after : Volume
       → IfSteady old.held old.account mid.account (λ images. OpensFilesystem images (Ok volume))
       → IfSome old.held (λ images. OpensAs images old mid (Ok volume)) → IsRowDone (salvage_row plan dest) old new x y answer
   salvaged_done plan dest result is ran =
-      row_done missed_in (λ fs B. salvage_run B plan dest fs.sup) (λ fs Bs r. TriesTo Bs (salvaging plan dest fs.sup) r)
+      row_done (Unit {0}) missed_in (λ fs B. salvage_run B plan dest fs.sup) (λ fs Bs. TriesTo Bs (salvaging plan dest fs.sup))
       (λ fs B r tries. tries_one (λ (n : ℕ). B) B (λ n want. refl) (salvaging plan dest fs.sup) r tries) old mid new first volume after x y answer result is
       ran.reads ran.did ran.cause ran.sink_calls ran.out_calls
 
@@ -198,6 +198,6 @@ module _ (old mid new : Seen) (first : OnlyReads old mid) (volume after : Volume
       → IfSteady old.held old.account mid.account (λ images. OpensFilesystem images (Ok volume))
       → IfSome old.held (λ images. OpensAs images old mid (Ok volume)) → IsRowDone (send_row plan dest name) old new x y answer
   sent_done plan dest name result is ran =
-      row_done skipped_in (λ fs B. exec B (sending dest name fs.sup plan)) (λ fs Bs r. GoesTo Bs (sending dest name fs.sup plan) r)
+      row_done (Unit {0}) skipped_in (λ fs B. exec B (sending dest name fs.sup plan)) (λ fs Bs. GoesTo Bs (sending dest name fs.sup plan))
       (λ fs. one_run (sending dest name fs.sup plan)) old mid new first volume after x y answer result is ran.reads ran.did ran.cause ran.sink_calls
       ran.out_calls

@@ -10,7 +10,7 @@ use Rattle.btr_scrub_copies.specs.declared.mended.MendFault.{MendFault}
 use Rattle.btr_scrub_copies.specs.declared.mended.MendFault.TheVariants as mend
 use Rattle.btr_prog.specs.Answers.{Follows, no_part}
 use Rattle.btr_prog.specs.Prog.{exec, wants_of}
-use Rattle.btr_rack.specs.Rack.{OnlyReads, Seen, Steady}
+use Rattle.btr_rack.specs.Rack.{OnlyReads, Rose, Seen, Steady}
 use Rattle.btr_rack.proofs.Reading.{reads_more}
 use Rattle.btr_read.specs.Fate.{Agreed, Fault, fate}
 use Rattle.btr_read.specs.Fate as fault
@@ -44,11 +44,11 @@ use Rattle.btr_run.specs.Unopened.{AreAgreed}
 use Rattle.btr_run.specs.Behind.{HasToldCause, IfSteady, IsBehind, IsNoCrossing}
 use Rattle.btr_run.specs.Answers.{error_line}
 use Rattle.btr_run.specs.Checked.{found}
-use Rattle.btr_run.specs.Commands.{IsBehindCommand, IsUnmended, KeepsRack}
+use Rattle.btr_run.specs.Commands.{IsBehindCommand, KeepsRack, ScrubFails}
 use Rattle.btr_run.specs.Faults.{stop_answer, tree_answer}
 use Rattle.btr_run.specs.Filesystem.{Filesystem, MayMend, OpensAs, OpensFilesystem, fault_answer, filesystem_in, filesystem_of}
 use Rattle.btr_run.specs.Outcomes.{refused, showing}
-use Rattle.btr_run.specs.Repaired.{KeepsBlocks, LeavesImages, MayWrite, Scrubs, ScrubsTo}
+use Rattle.btr_run.specs.Repaired.{KeepsBlocks, LeavesImages, MayWrite, Scrubs, ScrubsTo, WaitsInChunk}
 use Rattle.btr_run.specs.Scrubbed.{counts, filesystem_as, mending_writes, scrub_ended, scrub_in, scrub_outcome, scrub_unless, scrubbed_images, scrubbed_in}
 use Rattle.btr_run.specs.Scrubbed.{tally_shown, writes_in}
 use Rattle.btr_run.specs.declared.answer.Answer.{Answer}
@@ -316,26 +316,48 @@ module _ (write : Bool) (old mid : Seen) (first : OnlyReads old mid) (volume : V
                 (stop_place (λ i. writes_if write (ws i)) images left ended
                 (subst (λ (o : Option Images). Leaves (λ i. writes_if write (ws i)) (Some images) o ended) told' (held_as ended refl images told)))
 
-        unmended : (slot : ℕ) → FailsAt (IsOfScrub layout) slot (plain at) (plain new) → IsUnmended layout old new slot
+        unmended : (slot : ℕ) → FailsAt (IsOfScrub layout) slot (plain at) (plain new) → ScrubFails old new slot
         unmended slot f = record {
-          place = f.place;
-          of_scrub = f.lies;
-          on_slot = f.on_slot;
-          unsure = sym (ap (λ (s : Seen). s.sure) all.same) ∙ f.failed.unsure;
-          last = f.failed.one.last;
-          no_opening = f.failed.read;
-          faults = rose_behind old.account.faults at.account.faults new.account.faults all.later f.failed.one.faults;
-          fresh = some_fresh at.account.fresh new.account.fresh f.failed.one.fresh;
-          shut = f.failed.shut ∙ all.same_shut;
+          mid = at;
+          reads = all;
+          layout = layout;
+          is = opened_layout old mid at volume first second opened;
+          failed = record {
+            place = f.place;
+            of_scrub = f.lies;
+            on_slot = f.on_slot;
+            unsure = f.failed.unsure;
+            last = f.failed.one.last;
+            no_opening = f.failed.read;
+            faults = f.failed.one.faults;
+            fresh = some_fresh at.account.fresh new.account.fresh f.failed.one.fresh;
+            shut = f.failed.shut;
+          };
         }
 
-        by_none : (answer : Answer) → tree_in answer ≡ None → NoneOf answer → ((slot : ℕ) → answer ≡ ImageFault slot → IsUnmended layout old new slot)
+        none_yet : old.unsynced ≡ [] → at.unsynced ≡ []
+        none_yet none = ap (λ (s : Seen). s.unsynced) all.same ∙ none
+
+        -- what waits for a sync lies in stripes of one chunk
+        in_chunk : (answer : Answer) → ((slot : ℕ) → answer ≡ ImageFault slot → Rose at.account.faults new.account.faults) → old.unsynced ≡ []
+            → WaitsInChunk old new answer
+        in_chunk answer since none = record {
+          mid = at;
+          reads = all;
+          later = works.does.only.later;
+          since = since;
+          layout = layout;
+          is = opened_layout old mid at volume first second opened;
+          waits = works.waits (none_yet none);
+        }
+
+        by_none : (answer : Answer) → tree_in answer ≡ None → NoneOf answer → ((slot : ℕ) → answer ≡ ImageFault slot → ScrubFails old new slot)
             → IsBehindCommand (Scrub write) old new answer
         by_none answer none other image = record {
           keeps = keeps;
           reads = λ never. absurd (never tt);
           held = unheld;
-          image = λ slot e. inr (tt, (layout, image slot e));
+          image = λ slot e. inr (tt, image slot e);
           tree = λ f e. absurd (no_tree answer none f e);
           hidden = inr (inr (mends_of answer other));
           no_usage = λ n e. subst NoneOf e other;
@@ -345,18 +367,23 @@ module _ (write : Bool) (old mid : Seen) (first : OnlyReads old mid) (volume : V
         mended : (e : Result (Unit {0}) MendFault) → ended ≡ e → Scrubs write old new (answered (whole.answer_of e tally))
         mended (Err (mend.Image slot)) is = record {
           content = each_told old.held (λ images. Steady old.account.faults new.account.faults → ScrubsTo write images (Err (ImageFault slot)))
-              (λ images told steady. absurd (steady_not_rose old.account.faults new.account.faults steady (unmended slot failed).faults));
+              (λ images told steady. absurd (steady_not_rose old.account.faults new.account.faults steady rose));
           bare = record { no_fault = record { no_out = λ e. cc; no_sink = λ e. cc }; line = λ e. cc };
-          behind = by_none (ImageFault slot) refl tt (λ other e. subst (IsUnmended layout old new) (the_slot slot other e) (unmended slot failed));
-          repaired = λ w. each_told old.held (λ images. Steady old.account.faults new.account.faults → (ImageFault slot ≡ Memory → ⊥)
-              → new.held ≡ Some (scrubbed_images images))
-              (λ images told steady. absurd (steady_not_rose old.account.faults new.account.faults steady (unmended slot failed).faults));
-          left = leaves (ImageFault slot) (inl (inl (slot, refl))) (λ images left told told' lost e w h. absurd (no_line (ImageFault slot) (λ l. cc l) lost e));
-          synced = λ w lost e. absurd (no_line (ImageFault slot) (λ l. cc l) lost e);
+          behind = by_none (ImageFault slot) refl tt (λ other e. subst (ScrubFails old new) (the_slot slot other e) (unmended slot failed));
+          leaves = λ w. record {
+            repaired = each_told old.held _ (λ images told steady. absurd (steady_not_rose old.account.faults new.account.faults steady rose));
+            left = leaves (ImageFault slot) (inl (inl (slot, refl)))
+                (λ images left told told' lost e w h. absurd (no_line (ImageFault slot) (λ l. cc l) lost e)) w;
+            synced = λ lost e. absurd (no_line (ImageFault slot) (λ l. cc l) lost e);
+            waits = λ none. inr (in_chunk (ImageFault slot) (λ other e. failed.failed.one.faults) none);
+          };
         }
           where
             failed : FailsAt (IsOfScrub layout) slot (plain at) (plain new)
             failed = subst (λ r. AccountsMend (IsOfScrub layout) (plain at) (plain new) r) is works.does.account
+
+            rose : Rose old.account.faults new.account.faults
+            rose = rose_behind old.account.faults at.account.faults new.account.faults all.later failed.failed.one.faults
 
             the_slot : (a b : ℕ) → ImageFault a ≡ ImageFault b → a ≡ b
             the_slot a b e = cc e
@@ -365,10 +392,12 @@ module _ (write : Bool) (old mid : Seen) (first : OnlyReads old mid) (volume : V
               (λ images told steady. inr refl);
           bare = record { no_fault = record { no_out = λ e. cc; no_sink = λ e. cc }; line = λ e. cc };
           behind = by_none Memory refl tt (λ slot e. absurd (cc e));
-          repaired = λ w. each_told old.held (λ images. Steady old.account.faults new.account.faults → (Memory ≡ Memory → ⊥)
-              → new.held ≡ Some (scrubbed_images images)) (λ images told steady enough. absurd (enough refl));
-          left = leaves Memory (inl (inr (inr (inr refl)))) (λ images left told told' lost e w h. absurd (found_no_memory lost (sym e)));
-          synced = λ w lost e. absurd (found_no_memory lost (sym e));
+          leaves = λ w. record {
+            repaired = each_told old.held _ (λ images told steady enough. absurd (enough refl));
+            left = leaves Memory (inl (inr (inr (inr refl)))) (λ images left told told' lost e w h. absurd (found_no_memory lost (sym e))) w;
+            synced = λ lost e. absurd (found_no_memory lost (sym e));
+            waits = λ none. inr (in_chunk Memory (λ slot e. absurd (cc e)) none);
+          };
         }
         mended (Ok u) is = record {
           content = each_told old.held (λ images. Steady old.account.faults new.account.faults → ScrubsTo write images (Ok tally))
@@ -376,12 +405,13 @@ module _ (write : Bool) (old mid : Seen) (first : OnlyReads old mid) (volume : V
           bare = tt;
           behind = by_none (found tally.lost) (listed_no_tree tally.lost (Ok tt)) (listed_none tally.lost (Ok tt))
               (λ slot e. absurd (listed_no_image tally.lost (Ok tt) slot e));
-          repaired = λ w. each_told old.held (λ images. Steady old.account.faults new.account.faults → (found tally.lost ≡ Memory → ⊥)
-              → new.held ≡ Some (scrubbed_images images))
-              (λ images told steady enough. stands images told w (sure_told Is at second tells images told (inl (since steady))));
-          left = leaves (found tally.lost) (inr (tally.lost, refl))
-              (λ images left told told' lost e w h. the_images left (scrubbed_images images) (sym told' ∙ stands images told w h));
-          synced = λ w lost e none. subst (λ r. OnOk r (at.unsynced ≡ [] → new.unsynced ≡ [])) is works.synced (ap (λ (s : Seen). s.unsynced) all.same ∙ none);
+          leaves = λ w. record {
+            repaired = each_told old.held _ (λ images told steady enough. stands images told w (sure_told Is at second tells images told (inl (since steady))));
+            left = leaves (found tally.lost) (inr (tally.lost, refl))
+                (λ images left told told' lost e w h. the_images left (scrubbed_images images) (sym told' ∙ stands images told w h)) w;
+            synced = λ lost e none. subst (λ r. OnOk r (at.unsynced ≡ [] → new.unsynced ≡ [])) is works.synced (none_yet none);
+            waits = λ none. inr (in_chunk (found tally.lost) (λ slot e. absurd (listed_no_image tally.lost (Ok tt) slot e)) none);
+          };
         }
           where
             tally_is : (images : Images) → old.held ≡ Some images → done ≡ met images fs → tally ≡ counts write images fs

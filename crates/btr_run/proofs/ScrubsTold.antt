@@ -1,5 +1,5 @@
 -- What is told of a scrub, and what it leaves, by what it answers.
-use Rattle.std.proofs.Common.{◌≡◌, inl, inr, ⊎_elim, ℕ, Bool, true, List, [], Option, Some, Result, Ok, Err, refl, sym, ap, ◌∙◌, subst}
+use Rattle.std.proofs.Common.{◌≡◌, inl, inr, ⊎_elim, ℕ, Bool, true, List, Option, Some, Result, Ok, Err, refl, sym, ap, ◌∙◌, subst}
 use Rattle.std.specs.Option.{IfSome}
 use Rattle.btr_rack.specs.Out.{CallAccount, Counts, Puts}
 use Rattle.btr_rack.specs.declared.error.SinkError.{SinkError}
@@ -13,10 +13,9 @@ use Rattle.btr_run.specs.Behind.{IfSteady}
 use Rattle.btr_run.specs.Checked.{found}
 use Rattle.btr_run.specs.Commands.{IsBehindCommand}
 use Rattle.btr_run.specs.Outcomes.{OrBare, OrMemory, Outcome, Shows, due_after, refused, showing}
-use Rattle.btr_run.specs.Repaired.{LeavesImages, MayWrite, Scrubs, ScrubsTo}
-use Rattle.btr_run.specs.Scrubbed.{IsScrubOutcome, scrub_outcome, scrubbed_images, tally_shown, tally_text}
+use Rattle.btr_run.specs.Repaired.{LeavesImages, LeavesScrubbed, MayWrite, Scrubs, ScrubsTo, WaitsInChunk}
+use Rattle.btr_run.specs.Scrubbed.{IsScrubOutcome, scrub_outcome, tally_shown, tally_text}
 use Rattle.btr_run.specs.declared.answer.Answer.{Answer}
-use Rattle.btr_run.specs.declared.answer.Answer.TheVariants.{Memory}
 use Rattle.btr_run.specs.declared.plan.Command.TheVariants.{Scrub}
 use Rattle.btr_run.proofs.Found.{found_no_memory}
 use Rattle.btr_run.proofs.Checks.{found_calm, listed_no_image, listed_no_tree, listed_none}
@@ -51,17 +50,8 @@ module _ (write : Bool) (old new : Seen) (answer result : Answer) (is : result �
   refused_told text account = subst (Shows (OrBare IsScrubOutcome) text text account account) (sym is)
       (shows_bare (OrBare IsScrubOutcome) text account answer (inr (refl, s.bare.line)) s.bare.no_fault)
 
-  pub refused_repaired : write ≡ true → IfSteady old.held old.account new.account (λ images. (result ≡ Memory → ⊥) → new.held ≡ Some (scrubbed_images images))
-  refused_repaired w = subst (λ a. IfSteady old.held old.account new.account (λ images. (a ≡ Memory → ⊥) → new.held ≡ Some (scrubbed_images images))) (sym is)
-      (s.repaired w)
-
-  pub refused_left : write ≡ true → IfSome old.held
-      (λ images. IfSome new.held (λ left. LeavesImages (Steady old.account.faults new.account.faults) images left result))
-  refused_left w = subst (λ a. IfSome old.held (λ images. IfSome new.held (λ left. LeavesImages (Steady old.account.faults new.account.faults) images left a)))
-      (sym is) (s.left w)
-
-  pub refused_synced : write ≡ true → (lost : ℕ) → result ≡ found lost → old.unsynced ≡ [] → new.unsynced ≡ []
-  refused_synced w lost e = s.synced w lost (sym is ∙ e)
+  pub refused_leaves : write ≡ true → LeavesScrubbed old new result
+  refused_leaves w = subst (LeavesScrubbed old new) (sym is) (s.leaves w)
 
   pub refused_cause : IsBehindCommand (Scrub write) old new result
   refused_cause = subst (IsBehindCommand (Scrub write) old new) (sym is) s.behind
@@ -97,12 +87,6 @@ module _ (write : Bool) (old new : Seen) (tally : Tally) (s : Scrubs write old n
     pub done_told : Shows (OrBare IsScrubOutcome) text text' before after result
     done_told = shown_so (OrBare IsScrubOutcome) (inl (record { tally = tally; is = refl }))
 
-  pub done_repaired : write ≡ true → IfSteady old.held old.account new.account (λ images. (result ≡ Memory → ⊥) → new.held ≡ Some (scrubbed_images images))
-  done_repaired w =
-      when_told old.held (λ images. Steady old.account.faults new.account.faults → (found tally.lost ≡ Memory → ⊥) → new.held ≡ Some (scrubbed_images images))
-      (λ images. Steady old.account.faults new.account.faults → (result ≡ Memory → ⊥) → new.held ≡ Some (scrubbed_images images))
-      (λ images stands steady enough. stands steady (found_no_memory tally.lost)) (s.repaired w)
-
   may_write : MayWrite result
   may_write = of put due
     where
@@ -111,23 +95,31 @@ module _ (write : Bool) (old new : Seen) (tally : Tally) (s : Scrubs write old n
       of (Err Failed) d = inl (inr (inr (inl d)))
       of (Err memory_fault) d = inl (inr (inr (inr d)))
 
-  pub done_left : write ≡ true → IfSome old.held
-      (λ images. IfSome new.held (λ left. LeavesImages (Steady old.account.faults new.account.faults) images left result))
-  done_left w =
-      when_told old.held (λ images. IfSome new.held (λ left. LeavesImages (Steady old.account.faults new.account.faults) images left (found tally.lost)))
-      (λ images. IfSome new.held (λ left. LeavesImages (Steady old.account.faults new.account.faults) images left result))
-      (λ images l. when_told new.held (λ left. LeavesImages (Steady old.account.faults new.account.faults) images left (found tally.lost))
-      (λ left. LeavesImages (Steady old.account.faults new.account.faults) images left result)
-      (λ left leaves. record {
-        stopped = leaves.stopped;
-        finished = λ lost e sure. leaves.finished tally.lost refl sure;
-        unchanged = inr may_write;
-        safe =
-            leaves.safe;
-      }) l) (s.left w)
-
-  pub done_synced : write ≡ true → (lost : ℕ) → result ≡ found lost → old.unsynced ≡ [] → new.unsynced ≡ []
-  done_synced w lost e = s.synced w tally.lost refl
+  pub done_leaves : write ≡ true → LeavesScrubbed old new result
+  done_leaves w = record {
+    repaired = when_told old.held _ _ (λ images stands steady enough. stands steady (found_no_memory tally.lost)) l.repaired;
+    left = when_told old.held (λ images. IfSome new.held (λ left. LeavesImages (Steady old.account.faults new.account.faults) images left (found tally.lost))) _
+        (λ images held. when_told new.held (λ left. LeavesImages (Steady old.account.faults new.account.faults) images left (found tally.lost)) _
+        (λ left leaves. record {
+          stopped = leaves.stopped;
+          finished = λ lost e sure. leaves.finished tally.lost refl sure;
+          unchanged = inr may_write;
+          safe = leaves.safe;
+        }) held) l.left;
+    synced = λ lost e. l.synced tally.lost refl;
+    waits = λ none. ⊎_elim (λ before. inl before) (λ (w : WaitsInChunk old new (found tally.lost)). inr (record {
+      mid = w.mid;
+      reads = w.reads;
+      later = w.later;
+      since = λ slot e. absurd (listed_no_image tally.lost put slot (sym due ∙ e));
+      layout = w.layout;
+      is = w.is;
+      waits = w.waits;
+    })) (l.waits none);
+  }
+    where
+      l : LeavesScrubbed old new (found tally.lost)
+      l = s.leaves w
 
   pub done_cause : IsBehindCommand (Scrub write) old new result
   done_cause = subst (IsBehindCommand (Scrub write) old new) (sym due) (record {

@@ -1,5 +1,5 @@
 -- What a command comes to where calls on images failed, but the copies of each block agree.
-use Rattle.std.specs.Prelude.{◌≡◌, ◌⊎◌, ◌≤◌, Bool, [], get_or, length, Some, Result, Ok, Err}
+use Rattle.std.specs.Prelude.{◌≡◌, ◌⊎◌, ◌≤◌, Bool, length, Some, Result, Ok, Err}
 use Rattle.btr_prog.specs.Answers.{Names}
 use Rattle.btr_prog.specs.Prog.{wants_of}
 use Rattle.btr_rack.specs.Rack.{Shelf}
@@ -15,61 +15,57 @@ use Rattle.btr_run.specs.Effects.{MayWantBy}
 use Rattle.btr_run.specs.Filesystem.{Filesystem, filesystem_of}
 use Rattle.btr_run.specs.Images.{most_images, taken}
 use Rattle.btr_run.specs.Outcomes.{Outcome, Comes, IsPrinted, OrBare, refused, showing}
-use Rattle.btr_run.specs.Resolved.{resolve_row}
-use Rattle.btr_run.specs.Restored.{restore_row}
+use Rattle.btr_run.specs.Queries.{query_row}
 use Rattle.btr_run.specs.Rows.{AreAgreedBy, IsRowOrUnread}
-use Rattle.btr_run.specs.Salvaged.{salvage_row}
-use Rattle.btr_run.specs.Sent.{send_row}
 use Rattle.btr_run.specs.Scrubbed.{filesystem_as, scrub_outcome, tally_shown}
-use Rattle.btr_run.specs.Trees.{dump_row}
 use Rattle.btr_run.specs.Unopened.{AreAgreed, IsOrUnopened}
 use Rattle.btr_run.specs.Words.{Words, IsSentence, images_of}
 use Rattle.btr_run.specs.declared.answer.Answer.{Answer}
 use Rattle.btr_run.specs.declared.answer.Answer.TheVariants.{Unread}
 use Rattle.btr_run.specs.declared.plan.Command.{Command}
-use Rattle.btr_run.specs.declared.plan.Command.TheVariants.{Super, Dump, Resolve, Check, Scrub, Restore, Salvage, Send, SelfTest}
+use Rattle.btr_run.specs.declared.plan.Command.TheVariants.{Super, Ask, Check, Scrub, SelfTest}
 use Rattle.btr_run.specs.declared.plan.Plan.{Plan}
 
 -- the images agree in all that a command reads
-abbrev pub AreAgreedFor : Command → Images → Type 0
-AreAgreedFor Super images = AreAgreed images
-AreAgreedFor (Dump choice) images = AreAgreedBy (dump_row choice) images
-AreAgreedFor (Resolve addr) images = AreAgreed images
-AreAgreedFor (Check read_data) images = AreAgreed images
-AreAgreedFor (Scrub write) images = AreAgreed images
-AreAgreedFor (Restore dest plan) images = AreAgreed images
-AreAgreedFor (Salvage dest plan) images = AreAgreed images
-AreAgreedFor (Send dest file plan) images = AreAgreed images
-AreAgreedFor (SelfTest number) images = AreAgreed images
+abbrev pub AreAgreedFor : Command → Words → Images → Type 0
+AreAgreedFor Super words images = AreAgreed images
+AreAgreedFor (Ask query) words images = AreAgreedBy (query_row query words) images
+AreAgreedFor (Check read_data) words images = AreAgreed images
+AreAgreedFor (Scrub write) words images = AreAgreed images
+AreAgreedFor (SelfTest number) words images = AreAgreed images
 
--- a check comes to what the images hold, or to a block that could not be read, before anything is put
+-- a check comes to what the images hold, or to a block that could not be read, before anything is
+-- put
 abbrev pub IsCheckedOrUnread : Bool → Images → Outcome → Type 0
 IsCheckedOrUnread read_data images outcome =
-    IsOrUnopened images (check_outcome read_data images) outcome ⊎ ((unread : UnreadBlock) × (outcome ≡ refused (Unread unread.addr unread.slot)))
+    IsOrUnopened images (check_outcome read_data images) outcome
+    ⊎ ((unread : UnreadBlock) × (outcome ≡ refused (Unread unread.addr unread.slot)))
 
--- a block could not be read that is wanted where the checked blocks are listed, and nothing is put but its line
+-- a block could not be read that is wanted where the checked blocks are listed, and nothing is put
+-- but its line
 pub record LacksUnits (images : Images) (outcome : Outcome) : Type 0 where
   pub fs : Filesystem
   pub opened : filesystem_of images ≡ Ok fs
   pub unread : UnreadBlock
-  pub wanted : Names (λ u want. u.addr ≡ addr_of want) unread (wants_of (meeting images (filesystem_as fs)).marks)
+  pub wanted : Names (λ u want. u.addr ≡ addr_of want) unread
+      (wants_of (meeting images (filesystem_as fs)).marks)
   pub bare : outcome ≡ refused (Unread unread.addr unread.slot)
 
--- a scrub comes to what the images hold, or to a block that could not be read, before anything is put
+-- a scrub comes to what the images hold, or to a block that could not be read, before anything is
+-- put
 abbrev pub IsScrubbedOrUnread : Bool → Images → Outcome → Type 0
-IsScrubbedOrUnread write images outcome = IsOrUnopened images (scrub_outcome write images) outcome ⊎ LacksUnits images outcome
+IsScrubbedOrUnread write images outcome =
+    IsOrUnopened images (scrub_outcome write images) outcome ⊎ LacksUnits images outcome
 
--- what each command comes to so; of those that have clauses of their own, what they may come to at all
+-- what each command comes to so; of those that have clauses of their own, what they may come to at
+-- all
 abbrev pub ComesAgreed : Command → Words → Images → Outcome → Type 0
-ComesAgreed Super words images outcome = OrBare (MayCome Super) outcome
-ComesAgreed (Dump choice) words images outcome = IsRowOrUnread (dump_row choice) images outcome
-ComesAgreed (Resolve addr) words images outcome = IsRowOrUnread (resolve_row addr) images outcome
+ComesAgreed Super words images outcome = OrBare (MayCome Super words) outcome
+ComesAgreed (Ask query) words images outcome = IsRowOrUnread (query_row query words) images outcome
 ComesAgreed (Check read_data) words images outcome = IsCheckedOrUnread read_data images outcome
 ComesAgreed (Scrub write) words images outcome = IsScrubbedOrUnread write images outcome
-ComesAgreed (Restore dest plan) words images outcome = IsRowOrUnread (restore_row plan (get_or words dest [])) images outcome
-ComesAgreed (Salvage dest plan) words images outcome = IsRowOrUnread (salvage_row plan (get_or words dest [])) images outcome
-ComesAgreed (Send dest file plan) words images outcome = IsRowOrUnread (send_row plan (get_or words dest []) (get_or words file [])) images outcome
-ComesAgreed (SelfTest number) words images outcome = OrBare (MayCome (SelfTest number)) outcome
+ComesAgreed (SelfTest number) words images outcome =
+    OrBare (MayCome (SelfTest number) words) outcome
 
 -- the words ask for a command over these images of a shelf
 pub record AsksOf (words : Words) (shelf : Shelf) (plan : Plan) (images : Images) : Type 0 where
@@ -80,16 +76,20 @@ pub record AsksOf (words : Words) (shelf : Shelf) (plan : Plan) (images : Images
 -- a command over images that agree did and answered what it comes to
 abbrev pub FollowsAgreed : Words → Shelf → Outside → Outside → Answer → Type 0
 FollowsAgreed words shelf x y result =
-    (plan : Plan) (images : Images) → AsksOf words shelf plan images → AreAgreedFor plan.command images
+    (plan : Plan) (images : Images)
+    → AsksOf words shelf plan images
+    → AreAgreedFor plan.command words images
     → Comes (MayWantBy words x.out_calls) (ComesAgreed plan.command words images) x y result
 
--- a command over images that agree did what it comes to, and behind it the line of the answer was put
+-- a command over images that agree did what it comes to, and behind it the line of the answer was
+-- put
 abbrev pub KeepsAgreed : Words → Shelf → Outside → Outside → Answer → Type 0
 KeepsAgreed words shelf x y result =
     (plan : Plan) (images : Images)
     → AsksOf words shelf plan images
-    → AreAgreedFor plan.command images
-    → (outcome : Outcome) × ComesAgreed plan.command words images outcome × IsPrinted (MayWantBy words x.out_calls) x y outcome result
+    → AreAgreedFor plan.command words images
+    → (outcome : Outcome) × ComesAgreed plan.command words images outcome
+    × IsPrinted (MayWantBy words x.out_calls) x y outcome result
 
 -- what a scrub of images that agree is done with: its counts, or its refusal
 abbrev pub ScrubsAgreed : Bool → Images → Result Tally Answer → Type 0

@@ -26,6 +26,7 @@ pub mod Resolved
 pub mod Sent
 pub mod SelfTested
 pub mod Salvaged
+pub mod Queries
 pub mod Commands
 pub mod Causes
 pub mod Effects

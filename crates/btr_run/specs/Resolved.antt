@@ -20,21 +20,24 @@ none_left_out owners = 0
 
 -- the owners of an address in a filesystem, line by line
 abbrev pub owners_run : ℕ → Images → Filesystem → Run Want Fault Step ℕ
-owners_run addr images fs = lined (exec (fate images fs.layout) (resolved fs.sup fs.layout.chunks addr))
+owners_run addr images fs =
+    lined (exec (fate images fs.layout) (resolved fs.sup fs.layout.chunks addr))
 
 -- what resolving an address may come to, whatever its blocks are: lines, and
 -- then its end, or a tree that can't be read on
 pub record IsResolved (outcome : Outcome) : Type 0 where
   pub lines : List (List ℕ)
   pub are : outcome.steps ≡ map (λ line. Line line) lines
-  pub ends : (outcome.answer ≡ Done 0) ⊎ ((fault : TreeFault) × (outcome.answer ≡ tree_answer fault))
+  pub ends : (outcome.answer ≡ Done 0)
+      ⊎ ((fault : TreeFault) × (outcome.answer ≡ tree_answer fault))
 
 -- the row of resolving an address: the owners, whole or up to a block that could not be read
 abbrev pub resolve_row : ℕ → Row
 resolve_row addr = record {
   whole = λ images fs. listed_by none_left_out (owners_run addr images fs);
-  IsUpTo = λ images fs outcome. ListsUpTo (owners_run addr images fs) outcome;
+  IsUpTo = λ images fs. ListsUpTo (owners_run addr images fs);
   Agrees = λ images layout. Unit {0};
   MayBe = IsResolved;
   MayWant = λ out. Unit {0};
+  CallsSink = ⊥;
 }

@@ -1,5 +1,5 @@
 -- The command `restore`, where it writes files.
-use Rattle.std.specs.Prelude.{ℕ, List}
+use Rattle.std.specs.Prelude.{◌≡◌, ℕ, false, List}
 use Rattle.btr_files.specs.declared.counts.Counts.{Counts}
 use Rattle.btr_files.specs.declared.plan.RestorePlan.{RestorePlan}
 use Rattle.btr_prog.specs.Goes.{GoesTo}
@@ -11,6 +11,8 @@ use Rattle.btr_run.specs.Rows.{Row, listing_row}
 abbrev pub skipped_in : Counts → ℕ
 skipped_in counts = counts.skipped
 
--- the row of restoring a subvolume into a destination
+-- the row of restoring a subvolume into a destination, which is called if the run isn't dry
 abbrev pub restore_row : RestorePlan → List ℕ → Row
-restore_row plan dest = listing_row skipped_in (λ fs B. exec B (listing plan dest fs.sup)) (λ fs Bs r. GoesTo Bs (listing plan dest fs.sup) r)
+restore_row plan dest =
+    listing_row (plan.dry ≡ false) skipped_in (λ fs B. exec B (listing plan dest fs.sup))
+    (λ fs Bs. GoesTo Bs (listing plan dest fs.sup))

@@ -1,5 +1,6 @@
 -- A run, and what is promised of it: five things, and a sixth of a self-test.
-use Rattle.std.specs.Prelude.{◌≡◌, ◌≢◌, ◌⊎◌, ℕ, ◌<◌, true, Bool, List, [], String, get_or, map, Option, Some, IfSome}
+use Rattle.std.specs.Prelude.{◌≡◌, ◌≢◌, ◌⊎◌, ℕ, ◌<◌, true, Bool, List, [], String, get_or, map}
+use Rattle.std.specs.Prelude.{Option, Some, IfSome}
 use Rattle.std.specs.String.{string_bytes}
 use Rattle.std.specs.declared.alloc.Global.{Global}
 use Rattle.btr_files.specs.declared.plan.RestorePlan.{RestorePlan}
@@ -10,23 +11,30 @@ use Rattle.btr_restore.specs.Running.{Outside, outside}
 use Rattle.btr_run.specs.Agreeing.{AreAgreedFor, ComesAgreed, FollowsAgreed, KeepsAgreed}
 use Rattle.btr_run.specs.Behind.{IfSteady}
 use Rattle.btr_run.specs.Checked.{found}
-use Rattle.btr_run.specs.Causes.{HidesNone, ImageCause, IsBehindWords, IsMissingImage, IsShut, TreeCause, opened_with}
+use Rattle.btr_run.specs.Causes.{HidesNone, ImageCause, IsBehindWords, IsMissingImage, IsShut}
+use Rattle.btr_run.specs.Causes.{TreeCause, opened_with}
 use Rattle.btr_run.specs.Commands.{CallsSink, IsBehindCommand, MayCome, MayWant, command_outcome}
-use Rattle.btr_run.specs.Effects.{AsksForSink, FollowsWords, HasEffect, HasPart, IsDecided, IsOutcome, IsTold, MayFollow, MayWantBy}
+use Rattle.btr_run.specs.Effects.{AsksForSink, FollowsWords, HasEffect, HasPart, IsDecided}
+use Rattle.btr_run.specs.Effects.{IsOutcome, IsTold, MayFollow, MayWantBy}
 use Rattle.btr_run.specs.Images.{AreUnchanged}
 use Rattle.btr_run.specs.Order.{FollowsOrder, InOrder, KeepsCommittedOrder, KeepsOrder}
 use Rattle.btr_run.specs.Outcomes.{CallFailed, Comes, IsPrinted, Outcome, OrBare, OrMemory}
 use Rattle.btr_run.specs.Promise.{KeepsHeadline, KeepsOutcome}
-use Rattle.btr_run.specs.Repaired.{AreLeft, AsksToWrite, KeepsRepair, LeavesImages}
-use Rattle.btr_run.specs.Scrubbed.{scrubbed_images}
+use Rattle.btr_run.specs.Queries.{query_row}
+use Rattle.btr_run.specs.Repaired.{AreLeft, AsksToWrite, KeepsRepair, LeavesScrubbed, NamesChunk}
+use Rattle.btr_run.specs.Repaired.{WaitedBefore}
+use Rattle.btr_run.specs.Rows.{IsRowDone}
 use Rattle.btr_run.specs.SelfTested.{AsksToTry, IsTrialOf}
 use Rattle.btr_run.specs.Stored.{IsStored, IsStoredOrTold}
 use Rattle.btr_run.specs.Words.{Words}
 use Rattle.btr_volume.specs.Start.{Images}
 use Rattle.btr_run.specs.declared.answer.Answer.{Answer}
-use Rattle.btr_run.specs.declared.answer.Answer.TheVariants.{ImageFault, SinkFault, OutFault, Memory}
+use Rattle.btr_run.specs.declared.answer.Answer.TheVariants.{ImageFault, SinkFault, OutFault}
+use Rattle.btr_run.specs.declared.answer.Answer.TheVariants.{Memory}
 use Rattle.btr_run.specs.declared.plan.Command.{Command}
-use Rattle.btr_run.specs.declared.plan.Command.TheVariants.{Restore, Scrub}
+use Rattle.btr_run.specs.declared.plan.Command.TheVariants.{Ask, Scrub}
+use Rattle.btr_run.specs.declared.query.Query.{Query}
+use Rattle.btr_run.specs.declared.query.Query.TheVariants.{Restore}
 
 -- what a rack, a sink and an output show of themselves
 pub record Eyes (R T O : Type 0) : Type 0 where
@@ -38,10 +46,18 @@ pub record Eyes (R T O : Type 0) : Type 0 where
   pub out_calls : O → CallAccount
 
 -- what is shown of a rack, a sink and an output, made of what each shows
-abbrev pub eyes : {R T O : Type 0} → (R → Seen) → (T → Sink) → (T → CallAccount) → (T → Bool) → (O → Option (List ℕ)) → (O → CallAccount)
+abbrev pub eyes : {R T O : Type 0} → (R → Seen) → (T → Sink) → (T → CallAccount) → (T → Bool)
+    → (O → Option (List ℕ)) → (O → CallAccount)
     → Eyes R T O
 eyes seen sink sink_calls waits text out_calls =
-    record { seen = seen; sink = sink; sink_calls = sink_calls; waits = waits; text = text; out_calls = out_calls }
+    record {
+      seen = seen;
+      sink = sink;
+      sink_calls = sink_calls;
+      waits = waits;
+      text = text;
+      out_calls = out_calls;
+    }
 
 -- what a run is given: the rack of images, the sink and the output
 pub record Given (R T O : Type 0) : Type 0 where
@@ -58,7 +74,8 @@ pub record Run (R T O : Type 0) : Type 0 where
   pub answer : Answer
 
 -- a run, made of its parts
-abbrev pub ran : {R T O : Type 0} → Eyes R T O → List (String Global) → R → T → O → R → T → O → Answer → Run R T O
+abbrev pub ran : {R T O : Type 0} → Eyes R T O → List (String Global) → R → T → O → R → T → O
+    → Answer → Run R T O
 ran seen words rack tree out rack' tree' out' answer = record {
   eyes = seen;
   words = map string_bytes words;
@@ -69,7 +86,8 @@ ran seen words rack tree out rack' tree' out' answer = record {
 
 -- the sink and the output that are given, as they are seen
 abbrev pub outside_in : {R T O : Type 0} → Eyes R T O → Given R T O → Outside
-outside_in e given = outside (e.sink given.tree) (e.sink_calls given.tree) (e.text given.out) (e.out_calls given.out)
+outside_in e given =
+    outside (e.sink given.tree) (e.sink_calls given.tree) (e.text given.out) (e.out_calls given.out)
 
 module _ {R T O : Type 0} (run : Run R T O) where
   -- the rack before the run
@@ -107,33 +125,39 @@ module _ {R T O : Type 0} (run : Run R T O) where
   abbrev pub OfShelf : Type 0 → (Shelf → Type 0) → Type 0
   OfShelf P Q = IfSome before.shelf (λ shelf. P → Q shelf)
 
-  -- ---- 1. The answer has its cause, and what stands in the sink and in the output is what it says.
+  -- ---- 1. The answer has its cause, and what stands in the sink and in the output is what it
+  -- says.
 
   -- what the words alone decide is answered before any call on the rack and on the sink, unless
   -- the output refuses the line, and only then
   pub record FollowsItsWords : Type 0 where
     pub decided : (answer : Answer) → IsDecided run.words answer
-        → (run.new.rack ≡ run.old.rack) × (run.new.tree ≡ run.old.tree) × ((run.answer ≡ answer) ⊎ (run.answer ≡ OutFault) ⊎ (run.answer ≡ Memory))
+        → (run.new.rack ≡ run.old.rack) × (run.new.tree ≡ run.old.tree)
+        × ((run.answer ≡ answer) ⊎ (run.answer ≡ OutFault) ⊎ (run.answer ≡ Memory))
     pub stated : FollowsWords run.words run.answer
 
-  -- a fault of an image, of a tree, of the sink or of the output is answered only with its cause, and
-  -- nothing in place of a failed call on an image
+  -- a fault of an image, of a tree, of the sink or of the output is answered only with its cause,
+  -- and nothing in place of a failed call on an image
   pub record HasCause : Type 0 where
     pub image : (slot : ℕ) → run.answer ≡ ImageFault slot → ImageCause run.words before behind slot
     pub shut : before.account.shut < behind.account.shut → IsShut run.words before behind run.answer
-    pub sure : (slot : ℕ) → run.answer ≡ ImageFault slot → before.sure ≡ true → IsMissingImage run.words before.shelf slot
+    pub sure : (slot : ℕ) → run.answer ≡ ImageFault slot → before.sure ≡ true
+        → IsMissingImage run.words before.shelf slot
     pub tree : TreeCause run.words before behind run.answer
-    pub sink : run.answer ≡ SinkFault → CallFailed outside_before.sink_calls outside_behind.sink_calls
+    pub sink : run.answer ≡ SinkFault
+        → CallFailed outside_before.sink_calls outside_behind.sink_calls
     pub out : run.answer ≡ OutFault → CallFailed outside_before.out_calls outside_behind.out_calls
     pub hidden : HidesNone run.words before.account behind.account run.answer
 
-  -- all that the answer means: what was put and done by then, that nothing of it waits to be stored, and that no other
-  -- words than those of a restore that isn't dry make a call of the sink, whatever it and the rack tell
+  -- all that the answer means: what was put and done by then, that nothing of it waits to be
+  -- stored, and that no other words than those of a restore that isn't dry make a call of the sink,
+  -- whatever it and the rack tell
   pub record IsAnswered : Type 0 where
     pub words : FollowsItsWords
     pub cause : HasCause
     pub told : IsTold run.words outside_before outside_behind run.answer
-    pub stored : IsStoredOrTold (run.eyes.waits run.new.tree) outside_before.sink_calls outside_behind.sink_calls run.answer
+    pub stored : IsStoredOrTold
+        (run.eyes.waits run.new.tree) outside_before.sink_calls outside_behind.sink_calls run.answer
     pub alone : (AsksForSink run.words → ⊥) → run.new.tree ≡ run.old.tree
 
   -- ---- 2. Where nothing failed, the answer and all that was done are what the
@@ -151,16 +175,23 @@ module _ {R T O : Type 0} (run : Run R T O) where
   -- ---- 3. The headline: over honest images a restore is what was committed, whole, or
   -- up to exactly the first block that is lost.
   abbrev pub RestoresCommitted : Type 0
-  RestoresCommitted = OfShelf IsCalm (λ shelf. KeepsHeadline run.words shelf outside_before outside_behind run.answer)
+  RestoresCommitted =
+      OfShelf IsCalm
+      (λ shelf. KeepsHeadline run.words shelf outside_before outside_behind run.answer)
 
   -- ---- 4. Whatever failed, a first part of that was done, where no call on an
   -- image failed or the images' copies agree.
   pub record KeepsFirstPart : Type 0 where
-    pub steady : OfShelf AreImagesSteady (λ shelf. HasPart run.words shelf outside_before outside_behind)
-    pub agreed : IfSome before.shelf (λ shelf. KeepsAgreed run.words shelf outside_before outside_behind run.answer)
-    pub order : IfSome before.shelf (λ shelf. KeepsOrder run.words shelf (opened_with before.account behind) behind outside_before outside_behind run.answer)
+    pub steady : OfShelf AreImagesSteady
+        (λ shelf. HasPart run.words shelf outside_before outside_behind)
+    pub agreed : IfSome before.shelf
+        (λ shelf. KeepsAgreed run.words shelf outside_before outside_behind run.answer)
+    pub order : IfSome before.shelf
+        (λ shelf. KeepsOrder run.words shelf
+        (opened_with before.account behind) behind outside_before outside_behind run.answer)
     pub committed : IfSome before.shelf (λ shelf.
-        KeepsCommittedOrder run.words shelf (opened_with before.account behind) behind outside_before outside_behind run.answer)
+        KeepsCommittedOrder run.words shelf
+        (opened_with before.account behind) behind outside_before outside_behind run.answer)
 
   -- ---- 5. The images are only read, but by a scrub that writes: this leaves
   -- exactly what mends them, or a first part of it.
@@ -169,22 +200,34 @@ module _ {R T O : Type 0} (run : Run R T O) where
   abbrev pub IsSynced : Type 0
   IsSynced = (lost : ℕ) → run.answer ≡ found lost → before.unsynced ≡ [] → behind.unsynced ≡ []
 
-  -- a run leaves its images as they were, but for a scrub that writes, which leaves what mends them or a first part of
-  -- it
+  -- wherever a scrub was stopped, what waits for a sync, where nothing did before, lies in stripes
+  -- of one chunk of its images
+  abbrev pub IsInChunk : Type 0
+  IsInChunk =
+      before.unsynced ≡ []
+      → WaitedBefore before behind ⊎ NamesChunk run.words before behind run.answer
+
+  -- a run leaves its images as they were, but for a scrub that writes, which leaves what mends them
+  -- or a first part of it
   pub record LeavesItsImages : Type 0 where
     pub unchanged : (AsksToWrite run.words → ⊥) → AreUnchanged before.shelf behind.slots behind.held
     pub repaired : OfShelf IsPutWell (λ shelf. KeepsRepair run.words shelf behind.held)
-    pub left : AsksToWrite run.words → AreLeft AreImagesSteady before.shelf behind.slots behind.held run.answer
+    pub left : AsksToWrite run.words
+        → AreLeft AreImagesSteady before.shelf behind.slots behind.held run.answer
     pub synced : AsksToWrite run.words → IsSynced
+    pub waits : AsksToWrite run.words → IsInChunk
 
-  -- ---- 6. A self-test makes no call of the rack and of the sink, and shows the trial of the volume that is made.
+  -- ---- 6. A self-test makes no call of the rack and of the sink, and shows the trial of the
+  -- volume that is made.
 
-  -- where the maker tells its volume it is this one's: whole, or a first part of it where the output failed or memory was wanted
+  -- where the maker tells its volume it is this one's: whole, or a first part of it where the
+  -- output failed or memory was wanted
   abbrev pub ShowsTrial : Option Images → Type 0
   ShowsTrial volume =
       (number : ℕ) → AsksToTry run.words number
       → (run.new.rack ≡ run.old.rack) × (run.new.tree ≡ run.old.tree)
-      × ((outcome : Outcome) × IsTrialOf volume number outcome × IsPrinted (Unit {0}) outside_before outside_behind outcome run.answer)
+      × ((outcome : Outcome) × IsTrialOf volume number outcome
+      × IsPrinted (Unit {0}) outside_before outside_behind outcome run.answer)
 
   -- ---- before its last line is put
 
@@ -198,10 +241,15 @@ module _ {R T O : Type 0} (run : Run R T O) where
   -- the words were obeyed: all of the five, but for the line of a refusal, whose answer is due
   pub record IsObeyed : Type 0 where
     pub effect : OfShelf AreImagesSteady (λ shelf.
-        Comes (MayWantBy run.words outside_before.out_calls) (OrMemory (IsOutcome run.words shelf)) outside_before outside_behind run.answer)
-    pub told : Comes (MayWantBy run.words outside_before.out_calls) (OrBare (MayFollow run.words)) outside_before outside_behind run.answer
-    pub order : IfSome before.shelf (λ shelf. FollowsOrder run.words shelf (opened_with before.account behind) behind outside_before outside_behind run.answer)
-    pub agreed : IfSome before.shelf (λ shelf. FollowsAgreed run.words shelf outside_before outside_behind run.answer)
+        Comes (MayWantBy run.words outside_before.out_calls)
+        (OrMemory (IsOutcome run.words shelf)) outside_before outside_behind run.answer)
+    pub told : Comes (MayWantBy run.words outside_before.out_calls)
+        (OrBare (MayFollow run.words)) outside_before outside_behind run.answer
+    pub order : IfSome before.shelf
+        (λ shelf. FollowsOrder run.words shelf
+        (opened_with before.account behind) behind outside_before outside_behind run.answer)
+    pub agreed : IfSome before.shelf
+        (λ shelf. FollowsAgreed run.words shelf outside_before outside_behind run.answer)
     pub decided : (answer : Answer) → IsDecided run.words answer
         → (run.new.rack ≡ run.old.rack) × (run.new.tree ≡ run.old.tree) × (run.answer ≡ answer)
     pub stated : FollowsWords run.words run.answer
@@ -209,25 +257,41 @@ module _ {R T O : Type 0} (run : Run R T O) where
     pub alone : (AsksForSink run.words → ⊥) → run.new.tree ≡ run.old.tree
     pub cause : IsBehindWords run.words before behind run.answer
     pub unchanged : (AsksToWrite run.words → ⊥) → AreUnchanged before.shelf behind.slots behind.held
-    pub repaired : OfShelf AreImagesSteady (λ shelf. run.answer ≢ Memory → KeepsRepair run.words shelf behind.held)
-    pub left : AsksToWrite run.words → AreLeft AreImagesSteady before.shelf behind.slots behind.held run.answer
+    pub repaired : OfShelf AreImagesSteady
+        (λ shelf. run.answer ≢ Memory → KeepsRepair run.words shelf behind.held)
+    pub left : AsksToWrite run.words
+        → AreLeft AreImagesSteady before.shelf behind.slots behind.held run.answer
     pub synced : AsksToWrite run.words → IsSynced
+    pub waits : AsksToWrite run.words → IsInChunk
 
-  -- the same by a command over the images that were opened before
+  -- a query was done over the images that were opened before: its row, a restore in its order;
+  -- nothing of it waits behind a refusal, and one that calls no sink leaves it
+  pub record IsAsked (query : Query) : Type 0 where
+    pub done : IsRowDone (query_row query run.words) before behind outside_before outside_behind
+        run.answer
+    pub order : (number : ℕ) (plan : RestorePlan) → query ≡ Restore number plan
+        → IfSome before.held (λ images. InOrder plan (get_or run.words number []) images
+        before behind outside_before outside_behind run.answer)
+    pub stored : IsStored (run.eyes.waits run.new.tree) run.answer
+    pub alone : ((query_row query run.words).CallsSink → ⊥) → run.new.tree ≡ run.old.tree
+
+  -- a command was done over them: what the words say, but for the line of a refusal
   pub record IsPerformed (command : Command) : Type 0 where
     pub effect : IfSteady before.held before.account behind.account (λ images.
-        Comes (MayWant command outside_before.out_calls) (OrMemory (λ outcome. command_outcome command run.words images ≡ Some outcome))
+        Comes (MayWant command run.words outside_before.out_calls)
+        (OrMemory (λ outcome. command_outcome command run.words images ≡ Some outcome))
         outside_before outside_behind run.answer)
-    pub told : Comes (MayWant command outside_before.out_calls) (OrBare (MayCome command)) outside_before outside_behind run.answer
-    pub order : (number : ℕ) (plan : RestorePlan) → command ≡ Restore number plan
-        → IfSome before.held (λ images. InOrder plan (get_or run.words number []) images before behind outside_before outside_behind run.answer)
-    pub agreed : IfSome before.held (λ images. AreAgreedFor command images
-        → Comes (MayWant command outside_before.out_calls) (ComesAgreed command run.words images) outside_before outside_behind run.answer)
+    pub told : Comes (MayWant command run.words outside_before.out_calls)
+        (OrBare (MayCome command run.words))
+        outside_before outside_behind run.answer
+    pub order : (number : ℕ) (plan : RestorePlan) → command ≡ Ask (Restore number plan)
+        → IfSome before.held (λ images. InOrder plan (get_or run.words number []) images
+        before behind outside_before outside_behind run.answer)
+    pub agreed : IfSome before.held (λ images. AreAgreedFor command run.words images
+        → Comes (MayWant command run.words outside_before.out_calls)
+        (ComesAgreed command run.words images)
+        outside_before outside_behind run.answer)
     pub stored : IsStored (run.eyes.waits run.new.tree) run.answer
-    pub alone : (CallsSink command → ⊥) → run.new.tree ≡ run.old.tree
+    pub alone : (CallsSink command run.words → ⊥) → run.new.tree ≡ run.old.tree
     pub cause : IsBehindCommand command before behind run.answer
-    pub repaired : command ≡ Scrub true
-        → IfSteady before.held before.account behind.account (λ images. run.answer ≢ Memory → behind.held ≡ Some (scrubbed_images images))
-    pub left : command ≡ Scrub true
-        → IfSome before.held (λ images. IfSome behind.held (λ left. LeavesImages AreImagesSteady images left run.answer))
-    pub synced : command ≡ Scrub true → IsSynced
+    pub leaves : command ≡ Scrub true → LeavesScrubbed before behind run.answer

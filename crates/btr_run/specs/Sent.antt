@@ -10,4 +10,5 @@ use Rattle.btr_run.specs.Rows.{Row, listing_row}
 -- the row of sending a subvolume: one stream, as a file of this name in this folder
 abbrev pub send_row : SendPlan → List ℕ → List ℕ → Row
 send_row plan dest name =
-    listing_row skipped_in (λ fs B. exec B (sending dest name fs.sup plan)) (λ fs Bs r. GoesTo Bs (sending dest name fs.sup plan) r)
+    listing_row (Unit {0}) skipped_in (λ fs B. exec B (sending dest name fs.sup plan))
+    (λ fs Bs. GoesTo Bs (sending dest name fs.sup plan))

@@ -12,12 +12,8 @@ use crate::answer::Answer;
 use crate::checking::show_findings;
 use crate::newest::show_newest;
 use crate::plan::Command;
-use crate::resolving::show_owners;
-use crate::restoring::restore_files;
-use crate::salvaging::salvage_files;
+use crate::queries::ask;
 use crate::scrubbing::scrub_images;
-use crate::sending::send_files;
-use crate::trees::show_trees;
 use btr_rack::{Out, Rack, TreeSink};
 use std::alloc::Global;
 
@@ -43,20 +39,9 @@ pub(crate) fn perform<R: Rack, T: TreeSink, O: Out>(
 {
     match command {
         Command::Super => show_newest(alloc, rack, out),
-        Command::Dump(choice) => show_trees(alloc, choice, rack, out),
-        Command::Resolve(addr) => show_owners(alloc, addr, rack, out),
+        Command::Ask(query) => ask(alloc, query, words, rack, tree, out),
         Command::Check { read_data } => show_findings(alloc, read_data, rack, out),
         Command::Scrub { write } => scrub_images(alloc, write, rack, out),
-        Command::Restore { dest, plan } => {
-            restore_files(alloc, &plan, words[dest].as_str(), rack, tree, out)
-        }
-        Command::Salvage { dest, plan } => {
-            salvage_files(alloc, &plan, words[dest].as_str(), rack, tree, out)
-        }
         Command::SelfTest(_) => unreachable!(),
-        Command::Send { dest, file, plan } => {
-            let (dest, name) = (words[dest].as_str(), words[file].as_str());
-            send_files(alloc, &plan, dest, name, rack, tree, out)
-        }
     }
 }

@@ -1,8 +1,10 @@
 //! The commands: the words of a command line, the top call and its answers, and their texts.
 //!
-//! `run` does what the words say over any rack of images, destination and output. Its contract is the program's, which is promised to the layer above:
-//! the answer, the text put and what was done in the destination are those of the words and the images (`specs/Effects.antt`), and a fault of the
-//! outside is answered only with its cause (`specs/Causes.antt`). `specs/Words.antt` has the sentences, `specs/Text.antt` the texts.
+//! `run` does what the words say over any rack of images, destination and output. Its contract is
+//! the program's, which is promised to the layer above: the answer, the text put and what was done
+//! in the destination are those of the words and the images (`specs/Effects.antt`), and a fault of
+//! the outside is answered only with its cause (`specs/Causes.antt`). `specs/Words.antt` has the
+//! sentences, `specs/Text.antt` the texts.
 #![tactic(auto)]
 
 mod answer;
@@ -17,6 +19,8 @@ mod options;
 mod part;
 mod place;
 mod plan;
+mod queries;
+mod query;
 mod refusal;
 mod resolving;
 mod restoring;

@@ -36,10 +36,11 @@ impl From<OpeningFault> for Answer {
     }
 }
 
-/// Opens the named images in order, each in the next slot, to be written or only to be read: the first step of each command.
+/// Opens the named images in order, each in the next slot, to be written or only to be read: the
+/// first step of each command.
 ///
-/// `TooMany` comes before any call on the rack, exactly where more than 64 images are named. `Failed` names the
-/// first image that can't be opened; `Memory` comes for want of it.
+/// `TooMany` comes before any call on the rack, exactly where more than 64 images are named.
+/// `Failed` names the first image that can't be opened; `Memory` comes for want of it.
 pub(crate) fn open_images<R: Rack>(
     names: &[String],
     write: bool,
@@ -47,17 +48,22 @@ pub(crate) fn open_images<R: Rack>(
 ) -> Result<(), OpeningFault>
     requires empty { (R.seen rack.old).slots ≡ [] }
     requires some { 0 < length names.now }
-    ensures images { OpensAll (map string_bytes names.now) (R.seen rack.old).shelf (R.seen rack.new).held result }
+    ensures images { OpensAll (map string_bytes names.now) (R.seen rack.old).shelf
+        (R.seen rack.new).held result }
     ensures limit { HasTooMany (map string_bytes names.now) result }
     ensures early { most_images < length names.now → rack.new ≡ rack.old }
-    ensures cause { OpeningCause write (map string_bytes names.now) (R.seen rack.old) (R.seen rack.new) result }
+    ensures cause { OpeningCause write (map string_bytes names.now)
+        (R.seen rack.old) (R.seen rack.new) result }
 
     // A sure rack fails to open only what isn't on the shelf.
     ensures sure { IfErr result (λ fault. (slot : ℕ) → fault ≡ OpeningFault.Failed slot
-        → (R.seen rack.old).sure ≡ true → IsMissing (map string_bytes names.now) (R.seen rack.old).shelf slot) }
-    ensures opened { AreOpenedAs write (R.seen rack.old).shelf (R.seen rack.new).slots (R.seen rack.new).held }
+        → (R.seen rack.old).sure ≡ true
+        → IsMissing (map string_bytes names.now) (R.seen rack.old).shelf slot) }
+    ensures opened { AreOpenedAs write (R.seen rack.old).shelf
+        (R.seen rack.new).slots (R.seen rack.new).held }
     ensures kept { OnOk result ((R.seen rack.new).sure ≡ (R.seen rack.old).sure) }
-    ensures unsynced { OnOk result ((R.seen rack.new).unsynced ≡ (R.seen rack.old).unsynced) }
+    ensures unsynced { (R.seen rack.new).unsynced ≡ (R.seen rack.old).unsynced }
+    ensures never_synced { (R.seen rack.new).never_synced ≡ (R.seen rack.old).never_synced }
     ensures count { OnOk result (length (R.seen rack.new).slots ≡ length names.now) }
 {
     if names.len() > MOST_IMAGES {

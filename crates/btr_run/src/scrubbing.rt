@@ -1,17 +1,15 @@
 // The command `scrub start`.
-ghost use Rattle.std.specs.Prelude.{◌≡◌, ◌≢◌, ◌<◌, ℕ, [], true, length, IfSome, Some};
+ghost use Rattle.std.specs.Prelude.{◌≡◌, ◌<◌, true, length, IfSome, Some};
 ghost use Rattle.btr_scrub_copies.specs.Writes.{AreWritable};
-ghost use Rattle.btr_rack.specs.Rack.{Steady};
 ghost use Rattle.btr_text.specs.Pieces.{text_of};
 ghost use Rattle.btr_run.specs.Agreeing.{IsScrubbedOrUnread, ScrubsAgreed};
 ghost use Rattle.btr_run.specs.Unopened.{AreAgreed};
 ghost use Rattle.btr_run.specs.Answers.{answer_of};
 ghost use Rattle.btr_run.specs.Behind.{IfSteady};
-ghost use Rattle.btr_run.specs.Checked.{found};
 ghost use Rattle.btr_run.specs.Commands.{IsBehindCommand};
 ghost use Rattle.btr_run.specs.Outcomes.{OrBare, OrMemory, Shows};
-ghost use Rattle.btr_run.specs.Repaired.{LeavesImages, Scrubs};
-ghost use Rattle.btr_run.specs.Scrubbed.{IsScrubOutcome, scrub_outcome, scrubbed_images, tally_text};
+ghost use Rattle.btr_run.specs.Repaired.{LeavesScrubbed, Scrubs};
+ghost use Rattle.btr_run.specs.Scrubbed.{IsScrubOutcome, scrub_outcome, tally_text};
 
 use crate::answer::Answer;
 use crate::checking::answer_for;
@@ -22,10 +20,12 @@ use btr_scrub::{Tally, listed_counts, listed_writes, scrub};
 use btr_text::{Piece, put_pieces};
 use std::alloc::Global;
 
-/// Reads each copy of each checked block of the open images' filesystem, with `write` writes the bad ones anew, and puts the counts.
+/// Reads each copy of each checked block of the open images' filesystem, with `write` writes the
+/// bad ones anew, and puts the counts.
 ///
-/// An error is the answer of what stopped it: a refusal of opening, a device that isn't given, or a tree that can't be read on, before anything is written
-/// and put; an image that failed; want of memory; or the output's.
+/// An error is the answer of what stopped it: a refusal of opening, a device that isn't given, or a
+/// tree that can't be read on, before anything is written and put; an image that failed; want of
+/// memory; or the output's.
 pub(crate) fn scrub_images<R: Rack, O: Out>(
     alloc: Global,
     write: bool,
@@ -34,23 +34,22 @@ pub(crate) fn scrub_images<R: Rack, O: Out>(
 ) -> Result<Answer, Answer>
     requires open { 0 < length (R.seen rack.old).slots }
     requires writable { write ≡ true → AreWritable (R.seen rack.old).slots }
-    ensures effect { IfSteady (R.seen rack.old).held (R.seen rack.old).account (R.seen rack.new).account (λ images.
+    ensures effect { IfSteady (R.seen rack.old).held (R.seen rack.old).account
+        (R.seen rack.new).account (λ images.
         Shows (OrMemory (λ outcome. Some (scrub_outcome write images) ≡ Some outcome))
-        (O.text out.old) (O.text out.new) (O.account out.old) (O.account out.new) (answer_of result)) }
+        (O.text out.old) (O.text out.new) (O.account out.old) (O.account out.new)
+        (answer_of result)) }
     ensures agreed { IfSome (R.seen rack.old).held (λ images. AreAgreed images →
         Shows (IsScrubbedOrUnread write images)
-        (O.text out.old) (O.text out.new) (O.account out.old) (O.account out.new) (answer_of result)) }
+        (O.text out.old) (O.text out.new) (O.account out.old) (O.account out.new)
+        (answer_of result)) }
     ensures told { Shows (OrBare IsScrubOutcome)
-        (O.text out.old) (O.text out.new) (O.account out.old) (O.account out.new) (answer_of result) }
-    ensures repaired { write ≡ true
-        → IfSteady (R.seen rack.old).held (R.seen rack.old).account (R.seen rack.new).account (λ images.
-        answer_of result ≢ Answer.Memory → (R.seen rack.new).held ≡ Some (scrubbed_images images)) }
-    ensures left { write ≡ true → IfSome (R.seen rack.old).held (λ images. IfSome (R.seen rack.new).held (λ left.
-        LeavesImages (Steady (R.seen rack.old).account.faults (R.seen rack.new).account.faults)
-        images left (answer_of result))) }
-    ensures synced { write ≡ true → (lost : ℕ) → answer_of result ≡ found lost
-        → (R.seen rack.old).unsynced ≡ [] → (R.seen rack.new).unsynced ≡ [] }
-    ensures cause { IsBehindCommand (Command.Scrub write) (R.seen rack.old) (R.seen rack.new) (answer_of result) }
+        (O.text out.old) (O.text out.new) (O.account out.old) (O.account out.new)
+        (answer_of result) }
+    ensures leaves { write ≡ true
+        → LeavesScrubbed (R.seen rack.old) (R.seen rack.new) (answer_of result) }
+    ensures cause { IsBehindCommand (Command.Scrub write) (R.seen rack.old) (R.seen rack.new)
+        (answer_of result) }
 {
     let tally = scrub_filesystem(alloc, write, rack)?;
     put_pieces(&tally_pieces(tally), out)?;
@@ -62,7 +61,8 @@ fn scrub_filesystem<R: Rack>(alloc: Global, write: bool, rack: &mut R) -> Result
     requires open { 0 < length (R.seen rack.old).slots }
     requires writable { write ≡ true → AreWritable (R.seen rack.old).slots }
     ensures scrubs { Scrubs write (R.seen rack.old) (R.seen rack.new) result }
-    ensures agreed { IfSome (R.seen rack.old).held (λ images. AreAgreed images → ScrubsAgreed write images result) }
+    ensures agreed { IfSome (R.seen rack.old).held (λ images.
+        AreAgreed images → ScrubsAgreed write images result) }
 {
     listed_writes();
     listed_counts();

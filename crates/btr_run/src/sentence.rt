@@ -2,12 +2,14 @@
 ghost use Rattle.std.specs.Prelude.{◌≡◌, map, IfErr, IfOk};
 ghost use Rattle.std.specs.String.{string_bytes};
 ghost use Rattle.btr_run.specs.Restores.{plan_by};
-ghost use Rattle.btr_run.specs.Words.{IsRead, IsShort, command_of, nothing_of, part_of, parts_of, restore_of};
+ghost use Rattle.btr_run.specs.Words.{IsRead, IsShort, command_of, nothing_of, part_of, parts_of};
+ghost use Rattle.btr_run.specs.Words.{restore_of};
 
 use crate::options::Options;
 use crate::part::Part;
 use crate::place::{Next, Place, Read};
-use crate::plan::{Command, DumpChoice};
+use crate::plan::Command;
+use crate::query::{DumpChoice, Query};
 use btr_files::RestorePlan;
 
 /// A form of sentences.
@@ -107,27 +109,28 @@ impl Sentence {
     {
         match self {
             Sentence::Super => Command::Super,
-            Sentence::DumpAll => Command::Dump(DumpChoice::All),
-            Sentence::DumpBlock => Command::Dump(DumpChoice::Block(read.number)),
-            Sentence::DumpTree => Command::Dump(DumpChoice::Tree(read.number)),
-            Sentence::DumpRoots => Command::Dump(DumpChoice::RootLines),
-            Sentence::Resolve => Command::Resolve(read.number),
+            Sentence::DumpAll => Command::Ask(Query::Dump(DumpChoice::All)),
+            Sentence::DumpBlock => Command::Ask(Query::Dump(DumpChoice::Block(read.number))),
+            Sentence::DumpTree => Command::Ask(Query::Dump(DumpChoice::Tree(read.number))),
+            Sentence::DumpRoots => Command::Ask(Query::Dump(DumpChoice::RootLines)),
+            Sentence::Resolve => Command::Ask(Query::Resolve(read.number)),
             Sentence::Check => Command::Check { read_data: false },
             Sentence::CheckData => Command::Check { read_data: true },
             Sentence::Scrub => Command::Scrub { write: true },
             Sentence::ScrubRead => Command::Scrub { write: false },
-            Sentence::Roots => Command::Dump(DumpChoice::RootLines),
-            Sentence::Restore => restore_by(read),
-            Sentence::Send => Command::Send {
+            Sentence::Roots => Command::Ask(Query::Dump(DumpChoice::RootLines)),
+            Sentence::Restore => Command::Ask(restore_by(read)),
+            Sentence::Send => Command::Ask(Query::Send {
                 dest: read.name,
                 file: read.file,
                 plan: read.options.send_plan(),
-            },
+            }),
             Sentence::SelfTest => Command::SelfTest(read.number),
         }
     }
 
-    /// What is read of words that are a sentence of this form. The error is how many of them begin one, where they are none.
+    /// What is read of words that are a sentence of this form. The error is how many of them begin
+    /// one, where they are none.
     pub(crate) fn read(self, words: &[String]) -> Result<Read, usize>
         ensures whole { IfOk result (λ read. IsRead self (map string_bytes words.now) read) }
         ensures short { IfErr result (λ at. IsShort self (map string_bytes words.now) at) }
@@ -151,17 +154,18 @@ impl Sentence {
 }
 
 // A restore, which may go on after blocks that can't be had.
-fn restore_by(read: &Read) -> Command
-    ensures { result ≡ restore_of read.now.options.salvage read.now.name (plan_by read.now.options) }
+fn restore_by(read: &Read) -> Query
+    ensures { result
+        ≡ restore_of read.now.options.salvage read.now.name (plan_by read.now.options) }
 {
     let dest = read.name;
     let plan = read.options.plan();
     if read.options.salvage {
-        Command::Salvage {
+        Query::Salvage {
             dest,
             plan: RestorePlan { dry: false, ..plan },
         }
     } else {
-        Command::Restore { dest, plan }
+        Query::Restore { dest, plan }
     }
 }

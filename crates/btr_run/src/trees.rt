@@ -15,7 +15,7 @@ ghost use Rattle.btr_run.specs.Trees.{AgreesOn, ShowsUpTo, call_answer, dump_row
 
 use crate::answer::Answer;
 use crate::filesystem::open_filesystem;
-use crate::plan::DumpChoice;
+use crate::query::DumpChoice;
 use btr_dump::{dump_all, dump_block, dump_tree, list_roots};
 use btr_rack::{Out, Rack};
 use btr_volume::{Stop, Volume};
@@ -23,8 +23,9 @@ use std::alloc::Global;
 
 /// Puts the text of the trees that are asked for, of the filesystem of the open images.
 ///
-/// An error is the answer of what stopped it: a refusal of opening, before anything is put; that there is no such tree, or a tree that
-/// can't be read on, behind the text of all before it; or the output's.
+/// An error is the answer of what stopped it: a refusal of opening, before anything is put; that
+/// there is no such tree, or a tree that can't be read on, behind the text of all before it; or the
+/// output's.
 pub(crate) fn show_trees<R: Rack, O: Out>(
     alloc: Global,
     choice: DumpChoice,

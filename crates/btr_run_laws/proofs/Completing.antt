@@ -47,31 +47,33 @@ use Rattle.btr_run.specs.Checked.{listing as listing_shown}
 use Rattle.btr_run.specs.Commands.{command_outcome}
 use Rattle.btr_run.specs.Effects.{HasEffect, images_outcome}
 use Rattle.btr_run.specs.Filesystem.{Filesystem, filesystem_of, with_start}
-use Rattle.btr_run.specs.Listed.{listed_answer, listed_by}
+use Rattle.btr_run.specs.Listed.{listed_answer}
 use Rattle.btr_run.specs.Newest.{newest_shown, shown}
 use Rattle.btr_run.specs.Outcomes.{Outcome, showing}
 use Rattle.btr_run.specs.Promise.{StandsAs, ended_answer}
-use Rattle.btr_run.specs.Resolved.{none_left_out, owners_run, resolve_row}
-use Rattle.btr_run.specs.Restored.{restore_row, skipped_in}
+use Rattle.btr_run.specs.Queries.{query_row}
+use Rattle.btr_run.specs.Resolved.{none_left_out, owners_run}
+use Rattle.btr_run.specs.Restored.{skipped_in}
 use Rattle.btr_run.specs.Rows.{Row, row_outcome}
-use Rattle.btr_run.specs.Salvaged.{missed_in, salvage_row}
+use Rattle.btr_run.specs.Salvaged.{missed_in}
 use Rattle.btr_run.specs.Scrubbed.{counts, filesystem_as, scrub_ended, scrub_in, scrub_outcome, scrub_unless, tally_shown}
 use Rattle.btr_run.specs.SelfTested.{AsksToTry, IsTrialOutcome, TakesImages}
-use Rattle.btr_run.specs.Sent.{send_row}
-use Rattle.btr_run.specs.Trees.{asked_answer, dump_row, ending_answer, shown_by, trees_shown, whole_answer}
+use Rattle.btr_run.specs.Trees.{asked_answer, ending_answer, shown_by, trees_shown, whole_answer}
 use Rattle.btr_run.specs.Words.{Words, IsSentence, images_of}
 use Rattle.btr_run.specs.declared.answer.Answer.{Answer}
 use Rattle.btr_run.specs.declared.answer.Answer.TheVariants.{Done}
 use Rattle.btr_run.specs.declared.plan.Command.{Command}
-use Rattle.btr_run.specs.declared.plan.Command.TheVariants.{Super as super_command, Dump, Resolve, Check, Scrub, Restore, Salvage, Send, SelfTest}
-use Rattle.btr_run.specs.declared.plan.DumpChoice.{DumpChoice}
-use Rattle.btr_run.specs.declared.plan.DumpChoice.TheVariants.{All, Block, Tree, RootLines}
+use Rattle.btr_run.specs.declared.plan.Command.TheVariants.{Super as super_command, Ask, Check, Scrub, SelfTest}
+use Rattle.btr_run.specs.declared.query.DumpChoice.{DumpChoice}
+use Rattle.btr_run.specs.declared.query.DumpChoice.TheVariants.{All, Block, Tree, RootLines}
 use Rattle.btr_run.specs.declared.plan.Plan.{Plan}
+use Rattle.btr_run.specs.declared.query.Query.{Query}
+use Rattle.btr_run.specs.declared.query.Query.TheVariants.{Dump, Resolve, Restore, Salvage, Send}
 use Rattle.btr_run.proofs.Apart.{one_plan}
 use Rattle.btr_run.proofs.Carrying.{taken_outcome}
 use Rattle.btr_run.proofs.Rows.{row_opened}
 use Rattle.btr_run.proofs.SelfTests.{no_trial, some_trial}
-use Rattle.btr_run_laws.specs.Complete.{AreShown, CommandsComplete, HasNeeds, IsDone, RestoreCompletes, SelfTestCompletes}
+use Rattle.btr_run_laws.specs.Complete.{AreShown, CommandsComplete, HasNeeds, HasQueryNeeds, IsDone, RestoreCompletes, SelfTestCompletes}
 use Rattle.btr_run_laws.proofs.Serving.{served_ends}
 
 not_steady : (before now : ℕ) → Steady before now → Rose before now → ⊥
@@ -158,33 +160,33 @@ module _ (images : Images) (fs : Filesystem) (opened : filesystem_of images ≡ 
   row_is : (row : Row) → ◌≡◌ {A = Option Outcome} (Some (row_outcome row images)) (Some (row.whole images fs))
   row_is row = ap (λ o. Some o) (row_opened row images fs opened)
 
+  -- a query is done
+  query_done : (query : Query) (words : Words) → HasQueryNeeds query words images fs
+      → (skipped : ℕ) × (((query_row query words).whole images fs).answer ≡ Done skipped)
+  query_done (Dump choice) words needs = dumped choice needs
+  query_done (Resolve addr) words needs =
+      let e = served_ends B (resolved fs.sup fs.layout.chunks addr) needs in
+      listed none_left_out (owners_run addr images fs).ending e.0 e.1
+  query_done (Restore dest plan) words needs =
+      let p = listing plan (get_or words dest []) fs.sup in
+      let e = served_ends B p needs in
+      listed skipped_in (exec B p).ending e.0 e.1
+  query_done (Salvage dest plan) words needs = listed missed_in (salvage_run B plan (get_or words dest []) fs.sup).ending needs.0 needs.1
+  query_done (Send dest file plan) words needs =
+      let p = sending (get_or words dest []) (get_or words file []) fs.sup plan in
+      let e = served_ends B p needs in
+      listed skipped_in (exec B p).ending e.0 e.1
+
   pub completes : (command : Command) (words : Words) → HasNeeds command words images fs → Comes command words
   completes super_command words needs =
       super_shown (supers_from 0 images) refl (newest_in (supers_from 0 images)) (λ all is. sym (ap newest_in is)) refl words
-  completes (Dump choice) words needs =
-      (showing (trees_shown choice B fs.sup), row_is (dump_row choice), dumped choice needs)
-  completes (Resolve addr) words needs =
-      let e = served_ends B (resolved fs.sup fs.layout.chunks addr) needs in
-      let r = owners_run addr images fs in
-      (listed_by none_left_out r, row_is (resolve_row addr), listed none_left_out r.ending e.0 e.1)
+  completes (Ask query) words needs =
+      let row = query_row query words in
+      (row.whole images fs, row_is row, query_done query words needs)
   completes (Check read_data) words needs =
       (showing (listing_shown (findings read_data (filesystem_by images fs))), ap (λ o. Some o) (check_is read_data needs), refl)
   completes (Scrub write) words needs =
       (showing (tally_shown (counts write images (filesystem_as fs))), ap (λ o. Some o) (scrub_is write needs.0 needs.1), refl)
-  completes (Restore dest plan) words needs =
-      let p = listing plan (get_or words dest []) fs.sup in
-      let e = served_ends B p needs in
-      (listed_by skipped_in (exec B p), row_is (restore_row plan (get_or words dest [])), listed skipped_in (exec B p).ending e.0 e.1)
-  completes (Salvage dest plan) words needs =
-      let r = salvage_run B plan (get_or words dest []) fs.sup in
-      (listed_by missed_in r, row_is (salvage_row plan (get_or words dest [])), listed missed_in r.ending needs.0 needs.1)
-  completes (Send dest file plan) words needs =
-      let p = sending (get_or words dest []) (get_or words file []) fs.sup plan in
-      let e = served_ends B p needs in (
-        listed_by skipped_in (exec B p),
-        row_is (send_row plan (get_or words dest []) (get_or words file [])),
-        listed skipped_in (exec B p).ending e.0 e.1,
-      )
   completes (SelfTest number) words needs = absurd needs
 
 pub commands_complete : CommandsComplete

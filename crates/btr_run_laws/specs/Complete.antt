@@ -34,12 +34,13 @@ use Rattle.btr_run.specs.Words.{Words}
 use Rattle.btr_run.specs.declared.answer.Answer.{Answer}
 use Rattle.btr_run.specs.declared.answer.Answer.TheVariants.{Done, Memory}
 use Rattle.btr_run.specs.declared.plan.Command.{Command}
-use Rattle.btr_run.specs.declared.plan.Command.TheVariants.{Super as super_command, Dump, Resolve}
-use Rattle.btr_run.specs.declared.plan.Command.TheVariants.{Check, Scrub, Restore, Salvage, Send}
-use Rattle.btr_run.specs.declared.plan.Command.TheVariants.{SelfTest}
-use Rattle.btr_run.specs.declared.plan.DumpChoice.{DumpChoice}
-use Rattle.btr_run.specs.declared.plan.DumpChoice.TheVariants.{All, Block, Tree, RootLines}
+use Rattle.btr_run.specs.declared.plan.Command.TheVariants.{Super as super_command, Ask, Check}
+use Rattle.btr_run.specs.declared.plan.Command.TheVariants.{Scrub, SelfTest}
+use Rattle.btr_run.specs.declared.query.DumpChoice.{DumpChoice}
+use Rattle.btr_run.specs.declared.query.DumpChoice.TheVariants.{All, Block, Tree, RootLines}
 use Rattle.btr_run.specs.declared.plan.Plan.{Plan}
+use Rattle.btr_run.specs.declared.query.Query.{Query}
+use Rattle.btr_run.specs.declared.query.Query.TheVariants.{Dump, Resolve, Restore, Salvage, Send}
 
 -- on by a block's bytes, where there are any
 abbrev pub if_given : {F : Type 0} → Result (List ℕ) F → (List ℕ → Option F) → Option F
@@ -69,25 +70,30 @@ AreShown (Tree id) images fs =
     (exec (fate images fs.layout) (asked_tree fs.sup id)).ending ≡ Ok None
 AreShown RootLines images fs = IsServed (fate images fs.layout) (roots_shown fs.sup)
 
--- What a command needs of its filesystem is there. A check isn't refused; a scrub lacks no device,
--- and can list its blocks; a restore that goes on after lost blocks comes to its end.
-abbrev pub HasNeeds : Command → Words → Images → Filesystem → Type 0
-HasNeeds super_command words images fs = Unit {0}
-HasNeeds (Dump choice) words images fs = AreShown choice images fs
-HasNeeds (Resolve addr) words images fs =
+-- What a query needs of its filesystem is there; a restore that goes on after lost blocks comes to its
+-- end.
+abbrev pub HasQueryNeeds : Query → Words → Images → Filesystem → Type 0
+HasQueryNeeds (Dump choice) words images fs = AreShown choice images fs
+HasQueryNeeds (Resolve addr) words images fs =
     IsServed (fate images fs.layout) (resolved fs.sup fs.layout.chunks addr)
-HasNeeds (Check read_data) words images fs = refusal (filesystem_by images fs) ≡ None
-HasNeeds (Scrub write) words images fs =
-    (first_missing fs.layout ≡ None) × ((meeting images (filesystem_as fs)).ending ≡ Ok tt)
-HasNeeds (Restore dest plan) words images fs =
+HasQueryNeeds (Restore dest plan) words images fs =
     IsServed (fate images fs.layout) (listing plan (get_or words dest []) fs.sup)
-HasNeeds (Salvage dest plan) words images fs =
+HasQueryNeeds (Salvage dest plan) words images fs =
     (salvaged : Salvaged)
     × ((salvage_run (fate images fs.layout) plan (get_or words dest []) fs.sup).ending
     ≡ Ok salvaged)
-HasNeeds (Send dest file plan) words images fs =
+HasQueryNeeds (Send dest file plan) words images fs =
     IsServed (fate images fs.layout)
     (sending (get_or words dest []) (get_or words file []) fs.sup plan)
+
+-- What a command needs of its filesystem is there. A check isn't refused; a scrub lacks no device,
+-- and can list its blocks.
+abbrev pub HasNeeds : Command → Words → Images → Filesystem → Type 0
+HasNeeds super_command words images fs = Unit {0}
+HasNeeds (Ask query) words images fs = HasQueryNeeds query words images fs
+HasNeeds (Check read_data) words images fs = refusal (filesystem_by images fs) ≡ None
+HasNeeds (Scrub write) words images fs =
+    (first_missing fs.layout ≡ None) × ((meeting images (filesystem_as fs)).ending ≡ Ok tt)
 HasNeeds (SelfTest number) words images fs = ⊥
 
 -- the command was done: a check and a scrub answer what they count, and any other how many entries

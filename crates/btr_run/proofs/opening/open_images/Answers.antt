@@ -28,6 +28,7 @@ loop-slot-preserved g c =
       before = names_before names slots new opened c.loop-slot.slot c.in-Ok.ensures.slots.1.2 within name c.loop-slot.invariant.before;
       sure = c.in-Ok.ensures.sure ∙ c.loop-slot.invariant.sure;
       unsynced = c.in-Ok.ensures.unsynced ∙ c.loop-slot.invariant.unsynced;
+      never_synced = c.in-Ok.ensures.never_synced ∙ c.loop-slot.invariant.never_synced;
       account = none_failed_twice _ _ _ c.loop-slot.invariant.account c.in-Ok.ensures.account;
       closed = opened_more c.args.write slots new opened c.in-Ok.ensures.slots.1.2 refl c.loop-slot.invariant.closed;
       images = open_more (g.R.Rack.seen c.args.rack.now).shelf (map (λ s. s.name) slots)
@@ -84,3 +85,15 @@ pub returns-then-names-gt-MOST_IMAGES-clause-opened : goal.returns-then-names-gt
 returns-then-names-gt-MOST_IMAGES-clause-opened g c =
     unopened c.args.write (g.R.Rack.seen c.args.rack.now).shelf (g.R.Rack.seen c.args.rack.now).held (g.R.Rack.seen c.args.rack.now).slots
     (g.met.R.Rack.sound c.args.rack.now).sized c.requires.empty
+
+pub returns-in-Err-Failed-clause-unsynced : goal.returns-in-Err-Failed-clause-unsynced
+returns-in-Err-Failed-clause-unsynced g c = c.in-Err-Failed.ensures.unsynced ∙ c.loop-slot.invariant.unsynced
+
+pub returns-in-Err-Failed-clause-never_synced : goal.returns-in-Err-Failed-clause-never_synced
+returns-in-Err-Failed-clause-never_synced g c = c.in-Err-Failed.ensures.never_synced ∙ c.loop-slot.invariant.never_synced
+
+pub returns-in-Err-Memory-clause-unsynced : goal.returns-in-Err-Memory-clause-unsynced
+returns-in-Err-Memory-clause-unsynced g c = c.in-Err-Memory.ensures.unsynced ∙ c.loop-slot.invariant.unsynced
+
+pub returns-in-Err-Memory-clause-never_synced : goal.returns-in-Err-Memory-clause-never_synced
+returns-in-Err-Memory-clause-never_synced g c = c.in-Err-Memory.ensures.never_synced ∙ c.loop-slot.invariant.never_synced

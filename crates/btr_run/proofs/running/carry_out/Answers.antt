@@ -36,7 +36,8 @@ returns-in_err-open_images-clause-obeyed g c =
     (subst (λ write. OpeningCause write names old new (Err c.in_err-open_images.field-0.0)) c.writes.ensures c.in_err-open_images.ensures.cause)
     (λ many. c.in_err-open_images.ensures.early (as_many c.args.words.now c.in-Ok.plan.images 64 many)) c.in_err-open_images.ensures.sure
     (subst (λ write. AreOpenedAs write old.shelf new.slots new.held) c.writes.ensures c.in_err-open_images.ensures.opened)
-    _ (answer_gives c.from_residual.result (opening_answer c.in_err-open_images.field-0.0) c.from_residual.ensures.1)
+    c.in_err-open_images.ensures.unsynced c.in_err-open_images.ensures.never_synced _
+    (answer_gives c.from_residual.result (opening_answer c.in_err-open_images.field-0.0) c.from_residual.ensures.1)
 
 pub perform-requires-clause-fit : goal.perform-requires-clause-fit
 perform-requires-clause-fit g c = is_fit c.in-Ok.plan (map string_bytes c.args.words.now) c.in-Ok.ensures.sentence
@@ -52,9 +53,15 @@ returns-clause-obeyed g c =
     let mid = g.R.Rack.seen c.open_images.new.rack in
     obeyed.performed _ _ _ (g.met.T.TreeSink.settled c.args.tree.now (ap is_in_file c.requires.fresh)) _ c.in-Ok.plan c.in-Ok.ensures.sentence
     (names_are c.args.words.now c.in-Ok.plan.images) c.open_images.new.rack c.perform.new.rack c.perform.new.tree c.perform.new.out _
-    c.in_ok-open_images.ensures.limit c.in_ok-open_images.ensures.cause c.in_ok-open_images.ensures.images
-    (subst (λ write. AreOpenedAs write old.shelf mid.slots mid.held) c.writes.ensures c.in_ok-open_images.ensures.opened)
-    c.in_ok-open_images.ensures.kept c.in_ok-open_images.ensures.unsynced c.perform.ensures
+    c.in_ok-open_images.ensures.limit
+    (record {
+      images = c.in_ok-open_images.ensures.images;
+      account = c.in_ok-open_images.ensures.cause;
+      sure = c.in_ok-open_images.ensures.kept;
+      unsynced = c.in_ok-open_images.ensures.unsynced;
+      never_synced = c.in_ok-open_images.ensures.never_synced;
+    })
+    (subst (λ write. AreOpenedAs write old.shelf mid.slots mid.held) c.writes.ensures c.in_ok-open_images.ensures.opened) c.perform.ensures
 
 pub returns-in-Err-clause-tried : goal.returns-in-Err-clause-tried
 returns-in-Err-clause-tried g c number asks = absurd (c.in-Err.ensures.usage.no_sentence asks.plan asks.sentence)

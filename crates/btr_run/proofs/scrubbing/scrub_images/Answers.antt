@@ -3,8 +3,8 @@ use Rattle.btr_rack.specs.Out.{Puts}
 use Rattle.btr_rack.specs.declared.error.SinkError.{SinkError}
 use Rattle.btr_run.specs.Answers.{answer_of, output_answer}
 use Rattle.btr_run.proofs.Coming.{answer_gives}
-use Rattle.btr_run.proofs.ScrubsTold.{done_agreed, done_cause, done_effect, done_left, done_repaired, done_synced, done_told, refused_agreed, refused_cause}
-use Rattle.btr_run.proofs.ScrubsTold.{refused_effect, refused_left, refused_repaired, refused_synced, refused_told}
+use Rattle.btr_run.proofs.ScrubsTold.{done_agreed, done_cause, done_effect, done_leaves, done_told, refused_agreed, refused_cause, refused_effect}
+use Rattle.btr_run.proofs.ScrubsTold.{refused_leaves, refused_told}
 use Rattle.btr_run.proofs.scrubbing.scrub_images.Goals as goal
 
 pub returns-in_err-tally-clause-effect : goal.returns-in_err-tally-clause-effect
@@ -25,19 +25,9 @@ returns-in_err-tally-clause-agreed g c =
     (answer_of c.from_residual.result) (answer_gives c.from_residual.result c.in_err-tally.field-0.0 c.from_residual.ensures.1) c.in_err-tally.ensures.scrubs
     (g.O.Out.text c.args.out.now) (g.O.Out.account c.args.out.now) c.in_err-tally.ensures.agreed
 
-pub returns-in_err-tally-clause-repaired : goal.returns-in_err-tally-clause-repaired
-returns-in_err-tally-clause-repaired g c =
-    refused_repaired c.args.write (g.R.Rack.seen c.args.rack.now) (g.R.Rack.seen c.scrub_filesystem.new.rack) c.in_err-tally.field-0.0
-    (answer_of c.from_residual.result) (answer_gives c.from_residual.result c.in_err-tally.field-0.0 c.from_residual.ensures.1) c.in_err-tally.ensures.scrubs
-
-pub returns-in_err-tally-clause-left : goal.returns-in_err-tally-clause-left
-returns-in_err-tally-clause-left g c =
-    refused_left c.args.write (g.R.Rack.seen c.args.rack.now) (g.R.Rack.seen c.scrub_filesystem.new.rack) c.in_err-tally.field-0.0
-    (answer_of c.from_residual.result) (answer_gives c.from_residual.result c.in_err-tally.field-0.0 c.from_residual.ensures.1) c.in_err-tally.ensures.scrubs
-
-pub returns-in_err-tally-clause-synced : goal.returns-in_err-tally-clause-synced
-returns-in_err-tally-clause-synced g c =
-    refused_synced c.args.write (g.R.Rack.seen c.args.rack.now) (g.R.Rack.seen c.scrub_filesystem.new.rack) c.in_err-tally.field-0.0
+pub returns-in_err-tally-clause-leaves : goal.returns-in_err-tally-clause-leaves
+returns-in_err-tally-clause-leaves g c =
+    refused_leaves c.args.write (g.R.Rack.seen c.args.rack.now) (g.R.Rack.seen c.scrub_filesystem.new.rack) c.in_err-tally.field-0.0
     (answer_of c.from_residual.result) (answer_gives c.from_residual.result c.in_err-tally.field-0.0 c.from_residual.ensures.1) c.in_err-tally.ensures.scrubs
 
 pub returns-in_err-tally-clause-cause : goal.returns-in_err-tally-clause-cause
@@ -75,24 +65,10 @@ returns-in_err-put_pieces-clause-agreed g c =
     (subst (λ l. Puts (g.O.Out.text c.args.out.now) (g.O.Out.text c.put_pieces.new.out) l put) c.tally_pieces.ensures c.in_err-put_pieces.ensures.text)
     c.in_err-put_pieces.ensures.account c.in_ok-tally.ensures.agreed
 
-pub returns-in_err-put_pieces-clause-repaired : goal.returns-in_err-put_pieces-clause-repaired
-returns-in_err-put_pieces-clause-repaired g c =
+pub returns-in_err-put_pieces-clause-leaves : goal.returns-in_err-put_pieces-clause-leaves
+returns-in_err-put_pieces-clause-leaves g c =
     let put : Result Unit SinkError = Err c.in_err-put_pieces.field-0.0 in
-    done_repaired c.args.write (g.R.Rack.seen c.args.rack.now) (g.R.Rack.seen c.scrub_filesystem.new.rack) c.in_ok-tally.tally c.in_ok-tally.ensures.scrubs put
-    (answer_of c.from_residual-in_err-put_pieces.result)
-    (answer_gives c.from_residual-in_err-put_pieces.result (output_answer c.in_err-put_pieces.field-0.0) c.from_residual-in_err-put_pieces.ensures.1)
-
-pub returns-in_err-put_pieces-clause-left : goal.returns-in_err-put_pieces-clause-left
-returns-in_err-put_pieces-clause-left g c =
-    let put : Result Unit SinkError = Err c.in_err-put_pieces.field-0.0 in
-    done_left c.args.write (g.R.Rack.seen c.args.rack.now) (g.R.Rack.seen c.scrub_filesystem.new.rack) c.in_ok-tally.tally c.in_ok-tally.ensures.scrubs put
-    (answer_of c.from_residual-in_err-put_pieces.result)
-    (answer_gives c.from_residual-in_err-put_pieces.result (output_answer c.in_err-put_pieces.field-0.0) c.from_residual-in_err-put_pieces.ensures.1)
-
-pub returns-in_err-put_pieces-clause-synced : goal.returns-in_err-put_pieces-clause-synced
-returns-in_err-put_pieces-clause-synced g c =
-    let put : Result Unit SinkError = Err c.in_err-put_pieces.field-0.0 in
-    done_synced c.args.write (g.R.Rack.seen c.args.rack.now) (g.R.Rack.seen c.scrub_filesystem.new.rack) c.in_ok-tally.tally c.in_ok-tally.ensures.scrubs put
+    done_leaves c.args.write (g.R.Rack.seen c.args.rack.now) (g.R.Rack.seen c.scrub_filesystem.new.rack) c.in_ok-tally.tally c.in_ok-tally.ensures.scrubs put
     (answer_of c.from_residual-in_err-put_pieces.result)
     (answer_gives c.from_residual-in_err-put_pieces.result (output_answer c.in_err-put_pieces.field-0.0) c.from_residual-in_err-put_pieces.ensures.1)
 
@@ -128,22 +104,10 @@ returns-clause-agreed g c =
     (g.O.Out.text c.put_pieces.new.out) l put) c.tally_pieces.ensures c.in_ok-put_pieces.ensures.text) c.in_ok-put_pieces.ensures.account
     c.in_ok-tally.ensures.agreed
 
-pub returns-clause-repaired : goal.returns-clause-repaired
-returns-clause-repaired g c =
+pub returns-clause-leaves : goal.returns-clause-leaves
+returns-clause-leaves g c =
     let put : Result Unit SinkError = Ok tt in
-    done_repaired c.args.write (g.R.Rack.seen c.args.rack.now) (g.R.Rack.seen c.scrub_filesystem.new.rack) c.in_ok-tally.tally c.in_ok-tally.ensures.scrubs put
-    c.answer_for.result c.answer_for.ensures
-
-pub returns-clause-left : goal.returns-clause-left
-returns-clause-left g c =
-    let put : Result Unit SinkError = Ok tt in
-    done_left c.args.write (g.R.Rack.seen c.args.rack.now) (g.R.Rack.seen c.scrub_filesystem.new.rack) c.in_ok-tally.tally c.in_ok-tally.ensures.scrubs put
-    c.answer_for.result c.answer_for.ensures
-
-pub returns-clause-synced : goal.returns-clause-synced
-returns-clause-synced g c =
-    let put : Result Unit SinkError = Ok tt in
-    done_synced c.args.write (g.R.Rack.seen c.args.rack.now) (g.R.Rack.seen c.scrub_filesystem.new.rack) c.in_ok-tally.tally c.in_ok-tally.ensures.scrubs put
+    done_leaves c.args.write (g.R.Rack.seen c.args.rack.now) (g.R.Rack.seen c.scrub_filesystem.new.rack) c.in_ok-tally.tally c.in_ok-tally.ensures.scrubs put
     c.answer_for.result c.answer_for.ensures
 
 pub returns-clause-cause : goal.returns-clause-cause
