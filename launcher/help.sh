@@ -95,12 +95,14 @@ help_scrub() {
 usage: btrfs-offline scrub start [-r] IMAGE [IMAGE ..]
 
 Reads each copy of each tree block, and of each sector of data that has a checksum, and writes the bad copies anew where a right
-one is left, or where enough parity is left to rebuild them. Wrong parity is written anew too. With -r it only reads. The images
-of a chunk that were written are synced before it goes on to the next chunk.
+one is left, or where enough parity is left to rebuild them. Wrong parity is written anew too. Mirrored data without checksums gets
+the newer bytes where an image missed writes and holds damaged blocks. With -r it only reads. The images of a chunk that were
+written are synced before it goes on to the next chunk.
 
 Prints one line of counts: "blocks B bad X repaired R lost L parity P unchecked U": how many blocks have a checksum, how many of
-their copies are bad, how many of these were written anew, of how many blocks no right copy is left and none can be rebuilt, how
-many sectors of parity are wrong, and how many sectors of data have no checksum. The status is 1 where a block is lost.
+their copies are bad, with old copies of data without checksums, how many of these were written anew, of how many blocks no right
+copy is left and none can be rebuilt, how many sectors of parity are wrong, and how many sectors of data have no checksum. The
+status is 1 where a block is lost.
 
 All devices must be given: "error: device N is not given", with status 3, before anything is written. Nothing is written either
 where the blocks can't be listed, since a block of the trees that name them is damaged. Where an image fails it ends at once: what

@@ -16,12 +16,16 @@ use Rattle.btr_restore.specs.Committed.{Commit, committed, want_of}
 use Rattle.btr_restore.specs.Journey.{journey}
 use Rattle.btr_scrub.proofs.Lists.{all_in, in_any}
 use Rattle.btr_scrub.specs.Glue.{In}
-use Rattle.btr_scrub.specs.Repair.{blocks, checked_target, met, ok_or_none}
+use Rattle.btr_scrub.proofs.Blockwise.{of_targets}
+use Rattle.btr_scrub.proofs.Survival.{of_filter}
+use Rattle.btr_scrub.proofs.Told.{targets_met}
+use Rattle.btr_scrub.specs.Gathering.{wants_among}
+use Rattle.btr_scrub.specs.Repair.{blocks, is_checked, met, target_met}
 use Rattle.btr_scrub.specs.Right.{IsRepairable, StandsFor}
-use Rattle.btr_scrub.specs.Units.{Met, Checked, Unchecked}
+use Rattle.btr_scrub.specs.Units.{Met}
 use Rattle.btr_volume.specs.Maps.{VolumeWant, array_layout, volume_map}
 use Rattle.btr_volume.specs.Start.{Images, Start, layout_by}
-use Rattle.std.specs.List.{cons_option, filter_map}
+use Rattle.std.specs.List.{filter, filter_map}
 use Rattle.std.specs.Prelude.{slice_get}
 use Rattle.btr_run.specs.Filesystem.{Filesystem, filesystem_of}
 use Rattle.btr_run.specs.Repaired.{KeepsBlocks}
@@ -30,16 +34,11 @@ use Rattle.btr_run.specs.Scrubbed.{filesystem_as}
 use Rattle.btr_run.proofs.Mendings.{told_at}
 
 -- a checked block has the setting of the layout that it is found by
-setting_of : (layout : Layout) (ms : List Met) (t : Target) → In t (filter_map (checked_target layout) ms) → t.setting ≡ layout.setting
-setting_of layout [] t i = absurd i
-setting_of layout (Unchecked addr ∷ ms) t i = setting_of layout ms t i
-setting_of layout (Checked want ∷ ms) t i = by (sought layout want) refl i (setting_of layout ms t)
-  where
-    by : (r : Result Target Fault) → sought layout want ≡ r → In t (cons_option (ok_or_none r) (filter_map (checked_target layout) ms))
-        → (In t (filter_map (checked_target layout) ms) → t.setting ≡ layout.setting) → t.setting ≡ layout.setting
-    by (Err f) e i later = later i
-    by (Ok u) e (inl same) later = subst (λ v. v.setting ≡ layout.setting) same (sought_of layout want u e).setting_is
-    by (Ok u) e (inr more) later = later more
+setting_of : (layout : Layout) (ms : List Met) (t : Target) → In t (filter is_checked (filter_map (target_met layout) ms)) → t.setting ≡ layout.setting
+setting_of layout ms t i =
+    let among = of_filter is_checked t (filter_map (target_met layout) ms) i in
+    let w = of_targets layout t (wants_among ms) (subst (In t) (sym (targets_met layout ms)) among) in
+    (sought_of layout w.0 t w.2).setting_is
 
 -- where a candidate stands and passes there are bytes
 had : (left : Images) (addr : ℕ) (t : Target) (c : Candidate) → In c (candidates t) → stands t c ≡ true → passes t.setting t.want (value_of left t c) ≡ true

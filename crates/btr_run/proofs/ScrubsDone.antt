@@ -17,7 +17,7 @@ use Rattle.btr_read.specs.Fate as fault
 use Rattle.btr_read.specs.Layout.{Layout}
 use Rattle.btr_read.specs.Reading.{AgreedOn}
 use Rattle.btr_scrub.specs.Filesystem as scrubbed
-use Rattle.btr_scrub.specs.Gathering.{StopCause, TreeCause, checked_among, count_met, stop_halt}
+use Rattle.btr_scrub.specs.Gathering.{StopCause, TreeCause, wants_among, count_met, stop_halt}
 use Rattle.btr_scrub.specs.Judging.{IsUnplaced}
 use Rattle.btr_scrub.specs.Plain.{plain_among}
 use Rattle.btr_scrub.specs.Repair.{blocks, effect_of_ending, effect_unless, first_missing, meeting, met, writes}
@@ -253,14 +253,14 @@ module _ (write : Bool) (old mid : Seen) (first : OnlyReads old mid) (volume : V
     module _ (listed : ListedWrites) (countings : ListedCounts) (table : IsTable layout.chunks) (new : Seen) (had : HasBlocks new) (done : List Met)
         (tells : Tells layout mid at (λ B. Follows (unread_by layout mid at) no_part [] (exec B (units_in volume.sup layout.chunks)) done (Ok tt))) where
       abbrev ws : Images → List Write
-      ws images = listed_writes_for layout (checked_among done) (plain_among done) images
+      ws images = listed_writes_for layout (wants_among done) (plain_among done) images
 
       abbrev Is : Map → Type 0
       Is B = Follows (unread_by layout mid at) no_part [] (exec B (units_in volume.sup layout.chunks)) done (Ok tt)
 
       module _ (tally : Tally) (ended : Result (Unit {0}) MendFault)
-          (works : Works layout write (listed_writes_for layout (checked_among done) (plain_among done))
-          (listed_count_for layout write (checked_among done) (plain_among done)) at new
+          (works : Works layout write (listed_writes_for layout (wants_among done) (plain_among done))
+          (listed_count_for layout write (wants_among done) (plain_among done)) at new
           (first_tally (fold count_met 0 done)) tally ended) where
         since : Steady old.account.faults new.account.faults → Steady old.account.faults at.account.faults
         since steady = (omega (arith, steady.0, works.does.only.later), omega (arith, steady.1, works.does.only.later))
@@ -269,7 +269,7 @@ module _ (write : Bool) (old mid : Seen) (first : OnlyReads old mid) (volume : V
         at_images images told = ap (λ (s : Seen). s.held) all.same ∙ told
 
         writes_are : (images : Images) → done ≡ met images fs → ws images ≡ writes images fs
-        writes_are images is = ap (λ d. listed_writes_for layout (checked_among d) (plain_among d) images) is ∙ listed images fs
+        writes_are images is = ap (λ d. listed_writes_for layout (wants_among d) (plain_among d) images) is ∙ listed images fs
 
         keeps : KeepsRack old new
         keeps = record {
@@ -416,12 +416,12 @@ module _ (write : Bool) (old mid : Seen) (first : OnlyReads old mid) (volume : V
           where
             tally_is : (images : Images) → old.held ≡ Some images → done ≡ met images fs → tally ≡ counts write images fs
             tally_is images told same =
-                told_at at.held (λ i. tally ≡ listed_count_for layout write (checked_among done) (plain_among done) i
+                told_at at.held (λ i. tally ≡ listed_count_for layout write (wants_among done) (plain_among done) i
                 (first_tally (fold count_met 0 done))) images
                 (at_images images told)
-                (subst (λ r. OnOk r (IfSome at.held (λ i. tally ≡ listed_count_for layout write (checked_among done) (plain_among done) i
+                (subst (λ r. OnOk r (IfSome at.held (λ i. tally ≡ listed_count_for layout write (wants_among done) (plain_among done) i
                 (first_tally (fold count_met 0 done))))) is works.counts)
-                ∙ ap (λ d. listed_count_for layout write (checked_among d) (plain_among d) images
+                ∙ ap (λ d. listed_count_for layout write (wants_among d) (plain_among d) images
                 (first_tally (fold count_met 0 d))) same
                 ∙ countings images fs write table
 

@@ -3,7 +3,7 @@ use Rattle.std.proofs.Common.{◌≡◌, ℕ, ◌/◌, ◌%◌, ◌^◌, ◌<◌
 use Rattle.std.proofs.Common.{sym, ap, ◌∙◌, subst}
 use Rattle.std.proofs.Common.{arith, eqb-true, ltb-true}
 use Rattle.std.specs.Prelude.{IsSome, filter_map, nat_lt, replicate, slice_get, ◌==◌, ◌&&◌}
-use Rattle.std.specs.List.{All, list_all}
+use Rattle.std.specs.List.{All, filter, list_all}
 use Rattle.std.specs.Option.{IfSome, option_and_then}
 use Rattle.std.proofs.lemmas.List.{get_or_default}
 use Rattle.std.proofs.lemmas.List.Elements.{All-append, All-cons, All-nil}
@@ -25,7 +25,7 @@ use Rattle.btr_read.specs.Want.{addr_of, passes}
 use Rattle.btr_read.specs.declared.candidate.Candidate.TheVariants.{Read}
 use Rattle.btr_read.specs.declared.want.Want.{Want}
 use Rattle.btr_read.specs.declared.want.Want.TheVariants.{Tree, Block, Sector, Plain}
-use Rattle.btr_scrub.specs.Repair.{blocks, checked_target, meeting}
+use Rattle.btr_scrub.specs.Repair.{blocks, is_checked, meeting, target_met}
 use Rattle.btr_scrub.specs.Right.{AllPass as AllCommittedPass, HasRightCopy, IsHonest, IsRepairable}
 use Rattle.btr_scrub.specs.Units.{units}
 use Rattle.btr_super.specs.Super.{super_of}
@@ -82,7 +82,7 @@ four_blocks = at_address 1048576 ∷ at_address 1052672 ∷ at_address 1056768 �
 
 blocks_are : blocks images (filesystem_as fs) ≡ four_blocks
 unfolding is_leaf items entry_count item_at entry_key parts_within super_of sealed
-blocks_are = ap (λ r. filter_map (checked_target layout) (steps_of r.marks)) (sym met_so)
+blocks_are = ap (λ r. filter is_checked (filter_map (target_met layout) (steps_of r.marks))) (sym met_so)
 
 each_of_four : (P : Target → Type 0) → P (at_address 1048576) → P (at_address 1052672) → P (at_address 1056768) → P (at_address 1060864)
     → All P (blocks images (filesystem_as fs))

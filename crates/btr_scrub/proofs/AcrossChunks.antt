@@ -23,7 +23,7 @@ use Rattle.btr_read.specs.Layout.{HaveOwnSlots, Layout, device_in}
 use Rattle.btr_read.specs.declared.device.Device.{Device}
 use Rattle.btr_read.specs.declared.want.Want.{Want}
 use Rattle.btr_read.proofs.Ones.{in_below}
-use Rattle.btr_scrub_copies.specs.Blocks.{accepted, bad_parts, block_writes, is_lost}
+use Rattle.btr_scrub_copies.specs.Blocks.{bad_parts, block_writes, is_lost}
 use Rattle.btr_scrub_copies.proofs.Syncs.{passing_filter}
 use Rattle.btr_scrub_copies.specs.Writes.{Images, Write, write_on, writes_if}
 use Rattle.btr_scrub_copies.proofs.Copied.{has_mirror}
@@ -33,11 +33,11 @@ use Rattle.btr_scrub.specs.Glue.{In}
 use Rattle.btr_scrub.specs.Leaves.{KeepsOutside}
 use Rattle.btr_scrub.specs.Order.{IsSought, targets}
 use Rattle.btr_scrub.specs.Places.{IsOfElement}
-use Rattle.btr_scrub.specs.Repair.{covers, first_missing, is_in_chunk, is_in_row, is_missing, missing_stripes, row_of, rows_in}
-use Rattle.btr_scrub.specs.Scrubbing.{blocks_count, blocks_in, blocks_writes, chunk_count_for, chunk_writes_for, all_writes_for, count_block, count_row}
-use Rattle.btr_scrub.specs.Scrubbing.{count_row_of, counted, rows_count, rows_writes}
+use Rattle.btr_scrub.specs.Repair.{covers, first_missing, is_in_chunk, is_in_row, is_missing, mending_writes, missing_stripes, row_of, rows_in}
+use Rattle.btr_scrub.specs.Scrubbing.{chunk_count_for, chunk_writes_for, all_writes_for, count_row, count_site}
+use Rattle.btr_scrub.specs.Scrubbing.{count_row_of, rows_count, rows_writes, sites_count, sites_in, sites_writes}
 use Rattle.btr_scrub.specs.declared.tally.Tally.{Tally}
-use Rattle.btr_scrub.proofs.Agreeing.{Alike, copies_alike, of_mapped, writes_alike}
+use Rattle.btr_scrub.proofs.Agreeing.{SiteAlike, of_mapped, site_alike, writes_alike}
 use Rattle.btr_scrub.proofs.Blockwise.{none_first, none_flat, none_passes, of_targets}
 use Rattle.btr_scrub.proofs.CopyWrites.{same_element, written_byte}
 use Rattle.btr_scrub_row.proofs.Elements.{range_stands, stands_on}
@@ -46,9 +46,9 @@ use Rattle.btr_scrub.proofs.Positions.{IsCopyByte, is_sought, of_range, on_strip
 use Rattle.btr_scrub.proofs.RowAgreeing.{RowAlike, flat_same, fold_same, row_writes_alike}
 use Rattle.btr_scrub.proofs.RowWrites.{IsBlockOf, IsRowIn, row_short, row_stays, written_row}
 use Rattle.btr_scrub.proofs.Scrubbing.{IsUnmoved}
-use Rattle.btr_scrub.proofs.Shorts.{Short, block_short, shorts_keep_if}
+use Rattle.btr_scrub.proofs.Shorts.{Short, shorts_keep_if, site_short}
 use Rattle.btr_scrub.proofs.Writes.{any_flat, any_map}
-use Rattle.btr_scrub.specs.Plain.{KeptColumns}
+use Rattle.btr_scrub.specs.Plain.{Doubts}
 
 -- ---- which chunk a byte of a device is of
 
@@ -109,7 +109,7 @@ in_take (suc n) (y ∷ xs) x (inr i) = let r = in_take n xs x i in (suc r.0, ome
 
 -- ---- a chunk of the table
 
-module _ (kept : KeptColumns) (layout : Layout) (table : IsTable layout.chunks) (own : HaveOwnSlots layout.devices) (none : first_missing layout ≡ None) (number : ℕ) (chunk : Chunk) (there : slice_get layout.chunks number ≡ Some chunk) (wants : List Want) where
+module _ (kept : Doubts) (layout : Layout) (table : IsTable layout.chunks) (own : HaveOwnSlots layout.devices) (none : first_missing layout ≡ None) (number : ℕ) (chunk : Chunk) (there : slice_get layout.chunks number ≡ Some chunk) (wants : List Want) where
   sound : IsChunk chunk
   sound = (table.sound number chunk there).0
 
@@ -139,7 +139,7 @@ module _ (kept : KeptColumns) (layout : Layout) (table : IsTable layout.chunks) 
     pub number_is : is.number ≡ number
     pub chunk_is : t.chunk ≡ chunk
 
-  pub of_chunk : (t : Target) → In t (blocks_in layout chunk wants) → OfChunk t
+  pub of_chunk : (t : Target) → In t (sites_in layout chunk wants) → OfChunk t
   of_chunk t i =
       let f = passing_filter (is_in_chunk chunk) t (targets layout wants) i in
       let w = of_targets layout t wants f.0 in
@@ -206,7 +206,7 @@ module _ (kept : KeptColumns) (layout : Layout) (table : IsTable layout.chunks) 
       where
         by : (o : Option ℕ) → mirrors chunk ≡ o → list_any (λ (w : Write). covers slot off w.range)
             (cond (is_none o) (rows_writes layout (rows_in kept (targets layout wants) chunk) images)
-            (blocks_writes (blocks_in layout chunk wants) images)) ≡ true → InChunk layout number slot off
+            (sites_writes kept.failing (sites_in layout chunk wants) images)) ≡ true → InChunk layout number slot off
         by None parity h =
             let f = any_flat (λ (w : Write). covers slot off w.range) (row_writes images layout) (rows_in kept (targets layout wants) chunk) h in
             let of = of_rows parity f.0 f.1 in
@@ -214,9 +214,9 @@ module _ (kept : KeptColumns) (layout : Layout) (table : IsTable layout.chunks) 
             let same = number_same w.1.number of.is.chunk_number f.0.chunk w.1.there of.is.there in
             subst (λ k. InChunk layout k slot off) (same ∙ of.number_is) (element_in_chunk layout f.0 w.0 slot off table w.1)
         by (Some n) copies h =
-            let f = any_flat (λ (w : Write). covers slot off w.range) (block_writes images) (blocks_in layout chunk wants) h in
+            let f = any_flat (λ (w : Write). covers slot off w.range) (mending_writes images kept.failing) (sites_in layout chunk wants) h in
             let of = of_chunk f.0 f.1 in
-            let b = written_byte images layout lengths f.0 of.is n (ap mirrors of.chunk_is ∙ copies) slot off f.2 in
+            let b = written_byte kept.failing images layout lengths f.0 of.is n (ap mirrors of.chunk_is ∙ copies) slot off f.2 in
             subst (λ k. InChunk layout k slot off) of.number_is (copy_in_chunk layout f.0 slot off table of.is b)
 
     -- each write in the chunk has at most as many bytes as its range
@@ -224,18 +224,10 @@ module _ (kept : KeptColumns) (layout : Layout) (table : IsTable layout.chunks) 
     chunk_short = by (mirrors chunk) refl
       where
         by : (o : Option ℕ) → mirrors chunk ≡ o → All (Short images)
-            (cond (is_none o) (rows_writes layout (rows_in kept (targets layout wants) chunk) images) (blocks_writes (blocks_in layout chunk wants) images))
+            (cond (is_none o) (rows_writes layout (rows_in kept (targets layout wants) chunk) images) (sites_writes kept.failing (sites_in layout chunk wants) images))
         by None parity = flat_short images (row_writes images layout) (rows_in kept (targets layout wants) chunk) (λ row i. let of = of_rows parity row i in row_short layout row table of.is images lengths of.blocks)
-        by (Some n) copies = flat_short images (block_writes images) (blocks_in layout chunk wants)
-            (λ t i. block_short images layout lengths t (of_chunk t i).is)
-
-    -- what is told of a block counts the same
-    pub block_counts_alike : (write : Bool) (images' : Images) (t : Target) (tally : Tally) → Alike images images' t
-        → count_block images' write tally t ≡ count_block images write tally t
-    block_counts_alike write images' t tally a = ap (counted tally) (
-        ap (λ ps. record { bad = length ps; repaired = length (writes_if write (block_writes images' t)); lost = is_none (accepted images' t) }) a.bad
-        ∙ ap (λ w. record { bad = length (bad_parts images t); repaired = length (writes_if write w); lost = is_none (accepted images' t) }) (writes_alike images images' t a)
-        ∙ ap (λ o. record { bad = length (bad_parts images t); repaired = length (writes_if write (block_writes images t)); lost = is_none o }) a.accepted)
+        by (Some n) copies = flat_short images (λ t. mending_writes images kept.failing t) (sites_in layout chunk wants)
+            (λ t i. site_short images layout lengths t (of_chunk t i).is kept.failing)
 
     pub row_counts_alike : (write : Bool) (images' : Images) (row : Row) (tally : Tally) → RowAlike images images' layout row
         → count_row images' layout write tally row ≡ count_row images layout write tally row
@@ -264,13 +256,13 @@ module _ (kept : KeptColumns) (layout : Layout) (table : IsTable layout.chunks) 
             (λ q slot off e. free slot off (subst (λ k. InChunk layout k slot off)
             (number_same e.number of.is.chunk_number r.chunk e.there of.is.there ∙ of.number_is) (element_in_chunk layout r q slot off table e)))
 
-        each_block : (n : ℕ) → mirrors chunk ≡ Some n → (t : Target) → In t (blocks_in layout chunk wants) → Alike images images' t
+        each_block : (n : ℕ) → mirrors chunk ≡ Some n → (t : Target) → In t (sites_in layout chunk wants) → SiteAlike kept.failing images images' t
         each_block n copies t i =
             let of = of_chunk t i in
             let has : mirrors t.chunk ≡ Some n = ap mirrors of.chunk_is ∙ copies in
-            copies_alike images images' t n has (λ k lt. same_element images images' layout ranges t (Mirror k) lengths of.is keeps
+            site_alike images images' t n has (λ k lt. same_element images images' layout ranges t (Mirror k) lengths of.is keeps
             (λ slot off c. free slot off (subst (λ j. InChunk layout j slot off) of.number_is
-            (copy_in_chunk layout t slot off table of.is (byte t of.is n k has lt slot off (range_of t (Mirror k)) refl c)))))
+            (copy_in_chunk layout t slot off table of.is (byte t of.is n k has lt slot off (range_of t (Mirror k)) refl c))))) kept.failing
           where
             byte : (t : Target) → IsSought layout t → (n k : ℕ) → mirrors t.chunk ≡ Some n → k < n → (slot off : ℕ) (o : Option Range)
                 → range_of t (Mirror k) ≡ o → IsSomeAnd o (λ range. covers slot off range ≡ true) → IsCopyByte layout t slot off
@@ -278,26 +270,26 @@ module _ (kept : KeptColumns) (layout : Layout) (table : IsTable layout.chunks) 
             byte t is n k has lt slot off (Some range) e c = of_range layout t k slot off range is (has_mirror t n k has lt) e c
 
         by_writes : (o : Option ℕ) → mirrors chunk ≡ o → cond (is_none o) (rows_writes layout (rows_in kept (targets layout wants) chunk) images')
-            (blocks_writes (blocks_in layout chunk wants) images')
-            ≡ cond (is_none o) (rows_writes layout (rows_in kept (targets layout wants) chunk) images) (blocks_writes (blocks_in layout chunk wants) images)
+            (sites_writes kept.failing (sites_in layout chunk wants) images')
+            ≡ cond (is_none o) (rows_writes layout (rows_in kept (targets layout wants) chunk) images) (sites_writes kept.failing (sites_in layout chunk wants) images)
         by_writes None parity = flat_same (row_writes images' layout) (row_writes images layout) (rows_in kept (targets layout wants) chunk)
             (λ r i. row_writes_alike images images' layout r (each_row parity r i))
-        by_writes (Some n) copies = flat_same (block_writes images') (block_writes images) (blocks_in layout chunk wants)
-            (λ t i. writes_alike images images' t (each_block n copies t i))
+        by_writes (Some n) copies = flat_same (mending_writes images' kept.failing) (mending_writes images kept.failing) (sites_in layout chunk wants)
+            (λ t i. (each_block n copies t i).writes)
 
         by_counts : (x : Tally) (o : Option ℕ) → mirrors chunk ≡ o
             → cond (is_none o) (rows_count layout write (rows_in kept (targets layout wants) chunk) images' x)
-            (blocks_count write (blocks_in layout chunk wants) images' x)
+            (sites_count kept.failing write (sites_in layout chunk wants) images' x)
             ≡ cond (is_none o) (rows_count layout write (rows_in kept (targets layout wants) chunk) images x)
-            (blocks_count write (blocks_in layout chunk wants) images x)
+            (sites_count kept.failing write (sites_in layout chunk wants) images x)
         by_counts x None parity = fold_same (count_row images' layout write) (count_row images layout write)
             (rows_in kept (targets layout wants) chunk) x (λ r i z. row_counts_alike write images' r z (each_row parity r i))
-        by_counts x (Some n) copies = fold_same (count_block images' write) (count_block images write) (blocks_in layout chunk wants) x
-            (λ t i z. block_counts_alike write images' t z (each_block n copies t i))
+        by_counts x (Some n) copies = fold_same (count_site kept.failing images' write) (count_site kept.failing images write) (sites_in layout chunk wants) x
+            (λ t i z. (each_block n copies t i).counts write z)
 
 -- ---- the chunks before one
 
-module _ (kept : KeptColumns) (layout : Layout) (table : IsTable layout.chunks) (own : HaveOwnSlots layout.devices) (none : first_missing layout ≡ None) (wants : List Want) (images : Images) (lengths : HaveLengths images layout) (number : ℕ) (chunk : Chunk) (there : slice_get layout.chunks number ≡ Some chunk) where
+module _ (kept : Doubts) (layout : Layout) (table : IsTable layout.chunks) (own : HaveOwnSlots layout.devices) (none : first_missing layout ≡ None) (wants : List Want) (images : Images) (lengths : HaveLengths images layout) (number : ℕ) (chunk : Chunk) (there : slice_get layout.chunks number ≡ Some chunk) where
   before_short : All (Short images) (all_writes_for kept layout (take number layout.chunks) wants images)
   before_short = flat_short images (λ c. chunk_writes_for kept layout c wants images) (take number layout.chunks)
       (λ c i. let j = in_take number layout.chunks c i in chunk_short kept layout table own none j.0 c j.2 wants images lengths)
@@ -319,7 +311,7 @@ module _ (kept : KeptColumns) (layout : Layout) (table : IsTable layout.chunks) 
           absurd (omega (arith, same, j.1))
 
 -- what was written in the chunks before one leaves what is to be written and counted there
-pub chunk_unmoved : (kept : KeptColumns) (layout : Layout) (write : Bool) (wants : List Want) (held : Option Images) (number : ℕ) (chunk : Chunk)
+pub chunk_unmoved : (kept : Doubts) (layout : Layout) (write : Bool) (wants : List Want) (held : Option Images) (number : ℕ) (chunk : Chunk)
     → IsTable layout.chunks → HaveOwnSlots layout.devices → first_missing layout ≡ None → slice_get layout.chunks number ≡ Some chunk
     → ((images : Images) → held ≡ Some images → HaveLengths images layout)
     → IsUnmoved layout write (all_writes_for kept layout (take number layout.chunks) wants) (chunk_writes_for kept layout chunk wants)

@@ -21,14 +21,14 @@ use Rattle.btr_read.specs.Fate.{Fault, sought}
 use Rattle.btr_read.specs.Layout.{AreOpen, HaveOwnSlots, Layout, device_in}
 use Rattle.btr_read.specs.Want.{addr_of, len_of}
 use Rattle.btr_read.specs.declared.want.Want.{Want}
-use Rattle.btr_scrub_copies.specs.Blocks.{accepted, bad_parts, block_writes}
 use Rattle.btr_scrub_copies.specs.Mending.{IsCopied}
 use Rattle.btr_scrub_copies.specs.declared.mended.MendFault.{MendFault}
 use Rattle.btr_scrub_copies.specs.Writes.{Images, Write, write_on, writes_if}
 use Rattle.btr_scrub.specs.Glue.{In}
 use Rattle.btr_scrub.specs.Order.{AreApart, IsSought, targets}
-use Rattle.btr_scrub.specs.Repair.{first_missing, is_in_chunk, is_missing, missing_stripes, ok_or_none}
-use Rattle.btr_scrub.specs.Scrubbing.{BeginsBehind, IsPastChunk, Scrubs, blocks_count, blocks_in, blocks_writes, count_block, counted}
+use Rattle.btr_scrub_copies.specs.Fresh.{Failing}
+use Rattle.btr_scrub.specs.Repair.{first_missing, is_in_chunk, is_missing, mending_writes, missing_stripes, ok_or_none}
+use Rattle.btr_scrub.specs.Scrubbing.{BeginsBehind, IsPastChunk, Scrubs, count_site, sites_count, sites_in, sites_writes}
 use Rattle.btr_scrub.specs.Devices.{HaveLengths}
 use Rattle.btr_scrub.specs.Leaves.{Fits, KeepsOutside, alone}
 use Rattle.btr_scrub.specs.declared.tally.Tally.{Tally}
@@ -39,18 +39,17 @@ use Rattle.btr_scrub.proofs.Positions.{is_sought, on_stripe}
 use Rattle.btr_scrub_row.proofs.Elements.{range_stands, stands_on}
 use Rattle.btr_scrub.proofs.Survival.{some_of}
 use Rattle.btr_scrub.proofs.CopyWrites.{AreCopied, all_fit, behind_alike}
-use Rattle.btr_scrub.proofs.Agreeing.{writes_alike}
 use Rattle.btr_scrub.proofs.Pasting.{writes_keep_the_rest}
 
 -- some blocks of a chunk are past, and mended
-pub record IsUnderway (layout : Layout) (write : Bool) (chunk : Chunk) (wants left : List Want) (marks marks' : List Bool) (old new : Seen) (tally tally' : Tally) : Type 0 where
+pub record IsUnderway (fails : Failing) (layout : Layout) (write : Bool) (chunk : Chunk) (wants left : List Want) (marks marks' : List Bool) (old new : Seen) (tally tally' : Tally) : Type 0 where
   pub past : List Want
   pub split : wants ≡ past ++ left
   pub end : ℕ
   pub from : chunk.start ≤ end
   pub sound : (t : Target) → In t (targets layout past) → IsSought layout t × (t.chunk ≡ chunk) × (addr_of t.want + size_of t ≤ end)
   pub apart : AreApart layout end left
-  pub done : Scrubs {A = Unit {0}} (alone layout chunk) write (blocks_writes (targets layout past)) (blocks_count write (targets layout past)) marks marks' old new
+  pub done : Scrubs {A = Unit {0}} (alone layout chunk) write (sites_writes fails (targets layout past)) (sites_count fails write (targets layout past)) marks marks' old new
       tally tally' (Ok tt)
 
 -- ---- lists
@@ -140,7 +139,7 @@ module _ (layout : Layout) (table : IsTable layout.chunks) (number : ℕ) (chunk
 
   -- the blocks of the chunk are those that are past
   pub blocks_are : (past left : List Want) → ((t : Target) → In t (targets layout past) → t.chunk ≡ chunk)
-      → ((want : Want) → In want left → chunk.start + chunk.length ≤ addr_of want) → blocks_in layout chunk (past ++ left) ≡ targets layout past
+      → ((want : Want) → In want left → chunk.start + chunk.length ≤ addr_of want) → sites_in layout chunk (past ++ left) ≡ targets layout past
   blocks_are past left inside behind =
       ap (filter (is_in_chunk chunk)) (filter_map-append (λ w. ok_or_none (sought layout w)) past left)
       ∙ filter-append (is_in_chunk chunk) (targets layout past) (targets layout left)
@@ -154,26 +153,26 @@ module _ (layout : Layout) (table : IsTable layout.chunks) (number : ℕ) (chunk
   -- the blocks of the chunk are those that are past, this one, and those of the rest
   pub blocks_begin : (past : List Want) (want : Want) (t : Target) (rest : List Want) → ((t : Target) → In t (targets layout past) → t.chunk ≡ chunk)
       → t.chunk ≡ chunk → sought layout want ≡ Ok t
-      → blocks_in layout chunk (past ++ want ∷ rest) ≡ targets layout past ++ t ∷ blocks_in layout chunk rest
+      → sites_in layout chunk (past ++ want ∷ rest) ≡ targets layout past ++ t ∷ sites_in layout chunk rest
   blocks_begin past want t rest inside mine e =
       ap (filter (is_in_chunk chunk)) (one_target layout past want t rest e)
       ∙ filter-append (is_in_chunk chunk) (targets layout past) (t ∷ targets layout rest)
       ∙ ap (λ xs. xs ++ filter (is_in_chunk chunk) (t ∷ targets layout rest))
       (filter_all (is_in_chunk chunk) (targets layout past) (λ u i. eq-eqb u.chunk.start chunk.start (ap (λ (c : Chunk). c.start) (inside u i))))
-      ∙ ap (λ b. targets layout past ++ cond b (t ∷ blocks_in layout chunk rest) (blocks_in layout chunk rest))
+      ∙ ap (λ b. targets layout past ++ cond b (t ∷ sites_in layout chunk rest) (sites_in layout chunk rest))
       (eq-eqb t.chunk.start chunk.start (ap (λ (c : Chunk). c.start) mine))
 
 -- ---- one block more
 
 -- lists of writes for blocks, one more
-writes_more : (images : Images) (ts : List Target) (t : Target) → blocks_writes ts images ++ block_writes images t ≡ blocks_writes (ts ++ t ∷ []) images
-writes_more images ts t = ap (λ ws. blocks_writes ts images ++ ws) (sym (append-nil (block_writes images t)))
-    ∙ sym (flat_map-append (block_writes images) ts (t ∷ []))
+writes_more : (fails : Failing) (images : Images) (ts : List Target) (t : Target) → sites_writes fails ts images ++ mending_writes images fails t ≡ sites_writes fails (ts ++ t ∷ []) images
+writes_more fails images ts t = ap (λ ws. sites_writes fails ts images ++ ws) (sym (append-nil (mending_writes images fails t)))
+    ∙ sym (flat_map-append (mending_writes images fails) ts (t ∷ []))
 
-writes_rest : (images : Images) (ts : List Target) (t : Target) (us : List Target) → (blocks_writes ts images ++ block_writes images t)
-    ++ blocks_writes us images ≡ blocks_writes (ts ++ t ∷ us) images
-writes_rest images ts t us = append_assoc (blocks_writes ts images) (block_writes images t) (blocks_writes us images)
-    ∙ sym (flat_map-append (block_writes images) ts (t ∷ us))
+writes_rest : (fails : Failing) (images : Images) (ts : List Target) (t : Target) (us : List Target) → (sites_writes fails ts images ++ mending_writes images fails t)
+    ++ sites_writes fails us images ≡ sites_writes fails (ts ++ t ∷ us) images
+writes_rest fails images ts t us = append_assoc (sites_writes fails ts images) (mending_writes images fails t) (sites_writes fails us images)
+    ∙ sym (flat_map-append (mending_writes images fails) ts (t ∷ us))
 
 -- images have the lengths of the devices
 pub have_lengths : (rack : Seen) (layout : Layout) (images : Images) → IsRack rack → AreOpen rack.slots layout.devices → rack.held ≡ Some images
@@ -192,25 +191,19 @@ pub keeps_if : (write : Bool) (images : Images) (ws : List Write) → All (Fits 
 keeps_if true images ws fit = writes_keep_the_rest images ws fit
 keeps_if false images ws fit = record { count = refl; lengths = λ slot. refl; bytes = λ slot off e. refl }
 
-module _ (layout : Layout) (write : Bool) (chunk : Chunk) (n : ℕ) (copies : mirrors chunk ≡ Some n) (table : IsTable layout.chunks) (own : HaveOwnSlots layout.devices) where
+module _ (fails : Failing) (layout : Layout) (write : Bool) (chunk : Chunk) (n : ℕ) (copies : mirrors chunk ≡ Some n) (table : IsTable layout.chunks) (own : HaveOwnSlots layout.devices) where
   -- what is told of a block stays when those before it are mended
   unmoved : (past : List Want) (end : ℕ) (held : Option Images) (t : Target)
       → ((u : Target) → In u (targets layout past) → IsSought layout u × (u.chunk ≡ chunk) × (addr_of u.want + size_of u ≤ end))
       → IsSought layout t → t.chunk ≡ chunk → end ≤ addr_of t.want → ((images : Images) → held ≡ Some images → HaveLengths images layout)
-      → IsUnmoved layout write (blocks_writes (targets layout past)) (λ images. block_writes images t) (λ images tally. count_block images write tally t) held
+      → IsUnmoved layout write (sites_writes fails (targets layout past)) (λ images. mending_writes images fails t) (λ images tally. count_site fails images write tally t) held
   unmoved past end held t sound is mine behind lengths images e =
       let ts = targets layout past in
-      let are : AreCopied images layout (lengths images e) ts = λ u i. let s = sound u i in (s.0, (n, ap mirrors s.1 ∙ copies)) in
-      let ws = blocks_writes ts images in
+      let are : AreCopied fails images layout (lengths images e) ts = λ u i. let s = sound u i in (s.0, (n, ap mirrors s.1 ∙ copies)) in
+      let ws = sites_writes fails ts images in
       let after = fold write_on images (writes_if write ws) in
-      let alike = behind_alike images layout (lengths images e) table own ts t are is n (ap mirrors mine ∙ copies) (λ u i. let s = (sound u i).2 in omega (arith, s, behind)) after (keeps_if write images ws (all_fit images layout (lengths images e) ts are)) in
-      let same = writes_alike images after t alike in (
-        same,
-        λ x. ap (counted x) (
-            ap (λ ps. record { bad = length ps; repaired = length (writes_if write (block_writes after t)); lost = is_none (accepted after t) }) alike.bad
-            ∙ ap (λ w. record { bad = length (bad_parts images t); repaired = length (writes_if write w); lost = is_none (accepted after t) }) same
-            ∙ ap (λ o. record { bad = length (bad_parts images t); repaired = length (writes_if write (block_writes images t)); lost = is_none o }) alike.accepted),
-      )
+      let alike = behind_alike fails images layout (lengths images e) table own ts t are is n (ap mirrors mine ∙ copies) (λ u i. let s = (sound u i).2 in omega (arith, s, behind)) after (keeps_if write images ws (all_fit fails images layout (lengths images e) ts are)) in
+      (alike.writes, alike.counts write)
 
 -- ---- which stripes stand
 
@@ -299,11 +292,11 @@ next_copied layout table chunk end want rest copies none next = record {
   stand = λ m has. part_is_given layout next.target (Mirror m) table next.is has none;
 }
 
-module _ (layout : Layout) (write : Bool) (table : IsTable layout.chunks) (own : HaveOwnSlots layout.devices) (number : ℕ) (chunk : Chunk) (there : slice_get layout.chunks number ≡ Some chunk) (copies : IsSome (mirrors chunk)) (wants : List Want) (m : List Bool) (a : Seen) (tally : Tally) where
-  pub underway_first : AreApart layout chunk.start wants → IsUnderway layout write chunk wants wants m m a a tally tally
+module _ (fails : Failing) (layout : Layout) (write : Bool) (table : IsTable layout.chunks) (own : HaveOwnSlots layout.devices) (number : ℕ) (chunk : Chunk) (there : slice_get layout.chunks number ≡ Some chunk) (copies : IsSome (mirrors chunk)) (wants : List Want) (m : List Bool) (a : Seen) (tally : Tally) where
+  pub underway_first : AreApart layout chunk.start wants → IsUnderway fails layout write chunk wants wants m m a a tally tally
   underway_first apart = record { past = []; split = refl; end = chunk.start; from = omega arith; sound = λ t i. absurd i; apart = apart; done = scrubs_none (alone layout chunk) write m a tally tt }
 
-  module _ (left : List Want) (m' : List Bool) (b : Seen) (tally' : Tally) (h : IsUnderway layout write chunk wants left m m' a b tally tally') where
+  module _ (left : List Want) (m' : List Bool) (b : Seen) (tally' : Tally) (h : IsUnderway fails layout write chunk wants left m m' a b tally tally') where
     -- those of the chunk are past
     pub past_chunk : BeginsBehind (chunk.start + chunk.length) left → IsPastChunk layout chunk wants left
     past_chunk begins = record { past = h.past; split = h.split; inside = λ t i. (h.sound t i).1; behind = later left begins h.apart }
@@ -313,32 +306,32 @@ module _ (layout : Layout) (write : Bool) (table : IsTable layout.chunks) (own :
         later (w ∷ ws) begins apart = (begins, apart.1, apart.2)
 
     pub chunk_mended : (left' : List Want) → IsPastChunk layout chunk wants left' → left' ≡ left
-        → Scrubs {A = Unit {0}} (alone layout chunk) write (blocks_writes (blocks_in layout chunk wants)) (blocks_count write (blocks_in layout chunk wants)) m m' a
+        → Scrubs {A = Unit {0}} (alone layout chunk) write (sites_writes fails (sites_in layout chunk wants)) (sites_count fails write (sites_in layout chunk wants)) m m' a
         b tally tally' (Ok tt)
     chunk_mended left' past same =
-        let are : blocks_in layout chunk wants ≡ targets layout h.past = ap (blocks_in layout chunk) h.split ∙ blocks_are layout table number chunk there h.past left (λ t i. (h.sound t i).1)
+        let are : sites_in layout chunk wants ≡ targets layout h.past = ap (sites_in layout chunk) h.split ∙ blocks_are layout table number chunk there h.past left (λ t i. (h.sound t i).1)
         (λ w i. all_behind layout (chunk.start + chunk.length) left (subst (AreApart layout (chunk.start + chunk.length)) same past.behind) w i) in
-        subst (λ ts. Scrubs {A = Unit {0}} (alone layout chunk) write (blocks_writes ts) (blocks_count write ts) m m' a b tally tally' (Ok tt)) (sym are) h.done
+        subst (λ ts. Scrubs {A = Unit {0}} (alone layout chunk) write (sites_writes fails ts) (sites_count fails write ts) m m' a b tally tally' (Ok tt)) (sym are) h.done
 
     module _ (lengths : (images : Images) → a.held ≡ Some images → HaveLengths images layout) (want : Want) (rest : List Want) (is : left ≡ want ∷ rest) (next : IsNext layout chunk h.end want rest) (m'' : List Bool) (z : Seen) (tally'' : Tally) where
-      same_before : IsUnmoved layout write (blocks_writes (targets layout h.past)) (λ images. block_writes images next.target)
-          (λ images tally. count_block images write tally next.target) a.held
+      same_before : IsUnmoved layout write (sites_writes fails (targets layout h.past)) (λ images. mending_writes images fails next.target)
+          (λ images tally. count_site fails images write tally next.target) a.held
       same_before =
           let n = some_of (mirrors chunk) copies in
-          unmoved layout write chunk n.0 n.1 table own h.past h.end a.held next.target h.sound next.is next.mine next.behind lengths
+          unmoved fails layout write chunk n.0 n.1 table own h.past h.end a.held next.target h.sound next.is next.mine next.behind lengths
 
-      both_done : (r : Result (Unit {0}) MendFault) → Scrubs {A = Unit {0}} (alone layout chunk) write (λ images. block_writes images next.target)
-          (λ images tally. count_block images write tally next.target) m' m'' b z tally' tally'' r
-          → Scrubs {A = Unit {0}} (alone layout chunk) write (λ images. blocks_writes (targets layout h.past) images ++ block_writes images next.target)
-          (λ images y. count_block images write (blocks_count write (targets layout h.past) images y) next.target) m m'' a z tally tally'' r
-      both_done r one = scrubs_then (alone layout chunk) write (Unit {0}) (Unit {0}) (blocks_writes (targets layout h.past))
-          (λ images. block_writes images next.target) (blocks_count write (targets layout h.past))
-          (λ images tally. count_block images write tally next.target) m m' m'' a b z tally tally' tally'' tt r same_before h.done one
+      both_done : (r : Result (Unit {0}) MendFault) → Scrubs {A = Unit {0}} (alone layout chunk) write (λ images. mending_writes images fails next.target)
+          (λ images tally. count_site fails images write tally next.target) m' m'' b z tally' tally'' r
+          → Scrubs {A = Unit {0}} (alone layout chunk) write (λ images. sites_writes fails (targets layout h.past) images ++ mending_writes images fails next.target)
+          (λ images y. count_site fails images write (sites_count fails write (targets layout h.past) images y) next.target) m m'' a z tally tally'' r
+      both_done r one = scrubs_then (alone layout chunk) write (Unit {0}) (Unit {0}) (sites_writes fails (targets layout h.past))
+          (λ images. mending_writes images fails next.target) (sites_count fails write (targets layout h.past))
+          (λ images tally. count_site fails images write tally next.target) m m' m'' a b z tally tally' tally'' tt r same_before h.done one
 
       -- one more is past
-      pub underway_more : Scrubs {A = Unit {0}} (alone layout chunk) write (λ images. block_writes images next.target)
-          (λ images tally. count_block images write tally next.target) m' m'' b z tally' tally'' (Ok tt)
-          → IsUnderway layout write chunk wants rest m m'' a z tally tally''
+      pub underway_more : Scrubs {A = Unit {0}} (alone layout chunk) write (λ images. mending_writes images fails next.target)
+          (λ images tally. count_site fails images write tally next.target) m' m'' b z tally' tally'' (Ok tt)
+          → IsUnderway fails layout write chunk wants rest m m'' a z tally tally''
       underway_more one =
           let ts : targets layout (h.past ++ want ∷ []) ≡ targets layout h.past ++ next.target ∷ [] = one_target layout h.past want next.target [] next.is_sought in
           record {
@@ -353,33 +346,33 @@ module _ (layout : Layout) (write : Bool) (table : IsTable layout.chunks) (own :
               | inr (inr j) ↦ absurd j
             ];
             apart = next.apart;
-            done = subst (λ us. Scrubs {A = Unit {0}} (alone layout chunk) write (blocks_writes us) (blocks_count write us) m m'' a z tally tally'' (Ok tt)) (sym ts)
-                (scrubs_as (alone layout chunk) write (λ images. blocks_writes (targets layout h.past) images ++ block_writes images next.target)
-                (blocks_writes (targets layout h.past ++ next.target ∷ []))
-                (λ images y. count_block images write (blocks_count write (targets layout h.past) images y) next.target)
-                (blocks_count write (targets layout h.past ++ next.target ∷ [])) m m'' a z tally tally'' (Ok tt)
+            done = subst (λ us. Scrubs {A = Unit {0}} (alone layout chunk) write (sites_writes fails us) (sites_count fails write us) m m'' a z tally tally'' (Ok tt)) (sym ts)
+                (scrubs_as (alone layout chunk) write (λ images. sites_writes fails (targets layout h.past) images ++ mending_writes images fails next.target)
+                (sites_writes fails (targets layout h.past ++ next.target ∷ []))
+                (λ images y. count_site fails images write (sites_count fails write (targets layout h.past) images y) next.target)
+                (sites_count fails write (targets layout h.past ++ next.target ∷ [])) m m'' a z tally tally'' (Ok tt)
                 (λ images e. (
-                  writes_more images (targets layout h.past) next.target,
+                  writes_more fails images (targets layout h.past) next.target,
                   sym
-                      (fold_append (count_block images write) tally (targets layout h.past) (next.target ∷ [])),
+                      (fold_append (count_site fails images write) tally (targets layout h.past) (next.target ∷ [])),
                 )) (both_done (Ok tt) one));
           }
 
       -- it came to a halt
-      pub underway_cut : (fault : MendFault) → Scrubs {A = Unit {0}} (alone layout chunk) write (λ images. block_writes images next.target)
-          (λ images tally. count_block images write tally next.target) m' m'' b z tally' tally'' (Err fault)
-          → Scrubs {A = Unit {0}} (alone layout chunk) write (blocks_writes (blocks_in layout chunk wants)) (blocks_count write (blocks_in layout chunk wants)) m
+      pub underway_cut : (fault : MendFault) → Scrubs {A = Unit {0}} (alone layout chunk) write (λ images. mending_writes images fails next.target)
+          (λ images tally. count_site fails images write tally next.target) m' m'' b z tally' tally'' (Err fault)
+          → Scrubs {A = Unit {0}} (alone layout chunk) write (sites_writes fails (sites_in layout chunk wants)) (sites_count fails write (sites_in layout chunk wants)) m
           m'' a z tally tally'' (Err fault)
       underway_cut fault one =
-          let us = blocks_in layout chunk rest in
-          let are : blocks_in layout chunk wants ≡ targets layout h.past ++ next.target ∷ us =
-          ap (blocks_in layout chunk) (h.split ∙ ap (λ ws. h.past ++ ws) is) ∙ blocks_begin layout table number chunk there h.past want next.target rest (λ t i. (h.sound t i).1) next.mine next.is_sought in
+          let us = sites_in layout chunk rest in
+          let are : sites_in layout chunk wants ≡ targets layout h.past ++ next.target ∷ us =
+          ap (sites_in layout chunk) (h.split ∙ ap (λ ws. h.past ++ ws) is) ∙ blocks_begin layout table number chunk there h.past want next.target rest (λ t i. (h.sound t i).1) next.mine next.is_sought in
           let ts = targets layout h.past ++ next.target ∷ us in
-          subst (λ ts. Scrubs {A = Unit {0}} (alone layout chunk) write (blocks_writes ts) (blocks_count write ts) m m'' a z tally tally'' (Err fault)) (sym are)
-          (scrubs_as (alone layout chunk) write (λ images. (blocks_writes (targets layout h.past) images ++ block_writes images next.target)
-          ++ blocks_writes us images) (blocks_writes ts) (blocks_count write ts) (blocks_count write ts) m m'' a z tally tally'' (Err fault)
-          (λ images e. (writes_rest images (targets layout h.past) next.target us, refl))
-          (scrubs_cut (alone layout chunk) write (Unit {0}) (Unit {0}) (λ images. blocks_writes (targets layout h.past) images ++ block_writes images next.target)
-          (blocks_writes us)
-          (λ images y. count_block images write (blocks_count write (targets layout h.past) images y) next.target) (blocks_count write ts) m m'' a z
+          subst (λ ts. Scrubs {A = Unit {0}} (alone layout chunk) write (sites_writes fails ts) (sites_count fails write ts) m m'' a z tally tally'' (Err fault)) (sym are)
+          (scrubs_as (alone layout chunk) write (λ images. (sites_writes fails (targets layout h.past) images ++ mending_writes images fails next.target)
+          ++ sites_writes fails us images) (sites_writes fails ts) (sites_count fails write ts) (sites_count fails write ts) m m'' a z tally tally'' (Err fault)
+          (λ images e. (writes_rest fails images (targets layout h.past) next.target us, refl))
+          (scrubs_cut (alone layout chunk) write (Unit {0}) (Unit {0}) (λ images. sites_writes fails (targets layout h.past) images ++ mending_writes images fails next.target)
+          (sites_writes fails us)
+          (λ images y. count_site fails images write (sites_count fails write (targets layout h.past) images y) next.target) (sites_count fails write ts) m m'' a z
           tally tally'' fault (both_done (Err fault) one)))

@@ -13,7 +13,7 @@ use Rattle.btr_chunk.specs.declared.place.Part.{Part}
 use Rattle.btr_chunk.specs.declared.place.Part.TheVariants.{Mirror, Slice}
 use Rattle.btr_rack.specs.Rack.{bytes_of, image_of, range_in}
 use Rattle.btr_rack.specs.declared.place.Place.{Place as Range}
-use Rattle.btr_read.specs.Candidates.{Target, candidates, element, range_of, reading, size_of}
+use Rattle.btr_read.specs.Candidates.{Target, candidates, element, range_of, reading, size_of, value_of}
 use Rattle.btr_read.specs.Layout.{HaveOwnSlots, Layout, device_in}
 use Rattle.btr_read.specs.Want.{addr_of, passes}
 use Rattle.btr_read.specs.declared.candidate.Candidate.{Candidate}
@@ -31,7 +31,9 @@ use Rattle.btr_scrub.specs.Glue.{In}
 use Rattle.btr_scrub.specs.Leaves.{Fits, KeepsOutside}
 use Rattle.btr_scrub.specs.Order.{IsSought}
 use Rattle.btr_scrub.specs.Repair.{covers}
-use Rattle.btr_scrub.proofs.Agreeing.{Alike, copies_alike, of_mapped}
+use Rattle.btr_scrub_copies.specs.Fresh.{Failing, first_trusted, fresh, fresh_writes, is_stale, stale_beside, stale_parts}
+use Rattle.btr_scrub.specs.Repair.{is_loose, mending_writes}
+use Rattle.btr_scrub.proofs.Agreeing.{IsTrusted, SiteAlike, of_mapped, site_alike, trusted_from}
 use Rattle.btr_scrub_row.proofs.Elements.{range_stands, stands_on}
 use Rattle.btr_scrub.proofs.Positions.{IsCopyByte, of_range, shares}
 use Rattle.btr_scrub.proofs.Staying.{covered, range_same}
@@ -124,7 +126,31 @@ first_of images t (c ∷ cs) bytes e = by (reading images t c) refl e (first_of 
         or true e = (c, inl refl, r ∙ e)
         or false e = let s = rest e in (s.0, inr s.1, s.2)
 
-module _ (images : Images) (layout : Layout) (lengths : HaveLengths images layout) where
+-- the fresh bytes are those of a candidate that is trusted
+pub record IsFreshBy (fails : Failing) (images : Images) (t : Target) (bytes : List ℕ) : Type 0 where
+  pub way : Candidate
+  pub trusted : IsTrusted fails t way
+  pub value : value_of images t way ≡ bytes
+  pub reads : reading images t way ≡ Some bytes
+
+pub fresh_from : (fails : Failing) (images : Images) (t : Target) (bytes : List ℕ) → fresh images fails t ≡ Some bytes → IsFreshBy fails images t bytes
+fresh_from fails images t bytes e = by (first_trusted fails t) refl e
+  where
+    by : (o : Option Candidate) → first_trusted fails t ≡ o → option_map (value_of images t) o ≡ Some bytes → IsFreshBy fails images t bytes
+    by None is e = cc
+    by (Some c) is e =
+        let trusted = trusted_from fails t c is in
+        record { way = c; trusted = trusted; value = same_Some (value_of images t c) bytes e; reads = ap (λ b. cond b (Some (value_of images t c)) None) trusted.stand ∙ e }
+
+-- a stale place is one of its own
+pub stale_own : (fails : Failing) (images : Images) (t : Target) (part : Part) → In part (stale_parts images fails t) → In part (own_parts t)
+stale_own fails images t part i = by (fresh images fails t) i
+  where
+    by : (o : Option (List ℕ)) → In part (option_map_or (stale_beside images fails t) o []) → In part (own_parts t)
+    by None i = absurd i
+    by (Some bytes) i = (passing_filter (is_stale images fails t bytes) part (own_parts t) i).0
+
+module _ (fails : Failing) (images : Images) (layout : Layout) (lengths : HaveLengths images layout) where
   module _ (t : Target) (is : IsSought layout t) (n : ℕ) (has : mirrors t.chunk ≡ Some n) where
     own : own_parts t ≡ map Mirror (range_with_len 0 n)
     own = ap (λ o. option_map_or (λ copies. map Mirror (range_with_len 0 copies)) o (Slice t.at.index ∷ [])) has
@@ -143,6 +169,13 @@ module _ (images : Images) (layout : Layout) (lengths : HaveLengths images layou
         let m = of_mapped (λ k. Read (Mirror k)) f.0 (range_with_len 0 n) (subst (In f.0) (with_copies t n has) (in_ways t f.0 f.1)) in
         long_reading m.0 bytes (ap (reading images t) m.2 ∙ f.2)
 
+    -- the fresh bytes of a plain sector are the reading of a candidate
+    long_fresh : (bytes : List ℕ) → fresh images fails t ≡ Some bytes → length bytes ≡ size_of t
+    long_fresh bytes e =
+        let f = fresh_from fails images t bytes e in
+        let m = of_mapped (λ k. Read (Mirror k)) f.way (range_with_len 0 n) (subst (In f.way) (with_copies t n has) (in_ways t f.way f.trusted.there)) in
+        long_reading m.0 bytes (ap (reading images t) m.2 ∙ f.reads)
+
     -- the writes over copies fit
     over_fit : (bytes : List ℕ) (parts : List Part) → length bytes ≡ size_of t → All (Fits images) (copy_writes t bytes parts)
     over_fit bytes [] long = All-nil (Fits images)
@@ -159,52 +192,88 @@ module _ (images : Images) (layout : Layout) (lengths : HaveLengths images layou
             let image : length (image_of images range.slot) ≡ length (image_of images there.device.slot) = ap (λ s. length (image_of images s)) slot in
             All-cons (Fits images) (record { range = range; bytes = bytes }) (copy_writes t bytes parts) (record { long = long ∙ sym len; within = omega (arith, there.within, off, len, image) }) rest
 
-    pub block_fits : All (Fits images) (block_writes images t)
+    block_fits : All (Fits images) (block_writes images t)
     block_fits = by (accepted images t) refl
       where
         by : (o : Option (List ℕ)) → accepted images t ≡ o → All (Fits images) (option_map_or (written_over images t) o [])
         by None e = All-nil (Fits images)
         by (Some bytes) e = over_fit bytes (bad_parts images t) (long_accepted bytes e)
 
-    -- each byte that is written is one of a copy
-    pub written_byte : (slot off : ℕ) → list_any (λ (w : Write). covers slot off w.range) (block_writes images t) ≡ true → IsCopyByte layout t slot off
-    written_byte slot off h = by (accepted images t) h
+    fresh_fits : All (Fits images) (fresh_writes images fails t)
+    fresh_fits = by (fresh images fails t) refl
+      where
+        by : (o : Option (List ℕ)) → fresh images fails t ≡ o
+            → All (Fits images) (option_map_or (λ bytes. copy_writes t bytes (stale_parts images fails t)) o [])
+        by None e = All-nil (Fits images)
+        by (Some bytes) e = over_fit bytes (stale_parts images fails t) (long_fresh bytes e)
+
+    pub site_fits : All (Fits images) (mending_writes images fails t)
+    site_fits = by (is_loose t)
+      where
+        by : (b : Bool) → All (Fits images) (cond b (fresh_writes images fails t) (block_writes images t))
+        by true = fresh_fits
+        by false = block_fits
+
+    -- each byte that is written over some of the copies is one of a copy
+    over_byte : (slot off : ℕ) (bytes : List ℕ) (parts : List Part) → ((part : Part) → In part parts → In part (own_parts t))
+        → list_any (λ (w : Write). covers slot off w.range) (copy_writes t bytes parts) ≡ true → IsCopyByte layout t slot off
+    over_byte slot off bytes parts mine h =
+        let f = any_filter_map (λ (w : Write). covers slot off w.range) (λ part. option_map (λ (range : Range). record { range = range; bytes = bytes }) (range_of t part)) parts h in
+        let k = of_mapped Mirror f.0 (range_with_len 0 n) (subst (In f.0) own (mine f.0 f.1)) in
+        let w = f.2.0 in
+        let m = mapped (λ (range : Range). record { range = range; bytes = bytes }) (range_of t f.0) w f.2.1 in
+        of_range layout t k.0 slot off m.0 is (has_mirror t n k.0 has (in_below n k.0 k.1)) (ap (range_of t) k.2 ∙ m.1)
+        (ap (λ (w : Write). covers slot off w.range) m.2 ∙ f.2.2)
+
+    block_byte : (slot off : ℕ) → list_any (λ (w : Write). covers slot off w.range) (block_writes images t) ≡ true → IsCopyByte layout t slot off
+    block_byte slot off h = by (accepted images t) h
       where
         by : (o : Option (List ℕ)) → list_any (λ (w : Write). covers slot off w.range) (option_map_or (written_over images t) o []) ≡ true
             → IsCopyByte layout t slot off
         by None h = absurd (false≢true h)
-        by (Some bytes) h =
-            let f = any_filter_map (λ (w : Write). covers slot off w.range) (λ part. option_map (λ (range : Range). record { range = range; bytes = bytes }) (range_of t part)) (bad_parts images t) h in
-            let bad = passing_filter (λ part. not (is_sound images t part)) f.0 (own_parts t) f.1 in
-            let k = of_mapped Mirror f.0 (range_with_len 0 n) (subst (In f.0) own bad.0) in
-            let w = f.2.0 in
-            let m = mapped (λ (range : Range). record { range = range; bytes = bytes }) (range_of t f.0) w f.2.1 in
-            of_range layout t k.0 slot off m.0 is (has_mirror t n k.0 has (in_below n k.0 k.1)) (ap (range_of t) k.2 ∙ m.1)
-            (ap (λ (w : Write). covers slot off w.range) m.2 ∙ f.2.2)
+        by (Some bytes) h = over_byte slot off bytes (bad_parts images t) (λ part i. (passing_filter (λ part. not (is_sound images t part)) part (own_parts t) i).0) h
+
+    fresh_byte : (slot off : ℕ) → list_any (λ (w : Write). covers slot off w.range) (fresh_writes images fails t) ≡ true → IsCopyByte layout t slot off
+    fresh_byte slot off h = by (fresh images fails t) h
+      where
+        by : (o : Option (List ℕ)) → list_any (λ (w : Write). covers slot off w.range)
+            (option_map_or (λ bytes. copy_writes t bytes (stale_parts images fails t)) o []) ≡ true
+            → IsCopyByte layout t slot off
+        by None h = absurd (false≢true h)
+        by (Some bytes) h = over_byte slot off bytes (stale_parts images fails t) (stale_own fails images t) h
+
+    -- each byte that is written for a block or a plain sector is
+    pub written_byte : (slot off : ℕ) → list_any (λ (w : Write). covers slot off w.range) (mending_writes images fails t) ≡ true → IsCopyByte layout t slot off
+    written_byte slot off h = by (is_loose t) h
+      where
+        by : (b : Bool) → list_any (λ (w : Write). covers slot off w.range) (cond b (fresh_writes images fails t) (block_writes images t)) ≡ true
+            → IsCopyByte layout t slot off
+        by true h = fresh_byte slot off h
+        by false h = block_byte slot off h
 
   -- blocks with copies, each of which has a position
   abbrev pub AreCopied : List Target → Type 0
   AreCopied ts = (t : Target) → In t ts → IsSought layout t × ((n : ℕ) × (mirrors t.chunk ≡ Some n))
 
-  pub all_fit : (ts : List Target) → AreCopied ts → All (Fits images) (flat_map (block_writes images) ts)
+  pub all_fit : (ts : List Target) → AreCopied ts → All (Fits images) (flat_map (mending_writes images fails) ts)
   all_fit [] are = All-nil (Fits images)
   all_fit (t ∷ ts) are =
       let a = are t (inl refl) in
-      All-append (Fits images) (block_writes images t) (flat_map (block_writes images) ts) (block_fits t a.0 a.1.0 a.1.1) (all_fit ts (λ u i. are u (inr i)))
+      All-append (Fits images) (mending_writes images fails t) (flat_map (mending_writes images fails) ts) (site_fits t a.0 a.1.0 a.1.1) (all_fit ts (λ u i. are u (inr i)))
 
   module _ (table : IsTable layout.chunks) (own_slots : HaveOwnSlots layout.devices) where
     -- a byte of a block that lies behind others isn't written for them
     free_byte : (ts : List Target) (u : Target) → AreCopied ts → IsSought layout u
         → ((t : Target) → In t ts → addr_of t.want + size_of t ≤ addr_of u.want) → (slot off : ℕ) → IsCopyByte layout u slot off
-        → list_any (covers slot off) (map (λ (w : Write). w.range) (flat_map (block_writes images) ts)) ≡ false
-    free_byte ts u are us before slot off b = by (list_any (covers slot off) (map (λ (w : Write). w.range) (flat_map (block_writes images) ts))) refl
+        → list_any (covers slot off) (map (λ (w : Write). w.range) (flat_map (mending_writes images fails) ts)) ≡ false
+    free_byte ts u are us before slot off b = by (list_any (covers slot off) (map (λ (w : Write). w.range) (flat_map (mending_writes images fails) ts))) refl
       where
-        by : (c : Bool) → list_any (covers slot off) (map (λ (w : Write). w.range) (flat_map (block_writes images) ts)) ≡ c
-            → list_any (covers slot off) (map (λ (w : Write). w.range) (flat_map (block_writes images) ts)) ≡ false
+        by : (c : Bool) → list_any (covers slot off) (map (λ (w : Write). w.range) (flat_map (mending_writes images fails) ts)) ≡ c
+            → list_any (covers slot off) (map (λ (w : Write). w.range) (flat_map (mending_writes images fails) ts)) ≡ false
         by false e = e
         by true e =
-            let any : list_any (λ (w : Write). covers slot off w.range) (flat_map (block_writes images) ts) ≡ true = sym (any_map (covers slot off) (λ (w : Write). w.range) (flat_map (block_writes images) ts)) ∙ e in
-            let f = any_flat (λ (w : Write). covers slot off w.range) (block_writes images) ts any in
+            let any : list_any (λ (w : Write). covers slot off w.range) (flat_map (mending_writes images fails) ts) ≡ true = sym (any_map (covers slot off) (λ (w : Write). w.range) (flat_map (mending_writes images fails) ts)) ∙ e in
+            let f = any_flat (λ (w : Write). covers slot off w.range) (mending_writes images fails) ts any in
             let a = are f.0 f.1 in
             let s = shares layout f.0 u slot off table own_slots a.0 us (written_byte f.0 a.0 a.1.0 a.1.1 slot off f.2) b in
             absurd (omega (arith, s.same, s.below, before f.0 f.1))
@@ -212,11 +281,11 @@ module _ (images : Images) (layout : Layout) (lengths : HaveLengths images layou
     -- so what is told of it stays, whatever of those writes is done
     pub behind_alike : (ts : List Target) (u : Target) → AreCopied ts → IsSought layout u → (n : ℕ) → mirrors u.chunk ≡ Some n
         → ((t : Target) → In t ts → addr_of t.want + size_of t ≤ addr_of u.want)
-        → (images' : Images) → KeepsOutside (map (λ (w : Write). w.range) (flat_map (block_writes images) ts)) images images' → Alike images images' u
+        → (images' : Images) → KeepsOutside (map (λ (w : Write). w.range) (flat_map (mending_writes images fails) ts)) images images' → SiteAlike fails images images' u
     behind_alike ts u are us n has before images' keeps =
-        copies_alike images images' u n has (λ k lt. same_element images images' layout
-        (map (λ (w : Write). w.range) (flat_map (block_writes images) ts)) u (Mirror k) lengths us keeps
-        (λ slot off c. free_byte ts u are us before slot off (byte k lt slot off (range_of u (Mirror k)) refl c)))
+        site_alike images images' u n has (λ k lt. same_element images images' layout
+        (map (λ (w : Write). w.range) (flat_map (mending_writes images fails) ts)) u (Mirror k) lengths us keeps
+        (λ slot off c. free_byte ts u are us before slot off (byte k lt slot off (range_of u (Mirror k)) refl c))) fails
       where
         byte : (k : ℕ) → k < n → (slot off : ℕ) (o : Option Range) → range_of u (Mirror k) ≡ o → IsSomeAnd o (λ range. covers slot off range ≡ true)
             → IsCopyByte layout u slot off

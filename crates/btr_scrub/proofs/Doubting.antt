@@ -17,7 +17,7 @@ use Rattle.btr_chunk.specs.declared.place.Part.TheVariants.{Mirror, Slice}
 use Rattle.btr_rack.specs.Rack.{Seen, Slot, bytes_of, range_in}
 use Rattle.btr_rack.specs.declared.place.Place.{Place as Range}
 use Rattle.btr_read.specs.Candidates.{Target, element, range_of, range_on, size_of}
-use Rattle.btr_read.specs.Fate.{Fault, sought}
+use Rattle.btr_read.specs.Fate.{Fault, is_plain, sought}
 use Rattle.btr_read.specs.Layout.{AreOpen, Layout, device_in}
 use Rattle.btr_read.specs.Want.{addr_of, len_of, passes}
 use Rattle.btr_read.specs.declared.device.Device.{Device}
@@ -28,7 +28,7 @@ use Rattle.btr_read.proofs.Slots.{IsReadable, readable}
 use Rattle.btr_scrub_copies.proofs.Copied.{has_mirror}
 use Rattle.btr_scrub_row.proofs.Accepted.{the_target}
 use Rattle.btr_read.proofs.Fates.{sought_of}
-use Rattle.btr_scrub_copies.specs.Blocks.{is_good}
+use Rattle.btr_scrub_copies.specs.Blocks.{is_good, own_parts}
 use Rattle.btr_scrub_copies.specs.Writes.{AccountsMend, Images}
 use Rattle.btr_scrub_copies.specs.declared.mended.MendFault.{MendFault}
 use Rattle.btr_scrub_copies.specs.declared.mended.MendFault.TheVariants.{Image, Memory}
@@ -36,8 +36,8 @@ use Rattle.btr_scrub.specs.Doubts.{fails_at, fails_on, failing, is_on}
 use Rattle.btr_scrub.specs.Judged.{Flags, FlagsBlock, HasOwn, IsOfPart}
 use Rattle.btr_scrub.specs.Leaves.{LiesInStripe}
 use Rattle.btr_scrub.specs.Order.{AreApart, IsSought, targets}
-use Rattle.btr_scrub.specs.Plain.{flagged}
 use Rattle.btr_scrub.proofs.Blockwise.{one_target}
+use Rattle.btr_scrub.proofs.Keepings.{any_none}
 use Rattle.btr_scrub.proofs.Positions.{in_stripe}
 
 -- ---- one part
@@ -200,6 +200,35 @@ fails_slice images t slot e =
     sym (ap (λ o. list_any (fails_at images t slot) (option_map_or (λ copies. map Mirror (range_with_len 0 copies)) o (Slice t.at.index ∷ []))) e
     ∙ or-false (fails_at images t slot (Slice t.at.index)))
 
+pub all_of : (held : Option Images) (P : Images → Type 0) → ((images : Images) → P images) → IfSome held P
+all_of None P h = tt
+all_of (Some images) P h = h images
+
+-- ---- a sector without a checksum
+
+passes_plain : (setting : Setting) (want : Want) (bytes : List ℕ) → is_plain want ≡ true → passes setting want bytes ≡ true
+passes_plain setting (Tree addr generation level) bytes e = absurd (false≢true e)
+passes_plain setting (Block addr) bytes e = absurd (false≢true e)
+passes_plain setting (Sector addr sum) bytes e = absurd (false≢true e)
+passes_plain setting (Plain addr) bytes e = refl
+
+-- it fails nowhere, so no flag is needed for it
+pub flags_plain : (layout : Layout) (want : Want) (t : Target) (held : Option Images) (flags : List Bool) → is_plain want ≡ true → sought layout want ≡ Ok t
+    → IfSome held (λ images. Flags flags (λ slot. fails_on images slot t) flags)
+flags_plain layout want t held flags bare e =
+    all_of held (λ images. Flags flags (λ slot. fails_on images slot t) flags)
+    (λ images. flags_none flags (λ slot. fails_on images slot t) (λ slot. any_none (fails_at images t slot) (own_parts t) (λ i part there. never images slot part)))
+  where
+    nothing : (b : Bool) → (b && false) ≡ false
+    nothing true = refl
+    nothing false = refl
+
+    never : (images : Images) (slot : ℕ) (part : Part) → fails_at images t slot part ≡ false
+    never images slot part =
+        ap (λ b. is_on t slot part && not b)
+        (passes_plain t.setting t.want (element images t part) (ap is_plain (sought_of layout want t e).want_is ∙ bare))
+        ∙ nothing (is_on t slot part)
+
 -- ---- the blocks of a list
 
 -- some blocks of a list are past, and the images were flagged on which one of them doesn't pass
@@ -214,10 +243,6 @@ pub both_of : (held : Option Images) (P Q S : Images → Type 0) → ((images : 
     → IfSome held S
 both_of None P Q S h p q = tt
 both_of (Some images) P Q S h p q = h images p q
-
-pub all_of : (held : Option Images) (P : Images → Type 0) → ((images : Images) → P images) → IfSome held P
-all_of None P h = tt
-all_of (Some images) P h = h images
 
 pub looked_first : (layout : Layout) (held : Option Images) (wants : List Want) (flags : List Bool) → AreApart layout 0 wants
     → LookedAt layout held wants wants flags flags

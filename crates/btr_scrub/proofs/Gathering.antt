@@ -7,13 +7,14 @@ use Rattle.btr_prog.specs.Quiet.{quiet}
 use Rattle.btr_prog.proofs.Follow.{broke_here, follows_alone, follows_as, follows_behind, follows_halt, follows_then}
 use Rattle.btr_prog.proofs.Quieting.{follows_quiet}
 use Rattle.btr_prog.proofs.Runs.{after-ok, exec-bind, prepend-prepend, steps_of-append}
-use Rattle.btr_rack.specs.Rack.{OnlyReads, Seen, next_count}
+use Rattle.btr_rack.specs.Rack.{OnlyReads, Seen}
 use Rattle.btr_rack.proofs.Reading.{reads_more, reads_none}
 use Rattle.btr_read.specs.Fate as fate
 use Rattle.btr_read.specs.Fate.{fate}
 use Rattle.btr_read.specs.Layout.{Layout}
 use Rattle.btr_read.specs.Serves.{Serves}
 use Rattle.btr_read.specs.declared.want.Want.{Want}
+use Rattle.btr_read.specs.declared.want.Want.TheVariants.{Plain}
 use Rattle.btr_walk.specs.declared.fault.TreeFault.{TreeFault}
 use Rattle.btr_walk.specs.declared.fault.TreeFault.TheVariants as tree
 use Rattle.btr_walk.specs.Reading.{FaultCause, HasCause, halt_of, unread_by}
@@ -25,23 +26,25 @@ use Rattle.btr_volume.specs.declared.stop.Stop.{Stop as TheStop}
 use Rattle.btr_volume.specs.declared.stop.Stop.TheVariants as stop
 use Rattle.btr_volume.specs.declared.volume.Volume.{Volume}
 use Rattle.btr_walk.proofs.Joined.{drawn, joined, unread_on}
-use Rattle.btr_scrub.specs.Gathering.{Gathers, IsCrossing, Lists, ListsUnits, Reaches, Scene, TreeCause, StopCause, checked_among, count_met, ended, scene}
+use Rattle.btr_scrub.specs.Gathering.{Gathers, IsCrossing, Lists, ListsUnits, Reaches, Scene, TreeCause, StopCause, wants_among, count_met, ended, scene}
 use Rattle.btr_scrub.specs.Gathering.{stop_halt}
 use Rattle.btr_scrub.specs.Listed.{AddsTo, IsList, kept_wants}
 use Rattle.btr_scrub.specs.Plain.{plain_among}
-use Rattle.btr_scrub.specs.Units.{Checked, Meeting, Met, Unchecked}
+use Rattle.btr_scrub.specs.Units.{Checked, Copied, Meeting, Met, Unchecked}
 use Rattle.btr_scrub.specs.declared.gathered.Gathered.{Gathered}
 
 -- ---- what is listed
 
-among-append : (met more : List Met) → checked_among (met ++ more) ≡ checked_among met ++ checked_among more
+among-append : (met more : List Met) → wants_among (met ++ more) ≡ wants_among met ++ wants_among more
 among-append [] more = refl
 among-append (Checked want ∷ met) more = ap (λ q. want ∷ q) (among-append met more)
+among-append (Copied addr ∷ met) more = ap (λ q. Plain addr ∷ q) (among-append met more)
 among-append (Unchecked addr ∷ met) more = among-append met more
 
 plain-append : (met more : List Met) → plain_among (met ++ more) ≡ plain_among met ++ plain_among more
 plain-append [] more = refl
 plain-append (Checked want ∷ met) more = plain-append met more
+plain-append (Copied addr ∷ met) more = plain-append met more
 plain-append (Unchecked addr ∷ met) more = ap (λ q. addr ∷ q) (plain-append met more)
 
 count-append : (n : ℕ) (met more : List Met) → fold count_met n (met ++ more) ≡ fold count_met (fold count_met n met) more
@@ -55,7 +58,7 @@ pub lists_then : (x y z : Gathered) (done more : List Met) → Lists x y done �
 lists_then x y z done more h g = record {
   is_list = g.is_list;
   kind = g.kind ∙ h.kind;
-  wants = g.wants ∙ ap (λ q. q ++ checked_among more) h.wants ∙ append_assoc (kept_wants x.list) (checked_among done) (checked_among more)
+  wants = g.wants ∙ ap (λ q. q ++ wants_among more) h.wants ∙ append_assoc (kept_wants x.list) (wants_among done) (wants_among more)
       ∙ ap (λ q. kept_wants x.list ++ q) (sym (among-append done more));
   unchecked = g.unchecked ∙ ap (λ n. fold count_met n more) h.unchecked ∙ sym (count-append x.unchecked done more);
   plain = g.plain ∙ ap (λ q. q ++ plain_among more) h.plain ∙ append_assoc x.plain (plain_among done) (plain_among more)
@@ -64,16 +67,6 @@ lists_then x y z done more h g = record {
 
 pub lists_added : (x y : Gathered) (want : Want) → AddsTo x.list y.list want → y.unchecked ≡ x.unchecked → y.plain ≡ x.plain → Lists x y (Checked want ∷ [])
 lists_added x y want a same plain = record { is_list = a.is_list; kind = a.kind; wants = a.wants; unchecked = same; plain = plain ∙ sym (append-nil x.plain) }
-
-pub lists_counted : (x y : Gathered) (addr : ℕ) → IsList x.list → y.list ≡ x.list → y.unchecked ≡ next_count x.unchecked → y.plain ≡ x.plain
-    ++ addr ∷ [] → Lists x y (Unchecked addr ∷ [])
-lists_counted x y addr is same count plain = record {
-  is_list = subst IsList (sym same) is;
-  kind = ap (λ l. l.kind) same;
-  wants = ap kept_wants same ∙ sym (append-nil (kept_wants x.list));
-  unchecked = count;
-  plain = plain;
-}
 
 -- ---- what is told
 
@@ -353,7 +346,7 @@ lists_units p x y none zero no_plain g = record {
   done = g.done;
   lists = record {
     is_list = g.lists.is_list;
-    wants = g.lists.wants ∙ ap (λ q. q ++ checked_among g.done) none;
+    wants = g.lists.wants ∙ ap (λ q. q ++ wants_among g.done) none;
     unchecked = g.lists.unchecked ∙ ap (λ n. fold count_met n g.done) zero;
     plain = g.lists.plain ∙ ap (λ q. q ++ plain_among g.done) no_plain;
   };

@@ -18,7 +18,7 @@ use Rattle.btr_read.specs.Cause.{LiesIn}
 use Rattle.btr_read.specs.Layout.{HaveOwnSlots, Layout}
 use Rattle.btr_read.specs.declared.want.Want.{Want}
 use Rattle.btr_read.proofs.Ones.{in_below}
-use Rattle.btr_scrub_copies.specs.Blocks.{accepted, bad_parts, block_writes, is_sound, own_parts, written_over}
+use Rattle.btr_scrub_copies.specs.Blocks.{accepted, bad_parts, block_writes, copy_writes, is_sound, own_parts, written_over}
 use Rattle.btr_scrub_copies.proofs.Syncs.{passing_filter}
 use Rattle.btr_scrub_copies.specs.Writes.{Images, Write}
 use Rattle.btr_scrub_row.specs.Rows.{Row, column_of, differing, differs, element_with, is_decided, parities, parity_writes, range_in_element, row_writes}
@@ -26,9 +26,10 @@ use Rattle.btr_scrub_row.specs.Rows.{sector_write}
 use Rattle.btr_scrub.specs.Devices.{HaveLengths}
 use Rattle.btr_scrub.specs.Glue.{In}
 use Rattle.btr_scrub.specs.Order.{AreApart, IsSought, targets}
-use Rattle.btr_scrub.specs.Repair.{first_missing, is_in_chunk, row_of, rows_in}
-use Rattle.btr_scrub.specs.Right.{Committed, IsOfWrongCopy, LiesInWrong}
-use Rattle.btr_scrub.specs.Scrubbing.{all_writes_for, blocks_in, blocks_writes, chunk_writes_for, rows_writes}
+use Rattle.btr_scrub_copies.specs.Fresh.{Failing, fresh, fresh_writes, stale_parts}
+use Rattle.btr_scrub.specs.Repair.{first_missing, is_in_chunk, is_loose, mending_writes, row_of, rows_in}
+use Rattle.btr_scrub.specs.Right.{Committed, IsOfStale, IsOfWrongCopy, LiesInWrong}
+use Rattle.btr_scrub.specs.Scrubbing.{all_writes_for, chunk_writes_for, rows_writes, sites_in, sites_writes}
 use Rattle.btr_scrub.specs.Survival.{IsParity}
 use Rattle.btr_scrub.proofs.AcrossChunks.{of_chunk, row_is}
 use Rattle.btr_scrub.proofs.Agreeing.{of_mapped}
@@ -40,7 +41,7 @@ use Rattle.btr_scrub.proofs.RowWrites.{sector_inside}
 use Rattle.btr_scrub.proofs.SoundRows.{CanBeHad, right_is_sound, right_there, sound_row}
 use Rattle.btr_scrub.proofs.Writes.{mapped}
 use Rattle.btr_scrub.proofs.Wrong.{bad_block_is_wrong, differing_parity_is_wrong}
-use Rattle.btr_scrub.specs.Plain.{KeptColumns}
+use Rattle.btr_scrub.specs.Plain.{Doubts}
 
 pub of_filter_map : {X Y : Type 0} (g : X → Option Y) (y : Y) (xs : List X) → In y (filter_map g xs) → (x : X) × In x xs × (g x ≡ Some y)
 of_filter_map g y [] i = absurd i
@@ -52,7 +53,7 @@ of_filter_map g y (x ∷ xs) i = by (g x) refl i (of_filter_map g y xs)
     by (Some z) e (inl same) rest = (x, inl refl, e ∙ ap Some same)
     by (Some z) e (inr j) rest = let r = rest j in (r.0, inr r.1, r.2)
 
-not_bad : (b : Bool) → not b ≡ true → b ≡ false
+pub not_bad : (b : Bool) → not b ≡ true → b ≡ false
 not_bad true e = absurd (false≢true e)
 not_bad false e = refl
 
@@ -80,19 +81,32 @@ over_part images t w i = by (accepted images t) refl i
         let m = mapped (λ (range : Range). record { range = range; bytes = bytes }) (range_of t f.0) w f.2 in
         record { bytes = bytes; accepts = e; part = f.0; own = bad.0; unsound = not_bad (is_sound images t f.0) bad.1; range = m.1 ∙ ap Some (ap (λ (v : Write). v.range) m.2) }
 
-module _ (kept : KeptColumns) (images : Images) (layout : Layout) (C : Committed) (wants : List Want) (table : IsTable layout.chunks)
+-- what a write for a plain sector is: it lies over a stale part
+over_stale : (fails : Failing) (images : Images) (t : Target) (w : Write) → In w (fresh_writes images fails t)
+    → (q : Part) × In q (stale_parts images fails t) × (range_of t q ≡ Some w.range)
+over_stale fails images t w i = by (fresh images fails t) i
+  where
+    by : (o : Option (List ℕ)) → In w (option_map_or (λ bytes. copy_writes t bytes (stale_parts images fails t)) o [])
+        → (q : Part) × In q (stale_parts images fails t) × (range_of t q ≡ Some w.range)
+    by None i = absurd i
+    by (Some bytes) i =
+        let f = of_filter_map (λ q. option_map (λ (range : Range). record { range = range; bytes = bytes }) (range_of t q)) w (stale_parts images fails t) i in
+        let m = mapped (λ (range : Range). record { range = range; bytes = bytes }) (range_of t f.0) w f.2 in
+        (f.0, f.1, m.1 ∙ ap Some (ap (λ (v : Write). v.range) m.2))
+
+module _ (kept : Doubts) (images : Images) (layout : Layout) (C : Committed) (wants : List Want) (table : IsTable layout.chunks)
     (own : HaveOwnSlots layout.devices) (none : first_missing layout ≡ None) (lengths : HaveLengths images layout)
     (had : CanBeHad kept images layout C wants) (apart : AreApart layout 0 wants) where
   abbrev ts : List Target
   ts = targets layout wants
 
   -- a copy that is written isn't the committed one
-  wrong_copy : (t : Target) → In t ts → IsSought layout t → (w : Write) → In w (block_writes images t) → IsOfWrongCopy images C w.range t
-  wrong_copy t among is w i =
+  wrong_copy : (t : Target) → In t ts → is_loose t ≡ false → IsSought layout t → (w : Write) → In w (block_writes images t) → IsOfWrongCopy images C w.range t
+  wrong_copy t among checked is w i =
       let o = over_part images t w i in
       any_in (λ q. (range_of t q ≡ Some w.range) × ((C t.want ≡ Some (element images t q)) → ⊥)) (own_parts t) o.part o.own (
         o.range,
-        λ right. false≢true (sym o.unsound ∙ right_is_sound kept images layout C wants table own none lengths had t among is o.part o.bytes o.accepts right),
+        λ right. false≢true (sym o.unsound ∙ right_is_sound kept images layout C wants table own none lengths had t among checked is o.part o.bytes o.accepts right),
       )
 
   -- ---- a full stripe
@@ -156,17 +170,27 @@ module _ (kept : KeptColumns) (images : Images) (layout : Layout) (C : Committed
 
   -- ---- all writes
 
-  -- a range lies in a wrong element of a full stripe, or is a copy that isn't the committed one
+  -- a range lies in a wrong element of a full stripe, or is a copy that isn't the committed one, or a stale place
   abbrev pub IsWrong : Range → Type 0
   IsWrong range = ((chunk : Chunk) × In chunk layout.chunks × ((row : Row) × In row (rows_in kept ts chunk) × LiesInWrong images layout C row range))
-      ⊎ ((t : Target) × In t ts × IsOfWrongCopy images C range t)
+      ⊎ ((t : Target) × In t ts × (is_loose t ≡ false) × IsOfWrongCopy images C range t)
+      ⊎ ((t : Target) × In t ts × IsOfStale images kept.failing range t)
+
+  -- what is written for a block or a plain sector
+  of_site : (w : Write) (t : Target) → In t ts → IsSought layout t → (b : Bool) → is_loose t ≡ b
+      → In w (cond b (fresh_writes images kept.failing t) (block_writes images t))
+      → ((t : Target) × In t ts × (is_loose t ≡ false) × IsOfWrongCopy images C w.range t) ⊎ ((t : Target) × In t ts × IsOfStale images kept.failing w.range t)
+  of_site w t among is true e i =
+      let s = over_stale kept.failing images t w i in
+      inr (t, among, (e, any_in (λ q. range_of t q ≡ Some w.range) (stale_parts images kept.failing t) s.0 s.1 s.2))
+  of_site w t among is false e i = inl (t, among, e, wrong_copy t among e is w i)
 
   in_chunk : (number : ℕ) (chunk : Chunk) → slice_get layout.chunks number ≡ Some chunk → In chunk layout.chunks → (w : Write)
       → In w (chunk_writes_for kept layout chunk wants images) → IsWrong w.range
   in_chunk number chunk there among w i = by (mirrors chunk) refl i
     where
       by : (o : Option ℕ) → mirrors chunk ≡ o → In w (cond (is_none o) (rows_writes layout (rows_in kept ts chunk) images)
-          (blocks_writes (blocks_in layout chunk wants) images)) → IsWrong w.range
+          (sites_writes kept.failing (sites_in layout chunk wants) images)) → IsWrong w.range
       by None parity i =
           let n = stripe_length chunk / 65536 in
           let f = of_flat (row_writes images layout) w (rows_in kept ts chunk) i in
@@ -184,10 +208,10 @@ module _ (kept : KeptColumns) (images : Images) (layout : Layout) (C : Committed
             ),
           )
       by (Some n) copies i =
-          let f = of_flat (block_writes images) w (blocks_in layout chunk wants) i in
+          let f = of_flat (mending_writes images kept.failing) w (sites_in layout chunk wants) i in
           let of = of_chunk kept layout table own none number chunk there wants f.0 f.1 in
           let among = (passing_filter (is_in_chunk chunk) f.0 ts f.1).0 in
-          inr (f.0, among, wrong_copy f.0 among of.is w f.2)
+          inr (of_site w f.0 among of.is (is_loose f.0) refl f.2)
 
   pub range_is_wrong : (range : Range) → In range (map (λ (w : Write). w.range) (all_writes_for kept layout layout.chunks wants images)) → IsWrong range
   range_is_wrong range i =

@@ -55,7 +55,7 @@ use Rattle.btr_scrub.proofs.SoundRows.{address_is}
 use Rattle.btr_scrub.proofs.Staying.{covered, range_same}
 use Rattle.btr_scrub.proofs.Survival.{of_filter, some_of}
 use Rattle.btr_scrub.proofs.Writes.{any_flat, any_map}
-use Rattle.btr_scrub.specs.Plain.{KeptColumns}
+use Rattle.btr_scrub.specs.Plain.{Doubts}
 
 -- ---- images that differ in ranges
 
@@ -161,8 +161,8 @@ module _ (images : Images) (layout : Layout) (wants : List Want) (row : Row) (he
   inside : row.number * 65536 + 65536 ≤ stripe_length row.chunk
   inside = omega (arith, here.is_row.position.inside)
 
-  abbrev kept : KeptColumns
-  kept chunk number = row.kept
+  abbrev kept : Doubts
+  kept = record { columns = λ chunk number. row.kept; failing = λ slot. false }
 
   of : OfRows kept layout here.table here.own_slots here.given here.is_row.number row.chunk here.is_row.there wants row
   of = subst (λ bs. OfRows kept layout here.table here.own_slots here.given here.is_row.number row.chunk here.is_row.there wants (record { chunk = row.chunk; number = row.number; blocks = bs; kept = row.kept })) (sym here.is_row.made)

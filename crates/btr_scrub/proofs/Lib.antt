@@ -41,6 +41,8 @@ pub mod PlainRuns
 pub mod Keepings
 pub mod Doubting
 pub mod Told
+pub mod Calm
+pub mod Passing
 pub mod Sufficing
 pub mod Outside
 pub mod SoundRows

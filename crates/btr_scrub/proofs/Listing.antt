@@ -1,4 +1,4 @@
--- Lists of checked blocks.
+-- Lists of blocks.
 use Rattle.std.proofs.Common.{◌≡◌, ℕ, zero, suc, ◌+◌, ◌-◌, ◌*◌, ◌^◌, ◌<◌, ◌≤◌, List, [], ◌∷◌, ◌++◌, length, take, drop, Option, Some, None, Result, Ok, Err}
 use Rattle.std.proofs.Common.{OnOk, IsSomeAnd, refl, sym, ap, ◌∙◌, subst, arith, append_assoc, append-nil, length-append}
 use Rattle.std.proofs.Math.Nat.{suc-mul}
@@ -7,13 +7,13 @@ use Rattle.btr_base.specs.Sum.{sum_from, sum_size, stored_sum}
 use Rattle.btr_base.specs.declared.kind.SumKind.{SumKind}
 use Rattle.std.specs.Option.{option_to_list}
 use Rattle.btr_base.specs.declared.kind.SumKind.TheVariants.{Crc32c, Sha256, Xxh64}
-use Rattle.btr_read.specs.declared.want.Want.TheVariants.{Tree, Sector}
+use Rattle.btr_read.specs.declared.want.Want.TheVariants.{Plain, Tree, Sector}
 use Rattle.btr_scrub.specs.declared.run.Run.{Run}
 use Rattle.btr_scrub.specs.declared.run.RunKind.{RunKind}
-use Rattle.btr_scrub.specs.declared.run.RunKind.TheVariants.{TreeBlock, Sectors}
+use Rattle.btr_scrub.specs.declared.run.RunKind.TheVariants.{TreeBlock, Sectors, Unsummed}
 use Rattle.btr_scrub.specs.declared.run.TreeMark.{TreeMark}
-use Rattle.btr_scrub.specs.Listed.{AddsTo, AreRuns, Begins, FewBytes, IsList, IsRun, Kept, Lengthens, all_sectors, all_trees, kept_wants, run_wants}
-use Rattle.btr_scrub.specs.Listed.{sectors_from, sectors_of, tree_from, trees_of, wants_of}
+use Rattle.btr_scrub.specs.Listed.{AddsTo, AreRuns, Begins, Extends, FewBytes, IsList, IsRun, Kept, Lengthens, all_plains, all_sectors, all_trees, kept_wants}
+use Rattle.btr_scrub.specs.Listed.{plains_from, plains_of, run_wants, sectors_from, sectors_of, tree_from, trees_of, wants_of}
 
 -- the counts of runs one behind another
 pub sectors_both : (runs more : List Run) → all_sectors (runs ++ more) ≡ all_sectors runs + all_sectors more
@@ -23,6 +23,13 @@ sectors_both (run ∷ runs) more = let h = sectors_both runs more in omega (arit
 pub trees_both : (runs more : List Run) → all_trees (runs ++ more) ≡ all_trees runs + all_trees more
 trees_both [] more = omega arith
 trees_both (run ∷ runs) more = let h = trees_both runs more in omega (arith, h)
+
+-- sectors without a checksum, one more
+pub plains_more : (n addr : ℕ) → plains_from addr (suc n) ≡ plains_from addr n ++ Plain (addr + n * 4096) ∷ []
+plains_more zero addr = let here : addr ≡ addr + 0 * 4096 = omega arith in ap (λ a. Plain a ∷ []) here
+plains_more (suc n) addr =
+    let behind : addr + 4096 + n * 4096 ≡ addr + suc n * 4096 = omega arith in
+    ap (λ ws. Plain addr ∷ ws) (plains_more n (addr + 4096)) ∙ ap (λ a. Plain addr ∷ (plains_from (addr + 4096) n ++ Plain a ∷ [])) behind
 
 -- a product of a sum
 pub times_sum : (a b z : ℕ) → (a + b) * z ≡ a * z + b * z
@@ -81,6 +88,7 @@ module _ (kind : SumKind) where
       → run_wants kind addr k (xs ++ s) (ms ++ ts) ≡ run_wants kind addr k xs ms
   run_longer addr TreeBlock xs s ms ts h g = tree_longer addr ms ts g
   run_longer addr (Sectors n) xs s ms ts h g = sectors_longer n addr xs s h
+  run_longer addr (Unsummed n) xs s ms ts h g = refl
 
   -- the blocks of runs one behind another
   pub wants_both : (runs more : List Run) (xs s : List ℕ) (ms ts : List TreeMark) → length xs ≡ all_sectors runs * sum_size kind → length ms
@@ -242,6 +250,72 @@ module _ (old : Kept) (is : IsList old) where
             ∙ ap (λ q. kept_wants old ++ Sector addr (sum_from old.kind q) ∷ []) (take-take size size bytes (omega arith));
       })
 
+  -- a sector without a checksum behind the others, which begins a run
+  pub plain_added : (new : Kept) (addr : ℕ) → addr < 2 ^ 64 → new.kind ≡ old.kind → new.runs ≡ old.runs ++ record { addr = addr; kind = Unsummed 1 } ∷ [] → new.sums ≡ old.sums → new.marks ≡ old.marks → AddsTo old new (Plain addr)
+  plain_added new addr small k r s m =
+      let run : Run = record { addr = addr; kind = Unsummed 1 } in
+      let e = same_kept new old.kind (old.runs ++ run ∷ []) old.sums old.marks k r s m in
+      let count = sectors_both old.runs (run ∷ []) in
+      let trees = trees_both old.runs (run ∷ []) in
+      let none : all_sectors (old.runs ++ run ∷ []) ≡ all_sectors old.runs = omega (arith, count) in
+      let fits : IsRun addr (Unsummed 1) = (omega arith, omega (arith, small)) in
+      subst (λ x. AddsTo old x (Plain addr)) (sym e) (record {
+        is_list = record {
+          runs_fit = runs_both old.runs (run ∷ []) is.runs_fit (fits, tt);
+          sums_fit = is.sums_fit ∙ ap (λ n. n * sum_size old.kind) (sym none);
+          marks_fit = omega (arith, trees, is.marks_fit);
+        };
+        kind = refl;
+        wants = ap (λ xs. wants_of old.kind (old.runs ++ run ∷ []) xs old.marks) (sym (append-nil old.sums))
+            ∙ ap (λ ms. wants_of old.kind (old.runs ++ run ∷ []) (old.sums ++ []) ms) (sym (append-nil old.marks))
+            ∙ wants_both old.kind old.runs (run ∷ []) old.sums [] old.marks [] is.sums_fit is.marks_fit;
+      })
+
+  -- one behind the others, by which the last run is longer
+  pub plain_grown : (new : Kept) (before : List Run) (run longer : Run) (addr : ℕ) → addr < 2 ^ 64
+      → Extends run addr longer → old.runs ≡ before ++ run ∷ [] → new.kind ≡ old.kind → new.runs ≡ before ++ longer ∷ []
+      → new.sums ≡ old.sums → new.marks ≡ old.marks → AddsTo old new (Plain addr)
+  plain_grown new before run longer addr small l b k r s m =
+      let n = l.count in
+      let size = sum_size old.kind in
+      let run_is : all_sectors (run ∷ []) ≡ 0 = ap (λ q. sectors_of q + 0) l.sectors in
+      let run_trees : all_trees (run ∷ []) ≡ 0 = ap (λ q. trees_of q + 0) l.sectors in
+      let count : all_sectors old.runs ≡ all_sectors before + 0 = ap all_sectors b ∙ sectors_both before (run ∷ []) ∙ ap (λ q. all_sectors before + q) run_is in
+      let same_count : all_sectors old.runs ≡ all_sectors before = count ∙ omega arith in
+      let xlong : length old.sums ≡ all_sectors before * size = is.sums_fit ∙ ap (λ q. q * size) same_count in
+      let trees : all_trees old.runs ≡ all_trees before + 0 = ap all_trees b ∙ trees_both before (run ∷ []) ∙ ap (λ q. all_trees before + q) run_trees in
+      let mlong : length old.marks ≡ all_trees before = omega (arith, is.marks_fit, trees) in
+      let grown : Run = record { addr = run.addr; kind = Unsummed (suc n) } in
+      let more : n + 1 ≡ suc n = omega arith in
+      let longer_is : longer ≡ grown = l.more ∙ ap (λ q. record { addr = run.addr; kind = Unsummed q }) more in
+      let run_same : run ≡ record { addr = run.addr; kind = Unsummed n } = ap (λ q. record { addr = run.addr; kind = q }) l.sectors in
+      let e = same_kept new old.kind (before ++ grown ∷ []) old.sums old.marks k (r ∙ ap (λ q. before ++ q ∷ []) longer_is) s m in
+      let before_fit : AreRuns before = runs_before before (run ∷ []) (subst AreRuns b is.runs_fit) in
+      let last : run.addr + (suc n - 1) * 4096 ≡ addr = omega (arith, l.next) in
+      let fits : IsRun run.addr (Unsummed (suc n)) = (omega arith, omega (arith, small, last)) in
+      let grown_count : all_sectors (before ++ grown ∷ []) ≡ all_sectors before = sectors_both before (grown ∷ []) ∙ omega arith in
+      let grown_trees = trees_both before (grown ∷ []) in
+      let with_run : (q : ℕ) → wants_of old.kind (before ++ record { addr = run.addr; kind = Unsummed q } ∷ []) old.sums old.marks ≡ wants_of old.kind before old.sums old.marks ++ plains_from run.addr q =
+      λ q. ap (λ xs. wants_of old.kind (before ++ record { addr = run.addr; kind = Unsummed q } ∷ []) xs old.marks) (sym (append-nil old.sums))
+      ∙ ap (λ ms. wants_of old.kind (before ++ record { addr = run.addr; kind = Unsummed q } ∷ []) (old.sums ++ []) ms) (sym (append-nil old.marks))
+      ∙ wants_both old.kind before (record { addr = run.addr; kind = Unsummed q } ∷ []) old.sums [] old.marks [] xlong mlong
+      ∙ ap (λ ws. wants_of old.kind before old.sums old.marks ++ ws) (append-nil (plains_from run.addr q)) in
+      let old_is : kept_wants old ≡ wants_of old.kind before old.sums old.marks ++ plains_from run.addr n =
+      ap (λ q. wants_of old.kind q old.sums old.marks) (b ∙ ap (λ q. before ++ q ∷ []) run_same) ∙ with_run n in
+      subst (λ x. AddsTo old x (Plain addr)) (sym e) (record {
+        is_list = record {
+          runs_fit = runs_both before (grown ∷ []) before_fit (fits, tt);
+          sums_fit = xlong ∙ ap (λ q. q * size) (sym grown_count);
+          marks_fit = omega (arith, mlong, grown_trees);
+        };
+        kind = refl;
+        wants = with_run (suc n)
+            ∙ ap (λ ws. wants_of old.kind before old.sums old.marks ++ ws) (plains_more n run.addr)
+            ∙ sym (append_assoc (wants_of old.kind before old.sums old.marks) (plains_from run.addr n) (Plain (run.addr + n * 4096) ∷ []))
+            ∙ ap (λ ws. ws ++ Plain (run.addr + n * 4096) ∷ []) (sym old_is)
+            ∙ ap (λ q. kept_wants old ++ Plain q ∷ []) (sym l.next);
+      })
+
 -- the calls that put blocks behind the others
 module _ {E : Type 0} (result : Result (Unit {0}) E) (old : Kept) (is : IsList old) where
   pub tree_pushed : (mid inner : Kept) (marks : List TreeMark) (addr generation level : ℕ) → Begins old mid (record { addr = addr; kind = TreeBlock }) → inner ≡ mid → OnOk result (marks ≡ inner.marks ++ record { generation = generation; level = level } ∷ []) → OnOk result (AddsTo old (made inner.kind inner.runs inner.sums marks) (Tree addr generation level))
@@ -271,14 +345,27 @@ module _ {E : Type 0} (result : Result (Unit {0}) E) (old : Kept) (is : IsList o
       (s ∙ ap (λ q. q ++ take (sum_size kind) bytes) (ap (λ (q : Kept). q.sums) same) ∙ ap (λ q. old.sums ++ take (sum_size q) bytes) k)
       (ap (λ (q : Kept). q.marks) same)) h
 
+  pub plain_begun : (new : Kept) (addr : ℕ) → addr < 2 ^ 64 → OnOk result (Begins old new (record { addr = addr; kind = Unsummed 1 })) → OnOk result (AddsTo old new (Plain addr))
+  plain_begun new addr small h = on_ok result (λ b. plain_added old is new addr small b.kind b.runs b.sums b.marks) h
+
+-- the last run has one more sector without a checksum
+pub plain_lengthened : (old : Kept) → IsList old → (kind : SumKind) (runs : List Run) (last : Option Run) (sums : List ℕ) (marks : List TreeMark)
+    (longer : Run) (addr : ℕ) → addr < 2 ^ 64 → made kind (runs ++ option_to_list last) sums marks ≡ old
+    → IsSomeAnd last (λ run. Extends run addr longer) → AddsTo old (made kind (runs ++ longer ∷ []) sums marks) (Plain addr)
+plain_lengthened old is kind runs None sums marks longer addr small same l = absurd l
+plain_lengthened old is kind runs (Some run) sums marks longer addr small same l =
+    plain_grown old is (made kind (runs ++ longer ∷ []) sums marks) runs run longer addr small l (sym (ap (λ (q : Kept). q.runs) same))
+    (ap (λ (q : Kept). q.kind) same) refl (ap (λ (q : Kept). q.sums) same) (ap (λ (q : Kept). q.marks) same)
+
 -- each run has a sector, or is a tree block
-runs_few : (runs : List Run) → AreRuns runs → length runs ≤ all_sectors runs + all_trees runs
+runs_few : (runs : List Run) → AreRuns runs → length runs ≤ all_sectors runs + all_plains runs + all_trees runs
 runs_few [] h = omega arith
 runs_few (run ∷ runs) h = let one = by run.addr run.kind h.0 in let more = runs_few runs h.1 in omega (arith, one, more)
   where
-    by : (addr : ℕ) (k : RunKind) → IsRun addr k → 1 ≤ sectors_of k + trees_of k
+    by : (addr : ℕ) (k : RunKind) → IsRun addr k → 1 ≤ sectors_of k + plains_of k + trees_of k
     by addr TreeBlock h = omega arith
     by addr (Sectors n) h = omega (arith, h.0)
+    by addr (Unsummed n) h = omega (arith, h.0)
 
 sums_few : (kind : SumKind) (n len : ℕ) → len ≡ n * sum_size kind → len ≤ n * 32
 sums_few Crc32c n len h = omega (arith, h)

@@ -38,7 +38,7 @@ use Rattle.btr_scrub.proofs.Lists.{all_from}
 use Rattle.btr_scrub.proofs.Agreeing.{of_mapped}
 use Rattle.btr_scrub.proofs.Positions.{is_sought}
 use Rattle.btr_scrub.proofs.Scrubbing.{IsUnmoved}
-use Rattle.btr_scrub.specs.Plain.{KeptColumns}
+use Rattle.btr_scrub.specs.Plain.{Doubts}
 
 -- ---- empty rows
 
@@ -74,7 +74,7 @@ empties_count images layout write tally (r ∷ rs) h = ap (λ t. rows_count layo
 
 -- ---- one chunk with parity
 
-module _ (kept : KeptColumns) (layout : Layout) (table : IsTable layout.chunks) (own : HaveOwnSlots layout.devices) (given : first_missing layout ≡ None) (number : ℕ) (chunk : Chunk) (there : slice_get layout.chunks number ≡ Some chunk) (parity : mirrors chunk ≡ None) (wants : List Want) where
+module _ (kept : Doubts) (layout : Layout) (table : IsTable layout.chunks) (own : HaveOwnSlots layout.devices) (given : first_missing layout ≡ None) (number : ℕ) (chunk : Chunk) (there : slice_get layout.chunks number ≡ Some chunk) (parity : mirrors chunk ≡ None) (wants : List Want) where
   -- rows from q on up to n, all of them empty
   pub more_rows : (q n : ℕ) → q ≤ n → ((k : ℕ) → q ≤ k → k < n → (row_of kept (targets layout wants) chunk k).blocks ≡ []) → (images : Images)
       → rows_writes layout (rows_to kept (targets layout wants) chunk n) images ≡ rows_writes layout (rows_to kept (targets layout wants) chunk q) images

@@ -3,7 +3,6 @@ use Rattle.std.proofs.Common.{◌≡◌, ℕ, ◌+◌, ◌*◌, ◌≤◌, count
 use Rattle.std.proofs.Common.{IfSome, IsSomeAnd, is_some, Result, Ok, Err, refl, sym, ap, ◌∙◌, subst, inl, inr, arith}
 use Rattle.std.proofs.lemmas.List.{length-map}
 use Rattle.std.proofs.lemmas.Option.{same_Some, slice_get_within}
-use Rattle.std.specs.List.{Any}
 use Rattle.btr_chunk.specs.Chunk.{stripe_length}
 use Rattle.btr_chunk.specs.Mapping.{elements_of, holds, place_at, stripe_of}
 use Rattle.btr_chunk.specs.declared.mapping.MapFault.{MapFault}

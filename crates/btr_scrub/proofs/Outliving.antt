@@ -1,7 +1,8 @@
 -- Whatever stands in the ranges of the writes, each checked block can be had.
-use Rattle.std.proofs.Common.{◌≡◌, ◌≢◌, ◌⊎◌, ℕ, zero, suc, ◌+◌, ◌*◌, ◌/◌, ◌<◌, ◌≤◌, Bool, true, false, not, cond, ◌&&◌, eqb, List, [], ◌∷◌, map, slice_get}
+use Rattle.std.proofs.Common.{◌≡◌, ◌≢◌, ◌⊎◌, ℕ, zero, suc, ◌+◌, ◌*◌, ◌/◌, ◌<◌, ◌≤◌, Bool, true, false, not, cond, ◌&&◌, ◌||◌, eqb, List, [], ◌∷◌, map, slice_get}
 use Rattle.std.proofs.Common.{Option, Some, None, is_none, is_some, IsSomeAnd, refl, sym, ap, ◌∙◌, subst, inl, inr, arith, Result, Ok, Err}
-use Rattle.std.proofs.lemmas.Bool.{false≢true, and_from, cases_lt, eq-eqb}
+use Rattle.std.proofs.lemmas.Bool.{false≢true, and_from, and_parts, cases_lt, eq-eqb}
+use Rattle.std.specs.Str.{bytes_eq}
 use Rattle.std.proofs.lemmas.Option.{same_Some}
 use Rattle.std.specs.List.{cons_option, list_any, range_with_len}
 use Rattle.std.specs.Option.{option_map, option_map_or}
@@ -10,20 +11,23 @@ use Rattle.btr_chunk.specs.Chunk.{mirrors, stripe_length}
 use Rattle.btr_chunk.specs.Mapping.{place_at}
 use Rattle.btr_chunk.specs.Table.{IsTable}
 use Rattle.btr_chunk.specs.declared.chunk.Chunk.{Chunk}
+use Rattle.btr_chunk.specs.declared.place.Part.{Part}
 use Rattle.btr_chunk.specs.declared.place.Part.TheVariants.{Mirror, Slice}
 use Rattle.btr_chunk.specs.declared.position.Elements.{Elements}
 use Rattle.btr_chunk.proofs.Apart.{copies_apart}
 use Rattle.btr_rack.specs.declared.place.Place.{Place as Range}
 use Rattle.btr_read.specs.Candidates.{Target, candidates, element, range_of, size_of, stands, value_of}
 use Rattle.btr_read.specs.Fate.{Fault, sought}
-use Rattle.btr_read.specs.Layout.{HaveOwnSlots, Layout}
+use Rattle.btr_read.specs.Layout.{HaveOwnSlots, Layout, device_in}
 use Rattle.btr_read.specs.Want.{addr_of, len_of}
+use Rattle.btr_read.specs.declared.candidate.Candidate.{Candidate}
 use Rattle.btr_read.specs.declared.candidate.Candidate.TheVariants.{Read}
+use Rattle.btr_read.specs.declared.device.Device.{Device}
 use Rattle.btr_read.specs.declared.want.Want.{Want}
 use Rattle.btr_read.proofs.Fates.{sought_of}
 use Rattle.btr_read.proofs.Ones.{in_below}
-use Rattle.btr_read.proofs.Order.{in_candidates, with_copies}
-use Rattle.btr_scrub_copies.specs.Blocks.{accepted, bad_parts, block_writes, is_sound, own_parts, written_over}
+use Rattle.btr_read.proofs.Order.{in_candidates, in_ways, with_copies}
+use Rattle.btr_scrub_copies.specs.Blocks.{accepted, bad_parts, block_writes, copy_writes, is_sound, own_parts, written_over}
 use Rattle.btr_scrub_copies.proofs.Syncs.{passing_filter}
 use Rattle.btr_scrub_copies.specs.Writes.{Images, Write}
 use Rattle.btr_scrub_copies.proofs.Copied.{has_mirror}
@@ -32,23 +36,38 @@ use Rattle.btr_scrub.specs.Devices.{HaveLengths}
 use Rattle.btr_scrub.specs.Glue.{In}
 use Rattle.btr_scrub.specs.Leaves.{KeepsOutside}
 use Rattle.btr_scrub.specs.Order.{AreApart, IsSought, targets}
-use Rattle.btr_scrub.specs.Repair.{covers, first_missing, is_in_chunk, is_in_row, ok_or_none, row_of, rows_in}
+use Rattle.btr_scrub_copies.specs.Fresh.{Failing, first_trusted, fresh, fresh_writes, is_on_behind, is_on_doubtful, is_stale, reads_doubtful, stale_beside}
+use Rattle.btr_scrub_copies.specs.Fresh.{stale_parts}
+use Rattle.btr_scrub.specs.Repair.{covers, first_missing, is_in_chunk, is_in_row, is_loose, mending_writes, ok_or_none, row_of, rows_in}
 use Rattle.btr_scrub.specs.Right.{Committed, HasFewWrong, StandsFor}
-use Rattle.btr_scrub.specs.Scrubbing.{all_writes_for, blocks_in, blocks_writes, chunk_writes_for, rows_writes}
+use Rattle.btr_scrub.specs.Scrubbing.{all_writes_for, chunk_writes_for, rows_writes, sites_in, sites_writes}
 use Rattle.btr_scrub.specs.Staying.{AvoidRight, IsInCopies, IsInWrong}
 use Rattle.btr_scrub.proofs.AcrossChunks.{copy_in_chunk, element_in_chunk, of_chunk, one_chunk, row_is}
-use Rattle.btr_scrub.proofs.Agreeing.{of_mapped}
+use Rattle.btr_scrub.proofs.Agreeing.{IsTrusted, of_mapped, trusted_from}
 use Rattle.btr_scrub.proofs.Blockwise.{all_behind, of_targets, part_is_given}
-use Rattle.btr_scrub.proofs.CopyWrites.{same_element, written_byte}
+use Rattle.btr_scrub.proofs.CopyWrites.{same_element, stale_own, written_byte}
 use Rattle.btr_scrub.proofs.Lists.{any_in, at_in, in_any, in_map}
-use Rattle.btr_scrub.proofs.Positions.{IsCopyByte, copy_of_range, is_of_copy, is_sought, of_range, shares}
+use Rattle.btr_scrub.proofs.Positions.{IsCopyByte, copy_of_range, is_of_copy, is_sought, left_false, of_range, shares}
 use Rattle.btr_scrub.proofs.RowWrites.{written_row}
 use Rattle.btr_scrub.proofs.RowNumbers.{row_fits}
-use Rattle.btr_scrub.proofs.SoundRows.{CanBeHad, is_row, right_is_sound, right_there, sound_row}
+use Rattle.btr_scrub.proofs.SoundRows.{CanBeHad, checked_there, is_row, right_is_sound, right_there, sound_row}
 use Rattle.btr_scrub.proofs.Staying.{row_outlives_writes}
 use Rattle.btr_scrub.proofs.Survival.{in_filter, some_of}
 use Rattle.btr_scrub.proofs.Writes.{any_filter_map, any_flat, any_map, mapped, row_writes_are_wrong}
-use Rattle.btr_scrub.specs.Plain.{KeptColumns}
+use Rattle.btr_scrub.specs.Plain.{Doubts}
+
+-- an image that isn't in doubt isn't behind
+sure_not_behind : (fails : Failing) (t : Target) (part : Part) → is_on_doubtful fails t part ≡ false → is_on_behind fails t part ≡ false
+sure_not_behind fails t part e = by (device_in t.devices (place_at t.chunk part t.at).devid) e
+  where
+    both : (a b : Bool) → (a || b) ≡ false → (a && b) ≡ false
+    both true b e = absurd (false≢true (sym e))
+    both false b e = refl
+
+    by : (o : Option Device) → option_map_or (λ device. device.older || fails device.slot) o false ≡ false
+        → option_map_or (λ device. device.older && fails device.slot) o false ≡ false
+    by None e = refl
+    by (Some device) e = both device.older (fails device.slot) e
 
 -- blocks that are apart and have an address in common are the same
 pub same_block : (layout : Layout) (wants : List Want) (end : ℕ) (t u : Target) (one other : ℕ) → AreApart layout end wants
@@ -105,7 +124,7 @@ at_member [] i x e = cc
 at_member (y ∷ xs) zero x e = inl (same_Some y x e)
 at_member (y ∷ xs) (suc i) x e = inr (at_member xs i x e)
 
-module _ (kept : KeptColumns) (images : Images) (layout : Layout) (C : Committed) (wants : List Want) (table : IsTable layout.chunks)
+module _ (kept : Doubts) (images : Images) (layout : Layout) (C : Committed) (wants : List Want) (table : IsTable layout.chunks)
     (own : HaveOwnSlots layout.devices) (none : first_missing layout ≡ None) (lengths : HaveLengths images layout)
     (had : CanBeHad kept images layout C wants) (apart : AreApart layout 0 wants) where
   abbrev ts : List Target
@@ -129,7 +148,7 @@ module _ (kept : KeptColumns) (images : Images) (layout : Layout) (C : Committed
     is : IsSought layout block
     copies : ℕ
     has : mirrors block.chunk ≡ Some copies
-    written : list_any (covered_at slot off) (block_writes images block) ≡ true
+    written : list_any (covered_at slot off) (mending_writes images kept.failing block) ≡ true
 
   -- for a full stripe
   record ForRow (slot off : ℕ) : Type 0 where
@@ -146,7 +165,7 @@ module _ (kept : KeptColumns) (images : Images) (layout : Layout) (C : Committed
   for_chunk slot off number chunk there h = by (mirrors chunk) refl h
     where
       by : (o : Option ℕ) → mirrors chunk ≡ o → list_any (covered_at slot off)
-          (cond (is_none o) (rows_writes layout (rows_in kept ts chunk) images) (blocks_writes (blocks_in layout chunk wants) images)) ≡ true
+          (cond (is_none o) (rows_writes layout (rows_in kept ts chunk) images) (sites_writes kept.failing (sites_in layout chunk wants) images)) ≡ true
           → ForCopies slot off ⊎ ForRow slot off
       by None parity h =
           let n = stripe_length chunk / 65536 in
@@ -156,7 +175,7 @@ module _ (kept : KeptColumns) (images : Images) (layout : Layout) (C : Committed
           let lt = in_below n r.0 r.1 in
           inr (record { number = number; chunk = chunk; there = there; parity = parity; row = r.0; inside = omega (arith, lt); written = subst (λ row. list_any (covered_at slot off) (row_writes images layout row) ≡ true) (sym r.2) f.2 })
       by (Some n) copies h =
-          let f = any_flat (covered_at slot off) (block_writes images) (blocks_in layout chunk wants) h in
+          let f = any_flat (covered_at slot off) (mending_writes images kept.failing) (sites_in layout chunk wants) h in
           let of = of_chunk kept layout table own none number chunk there wants f.0 f.1 in
           inl (record { block = f.0; among = (passing_filter (is_in_chunk chunk) f.0 ts f.1).0; is = of.is; copies = n; has = ap mirrors of.chunk_is ∙ copies; written = f.2 })
 
@@ -171,7 +190,7 @@ module _ (kept : KeptColumns) (images : Images) (layout : Layout) (C : Committed
 
   in_copies : (slot off : ℕ) → ForCopies slot off → IsInCopies layout slot off
   in_copies slot off c =
-      let b = copy_in_chunk layout c.block slot off table c.is (written_byte images layout lengths c.block c.is c.copies c.has slot off c.written) in
+      let b = copy_in_chunk layout c.block slot off table c.is (written_byte kept.failing images layout lengths c.block c.is c.copies c.has slot off c.written) in
       let same : c.block.chunk ≡ b.lies.chunk = same_Some c.block.chunk b.lies.chunk (sym c.is.there ∙ b.lies.there) in
       record {
         devid = b.devid;
@@ -225,86 +244,157 @@ module _ (kept : KeptColumns) (images : Images) (layout : Layout) (C : Committed
         (is_row kept images layout C wants table own none lengths had apart is.number t.chunk is.there t.at.row parity fits) avoid keeps
         (sound_row kept images layout C wants table own none lengths had apart is.number t.chunk is.there t.at.row parity fits) few mine
 
-  -- ---- blocks with copies
+  -- ---- blocks and plain sectors with copies
 
   module _ (t : Target) (among : In t ts) (is : IsSought layout t) (n : ℕ) (has : mirrors t.chunk ≡ Some n) where
     own_are : own_parts t ≡ map Mirror (range_with_len 0 n)
     own_are = ap (λ o. option_map_or (λ copies. map Mirror (range_with_len 0 copies)) o (Slice t.at.index ∷ [])) has
 
-    module _ (k : ℕ) (lt : k < n) (right : C t.want ≡ Some (element images t (Mirror k))) (range : Range) (whole : range_of t (Mirror k) ≡ Some range) where
+    not_bad : (b : Bool) → not b ≡ true → b ≡ true → ⊥
+    not_bad true e f = false≢true e
+    not_bad false e f = false≢true f
+
+    module _ (k : ℕ) (lt : k < n) (range : Range) (whole : range_of t (Mirror k) ≡ Some range) where
       abbrev byte : (slot off : ℕ) → covers slot off range ≡ true → IsCopyByte layout t slot off
       byte slot off c = of_range layout t k slot off range is (has_mirror t n k has lt) whole c
 
-      not_bad : (b : Bool) → not b ≡ true → b ≡ true → ⊥
-      not_bad true e f = false≢true e
-      not_bad false e f = false≢true f
+      -- a part of its own that has a byte of this copy is this copy
+      this_copy : (part : Part) → In part (own_parts t) → (slot off : ℕ) → covers slot off range ≡ true → (other : Range)
+          → range_of t part ≡ Some other → covers slot off other ≡ true → part ≡ Mirror k
+      this_copy part mine slot off c other at there =
+          let j = of_mapped Mirror part (range_with_len 0 n) (subst (In part) own_are mine) in
+          let mirror = has_mirror t n j.0 has (in_below n j.0 j.1) in
+          let at_j : range_of t (Mirror j.0) ≡ Some other = ap (range_of t) j.2 ∙ at in
+          let same : j.0 ≡ k =
+          sym (copy_of_range layout t j.0 slot off other is mirror at_j there)
+          ∙ same_copy layout t slot off table own is (of_range layout t j.0 slot off other is mirror at_j there) (byte slot off c)
+          ∙ copy_of_range layout t k slot off range is (has_mirror t n k has lt) whole c in
+          sym j.2 ∙ ap Mirror same
 
-      -- the block's own writes aren't over a right copy
-      not_own : (slot off : ℕ) → covers slot off range ≡ true → list_any (covered_at slot off) (block_writes images t) ≡ true → ⊥
-      not_own slot off c written = by (accepted images t) refl written
+      -- bytes aren't written over a copy that isn't among the parts
+      not_over : (bytes : List ℕ) (parts : List Part) → ((part : Part) → In part parts → In part (own_parts t)) → (In (Mirror k) parts → ⊥)
+          → (slot off : ℕ) → covers slot off range ≡ true → list_any (covered_at slot off) (copy_writes t bytes parts) ≡ true → ⊥
+      not_over bytes parts mine never slot off c h =
+          let f = any_filter_map (covered_at slot off) (λ part. option_map (λ (range : Range). record { range = range; bytes = bytes }) (range_of t part)) parts h in
+          let m = mapped (λ (range : Range). record { range = range; bytes = bytes }) (range_of t f.0) f.2.0 f.2.1 in
+          let same = this_copy f.0 (mine f.0 f.1) slot off c m.0 m.1 (ap (λ (w : Write). covers slot off w.range) m.2 ∙ f.2.2) in
+          never (subst (λ part. In part parts) same f.1)
+
+      -- where it isn't written for itself
+      module _ (not_own : (slot off : ℕ) → covers slot off range ≡ true → list_any (covered_at slot off) (mending_writes images kept.failing t) ≡ true → ⊥) where
+        -- it isn't for any other
+        not_written : (slot off : ℕ) → covers slot off range ≡ true → ForCopies slot off ⊎ ForRow slot off → ⊥
+        not_written slot off c (inl f) =
+            let s = shares layout t f.block slot off table own is f.is (byte slot off c) (written_byte kept.failing images layout lengths f.block f.is f.copies f.has slot off f.written) in
+            let same : t ≡ f.block = same_block layout wants 0 t f.block s.one s.other apart among f.among s.below s.under s.same in
+            not_own slot off c (subst (λ u. list_any (covered_at slot off) (mending_writes images kept.failing u) ≡ true) (sym same) f.written)
+        not_written slot off c (inr f) =
+            let of = row_is kept layout table own none f.number f.chunk f.there wants f.row f.parity f.inside in
+            let w = written_row layout (row_of kept ts f.chunk f.row) table of.is images slot off of.blocks f.written in
+            let number : is.number ≡ w.1.number = one_chunk layout is.number w.1.number slot off table own (copy_in_chunk layout t slot off table is (byte slot off c)) (element_in_chunk layout (row_of kept ts f.chunk f.row) w.0 slot off table w.1) in
+            let chunk : t.chunk ≡ f.chunk = same_Some t.chunk f.chunk (sym is.there ∙ ap (slice_get layout.chunks) number ∙ w.1.there) in
+            false≢true (sym (ap is_some f.parity) ∙ ap (λ k. is_some (mirrors k)) (sym chunk) ∙ ap is_some has)
+
+        free : (slot off : ℕ) → covers slot off range ≡ true → list_any (covers slot off) ranges ≡ false
+        free slot off c = by (list_any (covers slot off) ranges) refl
+          where
+            by : (b : Bool) → list_any (covers slot off) ranges ≡ b → list_any (covers slot off) ranges ≡ false
+            by false e = e
+            by true e = absurd (not_written slot off c (for_what slot off e))
+
+        stays : (left : Images) → KeepsOutside ranges images left → element left t (Mirror k) ≡ element images t (Mirror k)
+        stays left keeps = same_element images left layout ranges t (Mirror k) lengths is keeps
+            (λ slot off c. free slot off (subst (λ o. IsSomeAnd o (λ range. covers slot off range ≡ true)) whole c))
+
+    -- a right copy of a checked block isn't written
+    module _ (checked : is_loose t ≡ false) where
+      not_mended : (k : ℕ) (lt : k < n) → C t.want ≡ Some (element images t (Mirror k)) → (range : Range) (whole : range_of t (Mirror k) ≡ Some range)
+          → (slot off : ℕ) → covers slot off range ≡ true → list_any (covered_at slot off) (mending_writes images kept.failing t) ≡ true → ⊥
+      not_mended k lt right range whole slot off c written =
+          by (accepted images t) refl
+          (subst (λ b. list_any (covered_at slot off) (cond b (fresh_writes images kept.failing t) (block_writes images t)) ≡ true) checked written)
         where
           by : (o : Option (List ℕ)) → accepted images t ≡ o → list_any (covered_at slot off) (option_map_or (written_over images t) o []) ≡ true → ⊥
           by None e h = false≢true h
           by (Some bytes) e h =
-              let f = any_filter_map (covered_at slot off) (λ part. option_map (λ (range : Range). record { range = range; bytes = bytes }) (range_of t part)) (bad_parts images t) h in
-              let bad = passing_filter (λ part. not (is_sound images t part)) f.0 (own_parts t) f.1 in
-              let j = of_mapped Mirror f.0 (range_with_len 0 n) (subst (In f.0) own_are bad.0) in
-              let m = mapped (λ (range : Range). record { range = range; bytes = bytes }) (range_of t f.0) f.2.0 f.2.1 in
-              let mirror = has_mirror t n j.0 has (in_below n j.0 j.1) in
-              let there : range_of t (Mirror j.0) ≡ Some m.0 = ap (range_of t) j.2 ∙ m.1 in
-              let cover : covers slot off m.0 ≡ true = ap (λ (w : Write). covers slot off w.range) m.2 ∙ f.2.2 in
-              let same : j.0 ≡ k =
-              sym (copy_of_range layout t j.0 slot off m.0 is mirror there cover)
-              ∙ same_copy layout t slot off table own is (of_range layout t j.0 slot off m.0 is mirror there cover) (byte slot off c)
-              ∙ copy_of_range layout t k slot off range is (has_mirror t n k has lt) whole c in
-              not_bad (is_sound images t f.0) bad.1 (ap (is_sound images t) (sym j.2 ∙ ap Mirror same)
-              ∙ right_is_sound kept images layout C wants table own none lengths had t among is (Mirror k) bytes e right)
+              not_over k lt range whole bytes (bad_parts images t) (λ part i. (passing_filter (λ part. not (is_sound images t part)) part (own_parts t) i).0)
+              (λ i. not_bad (is_sound images t (Mirror k)) (passing_filter (λ part. not (is_sound images t part)) (Mirror k) (own_parts t) i).1
+              (right_is_sound kept images layout C wants table own none lengths had t among checked is (Mirror k) bytes e right)) slot off c h
 
-      -- nor those of any other
-      not_written : (slot off : ℕ) → covers slot off range ≡ true → ForCopies slot off ⊎ ForRow slot off → ⊥
-      not_written slot off c (inl f) =
-          let s = shares layout t f.block slot off table own is f.is (byte slot off c) (written_byte images layout lengths f.block f.is f.copies f.has slot off f.written) in
-          let same : t ≡ f.block = same_block layout wants 0 t f.block s.one s.other apart among f.among s.below s.under s.same in
-          not_own slot off c (subst (λ u. list_any (covered_at slot off) (block_writes images u) ≡ true) (sym same) f.written)
-      not_written slot off c (inr f) =
-          let of = row_is kept layout table own none f.number f.chunk f.there wants f.row f.parity f.inside in
-          let w = written_row layout (row_of kept ts f.chunk f.row) table of.is images slot off of.blocks f.written in
-          let number : is.number ≡ w.1.number = one_chunk layout is.number w.1.number slot off table own (copy_in_chunk layout t slot off table is (byte slot off c)) (element_in_chunk layout (row_of kept ts f.chunk f.row) w.0 slot off table w.1) in
-          let chunk : t.chunk ≡ f.chunk = same_Some t.chunk f.chunk (sym is.there ∙ ap (slice_get layout.chunks) number ∙ w.1.there) in
-          false≢true (sym (ap is_some f.parity) ∙ ap (λ k. is_some (mirrors k)) (sym chunk) ∙ ap is_some has)
+      copies_outlive : (left : Images) → KeepsOutside ranges images left → StandsFor left C t
+      copies_outlive left keeps =
+          let a = in_any (λ part. C t.want ≡ Some (element images t part)) (own_parts t) (had.copies t among checked (ap is_some has)) in
+          let j = of_mapped Mirror a.0 (range_with_len 0 n) (subst (In a.0) own_are a.1) in
+          let lt = in_below n j.0 j.1 in
+          let right : C t.want ≡ Some (element images t (Mirror j.0)) = a.2 ∙ ap (λ part. Some (element images t part)) (sym j.2) in
+          let given = part_is_given layout t (Mirror j.0) table is (has_mirror t n j.0 has lt) none in
+          let r = some_of (range_of t (Mirror j.0)) given in
+          any_in (λ c. (stands t c ≡ true) × (C t.want ≡ Some (value_of left t c))) (candidates t) (Read (Mirror j.0))
+          (in_candidates t (Read (Mirror j.0)) (subst (In (Read (Mirror j.0))) (sym (with_copies t n has))
+          (in_map (λ copy. Read (Mirror copy)) j.0 (range_with_len 0 n) j.1)))
+          (ap (λ b. b && true) given, right ∙ ap Some (sym (stays j.0 lt r.0 r.1 (not_mended j.0 lt right r.0 r.1) left keeps)))
 
-      free : (slot off : ℕ) → covers slot off range ≡ true → list_any (covers slot off) ranges ≡ false
-      free slot off c = by (list_any (covers slot off) ranges) refl
+    -- a copy of a plain sector on an image that isn't in doubt isn't either
+    module _ (loose : is_loose t ≡ true) where
+      not_freshened : (k : ℕ) (lt : k < n) → is_on_doubtful kept.failing t (Mirror k) ≡ false → (range : Range) (whole : range_of t (Mirror k) ≡ Some range)
+          → (slot off : ℕ) → covers slot off range ≡ true → list_any (covered_at slot off) (mending_writes images kept.failing t) ≡ true → ⊥
+      not_freshened k lt sure range whole slot off c written =
+          by (fresh images kept.failing t) refl
+          (subst (λ b. list_any (covered_at slot off) (cond b (fresh_writes images kept.failing t) (block_writes images t)) ≡ true) loose written)
         where
-          by : (b : Bool) → list_any (covers slot off) ranges ≡ b → list_any (covers slot off) ranges ≡ false
-          by false e = e
-          by true e = absurd (not_written slot off c (for_what slot off e))
+          stale : (o : Option (List ℕ)) → In (Mirror k) (option_map_or (stale_beside images kept.failing t) o []) → is_on_behind kept.failing t (Mirror k) ≡ true
+          stale None i = absurd i
+          stale (Some bytes) i =
+              let p = passing_filter (is_stale images kept.failing t bytes) (Mirror k) (own_parts t) i in
+              (and_parts (is_on_behind kept.failing t (Mirror k)) (not (bytes_eq (element images t (Mirror k)) bytes)) p.1).0
 
-      stays : (left : Images) → KeepsOutside ranges images left → element left t (Mirror k) ≡ element images t (Mirror k)
-      stays left keeps = same_element images left layout ranges t (Mirror k) lengths is keeps
-          (λ slot off c. free slot off (subst (λ o. IsSomeAnd o (λ range. covers slot off range ≡ true)) whole c))
+          by : (o : Option (List ℕ)) → fresh images kept.failing t ≡ o
+              → list_any (covered_at slot off) (option_map_or (λ bytes. copy_writes t bytes (stale_parts images kept.failing t)) o []) ≡ true → ⊥
+          by None e h = false≢true h
+          by (Some bytes) e h =
+              not_over k lt range whole bytes (stale_parts images kept.failing t) (stale_own kept.failing images t)
+              (λ i. false≢true (sym (sure_not_behind kept.failing t (Mirror k) sure) ∙ stale (fresh images kept.failing t) i)) slot off c h
 
-    copies_outlive : (left : Images) → KeepsOutside ranges images left → StandsFor left C t
-    copies_outlive left keeps =
-        let a = in_any (λ part. C t.want ≡ Some (element images t part)) (own_parts t) (had.copies t among (ap is_some has)) in
-        let j = of_mapped Mirror a.0 (range_with_len 0 n) (subst (In a.0) own_are a.1) in
-        let lt = in_below n j.0 j.1 in
-        let right : C t.want ≡ Some (element images t (Mirror j.0)) = a.2 ∙ ap (λ part. Some (element images t part)) (sym j.2) in
-        let given = part_is_given layout t (Mirror j.0) table is (has_mirror t n j.0 has lt) none in
-        let r = some_of (range_of t (Mirror j.0)) given in
-        any_in (λ c. (stands t c ≡ true) × (C t.want ≡ Some (value_of left t c))) (candidates t) (Read (Mirror j.0))
-        (in_candidates t (Read (Mirror j.0)) (subst (In (Read (Mirror j.0))) (sym (with_copies t n has))
-        (in_map (λ copy. Read (Mirror copy)) j.0 (range_with_len 0 n) j.1)))
-        (ap (λ b. b && true) given, right ∙ ap Some (sym (stays j.0 lt right r.0 r.1 left keeps)))
+      fresh_stays : (left : Images) → KeepsOutside ranges images left → fresh left kept.failing t ≡ fresh images kept.failing t
+      fresh_stays left keeps = by (first_trusted kept.failing t) refl
+        where
+          same : (c : Candidate) → IsTrusted kept.failing t c → value_of left t c ≡ value_of images t c
+          same c trusted =
+              let j = of_mapped (λ copy. Read (Mirror copy)) c (range_with_len 0 n) (subst (In c) (with_copies t n has) (in_ways t c trusted.there)) in
+              let lt = in_below n j.0 j.1 in
+              let stand : (is_some (range_of t (Mirror j.0)) && true) ≡ true = ap (stands t) j.2 ∙ trusted.stand in
+              let given = (and_parts (is_some (range_of t (Mirror j.0))) true stand).0 in
+              let r = some_of (range_of t (Mirror j.0)) given in
+              let sure : (is_on_doubtful kept.failing t (Mirror j.0) || false) ≡ false = ap (reads_doubtful kept.failing t) j.2 ∙ trusted.sure in
+              sym (ap (value_of left t) j.2)
+              ∙ stays j.0 lt r.0 r.1 (not_freshened j.0 lt (left_false (is_on_doubtful kept.failing t (Mirror j.0)) false sure) r.0 r.1) left keeps
+              ∙ ap (value_of images t) j.2
+
+          by : (o : Option Candidate) → first_trusted kept.failing t ≡ o → option_map (value_of left t) o ≡ option_map (value_of images t) o
+          by None e = refl
+          by (Some c) e = ap Some (same c (trusted_from kept.failing t c e))
 
   -- ---- all blocks
 
-  pub block_outlives : (left : Images) (t : Target) → In t ts → KeepsOutside ranges images left → StandsFor left C t
-  block_outlives left t among keeps = by (mirrors t.chunk) refl
+  pub block_outlives : (left : Images) (t : Target) → In t ts → is_loose t ≡ false → KeepsOutside ranges images left → StandsFor left C t
+  block_outlives left t among checked keeps = by (mirrors t.chunk) refl
     where
       is : IsSought layout t
       is = let w = of_targets layout t wants among in is_sought layout w.0 t w.2
 
       by : (o : Option ℕ) → mirrors t.chunk ≡ o → StandsFor left C t
       by None parity = row_outlives t among is parity left keeps
-      by (Some n) has = copies_outlive t among is n has left keeps
+      by (Some n) has = copies_outlive t among is n has checked left keeps
+
+  -- ---- all plain sectors with copies
+
+  pub fresh_outlives : (left : Images) (t : Target) → In t ts → is_loose t ≡ true → KeepsOutside ranges images left
+      → fresh left kept.failing t ≡ fresh images kept.failing t
+  fresh_outlives left t among loose keeps = by (mirrors t.chunk) refl
+    where
+      is : IsSought layout t
+      is = let w = of_targets layout t wants among in is_sought layout w.0 t w.2
+
+      by : (o : Option ℕ) → mirrors t.chunk ≡ o → fresh left kept.failing t ≡ fresh images kept.failing t
+      by None parity = absurd (false≢true (sym (checked_there t parity) ∙ loose))
+      by (Some n) has = fresh_stays t among is n has loose left keeps

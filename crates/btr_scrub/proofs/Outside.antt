@@ -9,7 +9,7 @@ use Rattle.btr_scrub_copies.specs.declared.mended.MendFault.{MendFault}
 use Rattle.btr_scrub.specs.Leaves.{KeepsOutside}
 use Rattle.btr_scrub.specs.Repair.{covers}
 use Rattle.btr_scrub.specs.Scrubbing.{chunk_writes_for}
-use Rattle.btr_scrub.specs.Whole.{WorksKeepTheRest, listed_columns, listed_writes_for}
+use Rattle.btr_scrub.specs.Whole.{WorksKeepTheRest, listed_doubts, listed_writes_for}
 use Rattle.btr_scrub.proofs.AcrossChunks.{chunk_short, flat_short}
 use Rattle.btr_scrub.proofs.Lists.{at_in}
 use Rattle.btr_scrub.proofs.Shorts.{Short, one_short, shorts_keep, shorts_keep_if}
@@ -80,7 +80,7 @@ pub works_keep_the_rest : WorksKeepTheRest
 works_keep_the_rest layout write wants plain count old new t u result images left table own given lengths held is h = by result h.does.held
   where
     shorts : All (Short images) (listed_writes_for layout wants plain images)
-    shorts = flat_short images (λ c. chunk_writes_for (listed_columns layout wants plain images) layout c wants images) layout.chunks (λ c i. let j = at_in c layout.chunks i in chunk_short (listed_columns layout wants plain images) layout table own given j.0 c j.1 wants images lengths)
+    shorts = flat_short images (λ c. chunk_writes_for (listed_doubts layout wants plain images) layout c wants images) layout.chunks (λ c i. let j = at_in c layout.chunks i in chunk_short (listed_doubts layout wants plain images) layout table own given j.0 c j.1 wants images lengths)
 
     by : (r : Result (Unit {0}) MendFault) → Leaves (λ images. writes_if write (listed_writes_for layout wants plain images)) old.held new.held r
         → KeepsOutside (ranges (listed_writes_for layout wants plain images)) images left

@@ -1,20 +1,23 @@
--- A place in a list of checked blocks.
-use Rattle.std.proofs.Common.{◌≡◌, ◌≢◌, ℕ, zero, suc, ◌+◌, ◌-◌, ◌*◌, ◌^◌, ◌<◌, ◌≤◌, List, [], ◌∷◌, ◌++◌, length, drop, slice_get, Option, Some, None, refl, sym}
-use Rattle.std.proofs.Common.{ap, ◌∙◌, subst, arith}
+-- A place in a list of blocks.
+use Rattle.std.proofs.Common.{◌≡◌, ◌≢◌, ℕ, zero, suc, ◌+◌, ◌-◌, ◌*◌, ◌^◌, ◌<◌, ◌≤◌, List, [], ◌∷◌, ◌++◌, length, drop, slice_get, Option, Some, None, true, refl, sym}
+use Rattle.std.proofs.Common.{ap, ◌∙◌, append_assoc, subst, inl, inr, arith}
 use Rattle.std.proofs.Math.Nat.{suc-mul}
 use Rattle.std.proofs.lemmas.List.{drop-drop, length-drop}
 use Rattle.std.proofs.lemmas.Option.{same_Some}
 use Rattle.btr_base.specs.Sum.{sum_size, stored_sum}
 use Rattle.btr_base.specs.declared.kind.SumKind.{SumKind}
 use Rattle.btr_base.specs.declared.kind.SumKind.TheVariants.{Crc32c, Sha256, Xxh64}
+use Rattle.btr_read.specs.Fate.{is_plain}
+use Rattle.btr_read.specs.Want.{addr_of}
 use Rattle.btr_read.specs.declared.want.Want.{Want}
-use Rattle.btr_read.specs.declared.want.Want.TheVariants.{Tree, Sector}
+use Rattle.btr_read.specs.declared.want.Want.TheVariants.{Plain, Tree, Sector}
 use Rattle.btr_scrub.specs.declared.run.Run.{Run}
 use Rattle.btr_scrub.specs.declared.run.RunKind.{RunKind}
-use Rattle.btr_scrub.specs.declared.run.RunKind.TheVariants.{TreeBlock, Sectors}
+use Rattle.btr_scrub.specs.declared.run.RunKind.TheVariants.{TreeBlock, Sectors, Unsummed}
 use Rattle.btr_scrub.specs.declared.run.TreeMark.{TreeMark}
-use Rattle.btr_scrub.specs.Listed.{AreRuns, Gives, IsPast, IsPlace, IsRun, Kept, StandsIn, all_sectors, all_trees, left_in, run_left, run_wants, sectors_from}
-use Rattle.btr_scrub.specs.Listed.{sectors_of, trees_of, wants_left, wants_of}
+use Rattle.btr_scrub.specs.Glue.{In}
+use Rattle.btr_scrub.specs.Listed.{AreRuns, Gives, IsPast, IsPlace, IsRun, Kept, StandsIn, all_sectors, all_trees, first_past, left_in, plains_from, plains_of}
+use Rattle.btr_scrub.specs.Listed.{run_left, run_wants, sectors_from, sectors_of, sums_past, trees_of, wants_left, wants_of}
 use Rattle.btr_scrub.proofs.Listing.{times_sum}
 
 -- a list from a place on
@@ -39,6 +42,10 @@ module _ (kind : SumKind) where
       let here : addr + 0 * 4096 ≡ addr = omega arith in
       let all : n - 0 ≡ n = omega arith in
       ap (λ a. sectors_from kind a (n - 0) sums) here ∙ ap (λ m. sectors_from kind addr m sums) all
+  run_start addr (Unsummed n) sums ms =
+      let here : addr + 0 * 4096 ≡ addr = omega arith in
+      let all : n - 0 ≡ n = omega arith in
+      ap (λ a. plains_from a (n - 0)) here ∙ ap (plains_from addr) all
 
   -- nothing of the first run is past
   pub left_start : (runs : List Run) (sums : List ℕ) (ms : List TreeMark) → wants_left kind runs 0 sums ms ≡ wants_of kind runs sums ms
@@ -53,9 +60,23 @@ module _ (kind : SumKind) where
   past_none [] h = refl
   past_none (run ∷ runs) h = by run.addr run.kind h.0
     where
-      by : (addr : ℕ) (k : RunKind) → IsRun addr k → 0 + 1 ≤ sectors_of k + trees_of k
+      by : (addr : ℕ) (k : RunKind) → IsRun addr k → 0 + 1 ≤ sectors_of k + trees_of k + plains_of k
       by addr TreeBlock h = omega arith
       by addr (Sectors n) h = omega (arith, h.0)
+      by addr (Unsummed n) h = omega (arith, h.0)
+
+  -- nor any of its checksums
+  first_none : (runs : List Run) → first_past runs 0 ≡ 0
+  first_none [] = refl
+  first_none (run ∷ runs) = by run.kind
+    where
+      by : (k : RunKind) → sums_past k 0 ≡ 0
+      by TreeBlock = refl
+      by (Sectors n) = refl
+      by (Unsummed n) = refl
+
+  none_past : (runs : List Run) → first_past runs 0 * sum_size kind ≡ 0
+  none_past runs = ap (λ n. n * sum_size kind) (first_none runs) ∙ omega arith
 
   module _ (run : Run) (runs : List Run) (past : ℕ) (sums : List ℕ) where
     -- the first run is a tree block
@@ -66,7 +87,10 @@ module _ (kind : SumKind) where
         let size = sum_size kind in
         let none : sectors_of run.kind ≡ 0 = ap sectors_of e in
         let one : trees_of run.kind ≡ 1 = ap trees_of e in
-        let zero_past : past ≡ 0 = omega (arith, none, one, p.is_past) in
+        let no_plain : plains_of run.kind ≡ 0 = ap plains_of e in
+        let zero_past : past ≡ 0 = omega (arith, none, one, no_plain, p.is_past) in
+        let no_sum : sums_past run.kind past * size ≡ 0 = ap (λ k. sums_past k past * size) e ∙ omega arith in
+        let no_first : first_past runs past * size ≡ 0 = ap (λ n. first_past runs n * size) zero_past ∙ none_past runs in
         let no_bytes : (0 - past) * size ≡ 0 = let h : 0 - past ≡ 0 = omega arith in ap (λ n. n * size) h ∙ omega arith in
         let left : wants_left kind (run ∷ runs) past sums (mark ∷ ms) ≡ Tree run.addr mark.generation mark.level ∷ wants_of kind runs sums ms =
         ap (λ k. run_left kind run.addr k past sums (mark ∷ ms)
@@ -78,7 +102,7 @@ module _ (kind : SumKind) where
           record {
             is_past = subst (IsPast runs) (sym zero_past) (past_none runs p.runs_fit.1);
             runs_fit = p.runs_fit.1;
-            sums_fit = p.sums_fit ∙ ap (λ n. n * size) count;
+            sums_fit = omega (arith, p.sums_fit, no_sum, no_first, ap (λ n. n * size) count);
             marks_fit = omega (arith, p.marks_fit, one);
           },
         )
@@ -86,13 +110,18 @@ module _ (kind : SumKind) where
     -- it has so many sectors
     module _ (n : ℕ) (ms : List TreeMark) (e : run.kind ≡ Sectors n) (p : IsPlace kind (run ∷ runs) past sums ms) where
       pub one_left : past + 1 ≤ n
-      one_left = let a : sectors_of run.kind ≡ n = ap sectors_of e in let b : trees_of run.kind ≡ 0 = ap trees_of e in omega (arith, a, b, p.is_past)
+      one_left =
+          let a : sectors_of run.kind ≡ n = ap sectors_of e in
+          let b : trees_of run.kind ≡ 0 = ap trees_of e in
+          let c : plains_of run.kind ≡ 0 = ap plains_of e in
+          omega (arith, a, b, c, p.is_past)
 
       pub in_range : run.addr + past * 4096 < 2 ^ 64
       in_range = let h = subst (IsRun run.addr) e p.runs_fit.0 in omega (arith, one_left, h.1)
 
       counted : length sums + past * sum_size kind ≡ n * sum_size kind + all_sectors runs * sum_size kind
-      counted = p.sums_fit ∙ ap (λ k. (sectors_of k + all_sectors runs) * sum_size kind) e ∙ times_sum n (all_sectors runs) (sum_size kind)
+      counted = ap (λ k. length sums + sums_past k past * sum_size kind) (sym e) ∙ p.sums_fit
+          ∙ ap (λ k. (sectors_of k + all_sectors runs) * sum_size kind) e ∙ times_sum n (all_sectors runs) (sum_size kind)
 
       -- what stands of n sectors behind `past` of them
       split : n * sum_size kind ≡ past * sum_size kind + (sum_size kind + (n - (past + 1)) * sum_size kind)
@@ -142,7 +171,7 @@ module _ (kind : SumKind) where
             record {
               is_past = past_none runs p.runs_fit.1;
               runs_fit = p.runs_fit.1;
-              sums_fit = omega (arith, counted, split, long, zeros, no_bytes);
+              sums_fit = omega (arith, counted, split, long, zeros, none_past runs);
               marks_fit = marks_left;
             },
           )
@@ -164,10 +193,111 @@ module _ (kind : SumKind) where
             record {
               is_past = omega (arith, less, a);
               runs_fit = p.runs_fit;
-              sums_fit = omega (arith, counted, split, long, times) ∙ sym all;
+              sums_fit = ap (λ k. length (drop size sums) + sums_past k (past + 1) * size) e ∙ omega (arith, counted, split, long, times) ∙ sym all;
               marks_fit = p.marks_fit;
             },
           )
+
+-- sectors without a checksum, in two parts
+plains_split : (d m addr : ℕ) → plains_from addr (d + m) ≡ plains_from addr d ++ plains_from (addr + d * 4096) m
+plains_split zero m addr =
+    let none : 0 + m ≡ m = omega arith in
+    let here : addr ≡ addr + 0 * 4096 = omega arith in
+    ap (plains_from addr) none ∙ ap (λ a. plains_from a m) here
+plains_split (suc d) m addr =
+    let behind : addr + 4096 + d * 4096 ≡ addr + suc d * 4096 = omega arith in
+    let more : suc d + m ≡ suc (d + m) = omega arith in
+    ap (plains_from addr) more ∙ ap (λ ws. Plain addr ∷ ws) (plains_split d m (addr + 4096)) ∙ ap (λ a. Plain addr ∷ (plains_from (addr + 4096) d ++ plains_from a m)) behind
+
+-- the first run has sectors without a checksum, of which d more are past
+module _ (kind : SumKind) (run : Run) (runs : List Run) (past : ℕ) (sums : List ℕ) (n : ℕ) (ms : List TreeMark) (e : run.kind ≡ Unsummed n) (p : IsPlace kind (run ∷ runs) past sums ms) where
+  plain_left : past + 1 ≤ n
+  plain_left =
+      let a : sectors_of run.kind ≡ 0 = ap sectors_of e in
+      let b : trees_of run.kind ≡ 0 = ap trees_of e in
+      let c : plains_of run.kind ≡ n = ap plains_of e in
+      omega (arith, a, b, c, p.is_past)
+
+  plain_in_range : run.addr + past * 4096 < 2 ^ 64
+  plain_in_range = let h = subst (IsRun run.addr) e p.runs_fit.0 in omega (arith, plain_left, h.1)
+
+  sums_left : length sums ≡ all_sectors runs * sum_size kind
+  sums_left =
+      let size = sum_size kind in
+      let none : sums_past run.kind past * size ≡ 0 = ap (λ k. sums_past k past * size) e ∙ omega arith in
+      let all : all_sectors (run ∷ runs) ≡ all_sectors runs = ap (λ k. sectors_of k + all_sectors runs) e ∙ omega arith in
+      omega (arith, p.sums_fit, none, ap (λ k. k * size) all)
+
+  marks_kept : length ms ≡ all_trees runs
+  marks_kept = let b : trees_of run.kind ≡ 0 = ap trees_of e in omega (arith, b, p.marks_fit)
+
+  behind_run : wants_of kind runs (drop ((sectors_of run.kind - past) * sum_size kind) sums) (drop (trees_of run.kind) ms) ≡ wants_of kind runs sums ms
+  behind_run =
+      let none : 0 - past ≡ 0 = omega arith in
+      let no_bytes : (0 - past) * sum_size kind ≡ 0 = ap (λ q. q * sum_size kind) none ∙ omega arith in
+      ap (λ k. wants_of kind runs (drop ((sectors_of k - past) * sum_size kind) sums) (drop (trees_of k) ms)) e
+      ∙ ap (λ q. wants_of kind runs (drop q sums) ms) no_bytes
+
+  plains_here : wants_left kind (run ∷ runs) past sums ms ≡ plains_from (run.addr + past * 4096) (n - past) ++ wants_of kind runs sums ms
+  plains_here = ap (λ ws. run_left kind run.addr run.kind past sums ms ++ ws) behind_run ∙ ap (λ k. run_left kind run.addr k past sums ms ++ wants_of kind runs sums ms) e
+
+  -- all that it has
+  plain_last : (d : ℕ) → past + d ≡ n
+      → (wants_left kind (run ∷ runs) past sums ms ≡ plains_from (run.addr + past * 4096) d ++ wants_left kind runs 0 sums ms) × IsPlace kind runs 0 sums ms
+  plain_last d h =
+      let all : n - past ≡ d = omega (arith, h) in (
+        plains_here ∙ ap (λ q. plains_from (run.addr + past * 4096) q ++ wants_of kind runs sums ms) all
+            ∙ ap (λ ws. plains_from (run.addr + past * 4096) d ++ ws) (sym (left_start kind runs sums ms)),
+        record {
+          is_past = past_none kind runs p.runs_fit.1;
+          runs_fit = p.runs_fit.1;
+          sums_fit = omega (arith, sums_left, none_past kind runs);
+          marks_fit = marks_kept;
+        },
+      )
+
+  -- some of it
+  plain_next : (d : ℕ) → past + d < n
+      → (wants_left kind (run ∷ runs) past sums ms ≡ plains_from (run.addr + past * 4096) d ++ wants_left kind (run ∷ runs) (past + d) sums ms)
+      × IsPlace kind (run ∷ runs) (past + d) sums ms
+  plain_next d h =
+      let rest = n - (past + d) in
+      let all : n - past ≡ d + rest = omega (arith, h) in
+      let there : run.addr + past * 4096 + d * 4096 ≡ run.addr + (past + d) * 4096 = omega arith in
+      let c : plains_of run.kind ≡ n = ap plains_of e in
+      let place : IsPlace kind (run ∷ runs) (past + d) sums ms = record {
+        is_past = omega (arith, h, c);
+        runs_fit = p.runs_fit;
+        sums_fit = ap (λ k. length sums + sums_past k (past + d) * sum_size kind) e ∙ sym (ap (λ k. length sums + sums_past k past * sum_size kind) e) ∙ p.sums_fit;
+        marks_fit = p.marks_fit;
+      } in (
+        plains_here ∙ ap (λ q. plains_from (run.addr + past * 4096) q ++ wants_of kind runs sums ms) all
+            ∙ ap (λ ws. ws ++ wants_of kind runs sums ms) (plains_split d rest (run.addr + past * 4096))
+            ∙ append_assoc (plains_from (run.addr + past * 4096) d) (plains_from (run.addr + past * 4096 + d * 4096) rest) (wants_of kind runs sums ms)
+            ∙ ap (λ a. plains_from (run.addr + past * 4096) d ++ (plains_from a rest ++ wants_of kind runs sums ms)) there
+            ∙ ap (λ ws. plains_from (run.addr + past * 4096) d ++ ws) (sym later),
+        place,
+      )
+    where
+      later : wants_left kind (run ∷ runs) (past + d) sums ms ≡ plains_from (run.addr + (past + d) * 4096) (n - (past + d)) ++ wants_of kind runs sums ms
+      later =
+          let none : 0 - (past + d) ≡ 0 = omega arith in
+          let no_bytes : (0 - (past + d)) * sum_size kind ≡ 0 = ap (λ q. q * sum_size kind) none ∙ omega arith in
+          ap (λ k. run_left kind run.addr k (past + d) sums ms
+          ++ wants_of kind runs (drop ((sectors_of k - (past + d)) * sum_size kind) sums) (drop (trees_of k) ms)) e
+          ∙ ap (λ q. plains_from (run.addr + (past + d) * 4096) (n - (past + d)) ++ wants_of kind runs (drop q sums) ms) no_bytes
+
+-- sectors without a checksum make no test
+pub all_plain : (d addr : ℕ) (want : Want) → In want (plains_from addr d) → is_plain want ≡ true
+all_plain zero addr want i = absurd i
+all_plain (suc d) addr want (inl e) = ap is_plain (sym e)
+all_plain (suc d) addr want (inr i) = all_plain d (addr + 4096) want i
+
+-- they begin before an address where the last one does
+pub all_below : (d addr end : ℕ) (want : Want) → ((i : ℕ) → i < d → addr + i * 4096 < end) → In want (plains_from addr d) → addr_of want < end
+all_below zero addr end want h i = absurd i
+all_below (suc d) addr end want h (inl e) = let here = h 0 (omega arith) in subst (λ w. addr_of w < end) e (omega (arith, here))
+all_below (suc d) addr end want h (inr i) = all_below d (addr + 4096) end want (λ k lt. let there = h (suc k) (omega (arith, lt)) in omega (arith, there)) i
 
 size_some : (kind : SumKind) → 4 ≤ sum_size kind
 size_some Crc32c = omega arith
@@ -241,6 +371,42 @@ module _ (kept : Kept) (run past sum mark : ℕ) where
             subst (λ q. IsPlace kept.kind q (past + 1) (drop (sum + size) kept.sums) (drop mark kept.marks)) (sym runs_are)
                 (subst (λ q. IsPlace kept.kind (r ∷ drop (run + 1) kept.runs) (past + 1) q (drop mark kept.marks)) bytes t.1),
           )
+
+-- a reader that stands in a run of sectors without a checksum
+module _ (kept : Kept) (run past sum mark : ℕ) (stands : StandsIn kept run past sum mark) (r : Run) (there : slice_get kept.runs run ≡ Some r) (n : ℕ) (e : r.kind ≡ Unsummed n) where
+  abbrev behind : List Run
+  behind = drop (run + 1) kept.runs
+
+  abbrev bytes : List ℕ
+  bytes = drop sum kept.sums
+
+  abbrev notes : List TreeMark
+  notes = drop mark kept.marks
+
+  at_place : IsPlace kept.kind (r ∷ behind) past bytes notes
+  at_place = subst (λ q. IsPlace kept.kind q past bytes notes) (drop_some kept.runs run r there) stands
+
+  pub one_plain : past + 1 ≤ n
+  one_plain = plain_left kept.kind r behind past bytes n notes e at_place
+
+  pub plain_fits : r.addr + past * 4096 < 2 ^ 64
+  plain_fits = plain_in_range kept.kind r behind past bytes n notes e at_place
+
+  pub at_plain_last : (d : ℕ) → past + d ≡ n
+      → (left_in kept run past sum mark ≡ plains_from (r.addr + past * 4096) d ++ left_in kept (run + 1) 0 sum mark) × StandsIn kept (run + 1) 0 sum mark
+  at_plain_last d h =
+      let t = plain_last kept.kind r behind past bytes n notes e at_place d h in
+      (ap (λ q. wants_left kept.kind q past bytes notes) (drop_some kept.runs run r there) ∙ t.0, t.1)
+
+  pub at_plain_next : (d : ℕ) → past + d < n
+      → (left_in kept run past sum mark ≡ plains_from (r.addr + past * 4096) d ++ left_in kept run (past + d) sum mark) × StandsIn kept run (past + d) sum mark
+  at_plain_next d h =
+      let is = drop_some kept.runs run r there in
+      let t = plain_next kept.kind r behind past bytes n notes e at_place d h in (
+        ap (λ q. wants_left kept.kind q past bytes notes) is ∙ t.0
+            ∙ ap (λ q. plains_from (r.addr + past * 4096) d ++ wants_left kept.kind q (past + d) bytes notes) (sym is),
+        subst (λ q. IsPlace kept.kind q (past + d) bytes notes) (sym is) t.1,
+      )
 
 pub gives_end : (old : List Want) (result : Option Want) → old ≡ [] → result ≡ None → Gives old result old
 gives_end old result e is = subst (λ r. Gives old r old) (sym is) (e, e)

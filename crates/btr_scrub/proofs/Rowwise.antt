@@ -35,9 +35,9 @@ use Rattle.btr_scrub.proofs.RowNumbers.{tail_apart}
 use Rattle.btr_scrub.proofs.NextRow.{IsNextRow, counts_row, counts_with, mine_is, more_counts, more_rows, unmoved_row, writes_with}
 use Rattle.btr_scrub.proofs.Positions.{is_sought}
 use Rattle.btr_scrub.proofs.Scrubbing.{scrubs_as, scrubs_cut, scrubs_none, scrubs_nothing, scrubs_then}
-use Rattle.btr_scrub.specs.Plain.{KeptColumns}
+use Rattle.btr_scrub.specs.Plain.{Doubts}
 
-module _ (kept : KeptColumns) (layout : Layout) (table : IsTable layout.chunks) (own : HaveOwnSlots layout.devices) (given : first_missing layout ≡ None) (number : ℕ) (chunk : Chunk) (there : slice_get layout.chunks number ≡ Some chunk) (parity : mirrors chunk ≡ None) (wants : List Want) where
+module _ (kept : Doubts) (layout : Layout) (table : IsTable layout.chunks) (own : HaveOwnSlots layout.devices) (given : first_missing layout ≡ None) (number : ℕ) (chunk : Chunk) (there : slice_get layout.chunks number ≡ Some chunk) (parity : mirrors chunk ≡ None) (wants : List Want) where
   -- the rows below q were mended; what is left lies in later rows, or in later chunks
   pub record RowsUnderway (write : Bool) (left : List Want) (m m' : List Bool) (a b : Seen) (tally tally' : Tally) : Type 0 where
     pub past : List Want

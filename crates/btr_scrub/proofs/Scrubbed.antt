@@ -28,12 +28,12 @@ use Rattle.btr_scrub_copies.specs.Turns.{waiting}
 use Rattle.btr_scrub_copies.proofs.Doing.{stopped_first}
 use Rattle.btr_scrub_copies.proofs.Turning.{read_at}
 use Rattle.btr_scrub.specs.Devices.{HaveLengths}
-use Rattle.btr_scrub.specs.Gathering.{StopCause, checked_among, count_met, stop_halt}
+use Rattle.btr_scrub.specs.Gathering.{StopCause, wants_among, count_met, stop_halt}
 use Rattle.btr_scrub.specs.Leaves.{KeepsOutside}
 use Rattle.btr_scrub.specs.Plain.{plain_among}
 use Rattle.btr_scrub.specs.Repair.{Effect, blocks, devid_of, effect, effect_of_ending, effect_unless, first_missing, meeting, stood_tally, stop_of, tally}
 use Rattle.btr_scrub.specs.Repair.{writes}
-use Rattle.btr_scrub.specs.Right.{AreBytes, Committed, IsRepairable, RangesLieInWrong, RangesMayHoldAnything, StandsFor}
+use Rattle.btr_scrub.specs.Right.{AreBytes, Committed, IsRepairable, RangesLeaveFresh, RangesLieInWrong, RangesMayHoldAnything, StandsFor}
 use Rattle.btr_scrub.specs.Scrubbed.{AnswersAs, Called, HasEffect, IsImageFault, IsLeftBy, IsSafe, IsScrubbed, IsSure, OfImages, ReadsAt}
 use Rattle.btr_scrub_copies.specs.Syncing.{plain}
 use Rattle.btr_scrub.specs.Scrubbing.{IsOfScrub, Works}
@@ -42,7 +42,7 @@ use Rattle.btr_scrub.specs.Whole.{Goes, Listed, Listing, Refused, ScrubsAll, Sto
 use Rattle.btr_scrub.specs.declared.tally.Tally.{Tally}
 use Rattle.btr_scrub.proofs.Outside.{works_keep_the_rest}
 use Rattle.btr_scrub.proofs.Pasting.{keeps_none}
-use Rattle.btr_scrub.proofs.Safe.{lie_in_wrong, may_hold_anything}
+use Rattle.btr_scrub.proofs.Safe.{leave_fresh, lie_in_wrong, may_hold_anything}
 use Rattle.btr_scrub.proofs.Scrubbing.{tell, told}
 use Rattle.btr_scrub.proofs.Tallying.{listed_counts}
 use Rattle.btr_scrub.proofs.Told.{listed_writes}
@@ -207,11 +207,11 @@ module _ (c : Called) where
         (lengths : (images : Images) → c.old.held ≡ Some images → HaveLengths images layout) (mid : Seen) (reads : OnlyReads c.old mid) (done : List Met)
         (tells : Tells layout c.old mid (λ B. Follows (unread_by layout c.old mid) no_part [] (exec B (units_in c.fs.sup layout.chunks)) done
         (Ok tt))) (tally' : Tally) (ended : Result (Unit {0}) MendFault)
-        (works : Works layout c.write (listed_writes_for layout (checked_among done) (plain_among done))
-        (listed_count_for layout c.write (checked_among done) (plain_among done)) mid c.new (first_tally (fold count_met 0 done)) tally' ended)
+        (works : Works layout c.write (listed_writes_for layout (wants_among done) (plain_among done))
+        (listed_count_for layout c.write (wants_among done) (plain_among done)) mid c.new (first_tally (fold count_met 0 done)) tally' ended)
         (says : c.result ≡ answer_of ended tally') where
       abbrev ws : Images → List Write
-      ws images = listed_writes_for layout (checked_among done) (plain_among done) images
+      ws images = listed_writes_for layout (wants_among done) (plain_among done) images
 
       abbrev Done : Images → Type 0
       Done images = Follows (unread_by layout c.old mid) no_part [] (exec (fate images layout) (units_in c.fs.sup layout.chunks)) done (Ok tt)
@@ -224,7 +224,7 @@ module _ (c : Called) where
       mid_held images e = ap (λ (s : Seen). s.held) reads.same ∙ e
 
       writes_are : (images : Images) → Done images → ws images ≡ writes images c.fs
-      writes_are images d = ap (λ m. listed_writes_for layout (checked_among m) (plain_among m) images) d.0 ∙ listed_writes images c.fs
+      writes_are images d = ap (λ m. listed_writes_for layout (wants_among m) (plain_among m) images) d.0 ∙ listed_writes images c.fs
 
       effect_ok : (images : Images) → Done images → effect c.write images c.fs ≡ effect_of_ending c.write images c.fs (Ok tt)
       effect_ok images d = effect_is images (Ok tt) d.1
@@ -246,11 +246,11 @@ module _ (c : Called) where
 
           tally_is : tally' ≡ stood_tally (tally images c.fs c.write)
           tally_is =
-              told mid.held (λ i. tally' ≡ listed_count_for layout c.write (checked_among done) (plain_among done) i
+              told mid.held (λ i. tally' ≡ listed_count_for layout c.write (wants_among done) (plain_among done) i
               (first_tally (fold count_met 0 done))) images (mid_held images e)
               (subst (λ r. OnOk r (IfSome mid.held (λ i. tally'
-              ≡ listed_count_for layout c.write (checked_among done) (plain_among done) i (first_tally (fold count_met 0 done))))) is works.counts)
-              ∙ ap (λ m. listed_count_for layout c.write (checked_among m) (plain_among m) images (first_tally (fold count_met 0 m))) d.0
+              ≡ listed_count_for layout c.write (wants_among done) (plain_among done) i (first_tally (fold count_met 0 done))))) is works.counts)
+              ∙ ap (λ m. listed_count_for layout c.write (wants_among m) (plain_among m) images (first_tally (fold count_met 0 m))) d.0
               ∙ listed_counts images c.fs c.write table
 
           all_done : HasEffect c images left
@@ -278,8 +278,8 @@ module _ (c : Called) where
             by : (b : Bool) → c.write ≡ b → KeepsOutside (map (λ (w : Write). w.range) (writes_if c.write (ws images))) images left
             by true w =
                 subst (λ b. KeepsOutside (map (λ (w : Write). w.range) (writes_if b (ws images))) images left) (sym w)
-                (works_keep_the_rest layout c.write (checked_among done) (plain_among done)
-                (listed_count_for layout c.write (checked_among done) (plain_among done)) mid c.new (first_tally (fold count_met 0 done)) tally'
+                (works_keep_the_rest layout c.write (wants_among done) (plain_among done)
+                (listed_count_for layout c.write (wants_among done) (plain_among done)) mid c.new (first_tally (fold count_met 0 done)) tally'
                 ended images left
                 table own given (lengths images e) (mid_held images e) g works)
             by false w =
@@ -382,6 +382,8 @@ module _ (c : Called) where
     is_safe = record {
       anything = tell c.old.held (λ images. RangesMayHoldAnything images c.fs)
           (λ images e. may_hold_anything images c.fs table own (lengths images e) (bytes images e) node some);
+      fresh = tell c.old.held (λ images. RangesLeaveFresh images c.fs)
+          (λ images e. leave_fresh images c.fs table own (lengths images e) (bytes images e) node some);
       wrong = tell c.old.held (λ images. RangesLieInWrong images c.fs)
           (λ images e. lie_in_wrong images c.fs table own (lengths images e) (bytes images e) node some);
       left = λ sure. of_images c (λ images left. (C : Committed) → IsRepairable images c.fs C → All (StandsFor left C) (blocks images c.fs))

@@ -4,7 +4,7 @@ use Rattle.std.proofs.Common.{ap, ◌∙◌, subst, inl, inr, arith}
 use Rattle.std.proofs.lemmas.Bool.{false≢true}
 use Rattle.std.proofs.lemmas.Option.{same_Some}
 use Rattle.std.specs.List.{count_by, fold}
-use Rattle.btr_rack.specs.Rack.{Seen}
+use Rattle.btr_rack.specs.Rack.{OnlyReads, Seen}
 use Rattle.btr_rack.specs.declared.place.Place.{Place as Range}
 use Rattle.btr_rack.proofs.Reading.{reads_more}
 use Rattle.btr_read.specs.Layout.{Layout}
@@ -12,8 +12,7 @@ use Rattle.btr_chunk.specs.Table.{IsTable}
 use Rattle.btr_read.specs.Candidates.{Target}
 use Rattle.btr_read.specs.Serves.{Serves}
 use Rattle.btr_read.specs.Store.{Blocks, SameLoans}
-use Rattle.btr_scrub_copies.specs.Blocks.{block_writes}
-use Rattle.btr_scrub_copies.specs.Mending.{IsOfCopy, Mends, mended_of}
+use Rattle.btr_scrub_copies.specs.Mending.{IsOfCopy}
 use Rattle.btr_scrub_copies.specs.declared.mended.Mended.{Mended}
 use Rattle.btr_scrub_copies.specs.Writes.{AccountsMend, AreWritable, Does, Images, In, Leaves, Write, writes_if, write_on}
 use Rattle.btr_scrub_copies.specs.declared.mended.MendFault.{MendFault}
@@ -24,7 +23,7 @@ use Rattle.btr_scrub_copies.proofs.Doing.{does_as, does_as_halt, does_failed, do
 use Rattle.btr_scrub_copies.proofs.Turning.{does_plain, marked_after, same_never, strands_none, strands_same, waits_at}
 use Rattle.btr_scrub.specs.Leaves.{LiesInStripe}
 use Rattle.btr_scrub.specs.Repair.{first_missing}
-use Rattle.btr_scrub.specs.Scrubbing.{CanMend, IsOfScrub, Scrubs, count_block, counted}
+use Rattle.btr_scrub.specs.Scrubbing.{CanMend, IsOfScrub, Scrubs}
 use Rattle.btr_scrub.specs.declared.tally.Tally.{Tally}
 
 none_some : {X : Type 0} (x : X) → None ≡ Some x → ⊥
@@ -227,40 +226,42 @@ scrubs_nothing layout write marks a t = record {
   unwritten = λ w. record { same = refl; later = omega arith; same_shut = refl };
 }
 
--- ---- a block
+-- ---- a block or a plain sector
 
--- what was done for a block by its copies, and counted
-module _ (layout : Layout) (write : Bool) (t : Target) (m n : List Bool) (a b : Seen) (in_stripe : (range : Range) → IsOfCopy t range → LiesInStripe layout range) where
+-- what was done for it by its copies, and counted
+module _ (layout : Layout) (write : Bool) (t : Target) (f : Images → List Write) (count : Images → Mended) (into : Tally → Mended → Tally) (m n : List Bool) (a b : Seen) (in_stripe : (range : Range) → IsOfCopy t range → LiesInStripe layout range) where
   abbrev the_writes : Images → List Write
-  the_writes images = writes_if write (block_writes images t)
+  the_writes images = writes_if write (f images)
 
   abbrev in_scrub : (range : Range) → IsOfCopy t range → IsOfScrub layout range
   in_scrub range of = inr (in_stripe range of)
 
-  pub scrubs_block : (tally tally' : Tally) (mended : Mended) → Mends t write m n a b (Ok mended) → tally' ≡ counted tally mended
-      → Scrubs {A = Unit {0}} layout write (λ images. block_writes images t) (λ images tally. count_block images write tally t) m n a b tally tally' (Ok tt)
-  scrubs_block tally tally' mended h e = record {
+  pub scrubs_one : (tally tally' : Tally) (mended : Mended) → Does (IsOfCopy t) the_writes m n a b (Ok mended)
+      → IfSome a.held (λ images. mended ≡ count images) → (write ≡ false → OnlyReads a b) → tally' ≡ into tally mended
+      → Scrubs {A = Unit {0}} layout write f (λ images tally. into tally (count images)) m n a b tally tally' (Ok tt)
+  scrubs_one tally tally' mended does counts unwritten e = record {
     does = does_value (IsOfScrub layout) the_writes [] [] (plain a) (plain b) mended tt
-        (does_plain (IsOfCopy t) (IsOfScrub layout) the_writes m n a b (Ok mended) in_scrub h.does);
-    waits = waits_weaker (IsOfCopy t) (LiesInStripe layout) a b in_stripe (waits_at (IsOfCopy t) the_writes m n a b (Ok mended) h.does);
-    marked = marked_after (IsOfCopy t) the_writes m n a b (Ok mended) h.does;
-    stranded = strands_none {A = Unit {0}} (Ok tt) a.never_synced b.never_synced (same_never (IsOfCopy t) the_writes m n a b (Ok mended) h.does);
-    counts = tell a.held (λ images. tally' ≡ count_block images write tally t)
-        (λ images held. e ∙ ap (counted tally) (told a.held (λ images. mended ≡ mended_of images t write) images held h.counts));
-    unwritten = h.unwritten;
+        (does_plain (IsOfCopy t) (IsOfScrub layout) the_writes m n a b (Ok mended) in_scrub does);
+    waits = waits_weaker (IsOfCopy t) (LiesInStripe layout) a b in_stripe (waits_at (IsOfCopy t) the_writes m n a b (Ok mended) does);
+    marked = marked_after (IsOfCopy t) the_writes m n a b (Ok mended) does;
+    stranded = strands_none {A = Unit {0}} (Ok tt) a.never_synced b.never_synced (same_never (IsOfCopy t) the_writes m n a b (Ok mended) does);
+    counts = tell a.held (λ images. tally' ≡ into tally (count images))
+        (λ images held. e ∙ ap (into tally) (told a.held (λ images. mended ≡ count images) images held counts));
+    unwritten = unwritten;
   }
 
-  pub scrubs_block_not : (tally : Tally) (fault : MendFault) → Mends t write m n a b (Err fault)
-      → Scrubs {A = Unit {0}} layout write (λ images. block_writes images t) (λ images tally. count_block images write tally t) m n a b tally tally (Err fault)
-  scrubs_block_not tally fault h = record {
+  pub scrubs_not : (tally : Tally) (fault : MendFault) → Does {A = Mended} (IsOfCopy t) the_writes m n a b (Err fault)
+      → (write ≡ false → OnlyReads a b)
+      → Scrubs {A = Unit {0}} layout write f (λ images tally. into tally (count images)) m n a b tally tally (Err fault)
+  scrubs_not tally fault does unwritten = record {
     does = does_fault {A = Mended} {B = Unit {0}} (IsOfScrub layout) the_writes [] [] (plain a) (plain b) fault
-        (does_plain {A = Mended} (IsOfCopy t) (IsOfScrub layout) the_writes m n a b (Err fault) in_scrub h.does);
-    waits = waits_weaker (IsOfCopy t) (LiesInStripe layout) a b in_stripe (waits_at {A = Mended} (IsOfCopy t) the_writes m n a b (Err fault) h.does);
-    marked = marked_after {A = Mended} (IsOfCopy t) the_writes m n a b (Err fault) h.does;
+        (does_plain {A = Mended} (IsOfCopy t) (IsOfScrub layout) the_writes m n a b (Err fault) in_scrub does);
+    waits = waits_weaker (IsOfCopy t) (LiesInStripe layout) a b in_stripe (waits_at {A = Mended} (IsOfCopy t) the_writes m n a b (Err fault) does);
+    marked = marked_after {A = Mended} (IsOfCopy t) the_writes m n a b (Err fault) does;
     stranded = strands_none {A = Unit {0}} (Err fault) a.never_synced b.never_synced
-        (same_never {A = Mended} (IsOfCopy t) the_writes m n a b (Err fault) h.does);
+        (same_never {A = Mended} (IsOfCopy t) the_writes m n a b (Err fault) does);
     counts = tt;
-    unwritten = h.unwritten;
+    unwritten = unwritten;
   }
 
 -- ---- what can be mended can be mended again

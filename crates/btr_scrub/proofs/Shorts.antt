@@ -1,6 +1,6 @@
 -- Writes that have at most as many bytes as their ranges change nothing but those.
 use Rattle.std.proofs.Common.{◌≡◌, ◌⊎◌, ℕ, suc, ◌+◌, ◌-◌, ◌<◌, ◌≤◌, Bool, true, false, cond, ◌||◌, List, [], ◌∷◌, map, length, get_or, set, drop, All, Option}
-use Rattle.std.proofs.Common.{Some, None, refl, sym, ap, ◌∙◌, inl, inr, arith, length-take}
+use Rattle.std.proofs.Common.{Some, None, refl, sym, ap, ◌∙◌, subst, inl, inr, arith, length-take}
 use Rattle.std.proofs.lemmas.Bool.{cases_eq, cases_lt}
 use Rattle.std.proofs.lemmas.List.{length-set, get_or-set_same, get_or-set_other, set_past}
 use Rattle.std.proofs.lemmas.List.Elements.{All-cons, All-nil}
@@ -24,7 +24,9 @@ use Rattle.btr_scrub.specs.Glue.{In}
 use Rattle.btr_scrub.specs.Leaves.{KeepsOutside}
 use Rattle.btr_scrub.specs.Order.{IsSought}
 use Rattle.btr_scrub.specs.Repair.{covers}
-use Rattle.btr_scrub.proofs.CopyWrites.{first_of, is_there}
+use Rattle.btr_scrub_copies.specs.Fresh.{Failing, fresh, fresh_writes, stale_parts}
+use Rattle.btr_scrub.specs.Repair.{is_loose, mending_writes}
+use Rattle.btr_scrub.proofs.CopyWrites.{first_of, fresh_from, is_there}
 use Rattle.btr_scrub_row.proofs.Pasted.{length-pasted, pasted-outside}
 use Rattle.btr_scrub.proofs.Pasting.{image_set, keeps_more, keeps_none, not_covered}
 
@@ -149,3 +151,20 @@ module _ (images : Images) (layout : Layout) (lengths : HaveLengths images layou
       by : (o : Option (List ℕ)) → accepted images t ≡ o → All (Short images) (option_map_or (written_over images t) o [])
       by None e = All-nil (Short images)
       by (Some bytes) e = over_short bytes (bad_parts images t) (accepted_short images t bytes e)
+
+  fresh_short : (fails : Failing) → All (Short images) (fresh_writes images fails t)
+  fresh_short fails = by (fresh images fails t) refl
+    where
+      by : (o : Option (List ℕ)) → fresh images fails t ≡ o
+          → All (Short images) (option_map_or (λ bytes. copy_writes t bytes (stale_parts images fails t)) o [])
+      by None e = All-nil (Short images)
+      by (Some bytes) e =
+          let f = fresh_from fails images t bytes e in
+          over_short bytes (stale_parts images fails t) (subst (λ xs. length xs ≤ size_of t) f.value (value_short images t f.way))
+
+  pub site_short : (fails : Failing) → All (Short images) (mending_writes images fails t)
+  site_short fails = by (is_loose t)
+    where
+      by : (b : Bool) → All (Short images) (cond b (fresh_writes images fails t) (block_writes images t))
+      by true = fresh_short fails
+      by false = block_short

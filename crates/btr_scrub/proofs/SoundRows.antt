@@ -1,6 +1,6 @@
 -- The full stripes of a filesystem whose blocks can all be had: their blocks are apart, and what is accepted for them is committed.
-use Rattle.std.proofs.Common.{◌≡◌, ◌≢◌, ◌⊎◌, ℕ, ◌+◌, ◌-◌, ◌*◌, ◌/◌, ◌%◌, ◌≤◌, Bool, true, false, cond, eqb, leb, ltb, List, [], ◌∷◌, length, slice_get, All}
-use Rattle.std.proofs.Common.{Option, Some, None, IsSome, IfSome, Result, Ok, Err, IsOk, refl, sym, ap, ◌∙◌, subst, inl, inr, arith}
+use Rattle.std.proofs.Common.{◌≡◌, ◌≢◌, ◌⊎◌, ℕ, ◌+◌, ◌-◌, ◌*◌, ◌/◌, ◌%◌, ◌≤◌, Bool, true, false, cond, ◌&&◌, eqb, leb, ltb, List, [], ◌∷◌, length, slice_get, All}
+use Rattle.std.proofs.Common.{Option, Some, None, IsSome, is_some, IfSome, Result, Ok, Err, IsOk, refl, sym, ap, ◌∙◌, subst, inl, inr, arith}
 use Rattle.std.proofs.lemmas.Bool.{false≢true, and_parts, eqb-true, leb-true}
 use Rattle.std.proofs.lemmas.Option.{same_Some}
 use Rattle.std.proofs.Math.Nat.{div-add-mod}
@@ -15,7 +15,7 @@ use Rattle.btr_chunk.proofs.Bytes.{IsPosition-position}
 use Rattle.btr_chunk.proofs.Rows.{without_copies}
 use Rattle.btr_parity.specs.Slices.{IsSlice}
 use Rattle.btr_read.specs.Candidates.{Target, element, size_of}
-use Rattle.btr_read.specs.Fate.{Fault, passing, passing_for, sought}
+use Rattle.btr_read.specs.Fate.{Fault, is_plain, passing, passing_for, sought}
 use Rattle.btr_read.specs.Layout.{HaveOwnSlots, Layout}
 use Rattle.btr_read.specs.Want.{addr_of, len_of, passes}
 use Rattle.btr_read.specs.declared.want.Want.{Want}
@@ -27,7 +27,7 @@ use Rattle.btr_scrub_row.specs.Rows.{Row, blocks_at}
 use Rattle.btr_scrub.specs.Devices.{HaveLengths}
 use Rattle.btr_scrub.specs.Glue.{In}
 use Rattle.btr_scrub.specs.Order.{AreApart, IsSought, targets}
-use Rattle.btr_scrub.specs.Repair.{first_missing, is_in_row, ok_or_none, row_of, rows_in}
+use Rattle.btr_scrub.specs.Repair.{first_missing, is_in_row, is_loose, ok_or_none, row_of, rows_in}
 use Rattle.btr_scrub.specs.Right.{AllPass, AreBytes, Committed, HasFewWrong, HasRightCopy, IsHonest}
 use Rattle.btr_scrub.specs.Staying.{IsRowOf}
 use Rattle.btr_scrub.specs.Survival.{AcceptsRight, AreBehind, IsSoundRow, RightPasses}
@@ -37,16 +37,24 @@ use Rattle.btr_scrub.proofs.Lists.{all_in}
 use Rattle.btr_scrub.proofs.Positions.{striped_position}
 use Rattle.btr_scrub.proofs.RowWrites.{IsBlockOf, in_one_element}
 use Rattle.btr_scrub.proofs.Survival.{elements_are_slices, in_filter, of_filter, some_of}
-use Rattle.btr_scrub.specs.Plain.{KeptColumns}
+use Rattle.btr_scrub.specs.Plain.{Doubts}
 
--- what is known of the blocks of some wants, which can all be had
-pub record CanBeHad (kept : KeptColumns) (images : Images) (layout : Layout) (C : Committed) (wants : List Want) : Type 0 where
+-- what isn't said of plain sectors is said of each block in a chunk with parity
+pub checked_there : (t : Target) → mirrors t.chunk ≡ None → is_loose t ≡ false
+checked_there t e = ap (λ o. is_plain t.want && is_some o) e ∙ none (is_plain t.want)
+  where
+    none : (b : Bool) → (b && false) ≡ false
+    none true = refl
+    none false = refl
+
+-- what is known of the checked blocks of some wants, which can all be had
+pub record CanBeHad (kept : Doubts) (images : Images) (layout : Layout) (C : Committed) (wants : List Want) : Type 0 where
   pub bytes : AreBytes images
   pub pass : AllPass layout C
   pub honest : IsHonest images layout C
-  pub committed : (t : Target) → In t (targets layout wants) → IsSome (C t.want)
-  pub slices : (t : Target) → In t (targets layout wants) → IfSome (C t.want) (IsSlice (size_of t))
-  pub copies : (t : Target) → In t (targets layout wants) → HasRightCopy images C t
+  pub committed : (t : Target) → In t (targets layout wants) → is_loose t ≡ false → IsSome (C t.want)
+  pub slices : (t : Target) → In t (targets layout wants) → is_loose t ≡ false → IfSome (C t.want) (IsSlice (size_of t))
+  pub copies : (t : Target) → In t (targets layout wants) → is_loose t ≡ false → HasRightCopy images C t
   pub rows : (chunk : Chunk) (row : Row) → In chunk layout.chunks → In row (rows_in kept (targets layout wants) chunk) → (row.blocks ≢ [])
       → HasFewWrong images layout C row
 
@@ -112,7 +120,7 @@ module _ (layout : Layout) (p q : Target → Bool) (base : ℕ) where
 
 -- ---- the row of a number
 
-module _ (kept : KeptColumns) (images : Images) (layout : Layout) (C : Committed) (wants : List Want) (table : IsTable layout.chunks) (own : HaveOwnSlots layout.devices) (none : first_missing layout ≡ None) (lengths : HaveLengths images layout) (had : CanBeHad kept images layout C wants) where
+module _ (kept : Doubts) (images : Images) (layout : Layout) (C : Committed) (wants : List Want) (table : IsTable layout.chunks) (own : HaveOwnSlots layout.devices) (none : first_missing layout ≡ None) (lengths : HaveLengths images layout) (had : CanBeHad kept images layout C wants) where
   -- committed bytes of a block pass
   pub right_passes : (t : Target) → IsSought layout t → RightPasses C t
   right_passes t is = subst (λ s. IfSome (C t.want) (λ bytes. passes s t.want bytes ≡ true)) (sym is.setting) (had.pass t.want)
@@ -122,13 +130,13 @@ module _ (kept : KeptColumns) (images : Images) (layout : Layout) (C : Committed
   first_in (y ∷ xs) x e = inl (same_Some y x e)
 
   -- what is accepted for a block is committed
-  pub accepts_right : (t : Target) → In t (targets layout wants) → AcceptsRight images C t
-  accepts_right t among = by (accepted images t) refl
+  pub accepts_right : (t : Target) → In t (targets layout wants) → is_loose t ≡ false → AcceptsRight images C t
+  accepts_right t among checked = by (accepted images t) refl
     where
       by : (o : Option (List ℕ)) → accepted images t ≡ o → IfSome o (λ bytes. C t.want ≡ Some bytes)
       by None e = tt
       by (Some x) e =
-          let b = some_of (C t.want) (had.committed t among) in
+          let b = some_of (C t.want) (had.committed t among checked) in
           let w = of_targets layout t wants among in
           let of = sought_of layout w.0 t w.2 in
           let same : C w.0 ≡ Some b.0 = ap C (sym of.want_is) ∙ b.1 in
@@ -137,10 +145,10 @@ module _ (kept : KeptColumns) (images : Images) (layout : Layout) (C : Committed
           b.1 ∙ ap Some (sym (all_in (λ other. other ≡ b.0) (passing images t) x mine (first_in (passing images t) x e)))
 
   -- a place of a block that has the committed bytes is sound, where anything is accepted
-  pub right_is_sound : (t : Target) → In t (targets layout wants) → IsSought layout t → (q : Part) (bytes : List ℕ) → accepted images t ≡ Some bytes
+  pub right_is_sound : (t : Target) → In t (targets layout wants) → is_loose t ≡ false → IsSought layout t → (q : Part) (bytes : List ℕ) → accepted images t ≡ Some bytes
       → C t.want ≡ Some (element images t q) → is_sound images t q ≡ true
-  right_is_sound t among is q bytes e right =
-      let committed : C t.want ≡ Some bytes = subst (λ o. IfSome o (λ bytes. C t.want ≡ Some bytes)) e (accepts_right t among) in
+  right_is_sound t among checked is q bytes e right =
+      let committed : C t.want ≡ Some bytes = subst (λ o. IfSome o (λ bytes. C t.want ≡ Some bytes)) e (accepts_right t among checked) in
       let good : is_good images t q ≡ true = subst (λ o. IfSome o (λ bytes. passes t.setting t.want bytes ≡ true)) right (right_passes t is) in
       sound_place images t q bytes e good (same_Some (element images t q) bytes (sym right ∙ committed))
 
@@ -180,8 +188,8 @@ module _ (kept : KeptColumns) (images : Images) (layout : Layout) (C : Committed
           record {
             in_row = record { keeps_rule = rule; position = subst (IsPosition t.chunk) (sym b.is.at) (IsPosition-position t.chunk (addr_of t.want) rule b.is.held); parity = block_parity t b };
             lies = record { chunk = b.chunk; number = b.number; devices = b.is.devices; inside = in_one_element layout t b.is (block_parity t b) };
-            committed = had.committed t among;
-            bytes = had.slices t among;
+            committed = had.committed t among (checked_there t (block_parity t b));
+            bytes = had.slices t among (checked_there t (block_parity t b));
           };
       spaced = spaced;
       stand = of.is.stand;
@@ -190,4 +198,6 @@ module _ (kept : KeptColumns) (images : Images) (layout : Layout) (C : Committed
 
     -- committed bytes of its blocks pass, and are what is accepted
     pub right_there : (t : Target) → In t row.blocks → RightPasses C t × AcceptsRight images C t
-    right_there t i = (right_passes t (of.blocks t i).is, accepts_right t (of_filter (is_in_row chunk r) t (targets layout wants) i))
+    right_there t i =
+        let b = of.blocks t i in
+        (right_passes t b.is, accepts_right t (of_filter (is_in_row chunk r) t (targets layout wants) i) (checked_there t (block_parity t b)))

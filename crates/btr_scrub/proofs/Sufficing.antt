@@ -1,41 +1,60 @@
--- What is written beside flags is what is written beside the images in doubt.
-use Rattle.std.proofs.Common.{◌≡◌, ℕ, ◌/◌, Bool, true, false, cond, ◌&&◌, ◌||◌, not, List, [], ◌∷◌, ◌++◌, map, Option, Some, None, is_none, IfSome, OnOk}
-use Rattle.std.proofs.Common.{Result, Err, refl, sym, ap, ◌∙◌, subst, inl, inr}
+-- What is written beside flags is what is written beside the images that fail.
+use Rattle.std.proofs.Common.{◌≡◌, ℕ, ◌/◌, Bool, true, false, cond, ◌&&◌, ◌||◌, not, List, [], ◌∷◌, map, slice_get, Option, Some, None, is_none, is_some, IfSome}
+use Rattle.std.proofs.Common.{OnOk, Result, Err, refl, sym, ap, ◌∙◌, subst, inl, inr}
 use Rattle.std.proofs.Math.Path.{fun_ext}
 use Rattle.std.proofs.lemmas.Bool.{false≢true}
 use Rattle.std.specs.List.{filter, list_any, range_with_len}
 use Rattle.btr_chunk.specs.Chunk.{mirrors, stripe_length}
+use Rattle.btr_chunk.specs.Table.{IsTable}
 use Rattle.btr_chunk.specs.declared.chunk.Chunk.{Chunk}
 use Rattle.btr_rack.specs.Rack.{NoneFailed, OnlyReads, Seen}
 use Rattle.btr_rack.proofs.Reading.{reads_more}
-use Rattle.btr_read.specs.Layout.{Layout}
+use Rattle.btr_read.specs.Candidates.{Target}
+use Rattle.btr_read.specs.Fate.{is_plain}
+use Rattle.btr_read.specs.Layout.{HaveOwnSlots, Layout}
 use Rattle.btr_read.specs.declared.want.Want.{Want}
+use Rattle.btr_read.proofs.Fates.{sought_of}
+use Rattle.btr_scrub_copies.specs.Blocks.{block_writes}
+use Rattle.btr_scrub_copies.specs.Mending.{mended_of}
 use Rattle.btr_scrub_copies.specs.Syncing.{Strands, plain}
 use Rattle.btr_scrub_copies.specs.Turns.{waiting}
 use Rattle.btr_scrub_copies.specs.Writes.{AccountsMend, Images, Write, writes_if}
 use Rattle.btr_scrub_copies.specs.declared.mended.MendFault.{MendFault}
 use Rattle.btr_scrub_copies.specs.declared.mended.MendFault.TheVariants.{Image, Memory}
 use Rattle.btr_scrub_copies.proofs.Doing.{does_behind, does_failed}
+use Rattle.btr_scrub_copies.proofs.Syncs.{passing_filter}
 use Rattle.btr_scrub_copies.proofs.Turning.{read_at, reads_plain, strands_none}
 use Rattle.btr_scrub.specs.Doubts.{failing}
+use Rattle.btr_scrub_copies.specs.Fresh.{Failing, flagged, fresh_writes, freshened}
 use Rattle.btr_scrub.specs.Glue.{In}
-use Rattle.btr_scrub.specs.Judged.{Suffices, some_parity}
+use Rattle.btr_scrub.specs.Judged.{AreFailing, IsIdle, Suffices, has_behind, has_older, some_parity}
 use Rattle.btr_scrub.specs.Leaves.{LiesInStripe}
-use Rattle.btr_scrub.specs.Order.{targets}
-use Rattle.btr_scrub.specs.Plain.{Failing, KeptColumns, flagged, is_kept, is_surer, is_unsure, slices_of}
-use Rattle.btr_scrub.specs.Repair.{is_in_row, rows_in}
-use Rattle.btr_scrub.specs.Scrubbing.{IsOfScrub, Works, all_count_for, all_writes_for, blocks_count, blocks_in, blocks_writes, chunk_count_for}
-use Rattle.btr_scrub.specs.Scrubbing.{chunk_writes_for, rows_count, rows_writes}
-use Rattle.btr_scrub.specs.Whole.{listed_columns, listed_count_for, listed_writes_for}
+use Rattle.btr_scrub.specs.Order.{IsSought, targets}
+use Rattle.btr_scrub.specs.Plain.{Doubts, doubts_of, is_kept, is_surer, is_unsure, slices_of}
+use Rattle.btr_scrub.specs.Repair.{first_missing, is_in_chunk, is_in_row, is_loose, mending_writes, rows_in}
+use Rattle.btr_scrub.specs.Scrubbing.{IsOfScrub, Works, all_count_for, all_writes_for, chunk_count_for, chunk_writes_for, count_site, counted}
+use Rattle.btr_scrub.specs.Scrubbing.{counted_plain, rows_count, rows_writes, sites_count, sites_in, sites_writes}
+use Rattle.btr_scrub.specs.Whole.{listed_count_for, listed_doubts, listed_writes_for}
 use Rattle.btr_scrub.specs.declared.tally.Tally.{Tally}
+use Rattle.btr_scrub.proofs.AcrossChunks.{of_chunk}
+use Rattle.btr_scrub.proofs.Blockwise.{of_targets}
+use Rattle.btr_scrub.proofs.Calm.{calm_chunk, none_fresh, none_freshened, none_of}
+use Rattle.btr_scrub.proofs.Lists.{at_in}
+use Rattle.btr_scrub.proofs.RowAgreeing.{flat_same, fold_same}
 use Rattle.btr_scrub.proofs.Scrubbing.{told}
 use Rattle.btr_scrub.proofs.Working.{waits_before, works_as}
 
--- ---- columns that are kept alike
+-- ---- what is written and counted alike
 
-module _ (kept also : KeptColumns) (layout : Layout) (wants : List Want) (images : Images) where
-  abbrev Alike : Chunk → Type 0
-  Alike chunk = mirrors chunk ≡ None → (row column : ℕ) → kept chunk row column ≡ also chunk row column
+-- what is written for a block or a plain sector, and counted, is the same beside other images that fail
+pub record SameBeside (fails also : Failing) (images : Images) (t : Target) : Type 0 where
+  pub writes : mending_writes images fails t ≡ mending_writes images also t
+  pub counts : (write : Bool) (tally : Tally) → count_site fails images write tally t ≡ count_site also images write tally t
+
+module _ (kept also : Doubts) (layout : Layout) (wants : List Want) (images : Images) where
+  pub record Alike (chunk : Chunk) : Type 0 where
+    pub columns : mirrors chunk ≡ None → (row column : ℕ) → kept.columns chunk row column ≡ also.columns chunk row column
+    pub sites : (n : ℕ) → mirrors chunk ≡ Some n → (t : Target) → In t (sites_in layout chunk wants) → SameBeside kept.failing also.failing images t
 
   rows_alike : (chunk : Chunk) → Alike chunk → mirrors chunk ≡ None → rows_in kept (targets layout wants) chunk ≡ rows_in also (targets layout wants) chunk
   rows_alike chunk h none =
@@ -47,41 +66,40 @@ module _ (kept also : KeptColumns) (layout : Layout) (wants : List Want) (images
             (targets layout wants);
         kept = f number;
       }) (range_with_len 0 (stripe_length chunk / 65536))) [])
-      (fun_ext (λ row. fun_ext (λ column. h none row column)))
+      (fun_ext (λ row. fun_ext (λ column. h.columns none row column)))
 
-  writes_alike : (chunk : Chunk) → Alike chunk → (o : Option ℕ) → mirrors chunk ≡ o
-      → chunk_writes_for kept layout chunk wants images ≡ chunk_writes_for also layout chunk wants images
-  writes_alike chunk h None e = ap
-      (λ rs. cond (is_none (mirrors chunk)) (rows_writes layout rs images) (blocks_writes (blocks_in layout chunk wants) images)) (rows_alike chunk h e)
-  writes_alike chunk h (Some n) e =
-      ap (λ o. cond (is_none o) (rows_writes layout (rows_in kept (targets layout wants) chunk) images) (blocks_writes (blocks_in layout chunk wants) images)) e
-      ∙ sym (ap (λ o. cond (is_none o) (rows_writes layout (rows_in also (targets layout wants) chunk) images)
-      (blocks_writes (blocks_in layout chunk wants) images)) e)
+  writes_alike : (chunk : Chunk) → Alike chunk → chunk_writes_for kept layout chunk wants images ≡ chunk_writes_for also layout chunk wants images
+  writes_alike chunk h = by (mirrors chunk) refl
+    where
+      by : (o : Option ℕ) → mirrors chunk ≡ o
+          → cond (is_none o) (rows_writes layout (rows_in kept (targets layout wants) chunk) images) (sites_writes kept.failing (sites_in layout chunk wants) images)
+          ≡ cond (is_none o) (rows_writes layout (rows_in also (targets layout wants) chunk) images) (sites_writes also.failing (sites_in layout chunk wants) images)
+      by None e = ap (λ rs. rows_writes layout rs images) (rows_alike chunk h e)
+      by (Some n) e = flat_same (mending_writes images kept.failing) (mending_writes images also.failing) (sites_in layout chunk wants)
+          (λ t i. (h.sites n e t i).writes)
 
-  count_alike : (write : Bool) (chunk : Chunk) (tally : Tally) → Alike chunk → (o : Option ℕ) → mirrors chunk ≡ o
+  count_alike : (write : Bool) (chunk : Chunk) (tally : Tally) → Alike chunk
       → chunk_count_for kept layout write chunk wants images tally ≡ chunk_count_for also layout write chunk wants images tally
-  count_alike write chunk tally h None e = ap
-      (λ rs. cond (is_none (mirrors chunk)) (rows_count layout write rs images tally)
-      (blocks_count write (blocks_in layout chunk wants) images tally)) (rows_alike chunk h e)
-  count_alike write chunk tally h (Some n) e =
-      ap (λ o. cond (is_none o) (rows_count layout write (rows_in kept (targets layout wants) chunk) images tally)
-      (blocks_count write (blocks_in layout chunk wants) images tally)) e
-      ∙ sym (ap (λ o. cond (is_none o) (rows_count layout write (rows_in also (targets layout wants) chunk) images tally)
-      (blocks_count write (blocks_in layout chunk wants) images tally)) e)
+  count_alike write chunk tally h = by (mirrors chunk) refl
+    where
+      by : (o : Option ℕ) → mirrors chunk ≡ o
+          → cond (is_none o) (rows_count layout write (rows_in kept (targets layout wants) chunk) images tally)
+          (sites_count kept.failing write (sites_in layout chunk wants) images tally)
+          ≡ cond (is_none o) (rows_count layout write (rows_in also (targets layout wants) chunk) images tally)
+          (sites_count also.failing write (sites_in layout chunk wants) images tally)
+      by None e = ap (λ rs. rows_count layout write rs images tally) (rows_alike chunk h e)
+      by (Some n) e = fold_same (count_site kept.failing images write) (count_site also.failing images write) (sites_in layout chunk wants) tally
+          (λ t i x. (h.sites n e t i).counts write x)
 
   pub all_writes_alike : (chunks : List Chunk) → ((chunk : Chunk) → In chunk chunks → Alike chunk)
       → all_writes_for kept layout chunks wants images ≡ all_writes_for also layout chunks wants images
-  all_writes_alike [] h = refl
-  all_writes_alike (chunk ∷ chunks) h =
-      ap (λ ws. ws ++ all_writes_for kept layout chunks wants images) (writes_alike chunk (h chunk (inl refl)) (mirrors chunk) refl)
-      ∙ ap (λ ws. chunk_writes_for also layout chunk wants images ++ ws) (all_writes_alike chunks (λ c i. h c (inr i)))
+  all_writes_alike chunks h = flat_same (λ chunk. chunk_writes_for kept layout chunk wants images) (λ chunk. chunk_writes_for also layout chunk wants images)
+      chunks (λ chunk i. writes_alike chunk (h chunk i))
 
   pub all_count_alike : (write : Bool) (chunks : List Chunk) (tally : Tally) → ((chunk : Chunk) → In chunk chunks → Alike chunk)
       → all_count_for kept layout write chunks wants images tally ≡ all_count_for also layout write chunks wants images tally
-  all_count_alike write [] tally h = refl
-  all_count_alike write (chunk ∷ chunks) tally h =
-      ap (λ t. all_count_for kept layout write chunks wants images t) (count_alike write chunk tally (h chunk (inl refl)) (mirrors chunk) refl)
-      ∙ all_count_alike write chunks (chunk_count_for also layout write chunk wants images tally) (λ c i. h c (inr i))
+  all_count_alike write chunks tally h = fold_same (λ x chunk. chunk_count_for kept layout write chunk wants images x)
+      (λ x chunk. chunk_count_for also layout write chunk wants images x) chunks tally (λ chunk i x. count_alike write chunk x (h chunk i))
 
 -- ---- flags that suffice
 
@@ -109,28 +127,86 @@ no_parity chunk (c ∷ chunks) e i none = by (is_none (mirrors c)) refl e i (λ 
     by false is e (inl same) rest = false≢true (sym is ∙ ap (λ (k : Chunk). is_none (mirrors k)) same ∙ ap is_none none)
     by false is e (inr j) rest = rest e j
 
-module _ (layout : Layout) (wants : List Want) (sectors : List ℕ) (rack : Seen) (flags : List Bool)
+-- no element of a list has what none has
+none_in : {X : Type 0} (p : X → Bool) (xs : List X) (x : X) → list_any p xs ≡ false → In x xs → p x ≡ false
+none_in p xs x none i = let j = at_in x xs i in none_of p xs j.0 x none j.1
+
+-- a checked block is mended alike
+checked_alike : (fails also : Failing) (images : Images) (t : Target) → is_loose t ≡ false → SameBeside fails also images t
+checked_alike fails also images t e = record {
+  writes = ap (λ b. cond b (fresh_writes images fails t) (block_writes images t)) e ∙ sym (ap (λ b. cond b (fresh_writes images also t) (block_writes images t)) e);
+  counts = λ write tally.
+      ap (λ b. cond b (counted_plain tally (freshened images fails t write)) (counted tally (mended_of images t write))) e
+      ∙ sym (ap (λ b. cond b (counted_plain tally (freshened images also t write)) (counted tally (mended_of images t write))) e);
+}
+
+-- and so is a plain sector where no image is behind
+calm_alike : (fails also : Failing) (layout : Layout) (t : Target) (n : ℕ) (images : Images) → IsTable layout.chunks → IsSought layout t
+    → mirrors t.chunk ≡ Some n → ((f : Failing) → has_behind layout.devices f t.chunk ≡ false) → SameBeside fails also images t
+calm_alike fails also layout t n images table is has calm = record {
+  writes = ap (λ ws. cond (is_loose t) ws (block_writes images t))
+      (none_fresh fails layout t n table is has (calm fails) images ∙ sym (none_fresh also layout t n table is has (calm also) images));
+  counts = λ write tally. ap (λ m. cond (is_loose t) (counted_plain tally m) (counted tally (mended_of images t write)))
+      (none_freshened fails layout t n table is has (calm fails) images write ∙ sym (none_freshened also layout t n table is has (calm also) images write));
+}
+
+module _ (layout : Layout) (wants : List Want) (sectors : List ℕ) (rack : Seen) (flags : List Bool) (table : IsTable layout.chunks)
+    (own : HaveOwnSlots layout.devices) (given : first_missing layout ≡ None)
     (suffice : Suffices layout wants sectors rack flags) (images : Images) (held : rack.held ≡ Some images) where
-  columns_alike : (chunk : Chunk) → In chunk layout.chunks → mirrors chunk ≡ None → (row column : ℕ)
-      → is_kept layout (flagged flags) sectors chunk row column ≡ listed_columns layout wants sectors images chunk row column
-  columns_alike chunk i none row column = elim suffice [
-    | inl empty ↦ none_kept layout (flagged flags) sectors chunk row column empty
-        ∙ sym (none_kept layout (failing images (targets layout wants)) sectors chunk row column empty)
-    | inr (inl copies) ↦ absurd (no_parity chunk layout.chunks copies i none)
-    | inr (inr are) ↦
-        ap (λ f. is_kept layout f sectors chunk row column)
-        (fun_ext (told rack.held (λ images. (slot : ℕ) → flagged flags slot ≡ failing images (targets layout wants) slot) images held are))
+  abbrev by_flags : Doubts
+  by_flags = doubts_of layout (flagged flags) sectors
+
+  abbrev by_images : Doubts
+  by_images = listed_doubts layout wants sectors images
+
+  -- where the images that fail are flagged all is the same
+  doubts_same : AreFailing layout wants rack flags → by_flags ≡ by_images
+  doubts_same are = ap (λ f. doubts_of layout f sectors)
+      (fun_ext (told rack.held (λ images. (slot : ℕ) → flagged flags slot ≡ failing images (targets layout wants) slot) images held are))
+
+  module _ (idle : IsIdle layout wants sectors) where
+    columns_idle : (chunk : Chunk) → In chunk layout.chunks → mirrors chunk ≡ None → (row column : ℕ)
+        → by_flags.columns chunk row column ≡ by_images.columns chunk row column
+    columns_idle chunk i none row column = elim idle.rows [
+      | inl empty ↦ none_kept layout (flagged flags) sectors chunk row column empty
+          ∙ sym (none_kept layout (failing images (targets layout wants)) sectors chunk row column empty)
+      | inr copies ↦ absurd (no_parity chunk layout.chunks copies i none)
+    ]
+
+    -- a want that isn't plain
+    not_plain : (t : Target) → In t (targets layout wants) → list_any is_plain wants ≡ false → is_loose t ≡ false
+    not_plain t i none =
+        let w = of_targets layout t wants i in
+        ap (λ b. b && is_some (mirrors t.chunk)) (ap is_plain (sought_of layout w.0 t w.2).want_is ∙ none_in is_plain wants w.0 none w.1)
+
+    sites_idle : (number : ℕ) (chunk : Chunk) → slice_get layout.chunks number ≡ Some chunk → (n : ℕ) → mirrors chunk ≡ Some n
+        → (t : Target) → In t (sites_in layout chunk wants) → SameBeside by_flags.failing by_images.failing images t
+    sites_idle number chunk there n has t i =
+        let of = of_chunk by_flags layout table own given number chunk there wants t i in
+        let among = (passing_filter (is_in_chunk chunk) t (targets layout wants) i).0 in
+        elim idle.copies [
+          | inl none ↦ checked_alike by_flags.failing by_images.failing images t (not_plain t among none)
+          | inr young ↦ calm_alike by_flags.failing by_images.failing layout t n images table of.is (ap mirrors of.chunk_is ∙ has) (λ f.
+              ap (has_behind layout.devices f) of.chunk_is ∙ calm_chunk f layout.devices chunk (none_of (has_older layout.devices) layout.chunks number chunk young there))
+        ]
+
+    all_idle : (chunk : Chunk) → In chunk layout.chunks → Alike by_flags by_images layout wants images chunk
+    all_idle chunk i =
+        let j = at_in chunk layout.chunks i in
+        record { columns = columns_idle chunk i; sites = λ n has t k. sites_idle j.0 chunk j.1 n has t k }
+
+  pub flags_write : all_writes_for by_flags layout layout.chunks wants images ≡ listed_writes_for layout wants sectors images
+  flags_write = elim suffice [
+    | inl idle ↦ all_writes_alike by_flags by_images layout wants images layout.chunks (all_idle idle)
+    | inr are ↦ ap (λ d. all_writes_for d layout layout.chunks wants images) (doubts_same are)
   ]
 
-  pub flags_write : all_writes_for (is_kept layout (flagged flags) sectors) layout layout.chunks wants images ≡ listed_writes_for layout wants sectors images
-  flags_write = all_writes_alike (is_kept layout (flagged flags) sectors)
-      (listed_columns layout wants sectors images) layout wants images layout.chunks columns_alike
-
   pub flags_count : (write : Bool) (tally : Tally)
-      → all_count_for (is_kept layout (flagged flags) sectors) layout write layout.chunks wants images tally ≡ listed_count_for layout write wants
-      sectors images tally
-  flags_count write tally = all_count_alike (is_kept layout (flagged flags) sectors)
-      (listed_columns layout wants sectors images) layout wants images write layout.chunks tally columns_alike
+      → all_count_for by_flags layout write layout.chunks wants images tally ≡ listed_count_for layout write wants sectors images tally
+  flags_count write tally = elim suffice [
+    | inl idle ↦ all_count_alike by_flags by_images layout wants images write layout.chunks tally (all_idle idle)
+    | inr are ↦ ap (λ d. all_count_for d layout write layout.chunks wants images tally) (doubts_same are)
+  ]
 
 -- ---- behind reads
 
@@ -174,14 +250,18 @@ module _ (layout : Layout) (write : Bool) (f : Images → List Write) (c : Image
 -- a work beside flags that suffice, behind the reads that came to them
 pub works_beside : (layout : Layout) (write : Bool) (wants : List Want) (sectors : List ℕ) (flags : List Bool) (a b z : Seen) (t u : Tally)
     (r : Result (Unit {0}) MendFault)
+    → IsTable layout.chunks → HaveOwnSlots layout.devices → first_missing layout ≡ None
     → OnlyReads a b → NoneFailed a.account b.account → Suffices layout wants sectors a flags
-    → Works layout write (all_writes_for (is_kept layout (flagged flags) sectors) layout layout.chunks wants)
-    (all_count_for (is_kept layout (flagged flags) sectors) layout write layout.chunks wants) b z t u r
+    → Works layout write (all_writes_for (doubts_of layout (flagged flags) sectors) layout layout.chunks wants)
+    (all_count_for (doubts_of layout (flagged flags) sectors) layout write layout.chunks wants) b z t u r
     → Works layout write (listed_writes_for layout wants sectors) (listed_count_for layout write wants sectors) a z t u r
-works_beside layout write wants sectors flags a b z t u r reads none suffice h =
-    works_as layout write (all_writes_for (is_kept layout (flagged flags) sectors) layout layout.chunks wants) (listed_writes_for layout wants sectors)
-    (all_count_for (is_kept layout (flagged flags) sectors) layout write layout.chunks wants) (listed_count_for layout write wants sectors) a z t u r
-    (λ images held. (flags_write layout wants sectors a flags suffice images held, flags_count layout wants sectors a flags suffice images held write t))
-    (works_behind layout write (all_writes_for (is_kept layout (flagged flags) sectors) layout layout.chunks wants)
-    (all_count_for (is_kept layout (flagged flags) sectors) layout write layout.chunks wants)
+works_beside layout write wants sectors flags a b z t u r table own given reads none suffice h =
+    let d = doubts_of layout (flagged flags) sectors in
+    works_as layout write (all_writes_for d layout layout.chunks wants) (listed_writes_for layout wants sectors)
+    (all_count_for d layout write layout.chunks wants) (listed_count_for layout write wants sectors) a z t u r
+    (λ images held. (
+      flags_write layout wants sectors a flags table own given suffice images held,
+      flags_count layout wants sectors a flags table own given suffice images held write t,
+    ))
+    (works_behind layout write (all_writes_for d layout layout.chunks wants) (all_count_for d layout write layout.chunks wants)
     a b reads z t u r none h)

@@ -20,7 +20,7 @@ use Rattle.btr_walk.specs.Spot.{judged}
 use Rattle.btr_walk.specs.declared.place.RootPlace.{RootPlace}
 use Rattle.btr_walk.specs.declared.spot.Spot.{Spot}
 use Rattle.btr_base.specs.declared.stored.Sum.{Sum}
-use Rattle.btr_chunk.specs.Chunk.{is_striped}
+use Rattle.btr_chunk.specs.Chunk.{is_striped, mirrors}
 use Rattle.btr_chunk.specs.Mapping.{crosses, holds, position}
 use Rattle.btr_chunk.specs.Table.{IsTable, chunk_at}
 use Rattle.btr_chunk.specs.declared.chunk.Chunk.{Chunk}
@@ -31,13 +31,13 @@ use Rattle.btr_files.specs.Sums.{kind_in, sum_at}
 use Rattle.btr_read.specs.Fate.{sought, sought_at, sought_in}
 use Rattle.btr_read.specs.Layout.{Layout}
 use Rattle.btr_read.specs.Want.{addr_of, len_of}
-use Rattle.btr_read.specs.declared.want.Want.TheVariants.{Sector, Tree}
+use Rattle.btr_read.specs.declared.want.Want.TheVariants.{Plain, Sector, Tree}
 use Rattle.btr_super.specs.declared.superblock.Super.{Super}
 use Rattle.btr_volume.specs.declared.root.TreeRoot.{TreeRoot}
 use Rattle.btr_walk.specs.Reading.{Map}
-use Rattle.btr_scrub.specs.Gathering.{checked_among}
+use Rattle.btr_scrub.specs.Gathering.{wants_among}
 use Rattle.btr_scrub.specs.Order.{AreApart}
-use Rattle.btr_scrub.specs.Units.{Checked, Met, Unchecked, blocks_of, extent_met, extent_of, if_stated, in_chunk, in_chunks, units_in, with_extents}
+use Rattle.btr_scrub.specs.Units.{Checked, Copied, Met, Unchecked, bare_met, blocks_of, extent_met, extent_of, if_stated, in_chunk, in_chunks, units_in, with_extents}
 use Rattle.btr_scrub.specs.Units.{is_crossing, is_extent, is_malformed, item_met, sector, sector_met, sectors, stated_extent}
 use Rattle.btr_scrub.specs.declared.extent.Extent.{Extent}
 use Rattle.btr_items.specs.ExtentItem.{extent_item_of}
@@ -122,10 +122,11 @@ module _ (layout : Layout) where
   apart_more a b [] ys h g = apart_from a b ys h g
   apart_more a b (x ∷ xs) ys h g = (h.0, h.1, apart_more (addr_of x + len_of layout.setting x) b xs ys h.2 g)
 
-checked_more : (xs ys : List Met) → checked_among (xs ++ ys) ≡ checked_among xs ++ checked_among ys
-checked_more [] ys = refl
-checked_more (Checked w ∷ xs) ys = ap (λ ws. w ∷ ws) (checked_more xs ys)
-checked_more (Unchecked a ∷ xs) ys = checked_more xs ys
+wants_more : (xs ys : List Met) → wants_among (xs ++ ys) ≡ wants_among xs ++ wants_among ys
+wants_more [] ys = refl
+wants_more (Checked w ∷ xs) ys = ap (λ ws. w ∷ ws) (wants_more xs ys)
+wants_more (Copied a ∷ xs) ys = ap (λ ws. Plain a ∷ ws) (wants_more xs ys)
+wants_more (Unchecked a ∷ xs) ys = wants_more xs ys
 
 -- ---- one chunk
 
@@ -205,29 +206,33 @@ module _ (s : Super) (layout : Layout) (table : IsTable layout.chunks) (node : s
       (and_false (is_striped chunk.profile) (ltb 65536 ((addr - chunk.start) % 65536 + 4096))
       (not_below ((addr - chunk.start) % 65536 + 4096) 65536 (omega (arith, aligned, f.aligned, from))))
 
-  one_sector : (addr : ℕ) → addr % 4096 ≡ 0 → chunk.start ≤ addr → addr + 4096 ≤ chunk.start + chunk.length
-      → Ends B (sector s sums addr) (λ ys u. AreBetween layout addr (addr + 4096) (checked_among ys))
-  one_sector addr aligned from to =
-      ends_looks B (sum_at (kind_in s) sums addr) (λ sum. Emit (sector_met addr sum) (Return tt))
-      (λ ys u. AreBetween layout addr (addr + 4096) (checked_among ys)) (λ sum u e. by sum)
+  one_sector : (copied : Bool) (addr : ℕ) → addr % 4096 ≡ 0 → chunk.start ≤ addr → addr + 4096 ≤ chunk.start + chunk.length
+      → Ends B (sector s sums copied addr) (λ ys u. AreBetween layout addr (addr + 4096) (wants_among ys))
+  one_sector copied addr aligned from to =
+      ends_looks B (sum_at (kind_in s) sums addr) (λ sum. Emit (sector_met copied addr sum) (Return tt))
+      (λ ys u. AreBetween layout addr (addr + 4096) (wants_among ys)) (λ sum u e. by sum)
     where
-      by : (sum : Option Sum) → AreBetween layout addr (addr + 4096) (checked_among (sector_met addr sum ∷ []))
-      by None = omega arith
+      bare : (b : Bool) → AreBetween layout addr (addr + 4096) (wants_among (bare_met b addr ∷ []))
+      bare true = (omega arith, placed (Plain addr) from (omega (arith, to)) (sector_fits addr aligned from to), omega arith)
+      bare false = omega arith
+
+      by : (sum : Option Sum) → AreBetween layout addr (addr + 4096) (wants_among (sector_met copied addr sum ∷ []))
+      by None = bare copied
       by (Some sum) = (omega arith, placed (Sector addr sum) from (omega (arith, to)) (sector_fits addr aligned from to), omega arith)
 
-  pub all_sectors : (n addr : ℕ) → addr % 4096 ≡ 0 → chunk.start ≤ addr → addr + n * 4096 ≤ chunk.start + chunk.length
-      → Ends B (sectors s sums n addr) (λ ys u. AreBetween layout addr (addr + n * 4096) (checked_among ys))
-  all_sectors zero addr aligned from to = λ u e. omega arith
-  all_sectors (suc n) addr aligned from to =
-      ends_bind B (sector s sums addr) (λ _. sectors s sums n (addr + 4096)) (λ ys u. AreBetween layout addr (addr + 4096) (checked_among ys))
-      (λ ys u. AreBetween layout addr (addr + suc n * 4096) (checked_among ys))
-      (one_sector addr aligned from (omega (arith, to)))
+  pub all_sectors : (copied : Bool) (n addr : ℕ) → addr % 4096 ≡ 0 → chunk.start ≤ addr → addr + n * 4096 ≤ chunk.start + chunk.length
+      → Ends B (sectors s sums copied n addr) (λ ys u. AreBetween layout addr (addr + n * 4096) (wants_among ys))
+  all_sectors copied zero addr aligned from to = λ u e. omega arith
+  all_sectors copied (suc n) addr aligned from to =
+      ends_bind B (sector s sums copied addr) (λ _. sectors s sums copied n (addr + 4096)) (λ ys u. AreBetween layout addr (addr + 4096) (wants_among ys))
+      (λ ys u. AreBetween layout addr (addr + suc n * 4096) (wants_among ys))
+      (one_sector copied addr aligned from (omega (arith, to)))
       (λ u v e xs q.
-      let rest = all_sectors n (addr + 4096) (omega (arith, aligned)) (omega (arith, from)) (omega (arith, to)) v e in
-      let ys = steps_of (exec B (sectors s sums n (addr + 4096))).marks in
-      subst (AreBetween layout addr (addr + suc n * 4096)) (sym (checked_more xs ys))
-      (between_more layout addr (addr + 4096) (addr + suc n * 4096) (checked_among xs) (checked_among ys) q
-      (between_to layout (addr + 4096) (addr + 4096 + n * 4096) (addr + suc n * 4096) (checked_among ys) rest (omega arith))))
+      let rest = all_sectors copied n (addr + 4096) (omega (arith, aligned)) (omega (arith, from)) (omega (arith, to)) v e in
+      let ys = steps_of (exec B (sectors s sums copied n (addr + 4096))).marks in
+      subst (AreBetween layout addr (addr + suc n * 4096)) (sym (wants_more xs ys))
+      (between_more layout addr (addr + 4096) (addr + suc n * 4096) (wants_among xs) (wants_among ys) q
+      (between_to layout (addr + 4096) (addr + 4096 + n * 4096) (addr + suc n * 4096) (wants_among ys) rest (omega arith))))
 
   -- an extent that keeps the rules
   record IsSound (extent : Extent) : Type 0 where
@@ -237,9 +242,9 @@ module _ (s : Super) (layout : Layout) (table : IsTable layout.chunks) (node : s
     node_long : is_some extent.level ≡ true → extent.len ≡ s.nodesize
     uncrossed : is_some extent.level ≡ true → crosses chunk extent.addr extent.len ≡ false
 
-  all_blocks : (extent : Extent) → IsSound extent → (level : Option ℕ) → extent.level ≡ level
-      → Ends B (blocks_of s sums extent level) (λ ys u. AreBetween layout extent.addr (extent.addr + extent.len) (checked_among ys))
-  all_blocks extent is (Some level) e = λ u _.
+  all_blocks : (copied : Bool) (extent : Extent) → IsSound extent → (level : Option ℕ) → extent.level ≡ level
+      → Ends B (blocks_of s sums copied extent level) (λ ys u. AreBetween layout extent.addr (extent.addr + extent.len) (wants_among ys))
+  all_blocks copied extent is (Some level) e = λ u _.
       let long = is.node_long (ap is_some e) in
       let len : extent.len ≡ layout.setting.nodesize = long ∙ node in (
         omega arith,
@@ -247,16 +252,16 @@ module _ (s : Super) (layout : Layout) (table : IsTable layout.chunks) (node : s
             (subst (λ n. crosses chunk extent.addr n ≡ false) len (is.uncrossed (ap is_some e))),
         omega (arith, len),
       )
-  all_blocks extent is None e = λ u h.
+  all_blocks copied extent is None e = λ u h.
       let n = extent.len / 4096 in
       between_to layout extent.addr (extent.addr + n * 4096) (extent.addr + extent.len)
-      (checked_among (steps_of (exec B (sectors s sums n extent.addr)).marks))
-      (all_sectors n extent.addr is.aligned is.from (omega (arith, is.to)) u h) (omega arith)
+      (wants_among (steps_of (exec B (sectors s sums copied n extent.addr)).marks))
+      (all_sectors copied n extent.addr is.aligned is.from (omega (arith, is.to)) u h) (omega arith)
 
   -- what holds of the blocks so far, behind an extent that ends at `end`
   pub record SoFar (xs : List Met) (end : ℕ) : Type 0 where
     pub to : ℕ
-    pub between : AreBetween layout chunk.start to (checked_among xs)
+    pub between : AreBetween layout chunk.start to (wants_among xs)
     pub low : to ≤ chunk.start + (end - chunk.start)
     pub high : to ≤ chunk.start + chunk.length
 
@@ -264,31 +269,31 @@ module _ (s : Super) (layout : Layout) (table : IsTable layout.chunks) (node : s
       × (end ≤ extent.addr)) → Ends B (extent_met s sums chunk end leaf (Some extent)) (λ ys end'. (xs : List Met) → SoFar xs end → SoFar (xs ++ ys) end')
   met_extent end leaf extent h = by (is_malformed s end extent) refl
     where
-      done : IsSound extent → end ≤ extent.addr → Ends B (bind (blocks_of s sums extent extent.level) (λ _. Return (extent.addr + extent.len)))
+      done : IsSound extent → end ≤ extent.addr → Ends B (bind (blocks_of s sums (is_some (mirrors chunk)) extent extent.level) (λ _. Return (extent.addr + extent.len)))
           (λ ys end'. (xs : List Met) → SoFar xs end → SoFar (xs ++ ys) end')
       done is le =
-          ends_bind B (blocks_of s sums extent extent.level) (λ _. Return (extent.addr + extent.len))
-          (λ ys u. AreBetween layout extent.addr (extent.addr + extent.len) (checked_among ys))
+          ends_bind B (blocks_of s sums (is_some (mirrors chunk)) extent extent.level) (λ _. Return (extent.addr + extent.len))
+          (λ ys u. AreBetween layout extent.addr (extent.addr + extent.len) (wants_among ys))
           (λ ys end'. (xs : List Met) → SoFar xs end → SoFar (xs ++ ys) end')
-          (all_blocks extent is extent.level refl)
+          (all_blocks (is_some (mirrors chunk)) extent is extent.level refl)
           (λ u end' e ys q xs so. subst (λ z. SoFar (xs ++ (ys ++ [])) z) (same_value (extent.addr + extent.len) end' e) (subst (λ zs. SoFar (xs ++ zs) (extent.addr + extent.len)) (sym (append-nil ys)) (record {
             to = extent.addr + extent.len;
-            between = subst (AreBetween layout chunk.start (extent.addr + extent.len)) (sym (checked_more xs ys))
-                (between_more layout chunk.start so.to (extent.addr + extent.len) (checked_among xs) (checked_among ys) so.between
-                (between_from layout so.to extent.addr (extent.addr + extent.len) (checked_among ys) (omega (arith, so.low, is.from, le)) q));
+            between = subst (AreBetween layout chunk.start (extent.addr + extent.len)) (sym (wants_more xs ys))
+                (between_more layout chunk.start so.to (extent.addr + extent.len) (wants_among xs) (wants_among ys) so.between
+                (between_from layout so.to extent.addr (extent.addr + extent.len) (wants_among ys) (omega (arith, so.low, is.from, le)) q));
             low = omega (arith, is.from);
             high = is.to;
           })))
 
       or : (c : Bool) → is_malformed s end extent ≡ false → is_crossing chunk extent ≡ c
-          → Ends B (cond c (Stop (Crosses extent.addr)) (bind (blocks_of s sums extent extent.level) (λ _. Return (extent.addr + extent.len))))
+          → Ends B (cond c (Stop (Crosses extent.addr)) (bind (blocks_of s sums (is_some (mirrors chunk)) extent extent.level) (λ _. Return (extent.addr + extent.len))))
           (λ ys end'. (xs : List Met) → SoFar xs end → SoFar (xs ++ ys) end')
       or true m e = λ a d. absurd (no_value a d)
       or false m e = done (h m e).0 (h m e).1
 
       by : (b : Bool) → is_malformed s end extent ≡ b
           → Ends B (cond b (Stop (Malformed leaf)) (cond (is_crossing chunk extent) (Stop (Crosses extent.addr))
-          (bind (blocks_of s sums extent extent.level) (λ _. Return (extent.addr + extent.len)))))
+          (bind (blocks_of s sums (is_some (mirrors chunk)) extent extent.level) (λ _. Return (extent.addr + extent.len)))))
           (λ ys end'. (xs : List Met) → SoFar xs end → SoFar (xs ++ ys) end')
       by true e = λ a d. absurd (no_value a d)
       by false e = or (is_crossing chunk extent) e refl
@@ -382,12 +387,12 @@ module _ (s : Super) (layout : Layout) (table : IsTable layout.chunks) (node : s
 
   -- the blocks of the chunk lie in it, one behind another
   pub chunk_ends : (extents : TreeRoot) → Ends B (in_chunk s sums chunk extents)
-      (λ ys u. AreBetween layout chunk.start (chunk.start + chunk.length) (checked_among ys))
+      (λ ys u. AreBetween layout chunk.start (chunk.start + chunk.length) (wants_among ys))
   chunk_ends extents = λ end e.
       let lo = key chunk.start 0 0 in
       let hi = key (chunk.start + chunk.length - 1) 255 last in
       let all = each_ends B (item_met s sums chunk) (Within lo hi) SoFar one_item (range lo hi extents.place) (yields_range lo hi extents.place) 0 end e [] (record { to = chunk.start; between = omega arith; low = omega arith; high = omega arith }) in
-      between_to layout chunk.start all.to (chunk.start + chunk.length) (checked_among (steps_of (exec B (in_chunk s sums chunk extents)).marks))
+      between_to layout chunk.start all.to (chunk.start + chunk.length) (wants_among (steps_of (exec B (in_chunk s sums chunk extents)).marks))
       all.between all.high
 
 -- ---- all chunks
@@ -405,26 +410,26 @@ tail_at xs i x ys e = sym (drop-drop 1 i xs) ∙ ap (drop 1) e
 module _ (s : Super) (layout : Layout) (table : IsTable layout.chunks) (node : s.nodesize ≡ layout.setting.nodesize) (some : 0 < s.nodesize) (B : Map) where
   chunks_end : (sums : Option TreeRoot) (extents : TreeRoot) (chunks : List Chunk) (i from : ℕ) → drop i layout.chunks ≡ chunks
       → ((j : ℕ) (c : Chunk) → i ≤ j → slice_get layout.chunks j ≡ Some c → from ≤ c.start)
-      → Ends B (in_chunks s sums extents chunks) (λ ys u. AreApart layout from (checked_among ys))
+      → Ends B (in_chunks s sums extents chunks) (λ ys u. AreApart layout from (wants_among ys))
   chunks_end sums extents [] i from e behind = λ u _. tt
   chunks_end sums extents (chunk ∷ chunks) i from e behind =
       let there = head_at layout.chunks i chunk chunks e in
       ends_bind B (in_chunk s sums chunk extents) (λ _. in_chunks s sums extents chunks)
-      (λ ys u. AreBetween layout chunk.start (chunk.start + chunk.length) (checked_among ys)) (λ ys u. AreApart layout from (checked_among ys))
+      (λ ys u. AreBetween layout chunk.start (chunk.start + chunk.length) (wants_among ys)) (λ ys u. AreApart layout from (wants_among ys))
       (chunk_ends s layout table node some B sums i chunk there extents)
       (λ _ u d xs q.
       let ys = steps_of (exec B (in_chunks s sums extents chunks)).marks in
       let rest = chunks_end sums extents chunks (i + 1) (chunk.start + chunk.length) (tail_at layout.chunks i chunk chunks e) (λ j c le at. (table.apart i j chunk c (omega (arith, le)) there at).0) u d in
-      subst (AreApart layout from) (sym (checked_more xs ys))
-      (apart_from layout from chunk.start (checked_among xs ++ checked_among ys) (behind i chunk (omega arith) there)
-      (apart_more layout chunk.start (chunk.start + chunk.length) (checked_among xs) (checked_among ys) q rest)))
+      subst (AreApart layout from) (sym (wants_more xs ys))
+      (apart_from layout from chunk.start (wants_among xs ++ wants_among ys) (behind i chunk (omega arith) there)
+      (apart_more layout chunk.start (chunk.start + chunk.length) (wants_among xs) (wants_among ys) q rest)))
 
-  with_extents_end : (o : Option TreeRoot) → Ends B (with_extents s layout.chunks o) (λ ys u. AreApart layout 0 (checked_among ys))
+  with_extents_end : (o : Option TreeRoot) → Ends B (with_extents s layout.chunks o) (λ ys u. AreApart layout 0 (wants_among ys))
   with_extents_end None = λ u e. absurd (no_value u e)
   with_extents_end (Some extents) =
-      ends_looks B (tree_of s 7) (λ sums. in_chunks s sums extents layout.chunks) (λ ys u. AreApart layout 0 (checked_among ys))
+      ends_looks B (tree_of s 7) (λ sums. in_chunks s sums extents layout.chunks) (λ ys u. AreApart layout 0 (wants_among ys))
       (λ sums. chunks_end sums extents layout.chunks 0 0 refl (λ j c le at. omega arith))
 
   -- the checked blocks, where all could be met, have a position and are apart
-  pub units_apart : Ends B (units_in s layout.chunks) (λ ys u. AreApart layout 0 (checked_among ys))
-  units_apart = ends_looks B (tree_of s 2) (with_extents s layout.chunks) (λ ys u. AreApart layout 0 (checked_among ys)) with_extents_end
+  pub units_apart : Ends B (units_in s layout.chunks) (λ ys u. AreApart layout 0 (wants_among ys))
+  units_apart = ends_looks B (tree_of s 2) (with_extents s layout.chunks) (λ ys u. AreApart layout 0 (wants_among ys)) with_extents_end

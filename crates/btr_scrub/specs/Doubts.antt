@@ -1,4 +1,4 @@
--- Images in doubt: those on which some checked block doesn't pass at its place.
+-- Images that fail: those on which some checked block doesn't pass at its place. A plain sector, which makes no test, always passes.
 use Rattle.std.specs.Prelude.{ℕ, ◌&&◌, ◌==◌, Bool, false, not, List}
 use Rattle.std.specs.List.{list_any}
 use Rattle.std.specs.Option.{option_map_or}
@@ -6,7 +6,7 @@ use Rattle.btr_chunk.specs.declared.place.Part.{Part}
 use Rattle.btr_read.specs.Candidates.{Target, range_of}
 use Rattle.btr_scrub_copies.specs.Blocks.{is_good, own_parts}
 use Rattle.btr_scrub_copies.specs.Writes.{Images}
-use Rattle.btr_scrub.specs.Plain.{Failing}
+use Rattle.btr_scrub_copies.specs.Fresh.{Failing}
 
 -- a part lies on the image in a slot
 abbrev pub is_on : Target → ℕ → Part → Bool

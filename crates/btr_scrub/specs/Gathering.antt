@@ -8,6 +8,7 @@ use Rattle.btr_read.specs.Layout.{Layout}
 use Rattle.btr_read.specs.Serves.{Serves}
 use Rattle.btr_read.specs.Store.{free_count}
 use Rattle.btr_read.specs.declared.want.Want.{Want}
+use Rattle.btr_read.specs.declared.want.Want.TheVariants.{Plain}
 use Rattle.btr_walk.specs.Reading.{FaultCause, Tells, UnreadBlock, halt_of, unread_by}
 use Rattle.btr_walk.specs.declared.fault.TreeFault.{TreeFault}
 use Rattle.btr_walk.specs.declared.fault.TreeFault.TheVariants as tree
@@ -18,26 +19,28 @@ use Rattle.btr_volume.specs.declared.stop.Stop.TheVariants.{NoTree, Tree, Deleti
 use Rattle.btr_volume.specs.declared.volume.Volume.{Volume}
 use Rattle.btr_scrub.specs.Listed.{IsList, kept_wants}
 use Rattle.btr_scrub.specs.Plain.{plain_among}
-use Rattle.btr_scrub.specs.Units.{Meeting, Met, Checked, Unchecked, is_crossing}
+use Rattle.btr_scrub.specs.Units.{Meeting, Met, Checked, Copied, Unchecked, is_crossing}
 use Rattle.btr_scrub.specs.declared.extent.Extent.{Extent}
 use Rattle.btr_scrub.specs.declared.gathered.Gathered.{Gathered}
 
--- the wants of the checked blocks among what was met
-abbrev pub checked_among : List Met → List Want
-checked_among [] = []
-checked_among (Checked want ∷ met) = want ∷ checked_among met
-checked_among (Unchecked addr ∷ met) = checked_among met
+-- the wants of the checked blocks and of the plain sectors that have copies, among what was met
+abbrev pub wants_among : List Met → List Want
+wants_among [] = []
+wants_among (Checked want ∷ met) = want ∷ wants_among met
+wants_among (Copied addr ∷ met) = Plain addr ∷ wants_among met
+wants_among (Unchecked addr ∷ met) = wants_among met
 
 -- a count of the sectors without a checksum, after what was met
 abbrev pub count_met : ℕ → Met → ℕ
 count_met n (Checked want) = n
+count_met n (Copied addr) = next_count n
 count_met n (Unchecked addr) = next_count n
 
 -- what was met was listed behind what was listed before
 pub record Lists (old new : Gathered) (done : List Met) : Type 0 where
   pub is_list : IsList new.list
   pub kind : new.list.kind ≡ old.list.kind
-  pub wants : kept_wants new.list ≡ kept_wants old.list ++ checked_among done
+  pub wants : kept_wants new.list ≡ kept_wants old.list ++ wants_among done
   pub unchecked : new.unchecked ≡ fold count_met old.unchecked done
   pub plain : new.plain ≡ old.plain ++ plain_among done
 
@@ -122,11 +125,11 @@ pub record Reaches {A : Type 0} (p q : Meeting A) (x y : Scene) : Type 0 where
   pub lists : Lists x.list y.list done
   pub content : Tells x.vol.store.layout x.rack y.rack (λ B. (before : List (Mark Want Met)) × (exec B p ≡ prepend before (exec B q)) × (done ≡ steps_of before))
 
--- blocks were listed: the wants of those that are checked, and the count and the
--- addresses of the sectors without a checksum
+-- blocks were listed: the wants of those that are mended by themselves, the count of the sectors without a checksum, and
+-- the addresses of those of them in chunks with parity
 pub record AreListed (gathered : Gathered) (done : List Met) : Type 0 where
   pub is_list : IsList gathered.list
-  pub wants : kept_wants gathered.list ≡ checked_among done
+  pub wants : kept_wants gathered.list ≡ wants_among done
   pub unchecked : gathered.unchecked ≡ fold count_met 0 done
   pub plain : gathered.plain ≡ plain_among done
 

@@ -1,6 +1,7 @@
 -- What a look at all blocks for images in doubt did, and beside which sectors parity is kept then.
 use Rattle.std.specs.Prelude.{◌≡◌, ◌⊎◌, ℕ, ◌≤◌, ◌||◌, Bool, List, [], length, is_none, false, IsOkAnd, Ok, OnOk, IfSome, Result, Some}
 use Rattle.std.specs.List.{list_any}
+use Rattle.std.specs.Option.{option_map_or}
 use Rattle.btr_chunk.specs.Chunk.{mirrors}
 use Rattle.btr_chunk.specs.Mapping.{HasPart}
 use Rattle.btr_chunk.specs.declared.chunk.Chunk.{Chunk}
@@ -8,24 +9,42 @@ use Rattle.btr_chunk.specs.declared.place.Part.{Part}
 use Rattle.btr_rack.specs.Rack.{Seen}
 use Rattle.btr_rack.specs.declared.place.Place.{Place as Range}
 use Rattle.btr_read.specs.Candidates.{Target, range_of}
-use Rattle.btr_read.specs.Fate.{sought}
-use Rattle.btr_read.specs.Layout.{Layout}
+use Rattle.btr_read.specs.Fate.{is_plain, sought}
+use Rattle.btr_read.specs.Layout.{Layout, device_in}
+use Rattle.btr_read.specs.declared.device.Member.{Member}
 use Rattle.btr_read.specs.declared.want.Want.{Want}
 use Rattle.btr_scrub_copies.specs.Writes.{AccountsMend, Images}
 use Rattle.btr_scrub_copies.specs.declared.mended.MendFault.{MendFault}
 use Rattle.btr_scrub.specs.Doubts.{failing}
 use Rattle.btr_scrub.specs.Order.{targets}
-use Rattle.btr_scrub.specs.Plain.{KeptColumns, flagged, is_kept}
+use Rattle.btr_scrub_copies.specs.Fresh.{Failing, flagged, is_behind}
+use Rattle.btr_scrub.specs.Plain.{Doubts, doubts_of}
 use Rattle.btr_scrub.specs.declared.beside.Beside.{Beside}
 use Rattle.btr_scrub.specs.declared.doubts.Probe.{Probe}
 
--- the columns that are kept, beside these
-abbrev pub kept_beside : Layout → Beside → KeptColumns
-kept_beside layout beside = is_kept layout (flagged beside.failing.items) beside.plain
+-- what is doubted beside these
+abbrev pub doubts_beside : Layout → Beside → Doubts
+doubts_beside layout beside = doubts_of layout (flagged beside.failing.items) beside.plain
 
 -- some chunk has parity
 abbrev pub some_parity : List Chunk → Bool
 some_parity chunks = list_any (λ (chunk : Chunk). is_none (mirrors chunk)) chunks
+
+-- the image of a device is older
+abbrev pub is_older : List Member → ℕ → Bool
+is_older devices devid = option_map_or (λ device. device.older) (device_in devices devid) false
+
+-- some image of a chunk is
+abbrev pub has_older : List Member → Chunk → Bool
+has_older devices chunk = list_any (λ stripe. is_older devices stripe.devid) chunk.stripes
+
+-- some image of some chunk is
+abbrev pub some_older : Layout → Bool
+some_older layout = list_any (has_older layout.devices) layout.chunks
+
+-- some image of a chunk is behind
+abbrev pub has_behind : List Member → Failing → Chunk → Bool
+has_behind devices failing chunk = list_any (λ stripe. is_behind devices failing stripe.devid) chunk.stripes
 
 -- a want has a position in a chunk that has a part
 abbrev pub HasOwn : Layout → Part → Want → Type 0
@@ -72,7 +91,12 @@ abbrev pub FlagsAll : Layout → List Want → Seen → List Bool → List Bool
 FlagsAll layout wants rack old new result =
     OnOk result (IfSome rack.held (λ images. Flags old (failing images (targets layout wants)) new))
 
--- so far as it matters beside plain sectors, the flags are the images on which some of the blocks doesn't pass
+-- it matters neither for parities nor for copies which images fail: there are no plain sectors of the one kind or no
+-- chunk with parity, and none of the other or no older image
+pub record IsIdle (layout : Layout) (wants : List Want) (plain : List ℕ) : Type 0 where
+  pub rows : (plain ≡ []) ⊎ (some_parity layout.chunks ≡ false)
+  pub copies : (list_any is_plain wants ≡ false) ⊎ (some_older layout ≡ false)
+
+-- so far as it matters, the flags are the images on which some of the blocks doesn't pass
 abbrev pub Suffices : Layout → List Want → List ℕ → Seen → List Bool → Type 0
-Suffices layout wants plain rack flags =
-    (plain ≡ []) ⊎ (some_parity layout.chunks ≡ false) ⊎ AreFailing layout wants rack flags
+Suffices layout wants plain rack flags = IsIdle layout wants plain ⊎ AreFailing layout wants rack flags

@@ -1,26 +1,37 @@
--- The checked blocks as they are listed in memory: runs of what follows each other, and apart from them the checksums
--- of the sectors, one behind another, and what is wanted of the tree blocks.
-use Rattle.std.specs.Prelude.{◌≡◌, ◌≢◌, ℕ, zero, suc, ◌+◌, ◌-◌, ◌*◌, ◌^◌, ◌<◌, ◌≤◌, List, [], ◌∷◌, ◌++◌, length, drop, Option, Some, None, IsSomeAnd}
+-- The blocks and sectors as they are listed in memory: runs of what follows each other, and apart from them the checksums
+-- of the sectors that have one, one behind another, and what is wanted of the tree blocks.
+use Rattle.std.specs.Prelude.{◌≡◌, ◌≢◌, ℕ, zero, suc, ◌+◌, ◌-◌, ◌*◌, ◌^◌, ◌<◌, ◌≤◌, Bool, true, false, List, [], ◌∷◌, ◌++◌, length, drop, Option, Some, None, IsSomeAnd}
 use Rattle.btr_base.specs.Sum.{sum_size, stored_sum}
 use Rattle.btr_base.specs.declared.kind.SumKind.{SumKind}
+use Rattle.btr_read.specs.Fate.{is_plain}
+use Rattle.btr_read.specs.Want.{addr_of}
 use Rattle.btr_read.specs.declared.want.Want.{Want}
-use Rattle.btr_read.specs.declared.want.Want.TheVariants.{Tree, Sector}
+use Rattle.btr_read.specs.declared.want.Want.TheVariants.{Tree, Sector, Plain}
+use Rattle.btr_scrub_copies.specs.Writes.{In}
 use Rattle.btr_scrub.specs.declared.run.Run.{Run}
 use Rattle.btr_scrub.specs.declared.run.RunKind.{RunKind}
-use Rattle.btr_scrub.specs.declared.run.RunKind.TheVariants.{TreeBlock, Sectors}
+use Rattle.btr_scrub.specs.declared.run.RunKind.TheVariants.{TreeBlock, Sectors, Unsummed}
 use Rattle.btr_scrub.specs.declared.run.TreeMark.{TreeMark}
 
--- how many sectors a run has
+-- how many sectors with a checksum a run has
 abbrev pub sectors_of : RunKind → ℕ
 sectors_of TreeBlock = 0
 sectors_of (Sectors n) = n
+sectors_of (Unsummed n) = 0
 
 -- how many tree blocks a run has
 abbrev pub trees_of : RunKind → ℕ
 trees_of TreeBlock = 1
 trees_of (Sectors n) = 0
+trees_of (Unsummed n) = 0
 
--- how many sectors some runs have
+-- how many sectors without a checksum a run has
+abbrev pub plains_of : RunKind → ℕ
+plains_of TreeBlock = 0
+plains_of (Sectors n) = 0
+plains_of (Unsummed n) = n
+
+-- how many sectors with a checksum some runs have
 abbrev pub all_sectors : List Run → ℕ
 all_sectors [] = 0
 all_sectors (run ∷ runs) = sectors_of run.kind + all_sectors runs
@@ -30,15 +41,26 @@ abbrev pub all_trees : List Run → ℕ
 all_trees [] = 0
 all_trees (run ∷ runs) = trees_of run.kind + all_trees runs
 
+-- how many sectors without a checksum some runs have
+abbrev pub all_plains : List Run → ℕ
+all_plains [] = 0
+all_plains (run ∷ runs) = plains_of run.kind + all_plains runs
+
 -- a run of sectors has one, and their addresses are numbers of 64 bits
 abbrev pub IsRun : ℕ → RunKind → Type 0
 IsRun addr TreeBlock = Unit {0}
 IsRun addr (Sectors n) = (1 ≤ n) × (addr + (n - 1) * 4096 < 2 ^ 64)
+IsRun addr (Unsummed n) = (1 ≤ n) × (addr + (n - 1) * 4096 < 2 ^ 64)
 
 -- the tree block at an address, of the first of some marks
 abbrev pub tree_from : ℕ → List TreeMark → List Want
 tree_from addr [] = []
 tree_from addr (mark ∷ marks) = Tree addr mark.generation mark.level ∷ []
+
+-- n sectors without a checksum from an address on
+abbrev pub plains_from : ℕ → ℕ → List Want
+plains_from addr zero = []
+plains_from addr (suc n) = Plain addr ∷ plains_from (addr + 4096) n
 
 -- all runs stand at an address that they may begin at
 abbrev pub AreRuns : List Run → Type 0
@@ -55,6 +77,7 @@ module _ (kind : SumKind) where
   abbrev pub run_wants : ℕ → RunKind → List ℕ → List TreeMark → List Want
   run_wants addr TreeBlock sums marks = tree_from addr marks
   run_wants addr (Sectors n) sums marks = sectors_from addr n sums
+  run_wants addr (Unsummed n) sums marks = plains_from addr n
 
   -- the blocks of runs, each run with those of the checksums and marks that come behind the ones of the runs before it
   abbrev pub wants_of : List Run → List ℕ → List TreeMark → List Want
@@ -108,16 +131,40 @@ abbrev pub IsLonger : Option Run → ℕ → Option Run → Type 0
 IsLonger last addr None = Unit {0}
 IsLonger last addr (Some longer) = IsSomeAnd last (λ run. Lengthens run addr longer)
 
+-- a run of plain sectors has one more, at an address
+pub record Extends (run : Run) (addr : ℕ) (longer : Run) : Type 0 where
+  pub count : ℕ
+  pub sectors : run.kind ≡ Unsummed count
+  pub more : longer ≡ record { addr = run.addr; kind = Unsummed (count + 1) }
+  pub next : addr ≡ run.addr + count * 4096
+
+-- the run that comes last has one more plain sector, if the address is the next of its sectors
+abbrev pub IsExtended : Option Run → ℕ → Option Run → Type 0
+IsExtended last addr None = Unit {0}
+IsExtended last addr (Some longer) = IsSomeAnd last (λ run. Extends run addr longer)
+
 -- fewer sectors of the first run are past than it has; of a tree block none
 abbrev pub IsPast : List Run → ℕ → Type 0
 IsPast [] past = past ≡ 0
-IsPast (run ∷ runs) past = past + 1 ≤ sectors_of run.kind + trees_of run.kind
+IsPast (run ∷ runs) past = past + 1 ≤ sectors_of run.kind + trees_of run.kind + plains_of run.kind
+
+-- how many checksums are past with some sectors of a run
+abbrev pub sums_past : RunKind → ℕ → ℕ
+sums_past TreeBlock past = 0
+sums_past (Sectors n) past = past
+sums_past (Unsummed n) past = 0
+
+-- the same with some sectors of the first of some runs
+abbrev pub first_past : List Run → ℕ → ℕ
+first_past [] past = 0
+first_past (run ∷ runs) past = sums_past run.kind past
 
 module _ (kind : SumKind) where
   -- what is left of a run behind some of its sectors
   abbrev pub run_left : ℕ → RunKind → ℕ → List ℕ → List TreeMark → List Want
   run_left addr TreeBlock past sums marks = tree_from addr marks
   run_left addr (Sectors n) past sums marks = sectors_from kind (addr + past * 4096) (n - past) sums
+  run_left addr (Unsummed n) past sums marks = plains_from (addr + past * 4096) (n - past)
 
   -- what is left of runs behind some sectors of the first, of the checksums and marks from there on
   abbrev pub wants_left : List Run → ℕ → List ℕ → List TreeMark → List Want
@@ -129,7 +176,7 @@ module _ (kind : SumKind) where
   pub record IsPlace (runs : List Run) (past : ℕ) (sums : List ℕ) (marks : List TreeMark) : Type 0 where
     pub is_past : IsPast runs past
     pub runs_fit : AreRuns runs
-    pub sums_fit : length sums + past * sum_size kind ≡ all_sectors runs * sum_size kind
+    pub sums_fit : length sums + first_past runs past * sum_size kind ≡ all_sectors runs * sum_size kind
     pub marks_fit : length marks ≡ all_trees runs
 
 -- what a reader has still to give, which stands at these places
@@ -150,7 +197,19 @@ abbrev pub IsBehind : ℕ → ℕ → Option ℕ → Type 0
 IsBehind past count None = past + 1 ≡ count
 IsBehind past count (Some next) = (next ≡ past + 1) × (past + 1 ≢ count)
 
+-- a reader passes over plain sectors, all of which begin before an address
+pub record PassesPlain (old : List Want) (end : ℕ) (new : List Want) : Type 0 where
+  pub past : List Want
+  pub split : old ≡ past ++ new
+  pub plain : (want : Want) → In want past → is_plain want ≡ true
+  pub below : (want : Want) → In want past → addr_of want < end
+
+-- the same where it is to pass some; else nothing is passed
+abbrev pub PassesIf : Bool → List Want → ℕ → List Want → Type 0
+PassesIf true old end new = PassesPlain old end new
+PassesIf false old end new = new ≡ old
+
 -- a run has 16 bytes of memory, and so has a mark: a list takes at most 48 bytes
--- for each sector, and 32 for each tree block
+-- for each sector with a checksum, 16 for each without, and 32 for each tree block
 abbrev pub FewBytes : Type 0
-FewBytes = (kept : Kept) → IsList kept → length kept.runs * 16 + length kept.sums + length kept.marks * 16 ≤ all_sectors kept.runs * 48 + all_trees kept.runs * 32
+FewBytes = (kept : Kept) → IsList kept → length kept.runs * 16 + length kept.sums + length kept.marks * 16 ≤ all_sectors kept.runs * 48 + all_plains kept.runs * 16 + all_trees kept.runs * 32

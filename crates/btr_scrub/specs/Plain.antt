@@ -1,20 +1,21 @@
 -- Plain sectors, which are sectors of data without a checksum, and the columns of full stripes whose parities are kept for their sake.
-use Rattle.std.specs.Prelude.{◌≡◌, ℕ, zero, suc, ◌+◌, ◌*◌, ◌==◌, ◌&&◌, ◌||◌, Bool, false, not, List, [], ◌∷◌, length, Option, Some, None, IsSomeAnd, ◌<◌, ◌≤◌, slice_get, slice_index_or}
+use Rattle.std.specs.Prelude.{◌≡◌, ℕ, zero, suc, ◌+◌, ◌*◌, ◌==◌, ◌&&◌, Bool, not, List, [], ◌∷◌, length, Option, Some, None, IsSomeAnd, ◌<◌, ◌≤◌, slice_get}
 use Rattle.std.specs.List.{flat_map, list_any, range_with_len}
-use Rattle.std.specs.Option.{option_map_or}
 use Rattle.btr_chunk.specs.Chunk.{data_count}
 use Rattle.btr_chunk.specs.Mapping.{place_at}
 use Rattle.btr_chunk.specs.declared.chunk.Chunk.{Chunk}
 use Rattle.btr_chunk.specs.declared.place.Part.TheVariants.{Slice}
 use Rattle.btr_chunk.specs.declared.place.StripePlace.{StripePlace}
-use Rattle.btr_read.specs.Layout.{Layout, device_in}
-use Rattle.btr_scrub.specs.Units.{Met, Checked, Unchecked}
+use Rattle.btr_read.specs.Layout.{Layout}
+use Rattle.btr_scrub_copies.specs.Fresh.{Failing, is_doubtful}
+use Rattle.btr_scrub.specs.Units.{Met, Checked, Copied, Unchecked}
 use Rattle.btr_scrub.specs.declared.plain.PlainRun.{PlainRun}
 
--- the addresses of the plain sectors among what was met
+-- the addresses of the plain sectors in chunks with parity among what was met
 abbrev pub plain_among : List Met → List ℕ
 plain_among [] = []
 plain_among (Checked want ∷ met) = plain_among met
+plain_among (Copied addr ∷ met) = plain_among met
 plain_among (Unchecked addr ∷ met) = addr ∷ plain_among met
 
 -- the addresses of so many sectors that follow each other
@@ -57,20 +58,10 @@ slices_of chunk = data_count chunk.profile (length chunk.stripes)
 abbrev pub sector_addr : Chunk → ℕ → ℕ → ℕ → ℕ
 sector_addr chunk row slice column = chunk.start + (row * slices_of chunk + slice) * 65536 + column * 4096
 
--- by slot, the images on which some checked block doesn't pass at its place
-abbrev pub Failing : Type 0
-Failing = ℕ → Bool
-
--- the image of a device is in doubt: it is older, as it missed writes, or some checked block doesn't
--- pass at its place on it
-abbrev pub is_doubtful : Layout → Failing → ℕ → Bool
-is_doubtful layout failing devid =
-    option_map_or (λ device. device.older || failing device.slot) (device_in layout.devices devid) false
-
--- some image of a chunk is
+-- some image of a chunk is in doubt
 abbrev pub has_doubtful : Layout → Failing → Chunk → Bool
 has_doubtful layout failing chunk =
-    list_any (λ stripe. is_doubtful layout failing stripe.devid) chunk.stripes
+    list_any (λ stripe. is_doubtful layout.devices failing stripe.devid) chunk.stripes
 
 -- where a slice of a row begins
 abbrev pub slice_place : Chunk → ℕ → ℕ → StripePlace
@@ -81,7 +72,7 @@ slice_place chunk row slice =
 -- slice's own isn't
 abbrev pub is_surer : Layout → Failing → Chunk → ℕ → ℕ → Bool
 is_surer layout failing chunk row slice =
-    has_doubtful layout failing chunk && not (is_doubtful layout failing (slice_place chunk row slice).devid)
+    has_doubtful layout failing chunk && not (is_doubtful layout.devices failing (slice_place chunk row slice).devid)
 
 -- a plain sector stands in a column, in a slice that isn't surer
 abbrev pub is_unsure : Layout → Failing → List ℕ → Chunk → ℕ → ℕ → ℕ → Bool
@@ -93,10 +84,11 @@ abbrev pub is_kept : Layout → Failing → List ℕ → Chunk → ℕ → ℕ �
 is_kept layout failing plain chunk row column =
     list_any (is_unsure layout failing plain chunk row column) (range_with_len 0 (slices_of chunk))
 
--- what flags say, by slot
-abbrev pub flagged : List Bool → Failing
-flagged flags slot = slice_index_or flags slot false
+-- what is doubted as scrub begins: the columns whose parities are kept, by chunk and row, and the images that fail
+pub record Doubts : Type 0 where
+  pub columns : Chunk → ℕ → ℕ → Bool
+  pub failing : Failing
 
--- whether the parities of a column are kept, by its chunk and its row
-abbrev pub KeptColumns : Type 0
-KeptColumns = Chunk → ℕ → ℕ → Bool
+-- what is doubted beside plain sectors, by the images that fail
+abbrev pub doubts_of : Layout → Failing → List ℕ → Doubts
+doubts_of layout failing plain = record { columns = is_kept layout failing plain; failing = failing }

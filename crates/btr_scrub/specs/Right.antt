@@ -15,7 +15,8 @@ use Rattle.btr_read.specs.declared.want.Want.{Want}
 use Rattle.btr_scrub.specs.Filesystem.{Filesystem}
 use Rattle.btr_scrub_copies.specs.Blocks.{own_parts}
 use Rattle.btr_scrub_row.specs.Rows.{Row, parities, element, element_with, range_in_element}
-use Rattle.btr_scrub.specs.Repair.{first_missing, meeting, blocks, rows, ranges}
+use Rattle.btr_scrub_copies.specs.Fresh.{Failing, fresh, stale_parts}
+use Rattle.btr_scrub.specs.Repair.{first_missing, meeting, blocks, doubted, is_loose, rows, ranges, sites}
 use Rattle.btr_parity.specs.Slices.{IsSlice}
 use Rattle.btr_scrub.specs.Leaves.{KeepsOutside}
 use Rattle.btr_scrub_copies.specs.Writes.{Images}
@@ -80,6 +81,11 @@ StandsFor images C t = Any (λ c. (stands t c ≡ true) × (C t.want ≡ Some (v
 abbrev pub RangesMayHoldAnything : Images → Filesystem → Type 0
 RangesMayHoldAnything images fs = (C : Committed) (left : Images) → IsRepairable images fs C → KeepsOutside (ranges images fs) images left → All (StandsFor left C) (blocks images fs)
 
+-- whatever bytes stand in the ranges, each plain sector with copies has its fresh bytes still, if there are such bytes
+abbrev pub RangesLeaveFresh : Images → Filesystem → Type 0
+RangesLeaveFresh images fs = (C : Committed) (left : Images) → IsRepairable images fs C → KeepsOutside (ranges images fs) images left
+    → All (λ t. is_loose t ≡ true → fresh left (doubted images fs).failing t ≡ fresh images (doubted images fs).failing t) (sites images fs)
+
 -- a range lies in an element of a full stripe that is wrong
 abbrev pub LiesInWrong : Images → Layout → Committed → Row → Range → Type 0
 LiesInWrong images layout C row range =
@@ -89,7 +95,18 @@ LiesInWrong images layout C row range =
 abbrev pub IsOfWrongCopy : Images → Committed → Range → Target → Type 0
 IsOfWrongCopy images C range t = Any (λ part. (range_of t part ≡ Some range) × (C t.want ≢ Some (read.element images t part))) (own_parts t)
 
--- each range lies in a wrong element, or is a copy that isn't the committed one
+-- a range is that of a stale place of a plain sector with copies: it has other bytes than the fresh ones, on an image
+-- that is behind
+abbrev pub IsOfStale : Images → Failing → Range → Target → Type 0
+IsOfStale images fails range t = (is_loose t ≡ true) × Any (λ part. range_of t part ≡ Some range) (stale_parts images fails t)
+
+-- a range lies in a wrong element, or is a copy that isn't the committed one, or that of a stale place
+abbrev pub IsWrongRange : Images → Filesystem → Committed → Range → Type 0
+IsWrongRange images fs C range =
+    Any (λ row. LiesInWrong images fs.layout C row range) (rows images fs)
+    ⊎ Any (IsOfWrongCopy images C range) (blocks images fs)
+    ⊎ Any (IsOfStale images (doubted images fs).failing range) (sites images fs)
+
+-- each range does
 abbrev pub RangesLieInWrong : Images → Filesystem → Type 0
-RangesLieInWrong images fs = (C : Committed) → IsRepairable images fs C
-    → All (λ range. Any (λ row. LiesInWrong images fs.layout C row range) (rows images fs) ⊎ Any (IsOfWrongCopy images C range) (blocks images fs)) (ranges images fs)
+RangesLieInWrong images fs = (C : Committed) → IsRepairable images fs C → All (IsWrongRange images fs C) (ranges images fs)

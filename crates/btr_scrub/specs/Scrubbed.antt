@@ -12,7 +12,7 @@ use Rattle.btr_walk.specs.declared.fault.TreeFault.TheVariants as tree
 use Rattle.btr_scrub.specs.Filesystem.{Filesystem}
 use Rattle.btr_scrub.specs.Leaves.{KeepsOutside, WaitsInOne}
 use Rattle.btr_scrub.specs.Repair.{blocks, effect}
-use Rattle.btr_scrub.specs.Right.{Committed, IsRepairable, RangesLieInWrong, RangesMayHoldAnything, StandsFor}
+use Rattle.btr_scrub.specs.Right.{Committed, IsRepairable, RangesLeaveFresh, RangesLieInWrong, RangesMayHoldAnything, StandsFor}
 use Rattle.btr_scrub.specs.Scrubbing.{IsOfScrub}
 use Rattle.btr_scrub.specs.declared.tally.Tally.{Tally}
 
@@ -101,9 +101,10 @@ pub record IsScrubbed (c : Called) : Type 0 where
   pub image : (slot : ℕ) → c.result ≡ Err (stop.Image slot) → IsImageFault c slot
   pub waits : c.old.unsynced ≡ [] → WaitsInOne c.fs.layout c.old c.new
 
--- Whatever bytes stand in the ranges that are written, each checked block can be had, and nothing right lies there; so
--- each can be had from what is left, whatever failed.
+-- Whatever bytes stand in the ranges that are written, each checked block can be had, plain sectors with copies have their
+-- fresh bytes, and nothing right lies there; so each block can be had from what is left, whatever failed.
 pub record IsSafe (c : Called) : Type 0 where
   pub anything : IfSome c.old.held (λ images. RangesMayHoldAnything images c.fs)
+  pub fresh : IfSome c.old.held (λ images. RangesLeaveFresh images c.fs)
   pub wrong : IfSome c.old.held (λ images. RangesLieInWrong images c.fs)
   pub left : IsSure c → OfImages c (λ images left. (C : Committed) → IsRepairable images c.fs C → All (StandsFor left C) (blocks images c.fs))

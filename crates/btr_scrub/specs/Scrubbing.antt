@@ -11,7 +11,6 @@ use Rattle.btr_read.specs.Serves.{Serves}
 use Rattle.btr_read.specs.Store.{Blocks, free_count}
 use Rattle.btr_read.specs.Want.{addr_of}
 use Rattle.btr_read.specs.declared.want.Want.{Want}
-use Rattle.btr_scrub_copies.specs.Blocks.{block_writes}
 use Rattle.btr_scrub_copies.specs.Mending.{mended_of}
 use Rattle.btr_scrub_copies.specs.Syncing.{AreMarked, IsSyncOr, Strands, plain}
 use Rattle.btr_scrub_copies.specs.Turns.{WaitsAt}
@@ -26,8 +25,9 @@ use Rattle.btr_scrub_row.specs.declared.mended.MendedRow.{MendedRow}
 use Rattle.btr_scrub.specs.Glue.{In}
 use Rattle.btr_scrub.specs.Leaves.{LiesInStripe, WaitsInOne, alone}
 use Rattle.btr_scrub.specs.Order.{AreApart, targets}
-use Rattle.btr_scrub.specs.Plain.{KeptColumns}
-use Rattle.btr_scrub.specs.Repair.{first_missing, is_in_chunk, rows_in, stood}
+use Rattle.btr_scrub_copies.specs.Fresh.{Failing, freshened}
+use Rattle.btr_scrub.specs.Plain.{Doubts}
+use Rattle.btr_scrub.specs.Repair.{first_missing, is_in_chunk, is_loose, mending_writes, rows_in, stood}
 use Rattle.btr_scrub.specs.declared.tally.Tally.{Tally}
 
 -- the first of some blocks, if there is one, begins at or behind an address
@@ -51,9 +51,21 @@ counted tally mended = record {
   unchecked = tally.unchecked;
 }
 
--- the counts with those of one more block
-abbrev pub count_block : Images → Bool → Tally → Target → Tally
-count_block images write tally t = counted tally (mended_of images t write)
+-- counts with those of one more plain sector
+abbrev pub counted_plain : Tally → Mended → Tally
+counted_plain tally mended = record {
+  blocks = tally.blocks;
+  bad = stood (tally.bad + mended.bad);
+  repaired = stood (tally.repaired + mended.repaired);
+  lost = tally.lost;
+  parity = tally.parity;
+  unchecked = tally.unchecked;
+}
+
+-- the counts with those of one more block or plain sector
+abbrev pub count_site : Failing → Images → Bool → Tally → Target → Tally
+count_site failing images write tally t =
+    if is_loose t then counted_plain tally (freshened images failing t write) else counted tally (mended_of images t write)
 
 -- all blocks can be mended: devices are open and given, and where it is to be written each image was opened for writing
 pub record CanMend (write : Bool) (rack : Seen) (store : Blocks) (marks : List Bool) : Type 0 where
@@ -79,17 +91,17 @@ pub record Scrubs {A : Type 0} (layout : Layout) (write : Bool) (writes : Images
   pub counts : OnOk result (IfSome old.held (λ images. tally' ≡ count images tally))
   pub unwritten : write ≡ false → OnlyReads old new
 
--- the writes for blocks, in their order
-abbrev pub blocks_writes : List Target → Images → List Write
-blocks_writes ts images = flat_map (block_writes images) ts
+-- the writes for blocks and plain sectors, in their order
+abbrev pub sites_writes : Failing → List Target → Images → List Write
+sites_writes failing ts images = flat_map (mending_writes images failing) ts
 
--- the counts with those of some blocks
-abbrev pub blocks_count : Bool → List Target → Images → Tally → Tally
-blocks_count write ts images tally = fold (count_block images write) tally ts
+-- the counts with those of some blocks and plain sectors
+abbrev pub sites_count : Failing → Bool → List Target → Images → Tally → Tally
+sites_count failing write ts images tally = fold (count_site failing images write) tally ts
 
--- those of some blocks that lie in a chunk
-abbrev pub blocks_in : Layout → Chunk → List Want → List Target
-blocks_in layout chunk wants = filter (is_in_chunk chunk) (targets layout wants)
+-- those of some blocks and plain sectors that lie in a chunk
+abbrev pub sites_in : Layout → Chunk → List Want → List Target
+sites_in layout chunk wants = filter (is_in_chunk chunk) (targets layout wants)
 
 -- the blocks of a chunk are past, and those that come next lie behind it
 pub record IsPastChunk (layout : Layout) (chunk : Chunk) (old new : List Want) : Type 0 where
@@ -153,24 +165,28 @@ rows_count layout write rs images tally = fold (count_row images layout write) t
 
 -- ---- one chunk
 
--- the writes in a chunk for those of some blocks that lie in it: block by block where there are copies, and full
--- stripe by full stripe where there is parity
-abbrev pub chunk_writes_for : KeptColumns → Layout → Chunk → List Want → Images → List Write
-chunk_writes_for kept layout chunk wants images =
-    if is_none (mirrors chunk) then rows_writes layout (rows_in kept (targets layout wants) chunk) images else blocks_writes (blocks_in layout chunk wants) images
+-- the writes in a chunk for those of some blocks and plain sectors that lie in it: one after another where there are
+-- copies, and full stripe by full stripe where there is parity
+abbrev pub chunk_writes_for : Doubts → Layout → Chunk → List Want → Images → List Write
+chunk_writes_for doubts layout chunk wants images =
+    if is_none (mirrors chunk)
+    then rows_writes layout (rows_in doubts (targets layout wants) chunk) images
+    else sites_writes doubts.failing (sites_in layout chunk wants) images
 
 -- the counts with those of some blocks that lie in a chunk
-abbrev pub chunk_count_for : KeptColumns → Layout → Bool → Chunk → List Want → Images → Tally → Tally
-chunk_count_for kept layout write chunk wants images tally =
-    if is_none (mirrors chunk) then rows_count layout write (rows_in kept (targets layout wants) chunk) images tally else blocks_count write (blocks_in layout chunk wants) images tally
+abbrev pub chunk_count_for : Doubts → Layout → Bool → Chunk → List Want → Images → Tally → Tally
+chunk_count_for doubts layout write chunk wants images tally =
+    if is_none (mirrors chunk)
+    then rows_count layout write (rows_in doubts (targets layout wants) chunk) images tally
+    else sites_count doubts.failing write (sites_in layout chunk wants) images tally
 
 -- the writes for those of some blocks that lie in some chunks, chunk by chunk
-abbrev pub all_writes_for : KeptColumns → Layout → List Chunk → List Want → Images → List Write
-all_writes_for kept layout chunks wants images = flat_map (λ chunk. chunk_writes_for kept layout chunk wants images) chunks
+abbrev pub all_writes_for : Doubts → Layout → List Chunk → List Want → Images → List Write
+all_writes_for doubts layout chunks wants images = flat_map (λ chunk. chunk_writes_for doubts layout chunk wants images) chunks
 
 -- the counts with those of some blocks that lie in some chunks, chunk by chunk
-abbrev pub all_count_for : KeptColumns → Layout → Bool → List Chunk → List Want → Images → Tally → Tally
-all_count_for kept layout write chunks wants images tally = fold (λ tally chunk. chunk_count_for kept layout write chunk wants images tally) tally chunks
+abbrev pub all_count_for : Doubts → Layout → Bool → List Chunk → List Want → Images → Tally → Tally
+all_count_for doubts layout write chunks wants images tally = fold (λ tally chunk. chunk_count_for doubts layout write chunk wants images tally) tally chunks
 
 -- ---- with syncs
 

@@ -1,18 +1,25 @@
-// The blocks of a chunk with copies.
-ghost use Rattle.std.specs.Prelude.{◌≡◌, Ok, OnOk};
+// The blocks of a chunk with copies, and its sectors without a checksum.
+ghost use Rattle.std.specs.Prelude.{◌≡◌, ◌&&◌, not, true, Ok, OnOk};
 ghost use Rattle.btr_read.specs.Candidates.{Target};
-ghost use Rattle.btr_read.specs.Fate.{sought};
+ghost use Rattle.btr_read.specs.Fate.{is_plain, sought};
 ghost use Rattle.btr_read.specs.Store.{SameLoans};
 ghost use Rattle.btr_scrub_copies.specs.Blocks.{block_writes};
-ghost use Rattle.btr_scrub_copies.specs.Mending.{IsCopied};
+ghost use Rattle.btr_scrub_copies.specs.Mending.{IsCopied, mended_of};
 ghost use Rattle.btr_scrub.specs.Leaves.{alone};
-ghost use Rattle.btr_scrub.specs.Scrubbing.{CanMend, CopiesComeNext, GivesBelow, PassesChunk, Scrubs, ScrubsChunk, blocks_count, blocks_in, blocks_writes, count_block, counted};
+ghost use Rattle.btr_scrub.specs.Listed.{PassesIf};
+ghost use Rattle.btr_scrub_copies.specs.Fresh.{flagged, fresh_writes, freshened, is_behind};
+ghost use Rattle.btr_scrub.specs.Judged.{has_behind};
+ghost use Rattle.btr_scrub.specs.Repair.{mending_writes};
+ghost use Rattle.btr_scrub.specs.Scrubbing.{CanMend, CopiesComeNext, GivesBelow, PassesChunk, Scrubs, ScrubsChunk, count_site, counted, counted_plain, sites_count, sites_in, sites_writes};
 
+use crate::judging::is_plain;
 use crate::reader::Reader;
 use crate::tally::Tally;
+use crate::task::ChunkTask;
+use btr_chunk::Chunk;
 use btr_rack::Rack;
 use btr_read::{Store, Want};
-use btr_scrub_copies::{MendFault, Mended, mend_copies};
+use btr_scrub_copies::{MendFault, Mended, mend_copies, mend_plain};
 
 // The next block, if it lies before an address; else the reader stays where it is.
 pub(crate) fn next_below(blocks: &mut Reader<'_>, end: u64) -> Option<Want>
@@ -56,7 +63,7 @@ fn mend_block<R: Rack>(
     ensures loans { SameLoans store.old store.new }
     ensures scrubs { (t : Target) → sought store.old.layout want.now ≡ Ok t
         → Scrubs (alone store.old.layout t.chunk) write (λ images. block_writes images t)
-        (λ images tally. count_block images write tally t)
+        (λ images tally. counted tally (mended_of images t write))
         marks.old marks.new (R.seen rack.old) (R.seen rack.new) tally.old tally.new result }
 {
     match mend_copies(want, write, rack, store, marks) {
@@ -68,35 +75,153 @@ fn mend_block<R: Rack>(
     }
 }
 
-/// Mends the blocks of the chunk of a number, a chunk with copies, that a reader has next.
-///
-/// `Image`: a read or a write of an image failed, and nothing was tried behind it. `Memory`: a write wanted memory.
-pub(crate) fn mend_blocks<R: Rack>(
-    number: usize,
+// Counts with those of one more sector without a checksum.
+fn counted_plain(tally: &Tally, mended: &Mended) -> Tally
+    ensures { result ≡ counted_plain tally.now mended.now }
+{
+    Tally {
+        bad: tally.bad.saturating_add(u64::from(mended.bad)),
+        repaired: tally.repaired.saturating_add(u64::from(mended.repaired)),
+        ..*tally
+    }
+}
+
+// Brings a sector without a checksum up to date by its copies, and counts what came of it.
+fn mend_sector<R: Rack>(
+    want: &Want,
     write: bool,
-    blocks: &mut Reader<'_>,
+    failing: &[bool],
     rack: &mut R,
     store: &mut Store,
     marks: &mut [bool],
     tally: &mut Tally,
 ) -> Result<(), MendFault>
     requires ready { CanMend write (R.seen rack.old) store.old marks.old }
-    requires chunk { CopiesComeNext store.old.layout number blocks.old }
+    requires copied { IsCopied store.old.layout want.now }
+    requires plain { is_plain want.now ≡ true }
     ensures ready { CanMend write (R.seen rack.new) store.new marks.new }
     ensures loans { SameLoans store.old store.new }
-    ensures past { OnOk result (PassesChunk store.old.layout number blocks.old blocks.new) }
-    ensures scrubs { ScrubsChunk store.old.layout number write
-        (λ chunk. blocks_writes (blocks_in store.old.layout chunk blocks.old))
-        (λ chunk. blocks_count write (blocks_in store.old.layout chunk blocks.old))
+    ensures scrubs { (t : Target) → sought store.old.layout want.now ≡ Ok t
+        → Scrubs (alone store.old.layout t.chunk) write (λ images. fresh_writes images (flagged failing.now) t)
+        (λ images tally. counted_plain tally (freshened images (flagged failing.now) t write))
         marks.old marks.new (R.seen rack.old) (R.seen rack.new) tally.old tally.new result }
 {
-    let chunk = store.chunks().at(number);
+    match mend_plain(want, write, failing, rack, store, marks) {
+        Ok(mended) => {
+            *tally = counted_plain(tally, &mended);
+            Ok(())
+        }
+        Err(fault) => Err(fault),
+    }
+}
+
+// Mends what a want is of, and counts what came of it.
+fn mend_site<R: Rack>(
+    want: &Want,
+    write: bool,
+    failing: &[bool],
+    rack: &mut R,
+    store: &mut Store,
+    marks: &mut [bool],
+    tally: &mut Tally,
+) -> Result<(), MendFault>
+    requires ready { CanMend write (R.seen rack.old) store.old marks.old }
+    requires copied { IsCopied store.old.layout want.now }
+    ensures ready { CanMend write (R.seen rack.new) store.new marks.new }
+    ensures loans { SameLoans store.old store.new }
+    ensures scrubs { (t : Target) → sought store.old.layout want.now ≡ Ok t
+        → Scrubs (alone store.old.layout t.chunk) write (λ images. mending_writes images (flagged failing.now) t)
+        (λ images tally. count_site (flagged failing.now) images write tally t)
+        marks.old marks.new (R.seen rack.old) (R.seen rack.new) tally.old tally.new result }
+{
+    if is_plain(want) {
+        mend_sector(want, write, failing, rack, store, marks, tally)
+    } else {
+        mend_block(want, write, rack, store, marks, tally)
+    }
+}
+
+// What flags say of a slot.
+fn flagged(flags: &[bool], slot: usize) -> bool
+    ensures { result ≡ flagged flags.now slot }
+{
+    if slot < flags.len() {
+        flags[slot]
+    } else {
+        false
+    }
+}
+
+// Whether the image of a device is behind: it is older, and flagged.
+fn is_behind(devid: u64, failing: &[bool], store: &Store) -> bool
+    ensures { result ≡ is_behind store.now.layout.devices (flagged failing.now) devid }
+{
+    match store.device(devid) {
+        Some(device) => device.older && flagged(failing, device.slot),
+        None => false,
+    }
+}
+
+// Whether some image of a chunk is.
+fn has_behind(chunk: &Chunk, failing: &[bool], store: &Store) -> bool
+    ensures { result ≡ has_behind store.now.layout.devices (flagged failing.now) chunk.now }
+{
+    for i in 0..chunk.stripes.len() {
+        if is_behind(chunk.stripes.at(i).devid, failing, store) {
+            return true;
+        }
+    }
+    false
+}
+
+// Whether a want is of a sector without a checksum, in a chunk no image of which is behind.
+fn is_calm(want: &Want, behind: bool) -> bool
+    ensures { result ≡ (is_plain want.now && not behind) }
+{
+    is_plain(want) && !behind
+}
+
+// Passes over the sectors without a checksum that come next and follow each other, if that is wanted, as far as they begin before an address.
+fn pass_if(wanted: bool, end: u64, blocks: &mut Reader<'_>)
+    ensures { PassesIf wanted blocks.old end blocks.new }
+{
+    if wanted {
+        blocks.pass_plain(end);
+    }
+}
+
+/// Mends the blocks of the chunk of a task, a chunk with copies, that a reader has next, and brings its sectors without a checksum up to date. Where
+/// no image of the chunk is behind, those that follow each other are passed at once.
+///
+/// `Image`: a read or a write of an image failed, and nothing was tried behind it. `Memory`: a write wanted memory.
+pub(crate) fn mend_blocks<R: Rack>(
+    task: ChunkTask,
+    failing: &[bool],
+    blocks: &mut Reader<'_>,
+    rack: &mut R,
+    store: &mut Store,
+    marks: &mut [bool],
+    tally: &mut Tally,
+) -> Result<(), MendFault>
+    requires ready { CanMend task.write (R.seen rack.old) store.old marks.old }
+    requires chunk { CopiesComeNext store.old.layout task.number blocks.old }
+    ensures ready { CanMend task.write (R.seen rack.new) store.new marks.new }
+    ensures loans { SameLoans store.old store.new }
+    ensures past { OnOk result (PassesChunk store.old.layout task.number blocks.old blocks.new) }
+    ensures scrubs { ScrubsChunk store.old.layout task.number task.write
+        (λ chunk. sites_writes (flagged failing.now) (sites_in store.old.layout chunk blocks.old))
+        (λ chunk. sites_count (flagged failing.now) task.write (sites_in store.old.layout chunk blocks.old))
+        marks.old marks.new (R.seen rack.old) (R.seen rack.new) tally.old tally.new result }
+{
+    let chunk = store.chunks().at(task.number);
     let end = chunk.start + chunk.length;
+    let behind = has_behind(chunk, failing, store);
     while let Some(want) = next_below(blocks, end) {
-        match mend_block(&want, write, rack, store, marks, tally) {
+        match mend_site(&want, task.write, failing, rack, store, marks, tally) {
             Ok(()) => {}
             Err(fault) => return Err(fault),
         }
+        pass_if(is_calm(&want, behind), end, blocks);
     }
     Ok(())
 }

@@ -1,27 +1,28 @@
 // The images on which some checked block doesn't pass at its place.
 ghost use Rattle.std.specs.Prelude.{◌≡◌, ◌+◌, ◌<◌, ◌≤◌, length, slice_set, true};
-ghost use Rattle.std.specs.Prelude.{IfOk, IfSome, IsOk, Ok, Some};
+ghost use Rattle.std.specs.Prelude.{IfOk, IfSome, IsOk, IsTrue, Ok, Some};
+ghost use Rattle.std.specs.List.{list_any};
 ghost use Rattle.btr_chunk.specs.Chunk.{data_count, mirrors};
 ghost use Rattle.btr_chunk.specs.Table.{IsTable};
 ghost use Rattle.btr_rack.specs.Rack.{OnlyReads, bytes_of, len_of as image_len};
 ghost use Rattle.btr_rack.specs.declared.place.Place.{Place as Range};
 ghost use Rattle.btr_read.specs.Candidates.{Target, range_of};
-ghost use Rattle.btr_read.specs.Fate.{sought};
+ghost use Rattle.btr_read.specs.Fate.{is_plain, sought};
 ghost use Rattle.btr_read.specs.Layout.{AreOpen};
 ghost use Rattle.btr_read.specs.Want.{len_of, passes};
 ghost use Rattle.btr_scrub_copies.specs.Writes.{AccountsMend};
 ghost use Rattle.btr_scrub.specs.Doubts.{fails_at, fails_on};
 ghost use Rattle.btr_scrub.specs.Judged.{AccountsParts, FlagsAll, FlagsBlock, HasOwn};
-ghost use Rattle.btr_scrub.specs.Judged.{IsReady, Suffices, some_parity};
+ghost use Rattle.btr_scrub.specs.Judged.{IsIdle, IsReady, Suffices, has_older, is_older, some_older, some_parity};
 ghost use Rattle.btr_scrub.specs.Leaves.{LiesInStripe};
 ghost use Rattle.btr_scrub.specs.Listed.{IsList, kept_wants};
 ghost use Rattle.btr_scrub.specs.Order.{AreApart};
 
 use crate::gathered::Gathered;
-use crate::judging::len_of;
+use crate::judging::{is_plain, len_of};
 use crate::mending::has_parity;
 use crate::reader::{Reader, read_all};
-use btr_chunk::{Part, elements, place_of};
+use btr_chunk::{Chunk, Part, elements, place_of};
 use btr_rack::{Place, Rack, RackError};
 use btr_read::{Store, Want, passes};
 use btr_scrub_copies::MendFault;
@@ -187,7 +188,7 @@ fn flag_copies<R: Rack>(
     Ok(())
 }
 
-// The same for a block, wherever it lies.
+// The same for a block, wherever it lies. A sector without a checksum passes everywhere.
 fn flag_block<R: Rack>(
     want: &Want,
     nodesize: u32,
@@ -207,6 +208,9 @@ fn flag_block<R: Rack>(
     ensures account { AccountsParts store.now.layout want.now
         (R.seen rack.old) (R.seen rack.new) result }
 {
+    if is_plain(want) {
+        return Ok(());
+    }
     match copies_of(want, store) {
         Some(copies) => flag_copies(want, copies, nodesize, rack, store, probe),
         None => {
@@ -260,8 +264,65 @@ fn some_parity(store: &Store) -> bool
     false
 }
 
-/// By slot, whether some of the listed blocks doesn't pass at its place on the image. It matters
-/// beside plain sectors in chunks with parity alone: where there are none nothing is read.
+// Whether the image of a device is older.
+fn is_older(devid: u64, store: &Store) -> bool
+    ensures { result ≡ is_older store.now.layout.devices devid }
+{
+    match store.device(devid) {
+        Some(device) => device.older,
+        None => false,
+    }
+}
+
+// Whether some image of a chunk is.
+fn has_older(chunk: &Chunk, store: &Store) -> bool
+    ensures { result ≡ has_older store.now.layout.devices chunk.now }
+{
+    for i in 0..chunk.stripes.len() {
+        if is_older(chunk.stripes.at(i).devid, store) {
+            return true;
+        }
+    }
+    false
+}
+
+// Whether some image of some chunk is.
+fn some_older(store: &Store) -> bool
+    ensures { result ≡ some_older store.now.layout }
+{
+    for i in 0..store.chunks().count() {
+        if has_older(store.chunks().at(i), store) {
+            return true;
+        }
+    }
+    false
+}
+
+// Whether there is a sector without a checksum among the blocks that a reader has.
+fn some_plain(blocks: &mut Reader<'_>) -> bool
+    ensures { result ≡ list_any is_plain blocks.old }
+{
+    while let Some(want) = blocks.next() {
+        if is_plain(&want) {
+            return true;
+        }
+    }
+    false
+}
+
+// Whether it matters nowhere which images fail.
+fn is_idle(gathered: &Gathered, store: &Store) -> bool
+    requires { IsList gathered.now.list }
+    ensures { IsTrue result → IsIdle store.now.layout (kept_wants gathered.now.list) gathered.now.plain }
+{
+    if !gathered.plain.is_empty() && some_parity(store) {
+        return false;
+    }
+    !some_older(store) || !some_plain(&mut read_all(&gathered.list))
+}
+
+/// By slot, whether some of the listed blocks doesn't pass at its place on the image. It matters beside
+/// sectors without a checksum alone, in chunks with parity, or on older images: elsewhere nothing is read.
 ///
 /// `Image`: a read of an image failed, and nothing was tried behind it.
 /// `Memory`: for want of memory.
@@ -287,7 +348,7 @@ pub(crate) fn failing_images<R: Rack>(
     let Ok(failing) = vec![in alloc; false; rack.count()] else {
         return Err(MendFault::Memory);
     };
-    if gathered.plain.is_empty() || !some_parity(store) {
+    if is_idle(gathered, store) {
         return Ok(failing);
     }
     let Ok(buffer) = vec![in alloc; 0; nodesize as usize] else {

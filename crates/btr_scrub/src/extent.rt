@@ -1,6 +1,6 @@
 // Extents, as the items of the extent tree state them.
 ghost use Rattle.std.specs.Prelude.{◌≡◌, ◌+◌, ◌<◌, ◌^◌, true};
-ghost use Rattle.btr_chunk.specs.Chunk.{is_striped};
+ghost use Rattle.btr_chunk.specs.Chunk.{IsChunk, is_striped};
 ghost use Rattle.btr_files.specs.Sums.{kind_in};
 ghost use Rattle.btr_items.specs.Key.{key_fits};
 ghost use Rattle.btr_walk.specs.Showing.{item_of};
@@ -26,12 +26,13 @@ pub(crate) struct Extent {
     pub(crate) level: Option<u8>,
 }
 
-/// Where a chunk's addresses lie, and whether its bytes lie on its stripes element by element.
+/// Where a chunk's addresses lie, whether its bytes lie on its stripes element by element, and whether it has copies.
 #[derive(Clone, Copy, Debug, PartialEq, Eq)]
 pub(crate) struct Span {
     pub(crate) start: u64,
     pub(crate) length: u64,
     pub(crate) striped: bool,
+    pub(crate) copied: bool,
 }
 
 // Whether the profile of a chunk puts data on its stripes element by element.
@@ -46,12 +47,14 @@ fn is_striped(profile: Profile) -> bool
 
 /// The span of a chunk.
 pub(crate) fn span_of(chunk: &Chunk) -> Span
+    requires { IsChunk chunk.now }
     ensures { result ≡ span_of chunk.now }
 {
     Span {
         start: chunk.start,
         length: chunk.length,
         striped: is_striped(chunk.profile),
+        copied: chunk.mirrors().is_some(),
     }
 }
 

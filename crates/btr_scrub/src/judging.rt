@@ -1,5 +1,6 @@
 // A second look at the list of the checked blocks, before anything is written.
 ghost use Rattle.std.specs.Prelude.{◌≡◌};
+ghost use Rattle.btr_read.specs.Fate.{is_plain};
 ghost use Rattle.btr_read.specs.Want.{len_of};
 ghost use Rattle.btr_read.specs.declared.setting.Setting.{Setting};
 ghost use Rattle.btr_scrub.specs.Judging.{Judged, JudgedOne};
@@ -8,6 +9,13 @@ use crate::reader::Reader;
 use btr_chunk::{MapFault, elements};
 use btr_read::{Store, Want};
 use btr_walk::TreeFault;
+
+/// Whether a want makes no test: that of a sector without a checksum.
+pub(crate) fn is_plain(want: &Want) -> bool
+    ensures { result ≡ is_plain want.now }
+{
+    matches!(want, Want::Plain { .. })
+}
 
 // How many bytes a block has.
 pub(crate) fn len_of(want: &Want, nodesize: u32) -> u64

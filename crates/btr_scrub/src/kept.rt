@@ -1,36 +1,17 @@
 // The columns of full stripes whose parities are kept for the sake of plain sectors.
 ghost use Rattle.std.specs.Prelude.{◌≡◌, ℕ, ◌+◌, ◌*◌, ◌<◌, ◌≤◌, ◌^◌, ◌&&◌, ◌||◌, not, None, length, IsSomeAnd, false, slice_get, slice_index_or};
 ghost use Rattle.btr_chunk.specs.Chunk.{IsChunk, mirrors, stripe_length};
-ghost use Rattle.btr_scrub.specs.Judged.{kept_beside};
-ghost use Rattle.btr_scrub.specs.Plain.{flagged, has_doubtful, is_doubtful, is_plain, is_surer, slices_of};
+ghost use Rattle.btr_scrub.specs.Judged.{doubts_beside};
+ghost use Rattle.btr_scrub_copies.specs.Fresh.{flagged};
+ghost use Rattle.btr_scrub.specs.Plain.{has_doubtful, is_plain, is_surer, slices_of};
 
 use crate::beside::Beside;
 use crate::plain::Plain;
 use btr_chunk::{Chunk, Elements, Part, Profile, place_of};
 use btr_read::Store;
+use btr_scrub_copies::is_doubtful;
 
-// What flags say of a slot.
-fn flagged(flags: &[bool], slot: usize) -> bool
-    ensures { result ≡ flagged flags.now slot }
-{
-    if slot < flags.len() {
-        flags[slot]
-    } else {
-        false
-    }
-}
-
-// Whether the image of a device is in doubt: it is older, or flagged.
-fn is_doubtful(devid: u64, failing: &[bool], store: &Store) -> bool
-    ensures { result ≡ is_doubtful store.now.layout (flagged failing.now) devid }
-{
-    match store.device(devid) {
-        Some(device) => device.older || flagged(failing, device.slot),
-        None => false,
-    }
-}
-
-// Whether some image of a chunk is.
+// Whether some image of a chunk is in doubt.
 fn has_doubtful(chunk: &Chunk, failing: &[bool], store: &Store) -> bool
     ensures { result ≡ has_doubtful store.now.layout (flagged failing.now) chunk.now }
 {
@@ -107,7 +88,7 @@ pub(crate) fn kept_columns(number: usize, row: u64, beside: &Beside, store: &Sto
     requires { IsSomeAnd (slice_get store.now.layout.chunks number)
         (λ chunk. (mirrors chunk ≡ None) × (row * 65536 + 65536 ≤ stripe_length chunk)) }
     ensures { IsSomeAnd (slice_get store.now.layout.chunks number)
-        (λ chunk. (column : ℕ) → column < 16 → slice_index_or result column false ≡ kept_beside store.now.layout beside.now chunk row column) }
+        (λ chunk. (column : ℕ) → column < 16 → slice_index_or result column false ≡ (doubts_beside store.now.layout beside.now).columns chunk row column) }
 {
     let chunk = store.chunks().at(number);
     let slices = slice_count(chunk);

@@ -61,7 +61,7 @@ pub fn differing_parity_is_wrong()
     ensures { DifferingParityIsWrong }
 {}
 
-/// A list of checked blocks takes at most 48 bytes for each sector, and 32 for each tree block (`docs/FORMAT.md`, "Checked blocks").
+/// A list of blocks takes at most 48 bytes for each sector with a checksum, 16 for each without, and 32 for each tree block (`docs/FORMAT.md`, "Checked blocks").
 pub fn few_bytes()
     ensures { FewBytes }
 {}

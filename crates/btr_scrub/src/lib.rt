@@ -1,4 +1,5 @@
 //! Scrub: each copy of each checked block is read, and what is bad is written anew where a right copy or enough parity is left.
+//! A sector without a checksum that has copies gets the bytes of a sure one on images that are behind.
 //!
 //! `scrub` first makes the list of the checked blocks (`list_blocks`), which reads the extent tree and the checksum tree and writes nothing, and then goes
 //! over it chunk by chunk. The layer above is promised exactly the blocks that `specs/Units.antt` says, in their order, or the first fault; and then

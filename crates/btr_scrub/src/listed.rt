@@ -1,7 +1,7 @@
-// The checked blocks, listed in memory.
-ghost use Rattle.std.specs.Prelude.{◌≡◌, ◌++◌, length, take, OnOk};
+// The checked blocks and the sectors without a checksum that have copies, listed in memory.
+ghost use Rattle.std.specs.Prelude.{◌≡◌, ◌+◌, ◌*◌, ◌<◌, ◌^◌, ◌++◌, length, take, IsTrue, OnOk};
 ghost use Rattle.btr_base.specs.Sum.{sum_size};
-ghost use Rattle.btr_scrub.specs.Listed.{IsLonger};
+ghost use Rattle.btr_scrub.specs.Listed.{IsExtended, IsLonger};
 
 use crate::pages::Pages;
 use crate::run::{Run, RunKind, TreeMark};
@@ -9,8 +9,8 @@ use btr_base::{Memory, Sum, SumKind};
 use std::alloc::Global;
 use std::marker::Model;
 
-/// The checked blocks of a filesystem in their order (`docs/FORMAT.md`, "Checked blocks"). Sectors of data that follow each other are one run of 16 bytes, and each has its checksum of 4, 8
-/// or 32 bytes; a tree block has 16 bytes beside its run.
+/// The checked blocks of a filesystem in their order (`docs/FORMAT.md`, "Checked blocks"), and between them the sectors without a checksum in chunks with copies. Sectors of data that
+/// follow each other are one run of 16 bytes, and each has its checksum of 4, 8 or 32 bytes, if it has one; a tree block has 16 bytes beside its run.
 #[derive(Drop)]
 pub struct Listed {
     kind: SumKind,
@@ -31,7 +31,15 @@ impl Model for Listed {
     ghost view = { λ s. record { kind = s.kind; runs = s.runs ++ option_to_list s.last; sums = s.sums; marks = s.marks } };
 }
 
-// The last run with one more sector, if the address is the next of its sectors.
+// Whether an address is that behind so many sectors of a run, which can have one more.
+fn follows(run: Run, count: u32, addr: u64) -> bool
+    ensures next { IsTrue result → addr ≡ run.addr + count * 4096 }
+    ensures room { IsTrue result → count + 1 < 2 ^ 32 }
+{
+    count != u32::MAX && addr >= run.addr && addr - run.addr == u64::from(count) * 4096
+}
+
+// The last run with one more sector that has a checksum, if the address is the next of its sectors.
 fn lengthened(last: Option<Run>, addr: u64) -> Option<Run>
     ensures { IsLonger last addr result }
 {
@@ -39,12 +47,29 @@ fn lengthened(last: Option<Run>, addr: u64) -> Option<Run>
     let RunKind::Sectors(count) = run.kind else {
         return None;
     };
-    if count == u32::MAX || addr < run.addr || addr - run.addr != u64::from(count) * 4096 {
+    if !follows(run, count, addr) {
         return None;
     }
     Some(Run {
         addr: run.addr,
         kind: RunKind::Sectors(count + 1),
+    })
+}
+
+// The same with one more that has none.
+fn extended(last: Option<Run>, addr: u64) -> Option<Run>
+    ensures { IsExtended last addr result }
+{
+    let run = last?;
+    let RunKind::Unsummed(count) = run.kind else {
+        return None;
+    };
+    if !follows(run, count, addr) {
+        return None;
+    }
+    Some(Run {
+        addr: run.addr,
+        kind: RunKind::Unsummed(count + 1),
     })
 }
 
@@ -63,7 +88,7 @@ impl Listed {
     ghost use Rattle.std.specs.Prelude.{◌≡◌, ◌+◌, ◌<◌, ◌≤◌, ◌^◌, [], drop, length, slice_get, OnOk};
     ghost use Rattle.btr_base.specs.Sum.{stored_sum, sum_size};
     ghost use Rattle.btr_scrub.specs.Listed.{AddsTo, Begins, IsList, kept_wants};
-    ghost use Rattle.btr_read.specs.declared.want.Want.TheVariants.{Tree, Sector};
+    ghost use Rattle.btr_read.specs.declared.want.Want.TheVariants.{Plain, Tree, Sector};
 
     /// A list of no blocks, for checksums of this kind.
     pub(crate) fn new(alloc: Global, kind: SumKind) -> Listed
@@ -121,6 +146,23 @@ impl Listed {
                 })?;
                 push_sum(&mut self.sums, self.kind, sum)
             }
+        }
+    }
+
+    /// Puts a sector of data that has no checksum behind the others. After `Memory` the list isn't used again.
+    pub(crate) fn push_plain(&mut self, addr: u64) -> Result<(), Memory>
+        requires { IsList self.old }
+        ensures { OnOk result (AddsTo self.old self.new (Plain addr)) }
+    {
+        match extended(self.last, addr) {
+            Some(run) => {
+                self.last = Some(run);
+                Ok(())
+            }
+            None => self.begin(Run {
+                addr,
+                kind: RunKind::Unsummed(1),
+            }),
         }
     }
 

@@ -1,4 +1,4 @@
-// A reader of the list of checked blocks.
+// A reader of the list of blocks.
 ghost use Rattle.std.specs.Prelude.{◌≡◌, ◌<◌};
 ghost use Rattle.btr_scrub.specs.Listed.{IsBehind, IsList, kept_wants};
 
@@ -7,7 +7,7 @@ use crate::run::RunKind;
 use btr_read::Want;
 use std::marker::Model;
 
-/// A place in a list of checked blocks (`docs/FORMAT.md`, "Checked blocks"), seen as those that come behind it.
+/// A place in a list of blocks (`docs/FORMAT.md`, "Checked blocks"), seen as those that come behind it.
 #[derive(Drop)]
 pub struct Reader<'a> {
     listed: &'a Listed,
@@ -59,7 +59,7 @@ pub fn read_all(listed: &Listed) -> Reader<'_>
 
 impl<'a> Reader<'a> {
     ghost use Rattle.std.specs.Prelude.{◌≡◌};
-    ghost use Rattle.btr_scrub.specs.Listed.{Gives};
+    ghost use Rattle.btr_scrub.specs.Listed.{Gives, PassesPlain};
 
     /// Another reader at the same place.
     pub fn again(&self) -> Reader<'a>
@@ -103,6 +103,40 @@ impl<'a> Reader<'a> {
                 }
                 Some(Want::Sector { addr, sum })
             }
+            RunKind::Unsummed(count) => {
+                let addr = run.addr + u64::from(self.past) * 4096;
+                match behind(self.past, count) {
+                    None => {
+                        self.run += 1;
+                        self.past = 0;
+                    }
+                    Some(past) => self.past = past,
+                }
+                Some(Want::Plain { addr })
+            }
+        }
+    }
+
+    /// Passes over the sectors without a checksum that come next and follow each other, as far as they begin before an address.
+    pub(crate) fn pass_plain(&mut self, end: u64)
+        ensures { PassesPlain self.old end self.new }
+    {
+        let Some(run) = self.listed.run_at(self.run) else {
+            return;
+        };
+        let RunKind::Unsummed(count) = run.kind else {
+            return;
+        };
+        let addr = run.addr + u64::from(self.past) * 4096;
+        if addr >= end {
+            return;
+        }
+        let below = (end - addr - 1) / 4096 + 1;
+        if below >= u64::from(count - self.past) {
+            self.run += 1;
+            self.past = 0;
+        } else {
+            self.past += below as u32;
         }
     }
 }

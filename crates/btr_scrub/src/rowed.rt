@@ -9,7 +9,7 @@ ghost use Rattle.btr_scrub_row.specs.Mending.{AreKept, IsRow, IsRowOf, mended_ro
 ghost use Rattle.btr_scrub_row.specs.Rows.{Row, row_writes};
 ghost use Rattle.btr_scrub.specs.Leaves.{alone};
 ghost use Rattle.btr_scrub.specs.Order.{targets};
-ghost use Rattle.btr_scrub.specs.Judged.{kept_beside};
+ghost use Rattle.btr_scrub.specs.Judged.{doubts_beside};
 ghost use Rattle.btr_scrub.specs.Repair.{rows_in};
 ghost use Rattle.btr_scrub.specs.Rowing.{Collects, CollectsRow, GivesInRow, row_in};
 ghost use Rattle.btr_scrub.specs.Scrubbing.{CanMend, HasRooms, PassesChunk, RowsComeNext, Scrubs, ScrubsChunk, counted_row, rows_count, rows_writes};
@@ -178,8 +178,8 @@ pub(crate) fn mend_rows<R: Rack>(
     ensures rooms { HasRooms store.old.layout room.new.buffer }
     ensures past { OnOk result (PassesChunk store.old.layout task.number blocks.old blocks.new) }
     ensures scrubs { ScrubsChunk store.old.layout task.number task.write
-        (λ chunk. rows_writes store.old.layout (rows_in (kept_beside store.old.layout beside.now) (targets store.old.layout blocks.old) chunk))
-        (λ chunk. rows_count store.old.layout task.write (rows_in (kept_beside store.old.layout beside.now) (targets store.old.layout blocks.old) chunk))
+        (λ chunk. rows_writes store.old.layout (rows_in (doubts_beside store.old.layout beside.now) (targets store.old.layout blocks.old) chunk))
+        (λ chunk. rows_count store.old.layout task.write (rows_in (doubts_beside store.old.layout beside.now) (targets store.old.layout blocks.old) chunk))
         marks.old marks.new (R.seen rack.old) (R.seen rack.new) tally.old tally.new result }
 {
     let chunk = store.chunks().at(task.number);

@@ -1,4 +1,4 @@
-/// Checked blocks that follow each other.
+/// Blocks or sectors that follow each other.
 #[derive(Clone, Copy, Debug, PartialEq, Eq)]
 pub(crate) struct Run {
     /// The address of the first.
@@ -12,8 +12,10 @@ pub(crate) struct Run {
 pub(crate) enum RunKind {
     /// One tree block.
     TreeBlock,
-    /// So many sectors of data.
+    /// So many sectors of data that have a checksum.
     Sectors(u32),
+    /// So many that have none.
+    Unsummed(u32),
 }
 
 /// What is wanted of a tree block beside its address.

@@ -1,20 +1,35 @@
 // The sectors of a data extent.
-ghost use Rattle.std.specs.Prelude.{◌≡◌, ◌+◌, ◌*◌, ◌<◌, ◌≤◌, ◌^◌};
+ghost use Rattle.std.specs.Prelude.{◌≡◌, ◌+◌, ◌*◌, ◌<◌, ◌≤◌, ◌^◌, [], ◌∷◌, OnOk};
 ghost use Rattle.btr_read.specs.Serves.{Serves};
 ghost use Rattle.btr_read.specs.Store.{free_count};
 ghost use Rattle.btr_files.specs.Sums.{kind_in, tree_behind};
-ghost use Rattle.btr_scrub.specs.Gathering.{Gathers, scene};
+ghost use Rattle.btr_scrub.specs.Gathering.{Gathers, Lists, scene};
 ghost use Rattle.btr_scrub.specs.Listed.{IsList};
 ghost use Rattle.btr_scrub.specs.Units as units;
 
 use crate::gathered::Gathered;
+use btr_base::Memory;
 use btr_files::sum_of;
 use btr_rack::Rack;
 use btr_volume::{Stop, TreeRoot, Volume};
 
-// Lists a sector of data with its checksum, or among the plain ones where it has none, which are counted too.
+// Lists a sector that has no checksum, which is counted: in order where it has copies, and else apart from the others.
+fn gather_plain(copied: bool, addr: u64, gathered: &mut Gathered) -> Result<(), Memory>
+    requires is_list { IsList gathered.old.list }
+    ensures { OnOk result (Lists gathered.old gathered.new (units.bare_met copied addr ∷ [])) }
+{
+    gathered.unchecked = gathered.unchecked.saturating_add(1);
+    if copied {
+        gathered.list.push_plain(addr)
+    } else {
+        gathered.plain.push(addr)
+    }
+}
+
+// Lists a sector of data with its checksum, or without one; its chunk has copies, or parity.
 fn gather_sector<R: Rack>(
     sums: Option<&TreeRoot>,
+    copied: bool,
     addr: u64,
     rack: &mut R,
     vol: &mut Volume,
@@ -24,16 +39,13 @@ fn gather_sector<R: Rack>(
     requires room { 4 ≤ free_count vol.old.store }
     requires is_list { IsList gathered.old.list }
     requires kind { gathered.old.list.kind ≡ kind_in vol.old.sup }
-    ensures { Gathers (units.sector vol.old.sup (tree_behind sums.entry) addr)
+    ensures { Gathers (units.sector vol.old.sup (tree_behind sums.entry) copied addr)
         (scene (R.seen rack.old) vol.old gathered.old) (scene (R.seen rack.new) vol.new gathered.new) result }
 {
     match sum_of(sums, addr, rack, vol) {
         Err(fault) => Err(Stop::Tree(fault)),
-        Ok(None) => match gathered.plain.push(addr) {
-            Ok(()) => {
-                gathered.unchecked = gathered.unchecked.saturating_add(1);
-                Ok(())
-            }
+        Ok(None) => match gather_plain(copied, addr, gathered) {
+            Ok(()) => Ok(()),
             Err(_) => Err(Stop::Memory),
         },
         Ok(Some(sum)) => match gathered.list.push_sector(addr, &sum) {
@@ -43,11 +55,13 @@ fn gather_sector<R: Rack>(
     }
 }
 
-/// Lists so many sectors of data from an address on. Those that have no checksum are listed by themselves, and counted. Four slots are free.
+/// Lists so many sectors of data from an address on, in a chunk that has copies, or parity. Those that have no checksum are counted, and listed with the
+/// others only where they have copies. Four slots are free.
 ///
 /// `Tree` where a block of the checksum tree can't be had or is malformed, and `Memory` for want of memory.
 pub(crate) fn gather_sectors<R: Rack>(
     sums: Option<&TreeRoot>,
+    copied: bool,
     addr: u64,
     count: u64,
     rack: &mut R,
@@ -59,11 +73,11 @@ pub(crate) fn gather_sectors<R: Rack>(
     requires is_list { IsList gathered.old.list }
     requires kind { gathered.old.list.kind ≡ kind_in vol.old.sup }
     requires range { addr + count * 4096 < 2 ^ 64 }
-    ensures { Gathers (units.sectors vol.old.sup (tree_behind sums.entry) count addr)
+    ensures { Gathers (units.sectors vol.old.sup (tree_behind sums.entry) copied count addr)
         (scene (R.seen rack.old) vol.old gathered.old) (scene (R.seen rack.new) vol.new gathered.new) result }
 {
     for i in 0..count {
-        match gather_sector(sums, addr + i * 4096, rack, vol, gathered) {
+        match gather_sector(sums, copied, addr + i * 4096, rack, vol, gathered) {
             Ok(()) => {}
             Err(stop) => return Err(stop),
         }

@@ -141,7 +141,7 @@ fn mend_listed<R: Rack>(
     }
 }
 
-// Lists the checked blocks, looks the list over once more, and mends them.
+// Lists the blocks, looks the list over once more, and mends them.
 fn scrub_given<R: Rack>(
     alloc: Global,
     write: bool,
@@ -171,7 +171,7 @@ fn scrub_given<R: Rack>(
 }
 
 /// Reads each copy of each checked block, and writes what is bad anew where a right copy or enough parity is left (`docs/FORMAT.md`, "Checked blocks" and
-/// "Full stripes"); with `write` false it only reads. The images of a chunk that were written are synced behind it. Whatever failed, what stands in the
+/// "Full stripes"); sectors without a checksum that have copies get the bytes of a sure copy on images that are behind. With `write` false it only reads. The images of a chunk that were written are synced behind it. Whatever failed, what stands in the
 /// images is what stands behind a first part of the writes, the next one perhaps in part, so far as the copies that pass agree (`IsScrubbed`); and each
 /// block that could be had can be had then (`IsSafe`). Five slots are free; where it writes, each image was opened for writing.
 ///

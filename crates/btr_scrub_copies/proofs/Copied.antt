@@ -1,6 +1,6 @@
 -- A block with copies, and a try of one of them.
 use Rattle.std.proofs.Common.{◌≡◌, ℕ, ◌<◌, ◌&&◌, true, false, List, Option, Some, None, IfSome, IfOk, IsOkAnd, IsSome, IsSomeAnd, Result, Ok, sym, ap, ◌∙◌}
-use Rattle.std.proofs.Common.{subst}
+use Rattle.std.proofs.Common.{subst, arith}
 use Rattle.std.proofs.lemmas.Bool.{false≢true}
 use Rattle.btr_chunk.specs.Chunk.{mirrors}
 use Rattle.btr_chunk.specs.declared.place.Part.TheVariants.{Mirror}
@@ -16,6 +16,7 @@ use Rattle.btr_read.specs.declared.want.Want.{Want}
 use Rattle.btr_scrub_copies.specs.Blocks.{is_good}
 use Rattle.btr_scrub_copies.specs.Mending.{IsCopied, IsOfCopy}
 use Rattle.btr_scrub_copies.specs.Writes.{FailsAt, Images}
+use Rattle.btr_scrub_copies.proofs.Flags.{StandAll}
 
 -- the copies below their number are there
 pub has_mirror : (t : Target) (n m : ℕ) → mirrors t.chunk ≡ Some n → m < n → HasMirror m t
@@ -42,6 +43,11 @@ pub copy_stands : (layout : Layout) (want : Want) (t : Target) (m : ℕ) → IsC
 copy_stands layout want t m c e has =
     let same = same_target (sought layout want) c.target t c.is_sought e in
     subst (λ u. IsSome (range_of u (Mirror m))) same (c.stand m (subst (HasMirror m) (sym same) has))
+
+-- so do all
+pub copies_stand : (layout : Layout) (want : Want) (t : Target) (n : ℕ) → IsCopied layout want → sought layout want ≡ Ok t → mirrors t.chunk ≡ Some n
+    → StandAll t 0 n
+copies_stand layout want t n c e has k l u = copy_stands layout want t k c e (has_mirror t n k has (omega (arith, u)))
 
 pub not_absent : (t : Target) (m : ℕ) → IsSome (range_of t (Mirror m)) → stands t (mirror_candidate m) ≡ false → ⊥
 not_absent t m some absent = false≢true (sym absent ∙ ap (λ b. b && true) some)

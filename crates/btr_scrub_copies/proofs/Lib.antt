@@ -1,6 +1,8 @@
 pub mod Doing
 pub mod Copied
+pub mod Flags
 pub mod Firsts
+pub mod Freshness
 pub mod Standing
 pub mod Outcomes
 pub mod Syncs

@@ -3,3 +3,5 @@ pub mod Writes
 pub mod Syncing
 pub mod Turns
 pub mod Mending
+pub mod Fresh
+pub mod Freshening

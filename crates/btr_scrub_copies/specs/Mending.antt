@@ -13,7 +13,7 @@ use Rattle.btr_read.specs.Layout.{Layout}
 use Rattle.btr_read.specs.declared.want.Want.{Want}
 use Rattle.btr_read.specs.Mirror.{HasMirror, mirror_candidate}
 use Rattle.btr_scrub_copies.specs.Blocks.{accepted, bad_parts, block_writes, copy_writes, is_good, is_lost, is_sound}
-use Rattle.btr_scrub_copies.specs.Writes.{AccountsMend, Does, Images, writes_if}
+use Rattle.btr_scrub_copies.specs.Writes.{AccountsMend, Does, Images, Write, writes_if}
 use Rattle.btr_read.specs.Store.{Blocks, IsLentBy, Lent, SameLoans, block_of}
 use Rattle.btr_scrub_copies.specs.declared.finding.First.{First}
 use Rattle.btr_scrub_copies.specs.declared.mended.MendFault.{MendFault}
@@ -45,26 +45,35 @@ mended_of images t write = record {
 }
 
 -- the count of what came of it
-abbrev pub Counts : Option Images → Target → Bool → Result Mended MendFault → Type 0
-Counts held t write (Ok mended) = IfSome held (λ images. mended ≡ mended_of images t write)
-Counts held t write (Err fault) = Unit {0}
+abbrev pub Counts : Option Images → (Images → Mended) → Result Mended MendFault → Type 0
+Counts held count (Ok mended) = IfSome held (λ images. mended ≡ count images)
+Counts held count (Err fault) = Unit {0}
 
--- A block was read, and written where it is bad: exactly the writes that mend it, or those up to one that failed. What
--- was written is marked by its slot. Where it was only to be read, it was.
-pub record Mends (t : Target) (write : Bool) (marks marks' : List Bool) (old new : Seen) (result : Result Mended MendFault) : Type 0 where
-  pub does : Does (IsOfCopy t) (λ images. writes_if write (block_writes images t)) marks marks' old new result
-  pub counts : Counts old.held t write result
+-- A block was read, and written by its copies: exactly these writes, or those up to one that failed. What was written is
+-- marked by its slot. Where it was only to be read, it was.
+pub record Repairs (t : Target) (write : Bool) (writes : Images → List Write) (count : Images → Mended) (marks marks' : List Bool) (old new : Seen) (result : Result Mended MendFault) : Type 0 where
+  pub does : Does (IsOfCopy t) (λ images. writes_if write (writes images)) marks marks' old new result
+  pub counts : Counts old.held count result
   pub unwritten : write ≡ false → OnlyReads old new
+
+-- a block was mended: the writes are those that mend it
+abbrev pub Mends : Target → Bool → List Bool → List Bool → Seen → Seen → Result Mended MendFault → Type 0
+Mends t write marks marks' old new result =
+    Repairs t write (λ images. block_writes images t) (λ images. mended_of images t write) marks marks' old new result
 
 -- a copy passes, and its bytes are those that are accepted
 pub record IsFirst (images : Images) (t : Target) (mirror : ℕ) : Type 0 where
   pub good : is_good images t (Mirror mirror) ≡ true
   pub accepts : accepted images t ≡ Some (element images t (Mirror mirror))
 
+-- of which of the first n copies a test holds, by their numbers, and of how many
+pub record AreFlagged (test : Part → Bool) (n : ℕ) (by_copy : List Bool) (number : ℕ) : Type 0 where
+  pub flags : (k : ℕ) → k < n → slice_index_or by_copy k false ≡ test (Mirror k)
+  pub count : number ≡ length (filter test (map Mirror (range_with_len 0 n)))
+
 -- which copies are bad, and how many, of the first n
-pub record AreBad (images : Images) (t : Target) (n : ℕ) (bad : List Bool) (number : ℕ) : Type 0 where
-  pub flags : (k : ℕ) → k < n → slice_index_or bad k false ≡ not (is_sound images t (Mirror k))
-  pub count : number ≡ length (filter (λ part. not (is_sound images t part)) (map Mirror (range_with_len 0 n)))
+abbrev pub AreBad : Images → Target → ℕ → List Bool → ℕ → Type 0
+AreBad images t n by_copy number = AreFlagged (λ part. not (is_sound images t part)) n by_copy number
 
 -- the first copy that passes is lent, if one does, and nothing else
 abbrev pub LendsFirst : Want → Blocks → Blocks → Result (Option First) MendFault → Type 0
@@ -83,8 +92,8 @@ FindsFirst images t store (Ok None) = passing images t ≡ []
 FindsFirst images t store (Err fault) = Unit {0}
 
 -- those of the first n copies that have a flag
-abbrev pub flagged : List Bool → ℕ → List Part
-flagged flags n = map Mirror (filter (λ k. slice_index_or flags k false) (range_with_len 0 n))
+abbrev pub flagged_copies : List Bool → ℕ → List Part
+flagged_copies flags n = map Mirror (filter (λ k. slice_index_or flags k false) (range_with_len 0 n))
 
 -- bytes are written over copies
 abbrev pub Overwrites : {A : Type 0} → Target → List ℕ → List Part → List Bool → List Bool → Seen → Seen → Result A MendFault → Type 0

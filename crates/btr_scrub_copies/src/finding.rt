@@ -124,7 +124,7 @@ fn is_bad<R: Rack>(
 }
 
 // A count, with one more if there is one.
-fn counted(count: u32, more: bool) -> u32
+pub(crate) fn counted(count: u32, more: bool) -> u32
     requires { count < 4 }
     ensures { result ≡ count + (if more then 1 else 0) }
 {

@@ -1,7 +1,7 @@
 /// What came of a block.
 #[derive(Clone, Copy, Debug, PartialEq, Eq)]
 pub struct Mended {
-    /// How many of its copies are bad: they don't pass, or aren't the bytes of the first that does.
+    /// How many of its copies are bad: they don't pass, or aren't the bytes of the first that does, or are stale.
     pub bad: u32,
     /// How many of those were written.
     pub repaired: u32,

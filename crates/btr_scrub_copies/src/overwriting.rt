@@ -8,7 +8,7 @@ ghost use Rattle.btr_read.specs.Layout.{AreOpen};
 ghost use Rattle.btr_read.specs.Mirror.{HasMirror};
 ghost use Rattle.btr_read.specs.Store.{IsLiveIn};
 ghost use Rattle.btr_read.specs.Want.{len_of};
-ghost use Rattle.btr_scrub_copies.specs.Mending.{IsCopied, WritesLoan, flagged};
+ghost use Rattle.btr_scrub_copies.specs.Mending.{IsCopied, WritesLoan, flagged_copies};
 ghost use Rattle.btr_scrub_copies.specs.Writes.{AreWritable};
 
 use crate::MendFault;
@@ -93,7 +93,7 @@ pub(crate) fn write_over<R: Rack>(
     requires live { IsLiveIn store.now loan.now }
     requires len { loan.now.len ≡ len_of store.now.layout.setting want.now }
     ensures slots { (R.seen rack.new).slots ≡ (R.seen rack.old).slots }
-    ensures writes { WritesLoan store.now want.now loan.now (flagged bad.now.flags copies)
+    ensures writes { WritesLoan store.now want.now loan.now (flagged_copies bad.now.flags copies)
         marks.old marks.new (R.seen rack.old) (R.seen rack.new) result }
 {
     for mirror in 0..copies {

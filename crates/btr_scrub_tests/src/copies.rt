@@ -50,6 +50,90 @@ const LOST: [Copies; 8] = [
     ),
 ];
 
+// A byte of a sector of data that has no checksum, and one of the leaf of the checksum tree.
+const PLAIN: u64 = 10493952;
+
+const SUMS_LEAF: u64 = 2162788;
+
+// The counts where fifteen sectors more have no checksum.
+const UNSUMMED: Tally = Tally {
+    unchecked: 15,
+    ..CLEAN
+};
+
+// Copies of sectors without a checksum that differ.
+const STALE: [Damage; 6] = [
+    // They are made right on an image that is older, and on which a block doesn't pass.
+    Damage {
+        volume: Made::UnsummedRaid10("b"),
+        mended: &[("b", SUMS_LEAF), ("b", PLAIN)],
+        left: &[],
+        tally: Tally {
+            bad: 2,
+            repaired: 2,
+            ..UNSUMMED
+        },
+    },
+    Damage {
+        volume: Made::UnsummedRaid10("a"),
+        mended: &[("a", SUMS_LEAF), ("a", PLAIN)],
+        left: &[],
+        tally: Tally {
+            bad: 2,
+            repaired: 2,
+            ..UNSUMMED
+        },
+    },
+    // Not where all blocks pass on it.
+    Damage {
+        volume: Made::UnsummedRaid10("b"),
+        mended: &[],
+        left: &[("b", PLAIN)],
+        tally: UNSUMMED,
+    },
+    // Nor where it isn't older.
+    Damage {
+        volume: Made::UnsummedRaid10(""),
+        mended: &[("b", SUMS_LEAF)],
+        left: &[("b", PLAIN)],
+        tally: Tally {
+            bad: 1,
+            repaired: 1,
+            ..UNSUMMED
+        },
+    },
+    // Nor from an image on which a block doesn't pass.
+    Damage {
+        volume: Made::UnsummedRaid10("b"),
+        mended: &[("b", SUMS_LEAF), ("a", LEAF)],
+        left: &[("b", PLAIN)],
+        tally: Tally {
+            bad: 2,
+            repaired: 2,
+            ..UNSUMMED
+        },
+    },
+    // Of four copies those on such images alone.
+    Damage {
+        volume: Made::UnsummedRaid1c4("c"),
+        mended: &[("c", DATA), ("c", PLAIN)],
+        left: &[("d", PLAIN)],
+        tally: Tally {
+            bad: 2,
+            repaired: 2,
+            ..UNSUMMED
+        },
+    },
+];
+
+#[test]
+fn copies_that_are_stale(rt: HostRuntime) -> Result<(), Fail> {
+    for damage in &STALE {
+        mends(&rt, rt.alloc(), damage)?;
+    }
+    Ok(())
+}
+
 #[test]
 fn copies_that_are_mended(rt: HostRuntime) -> Result<(), Fail> {
     for (volume, places) in &MENDED {

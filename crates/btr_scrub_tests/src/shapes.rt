@@ -78,6 +78,11 @@ pub(super) enum Made {
     Unsummed5(&'static str),
     /// The same in `W6`.
     Unsummed6(&'static str),
+    /// `Raid10`, whose second extent of data goes on without checksums, over the end of the first stripe's element. The image of this name, if there is one,
+    /// is older.
+    UnsummedRaid10(&'static str),
+    /// The same in `Raid1c4`.
+    UnsummedRaid1c4(&'static str),
     /// `W5`, in which the third page of the first slice of data is the superblock.
     BesideSuper,
     /// `V1d`, in which the second copy of the leaf of the checksum tree begins at the superblock.
@@ -95,7 +100,9 @@ impl Made {
             | Made::Raid0
             | Made::Raid10
             | Made::Raid1c4
-            | Made::Unsummed6(_) => &["a", "b", "c", "d"],
+            | Made::Unsummed6(_)
+            | Made::UnsummedRaid10(_)
+            | Made::UnsummedRaid1c4(_) => &["a", "b", "c", "d"],
             Made::Row(RowVolume::V1 | RowVolume::V1d) | Made::OverSuper => &["a"],
             _ => &["a", "b", "c"],
         }
@@ -308,13 +315,29 @@ fn build_row(alloc: Global, shape: &Shape) -> Result<MemRack, Fail> {
     Ok(rack)
 }
 
-// The same, where an image is older than the others: its superblock has a smaller generation.
-fn build_with_older(alloc: Global, shape: &Shape, older: &str) -> Result<MemRack, Fail> {
-    let mut rack = build_row(alloc, shape)?;
+// Makes an image older than the others, if there is one of this name: its superblock has a smaller generation.
+fn make_older(rack: &mut MemRack, older: &str) -> Result<(), Fail> {
     if !older.is_empty() {
         rack.poke(older, GENERATION, &[6])?;
-        seal(&mut rack, older, SUPER, PAGE)?;
+        seal(rack, older, SUPER, PAGE)?;
     }
+    Ok(())
+}
+
+// The same, where an image is older than the others.
+fn build_with_older(alloc: Global, shape: &Shape, older: &str) -> Result<MemRack, Fail> {
+    let mut rack = build_row(alloc, shape)?;
+    make_older(&mut rack, older)?;
+    Ok(rack)
+}
+
+// A volume made of `W6`, whose second extent of data goes on without checksums too.
+fn build_unsummed(alloc: Global, shape: &Shape, older: &str) -> Result<MemRack, Fail> {
+    let mut rack = build_row(alloc, shape)?;
+    for name in UNSUMMED6.changed {
+        change(&mut rack, name, &UNSUMMED6)?;
+    }
+    make_older(&mut rack, older)?;
     Ok(rack)
 }
 
@@ -328,6 +351,8 @@ pub(super) fn build(alloc: Global, which: Made) -> Result<MemRack, Fail> {
         Made::HalfSummed => HALF_SUMMED,
         Made::Unsummed5(older) => return build_with_older(alloc, &UNSUMMED5, older),
         Made::Unsummed6(older) => return build_with_older(alloc, &UNSUMMED6, older),
+        Made::UnsummedRaid10(older) => return build_unsummed(alloc, &RAID10, older),
+        Made::UnsummedRaid1c4(older) => return build_unsummed(alloc, &RAID1C4, older),
         Made::BesideSuper => BESIDE_SUPER,
         Made::OverSuper => OVER_SUPER,
         Made::Directories => return Ok(make(alloc, 10)?),

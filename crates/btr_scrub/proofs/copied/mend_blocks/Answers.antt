@@ -1,101 +1,130 @@
-use Rattle.std.proofs.Common.{◌≡◌, ◌+◌, ◌∷◌, ◌<◌, Ok, Err, Some, IsSome, IsSomeAnd, slice_get, sym, ap, ◌∙◌, subst, refl}
+use Rattle.std.proofs.Common.{◌≡◌, ◌+◌, ◌∷◌, ◌<◌, true, false, not, Ok, Err, Some, IsSome, IsSomeAnd, slice_get, sym, ap, ◌∙◌, subst, refl}
+use Rattle.std.proofs.lemmas.Bool.{and_parts}
 use Rattle.std.proofs.lemmas.Option.{same_Some}
 use Rattle.btr_chunk.specs.Chunk.{mirrors}
 use Rattle.btr_chunk.specs.declared.chunk.Chunk.{Chunk}
 use Rattle.btr_read.specs.Candidates.{Target}
-use Rattle.btr_read.specs.Fate.{sought}
+use Rattle.btr_read.specs.Fate.{is_plain, sought}
 use Rattle.btr_read.specs.Layout.{Layout}
 use Rattle.btr_read.specs.Want.{addr_of}
 use Rattle.btr_read.proofs.Serving.{serving}
-use Rattle.btr_scrub_copies.specs.Blocks.{block_writes}
 use Rattle.btr_scrub_copies.specs.Mending.{IsCopied}
 use Rattle.btr_scrub_copies.proofs.Copied.{same_loans_then}
 use Rattle.btr_scrub.specs.Leaves.{alone}
-use Rattle.btr_scrub.specs.Order.{AreApart}
-use Rattle.btr_scrub.specs.Scrubbing.{BeginsBehind, IsPastChunk, Scrubs, count_block}
+use Rattle.btr_scrub.specs.Judged.{has_behind}
+use Rattle.btr_scrub.specs.Order.{AreApart, targets}
+use Rattle.btr_scrub_copies.specs.Fresh.{flagged}
+use Rattle.btr_scrub.specs.Repair.{mending_writes}
+use Rattle.btr_scrub.specs.Scrubbing.{BeginsBehind, IsPastChunk, Scrubs, count_site, sites_count, sites_writes}
 use Rattle.btr_scrub.proofs.Blockwise.{chunk_mended, have_lengths, next_block, next_copied, past_chunk, underway_cut, underway_first, underway_more}
+use Rattle.btr_scrub.proofs.InWrong.{not_bad}
+use Rattle.btr_scrub.proofs.Passing.{passed_if, settled}
+use Rattle.btr_scrub.proofs.Survival.{some_of}
 use Rattle.btr_scrub.proofs.copied.mend_blocks.Goals as goal
 
 pub loop-want-init : goal.loop-want-init
 loop-want-init g c =
     let layout = c.args.store.now.layout in
+    let fails = flagged c.args.failing.now in
     let a = g.R.Rack.seen c.args.rack.now in
     record {
       ready = c.requires.ready;
       loans = record { layout = refl; loans = refl };
       underway = λ chunk there.
           let is = subst (λ o. IsSomeAnd o (λ chunk. IsSome (mirrors chunk) × AreApart layout chunk.start c.args.blocks.now)) there c.requires.chunk in
-          underway_first layout c.args.write c.requires.ready.table (serving a c.args.store.now c.requires.ready.serves).own_slots c.args.number chunk
+          underway_first fails layout c.args.task.write c.requires.ready.table (serving a c.args.store.now c.requires.ready.serves).own_slots c.args.task.number chunk
           there is.0 c.args.blocks.now c.args.marks.now a c.args.tally.now is.1;
     }
 
-pub mend_block-requires-clause-copied : goal.mend_block-requires-clause-copied
-mend_block-requires-clause-copied g c =
+pub mend_site-requires-clause-copied : goal.mend_site-requires-clause-copied
+mend_site-requires-clause-copied g c =
     let layout = c.args.store.now.layout in
+    let fails = flagged c.args.failing.now in
     let chunk = c.at-chunk.result.now in
-    let there : slice_get layout.chunks c.args.number ≡ Some chunk = ap (λ cs. slice_get cs c.args.number) (sym c.chunks.ensures) ∙ c.at-chunk.ensures.chunk in
+    let there : slice_get layout.chunks c.args.task.number ≡ Some chunk = ap (λ cs. slice_get cs c.args.task.number) (sym c.chunks.ensures) ∙ c.at-chunk.ensures.chunk in
     let is = subst (λ o. IsSomeAnd o (λ chunk. IsSome (mirrors chunk) × AreApart layout chunk.start c.args.blocks.now)) there c.requires.chunk in
     let h = c.loop-want.invariant.underway chunk there in
     let left : c.loop-want.blocks ≡ c.in-Some.want ∷ c.next_below.new.blocks = c.in-Some.ensures.0 in
-    let next = next_block layout c.requires.ready.table c.args.number chunk there h.end c.in-Some.want c.next_below.new.blocks h.from (subst (AreApart layout h.end) left h.apart) c.in-Some.ensures.1 in
+    let next = next_block layout c.requires.ready.table c.args.task.number chunk there h.end c.in-Some.want c.next_below.new.blocks h.from (subst (AreApart layout h.end) left h.apart) c.in-Some.ensures.1 in
     subst (λ (l : Layout). IsCopied l c.in-Some.want) (sym c.loop-want.invariant.loans.layout)
     (next_copied layout c.requires.ready.table chunk h.end c.in-Some.want c.next_below.new.blocks is.0 c.requires.ready.given next)
 
 pub loop-want-preserved : goal.loop-want-preserved
 loop-want-preserved g c = record {
   ready = c.in-Ok.ensures.ready;
-  loans = same_loans_then c.args.store.now c.loop-want.store c.mend_block.new.store c.loop-want.invariant.loans c.in-Ok.ensures.loans;
+  loans = same_loans_then c.args.store.now c.loop-want.store c.mend_site.new.store c.loop-want.invariant.loans c.in-Ok.ensures.loans;
   underway = λ chunk there.
       let layout = c.args.store.now.layout in
+      let fails = flagged c.args.failing.now in
       let a = g.R.Rack.seen c.args.rack.now in
       let is = subst (λ o. IsSomeAnd o (λ chunk. IsSome (mirrors chunk) × AreApart layout chunk.start c.args.blocks.now)) there c.requires.chunk in
-      let here : slice_get layout.chunks c.args.number ≡ Some c.at-chunk.result.now = ap (λ cs. slice_get cs c.args.number) (sym c.chunks.ensures) ∙ c.at-chunk.ensures.chunk in
+      let here : slice_get layout.chunks c.args.task.number ≡ Some c.at-chunk.result.now = ap (λ cs. slice_get cs c.args.task.number) (sym c.chunks.ensures) ∙ c.at-chunk.ensures.chunk in
       let same : c.at-chunk.result.now ≡ chunk = same_Some c.at-chunk.result.now chunk (sym here ∙ there) in
       let was = serving a c.args.store.now c.requires.ready.serves in
       let h = c.loop-want.invariant.underway chunk there in
       let left : c.loop-want.blocks ≡ c.in-Some.want ∷ c.next_below.new.blocks = c.in-Some.ensures.0 in
       let below : addr_of c.in-Some.want < chunk.start + chunk.length = subst (λ (k : Chunk). addr_of c.in-Some.want < k.start + k.length) same c.in-Some.ensures.1 in
-      let next = next_block layout c.requires.ready.table c.args.number chunk there h.end c.in-Some.want c.next_below.new.blocks h.from (subst (AreApart layout h.end) left h.apart) below in
-      let own_one = subst (λ (l : Layout). (t : Target) → sought l c.in-Some.want ≡ Ok t → Scrubs {A = Unit {0}} (alone l t.chunk) c.args.write (λ images. block_writes images t) (λ images tally. count_block images c.args.write tally t) c.loop-want.marks c.mend_block.new.marks
-      (g.R.Rack.seen c.loop-want.rack) (g.R.Rack.seen c.mend_block.new.rack) c.loop-want.tally c.mend_block.new.tally (Ok tt)) c.loop-want.invariant.loans.layout c.in-Ok.ensures.scrubs next.target next.is_sought in
-      let one = subst (λ k. Scrubs {A = Unit {0}} (alone layout k) c.args.write (λ images. block_writes images next.target) (λ images tally. count_block images c.args.write tally next.target) c.loop-want.marks c.mend_block.new.marks
-      (g.R.Rack.seen c.loop-want.rack) (g.R.Rack.seen c.mend_block.new.rack) c.loop-want.tally c.mend_block.new.tally (Ok tt)) next.mine own_one in
-      underway_more layout c.args.write c.requires.ready.table was.own_slots c.args.number chunk there is.0 c.args.blocks.now c.args.marks.now a
-      c.args.tally.now c.loop-want.blocks c.loop-want.marks (g.R.Rack.seen c.loop-want.rack) c.loop-want.tally h
+      let next = next_block layout c.requires.ready.table c.args.task.number chunk there h.end c.in-Some.want c.next_below.new.blocks h.from (subst (AreApart layout h.end) left h.apart) below in
+      let own_one = subst (λ (l : Layout). (t : Target) → sought l c.in-Some.want ≡ Ok t → Scrubs {A = Unit {0}} (alone l t.chunk) c.args.task.write (λ images. mending_writes images fails t) (λ images tally. count_site fails images c.args.task.write tally t) c.loop-want.marks c.mend_site.new.marks
+      (g.R.Rack.seen c.loop-want.rack) (g.R.Rack.seen c.mend_site.new.rack) c.loop-want.tally c.mend_site.new.tally (Ok tt)) c.loop-want.invariant.loans.layout c.in-Ok.ensures.scrubs next.target next.is_sought in
+      let one = subst (λ k. Scrubs {A = Unit {0}} (alone layout k) c.args.task.write (λ images. mending_writes images fails next.target) (λ images tally. count_site fails images c.args.task.write tally next.target) c.loop-want.marks c.mend_site.new.marks
+      (g.R.Rack.seen c.loop-want.rack) (g.R.Rack.seen c.mend_site.new.rack) c.loop-want.tally c.mend_site.new.tally (Ok tt)) next.mine own_one in
+      let b = g.R.Rack.seen c.loop-want.rack in
+      let z = g.R.Rack.seen c.mend_site.new.rack in
+      let t = next.target in
+      let more = underway_more fails layout c.args.task.write c.requires.ready.table was.own_slots c.args.task.number chunk there is.0 c.args.blocks.now c.args.marks.now a
+      c.args.tally.now c.loop-want.blocks c.loop-want.marks b c.loop-want.tally h
       (λ images held. have_lengths a layout images (g.met.R.Rack.sound c.args.rack.now) was.are_open held) c.in-Some.want c.next_below.new.blocks left
-      next c.mend_block.new.marks (g.R.Rack.seen c.mend_block.new.rack) c.mend_block.new.tally one;
+      next c.mend_site.new.marks z c.mend_site.new.tally one in
+      let n = some_of (mirrors chunk) is.0 in
+      let calm : not c.has_behind-behind.result ≡ true → has_behind layout.devices fails chunk ≡ false =
+      λ e. ap (has_behind layout.devices fails) (sym same) ∙ sym c.has_behind-behind.ensures ∙ not_bad c.has_behind-behind.result e in
+      passed_if fails layout c.args.task.write c.requires.ready.table c.args.task.number chunk there n.0 n.1
+      c.is_calm.result c.args.blocks.now c.next_below.new.blocks c.pass_if.new.blocks
+      (c.at-chunk.result.now.start + c.at-chunk.result.now.length) c.args.marks.now c.mend_site.new.marks a z c.args.tally.now c.mend_site.new.tally
+      (λ e.
+      let both = and_parts (is_plain c.in-Some.want) (not c.has_behind-behind.result) (sym c.is_calm.ensures ∙ e) in (
+        calm both.1,
+        settled fails layout c.args.task.write c.requires.ready.table c.args.task.number chunk there n.0 n.1 (calm both.1) h.end c.in-Some.want
+            c.next_below.new.blocks next both.0 (sites_writes fails (targets layout h.past))
+            (sites_count fails c.args.task.write (targets layout h.past)) c.args.marks.now c.loop-want.marks c.mend_site.new.marks a b z
+            c.args.tally.now c.loop-want.tally c.mend_site.new.tally h.done one,
+      ))
+      (ap (λ (k : Chunk). k.start + k.length) same) c.pass_if.ensures more;
 }
 
 pub returns-in-Err-clause-scrubs : goal.returns-in-Err-clause-scrubs
 returns-in-Err-clause-scrubs g c chunk there =
     let layout = c.args.store.now.layout in
+    let fails = flagged c.args.failing.now in
     let a = g.R.Rack.seen c.args.rack.now in
     let is = subst (λ o. IsSomeAnd o (λ chunk. IsSome (mirrors chunk) × AreApart layout chunk.start c.args.blocks.now)) there c.requires.chunk in
-    let here : slice_get layout.chunks c.args.number ≡ Some c.at-chunk.result.now = ap (λ cs. slice_get cs c.args.number) (sym c.chunks.ensures) ∙ c.at-chunk.ensures.chunk in
+    let here : slice_get layout.chunks c.args.task.number ≡ Some c.at-chunk.result.now = ap (λ cs. slice_get cs c.args.task.number) (sym c.chunks.ensures) ∙ c.at-chunk.ensures.chunk in
     let same : c.at-chunk.result.now ≡ chunk = same_Some c.at-chunk.result.now chunk (sym here ∙ there) in
     let was = serving a c.args.store.now c.requires.ready.serves in
     let h = c.loop-want.invariant.underway chunk there in
     let left : c.loop-want.blocks ≡ c.in-Some.want ∷ c.next_below.new.blocks = c.in-Some.ensures.0 in
     let below : addr_of c.in-Some.want < chunk.start + chunk.length = subst (λ (k : Chunk). addr_of c.in-Some.want < k.start + k.length) same c.in-Some.ensures.1 in
-    let next = next_block layout c.requires.ready.table c.args.number chunk there h.end c.in-Some.want c.next_below.new.blocks h.from (subst (AreApart layout h.end) left h.apart) below in
-    let own_one = subst (λ (l : Layout). (t : Target) → sought l c.in-Some.want ≡ Ok t → Scrubs {A = Unit {0}} (alone l t.chunk) c.args.write (λ images. block_writes images t) (λ images tally. count_block images c.args.write tally t) c.loop-want.marks c.mend_block.new.marks
-    (g.R.Rack.seen c.loop-want.rack) (g.R.Rack.seen c.mend_block.new.rack) c.loop-want.tally c.mend_block.new.tally (Err c.in-Err.fault)) c.loop-want.invariant.loans.layout c.in-Err.ensures.scrubs next.target next.is_sought in
-    let one = subst (λ k. Scrubs {A = Unit {0}} (alone layout k) c.args.write (λ images. block_writes images next.target) (λ images tally. count_block images c.args.write tally next.target) c.loop-want.marks c.mend_block.new.marks
-    (g.R.Rack.seen c.loop-want.rack) (g.R.Rack.seen c.mend_block.new.rack) c.loop-want.tally c.mend_block.new.tally (Err c.in-Err.fault)) next.mine own_one in
-    underway_cut layout c.args.write c.requires.ready.table was.own_slots c.args.number chunk there is.0 c.args.blocks.now c.args.marks.now a
+    let next = next_block layout c.requires.ready.table c.args.task.number chunk there h.end c.in-Some.want c.next_below.new.blocks h.from (subst (AreApart layout h.end) left h.apart) below in
+    let own_one = subst (λ (l : Layout). (t : Target) → sought l c.in-Some.want ≡ Ok t → Scrubs {A = Unit {0}} (alone l t.chunk) c.args.task.write (λ images. mending_writes images fails t) (λ images tally. count_site fails images c.args.task.write tally t) c.loop-want.marks c.mend_site.new.marks
+    (g.R.Rack.seen c.loop-want.rack) (g.R.Rack.seen c.mend_site.new.rack) c.loop-want.tally c.mend_site.new.tally (Err c.in-Err.fault)) c.loop-want.invariant.loans.layout c.in-Err.ensures.scrubs next.target next.is_sought in
+    let one = subst (λ k. Scrubs {A = Unit {0}} (alone layout k) c.args.task.write (λ images. mending_writes images fails next.target) (λ images tally. count_site fails images c.args.task.write tally next.target) c.loop-want.marks c.mend_site.new.marks
+    (g.R.Rack.seen c.loop-want.rack) (g.R.Rack.seen c.mend_site.new.rack) c.loop-want.tally c.mend_site.new.tally (Err c.in-Err.fault)) next.mine own_one in
+    underway_cut fails layout c.args.task.write c.requires.ready.table was.own_slots c.args.task.number chunk there is.0 c.args.blocks.now c.args.marks.now a
     c.args.tally.now c.loop-want.blocks c.loop-want.marks (g.R.Rack.seen c.loop-want.rack) c.loop-want.tally h
     (λ images held. have_lengths a layout images (g.met.R.Rack.sound c.args.rack.now) was.are_open held) c.in-Some.want c.next_below.new.blocks left
-    next c.mend_block.new.marks (g.R.Rack.seen c.mend_block.new.rack) c.mend_block.new.tally c.in-Err.fault one
+    next c.mend_site.new.marks (g.R.Rack.seen c.mend_site.new.rack) c.mend_site.new.tally c.in-Err.fault one
 
 pub returns-clause-past : goal.returns-clause-past
 returns-clause-past g c chunk there =
     let layout = c.args.store.now.layout in
+    let fails = flagged c.args.failing.now in
     let a = g.R.Rack.seen c.args.rack.now in
     let is = subst (λ o. IsSomeAnd o (λ chunk. IsSome (mirrors chunk) × AreApart layout chunk.start c.args.blocks.now)) there c.requires.chunk in
-    let here : slice_get layout.chunks c.args.number ≡ Some c.at-chunk.result.now = ap (λ cs. slice_get cs c.args.number) (sym c.chunks.ensures) ∙ c.at-chunk.ensures.chunk in
+    let here : slice_get layout.chunks c.args.task.number ≡ Some c.at-chunk.result.now = ap (λ cs. slice_get cs c.args.task.number) (sym c.chunks.ensures) ∙ c.at-chunk.ensures.chunk in
     let same : c.at-chunk.result.now ≡ chunk = same_Some c.at-chunk.result.now chunk (sym here ∙ there) in
     subst (IsPastChunk layout chunk c.args.blocks.now) (sym c.in_default.ensures.0)
-    (past_chunk layout c.args.write c.requires.ready.table (serving a c.args.store.now c.requires.ready.serves).own_slots c.args.number chunk there
+    (past_chunk fails layout c.args.task.write c.requires.ready.table (serving a c.args.store.now c.requires.ready.serves).own_slots c.args.task.number chunk there
     is.0 c.args.blocks.now c.args.marks.now a c.args.tally.now
     c.loop-want.blocks c.loop-want.marks (g.R.Rack.seen c.loop-want.rack) c.loop-want.tally (c.loop-want.invariant.underway chunk there)
     (subst (λ (k : Chunk). BeginsBehind (k.start + k.length) c.loop-want.blocks) same c.in_default.ensures.1))
@@ -103,14 +132,15 @@ returns-clause-past g c chunk there =
 pub returns-clause-scrubs : goal.returns-clause-scrubs
 returns-clause-scrubs g c chunk there =
     let layout = c.args.store.now.layout in
+    let fails = flagged c.args.failing.now in
     let a = g.R.Rack.seen c.args.rack.now in
     let is = subst (λ o. IsSomeAnd o (λ chunk. IsSome (mirrors chunk) × AreApart layout chunk.start c.args.blocks.now)) there c.requires.chunk in
-    let here : slice_get layout.chunks c.args.number ≡ Some c.at-chunk.result.now = ap (λ cs. slice_get cs c.args.number) (sym c.chunks.ensures) ∙ c.at-chunk.ensures.chunk in
+    let here : slice_get layout.chunks c.args.task.number ≡ Some c.at-chunk.result.now = ap (λ cs. slice_get cs c.args.task.number) (sym c.chunks.ensures) ∙ c.at-chunk.ensures.chunk in
     let same : c.at-chunk.result.now ≡ chunk = same_Some c.at-chunk.result.now chunk (sym here ∙ there) in
     let was = serving a c.args.store.now c.requires.ready.serves in
     let h = c.loop-want.invariant.underway chunk there in
-    chunk_mended layout c.args.write c.requires.ready.table was.own_slots c.args.number chunk there is.0 c.args.blocks.now c.args.marks.now a c.args.tally.now
+    chunk_mended fails layout c.args.task.write c.requires.ready.table was.own_slots c.args.task.number chunk there is.0 c.args.blocks.now c.args.marks.now a c.args.tally.now
     c.loop-want.blocks c.loop-want.marks (g.R.Rack.seen c.loop-want.rack) c.loop-want.tally h c.loop-want.blocks
-    (past_chunk layout c.args.write c.requires.ready.table was.own_slots c.args.number chunk there is.0 c.args.blocks.now c.args.marks.now a c.args.tally.now
+    (past_chunk fails layout c.args.task.write c.requires.ready.table was.own_slots c.args.task.number chunk there is.0 c.args.blocks.now c.args.marks.now a c.args.tally.now
     c.loop-want.blocks c.loop-want.marks (g.R.Rack.seen c.loop-want.rack) c.loop-want.tally h
     (subst (λ (k : Chunk). BeginsBehind (k.start + k.length) c.loop-want.blocks) same c.in_default.ensures.1)) refl

@@ -1,16 +1,17 @@
 use Rattle.std.proofs.Common.{◌≡◌, Some, length, slice_get}
 use Rattle.btr_chunk.specs.declared.chunk.Chunk.{Chunk}
 use Rattle.btr_read.specs.Store.{SameLoans}
+use Rattle.btr_scrub_copies.specs.Fresh.{flagged}
 use Rattle.btr_scrub.specs.Scrubbing.{CanMend}
 use Rattle.btr_scrub.proofs.Blockwise.{IsUnderway}
 use Rattle.btr_scrub.proofs.copied.mend_blocks.Given as goal
 
 abbrev pub invariant-loop-want : goal.invariant-loop-want
 invariant-loop-want g l = record {
-  ready : CanMend l.write (g.R.Rack.seen l.rack) l.store l.marks;
+  ready : CanMend l.task.write (g.R.Rack.seen l.rack) l.store l.marks;
   loans : SameLoans l.fn.store l.store;
-  underway : (chunk : Chunk) → slice_get l.fn.store.layout.chunks l.number ≡ Some chunk
-      → IsUnderway l.fn.store.layout l.write chunk l.fn.blocks l.blocks l.fn.marks l.marks (g.R.Rack.seen l.fn.rack) (g.R.Rack.seen l.rack) l.fn.tally l.tally;
+  underway : (chunk : Chunk) → slice_get l.fn.store.layout.chunks l.task.number ≡ Some chunk
+      → IsUnderway (flagged l.failing) l.fn.store.layout l.task.write chunk l.fn.blocks l.blocks l.fn.marks l.marks (g.R.Rack.seen l.fn.rack) (g.R.Rack.seen l.rack) l.fn.tally l.tally;
 }
 
 abbrev pub decreases-loop-want : goal.decreases-loop-want

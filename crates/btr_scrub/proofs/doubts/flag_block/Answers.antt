@@ -1,7 +1,7 @@
 use Rattle.std.proofs.Common.{ap, sym, ◌∙◌}
 use Rattle.btr_chunk.specs.declared.place.Part.TheVariants.{Slice}
 use Rattle.btr_scrub.specs.Doubts.{fails_at, fails_on}
-use Rattle.btr_scrub.proofs.Doubting.{fails_slice, flags_as, own_slice}
+use Rattle.btr_scrub.proofs.Doubting.{fails_slice, flags_as, flags_plain, own_slice}
 use Rattle.btr_scrub.proofs.doubts.flag_block.Goals as goal
 
 pub flag_part-requires-clause-own : goal.flag_part-requires-clause-own
@@ -15,3 +15,8 @@ returns-in-None-clause-flags g c =
     c.args.probe.now.failing.items c.flag_part.new.probe.failing.items c.flag_part.result
     (λ t images slot e. ap (λ i. fails_at images t slot (Slice i)) (c.slice_of.ensures.index t e) ∙ fails_slice images t slot (sym (c.in-None.ensures t e)))
     c.flag_part.ensures.flags
+
+pub returns-then-is_plain-clause-flags : goal.returns-then-is_plain-clause-flags
+returns-then-is_plain-clause-flags g c t e =
+    flags_plain c.args.store.now.layout c.args.want.now t (g.R.Rack.seen c.args.rack.now).held c.args.probe.now.failing.items
+    (sym c.is_plain.ensures ∙ c.if-is_plain.true) e

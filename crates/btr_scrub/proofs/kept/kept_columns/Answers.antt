@@ -7,8 +7,9 @@ use Rattle.std.proofs.lemmas.Option.{same_Some}
 use Rattle.btr_chunk.specs.Chunk.{mirrors, stripe_length}
 use Rattle.btr_chunk.specs.declared.chunk.Chunk.{Chunk}
 use Rattle.btr_chunk.proofs.Rule.{facts}
-use Rattle.btr_scrub.specs.Judged.{kept_beside}
-use Rattle.btr_scrub.specs.Plain.{flagged, is_plain, is_surer, is_unsure, sector_addr, slices_of}
+use Rattle.btr_scrub.specs.Judged.{doubts_beside}
+use Rattle.btr_scrub_copies.specs.Fresh.{flagged}
+use Rattle.btr_scrub.specs.Plain.{is_plain, is_surer, is_unsure, sector_addr, slices_of}
 use Rattle.btr_scrub.proofs.Keepings.{row_inside, slice_more}
 use Rattle.btr_scrub.proofs.kept.kept_columns.Goals as goal
 
@@ -81,7 +82,7 @@ returns c =
     let here : slice_get layout.chunks c.args.number ≡ Some k = ap (λ cs. slice_get cs c.args.number) (sym c.chunks.ensures) ∙ c.at-chunk.ensures.chunk in
     let n = slices_of k in
     subst (λ o. IsSomeAnd o (λ chunk. (column : ℕ) → column < 16 → get_or c.loop-slice.flags column false
-    ≡ kept_beside layout c.args.beside.now chunk c.args.row column)) (sym here) (λ column lt.
+    ≡ (doubts_beside layout c.args.beside.now).columns chunk c.args.row column)) (sym here) (λ column lt.
     c.loop-slice.invariant k here column lt
     ∙ ap (list_any (is_unsure layout (flagged c.args.beside.now.failing.items) c.args.beside.now.plain k c.args.row column))
     (take_all c.loop-slice.slice (range_with_len 0 n) (omega (arith, length-range_with_len 0 n, c.loop-slice-test.false, c.slice_count-slices.ensures.count))))

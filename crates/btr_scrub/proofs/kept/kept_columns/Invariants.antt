@@ -1,7 +1,8 @@
 use Rattle.std.proofs.Common.{◌≡◌, ℕ, ◌<◌, Some, false, get_or, slice_get, take}
 use Rattle.std.specs.List.{list_any, range_with_len}
 use Rattle.btr_chunk.specs.declared.chunk.Chunk.{Chunk}
-use Rattle.btr_scrub.specs.Plain.{flagged, is_unsure, slices_of}
+use Rattle.btr_scrub_copies.specs.Fresh.{flagged}
+use Rattle.btr_scrub.specs.Plain.{is_unsure, slices_of}
 use Rattle.btr_scrub.proofs.kept.kept_columns.Given as goal
 
 abbrev pub invariant-loop-slice : goal.invariant-loop-slice

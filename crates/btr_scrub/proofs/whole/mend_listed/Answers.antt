@@ -6,7 +6,8 @@ use Rattle.btr_scrub_copies.specs.declared.mended.MendFault.TheVariants.{Memory}
 use Rattle.btr_read.proofs.ReadsOn.{same_held, same_slots}
 use Rattle.btr_read.proofs.Serving.{serves_as, serving}
 use Rattle.btr_scrub.specs.Listed.{kept_wants}
-use Rattle.btr_scrub.specs.Plain.{flagged, is_kept}
+use Rattle.btr_scrub_copies.specs.Fresh.{flagged}
+use Rattle.btr_scrub.specs.Plain.{doubts_of}
 use Rattle.btr_scrub.specs.Scrubbing.{Works, all_count_for, all_writes_for}
 use Rattle.btr_scrub.specs.Whole.{first_tally, listed_count_for, listed_writes_for}
 use Rattle.btr_scrub.proofs.Sufficing.{works_beside, works_missed}
@@ -84,7 +85,8 @@ returns-in-Ok-mend_all-clause-works g c =
     let b = g.R.Rack.seen c.failing_images.new.rack in
     let z = g.R.Rack.seen c.mend_all.new.rack in
     let flags = c.in-Ok-failing_images.failing.items in
-    let kept = is_kept layout (flagged flags) c.args.gathered.plain in
+    let kept = doubts_of layout (flagged flags) c.args.gathered.plain in
+    let was = serving a c.args.vol.now.store c.requires.serves in
     let start = first_tally c.args.gathered.unchecked in
     let end = c.mend_all.new.tally in
     let listed = subst (λ ws. Works {A = Unit {0}} layout c.args.write (all_writes_for kept layout layout.chunks ws)
@@ -96,7 +98,7 @@ returns-in-Ok-mend_all-clause-works g c =
       tally = end;
       ended = Ok tt;
       works = works_beside layout c.args.write wants c.args.gathered.plain flags a b z start end
-          (Ok tt) c.in-Ok-failing_images.ensures.reads c.in-Ok-failing_images.ensures.account c.in-Ok-failing_images.ensures.flags begun;
+          (Ok tt) c.in-Ok.ensures.table was.own_slots c.requires.given c.in-Ok-failing_images.ensures.reads c.in-Ok-failing_images.ensures.account c.in-Ok-failing_images.ensures.flags begun;
       says = refl;
     }
 
@@ -108,7 +110,8 @@ returns-clause-works g c =
     let b = g.R.Rack.seen c.failing_images.new.rack in
     let z = g.R.Rack.seen c.mend_all.new.rack in
     let flags = c.in-Ok-failing_images.failing.items in
-    let kept = is_kept layout (flagged flags) c.args.gathered.plain in
+    let kept = doubts_of layout (flagged flags) c.args.gathered.plain in
+    let was = serving a c.args.vol.now.store c.requires.serves in
     let start = first_tally c.args.gathered.unchecked in
     let end = c.mend_all.new.tally in
     let fault = c.in-Err-mend_all.fault in
@@ -121,6 +124,6 @@ returns-clause-works g c =
       tally = end;
       ended = Err fault;
       works = works_beside layout c.args.write wants c.args.gathered.plain flags a b z start end
-          (Err fault) c.in-Ok-failing_images.ensures.reads c.in-Ok-failing_images.ensures.account c.in-Ok-failing_images.ensures.flags begun;
+          (Err fault) c.in-Ok.ensures.table was.own_slots c.requires.given c.in-Ok-failing_images.ensures.reads c.in-Ok-failing_images.ensures.account c.in-Ok-failing_images.ensures.flags begun;
       says = c.stop_of-in-Err-mend_all.ensures end;
     }

@@ -4,7 +4,7 @@ use Rattle.btr_prog.specs.Prog.{exec}
 use Rattle.btr_read.specs.Layout.{Layout}
 use Rattle.btr_walk.specs.Reading.{unread_by}
 use Rattle.btr_walk.proofs.Joined.{drawn}
-use Rattle.btr_scrub.specs.Gathering.{checked_among}
+use Rattle.btr_scrub.specs.Gathering.{wants_among}
 use Rattle.btr_scrub.specs.Judging.{Judged}
 use Rattle.btr_scrub.specs.Order.{AreApart}
 use Rattle.btr_scrub.specs.Units.{units_in}
@@ -41,7 +41,7 @@ returns-in-Err-judge_blocks-clause-scrubs g c =
         refl,
         judged.0,
         drawn layout (λ B. Follows (unread_by layout old mid) no_part [] (exec B (units_in s layout.chunks)) lists.done (Ok tt)) (λ B. ⊥)
-            (λ B f. judged.1 (subst (AreApart layout 0) (ap checked_among (sym f.0) ∙ sym listed.wants ∙ sym c.read_all-blocks.ensures)
+            (λ B f. judged.1 (subst (AreApart layout 0) (ap wants_among (sym f.0) ∙ sym listed.wants ∙ sym c.read_all-blocks.ensures)
             (units_apart s layout c.requires.table c.requires.nodesize (omega (arith, c.requires.large)) B tt f.1)))
             lists.content,
       );

@@ -1,12 +1,13 @@
-use Rattle.std.proofs.Common.{◌≡◌, ◌+◌, cond, sym, ap, ◌∙◌, subst, arith, length-set, set}
+use Rattle.std.proofs.Common.{◌≡◌, ◌+◌, cond, not, sym, ap, ◌∙◌, subst, arith, length-set, set}
 use Rattle.btr_rack.proofs.Reading.{reads_more}
 use Rattle.btr_read.specs.Fate.{sought}
 use Rattle.btr_read.proofs.Keeping.{none_more}
 use Rattle.btr_read.proofs.Lent.{stays_same}
 use Rattle.btr_read.proofs.ReadsOn.{same_held}
+use Rattle.btr_scrub_copies.specs.Blocks.{is_sound}
 use Rattle.btr_scrub_copies.specs.Mending.{AreBad}
 use Rattle.btr_scrub_copies.proofs.Copied.{same_loans_then}
-use Rattle.btr_scrub_copies.proofs.Firsts.{bad_more, cond_few}
+use Rattle.btr_scrub_copies.proofs.Flags.{cond_few, one_flag_more}
 use Rattle.btr_scrub_copies.proofs.Outcomes.{same_block}
 use Rattle.btr_scrub_copies.proofs.finding.bad_copies.Goals as goal
 
@@ -38,7 +39,7 @@ loop-mirror-preserved g c =
       few = omega (arith, c.counted-count.ensures, cond_few bad, inv.few);
       bad = λ t images e told.
           let is = c.in_ok-bad.ensures.bad t images (sought_as ∙ e) (same_held inv.reads ∙ told) in
-          bad_more images t m flags (set flags m bad) c.loop-mirror.count c.counted-count.result (inv.bad t images e told) (ap (set flags m) is)
+          one_flag_more (λ part. not (is_sound images t part)) m flags (set flags m bad) c.loop-mirror.count c.counted-count.result (inv.bad t images e told) (ap (set flags m) is)
           (omega (arith, inv.long, c.loop-mirror-test.true, c.requires.few)) (c.counted-count.ensures ∙ ap (λ v. c.loop-mirror.count + cond v 1 0) is);
       account = none_more a.account b.account d.account inv.account
           (c.in_ok-bad.ensures.account c.requires.copied.target (sought_as ∙ c.requires.copied.is_sought));

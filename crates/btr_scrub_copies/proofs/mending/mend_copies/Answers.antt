@@ -5,10 +5,11 @@ use Rattle.btr_read.specs.Serves.{Serves}
 use Rattle.btr_read.specs.Store.{SameLoans}
 use Rattle.btr_read.proofs.ReadsOn.{same_held}
 use Rattle.btr_read.proofs.Serving.{serves_given}
-use Rattle.btr_scrub_copies.specs.Mending.{FindsFirst, LendsFirst}
+use Rattle.btr_scrub_copies.specs.Blocks.{block_writes}
+use Rattle.btr_scrub_copies.specs.Mending.{FindsFirst, LendsFirst, mended_of}
 use Rattle.btr_scrub_copies.specs.declared.finding.First.{First}
 use Rattle.btr_scrub_copies.proofs.Copied.{copy_stands}
-use Rattle.btr_scrub_copies.proofs.Outcomes.{given_behind, mends_behind, mends_failed, mends_lost}
+use Rattle.btr_scrub_copies.proofs.Outcomes.{given_behind, mends_lost, repairs_behind, repairs_failed}
 use Rattle.btr_scrub_copies.proofs.mending.mend_copies.Goals as goal
 
 pub mend_others-mended-requires-clause-first : goal.mend_others-mended-requires-clause-first
@@ -21,7 +22,8 @@ mend_others-mended-requires-clause-first g c t images e told =
 
 pub returns-in-Err-clause-mends : goal.returns-in-Err-clause-mends
 returns-in-Err-clause-mends g c t e =
-    mends_failed t c.args.write c.args.marks.now (g.R.Rack.seen c.args.rack.now) (g.R.Rack.seen c.first_good.new.rack) c.in-Err.ensures.reads
+    repairs_failed t c.args.write (λ images. block_writes images t) (λ images. mended_of images t c.args.write) c.args.marks.now
+    (g.R.Rack.seen c.args.rack.now) (g.R.Rack.seen c.first_good.new.rack) c.in-Err.ensures.reads
     (Option First) c.in-Err.fault (c.in-Err.ensures.account t e)
 
 pub returns-in-Ok-None-clause-mends : goal.returns-in-Ok-None-clause-mends
@@ -48,7 +50,8 @@ pub returns-in-Ok-Some-clause-mends : goal.returns-in-Ok-Some-clause-mends
 returns-in-Ok-Some-clause-mends g c t e =
     let old = c.args.store.now in
     let lent = subst (λ v. LendsFirst c.args.want.now old c.first_good.new.store (Ok v)) c.in-Ok-Some.field-0-is c.in-Ok-Some.ensures.lent in
-    mends_behind t c.args.write c.args.marks.now c.mend_others-mended.new.marks (g.R.Rack.seen c.args.rack.now) (g.R.Rack.seen c.first_good.new.rack)
+    repairs_behind t c.args.write (λ images. block_writes images t)
+    (λ images. mended_of images t c.args.write) c.args.marks.now c.mend_others-mended.new.marks (g.R.Rack.seen c.args.rack.now) (g.R.Rack.seen c.first_good.new.rack)
     (g.R.Rack.seen c.mend_others-mended.new.rack) c.mend_others-mended.result
     c.in-Ok-Some.ensures.reads (c.in-Ok-Some.ensures.account t e)
     (c.mend_others-mended.ensures.mends t (ap (λ (l : Layout). sought l c.args.want.now) lent.layout ∙ e))

@@ -6,14 +6,17 @@ use Rattle.btr_read.specs.Fate.{sought}
 use Rattle.btr_read.specs.Layout.{AreOpen, Layout}
 use Rattle.btr_read.specs.Store.{Blocks}
 use Rattle.btr_read.proofs.Serving.{serving}
+use Rattle.btr_scrub_copies.specs.Blocks.{block_writes}
+use Rattle.btr_scrub_copies.specs.Mending.{mended_of}
 use Rattle.btr_scrub_copies.proofs.Copied.{copy_stands}
-use Rattle.btr_scrub_copies.proofs.Outcomes.{has_bytes, mends_cut, mends_failed, mends_read, mends_wrote, same_block, serves_forgot}
+use Rattle.btr_scrub_copies.proofs.Outcomes.{has_bytes, mends_cut, mends_read, mends_wrote, repairs_failed, same_block, serves_forgot}
 use Rattle.btr_scrub_copies.specs.declared.finding.Bad.{Bad}
 use Rattle.btr_scrub_copies.proofs.mending.mend_others.Goals as goal
 
 pub returns-in-Err-clause-mends : goal.returns-in-Err-clause-mends
 returns-in-Err-clause-mends g c t e =
-    mends_failed t c.args.write c.args.marks.now (g.R.Rack.seen c.args.rack.now) (g.R.Rack.seen c.bad_copies.new.rack) c.in-Err.ensures.reads Bad
+    repairs_failed t c.args.write (λ images. block_writes images t) (λ images. mended_of images t c.args.write) c.args.marks.now
+    (g.R.Rack.seen c.args.rack.now) (g.R.Rack.seen c.bad_copies.new.rack) c.in-Err.ensures.reads Bad
     c.in-Err.fault (c.in-Err.ensures.account t e)
 
 pub returns-then-not-write-clause-mends : goal.returns-then-not-write-clause-mends

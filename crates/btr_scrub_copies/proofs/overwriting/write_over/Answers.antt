@@ -3,10 +3,10 @@ use Rattle.btr_read.specs.Layout.{AreOpen}
 use Rattle.btr_chunk.specs.declared.place.Part.{Part}
 use Rattle.btr_chunk.specs.declared.place.Part.TheVariants.{Mirror}
 use Rattle.btr_scrub_copies.specs.Blocks.{copy_writes}
-use Rattle.btr_scrub_copies.specs.Mending.{IsOfCopy, Overwrites, flagged}
+use Rattle.btr_scrub_copies.specs.Mending.{IsOfCopy, Overwrites, flagged_copies}
 use Rattle.btr_scrub_copies.specs.Writes.{Does}
 use Rattle.btr_scrub_copies.proofs.Doing.{does_halt, does_then}
-use Rattle.btr_scrub_copies.proofs.Firsts.{copy_writes-append, flagged_more, flagged_rest}
+use Rattle.btr_scrub_copies.proofs.Flags.{copy_writes-append, flagged_more, flagged_rest}
 use Rattle.btr_scrub_copies.proofs.overwriting.write_over.Goals as goal
 
 pub overwrite_if-requires-clause-open : goal.overwrite_if-requires-clause-open
@@ -22,13 +22,13 @@ returns-in-Err-clause-writes g c t bytes e block =
     let b = g.R.Rack.seen c.loop-mirror.rack in
     let d = g.R.Rack.seen c.overwrite_if.new.rack in
     let number : m + 1 + (c.args.copies - (m + 1)) ≡ c.args.copies = omega (arith, c.loop-mirror-test.true) in
-    let parts : flagged flags c.args.copies ≡ (flagged flags m ++ one) ++ rest.0 =
-    sym (ap (flagged flags) number) ∙ rest.1 ∙ ap (λ ps. ps ++ rest.0) (flagged_more flags m) in
-    let first = copy_writes t bytes (flagged flags m) in
+    let parts : flagged_copies flags c.args.copies ≡ (flagged_copies flags m ++ one) ++ rest.0 =
+    sym (ap (flagged_copies flags) number) ∙ rest.1 ∙ ap (λ ps. ps ++ rest.0) (flagged_more flags m) in
+    let first = copy_writes t bytes (flagged_copies flags m) in
     let second = copy_writes t bytes one in
     let third = copy_writes t bytes rest.0 in
-    let writes : copy_writes t bytes (flagged flags c.args.copies) ≡ (first ++ second) ++ third =
-    ap (copy_writes t bytes) parts ∙ copy_writes-append t bytes (flagged flags m ++ one) rest.0 ∙ ap (λ ws. ws ++ third) (copy_writes-append t bytes (flagged flags m) one) in
+    let writes : copy_writes t bytes (flagged_copies flags c.args.copies) ≡ (first ++ second) ++ third =
+    ap (copy_writes t bytes) parts ∙ copy_writes-append t bytes (flagged_copies flags m ++ one) rest.0 ∙ ap (λ ws. ws ++ third) (copy_writes-append t bytes (flagged_copies flags m) one) in
     subst (λ ws. Does {A = Unit {0}} (IsOfCopy t) (λ i. ws) c.args.marks.now c.overwrite_if.new.marks a d (Err c.in-Err.fault)) (sym writes)
     (does_halt (IsOfCopy t) (Unit {0}) (Unit {0}) (first ++ second) third c.args.marks.now c.overwrite_if.new.marks a d c.in-Err.fault
     (does_then (IsOfCopy t) (Unit {0}) (Unit {0}) first second c.args.marks.now c.loop-mirror.marks c.overwrite_if.new.marks a b d tt
@@ -45,8 +45,8 @@ loop-mirror-preserved g c = record {
       let b = g.R.Rack.seen c.loop-mirror.rack in
       let d = g.R.Rack.seen c.overwrite_if.new.rack in
       subst (λ ws. Does {A = Unit {0}} (IsOfCopy t) (λ i. ws) c.args.marks.now c.overwrite_if.new.marks a d (Ok tt))
-      (sym (ap (copy_writes t bytes) (flagged_more flags m) ∙ copy_writes-append t bytes (flagged flags m) one))
-      (does_then (IsOfCopy t) (Unit {0}) (Unit {0}) (copy_writes t bytes (flagged flags m)) (copy_writes t bytes one) c.args.marks.now
+      (sym (ap (copy_writes t bytes) (flagged_more flags m) ∙ copy_writes-append t bytes (flagged_copies flags m) one))
+      (does_then (IsOfCopy t) (Unit {0}) (Unit {0}) (copy_writes t bytes (flagged_copies flags m)) (copy_writes t bytes one) c.args.marks.now
       c.loop-mirror.marks c.overwrite_if.new.marks a b d tt (Ok tt) (c.loop-mirror.invariant.done t bytes e block)
       (c.in-Ok.ensures.writes t bytes e block));
 }
@@ -54,5 +54,5 @@ loop-mirror-preserved g c = record {
 pub returns-clause-writes : goal.returns-clause-writes
 returns-clause-writes g c t bytes e block =
     let whole : c.loop-mirror.mirror ≡ c.args.copies = omega arith in
-    subst (λ n. Overwrites {A = Unit {0}} t bytes (flagged c.args.bad.now.flags n) c.args.marks.now c.loop-mirror.marks
+    subst (λ n. Overwrites {A = Unit {0}} t bytes (flagged_copies c.args.bad.now.flags n) c.args.marks.now c.loop-mirror.marks
     (g.R.Rack.seen c.args.rack.now) (g.R.Rack.seen c.loop-mirror.rack) (Ok tt)) whole (c.loop-mirror.invariant.done t bytes e block)

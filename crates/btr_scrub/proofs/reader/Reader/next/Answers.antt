@@ -3,8 +3,9 @@ use Rattle.std.proofs.lemmas.Option.{slice_get_within}
 use Rattle.std.proofs.Common.{drop}
 use Rattle.btr_base.specs.Sum.{sum_size, stored_sum}
 use Rattle.btr_scrub.specs.Listed.{StandsIn, left_in}
-use Rattle.btr_read.specs.declared.want.Want.TheVariants.{Sector}
-use Rattle.btr_scrub.proofs.Reading.{addr_fits, at_end, at_last, at_next, at_tree, gives_end, one_more, some_mark, some_sum}
+use Rattle.btr_read.specs.declared.want.Want.TheVariants.{Plain, Sector}
+use Rattle.btr_scrub.proofs.Reading.{addr_fits, at_end, at_last, at_next, at_plain_last, at_plain_next, at_tree, gives_end, one_more, one_plain, plain_fits}
+use Rattle.btr_scrub.proofs.Reading.{some_mark, some_sum}
 use Rattle.btr_scrub.proofs.reader.Reader.next.Goals as goal
 
 pub returns-in_err-run : goal.returns-in_err-run
@@ -97,3 +98,59 @@ returns-in-Some c =
     (c.self.inside.sum + c.size.result) c.self.inside.mark) (sym c.from.ensures)
     ∙ ap (λ s. Sector (c.in_ok-run.run'.addr + c.from.result * 4096) s ∷ left_in c.self.inside.listed.now c.self.inside.run c.in-Some.past
     (c.self.inside.sum + c.size.result) c.self.inside.mark) (sym c.sum_at-sum.ensures.sum)
+
+-- ---- sectors without a checksum
+
+pub overflow_add-addr-in-Unsummed : goal.overflow_add-addr-in-Unsummed
+overflow_add-addr-in-Unsummed c = omega (
+  arith,
+  c.from-in-Unsummed.ensures,
+  plain_fits c.self.inside.listed.now c.self.inside.run c.self.inside.past c.self.inside.sum c.self.inside.mark c.self.invariant c.in_ok-run.run'
+      (sym c.run_at.ensures.run ∙ c.in_ok-run.was) c.in-Unsummed.count c.in-Unsummed.is,
+)
+
+pub behind-requires-in-Unsummed : goal.behind-requires-in-Unsummed
+behind-requires-in-Unsummed c = omega (
+  arith,
+  one_plain c.self.inside.listed.now c.self.inside.run c.self.inside.past c.self.inside.sum c.self.inside.mark c.self.invariant c.in_ok-run.run'
+      (sym c.run_at.ensures.run ∙ c.in_ok-run.was) c.in-Unsummed.count c.in-Unsummed.is,
+)
+
+pub overflow_add-self-in-None-behind : goal.overflow_add-self-in-None-behind
+overflow_add-self-in-None-behind c = omega (
+  arith,
+  c.run_at.ensures.few,
+  slice_get_within c.self.inside.listed.now.runs c.self.inside.run c.in_ok-run.run' (sym c.run_at.ensures.run ∙ c.in_ok-run.was),
+)
+
+pub invariant_of-self-in-None-behind : goal.invariant_of-self-in-None-behind
+invariant_of-self-in-None-behind c = (at_plain_last c.self.inside.listed.now c.self.inside.run c.self.inside.past c.self.inside.sum c.self.inside.mark
+    c.self.invariant c.in_ok-run.run' (sym c.run_at.ensures.run ∙ c.in_ok-run.was) c.in-Unsummed.count c.in-Unsummed.is 1 c.in-None-behind.ensures).1
+
+pub invariant_of-self-in-Some-behind : goal.invariant_of-self-in-Some-behind
+invariant_of-self-in-Some-behind c =
+    let one = one_plain c.self.inside.listed.now c.self.inside.run c.self.inside.past c.self.inside.sum c.self.inside.mark c.self.invariant c.in_ok-run.run'
+    (sym c.run_at.ensures.run ∙ c.in_ok-run.was) c.in-Unsummed.count c.in-Unsummed.is in
+    subst (λ n. StandsIn c.self.inside.listed.now c.self.inside.run n c.self.inside.sum c.self.inside.mark) (sym c.in-Some-behind.ensures.0)
+    (at_plain_next c.self.inside.listed.now c.self.inside.run c.self.inside.past c.self.inside.sum c.self.inside.mark
+    c.self.invariant c.in_ok-run.run' (sym c.run_at.ensures.run ∙ c.in_ok-run.was) c.in-Unsummed.count c.in-Unsummed.is 1
+    (omega (arith, one, c.in-Some-behind.ensures.1))).1
+
+pub returns-in-None-behind : goal.returns-in-None-behind
+returns-in-None-behind c =
+    sym c.self.view_is ∙ (at_plain_last c.self.inside.listed.now c.self.inside.run c.self.inside.past c.self.inside.sum c.self.inside.mark
+    c.self.invariant c.in_ok-run.run' (sym c.run_at.ensures.run ∙ c.in_ok-run.was) c.in-Unsummed.count c.in-Unsummed.is 1 c.in-None-behind.ensures).0
+    ∙ ap (λ a. Plain (c.in_ok-run.run'.addr + a * 4096) ∷ left_in c.self.inside.listed.now (c.self.inside.run + 1) 0 c.self.inside.sum c.self.inside.mark)
+    (sym c.from-in-Unsummed.ensures)
+
+pub returns-in-Some-behind : goal.returns-in-Some-behind
+returns-in-Some-behind c =
+    let one = one_plain c.self.inside.listed.now c.self.inside.run c.self.inside.past c.self.inside.sum c.self.inside.mark c.self.invariant c.in_ok-run.run'
+    (sym c.run_at.ensures.run ∙ c.in_ok-run.was) c.in-Unsummed.count c.in-Unsummed.is in
+    sym c.self.view_is ∙ (at_plain_next c.self.inside.listed.now c.self.inside.run c.self.inside.past c.self.inside.sum c.self.inside.mark
+    c.self.invariant c.in_ok-run.run' (sym c.run_at.ensures.run ∙ c.in_ok-run.was) c.in-Unsummed.count c.in-Unsummed.is 1
+    (omega (arith, one, c.in-Some-behind.ensures.1))).0
+    ∙ ap (λ a. Plain (c.in_ok-run.run'.addr + a * 4096) ∷ left_in c.self.inside.listed.now c.self.inside.run (c.self.inside.past + 1) c.self.inside.sum
+    c.self.inside.mark) (sym c.from-in-Unsummed.ensures)
+    ∙ ap (λ n. Plain (c.in_ok-run.run'.addr + c.from-in-Unsummed.result * 4096) ∷ left_in c.self.inside.listed.now c.self.inside.run n c.self.inside.sum
+    c.self.inside.mark) (sym c.in-Some-behind.ensures.0)

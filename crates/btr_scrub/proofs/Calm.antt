@@ -1,0 +1,100 @@
+-- Where no image of a chunk is behind, nothing is stale there.
+use Rattle.std.proofs.Common.{◌≡◌, ℕ, zero, suc, Bool, true, false, ◌&&◌, ◌||◌, not, List, [], ◌∷◌, length, map, slice_get, Option, Some, None, refl, sym, ap, ◌∙◌}
+use Rattle.std.proofs.Common.{subst}
+use Rattle.std.proofs.lemmas.Bool.{false≢true}
+use Rattle.std.proofs.lemmas.Option.{same_Some}
+use Rattle.std.specs.List.{list_any, range_with_len}
+use Rattle.std.specs.Option.{option_map_or}
+use Rattle.std.specs.Str.{bytes_eq}
+use Rattle.btr_chunk.specs.Chunk.{mirrors}
+use Rattle.btr_chunk.specs.Mapping.{place_at}
+use Rattle.btr_chunk.specs.Table.{IsTable}
+use Rattle.btr_chunk.specs.declared.chunk.Chunk.{Chunk}
+use Rattle.btr_chunk.specs.declared.place.Part.{Part}
+use Rattle.btr_chunk.specs.declared.place.Part.TheVariants.{Mirror, Slice}
+use Rattle.btr_chunk.specs.declared.stripe.Stripe.{Stripe}
+use Rattle.btr_read.specs.Candidates.{Target, element}
+use Rattle.btr_read.specs.Layout.{Layout, device_in}
+use Rattle.btr_read.specs.declared.device.Device.{Device}
+use Rattle.btr_read.specs.declared.device.Member.{Member}
+use Rattle.btr_read.proofs.Ones.{in_below}
+use Rattle.btr_scrub_copies.specs.Blocks.{copy_writes, own_parts}
+use Rattle.btr_scrub_copies.specs.Writes.{Images, writes_if}
+use Rattle.btr_scrub_copies.specs.declared.mended.Mended.{Mended}
+use Rattle.btr_scrub_copies.proofs.Copied.{has_mirror}
+use Rattle.btr_scrub_copies.specs.Fresh.{Failing, fresh, fresh_writes, freshened, is_behind, is_on_behind, is_stale, stale_beside, stale_parts}
+use Rattle.btr_scrub.specs.Glue.{In}
+use Rattle.btr_scrub.specs.Judged.{has_behind, has_older, is_older}
+use Rattle.btr_scrub.specs.Order.{IsSought}
+use Rattle.btr_scrub.proofs.Agreeing.{of_mapped}
+use Rattle.btr_scrub.proofs.Blockwise.{filter_none}
+use Rattle.btr_scrub.proofs.Keepings.{any_none}
+use Rattle.btr_scrub.proofs.Positions.{on_stripe}
+
+or_false : (a b : Bool) → (a || b) ≡ false → (a ≡ false) × (b ≡ false)
+or_false true b e = absurd (false≢true (sym e))
+or_false false b e = (refl, e)
+
+-- no element of a list has what none has
+pub none_of : {X : Type 0} (p : X → Bool) (xs : List X) (i : ℕ) (x : X) → list_any p xs ≡ false → slice_get xs i ≡ Some x → p x ≡ false
+none_of p [] i x none e = cc
+none_of p (y ∷ ys) zero x none e = ap p (sym (same_Some y x e)) ∙ (or_false (p y) (list_any p ys) none).0
+none_of p (y ∷ ys) (suc i) x none e = none_of p ys i x (or_false (p y) (list_any p ys) none).1 e
+
+-- an image that isn't older isn't behind
+calm_device : (fails : Failing) (devices : List Member) (devid : ℕ) → is_older devices devid ≡ false → is_behind devices fails devid ≡ false
+calm_device fails devices devid h = by (device_in devices devid) h
+  where
+    by : (o : Option Device) → option_map_or (λ device. device.older) o false ≡ false
+        → option_map_or (λ device. device.older && fails device.slot) o false ≡ false
+    by None h = refl
+    by (Some device) h = ap (λ b. b && fails device.slot) h
+
+-- nor is one of a chunk without older ones
+pub calm_chunk : (fails : Failing) (devices : List Member) (chunk : Chunk) → has_older devices chunk ≡ false → has_behind devices fails chunk ≡ false
+calm_chunk fails devices chunk h =
+    any_none (λ (stripe : Stripe). is_behind devices fails stripe.devid) chunk.stripes
+    (λ i stripe e. calm_device fails devices stripe.devid (none_of (λ (stripe : Stripe). is_older devices stripe.devid) chunk.stripes i stripe h e))
+
+-- nothing is done for a sector
+abbrev pub nothing : Mended
+nothing = record { bad = 0; repaired = 0; lost = false }
+
+module _ (fails : Failing) (layout : Layout) (t : Target) (n : ℕ) (table : IsTable layout.chunks) (is : IsSought layout t) (has : mirrors t.chunk ≡ Some n) (calm : has_behind layout.devices fails t.chunk ≡ false) where
+  own : own_parts t ≡ map Mirror (range_with_len 0 n)
+  own = ap (λ o. option_map_or (λ copies. map Mirror (range_with_len 0 copies)) o (Slice t.at.index ∷ [])) has
+
+  not_behind : (part : Part) → In part (own_parts t) → is_on_behind fails t part ≡ false
+  not_behind part i =
+      let k = of_mapped Mirror part (range_with_len 0 n) (subst (In part) own i) in
+      let on = on_stripe layout t (Mirror k.0) table is (has_mirror t n k.0 has (in_below n k.0 k.1)) in
+      ap (is_on_behind fails t) (sym k.2)
+      ∙ ap (λ ds. is_behind ds fails (place_at t.chunk (Mirror k.0) t.at).devid) is.devices
+      ∙ ap (is_behind layout.devices fails) on.devid
+      ∙ none_of (λ (stripe : Stripe). is_behind layout.devices fails stripe.devid) t.chunk.stripes on.number on.stripe calm on.there
+
+  module _ (images : Images) where
+    pub none_stale : stale_parts images fails t ≡ []
+    none_stale = by (fresh images fails t)
+      where
+        by : (o : Option (List ℕ)) → option_map_or (stale_beside images fails t) o [] ≡ []
+        by None = refl
+        by (Some bytes) = filter_none (is_stale images fails t bytes) (own_parts t)
+            (λ part i. ap (λ b. b && not (bytes_eq (element images t part) bytes)) (not_behind part i))
+
+    pub none_fresh : fresh_writes images fails t ≡ []
+    none_fresh = ap (λ ps. option_map_or (λ bytes. copy_writes t bytes ps) (fresh images fails t) []) none_stale ∙ by (fresh images fails t)
+      where
+        by : (o : Option (List ℕ)) → option_map_or (λ bytes. copy_writes t bytes []) o [] ≡ []
+        by None = refl
+        by (Some bytes) = refl
+
+    pub none_freshened : (write : Bool) → freshened images fails t write ≡ nothing
+    none_freshened write =
+        ap (λ ps. record { bad = length ps; repaired = length (writes_if write (fresh_writes images fails t)); lost = false }) none_stale
+        ∙ ap (λ ws. record { bad = 0; repaired = length (writes_if write ws); lost = false }) none_fresh
+        ∙ by write
+      where
+        by : (b : Bool) → ◌≡◌ {A = Mended} (record { bad = 0; repaired = length (writes_if b []); lost = false }) nothing
+        by true = refl
+        by false = refl

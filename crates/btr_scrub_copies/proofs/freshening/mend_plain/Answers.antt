@@ -1,0 +1,65 @@
+use Rattle.std.proofs.Common.{◌≡◌, false, Option, Ok, refl, sym, ap, ◌∙◌, subst, rules, arith}
+use Rattle.btr_read.specs.Fate.{sought}
+use Rattle.btr_read.specs.Layout.{Layout}
+use Rattle.btr_read.specs.Serves.{Serves}
+use Rattle.btr_read.specs.Store.{Lent, SameLoans}
+use Rattle.btr_read.proofs.ReadsOn.{same_held}
+use Rattle.btr_read.proofs.Serving.{serves_given}
+use Rattle.btr_scrub_copies.specs.Fresh.{flagged, fresh_writes, freshened}
+use Rattle.btr_scrub_copies.specs.Freshening.{FindsFresh, LendsAny}
+use Rattle.btr_scrub_copies.proofs.Freshness.{none_fresh, none_stale}
+use Rattle.btr_scrub_copies.proofs.Outcomes.{freshens_none, given_behind, repairs_behind, repairs_failed}
+use Rattle.btr_scrub_copies.proofs.freshening.mend_plain.Goals as goal
+
+pub returns-then-not-lies_behind-clause-mends : goal.returns-then-not-lies_behind-clause-mends
+returns-then-not-lies_behind-clause-mends g c t e =
+    let failing = flagged c.args.failing.now in
+    let not_behind : c.lies_behind.result ≡ false = search rules in
+    freshens_none failing t c.args.write c.args.marks.now (g.R.Rack.seen c.args.rack.now) (g.R.Rack.seen c.args.rack.now)
+    (record { same = refl; later = omega arith; same_shut = refl })
+    (record { faults = refl; fresh = refl; missed = refl; last = refl; opening = refl; shut = refl })
+    (λ images told. none_stale images failing t (sym (c.lies_behind.ensures t e) ∙ not_behind))
+
+pub mend_stale-mended-requires-clause-fresh : goal.mend_stale-mended-requires-clause-fresh
+mend_stale-mended-requires-clause-fresh g c t images e told =
+    let old = c.args.store.now in
+    let lent = subst (λ v. LendsAny c.args.want.now old c.lend_fresh.new.store (Ok v)) c.in-Ok-Some.field-0-is c.in-Ok-Some.ensures.lent in
+    subst (λ v. FindsFresh images (flagged c.args.failing.now) t c.lend_fresh.new.store (Ok v)) c.in-Ok-Some.field-0-is
+    (c.in-Ok-Some.ensures.found t images (sym (ap (λ (l : Layout). sought l c.args.want.now) lent.layout) ∙ e)
+    (sym (same_held c.in-Ok-Some.ensures.reads) ∙ told))
+
+pub returns-in-Err-clause-mends : goal.returns-in-Err-clause-mends
+returns-in-Err-clause-mends g c t e =
+    let failing = flagged c.args.failing.now in
+    repairs_failed t c.args.write (λ images. fresh_writes images failing t) (λ images. freshened images failing t c.args.write) c.args.marks.now
+    (g.R.Rack.seen c.args.rack.now) (g.R.Rack.seen c.lend_fresh.new.rack) c.in-Err.ensures.reads (Option Lent) c.in-Err.fault (c.in-Err.ensures.account t e)
+
+pub returns-in-Ok-None-clause-mends : goal.returns-in-Ok-None-clause-mends
+returns-in-Ok-None-clause-mends g c t e =
+    let failing = flagged c.args.failing.now in
+    freshens_none failing t c.args.write c.args.marks.now (g.R.Rack.seen c.args.rack.now) (g.R.Rack.seen c.lend_fresh.new.rack)
+    c.in-Ok-None.ensures.reads (c.in-Ok-None.ensures.account t e)
+    (λ images told. none_fresh images failing t (sym (subst (λ v. FindsFresh images failing t c.lend_fresh.new.store (Ok v)) c.in-Ok-None.field-0-is
+    (c.in-Ok-None.ensures.found t images e told))))
+
+pub returns-in-Ok-Some-clause-serves : goal.returns-in-Ok-Some-clause-serves
+returns-in-Ok-Some-clause-serves g c =
+    subst (Serves (g.R.Rack.seen c.mend_stale-mended.new.rack)) (sym c.give.ensures)
+    (serves_given (g.R.Rack.seen c.mend_stale-mended.new.rack) c.mend_stale-mended.new.store c.in-Ok-Some.loan.slot c.mend_stale-mended.ensures.serves)
+
+pub returns-in-Ok-Some-clause-loans : goal.returns-in-Ok-Some-clause-loans
+returns-in-Ok-Some-clause-loans g c =
+    let old = c.args.store.now in
+    let lent = subst (λ v. LendsAny c.args.want.now old c.lend_fresh.new.store (Ok v)) c.in-Ok-Some.field-0-is c.in-Ok-Some.ensures.lent in
+    subst (SameLoans old) (sym c.give.ensures) (given_behind old c.lend_fresh.new.store c.mend_stale-mended.new.store c.args.want.now c.in-Ok-Some.loan lent
+    c.mend_stale-mended.ensures.loans)
+
+pub returns-in-Ok-Some-clause-mends : goal.returns-in-Ok-Some-clause-mends
+returns-in-Ok-Some-clause-mends g c t e =
+    let old = c.args.store.now in
+    let failing = flagged c.args.failing.now in
+    let lent = subst (λ v. LendsAny c.args.want.now old c.lend_fresh.new.store (Ok v)) c.in-Ok-Some.field-0-is c.in-Ok-Some.ensures.lent in
+    repairs_behind t c.args.write (λ images. fresh_writes images failing t) (λ images. freshened images failing t c.args.write) c.args.marks.now
+    c.mend_stale-mended.new.marks (g.R.Rack.seen c.args.rack.now) (g.R.Rack.seen c.lend_fresh.new.rack) (g.R.Rack.seen c.mend_stale-mended.new.rack)
+    c.mend_stale-mended.result c.in-Ok-Some.ensures.reads (c.in-Ok-Some.ensures.account t e)
+    (c.mend_stale-mended.ensures.mends t (ap (λ (l : Layout). sought l c.args.want.now) lent.layout ∙ e))
