@@ -42,7 +42,7 @@ returns-in-Ok-clause-row c =
     record {
       row = row;
       is = record {
-        stripe = record { chunk = start_there layout table is.number chunk is.there parity; number_is = refl; parity = parity; inside = inside; stand = λ q part. element_stands (λ c n column. false) layout table own given is.number chunk is.there [] row.number q parity inside part };
+        stripe = record { chunk = start_there layout table is.number chunk is.there parity; number_is = refl; parity = parity; inside = inside; stand = λ q part. element_stands (record { columns = λ c n column. false; failing = λ slot. false }) layout table own given is.number chunk is.there [] row.number q parity inside part };
         blocks = ap (λ s. s ∷ []) has;
         lie = All-cons (IsOn row) t [] (record { chunk = refl; number = refl }) (All-nil (IsOn row));
       };
