@@ -1,4 +1,4 @@
-// The list of the checked blocks of small volumes.
+// The list of the checked blocks of small volumes, and of their sectors without a checksum.
 ghost use Rattle.btr_scrub.specs.Listed.{IsList};
 
 use btr_make::{RowVolume, row};
@@ -8,7 +8,7 @@ use btr_volume::Volume;
 use std::alloc::Global;
 use std::test::Fail;
 
-// How many blocks are listed, at most 100.
+// How many blocks and sectors are listed, at most 100.
 fn count_of(list: &Listed) -> u32
     requires { IsList list.now }
 {
@@ -23,7 +23,7 @@ fn count_of(list: &Listed) -> u32
     count
 }
 
-// How many blocks of the volume of a rack's open images are checked, and how many of its sectors have no checksum.
+// How many blocks and sectors of the volume of a rack's open images are listed, and how many of its sectors have no checksum.
 fn listed(alloc: Global, rack: &mut MemRack) -> Option<(u32, u64)> {
     if rack.count() == 0 {
         return None;
@@ -39,10 +39,10 @@ fn listed(alloc: Global, rack: &mut MemRack) -> Option<(u32, u64)> {
 
 #[test]
 fn blocks_of_small_volumes(rt: HostRuntime) -> Result<(), Fail> {
-    for (which, blocks, unchecked) in [(RowVolume::V1d, 8, 0), (RowVolume::N, 6, 2)] {
+    for (which, sites, unchecked) in [(RowVolume::V1d, 8, 0), (RowVolume::N, 8, 2)] {
         let mut rack = row(rt.alloc(), which)?;
         rack.open("a", false)?;
-        assert_eq!(rt; listed(rt.alloc(), &mut rack), Some((blocks, unchecked)));
+        assert_eq!(rt; listed(rt.alloc(), &mut rack), Some((sites, unchecked)));
     }
     Ok(())
 }

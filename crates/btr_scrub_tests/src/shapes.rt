@@ -274,6 +274,14 @@ const OVER_SUPER: Shape = Shape {
     ],
 };
 
+// The page of a sector without a checksum, which is then one of each image.
+const UNSUMMED_PAGE: Pages = Pages {
+    from: DATA_PAGE + 2,
+    to: DATA_PAGE + 2,
+    count: 1,
+    images: &["a", "b", "c", "d"],
+};
+
 // Changes fields of the leaf in an image, and writes its checksum anew.
 fn change(rack: &mut MemRack, name: &str, shape: &Shape) -> Result<(), Fail> {
     for field in shape.fields {
@@ -337,6 +345,7 @@ fn build_unsummed(alloc: Global, shape: &Shape, older: &str) -> Result<MemRack, 
     for name in UNSUMMED6.changed {
         change(&mut rack, name, &UNSUMMED6)?;
     }
+    copy_pages(&mut rack, &UNSUMMED_PAGE)?;
     make_older(&mut rack, older)?;
     Ok(rack)
 }
