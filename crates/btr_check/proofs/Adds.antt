@@ -1,9 +1,9 @@
 -- Lists of findings that are added to a set.
 use Rattle.std.proofs.Common.{ℕ, ◌+◌, ◌<◌, List, [], ◌∷◌, ◌++◌, length, take, get_or, sym}
 use Rattle.std.proofs.lemmas.List.{take_more}
-use Rattle.btr_refs.proofs.Adding.{adds_as, adds_then}
-use Rattle.btr_refs.specs.declared.finding.Finding.{Finding}
-use Rattle.btr_refs.specs.Findings.{Adds, FoundSet}
+use Rattle.btr_findings.proofs.Adding.{adds_as, adds_then}
+use Rattle.btr_findings.specs.declared.finding.Finding.{Finding}
+use Rattle.btr_findings.specs.Findings.{Adds, FoundSet}
 
 -- the first of some findings, one more
 pub added_more : (list : List Finding) (i : ℕ) (d : Finding) (a b c : FoundSet) → i < length list → Adds (take i list) a b → Adds (get_or list i d ∷ []) b c

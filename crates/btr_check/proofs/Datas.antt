@@ -44,12 +44,13 @@ use Rattle.btr_walk.specs.Le.{TreeItem}
 use Rattle.std.specs.Result.{result_ok}
 use Rattle.btr_check.specs.Data.{is_readable, data_lost, data_findings, sum_runs, ReadsBy, unread_stop}
 use Rattle.btr_check.specs.Trees.{tree_of}
-use Rattle.btr_refs.proofs.Adding.{adds_as, adds_more}
-use Rattle.btr_refs.specs.Findings.{Adds, found, unless, FoundSet}
-use Rattle.btr_refs.specs.declared.finding.Finding.{Finding}
+use Rattle.btr_findings.proofs.Adding.{adds_as, adds_more}
+use Rattle.btr_findings.specs.declared.kind.Kind.TheVariants as kind
+use Rattle.btr_findings.specs.Findings.{Adds, found, unless, FoundSet}
+use Rattle.btr_findings.specs.declared.finding.Finding.{Finding}
 use Rattle.std.proofs.lemmas.List.FromFn.{length-map-range_with_len, get_or-map-range_with_len}
 use Rattle.btr_check_sums.specs.Ranks.{run_end}
-use Rattle.btr_refs.specs.Sectors.{sectors}
+use Rattle.btr_findings.specs.Sectors.{sectors}
 use Rattle.btr_check_sums.specs.Sums.{run_sectors}
 use Rattle.std.proofs.lemmas.List.{take_all}
 use Rattle.std.specs.Option.{option_to_list}
@@ -207,11 +208,12 @@ then_read fs sums sector want (Ok can) by is = is ∙ sym by
 then_read fs sums sector want (Err stop) by is = is
 
 -- the finding on a sector
-pub sector_adds : (fs : Filesystem) (sums : Option TreeRoot) (sector : ℕ) (can : Bool) (row : Finding) (old new : FoundSet) → row ≡ found 31 (sector ∷ [])
+pub sector_adds : (fs : Filesystem) (sums : Option TreeRoot) (sector : ℕ) (can : Bool) (row : Finding) (old new : FoundSet)
+    → row ≡ found kind.DataLost (sector ∷ [])
     → Adds (option_to_list (unless can row)) old new → can ≡ is_readable fs sums sector → Adds (option_to_list (data_lost fs sums sector)) old new
 sector_adds fs sums sector can row old new same adds is =
     adds_as (option_to_list (unless can row)) (option_to_list (data_lost fs sums sector)) old new
-    (ap (λ f. option_to_list (unless can f)) same ∙ ap (λ b. option_to_list (unless b (found 31 (sector ∷ [])))) is) adds
+    (ap (λ f. option_to_list (unless can f)) same ∙ ap (λ b. option_to_list (unless b (found kind.DataLost (sector ∷ [])))) is) adds
 
 sectors_long : (start count : ℕ) → length (sectors start count) ≡ count
 sectors_long start count = length-map-range_with_len (λ i. start + i * 4096) 0 count

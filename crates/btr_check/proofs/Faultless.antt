@@ -27,7 +27,7 @@ use Rattle.btr_walk.specs.Le.{TreeItem, or_here, root_spot, want_of}
 use Rattle.btr_walk.specs.Range.{items_within}
 use Rattle.btr_walk.specs.Spot.{judged}
 use Rattle.btr_walk.specs.Reading.{Map}
-use Rattle.btr_refs.specs.declared.finding.Finding.{Finding}
+use Rattle.btr_findings.specs.declared.finding.Finding.{Finding}
 use Rattle.btr_check.specs.Before.{left_by}
 use Rattle.btr_check.specs.Filesystem.{Filesystem, kind_of_sums, has_form}
 use Rattle.btr_check.specs.Trees.{last_of, listed, trees, chunk_tree, root_tree, tree_of}

@@ -10,9 +10,9 @@ use Rattle.btr_check_names.specs.Names.{Names, NamesLaw, no_names, names_step, n
 use Rattle.btr_check_names.specs.Subvolumes.{Subvolumes, leads_to_root, name_at, subvolumes_at, subvolumes_in, subvolume_findings}
 use Rattle.btr_check_names.specs.Unpaired.{UnpairedLaw, are_paired, nothing_unpaired, unpaired_step}
 use Rattle.btr_check_names.specs.declared.unpaired.Unpaired.{Unpaired}
-use Rattle.btr_refs.proofs.Adding.{adds_none, adds_as, adds_then}
-use Rattle.btr_refs.specs.declared.finding.Finding.{Finding}
-use Rattle.btr_refs.specs.Findings.{Adds, FoundSet}
+use Rattle.btr_findings.proofs.Adding.{adds_none, adds_as, adds_then}
+use Rattle.btr_findings.specs.declared.finding.Finding.{Finding}
+use Rattle.btr_findings.specs.Findings.{Adds, FoundSet}
 use Rattle.btr_check_sums.specs.Items.{UsesMet, KeepsUses, uses_step, loose_in, used_in}
 use Rattle.btr_check_sums.specs.Sums.{tree_missing}
 use Rattle.btr_tour.specs.Tour.{Mark, whole}

@@ -4,7 +4,7 @@ use Rattle.std.proofs.lemmas.Cmp.{then_total, on_total, nat_cmp_total}
 use Rattle.std.specs.BTreeSet.{insert_key}
 use Rattle.std.specs.Cmp.{IsTotalOrder}
 use Rattle.std.specs.Ordering.{is_eq}
-use Rattle.btr_refs.proofs.Sets.{any-insert}
+use Rattle.btr_findings.proofs.Sets.{any-insert}
 use Rattle.btr_tour.specs.Tour.{Reached}
 use Rattle.btr_walk.specs.declared.place.RootPlace.{RootPlace}
 use Rattle.btr_check.specs.Trees.{is_among, place_of, place_cmp, first_met}

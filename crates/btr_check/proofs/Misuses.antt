@@ -2,11 +2,11 @@
 use Rattle.std.proofs.Common.{◌≡◌, ℕ, Bool, true, false, ◌&&◌, ◌||◌, List, [], ◌∷◌, flat_map, if◌then◌else◌, eqb, refl, sym, ap, ◌∙◌}
 use Rattle.std.proofs.lemmas.List.Folds.{list_any-append}
 use Rattle.std.specs.List.{list_any}
+use Rattle.btr_findings.specs.Findings.{Adds, has, is_one_of, is_same, FoundSet}
+use Rattle.btr_findings.specs.declared.finding.Finding.{Finding}
+use Rattle.btr_findings.specs.declared.extent.Extent.{Extent}
 use Rattle.btr_refs.proofs.Used.{used_any}
-use Rattle.btr_refs.specs.Findings.{Adds, has, is_one_of, is_same, FoundSet}
 use Rattle.btr_refs.specs.Forward.{AreUsedBy, Use, no_uses, used_by}
-use Rattle.btr_refs.specs.declared.extent.Extent.{Extent}
-use Rattle.btr_refs.specs.declared.finding.Finding.{Finding}
 use Rattle.btr_refs.specs.declared.uses.BlockUse.{BlockUse}
 use Rattle.btr_refs.specs.declared.uses.DataUse.{DataUse}
 use Rattle.btr_refs.specs.declared.uses.UsedExtents.{UsedExtents}
@@ -35,6 +35,12 @@ or_turn true true c = refl
 or_turn true false c = refl
 or_turn false true c = refl
 or_turn false false c = refl
+
+-- the first of what is left was put
+pub any_more : {X : Type 0} (p : X → Bool) (x : X) (rest all : List X) (more less put : Bool) → all ≡ x ∷ rest → more ≡ (p x || less)
+    → (list_any p all || less) ≡ put → (list_any p rest || more) ≡ put
+any_more p x rest all more less put is has before =
+    ap (λ b. list_any p rest || b) has ∙ or_turn (p x) (list_any p rest) less ∙ ap (λ l. list_any p l || less) (sym is) ∙ before
 
 module _ (nodesize : ℕ) (extent : Extent) (uses : List Use) (used : UsedExtents) (is : AreUsedBy uses used) where
   by_kept : (one : Finding) → (list_any (is_by_block nodesize extent one) used.tree_blocks.keys || list_any

@@ -14,8 +14,8 @@ use Rattle.std.specs.Ordering.{is_eq, match_ordering, nat_cmp, ordering_reverse,
 use Rattle.std.specs.declared.cmp.Ordering.{Ordering}
 use Rattle.std.specs.declared.cmp.Ordering.TheVariants.{Less, Equal, Greater}
 use Rattle.btr_base.specs.Key.{last_key}
-use Rattle.btr_refs.proofs.Sets.{any-insert, all-weaker}
-use Rattle.btr_refs.specs.declared.finding.Finding.{Finding}
+use Rattle.btr_findings.proofs.Sets.{any-insert, all-weaker}
+use Rattle.btr_findings.specs.declared.finding.Finding.{Finding}
 use Rattle.btr_tour.specs.Tour.{Mark, Block, Child, Item, Left, Reached, items_met, blocks_met, child_tour, first_key, place_of as place_on}
 use Rattle.btr_walk.specs.declared.place.RootPlace.{RootPlace}
 use Rattle.btr_walk.specs.declared.spot.Spot.{Spot}

@@ -1,15 +1,15 @@
 -- Extents and uses that were read.
 use Rattle.std.proofs.Common.{◌≡◌, ℕ, Bool, true, false, ◌||◌, List, [], ◌++◌, map, flat_map, fold, None, Result, Ok, Err, OnOk, refl, sym, ap, ◌∙◌}
 use Rattle.std.proofs.lemmas.List.Folds.{list_any-append}
-use Rattle.btr_refs.proofs.Adding.{adds_as, adds_then, on_ok}
-use Rattle.btr_refs.proofs.Sets.{any-in_order}
+use Rattle.btr_findings.proofs.Adding.{adds_as, adds_then, on_ok}
+use Rattle.btr_findings.proofs.Sets.{any-in_order}
 use Rattle.btr_refs.proofs.Used.{refs_all}
 use Rattle.btr_base.specs.declared.memory.Memory.{Memory}
-use Rattle.btr_refs.specs.declared.extent.Extent.{Extent}
-use Rattle.btr_refs.specs.declared.finding.Finding.{Finding}
+use Rattle.btr_findings.specs.declared.finding.Finding.{Finding}
+use Rattle.btr_findings.specs.Findings.{Adds, has, in_order, is_one_of, is_same, FoundSet}
+use Rattle.btr_findings.specs.declared.extent.Extent.{Extent}
 use Rattle.btr_refs.specs.Differences.{count_findings, total_findings}
 use Rattle.btr_refs.specs.Extents.{Kept, nothing_kept, extents_in, stored_in}
-use Rattle.btr_refs.specs.Findings.{Adds, has, in_order, is_one_of, is_same, FoundSet}
 use Rattle.btr_refs.specs.Forward.{AreUsedBy, Use, Uses, no_uses, with_use, root_use, used_by}
 use Rattle.btr_refs.specs.declared.uses.UsedExtents.{UsedExtents}
 use Rattle.btr_tour.specs.Tour.{Reached, whole, blocks_met}

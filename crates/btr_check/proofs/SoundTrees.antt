@@ -1,9 +1,9 @@
 -- Trees of files in which nothing is wrong, and those that have the same blocks below their roots.
 use Rattle.std.proofs.Common.{◌≡◌, ℕ, zero, suc, ◌+◌, ◌-◌, ◌<◌, ◌==◌, Bool, true, false, ◌||◌, List, [], ◌∷◌, ◌++◌, ◌≤◌, length, map, take}
-use Rattle.std.proofs.Common.{take_all, drop, get_or, filter, filter_map, flat_map, if◌then◌else◌, Option, Some, None, refl, sym, ap, ◌∙◌, subst}
+use Rattle.std.proofs.Common.{take_all, drop, get_or, filter, filter_map, if◌then◌else◌, Option, Some, None, refl, sym, ap, ◌∙◌, subst}
 use Rattle.std.proofs.Common.{append-nil, arith}
 use Rattle.std.proofs.lemmas.List.{take_more}
-use Rattle.std.specs.List.{AllByRecursion, list_any, cons_option}
+use Rattle.std.specs.List.{list_any, cons_option}
 use Rattle.std.specs.Option.{is_none}
 use Rattle.std.specs.BTreeSet.{insert_key}
 use Rattle.std.specs.Ordering.{match_ordering}
@@ -20,11 +20,13 @@ use Rattle.btr_check_names.specs.Names.{orphan_kept, ref_entry, ref_kept, remove
 use Rattle.btr_check_names.specs.Subvolumes.{Subvolumes, leads_to_root, name_at, subvolumes_at}
 use Rattle.btr_check_names.specs.Unpaired.{are_paired}
 use Rattle.btr_check_sums.specs.Items.{loose_in, used_in}
-use Rattle.btr_check_sums.specs.Sums.{covers, range_missing, sum_missing, tree_missing, used_missing, used_sectors}
+use Rattle.btr_check_sums.specs.Sums.{covers, range_missing, tree_missing, used_missing, used_sectors}
 use Rattle.btr_check_sums.specs.declared.used_range.UsedRange.{UsedRange}
-use Rattle.btr_refs.proofs.Adding.{adds_as, adds_none}
-use Rattle.btr_refs.specs.declared.finding.Finding.{Finding}
-use Rattle.btr_refs.specs.Findings.{FoundSet, TakesFirst, finding_cmp, found, in_order, shown_sum, unless}
+use Rattle.btr_findings.proofs.Adding.{adds_as, adds_none}
+use Rattle.btr_findings.specs.declared.finding.Finding.{Finding}
+use Rattle.btr_findings.specs.declared.kind.Kind.{Kind}
+use Rattle.btr_findings.specs.declared.kind.Kind.TheVariants as kind
+use Rattle.btr_findings.specs.Findings.{FoundSet, TakesFirst, finding_cmp, found, in_order, shown_sum, unless}
 use Rattle.btr_tour.specs.Tour.{items_met}
 use Rattle.btr_volume.specs.declared.root.TreeRoot.{TreeRoot}
 use Rattle.btr_walk.specs.Le.{TreeItem, root_spot}
@@ -66,8 +68,8 @@ module _ (ta tb dirid : ℕ) (inodes : List InodeAt) (indexed hashed : List Entr
   abbrev of_tree : ℕ → Names
   of_tree tree = record { tree = tree; dirid = dirid; inodes = inodes; indexed = indexed; hashed = hashed; refs = refs; orphans = orphans }
 
-  abbrev at_entry : ℕ → ℕ → Entry → Finding
-  at_entry kind tree entry = found kind (tree ∷ entry.dir ∷ entry.offset ∷ [])
+  abbrev at_entry : Kind → ℕ → Entry → Finding
+  at_entry word tree entry = found word (tree ∷ entry.dir ∷ entry.offset ∷ [])
 
   none_same : findings_but removed (of_tree ta) ≡ [] → findings_but removed (of_tree tb) ≡ []
   none_same h =
@@ -86,22 +88,23 @@ module _ (ta tb dirid : ℕ) (inodes : List InodeAt) (indexed hashed : List Entr
       let r4 = both_none (f1 ++ f2 ++ f3) f4 r5.0 in
       let r3 = both_none (f1 ++ f2) f3 r4.0 in
       let r2 = both_none f1 f2 r3.0 in
-      let e1 = rule_same (λ (e : Entry). is_among removed e.dir || list_any (is_entry (under_hash e)) hashed) (at_entry 15 ta) (at_entry 15 tb) indexed r2.0 in
-      let e2 = rule_same (λ (e : Entry). is_among removed e.dir || list_any (is_entry e) (map under_hash indexed)) (at_entry 16 ta) (at_entry 16 tb) hashed
-      r2.1 in
-      let e3 = rule_same (λ (e : Entry). is_among removed e.dir || ref_kept refs e) (at_entry 17 ta) (at_entry 17 tb) indexed r3.1 in
+      let e1 = rule_same (λ (e : Entry). is_among removed e.dir || list_any (is_entry (under_hash e)) hashed)
+      (at_entry kind.EntryItem ta) (at_entry kind.EntryItem tb) indexed r2.0 in
+      let e2 = rule_same (λ (e : Entry). is_among removed e.dir || list_any (is_entry e) (map under_hash indexed))
+      (at_entry kind.EntryIndex ta) (at_entry kind.EntryIndex tb) hashed r2.1 in
+      let e3 = rule_same (λ (e : Entry). is_among removed e.dir || ref_kept refs e) (at_entry kind.EntryRef ta) (at_entry kind.EntryRef tb) indexed r3.1 in
       let e4 = rule_same (λ (ref : NameRef). is_free dirid ref || list_any (same_ref ref) (asked indexed))
-      (λ (ref : NameRef). found 18 (ta ∷ ref.inode ∷ ref.parent ∷ ref.index ∷ []))
-      (λ (ref : NameRef). found 18 (tb ∷ ref.inode ∷ ref.parent ∷ ref.index ∷ [])) refs r4.1 in
-      let e5 = rule_same (λ (e : Entry). is_among removed e.dir || mode_kept inodes e) (at_entry 19 ta) (at_entry 19 tb) indexed r5.1 in
+      (λ (ref : NameRef). found kind.RefEntry (ta ∷ ref.inode ∷ ref.parent ∷ ref.index ∷ []))
+      (λ (ref : NameRef). found kind.RefEntry (tb ∷ ref.inode ∷ ref.parent ∷ ref.index ∷ [])) refs r4.1 in
+      let e5 = rule_same (λ (e : Entry). is_among removed e.dir || mode_kept inodes e) (at_entry kind.EntryMode ta) (at_entry kind.EntryMode tb) indexed r5.1 in
       let e6 = rule_same (λ (at : InodeAt). has_links at (links_of refs at.number))
-      (λ (at : InodeAt). found 20 (ta ∷ at.number ∷ at.inode.nlink ∷ shown_sum (links_of refs at.number) ∷ []))
-      (λ (at : InodeAt). found 20 (tb ∷ at.number ∷ at.inode.nlink ∷ shown_sum (links_of refs at.number) ∷ [])) inodes r6.1 in
+      (λ (at : InodeAt). found kind.LinkCount (ta ∷ at.number ∷ at.inode.nlink ∷ shown_sum (links_of refs at.number) ∷ []))
+      (λ (at : InodeAt). found kind.LinkCount (tb ∷ at.number ∷ at.inode.nlink ∷ shown_sum (links_of refs at.number) ∷ [])) inodes r6.1 in
       let e7 = rule_same (λ (at : InodeAt). is_removed orphans at || has_size at (names_size indexed at.number))
-      (λ (at : InodeAt). found 21 (ta ∷ at.number ∷ at.inode.size ∷ shown_sum (names_size indexed at.number) ∷ []))
-      (λ (at : InodeAt). found 21 (tb ∷ at.number ∷ at.inode.size ∷ shown_sum (names_size indexed at.number) ∷ [])) inodes r7.1 in
-      let e8 = rule_same (orphan_kept orphans) (λ (at : InodeAt). found 22 (ta ∷ at.number ∷ [])) (λ (at : InodeAt). found 22 (tb ∷ at.number ∷ []))
-      inodes r8.1 in
+      (λ (at : InodeAt). found kind.DirSize (ta ∷ at.number ∷ at.inode.size ∷ shown_sum (names_size indexed at.number) ∷ []))
+      (λ (at : InodeAt). found kind.DirSize (tb ∷ at.number ∷ at.inode.size ∷ shown_sum (names_size indexed at.number) ∷ [])) inodes r7.1 in
+      let e8 = rule_same (orphan_kept orphans) (λ (at : InodeAt). found kind.Orphan (ta ∷ at.number ∷ []))
+      (λ (at : InodeAt). found kind.Orphan (tb ∷ at.number ∷ [])) inodes r8.1 in
       λ i. e1 i ++ e2 i ++ e3 i ++ e4 i ++ e5 i ++ e6 i ++ e7 i ++ e8 i
 
 names_same : (ta tb dirid : ℕ) (items : List TreeItem) → names_findings (names_in ta dirid items) ≡ [] → names_findings (names_in tb dirid items) ≡ []
@@ -114,8 +117,9 @@ module _ (chunks : List Chunk) (runs : List SumRun) (ta tb : ℕ) where
   range_same : (b : Bool) (range : UsedRange) → (if b then [] else used_missing chunks runs ta range) ≡ []
       → (if b then [] else used_missing chunks runs tb range) ≡ []
   range_same true range h = refl
-  range_same false range h = rule_same (λ (sector : ℕ). list_any (covers sector) runs) (λ sector. found 12 (ta ∷ range.inode ∷ shown_sum sector ∷ []))
-      (λ sector. found 12 (tb ∷ range.inode ∷ shown_sum sector ∷ [])) (used_sectors chunks range) h
+  range_same false range h = rule_same (λ (sector : ℕ). list_any (covers sector) runs)
+      (λ sector. found kind.SumMissing (ta ∷ range.inode ∷ shown_sum sector ∷ []))
+      (λ sector. found kind.SumMissing (tb ∷ range.inode ∷ shown_sum sector ∷ [])) (used_sectors chunks range) h
 
   missing_same : (loose : List ℕ) (used : List UsedRange) → tree_missing chunks runs ta loose used ≡ [] → tree_missing chunks runs tb loose used ≡ []
   missing_same loose [] h = refl

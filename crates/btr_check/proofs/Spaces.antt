@@ -1,9 +1,9 @@
 -- Block groups and devices that were collected.
 use Rattle.std.proofs.Common.{◌≡◌, ℕ, List, [], fold, filter_map, Option, Some, ap, ◌∙◌}
 use Rattle.btr_chunk.specs.declared.chunk.Chunk.{Chunk}
-use Rattle.btr_refs.proofs.Adding.{adds_as}
-use Rattle.btr_refs.specs.declared.extent.Extent.{Extent}
-use Rattle.btr_refs.specs.Findings.{Adds, FoundSet}
+use Rattle.btr_findings.proofs.Adding.{adds_as}
+use Rattle.btr_findings.specs.Findings.{Adds, FoundSet}
+use Rattle.btr_findings.specs.declared.extent.Extent.{Extent}
 use Rattle.btr_check_space.specs.Devices.{device_findings}
 use Rattle.btr_check_space.specs.Groups.{group_findings}
 use Rattle.btr_check_space.specs.Items.{with_mark, group_in, device_extent_in, device_in, groups_in, Collects}

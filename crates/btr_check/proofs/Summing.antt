@@ -2,9 +2,9 @@
 use Rattle.std.proofs.Common.{◌≡◌, List, [], fold, Option, ap, ◌∙◌}
 use Rattle.btr_base.specs.declared.kind.SumKind.{SumKind}
 use Rattle.btr_items.specs.declared.sum_run.SumRun.{SumRun}
-use Rattle.btr_refs.proofs.Adding.{adds_as}
-use Rattle.btr_refs.specs.declared.extent.Extent.{Extent}
-use Rattle.btr_refs.specs.Findings.{Adds, FoundSet}
+use Rattle.btr_findings.proofs.Adding.{adds_as}
+use Rattle.btr_findings.specs.Findings.{Adds, FoundSet}
+use Rattle.btr_findings.specs.declared.extent.Extent.{Extent}
 use Rattle.btr_check_sums.specs.Items.{RunsMet, KeepsRuns, runs_step, runs_in}
 use Rattle.btr_check_sums.specs.Sums.{sum_findings}
 use Rattle.btr_volume.specs.declared.root.TreeRoot.{TreeRoot}

@@ -3,9 +3,9 @@ use Rattle.std.proofs.Common.{◌≡◌, Bool, true, false, List, [], ◌∷◌,
 use Rattle.std.specs.Borrow.{Bor}
 use Rattle.std.specs.Option.{option_copied}
 use Rattle.btr_files.specs.Sums.{tree_behind}
-use Rattle.btr_refs.proofs.Adding.{adds_as, adds_just}
-use Rattle.btr_refs.specs.declared.finding.Finding.{Finding}
-use Rattle.btr_refs.specs.Findings.{Adds, HasJust, has, in_order, FoundSet}
+use Rattle.btr_findings.proofs.Adding.{adds_as, adds_just}
+use Rattle.btr_findings.specs.declared.finding.Finding.{Finding}
+use Rattle.btr_findings.specs.Findings.{Adds, HasJust, has, in_order, FoundSet}
 use Rattle.btr_volume.specs.declared.root.TreeRoot.{TreeRoot}
 use Rattle.btr_check.specs.Filesystem.{Filesystem}
 use Rattle.btr_check.specs.Findings.{all_findings, findings, or_rules, rule_findings}

@@ -4,7 +4,7 @@ use Rattle.std.specs.BTreeSet.{BTreeSet, contains}
 use Rattle.std.specs.List.{AllByRecursion}
 use Rattle.std.specs.Ordering.{nat_cmp}
 use Rattle.btr_read.specs.declared.want.Want.TheVariants.{Tree}
-use Rattle.btr_refs.specs.declared.extent.Extent.{Extent}
+use Rattle.btr_findings.specs.declared.extent.Extent.{Extent}
 use Rattle.btr_refs.specs.Forward.{Uses, no_uses, with_use, root_use, block_uses}
 use Rattle.btr_tour.specs.Tour.{Reached}
 use Rattle.btr_volume.specs.declared.root.TreeRoot.{TreeRoot}

@@ -1,11 +1,12 @@
--- Kind 31: data that has a checksum is readable.
+-- Data that has a checksum is readable.
 use Rattle.std.specs.Prelude.{◌≡◌, ℕ, Bool, false, List, [], ◌∷◌, filter_map, is_ok, Option, Some, None}
 use Rattle.btr_base.specs.declared.kind.SumKind.{SumKind}
 use Rattle.btr_items.specs.declared.sum_run.SumRun.{SumRun}
 use Rattle.btr_prog.specs.Prog.{Return, Need, bind, exec}
 use Rattle.btr_read.specs.declared.want.Want.{Want}
-use Rattle.btr_refs.specs.declared.finding.Finding.{Finding}
-use Rattle.btr_refs.specs.Findings.{found, unless}
+use Rattle.btr_findings.specs.declared.finding.Finding.{Finding}
+use Rattle.btr_findings.specs.declared.kind.Kind.TheVariants as kind
+use Rattle.btr_findings.specs.Findings.{found, unless}
 use Rattle.btr_volume.specs.Lookup.{Lookup}
 use Rattle.btr_volume.specs.declared.root.TreeRoot.{TreeRoot}
 use Rattle.btr_volume.specs.declared.stop.Stop.{Stop}
@@ -31,15 +32,15 @@ module _ (fs : Filesystem) where
   abbrev pub is_readable : Option TreeRoot → ℕ → Bool
   is_readable sums sector = is_ok (exec fs.blocks (sector_bytes (kind_of_sums fs) sums sector)).ending
 
-  -- 31: a sector that has a checksum is readable
+  -- a sector that has a checksum is readable
   abbrev pub data_lost : Option TreeRoot → ℕ → Option Finding
-  data_lost sums sector = unless (is_readable sums sector) (found 31 (sector ∷ []))
+  data_lost sums sector = unless (is_readable sums sector) (found kind.DataLost (sector ∷ []))
 
   -- the runs of checksums in the checksum tree
   abbrev pub sum_runs : List SumRun
   sum_runs = runs_in (kind_of_sums fs) (tree_items fs 7)
 
-  -- 31: which sectors that have a checksum aren't readable
+  -- which sectors that have a checksum aren't readable
   abbrev pub data_findings : List Finding
   data_findings = filter_map (data_lost (tree_of fs.sup fs.blocks 7)) (summed sum_runs)
 

@@ -1,7 +1,7 @@
 -- What is wrong with what the trees say, pass by pass.
 use Rattle.std.specs.Prelude.{◌≡◌, List, ◌++◌, map, flat_map, Option}
 use Rattle.btr_check_names.specs.Subvolumes.{Subvolumes, subvolumes_in, subvolume_findings}
-use Rattle.btr_refs.specs.declared.finding.Finding.{Finding}
+use Rattle.btr_findings.specs.declared.finding.Finding.{Finding}
 use Rattle.btr_check_space.specs.Cover.{HoldSame}
 use Rattle.btr_check_space.specs.Devices.{device_findings}
 use Rattle.btr_check_space.specs.Groups.{group_findings}

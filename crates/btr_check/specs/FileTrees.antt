@@ -8,8 +8,8 @@ use Rattle.btr_check_names.specs.Names.{Names, names_in, names_findings}
 use Rattle.btr_check_names.specs.Subvolume.{NamedSubvolume}
 use Rattle.btr_check_names.specs.Subvolumes.{Subvolumes, names_at, subvolumes_at}
 use Rattle.btr_check_names.specs.Unpaired.{nothing_unpaired, unpaired_step}
-use Rattle.btr_refs.specs.declared.finding.Finding.{Finding}
-use Rattle.btr_refs.specs.Findings.{Adds, FoundSet}
+use Rattle.btr_findings.specs.declared.finding.Finding.{Finding}
+use Rattle.btr_findings.specs.Findings.{Adds, FoundSet}
 use Rattle.btr_check_space.specs.Cover.{HoldSame}
 use Rattle.btr_check_space.specs.declared.cover.Stretch.{Stretch}
 use Rattle.btr_check_sums.specs.Items.{UsesMet, uses_step, loose_in, used_in}
@@ -33,11 +33,11 @@ module _ (B : Map) where
   abbrev pub names_of : TreeRoot → Names
   names_of tree = names_in tree.id tree.dirid (items_in B tree)
 
-  -- 12: what is wrong with the sectors that its files use, where these are the chunks and the checksums
+  -- what is wrong with the sectors that its files use, where these are the chunks and the checksums
   abbrev pub missing_findings : List Chunk → List SumRun → TreeRoot → List Finding
   missing_findings chunks runs tree = tree_missing chunks runs tree.id (filter_map loose_in (items_in B tree)) (filter_map used_in (items_in B tree))
 
-  -- 12, 15 to 22: what is wrong with a tree of files
+  -- what is wrong with a tree of files
   abbrev pub file_tree_findings : List Chunk → List SumRun → TreeRoot → List Finding
   file_tree_findings chunks runs tree = missing_findings chunks runs tree ++ names_findings (names_of tree)
 

@@ -13,7 +13,7 @@ use Rattle.btr_walk.specs.Le.{TreeItem}
 use Rattle.btr_walk.specs.Reading.{Map}
 use Rattle.btr_volume.specs.declared.root.TreeRoot.{TreeRoot}
 use Rattle.btr_check.specs.Trees.{listed, items_of, root_tree, chunk_tree, items_in}
-use Rattle.btr_refs.specs.declared.extent.Extent.{Extent}
+use Rattle.btr_findings.specs.declared.extent.Extent.{Extent}
 use Rattle.btr_refs.specs.Extents.{extents_in}
 
 -- a filesystem: the chosen superblock, the chunks, and what becomes of each want

@@ -1,13 +1,13 @@
 -- All that is wrong with a filesystem.
 use Rattle.std.specs.Prelude.{Bool, true, false, List, [], ◌∷◌, ◌++◌}
-use Rattle.btr_refs.specs.declared.finding.Finding.{Finding}
-use Rattle.btr_refs.specs.Findings.{in_order}
+use Rattle.btr_findings.specs.declared.finding.Finding.{Finding}
+use Rattle.btr_findings.specs.Findings.{in_order}
 use Rattle.btr_check.specs.Data.{data_findings}
 use Rattle.btr_check.specs.Families.{found_on_extents, found_on_devices, found_on_files}
 use Rattle.btr_check.specs.Filesystem.{Filesystem}
 use Rattle.btr_check.specs.Walks.{walk_findings}
 
--- 31: what is lost of the data, where data is read
+-- what is lost of the data, where data is read
 abbrev pub data_if : Bool → Filesystem → List Finding
 data_if true fs = data_findings fs
 data_if false fs = []

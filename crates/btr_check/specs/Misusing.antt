@@ -2,11 +2,11 @@
 use Rattle.std.specs.Prelude.{◌≡◌, ℕ, ◌==◌, ◌&&◌, ◌||◌, Bool, List, flat_map, Result, OnOk}
 use Rattle.std.specs.List.{list_any}
 use Rattle.btr_base.specs.declared.memory.Memory.{Memory}
-use Rattle.btr_refs.specs.declared.extent.Extent.{Extent}
-use Rattle.btr_refs.specs.declared.finding.Finding.{Finding}
+use Rattle.btr_findings.specs.declared.finding.Finding.{Finding}
+use Rattle.btr_findings.specs.Findings.{Adds, has, is_one_of, FoundSet}
+use Rattle.btr_findings.specs.declared.extent.Extent.{Extent}
 use Rattle.btr_refs.specs.declared.uses.BlockUse.{BlockUse}
 use Rattle.btr_refs.specs.declared.uses.DataUse.{DataUse}
-use Rattle.btr_refs.specs.Findings.{Adds, has, is_one_of, FoundSet}
 use Rattle.btr_refs.specs.Forward.{AreUsedBy, Used, TreeBlock, Data, Use}
 use Rattle.btr_refs.specs.declared.uses.UsedExtents.{UsedExtents}
 use Rattle.btr_check.specs.Uses.{extent_findings, misused}

@@ -1,9 +1,9 @@
 -- What a pass of a check does: it visits a tree, and puts what is wrong into a set of findings.
 use Rattle.std.specs.Prelude.{◌≡◌, List, [], Option, Some, None, Result, Ok, Err}
 use Rattle.btr_base.specs.declared.memory.Memory.{Memory}
-use Rattle.btr_refs.specs.declared.extent.Extent.{Extent}
-use Rattle.btr_refs.specs.declared.finding.Finding.{Finding}
-use Rattle.btr_refs.specs.Findings.{Adds, FoundSet}
+use Rattle.btr_findings.specs.declared.finding.Finding.{Finding}
+use Rattle.btr_findings.specs.Findings.{Adds, FoundSet}
+use Rattle.btr_findings.specs.declared.extent.Extent.{Extent}
 use Rattle.btr_refs.specs.Forward.{AreUsedBy}
 use Rattle.btr_refs.specs.declared.uses.UsedExtents.{UsedExtents}
 use Rattle.btr_tour.specs.Tour.{Mark, whole}

@@ -7,7 +7,7 @@ use Rattle.btr_check_names.specs.declared.unpaired.Unpaired.{Unpaired}
 use Rattle.btr_check_names.specs.Subvolumes.{Subvolumes, leads_to_root}
 use Rattle.btr_check_space.specs.declared.cover.Stretch.{Stretch}
 use Rattle.btr_check_sums.specs.Sums.{tree_missing}
-use Rattle.btr_refs.specs.Findings.{FoundSet}
+use Rattle.btr_findings.specs.Findings.{FoundSet}
 use Rattle.btr_tour.specs.Tour.{items_met}
 use Rattle.btr_volume.specs.declared.root.TreeRoot.{TreeRoot}
 use Rattle.btr_walk.specs.Le.{TreeItem}

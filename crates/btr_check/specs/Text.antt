@@ -1,7 +1,12 @@
 -- How findings are printed.
 use Rattle.std.specs.Prelude.{ℕ, ◌==◌, List, [], ◌∷◌, ◌++◌, length, take, flat_map, codes, if◌then◌else◌}
 use Rattle.std.specs.Fmt.{decimal}
-use Rattle.btr_refs.specs.declared.finding.Finding.{Finding}
+use Rattle.btr_findings.specs.declared.finding.Finding.{Finding}
+use Rattle.btr_findings.specs.declared.kind.Kind.{Kind}
+use Rattle.btr_findings.specs.declared.kind.Kind.TheVariants.{Lost, Malformed, Unmapped, Crosses, OutsideGroup, Overlap, RefCount, RefTotal}
+use Rattle.btr_findings.specs.declared.kind.Kind.TheVariants.{ExtentKind, ExtentLength, ExtentLevel, SumMissing, SumOverlap, SumStray, EntryItem, EntryIndex}
+use Rattle.btr_findings.specs.declared.kind.Kind.TheVariants.{EntryRef, RefEntry, EntryMode, LinkCount, DirSize, Orphan, RootRef, ChunkGroup}
+use Rattle.btr_findings.specs.declared.kind.Kind.TheVariants.{GroupChunk, ChunkDevice, DeviceChunk, GroupUsed, DeviceUsed, TotalUsed, DataLost}
 
 -- the word of a kind, and how many of its numbers are printed
 pub record Printed : Type 0 where
@@ -13,39 +18,38 @@ abbrev pub printed : List ℕ → ℕ → Printed
 printed word count = record { word = word; count = count }
 
 -- the word of each kind, and how many of its numbers are printed
-unfoldable pub printed_of : ℕ → Printed
-printed_of kind =
-    if kind == 1 then printed (codes "lost") 1
-    else if kind == 2 then printed (codes "malformed") 1
-    else if kind == 3 then printed (codes "unmapped") 1
-    else if kind == 4 then printed (codes "crosses") 1
-    else if kind == 5 then printed (codes "outside-group") 2
-    else if kind == 6 then printed (codes "overlap") 2
-    else if kind == 7 then printed (codes "ref-count") 7
-    else if kind == 8 then printed (codes "ref-total") 3
-    else if kind == 9 then printed (codes "extent-kind") 2
-    else if kind == 10 then printed (codes "extent-length") 3
-    else if kind == 11 then printed (codes "extent-level") 3
-    else if kind == 12 then printed (codes "sum-missing") 3
-    else if kind == 13 then printed (codes "sum-overlap") 1
-    else if kind == 14 then printed (codes "sum-stray") 1
-    else if kind == 15 then printed (codes "entry-item") 3
-    else if kind == 16 then printed (codes "entry-index") 3
-    else if kind == 17 then printed (codes "entry-ref") 3
-    else if kind == 18 then printed (codes "ref-entry") 4
-    else if kind == 19 then printed (codes "entry-mode") 3
-    else if kind == 20 then printed (codes "link-count") 4
-    else if kind == 21 then printed (codes "dir-size") 4
-    else if kind == 22 then printed (codes "orphan") 2
-    else if kind == 23 then printed (codes "root-ref") 2
-    else if kind == 24 then printed (codes "chunk-group") 1
-    else if kind == 25 then printed (codes "group-chunk") 1
-    else if kind == 26 then printed (codes "chunk-device") 3
-    else if kind == 27 then printed (codes "device-chunk") 2
-    else if kind == 28 then printed (codes "group-used") 3
-    else if kind == 29 then printed (codes "device-used") 3
-    else if kind == 30 then printed (codes "total-used") 2
-    else printed (codes "data-lost") 1
+abbrev pub printed_of : Kind → Printed
+printed_of Lost = printed (codes "lost") 1
+printed_of Malformed = printed (codes "malformed") 1
+printed_of Unmapped = printed (codes "unmapped") 1
+printed_of Crosses = printed (codes "crosses") 1
+printed_of OutsideGroup = printed (codes "outside-group") 2
+printed_of Overlap = printed (codes "overlap") 2
+printed_of RefCount = printed (codes "ref-count") 7
+printed_of RefTotal = printed (codes "ref-total") 3
+printed_of ExtentKind = printed (codes "extent-kind") 2
+printed_of ExtentLength = printed (codes "extent-length") 3
+printed_of ExtentLevel = printed (codes "extent-level") 3
+printed_of SumMissing = printed (codes "sum-missing") 3
+printed_of SumOverlap = printed (codes "sum-overlap") 1
+printed_of SumStray = printed (codes "sum-stray") 1
+printed_of EntryItem = printed (codes "entry-item") 3
+printed_of EntryIndex = printed (codes "entry-index") 3
+printed_of EntryRef = printed (codes "entry-ref") 3
+printed_of RefEntry = printed (codes "ref-entry") 4
+printed_of EntryMode = printed (codes "entry-mode") 3
+printed_of LinkCount = printed (codes "link-count") 4
+printed_of DirSize = printed (codes "dir-size") 4
+printed_of Orphan = printed (codes "orphan") 2
+printed_of RootRef = printed (codes "root-ref") 2
+printed_of ChunkGroup = printed (codes "chunk-group") 1
+printed_of GroupChunk = printed (codes "group-chunk") 1
+printed_of ChunkDevice = printed (codes "chunk-device") 3
+printed_of DeviceChunk = printed (codes "device-chunk") 2
+printed_of GroupUsed = printed (codes "group-used") 3
+printed_of DeviceUsed = printed (codes "device-used") 3
+printed_of TotalUsed = printed (codes "total-used") 2
+printed_of DataLost = printed (codes "data-lost") 1
 
 -- a number after a space
 abbrev pub number_text : ℕ → List ℕ

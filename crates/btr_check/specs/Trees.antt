@@ -16,8 +16,8 @@ use Rattle.btr_volume.specs.declared.root.TreeRoot.{TreeRoot}
 use Rattle.btr_volume.specs.Table.{chunk_root}
 use Rattle.btr_volume.specs.Tree.{root_root, named_root, described}
 use Rattle.btr_check.specs.declared.places.Place.{Place}
+use Rattle.btr_findings.specs.declared.extent.Extent.{Extent}
 use Rattle.btr_refs.specs.Forward.{Use, root_use, block_uses}
-use Rattle.btr_refs.specs.declared.extent.Extent.{Extent}
 
 -- the root tree, whose root the superblock has
 abbrev pub root_tree : Super → TreeRoot

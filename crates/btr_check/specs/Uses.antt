@@ -1,10 +1,11 @@
--- Kinds 7 to 11: extents and what uses them.
+-- Extents and what uses them.
 use Rattle.std.specs.Prelude.{ℕ, ◌==◌, Bool, true, false, List, [], ◌∷◌, ◌++◌, map, flat_map, Option, Some, None, if◌then◌else◌}
 use Rattle.std.specs.Option.{option_to_list}
 use Rattle.btr_items.specs.ExtentItem.{is_tree_block}
-use Rattle.btr_refs.specs.declared.finding.Finding.{Finding}
-use Rattle.btr_refs.specs.Findings.{found, unless}
-use Rattle.btr_refs.specs.declared.extent.Extent.{Extent}
+use Rattle.btr_findings.specs.declared.finding.Finding.{Finding}
+use Rattle.btr_findings.specs.declared.kind.Kind.TheVariants as kind
+use Rattle.btr_findings.specs.Findings.{found, unless}
+use Rattle.btr_findings.specs.declared.extent.Extent.{Extent}
 use Rattle.btr_refs.specs.Extents.{stored_in}
 use Rattle.btr_refs.specs.Counts.{Counted, RefCounts, counted_all}
 use Rattle.btr_refs.specs.Forward.{Used, TreeBlock, Data, Use, met}
@@ -19,26 +20,26 @@ is_kind true (Data len) = false
 is_kind false (TreeBlock level) = false
 is_kind false (Data len) = true
 
--- 9: a tree block is used as one, and data as data
+-- a tree block is used as one, and data as data
 abbrev pub extent_kind : Extent → Used → Option Finding
-extent_kind extent what = unless (is_kind (is_tree_block extent.flags) what) (found 9 (extent.addr ∷ extent.flags ∷ []))
+extent_kind extent what = unless (is_kind (is_tree_block extent.flags) what) (found kind.ExtentKind (extent.addr ∷ extent.flags ∷ []))
 
 -- how long a use says that an extent is: as long as a node, or as a file says
 abbrev pub used_len : ℕ → Used → ℕ
 used_len nodesize (TreeBlock level) = nodesize
 used_len nodesize (Data len) = len
 
--- 10: an extent is as long as a node, or as a file says
+-- an extent is as long as a node, or as a file says
 abbrev pub extent_length : ℕ → Extent → Used → Option Finding
-extent_length nodesize extent what = unless (extent.len == used_len nodesize what) (found 10 (extent.addr ∷ extent.len ∷ used_len nodesize what ∷ []))
+extent_length nodesize extent what = unless (extent.len == used_len nodesize what) (found kind.ExtentLength (extent.addr ∷ extent.len ∷ used_len nodesize what ∷ []))
 
 -- the finding that a tree block at an address states another level than it is used at
 abbrev pub level_differs : ℕ → Option ℕ → Used → Option Finding
 level_differs addr None what = None
-level_differs addr (Some level) (TreeBlock found_level) = unless (level == found_level) (found 11 (addr ∷ level ∷ found_level ∷ []))
+level_differs addr (Some level) (TreeBlock found_level) = unless (level == found_level) (found kind.ExtentLevel (addr ∷ level ∷ found_level ∷ []))
 level_differs addr (Some level) (Data len) = None
 
--- 11: a tree block that states a level is used at it
+-- a tree block that states a level is used at it
 abbrev pub extent_level : Extent → Used → Option Finding
 extent_level extent what = level_differs extent.addr extent.level what
 
@@ -71,15 +72,15 @@ counted_refs fs = counts_of (map met (all_uses fs))
 abbrev pub stored_refs : Filesystem → RefCounts
 stored_refs fs = counts_of (stored_in (tree_items fs 2))
 
--- 7: a reference is counted another number of times than it is stored
+-- a reference is counted another number of times than it is stored
 abbrev pub found_on_counts : Filesystem → List Finding
 found_on_counts fs = count_findings (counted_refs fs) (stored_refs fs)
 
--- 8: an extent states another number of references than are stored
+-- an extent states another number of references than are stored
 abbrev pub found_on_totals : Filesystem → List Finding
 found_on_totals fs = total_findings (extents fs) (stored_refs fs)
 
--- 7, 8: where the uses that are counted and the references that are stored differ
+-- where the uses that are counted and the references that are stored differ
 abbrev pub difference_findings : Filesystem → List Finding
 difference_findings fs = differences (counted_refs fs) (extents fs) (stored_refs fs)
 

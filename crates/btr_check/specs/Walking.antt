@@ -5,7 +5,7 @@ use Rattle.std.specs.Option.{option_to_list}
 use Rattle.std.specs.declared.alloc.Global.{Global}
 use Rattle.std.specs.declared.vec.Vec.{Vec}
 use Rattle.btr_base.specs.declared.kind.SumKind.{SumKind}
-use Rattle.btr_refs.specs.declared.finding.Finding.{Finding}
+use Rattle.btr_findings.specs.declared.finding.Finding.{Finding}
 use Rattle.btr_tour.specs.Tour.{Mark, Block, Child, Item, Left, Reached, whole, blocks_met}
 use Rattle.btr_volume.specs.declared.root.TreeRoot.{TreeRoot}
 use Rattle.btr_volume.specs.declared.stop.Stop.{Stop}

@@ -1,4 +1,4 @@
--- Kinds 1 to 4: what is wrong with the trees themselves.
+-- What is wrong with the trees themselves.
 use Rattle.std.specs.Prelude.{ℕ, ◌==◌, ◌||◌, not, nat_le, List, [], ◌∷◌, ◌++◌, filter_map, flat_map, option_map, Option, None, if◌then◌else◌}
 use Rattle.std.specs.Result.{result_ok}
 use Rattle.btr_base.specs.declared.key.Key.{Key}
@@ -7,8 +7,9 @@ use Rattle.btr_items.specs.FileExtent.{file_extent_of, end_of}
 use Rattle.btr_items.specs.declared.file_extent.FileExtent.{FileExtent}
 use Rattle.btr_items.specs.Types.{extent_data}
 use Rattle.btr_walk.specs.Le.{TreeItem}
-use Rattle.btr_refs.specs.declared.finding.Finding.{Finding}
-use Rattle.btr_refs.specs.Findings.{found, unless}
+use Rattle.btr_findings.specs.declared.finding.Finding.{Finding}
+use Rattle.btr_findings.specs.declared.kind.Kind.TheVariants as kind
+use Rattle.btr_findings.specs.Findings.{found, unless}
 use Rattle.btr_tour.specs.Tour.{Mark, whole, items_met}
 use Rattle.btr_volume.specs.declared.root.TreeRoot.{TreeRoot}
 use Rattle.btr_check.specs.declared.block_fault.BlockFault.{BlockFault}
@@ -18,12 +19,12 @@ use Rattle.btr_check.specs.Before.{wrong}
 use Rattle.btr_check.specs.Trees.{trees}
 use Rattle.btr_check.specs.Filesystem.{Filesystem, kind_of_sums, neighbours}
 
--- 1, 2, 3, 4: a block is lost, malformed, at an unmapped address, or crosses an element
+-- a block is lost, malformed, at an unmapped address, or crosses an element
 abbrev pub fault_finding : BlockFault → Finding
-fault_finding (Lost addr) = found 1 (addr ∷ [])
-fault_finding (Malformed addr) = found 2 (addr ∷ [])
-fault_finding (Unmapped addr) = found 3 (addr ∷ [])
-fault_finding (Crosses addr) = found 4 (addr ∷ [])
+fault_finding (Lost addr) = found kind.Lost (addr ∷ [])
+fault_finding (Malformed addr) = found kind.Malformed (addr ∷ [])
+fault_finding (Unmapped addr) = found kind.Unmapped (addr ∷ [])
+fault_finding (Crosses addr) = found kind.Crosses (addr ∷ [])
 
 -- what is wrong with what a tour meets; an item that hasn't its form makes its leaf malformed
 abbrev pub broken : SumKind → Mark → Option Finding
@@ -41,9 +42,9 @@ range_in key leaf body = if key.kind == extent_data then option_map (range_with 
 abbrev pub range_of : TreeItem → Option FileRange
 range_of item = range_in item.key item.leaf item.body
 
--- 2: an extent of a file begins before the end of the one before it
+-- an extent of a file begins before the end of the one before it
 abbrev pub not_apart : FileRange × FileRange → Option Finding
-not_apart two = unless (not (two.0.inode == two.1.inode) || nat_le two.0.end two.1.start) (found 2 (two.1.leaf ∷ []))
+not_apart two = unless (not (two.0.inode == two.1.inode) || nat_le two.0.end two.1.start) (found kind.Malformed (two.1.leaf ∷ []))
 
 -- the ranges of files that a tour meets
 abbrev pub ranges_met : List Mark → List FileRange

@@ -1,10 +1,10 @@
 // Findings of a walk, as a set.
 ghost use Rattle.std.specs.Prelude.{◌++◌, OnOk};
-ghost use Rattle.btr_refs.specs.Findings.{Adds};
+ghost use Rattle.btr_findings.specs.Findings.{Adds};
 
 use crate::walk::Walk;
 use btr_base::Memory;
-use btr_refs::{Finding, Found, put_unless};
+use btr_findings::{Finding, Found, put_unless};
 
 /// Puts findings into a set. `Memory`: there is no memory; then nothing is said of the set.
 pub(crate) fn put_all(found: &mut Found, list: &[Finding]) -> Result<(), Memory>
@@ -16,7 +16,7 @@ pub(crate) fn put_all(found: &mut Found, list: &[Finding]) -> Result<(), Memory>
     Ok(())
 }
 
-/// Puts all that was found on a walk into a set, kinds 1 to 4. `Memory`: there is no memory; then nothing is said of the set.
+/// Puts all that was found on a walk into a set. `Memory`: there is no memory; then nothing is said of the set.
 pub fn put_walk_findings(found: &mut Found, walk: &Walk) -> Result<(), Memory>
     ensures { OnOk result (Adds (walk.now.broken ++ walk.now.overlapping) found.old found.new) }
 {

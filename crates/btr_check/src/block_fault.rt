@@ -1,4 +1,4 @@
-use btr_refs::Finding;
+use btr_findings::{Finding, Kind};
 use btr_volume::Stop;
 use btr_walk::TreeFault;
 
@@ -41,15 +41,15 @@ impl BlockFault {
         }
     }
 
-    /// The same as a finding, of kind 1 to 4.
+    /// The same as a finding.
     pub(crate) fn finding(self) -> Finding
         ensures { result ≡ fault_finding self }
     {
         let (kind, addr) = match self {
-            BlockFault::Lost(addr) => (1, addr),
-            BlockFault::Malformed(addr) => (2, addr),
-            BlockFault::Unmapped(addr) => (3, addr),
-            BlockFault::Crosses(addr) => (4, addr),
+            BlockFault::Lost(addr) => (Kind::Lost, addr),
+            BlockFault::Malformed(addr) => (Kind::Malformed, addr),
+            BlockFault::Unmapped(addr) => (Kind::Unmapped, addr),
+            BlockFault::Crosses(addr) => (Kind::Crosses, addr),
         };
         Finding {
             kind,

@@ -1,6 +1,6 @@
 // A check of a filesystem.
 ghost use Rattle.std.specs.Prelude.{◌≡◌, ◌++◌, None};
-ghost use Rattle.btr_refs.specs.Findings.{HasJust};
+ghost use Rattle.btr_findings.specs.Findings.{HasJust};
 ghost use Rattle.btr_check.specs.Before.{refusal};
 ghost use Rattle.btr_check.specs.Counting.{Unless};
 ghost use Rattle.btr_check.specs.Families.{IsRunsOf, found_on_extents, found_on_files};
@@ -18,12 +18,12 @@ use crate::walk::Walk;
 use crate::{all_trees, put_walk_findings, read_trees, walk_trees};
 use btr_base::Memory;
 use btr_check_sums::{Runs, sum_cover};
+use btr_findings::{Findings, Found};
 use btr_rack::Rack;
-use btr_refs::{Findings, Found};
 use btr_volume::{Stop, TreeRoot, Volume};
 use std::alloc::Global;
 
-// Puts what is wrong with extents, kinds 5 to 11, 13, 14, 24, 25, 28 and 30, and answers the runs of checksums.
+// Puts what is wrong with extents, with the references to them, with block groups and with checksums, and answers the runs of checksums.
 fn put_extents<R: Rack>(
     alloc: Global,
     found: &mut Found,
@@ -72,7 +72,7 @@ fn put_data_if<R: Rack>(
     }
 }
 
-// Puts what is wrong with data and files, kinds 12, 15 to 23, and 31 where data is read. These are the runs of checksums.
+// Puts what is wrong with files and names, and what is lost of the data, where that is read. These are the runs of checksums.
 fn put_contents<R: Rack>(
     alloc: Global,
     read_data: bool,
@@ -159,8 +159,8 @@ fn find_all<R: Rack>(
 
 /// Checks a filesystem: all that is wrong with it, each finding once and in ascending order; those on sectors one behind another take the memory
 /// of one. Four slots are free. Where something is
-/// wrong with the trees themselves, kinds 1 to 4, that is all; else come the kinds 5 to 30, and 31 where `read_data` says that each
-/// sector that has a checksum is read. The trees are read several times, and nothing is written.
+/// wrong with the trees themselves, from `Kind::Lost` to `Crosses`, that is all; else come the other kinds, and `DataLost` where
+/// `read_data` says that each sector that has a checksum is read. The trees are read several times, and nothing is written.
 ///
 /// `Tree`: a block could not be read, which is `Unread`; or the root tree itself can't be read on, as `read_trees` says, which also says when
 /// `Balance`, `Deletion` and `NoTree` come. `Memory`: there is no memory for what is kept, or there are 2^64 findings

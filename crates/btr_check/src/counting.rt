@@ -7,10 +7,11 @@ ghost use Rattle.btr_check.specs.Counting.{BlockCounts, BlocksCount, UsesCount, 
 
 use bitflags::Flags;
 use btr_base::Memory;
+use btr_findings::Extent;
 use btr_items::ExtentFlags;
 use btr_rack::Rack;
 use btr_read::{Want, fetch};
-use btr_refs::{Extent, Forward};
+use btr_refs::Forward;
 use btr_volume::{Stop, TreeRoot, Volume};
 use btr_walk::{RootPlace, TreeFault};
 use std::alloc::Global;

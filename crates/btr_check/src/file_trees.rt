@@ -4,8 +4,8 @@ ghost use Rattle.btr_check_names.specs.Names.{names_findings};
 ghost use Rattle.btr_check_names.specs.Subvolumes.{subvolumes_in};
 ghost use Rattle.btr_check_names.specs.Subvolumes as names;
 ghost use Rattle.btr_check_names.specs.Unpaired.{are_paired};
-ghost use Rattle.btr_refs.specs.declared.finding.Finding.{Finding};
-ghost use Rattle.btr_refs.specs.Findings.{Adds, HasJust};
+ghost use Rattle.btr_findings.specs.declared.finding.Finding.{Finding};
+ghost use Rattle.btr_findings.specs.Findings.{Adds, HasJust};
 ghost use Rattle.btr_check.specs.Counting.{Unless};
 ghost use Rattle.btr_check.specs.Filesystem.{is_file_tree, root_items};
 ghost use Rattle.btr_check.specs.Families.{IsCoverOf, found_on_files};
@@ -26,8 +26,8 @@ use btr_check_names::{
 };
 use btr_check_space::Cover;
 use btr_check_sums::{SumPlaces, Uses, keeps_law, put_missing_sums};
+use btr_findings::Found;
 use btr_rack::Rack;
-use btr_refs::Found;
 use btr_volume::{Stop, TreeRoot, Volume, named_root, root_root};
 use std::alloc::Global;
 
@@ -242,7 +242,7 @@ fn read_subvolumes<R: Rack>(
     collect(Some(tree), SubvolumeNames::new(alloc), rack, vol)
 }
 
-/// Puts what is wrong with the trees of files among those that are listed, kinds 12 and 15 to 23: each is visited once, and once more where
+/// Puts what is wrong with the trees of files among those that are listed: each is visited once, and once more where
 /// something is wrong with its names; and the root tree for the names of subvolumes. The addresses that have checksums are `sums`.
 ///
 /// `Tree`: a block could not be read, which is `Unread`. `Memory`: there is no memory for what is kept.

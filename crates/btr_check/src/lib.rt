@@ -1,8 +1,8 @@
 //! Checking a filesystem: all that is wrong with it, and how findings are printed.
 //!
 //! `check` is the whole. `read_trees` answers the trees that there are, or why a filesystem isn't checked. `walk_trees` goes through all of them,
-//! behind faults too: what it finds are the findings of kinds 1 to 4, and it keeps where each block stands, once however many trees reach it. A subtree
-//! that has nothing wrong is walked once, and passed where another tree reaches it with the same bounds.
+//! behind faults too: what it finds is what is wrong with the trees themselves, and it keeps where each block stands, once however many
+//! trees reach it. A subtree that has nothing wrong is walked once, and passed where another tree reaches it with the same bounds.
 //! Where it finds nothing, one pass after another visits trees and puts what is wrong with what they say into one set: `references` for
 //! extents and what uses them, which `count_uses` counts block by block; `space` for block groups and devices; `sums` and `readable` for
 //! checksums of data and the data itself; and `file_trees` for files and names, which passes a tree that has the same blocks below its root as
@@ -11,10 +11,10 @@
 //! read has its cause.
 //!
 //! The definitions are in `specs/`: `Findings` is the list of all findings, and `Families` has what each pass finds. `Trees` and `Filesystem`
-//! say what is checked, `Before` why it isn't, `Walks` has kinds 1 to 4, `Passing` what is kept of a subtree, `Uses` kinds 7 to 11, `Data`
-//! kind 31, `FileTrees` what is met of a tree of files, `SoundTrees` what is kept of sound ones, and `Text` the lines; the other kinds are
-//! those of `btr_check_names`, `btr_check_space` and `btr_check_sums`. `Running` is what each call that reads promises, and `Passes` what a
-//! pass puts.
+//! say what is checked, `Before` why it isn't, `Walks` has what is wrong with the trees, `Passing` what is kept of a subtree, `Uses` what with
+//! extents that are used, `Data` what is lost of the data, `FileTrees` what is met of a tree of files, `SoundTrees` what is kept of sound ones,
+//! and `Text` the lines; all else has its rules in `btr_check_names`, `btr_check_space` and `btr_check_sums`. `Running` is what each call that
+//! reads promises, and `Passes` what a pass puts.
 #![tactic(auto)]
 
 mod adding;

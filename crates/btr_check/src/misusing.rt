@@ -1,19 +1,20 @@
 // Extents that are others than what uses them.
 ghost use Rattle.std.specs.Prelude.{◌≡◌, ◌∷◌, [], OnOk};
-ghost use Rattle.btr_refs.specs.Findings.{Adds};
+ghost use Rattle.btr_findings.specs.Findings.{Adds};
 ghost use Rattle.btr_refs.specs.Forward.{TreeBlock, Data};
 ghost use Rattle.btr_check.specs.Misusing.{AddsByUses, AddsIf, HasBlocksAt, HasDataAt, by_blocks, by_data, is_by_block, is_by_data, misused_of};
 ghost use Rattle.btr_check.specs.Uses.{extent_findings, misused};
 
 use bitflags::Flags;
 use btr_base::Memory;
+use btr_findings::{Extent, Finding, Found, Kind, put_unless};
 use btr_items::ExtentFlags;
-use btr_refs::{BlockUse, DataUse, Extent, Finding, Found, UsedExtents, put_unless};
+use btr_refs::{BlockUse, DataUse, UsedExtents};
 use std::collections::BTreeSet;
 use std::collections::btree_set::Range;
 
 // A finding on an extent: what it states, and what uses it as.
-fn row(kind: u8, extent: &Extent, stated: u64, found: u64) -> Finding
+fn row(kind: Kind, extent: &Extent, stated: u64, found: u64) -> Finding
     ensures { result ≡ record { kind = kind; n = extent.now.addr ∷ stated ∷ found ∷ 0 ∷ 0 ∷ 0 ∷ 0 ∷ [] } }
 {
     Finding {
@@ -27,13 +28,26 @@ fn put_block_use(found: &mut Found, nodesize: u64, extent: &Extent, level: u8) -
     ensures { OnOk result (Adds (misused nodesize extent.now (TreeBlock level)) found.old found.new) }
 {
     let is_block = extent.flags().intersects(ExtentFlags::TREE_BLOCK);
-    put_unless(found, is_block, row(9, extent, extent.flags, 0))?;
+    put_unless(
+        found,
+        is_block,
+        row(Kind::ExtentKind, extent, extent.flags, 0),
+    )?;
     let is_node = extent.len == nodesize;
-    put_unless(found, is_node, row(10, extent, extent.len, nodesize))?;
+    put_unless(
+        found,
+        is_node,
+        row(Kind::ExtentLength, extent, extent.len, nodesize),
+    )?;
     match extent.level {
         None => Ok(()),
         Some(stated) => {
-            let finding = row(11, extent, u64::from(stated), u64::from(level));
+            let finding = row(
+                Kind::ExtentLevel,
+                extent,
+                u64::from(stated),
+                u64::from(level),
+            );
             put_unless(found, stated == level, finding)
         }
     }
@@ -44,8 +58,16 @@ fn put_data_use(found: &mut Found, nodesize: u64, extent: &Extent, len: u64) -> 
     ensures { OnOk result (Adds (misused nodesize extent.now (Data len)) found.old found.new) }
 {
     let is_data = extent.flags & ExtentFlags::TREE_BLOCK.0 == 0;
-    put_unless(found, is_data, row(9, extent, extent.flags, 0))?;
-    put_unless(found, extent.len == len, row(10, extent, extent.len, len))
+    put_unless(
+        found,
+        is_data,
+        row(Kind::ExtentKind, extent, extent.flags, 0),
+    )?;
+    put_unless(
+        found,
+        extent.len == len,
+        row(Kind::ExtentLength, extent, extent.len, len),
+    )
 }
 
 // The uses as tree blocks of the extent at an address, and maybe others.
@@ -147,8 +169,8 @@ fn put_misused(
     put_datas(found, nodesize, extent, uses)
 }
 
-/// Puts what is wrong with extents by all that uses them, kinds 9 to 11. A node has `nodesize` bytes. `Memory`: there is no memory; then
-/// nothing is said of the set.
+/// Puts what is wrong with extents by all that uses them: their kind, length and level. A node has `nodesize` bytes.
+/// `Memory`: there is no memory; then nothing is said of the set.
 pub(crate) fn put_all_misused(
     found: &mut Found,
     nodesize: u64,

@@ -4,8 +4,9 @@ ghost use Rattle.std.specs.Option.{option_to_list};
 ghost use Rattle.btr_ahead.specs.Ahead.{IsAhead};
 ghost use Rattle.btr_files.specs.Content.{want_by};
 ghost use Rattle.btr_files.specs.Sums.{tree_behind};
-ghost use Rattle.btr_refs.specs.Findings.{Adds};
-ghost use Rattle.btr_refs.specs.Findings as rows;
+ghost use Rattle.btr_findings.specs.declared.kind.Kind.TheVariants as kind;
+ghost use Rattle.btr_findings.specs.Findings.{Adds};
+ghost use Rattle.btr_findings.specs.Findings as rows;
 ghost use Rattle.btr_check_sums.specs.Ranks.{run_end};
 ghost use Rattle.btr_check_sums.specs.Sums.{run_sectors};
 ghost use Rattle.btr_check.specs.Counting.{Unless};
@@ -17,10 +18,10 @@ use crate::form::kind_of;
 use btr_ahead::DataAhead;
 use btr_base::{Memory, Sum};
 use btr_files::{SumsAhead, sum_ahead};
+use btr_findings::{Found, SectorRule, put_sectors};
 use btr_items::SumRun;
 use btr_rack::Rack;
 use btr_read::{Want, fetch};
-use btr_refs::{Found, SectorRule, put_sectors};
 use btr_volume::{Stop, TreeRoot, Volume};
 use btr_walk::TreeFault;
 
@@ -160,7 +161,7 @@ fn is_readable<R: Rack>(
 
 // Puts the finding on a sector into a set, unless it is readable.
 fn put_lost(found: &mut Found, readable: bool, sector: u64) -> Result<(), Memory>
-    ensures { OnOk result (Adds (option_to_list (rows.unless readable (rows.found 31 (sector ∷ [])))) found.old found.new) }
+    ensures { OnOk result (Adds (option_to_list (rows.unless readable (rows.found kind.DataLost (sector ∷ [])))) found.old found.new) }
 {
     if readable {
         return Ok(());
@@ -231,7 +232,7 @@ fn put_run<R: Rack>(
     Ok(())
 }
 
-/// Puts the sectors that have a checksum and aren't readable into a set, kind 31, where these are the runs of the checksum tree, and this is its root. Each
+/// Puts the sectors that have a checksum and aren't readable into a set, where these are the runs of the checksum tree, and this is its root. Each
 /// sector is read, up to 64 by one read, and a look-up of its checksum serves the sectors behind it in the same item. Four slots are free.
 ///
 /// `Tree`: a block could not be read, which is `Unread`. `Memory`: there is no memory for the findings.

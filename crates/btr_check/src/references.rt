@@ -1,7 +1,7 @@
 // Extents and what uses them.
 ghost use Rattle.std.specs.Prelude.{◌≡◌, [], IfOk};
+ghost use Rattle.btr_findings.specs.Findings.{Adds};
 ghost use Rattle.btr_refs.specs.Differences.{total_findings};
-ghost use Rattle.btr_refs.specs.Findings.{Adds};
 ghost use Rattle.btr_check.specs.Counting.{IsFull, Unless};
 ghost use Rattle.btr_check.specs.ExtentTree.{AreRefsOf, IsStoredOf};
 ghost use Rattle.btr_check.specs.Passes.{AreExtents, AreUsed, IsCounted, IsWalked, Lists, ListsSound, PutsAnd};
@@ -15,10 +15,9 @@ use crate::misusing::put_all_misused;
 use crate::refusing::{EXTENT_TREE, last_of};
 use crate::walk::Walk;
 use btr_base::Memory;
+use btr_findings::{Extent, Finding, Found};
 use btr_rack::Rack;
-use btr_refs::{
-    Extent, Finding, Found, RefKey, Stored, UsedExtents, put_count_findings, put_total_findings,
-};
+use btr_refs::{RefKey, Stored, UsedExtents, put_count_findings, put_total_findings};
 use btr_volume::{Stop, TreeRoot, Volume};
 use btr_walk::RootPlace;
 use std::alloc::Global;
@@ -50,7 +49,7 @@ fn read_extents<R: Rack>(
     }
 }
 
-// Puts kind 8, and keeps of what is stored the references alone.
+// Puts what extents state of the references to them, and keeps of what is stored the references alone.
 fn put_totals(alloc: Global, found: &mut Found, stored: Stored) -> Result<StoredRefs, Memory>
     ensures found { IfOk result (λ kept. Adds (total_findings stored.extents stored.refs) found.old found.new) }
     ensures refs { IfOk result (λ kept. kept.refs.entries ≡ stored.refs) }
@@ -83,7 +82,7 @@ fn put_stored<R: Rack>(
     }
 }
 
-// Counts what uses extents, by the blocks that were met, puts kind 7, and keeps the extents that are used.
+// Counts what uses extents, by the blocks that were met, puts where that differs from what is stored, and keeps the extents that are used.
 fn put_counted<R: Rack>(
     alloc: Global,
     found: &mut Found,
@@ -108,7 +107,7 @@ fn put_counted<R: Rack>(
     }
 }
 
-// Puts kinds 7 and 8, and keeps the extents that are used. Of the walk, the blocks that were met are kept, and read again.
+// Puts where references differ, and keeps the extents that are used. Of the walk, the blocks that were met are kept, and read again.
 fn put_differences<R: Rack>(
     alloc: Global,
     found: &mut Found,
@@ -130,7 +129,7 @@ fn put_differences<R: Rack>(
     }
 }
 
-/// Puts what is wrong with extents and with the references to them, kinds 7 to 11, and answers the extents. These are the listed trees, all
+/// Puts what is wrong with extents and with the references to them, and answers the extents. These are the listed trees, all
 /// trees, and what was walked of them, which found nothing; the blocks that were met are read again. The extent tree is read twice, so
 /// that its extents need not be kept while uses are counted.
 ///

@@ -10,8 +10,8 @@ use crate::trees::CHUNK_TREE;
 use btr_check_space::{
     DeviceExtents, Devices, Groups, collects_law, put_device_findings, put_group_findings,
 };
+use btr_findings::{Extent, Finding, Found};
 use btr_rack::Rack;
-use btr_refs::{Extent, Finding, Found};
 use btr_volume::{Stop, TreeRoot, Volume, chunk_root, named_root};
 use std::alloc::Global;
 
@@ -27,7 +27,7 @@ fn group_tree(trees: &[TreeRoot]) -> Option<TreeRoot>
     }
 }
 
-/// Puts what is wrong with extents, block groups and chunks, kinds 5, 6, 24, 25, 28 and 30. Of the listed trees it visits that which
+/// Puts what is wrong with extents, block groups and chunks. Of the listed trees it visits that which
 /// has the block groups.
 ///
 /// `Tree`: a block could not be read, which is `Unread`. `Memory`: there is no memory for what is kept.
@@ -58,7 +58,7 @@ pub(crate) fn put_groups<R: Rack>(
     }
 }
 
-/// Puts what is wrong with chunks, device extents and devices, kinds 26, 27 and 29. It visits the device tree and the chunk tree.
+/// Puts what is wrong with chunks, device extents and devices. It visits the device tree and the chunk tree.
 ///
 /// `Tree`: a block could not be read, which is `Unread`. `Memory`: there is no memory for what is kept.
 pub(crate) fn put_devices<R: Rack>(

@@ -8,14 +8,14 @@ use crate::form::kind_of;
 use crate::refusing::last_of;
 use btr_base::Memory;
 use btr_check_sums::{Runs, keeps_law, put_sum_findings};
+use btr_findings::{Extent, Finding, Found};
 use btr_rack::Rack;
-use btr_refs::{Extent, Finding, Found};
 use btr_volume::{Stop, TreeRoot, Volume};
 use std::alloc::Global;
 
 pub(crate) const SUM_TREE: u64 = 7;
 
-/// Puts what is wrong with checksums and extents, kinds 13 and 14. It visits the checksum tree, and answers its runs.
+/// Puts what is wrong with checksums and extents, `SumOverlap` and `SumStray`. It visits the checksum tree, and answers its runs.
 ///
 /// `Tree`: a block could not be read, which is `Unread`. `Memory`: there is no memory for what is kept.
 pub(crate) fn put_sums<R: Rack>(

@@ -4,62 +4,84 @@ ghost use Rattle.btr_rack.specs.Out.{Puts, Counts};
 ghost use Rattle.btr_text.specs.Text.{Writes};
 ghost use Rattle.btr_check.specs.Text.{printed_of, numbers_text, line_of, lines_of, last_line, findings_text};
 
+use btr_findings::{Finding, Findings, Kind};
 use btr_rack::{Out, SinkError};
-use btr_refs::{Finding, Findings};
 use btr_text::{Piece, TextBuffer};
 
 // The word of a kind.
-#[tactic(auto, unfolding(crate::specs::Text::printed_of))]
-fn word_of(kind: u8) -> &'static [u8]
+fn word_of(kind: Kind) -> &'static [u8]
     ensures { result.now ≡ (printed_of kind).word }
 {
     match kind {
-        1 => b"lost",
-        2 => b"malformed",
-        3 => b"unmapped",
-        4 => b"crosses",
-        5 => b"outside-group",
-        6 => b"overlap",
-        7 => b"ref-count",
-        8 => b"ref-total",
-        9 => b"extent-kind",
-        10 => b"extent-length",
-        11 => b"extent-level",
-        12 => b"sum-missing",
-        13 => b"sum-overlap",
-        14 => b"sum-stray",
-        15 => b"entry-item",
-        16 => b"entry-index",
-        17 => b"entry-ref",
-        18 => b"ref-entry",
-        19 => b"entry-mode",
-        20 => b"link-count",
-        21 => b"dir-size",
-        22 => b"orphan",
-        23 => b"root-ref",
-        24 => b"chunk-group",
-        25 => b"group-chunk",
-        26 => b"chunk-device",
-        27 => b"device-chunk",
-        28 => b"group-used",
-        29 => b"device-used",
-        30 => b"total-used",
-        _ => b"data-lost",
+        Kind::Lost => b"lost",
+        Kind::Malformed => b"malformed",
+        Kind::Unmapped => b"unmapped",
+        Kind::Crosses => b"crosses",
+        Kind::OutsideGroup => b"outside-group",
+        Kind::Overlap => b"overlap",
+        Kind::RefCount => b"ref-count",
+        Kind::RefTotal => b"ref-total",
+        Kind::ExtentKind => b"extent-kind",
+        Kind::ExtentLength => b"extent-length",
+        Kind::ExtentLevel => b"extent-level",
+        Kind::SumMissing => b"sum-missing",
+        Kind::SumOverlap => b"sum-overlap",
+        Kind::SumStray => b"sum-stray",
+        Kind::EntryItem => b"entry-item",
+        Kind::EntryIndex => b"entry-index",
+        Kind::EntryRef => b"entry-ref",
+        Kind::RefEntry => b"ref-entry",
+        Kind::EntryMode => b"entry-mode",
+        Kind::LinkCount => b"link-count",
+        Kind::DirSize => b"dir-size",
+        Kind::Orphan => b"orphan",
+        Kind::RootRef => b"root-ref",
+        Kind::ChunkGroup => b"chunk-group",
+        Kind::GroupChunk => b"group-chunk",
+        Kind::ChunkDevice => b"chunk-device",
+        Kind::DeviceChunk => b"device-chunk",
+        Kind::GroupUsed => b"group-used",
+        Kind::DeviceUsed => b"device-used",
+        Kind::TotalUsed => b"total-used",
+        Kind::DataLost => b"data-lost",
     }
 }
 
 // How many numbers of a kind are printed.
-#[tactic(auto, unfolding(crate::specs::Text::printed_of))]
-fn count_of(kind: u8) -> usize
+fn count_of(kind: Kind) -> usize
     ensures count { result ≡ (printed_of kind).count }
     ensures small { result ≤ 7 }
 {
     match kind {
-        5 | 6 | 9 | 22 | 23 | 27 | 30 => 2,
-        8 | 10 | 11 | 12 | 15 | 16 | 17 | 19 | 26 | 28 | 29 => 3,
-        18 | 20 | 21 => 4,
-        7 => 7,
-        _ => 1,
+        Kind::Lost
+        | Kind::Malformed
+        | Kind::Unmapped
+        | Kind::Crosses
+        | Kind::SumOverlap
+        | Kind::SumStray
+        | Kind::ChunkGroup
+        | Kind::GroupChunk
+        | Kind::DataLost => 1,
+        Kind::OutsideGroup
+        | Kind::Overlap
+        | Kind::ExtentKind
+        | Kind::Orphan
+        | Kind::RootRef
+        | Kind::DeviceChunk
+        | Kind::TotalUsed => 2,
+        Kind::RefTotal
+        | Kind::ExtentLength
+        | Kind::ExtentLevel
+        | Kind::SumMissing
+        | Kind::EntryItem
+        | Kind::EntryIndex
+        | Kind::EntryRef
+        | Kind::EntryMode
+        | Kind::ChunkDevice
+        | Kind::GroupUsed
+        | Kind::DeviceUsed => 3,
+        Kind::RefEntry | Kind::LinkCount | Kind::DirSize => 4,
+        Kind::RefCount => 7,
     }
 }
 

@@ -9,8 +9,8 @@ use crate::form::broken_in;
 use crate::places::PlaceList;
 use crate::subtrees::Edges;
 use btr_base::{Key, Memory, SumKind};
+use btr_findings::Finding;
 use btr_items::{FileExtent, ItemFault, item};
-use btr_refs::Finding;
 use btr_walk::{Found, RootPlace};
 use std::alloc::Global;
 use std::marker::Model;
@@ -123,14 +123,14 @@ impl Walk {
         Ok(())
     }
 
-    /// What is broken in the trees, kinds 1 to 4: a block that is left out, or the leaf of an item that hasn't its form.
+    /// What is broken in the trees: a block that is left out, or the leaf of an item that hasn't its form.
     pub fn broken(&self) -> &[Finding]
         ensures { result.now ≡ self.now.broken }
     {
         self.broken.as_slice()
     }
 
-    /// Kind 2, of the leaf of each extent of a file that begins before the end of the one before it.
+    /// `Kind::Malformed`, of the leaf of each extent of a file that begins before the end of the one before it.
     pub fn overlapping(&self) -> &[Finding]
         ensures { result.now ≡ self.now.overlapping }
     {

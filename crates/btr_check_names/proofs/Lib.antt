@@ -7,7 +7,6 @@ pub mod Looking
 pub mod MetEntries
 pub mod MetInodes
 pub mod MetNames
-pub mod Rules
 pub mod Slotted
 pub mod Meeting
 pub mod Together

@@ -4,8 +4,9 @@ use Rattle.std.proofs.Common.{None, ◌⊎◌, inl, inr, refl, sym, ap, ◌∙�
 use Rattle.std.proofs.lemmas.List.Elements.{All-nil, All-weaker, recursion_from_All, filter-append}
 use Rattle.std.specs.List.{AllByRecursion, cons_option, list_any}
 use Rattle.btr_base.specs.declared.key.Key.{Key}
-use Rattle.btr_refs.specs.declared.finding.Finding.{Finding}
-use Rattle.btr_refs.specs.Findings.{found, unless, shown_sum}
+use Rattle.btr_findings.specs.declared.finding.Finding.{Finding}
+use Rattle.btr_findings.specs.declared.kind.Kind.TheVariants as kind
+use Rattle.btr_findings.specs.Findings.{found, unless, shown_sum}
 use Rattle.btr_tour.specs.Tour.{Mark, Block, Child, Item, Left, items_met}
 use Rattle.btr_check_names.specs.declared.claim.Claim.{Claim}
 use Rattle.btr_check_names.specs.declared.inode_at.InodeAt.{InodeAt}
@@ -369,7 +370,7 @@ module _ (u : Unpaired) (names : Names) (paired : ArePaired u) (f : Follows u na
   items_kept = none_found (entry_item names.tree removed names.hashed) names.indexed
       (All-weaker (IsFirst names.inodes f.entries_came) (λ e. entry_item names.tree removed names.hashed e ≡ None)
       (λ e came. kept_rule (is_among removed e.dir || list_any (is_entry (under_hash e)) names.hashed)
-      (found 15 (names.tree ∷ e.dir ∷ e.offset ∷ [])) (item_there e came))
+      (found kind.EntryItem (names.tree ∷ e.dir ∷ e.offset ∷ [])) (item_there e came))
       names.indexed f.entries.firsts)
 
   index_there : (e : Entry) → IsSecond names.inodes f.entries_came e → (is_among removed e.dir || list_any (is_entry e) (map under_hash names.indexed)) ≡ true
@@ -382,7 +383,7 @@ module _ (u : Unpaired) (names : Names) (paired : ArePaired u) (f : Follows u na
   indexes_kept = none_found (entry_index names.tree removed names.indexed) names.hashed
       (All-weaker (IsSecond names.inodes f.entries_came) (λ e. entry_index names.tree removed names.indexed e ≡ None)
       (λ e came. kept_rule (is_among removed e.dir || list_any (is_entry e) (map under_hash names.indexed))
-      (found 16 (names.tree ∷ e.dir ∷ e.offset ∷ [])) (index_there e came))
+      (found kind.EntryIndex (names.tree ∷ e.dir ∷ e.offset ∷ [])) (index_there e came))
       names.hashed f.entries.seconds)
 
   -- what an entry asks of an inode is there, if it asks
@@ -398,7 +399,7 @@ module _ (u : Unpaired) (names : Names) (paired : ArePaired u) (f : Follows u na
   refs_kept : filter_map (entry_ref names.tree removed names.refs) names.indexed ≡ []
   refs_kept = none_found (entry_ref names.tree removed names.refs) names.indexed
       (All-weaker (IsAsked names.inodes f.links_came) (λ e. entry_ref names.tree removed names.refs e ≡ None)
-      (λ e asked. kept_rule (is_among removed e.dir || ref_kept names.refs e) (found 17 (names.tree ∷ e.dir ∷ e.offset ∷ [])) (ref_there e asked))
+      (λ e asked. kept_rule (is_among removed e.dir || ref_kept names.refs e) (found kind.EntryRef (names.tree ∷ e.dir ∷ e.offset ∷ [])) (ref_there e asked))
       names.indexed f.links.firsts)
 
   mode_there : (e : Entry) → IsAsked names.inodes f.links_came e → (is_among removed e.dir || mode_kept names.inodes e) ≡ true
@@ -408,7 +409,8 @@ module _ (u : Unpaired) (names : Names) (paired : ArePaired u) (f : Follows u na
   modes_kept : filter_map (entry_mode names.tree removed names.inodes) names.indexed ≡ []
   modes_kept = none_found (entry_mode names.tree removed names.inodes) names.indexed
       (All-weaker (IsAsked names.inodes f.links_came) (λ e. entry_mode names.tree removed names.inodes e ≡ None)
-      (λ e asked. kept_rule (is_among removed e.dir || mode_kept names.inodes e) (found 19 (names.tree ∷ e.dir ∷ e.offset ∷ [])) (mode_there e asked))
+      (λ e asked. kept_rule (is_among removed e.dir || mode_kept names.inodes e)
+      (found kind.EntryMode (names.tree ∷ e.dir ∷ e.offset ∷ [])) (mode_there e asked))
       names.indexed f.links.firsts)
 
   met_there : (r : NameRef) → IsMet names.dirid f.links_came r → (is_free names.dirid r || list_any (same_ref r) (asked names.indexed)) ≡ true
@@ -420,7 +422,7 @@ module _ (u : Unpaired) (names : Names) (paired : ArePaired u) (f : Follows u na
   entries_kept = none_found (ref_entry names.tree names.dirid names.indexed) names.refs
       (All-weaker (IsMet names.dirid f.links_came) (λ r. ref_entry names.tree names.dirid names.indexed r ≡ None)
       (λ r met. kept_rule (is_free names.dirid r || list_any (same_ref r) (asked names.indexed))
-      (found 18 (names.tree ∷ r.inode ∷ r.parent ∷ r.index ∷ [])) (met_there r met))
+      (found kind.RefEntry (names.tree ∷ r.inode ∷ r.parent ∷ r.index ∷ [])) (met_there r met))
       names.refs f.links.seconds)
 
   counted : All (IsCounted names.indexed names.refs) names.inodes
@@ -430,7 +432,7 @@ module _ (u : Unpaired) (names : Names) (paired : ArePaired u) (f : Follows u na
   links_kept = none_found (link_count names.tree names.refs) names.inodes
       (All-weaker (IsCounted names.indexed names.refs) (λ at. link_count names.tree names.refs at ≡ None)
       (λ at is. kept_rule (has_links at (links_of names.refs at.number))
-      (found 20 (names.tree ∷ at.number ∷ at.inode.nlink ∷ shown_sum (links_of names.refs at.number) ∷ []))
+      (found kind.LinkCount (names.tree ∷ at.number ∷ at.inode.nlink ∷ shown_sum (links_of names.refs at.number) ∷ []))
       (both (has_links at (links_of names.refs at.number)) (is_unlinked at || has_size at (names_size names.indexed at.number)) is).0)
       names.inodes counted)
 
@@ -447,7 +449,7 @@ module _ (u : Unpaired) (names : Names) (paired : ArePaired u) (f : Follows u na
       (All-weaker (λ at. IsCounted names.indexed names.refs at × IsKept u.inodes.unlinked names.orphans at)
       (λ at. dir_size names.tree names.orphans names.indexed at ≡ None)
       (λ at is. kept_rule (is_removed names.orphans at || has_size at (names_size names.indexed at.number))
-      (found 21 (names.tree ∷ at.number ∷ at.inode.size ∷ shown_sum (names_size names.indexed at.number) ∷ []))
+      (found kind.DirSize (names.tree ∷ at.number ∷ at.inode.size ∷ shown_sum (names_size names.indexed at.number) ∷ []))
       (size_there at is.1 (is_unlinked at) refl
       (both (has_links at (links_of names.refs at.number)) (is_unlinked at || has_size at (names_size names.indexed at.number)) is.0).1))
       names.inodes (λ k d below. (counted k d below, f.kept k d below)))
@@ -462,7 +464,7 @@ module _ (u : Unpaired) (names : Names) (paired : ArePaired u) (f : Follows u na
   orphans_kept = none_found (orphan names.tree names.orphans) names.inodes
       (All-weaker (IsKept u.inodes.unlinked names.orphans) (λ at. orphan names.tree names.orphans at ≡ None)
       (λ at kept. kept_rule (not (at.inode.nlink == 0) || list_any (λ number. at.number == number) names.orphans)
-      (found 22 (names.tree ∷ at.number ∷ [])) (named_there at kept))
+      (found kind.Orphan (names.tree ∷ at.number ∷ [])) (named_there at kept))
       names.inodes f.kept)
 
   all_kept : names_findings names ≡ []

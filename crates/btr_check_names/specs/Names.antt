@@ -1,4 +1,4 @@
--- Kinds 15 to 22: the names, inodes and entries of one tree of files.
+-- The names, inodes and entries of one tree of files.
 use Rattle.std.specs.Prelude.{◌≡◌, ℕ, ◌*◌, ◌-◌, ◌^◌, ◌==◌, ◌&&◌, ◌||◌, not, Bool, bit_and, List, [], ◌∷◌, ◌++◌, length, map, filter, filter_map, flat_map, fold, sum_by, count_by, cond, Option, if◌then◌else◌}
 use Rattle.std.specs.List.{list_any}
 use Rattle.std.specs.Str.{bytes_eq}
@@ -8,8 +8,9 @@ use Rattle.btr_items.specs.declared.inode.Inode.{Inode}
 use Rattle.btr_items.specs.Types.{inode_item}
 use Rattle.btr_tour.specs.Tour.{Mark, Block, Child, Item, Left, items_met}
 use Rattle.btr_walk.specs.Le.{TreeItem}
-use Rattle.btr_refs.specs.declared.finding.Finding.{Finding}
-use Rattle.btr_refs.specs.Findings.{found, unless, shown_sum}
+use Rattle.btr_findings.specs.declared.finding.Finding.{Finding}
+use Rattle.btr_findings.specs.declared.kind.Kind.TheVariants as kind
+use Rattle.btr_findings.specs.Findings.{found, unless, shown_sum}
 use Rattle.btr_check_names.specs.declared.inode_at.InodeAt.{InodeAt}
 use Rattle.btr_check_names.specs.Entry.{Entry, NameRef}
 use Rattle.btr_check_names.specs.Items.{inodes_in, indexed_in, hashed_in, refs_in, orphans_in}
@@ -166,41 +167,41 @@ has_size at size = not (format_of at.inode == 0o040000) || (at.inode.size == siz
 -- 15 to 17 and 19 don't speak of entries of the directories that are being removed, which their list of
 -- numbers has; that of 21 and 22 has the orphans.
 module _ (tree : ℕ) where
-  -- 15: the directory has the entry under its name's hash too
+  -- the directory has the entry under its name's hash too
   abbrev pub entry_item : List ℕ → List Entry → Entry → Option Finding
   entry_item removed hashed entry =
-      unless (is_among removed entry.dir || list_any (is_entry (under_hash entry)) hashed) (found 15 (tree ∷ entry.dir ∷ entry.offset ∷ []))
+      unless (is_among removed entry.dir || list_any (is_entry (under_hash entry)) hashed) (found kind.EntryItem (tree ∷ entry.dir ∷ entry.offset ∷ []))
 
-  -- 16: an entry stands as one at an index is to, under its name's hash
+  -- an entry stands as one at an index is to, under its name's hash
   abbrev pub entry_index : List ℕ → List Entry → Entry → Option Finding
   entry_index removed indexed entry =
-      unless (is_among removed entry.dir || list_any (is_entry entry) (map under_hash indexed)) (found 16 (tree ∷ entry.dir ∷ entry.offset ∷ []))
+      unless (is_among removed entry.dir || list_any (is_entry entry) (map under_hash indexed)) (found kind.EntryIndex (tree ∷ entry.dir ∷ entry.offset ∷ []))
 
-  -- 17: the inode that an entry leads to has its reference
+  -- the inode that an entry leads to has its reference
   abbrev pub entry_ref : List ℕ → List NameRef → Entry → Option Finding
-  entry_ref removed refs entry = unless (is_among removed entry.dir || ref_kept refs entry) (found 17 (tree ∷ entry.dir ∷ entry.offset ∷ []))
+  entry_ref removed refs entry = unless (is_among removed entry.dir || ref_kept refs entry) (found kind.EntryRef (tree ∷ entry.dir ∷ entry.offset ∷ []))
 
-  -- 18: a reference has its entry
+  -- a reference has its entry
   abbrev pub ref_entry : ℕ → List Entry → NameRef → Option Finding
-  ref_entry dirid indexed ref = unless (is_free dirid ref || list_any (same_ref ref) (asked indexed)) (found 18 (tree ∷ ref.inode ∷ ref.parent ∷ ref.index ∷ []))
+  ref_entry dirid indexed ref = unless (is_free dirid ref || list_any (same_ref ref) (asked indexed)) (found kind.RefEntry (tree ∷ ref.inode ∷ ref.parent ∷ ref.index ∷ []))
 
-  -- 19: the inode that an entry leads to is there, and of the entry's kind
+  -- the inode that an entry leads to is there, and of the entry's kind
   abbrev pub entry_mode : List ℕ → List InodeAt → Entry → Option Finding
-  entry_mode removed inodes entry = unless (is_among removed entry.dir || mode_kept inodes entry) (found 19 (tree ∷ entry.dir ∷ entry.offset ∷ []))
+  entry_mode removed inodes entry = unless (is_among removed entry.dir || mode_kept inodes entry) (found kind.EntryMode (tree ∷ entry.dir ∷ entry.offset ∷ []))
 
-  -- 20: an inode states how many references it has
+  -- an inode states how many references it has
   abbrev pub link_count : List NameRef → InodeAt → Option Finding
-  link_count refs at = unless (has_links at (links_of refs at.number)) (found 20 (tree ∷ at.number ∷ at.inode.nlink ∷ shown_sum (links_of refs at.number) ∷ []))
+  link_count refs at = unless (has_links at (links_of refs at.number)) (found kind.LinkCount (tree ∷ at.number ∷ at.inode.nlink ∷ shown_sum (links_of refs at.number) ∷ []))
 
-  -- 21: a directory is as large as the names in it, twice, unless it is being removed
+  -- a directory is as large as the names in it, twice, unless it is being removed
   abbrev pub dir_size : List ℕ → List Entry → InodeAt → Option Finding
   dir_size orphans indexed at =
       unless (is_removed orphans at || has_size at (names_size indexed at.number))
-      (found 21 (tree ∷ at.number ∷ at.inode.size ∷ shown_sum (names_size indexed at.number) ∷ []))
+      (found kind.DirSize (tree ∷ at.number ∷ at.inode.size ∷ shown_sum (names_size indexed at.number) ∷ []))
 
-  -- 22: an inode without links is an orphan
+  -- an inode without links is an orphan
   abbrev pub orphan : List ℕ → InodeAt → Option Finding
-  orphan orphans at = unless (orphan_kept orphans at) (found 22 (tree ∷ at.number ∷ []))
+  orphan orphans at = unless (orphan_kept orphans at) (found kind.Orphan (tree ∷ at.number ∷ []))
 
 -- what is wrong with names, where these directories are being removed
 abbrev pub findings_but : List ℕ → Names → List Finding

@@ -1,14 +1,11 @@
 -- Sets and sums that are made of lists, to look up in.
-use Rattle.std.specs.Prelude.{◌≡◌, ℕ, ◌==◌, ◌&&◌, ◌||◌, Bool, List, unwrap_or, Option}
+use Rattle.std.specs.Prelude.{◌≡◌, ℕ, ◌==◌, ◌&&◌, Bool, List, unwrap_or}
 use Rattle.std.specs.BTreeMap.{BTreeMap, get}
 use Rattle.std.specs.BTreeSet.{BTreeSet, contains}
 use Rattle.std.specs.List.{list_any}
 use Rattle.std.specs.Ordering.{nat_cmp, ordering_then}
 use Rattle.std.specs.Cmp.Lexicographic.{slice_cmp}
 use Rattle.std.specs.declared.cmp.Ordering.{Ordering}
-use Rattle.btr_refs.specs.declared.finding.Finding.{Finding}
-use Rattle.btr_refs.specs.Differences.{is_row}
-use Rattle.btr_refs.specs.Findings.{has, FoundSet}
 use Rattle.btr_check_names.specs.declared.dir_entry.DirEntry.{DirEntry}
 use Rattle.btr_check_names.specs.declared.dir_entry.Target.{Target}
 use Rattle.btr_check_names.specs.declared.inode_at.InodeAt.{InodeAt}
@@ -61,7 +58,3 @@ sum_in sums number = unwrap_or (get nat_cmp sums number) 0
 -- a map has these sums at all numbers
 abbrev pub HasSums : (ℕ → ℕ) → BTreeMap ℕ ℕ → Type 0
 HasSums sum sums = (number : ℕ) → sum_in sums number ≡ sum number
-
--- a set of findings has just what it had, and what a rule finds on some things
-abbrev pub AddsBy : {X : Type 0} → (X → Option Finding) → List X → FoundSet → FoundSet → Type 0
-AddsBy rule xs old new = (one : Finding) → has new one ≡ (list_any (is_row rule one) xs || has old one)

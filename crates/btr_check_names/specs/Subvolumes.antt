@@ -1,4 +1,4 @@
--- Kind 23: the names of subvolumes.
+-- The names of subvolumes.
 use Rattle.std.specs.Prelude.{◌≡◌, ℕ, ◌==◌, ◌&&◌, Bool, List, [], ◌∷◌, ◌++◌, map, filter, filter_map, flat_map, fold, Option, Result, if◌then◌else◌}
 use Rattle.std.specs.BTreeSet.{BTreeSet, contains}
 use Rattle.std.specs.Cmp.Lexicographic.{slice_cmp}
@@ -14,8 +14,9 @@ use Rattle.btr_items.specs.declared.fault.ItemFault.{ItemFault}
 use Rattle.btr_items.specs.declared.root_ref.RootRef.{RootRef}
 use Rattle.btr_tour.specs.Tour.{Mark, Block, Child, Item, Left, items_met}
 use Rattle.btr_walk.specs.Le.{TreeItem}
-use Rattle.btr_refs.specs.declared.finding.Finding.{Finding}
-use Rattle.btr_refs.specs.Findings.{found, unless}
+use Rattle.btr_findings.specs.declared.finding.Finding.{Finding}
+use Rattle.btr_findings.specs.declared.kind.Kind.TheVariants as kind
+use Rattle.btr_findings.specs.Findings.{found, unless}
 use Rattle.btr_check_names.specs.declared.subvolume_name.SubvolumeName.{SubvolumeName}
 use Rattle.btr_check_names.specs.Entry.{Entry}
 use Rattle.btr_check_names.specs.Items.{all_read}
@@ -96,11 +97,11 @@ subvolumes_at names tree entries = record { refs = names.refs; backrefs = names.
 abbrev pub same_name : NamedSubvolume → NamedSubvolume → Bool
 same_name a b = (a.parent == b.parent) && (a.dirid == b.dirid) && (a.index == b.index) && (a.child == b.child) && bytes_eq a.name b.name
 
--- 23: a name stands in a ROOT_REF, in a ROOT_BACKREF, and in an entry
+-- a name stands in a ROOT_REF, in a ROOT_BACKREF, and in an entry
 abbrev pub name_kept : Subvolumes → NamedSubvolume → Option Finding
 name_kept names name =
     unless (list_any (same_name name) names.refs && list_any (same_name name) names.backrefs && list_any (same_name name) names.entries)
-    (found 23 (name.parent ∷ name.child ∷ []))
+    (found kind.RootRef (name.parent ∷ name.child ∷ []))
 
 -- what is wrong with the names of subvolumes
 abbrev pub subvolume_findings : Subvolumes → List Finding

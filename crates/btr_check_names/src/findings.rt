@@ -1,12 +1,13 @@
 // What is wrong, as it is printed.
 ghost use Rattle.std.specs.Prelude.{◌≡◌, ◌∷◌, []};
-ghost use Rattle.btr_refs.specs.Findings.{found, shown_sum};
+ghost use Rattle.btr_findings.specs.declared.kind.Kind.TheVariants as kind;
+ghost use Rattle.btr_findings.specs.Findings.{found, shown_sum};
 
 use crate::{DirEntry, InodeAt};
-use btr_refs::Finding;
+use btr_findings::{Finding, Kind, shown};
 
 /// What is wrong with an entry of a tree.
-pub(crate) fn of_entry(kind: u8, tree: u64, entry: &DirEntry<'_>) -> Finding
+pub(crate) fn of_entry(kind: Kind, tree: u64, entry: &DirEntry<'_>) -> Finding
     ensures { result ≡ found kind (tree ∷ entry.now.dir ∷ entry.now.offset ∷ []) }
 {
     Finding {
@@ -16,25 +17,21 @@ pub(crate) fn of_entry(kind: u8, tree: u64, entry: &DirEntry<'_>) -> Finding
 }
 
 /// What an inode of a tree states, and what it is to state.
-pub(crate) fn of_sum(kind: u8, tree: u64, number: u64, stated: u64, sum: u128) -> Finding
+pub(crate) fn of_sum(kind: Kind, tree: u64, number: u64, stated: u64, sum: u128) -> Finding
     ensures { result ≡ found kind (tree ∷ number ∷ stated ∷ shown_sum sum ∷ []) }
 {
-    let shown = match u64::try_from(sum) {
-        Ok(sum) => sum,
-        Err(_) => u64::MAX,
-    };
     Finding {
         kind,
-        n: [tree, number, stated, shown, 0, 0, 0],
+        n: [tree, number, stated, shown(sum), 0, 0, 0],
     }
 }
 
 /// What is wrong with an inode of a tree that has no name.
 pub(crate) fn of_orphan(tree: u64, at: &InodeAt) -> Finding
-    ensures { result ≡ found 22 (tree ∷ at.now.number ∷ []) }
+    ensures { result ≡ found kind.Orphan (tree ∷ at.now.number ∷ []) }
 {
     Finding {
-        kind: 22,
+        kind: Kind::Orphan,
         n: [tree, at.number, 0, 0, 0, 0, 0],
     }
 }

@@ -1,10 +1,11 @@
-// What is wrong with the entries of directories and with the references of inodes: kinds 15 to 18.
+// What is wrong with the entries of directories and with the references of inodes.
 ghost use Rattle.std.specs.Prelude.{◌≡◌, ◌∷◌, ◌||◌, [], List, OnOk};
-ghost use Rattle.btr_refs.specs.Findings.{found};
+ghost use Rattle.btr_findings.specs.declared.kind.Kind.TheVariants as kind;
+ghost use Rattle.btr_findings.specs.Findings.{found, PutsRows};
 ghost use Rattle.btr_check_names.specs.Entry.{entry_of, ref_of, NameRef};
 ghost use Rattle.btr_check_names.specs.Names.{entry_item, entry_index, entry_ref, ref_entry, ref_kept, asked};
 ghost use Rattle.btr_check_names.specs.Names as words;
-ghost use Rattle.btr_check_names.specs.Sets.{HasRefs, AddsBy};
+ghost use Rattle.btr_check_names.specs.Sets.{HasRefs};
 
 use crate::findings::of_entry;
 use crate::sets::{
@@ -12,12 +13,12 @@ use crate::sets::{
 };
 use crate::{DirEntry, EntryList, LinkList, LinkName};
 use btr_base::Memory;
+use btr_findings::{Finding, Found, Kind, put_unless};
 use btr_items::item;
-use btr_refs::{Finding, Found, put_unless};
 use std::alloc::Global;
 use std::collections::BTreeSet;
 
-/// Kind 15: the entries at indexes that stand under no hash, but for those of the directories in `removed`. `Memory`: there is no memory.
+/// `EntryItem`: the entries at indexes that stand under no hash, but for those of the directories in `removed`. `Memory`: there is no memory.
 pub(crate) fn put_entry_items(
     alloc: Global,
     found: &mut Found,
@@ -26,18 +27,18 @@ pub(crate) fn put_entry_items(
     indexed: &EntryList,
     hashed: &EntryList,
 ) -> Result<(), Memory>
-    ensures { OnOk result (AddsBy (entry_item tree removed.now hashed.now) indexed.now found.old found.new) }
+    ensures { OnOk result (PutsRows (entry_item tree removed.now hashed.now) indexed.now found.old found.new) }
 {
     let numbers = numbers_of(alloc, removed)?;
     let stands = entries_of(alloc, hashed)?;
     for entry in indexed.iter() {
         let kept = numbers.contains(&entry.dir) || stands.contains(&under_hash(&entry));
-        put_unless(found, kept, of_entry(15, tree, &entry))?;
+        put_unless(found, kept, of_entry(Kind::EntryItem, tree, &entry))?;
     }
     Ok(())
 }
 
-/// Kind 16: the entries under hashes that aren't as one at an index is to stand there, but for those of the directories in `removed`.
+/// `EntryIndex`: the entries under hashes that aren't as one at an index is to stand there, but for those of the directories in `removed`.
 /// `Memory`: there is no memory.
 pub(crate) fn put_entry_indexes(
     alloc: Global,
@@ -47,13 +48,13 @@ pub(crate) fn put_entry_indexes(
     indexed: &EntryList,
     hashed: &EntryList,
 ) -> Result<(), Memory>
-    ensures { OnOk result (AddsBy (entry_index tree removed.now indexed.now) hashed.now found.old found.new) }
+    ensures { OnOk result (PutsRows (entry_index tree removed.now indexed.now) hashed.now found.old found.new) }
 {
     let numbers = numbers_of(alloc, removed)?;
     let stands = entries_under_hashes(alloc, indexed)?;
     for entry in hashed.iter() {
         let kept = numbers.contains(&entry.dir) || stands.contains(&entry);
-        put_unless(found, kept, of_entry(16, tree, &entry))?;
+        put_unless(found, kept, of_entry(Kind::EntryIndex, tree, &entry))?;
     }
     Ok(())
 }
@@ -65,7 +66,7 @@ fn has_ref<'a>(refs: &BTreeSet<LinkName<'a>>, entry: &DirEntry<'a>) -> bool
     entry.target.kind != item::INODE_ITEM || refs.contains(&link_to(entry))
 }
 
-/// Kind 17: the entries that lead to inodes without the reference, but for those of the directories in `removed`. `Memory`: there is no memory.
+/// `EntryRef`: the entries that lead to inodes without the reference, but for those of the directories in `removed`. `Memory`: there is no memory.
 pub(crate) fn put_entry_refs(
     alloc: Global,
     found: &mut Found,
@@ -74,13 +75,13 @@ pub(crate) fn put_entry_refs(
     indexed: &EntryList,
     refs: &LinkList,
 ) -> Result<(), Memory>
-    ensures { OnOk result (AddsBy (entry_ref tree removed.now refs.now) indexed.now found.old found.new) }
+    ensures { OnOk result (PutsRows (entry_ref tree removed.now refs.now) indexed.now found.old found.new) }
 {
     let numbers = numbers_of(alloc, removed)?;
     let stands = refs_of(alloc, refs)?;
     for entry in indexed.iter() {
         let kept = numbers.contains(&entry.dir) || has_ref(&stands, &entry);
-        put_unless(found, kept, of_entry(17, tree, &entry))?;
+        put_unless(found, kept, of_entry(Kind::EntryRef, tree, &entry))?;
     }
     Ok(())
 }
@@ -94,15 +95,15 @@ pub(crate) fn is_free(dirid: u64, link: &LinkName<'_>) -> bool
 
 // What is wrong with a reference without its entry.
 fn of_link(tree: u64, link: &LinkName<'_>) -> Finding
-    ensures { result ≡ found 18 (tree ∷ link.now.inode ∷ link.now.parent ∷ link.now.index ∷ []) }
+    ensures { result ≡ found kind.RefEntry (tree ∷ link.now.inode ∷ link.now.parent ∷ link.now.index ∷ []) }
 {
     Finding {
-        kind: 18,
+        kind: Kind::RefEntry,
         n: [tree, link.inode, link.parent, link.index, 0, 0, 0],
     }
 }
 
-/// Kind 18: the references that no entry asks for. `Memory`: there is no memory.
+/// `RefEntry`: the references that no entry asks for. `Memory`: there is no memory.
 pub(crate) fn put_ref_entries(
     alloc: Global,
     found: &mut Found,
@@ -111,7 +112,7 @@ pub(crate) fn put_ref_entries(
     indexed: &EntryList,
     refs: &LinkList,
 ) -> Result<(), Memory>
-    ensures { OnOk result (AddsBy (ref_entry tree dirid indexed.now) refs.now found.old found.new) }
+    ensures { OnOk result (PutsRows (ref_entry tree dirid indexed.now) refs.now found.old found.new) }
 {
     let asked = refs_asked(alloc, indexed)?;
     for link in refs.iter() {

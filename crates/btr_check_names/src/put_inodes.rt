@@ -1,16 +1,17 @@
-// What is wrong with the inodes of a tree of files: kinds 19 to 22.
+// What is wrong with the inodes of a tree of files.
 ghost use Rattle.std.specs.Prelude.{◌≡◌, ◌||◌, ℕ, List, OnOk, IfOk};
 ghost use Rattle.btr_check_names.specs.Entry.{entry_of};
 ghost use Rattle.btr_check_names.specs.Names.{entry_mode, link_count, dir_size, orphan, mode_kept, orphan_kept, has_size, is_removed, removed_dirs};
-ghost use Rattle.btr_check_names.specs.Sets.{HasModes, HasNumbers, AddsBy};
+ghost use Rattle.btr_findings.specs.Findings.{PutsRows};
+ghost use Rattle.btr_check_names.specs.Sets.{HasModes, HasNumbers};
 
 use crate::findings::{of_entry, of_orphan, of_sum};
 use crate::mode_at::{ModeAt, mode_of_kind};
 use crate::sets::{link_counts, modes_of, name_sizes, numbers_of, sum_at};
 use crate::{DirEntry, EntryList, InodeAt, LinkList};
 use btr_base::Memory;
+use btr_findings::{Finding, Found, Kind, push, put_unless};
 use btr_items::item;
-use btr_refs::{Finding, Found, push, put_unless};
 use std::alloc::Global;
 use std::collections::BTreeSet;
 
@@ -50,7 +51,7 @@ fn has_mode(modes: &BTreeSet<ModeAt>, entry: &DirEntry<'_>) -> bool
     entry.target.kind != item::INODE_ITEM || modes.contains(&mode)
 }
 
-/// Kind 19: the entries that lead to no inode, or to one of another kind, but for those of the directories in `removed`. `Memory`: there is no
+/// `EntryMode`: the entries that lead to no inode, or to one of another kind, but for those of the directories in `removed`. `Memory`: there is no
 /// memory.
 pub(crate) fn put_entry_modes(
     alloc: Global,
@@ -60,18 +61,18 @@ pub(crate) fn put_entry_modes(
     indexed: &EntryList,
     inodes: &[InodeAt],
 ) -> Result<(), Memory>
-    ensures { OnOk result (AddsBy (entry_mode tree removed.now inodes.now) indexed.now found.old found.new) }
+    ensures { OnOk result (PutsRows (entry_mode tree removed.now inodes.now) indexed.now found.old found.new) }
 {
     let numbers = numbers_of(alloc, removed)?;
     let modes = modes_of(alloc, inodes)?;
     for entry in indexed.iter() {
         let kept = numbers.contains(&entry.dir) || has_mode(&modes, &entry);
-        put_unless(found, kept, of_entry(19, tree, &entry))?;
+        put_unless(found, kept, of_entry(Kind::EntryMode, tree, &entry))?;
     }
     Ok(())
 }
 
-/// Kind 20: the inodes that state another number of references. `Memory`: there is no memory.
+/// `LinkCount`: the inodes that state another number of references. `Memory`: there is no memory.
 pub(crate) fn put_link_counts(
     alloc: Global,
     found: &mut Found,
@@ -79,13 +80,13 @@ pub(crate) fn put_link_counts(
     refs: &LinkList,
     inodes: &[InodeAt],
 ) -> Result<(), Memory>
-    ensures { OnOk result (AddsBy (link_count tree refs.now) inodes.now found.old found.new) }
+    ensures { OnOk result (PutsRows (link_count tree refs.now) inodes.now found.old found.new) }
 {
     let counts = link_counts(alloc, refs)?;
     for at in inodes {
         let stated = u64::from(at.inode.nlink);
         let links = sum_at(&counts, at.number);
-        let finding = of_sum(20, tree, at.number, stated, links);
+        let finding = of_sum(Kind::LinkCount, tree, at.number, stated, links);
         put_unless(found, at.has_links(links), finding)?;
     }
     Ok(())
@@ -98,7 +99,7 @@ fn keeps_size(orphans: &BTreeSet<u64>, at: &InodeAt, size: u128) -> bool
     is_removed(orphans, at) || at.has_size(size)
 }
 
-/// Kind 21: the directories that aren't as large as the names in them, twice, but for those that are being removed. `Memory`: there is no
+/// `DirSize`: the directories that aren't as large as the names in them, twice, but for those that are being removed. `Memory`: there is no
 /// memory.
 pub(crate) fn put_dir_sizes(
     alloc: Global,
@@ -108,13 +109,13 @@ pub(crate) fn put_dir_sizes(
     indexed: &EntryList,
     inodes: &[InodeAt],
 ) -> Result<(), Memory>
-    ensures { OnOk result (AddsBy (dir_size tree orphans.now indexed.now) inodes.now found.old found.new) }
+    ensures { OnOk result (PutsRows (dir_size tree orphans.now indexed.now) inodes.now found.old found.new) }
 {
     let numbers = numbers_of(alloc, orphans)?;
     let sizes = name_sizes(alloc, indexed)?;
     for at in inodes {
         let size = sum_at(&sizes, at.number);
-        let finding = of_sum(21, tree, at.number, at.inode.size, size);
+        let finding = of_sum(Kind::DirSize, tree, at.number, at.inode.size, size);
         let kept = keeps_size(&numbers, at, size);
         put_unless(found, kept, finding)?;
     }
@@ -128,7 +129,7 @@ fn is_kept(orphans: &BTreeSet<u64>, at: &InodeAt) -> bool
     at.inode.nlink != 0 || orphans.contains(&at.number)
 }
 
-/// Kind 22: the inodes without links that aren't orphans. `Memory`: there is no memory.
+/// `Orphan`: the inodes without links that aren't orphans. `Memory`: there is no memory.
 pub(crate) fn put_orphans(
     alloc: Global,
     found: &mut Found,
@@ -136,7 +137,7 @@ pub(crate) fn put_orphans(
     orphans: &[u64],
     inodes: &[InodeAt],
 ) -> Result<(), Memory>
-    ensures { OnOk result (AddsBy (orphan tree orphans.now) inodes.now found.old found.new) }
+    ensures { OnOk result (PutsRows (orphan tree orphans.now) inodes.now found.old found.new) }
 {
     let numbers = numbers_of(alloc, orphans)?;
     for at in inodes {

@@ -1,12 +1,13 @@
-// What is wrong with the names of subvolumes: kind 23.
+// What is wrong with the names of subvolumes.
 ghost use Rattle.std.specs.Prelude.{◌≡◌, ◌∷◌, [], OnOk, IfOk};
-ghost use Rattle.btr_refs.specs.Findings.{found, Adds};
+ghost use Rattle.btr_findings.specs.declared.kind.Kind.TheVariants as kind;
+ghost use Rattle.btr_findings.specs.Findings.{found, Adds};
 ghost use Rattle.btr_check_names.specs.Subvolumes.{subvolume_findings, HasNames};
 ghost use Rattle.btr_check_names.specs.Standing.{PutsNames};
 
 use crate::{SubvolumeList, SubvolumeName, SubvolumeNames};
 use btr_base::Memory;
-use btr_refs::{Finding, Found, put_unless};
+use btr_findings::{Finding, Found, Kind, put_unless};
 use std::alloc::Global;
 use std::collections::BTreeSet;
 
@@ -34,10 +35,10 @@ fn names_of(alloc: Global, names: &SubvolumeList) -> Result<BTreeSet<SubvolumeNa
 
 // What is wrong with a name that doesn't stand everywhere.
 fn of_name(name: &SubvolumeName<'_>) -> Finding
-    ensures { result ≡ found 23 (name.now.parent ∷ name.now.child ∷ []) }
+    ensures { result ≡ found kind.RootRef (name.now.parent ∷ name.now.child ∷ []) }
 {
     Finding {
-        kind: 23,
+        kind: Kind::RootRef,
         n: [name.parent, name.child, 0, 0, 0, 0, 0],
     }
 }
@@ -59,7 +60,7 @@ fn put_names<'a>(
     Ok(())
 }
 
-/// Adds what is wrong with the names of subvolumes, kind 23, to a set of findings. It takes time in proportion to the number of
+/// Adds what is wrong with the names of subvolumes to a set of findings. It takes time in proportion to the number of
 /// names and its logarithm. `Memory`: there is no memory; then nothing is said of the set.
 pub fn put_subvolume_findings(
     alloc: Global,

@@ -1,6 +1,6 @@
 // What is wrong with the names in a tree of files.
 ghost use Rattle.std.specs.Prelude.{OnOk};
-ghost use Rattle.btr_refs.specs.Findings.{Adds};
+ghost use Rattle.btr_findings.specs.Findings.{Adds};
 ghost use Rattle.btr_check_names.specs.Names.{names_findings};
 
 use crate::TreeNames;
@@ -9,11 +9,11 @@ use crate::put_inodes::{
     put_dir_sizes, put_entry_modes, put_link_counts, put_orphans, removed_dirs,
 };
 use btr_base::Memory;
-use btr_refs::{Finding, Found};
+use btr_findings::{Finding, Found};
 use std::alloc::Global;
 
-/// Adds what is wrong with the names in a tree of files, kinds 15 to 22, to a set of findings; of the entries and the size of a directory
-/// that is being removed only kind 18 speaks. It takes time in proportion to the number of
+/// Adds what is wrong with the names in a tree of files to a set of findings; of the entries and the size of a directory
+/// that is being removed only `RefEntry` speaks. It takes time in proportion to the number of
 /// names and its logarithm. `Memory`: there is no memory; then nothing is said of the set.
 pub fn put_name_findings(alloc: Global, found: &mut Found, names: &TreeNames) -> Result<(), Memory>
     ensures { OnOk result (Adds (names_findings names.now) found.old found.new) }

@@ -4,9 +4,9 @@ use super::rows::findings;
 use super::trees::{entry, inode, inode_ref, key, meet};
 use btr_base::Memory;
 use btr_check_names::{TreeNames, Unpaired};
+use btr_findings::{Finding, Kind};
 use btr_items::item;
 use btr_make_blocks::Body;
-use btr_refs::Finding;
 use btr_tour::Visitor;
 use std::alloc::Global;
 use std::process::Abort;
@@ -38,7 +38,7 @@ fn finds(
     rt: &impl Abort,
     alloc: Global,
     names: &TreeNames,
-    wanted: &[(u8, [u64; 7])],
+    wanted: &[(Kind, [u64; 7])],
 ) -> Result<(), Fail> {
     let found = findings(alloc, names)?;
     assert_eq!(rt; found.len(), wanted.len());
@@ -51,16 +51,16 @@ fn finds(
 #[test]
 fn a_directory_without_an_orphan_item(rt: HostRuntime) -> Result<(), Fail> {
     let alloc = rt.alloc();
-    let mut names = tree_with(alloc, 0)?;
+    let mut names = tree_with(alloc, None)?;
     put_left(&mut names, alloc)?;
     put_orphan(&mut names, alloc, 301)?;
     let wanted = [
-        (15, [5, 300, 9, 0, 0, 0, 0]),
-        (16, [5, 300, HASH_F, 0, 0, 0, 0]),
-        (17, [5, 300, 9, 0, 0, 0, 0]),
-        (19, [5, 300, 9, 0, 0, 0, 0]),
-        (21, [5, 300, 7, 2, 0, 0, 0]),
-        (22, [5, 300, 0, 0, 0, 0, 0]),
+        (Kind::EntryItem, [5, 300, 9, 0, 0, 0, 0]),
+        (Kind::EntryIndex, [5, 300, HASH_F, 0, 0, 0, 0]),
+        (Kind::EntryRef, [5, 300, 9, 0, 0, 0, 0]),
+        (Kind::EntryMode, [5, 300, 9, 0, 0, 0, 0]),
+        (Kind::DirSize, [5, 300, 7, 2, 0, 0, 0]),
+        (Kind::Orphan, [5, 300, 0, 0, 0, 0, 0]),
     ];
     finds(&rt, alloc, &names, &wanted)
 }
@@ -68,15 +68,15 @@ fn a_directory_without_an_orphan_item(rt: HostRuntime) -> Result<(), Fail> {
 #[test]
 fn a_directory_that_is_being_removed(rt: HostRuntime) -> Result<(), Fail> {
     let alloc = rt.alloc();
-    let mut names = tree_with(alloc, 0)?;
+    let mut names = tree_with(alloc, None)?;
     put_left(&mut names, alloc)?;
     put_orphan(&mut names, alloc, 300)?;
     finds(&rt, alloc, &names, &[])?;
     let reference = inode_ref(alloc, 4, b"h")?;
     meet(&mut names, key(257, item::INODE_REF, 300), &reference)?;
     let wanted = [
-        (18, [5, 257, 300, 4, 0, 0, 0]),
-        (20, [5, 257, 1, 2, 0, 0, 0]),
+        (Kind::RefEntry, [5, 257, 300, 4, 0, 0, 0]),
+        (Kind::LinkCount, [5, 257, 1, 2, 0, 0, 0]),
     ];
     finds(&rt, alloc, &names, &wanted)
 }
@@ -84,13 +84,13 @@ fn a_directory_that_is_being_removed(rt: HostRuntime) -> Result<(), Fail> {
 #[test]
 fn the_old_inode_cache(rt: HostRuntime) -> Result<(), Fail> {
     let alloc = rt.alloc();
-    let mut names = tree_with(alloc, 0)?;
+    let mut names = tree_with(alloc, None)?;
     let file = inode(alloc, 65536, 1, FILE)?;
     let cache = u64::MAX - 11;
     meet(&mut names, key(cache, item::INODE_ITEM, 0), &file)?;
     finds(&rt, alloc, &names, &[])?;
     meet(&mut names, key(cache - 1, item::INODE_ITEM, 0), &file)?;
-    let wanted = [(20, [5, cache - 1, 1, 0, 0, 0, 0])];
+    let wanted = [(Kind::LinkCount, [5, cache - 1, 1, 0, 0, 0, 0])];
     finds(&rt, alloc, &names, &wanted)
 }
 
@@ -98,7 +98,7 @@ fn the_old_inode_cache(rt: HostRuntime) -> Result<(), Fail> {
 #[test]
 fn nothing_waits_in_a_directory_that_is_being_removed(rt: HostRuntime) -> Result<(), Fail> {
     let alloc = rt.alloc();
-    let mut names = unpaired_with(alloc, 0)?;
+    let mut names = unpaired_with(alloc, None)?;
     put_left(&mut names, alloc)?;
     let unlinked = names.are_paired();
     put_orphan(&mut names, alloc, 300)?;

@@ -1,8 +1,8 @@
 // What is wrong with the name of a subvolume.
 use super::trees::{entry, key, meet, root_ref};
 use btr_check_names::{SubvolumeNames, TreeNames, put_subvolume_findings};
+use btr_findings::{Finding, Found, Kind};
 use btr_items::item;
-use btr_refs::{Finding, Found};
 use std::alloc::Global;
 use std::test::Fail;
 
@@ -54,7 +54,7 @@ fn a_name_that_stands_everywhere_or_not(rt: HostRuntime) -> Result<(), Fail> {
             assert_eq!(rt;
                 *one,
                 Finding {
-                    kind: 23,
+                    kind: Kind::RootRef,
                     n: [5, 256, 0, 0, 0, 0, 0]
                 }
             );

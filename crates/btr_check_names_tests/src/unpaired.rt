@@ -2,6 +2,7 @@
 use super::files::unpaired_with;
 use super::trees::{entry, inode, inode_ref, key, meet};
 use btr_check_names::Unpaired;
+use btr_findings::Kind;
 use btr_items::item;
 use std::test::Fail;
 
@@ -13,9 +14,21 @@ const HASH_SUB: u64 = 3841705590;
 #[test]
 fn each_kind_is_noticed(rt: HostRuntime) -> Result<(), Fail> {
     let alloc = rt.alloc();
-    for broken in 14..23 {
-        let paired = unpaired_with(alloc, broken)?.are_paired();
-        assert_eq!(rt; paired, broken == 14, "{broken}");
+    assert!(rt; unpaired_with(alloc, None)?.are_paired());
+    for broken in [
+        Kind::EntryItem,
+        Kind::EntryIndex,
+        Kind::EntryRef,
+        Kind::RefEntry,
+        Kind::EntryMode,
+        Kind::LinkCount,
+        Kind::DirSize,
+        Kind::Orphan,
+    ] {
+        assert!(rt;
+            !unpaired_with(alloc, Some(broken))?.are_paired(),
+            "{broken:?}"
+        );
     }
     Ok(())
 }

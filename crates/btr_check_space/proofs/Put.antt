@@ -6,9 +6,9 @@ use Rattle.std.specs.BTreeMap.{is_at}
 use Rattle.std.specs.BTreeSet.{BTreeSet, contains}
 use Rattle.std.specs.Ordering.{is_eq}
 use Rattle.std.specs.declared.cmp.Ordering.{Ordering}
-use Rattle.btr_refs.proofs.Adding.{adds_as, adds_more}
-use Rattle.btr_refs.specs.declared.finding.Finding.{Finding}
-use Rattle.btr_refs.specs.Findings.{Adds, unless, FoundSet}
+use Rattle.btr_findings.proofs.Adding.{adds_as, adds_more}
+use Rattle.btr_findings.specs.declared.finding.Finding.{Finding}
+use Rattle.btr_findings.specs.Findings.{Adds, unless, FoundSet}
 use Rattle.btr_check_space.specs.Orders.{KeysOf}
 
 -- the same test and the same finding

@@ -1,11 +1,12 @@
--- Kinds 26, 27 and 29: stripes, device extents and devices.
+-- Stripes, device extents and devices.
 use Rattle.std.specs.Prelude.{ℕ, ◌==◌, ◌&&◌, ◌||◌, Bool, List, [], ◌∷◌, ◌++◌, map, filter_map, flat_map, sum_by, cond, Option}
 use Rattle.std.specs.List.{list_any}
 use Rattle.btr_chunk.specs.Chunk.{stripe_length}
 use Rattle.btr_chunk.specs.declared.chunk.Chunk.{Chunk}
 use Rattle.btr_chunk.specs.declared.stripe.Stripe.{Stripe}
-use Rattle.btr_refs.specs.declared.finding.Finding.{Finding}
-use Rattle.btr_refs.specs.Findings.{found, unless, shown_sum}
+use Rattle.btr_findings.specs.declared.finding.Finding.{Finding}
+use Rattle.btr_findings.specs.declared.kind.Kind.TheVariants as kind
+use Rattle.btr_findings.specs.Findings.{found, unless, shown_sum}
 use Rattle.btr_check_space.specs.declared.device_extent.DeviceExtent.{DeviceExtent}
 use Rattle.btr_check_space.specs.declared.stated_device.StatedDevice.{StatedDevice}
 
@@ -21,17 +22,17 @@ chunk_ranges chunk = map (stripe_range chunk) chunk.stripes
 abbrev pub ranges_of : List Chunk → List DeviceExtent
 ranges_of chunks = flat_map chunk_ranges chunks
 
--- 26: a stripe has a device extent of its chunk and length
+-- a stripe has a device extent of its chunk and length
 abbrev pub chunk_device : List DeviceExtent → DeviceExtent → Option Finding
 chunk_device extents range =
     unless (list_any (λ extent. (extent.devid == range.devid) && (extent.offset == range.offset) && (extent.chunk == range.chunk) && (extent.len == range.len)) extents)
-    (found 26 (range.chunk ∷ range.devid ∷ range.offset ∷ []))
+    (found kind.ChunkDevice (range.chunk ∷ range.devid ∷ range.offset ∷ []))
 
--- 27: a device extent has a stripe
+-- a device extent has a stripe
 abbrev pub device_chunk : List DeviceExtent → DeviceExtent → Option Finding
 device_chunk ranges extent =
     unless (list_any (λ range. (range.devid == extent.devid) && (range.offset == extent.offset)) ranges)
-    (found 27 (extent.devid ∷ extent.offset ∷ []))
+    (found kind.DeviceChunk (extent.devid ∷ extent.offset ∷ []))
 
 -- the bytes that a device has in device extents
 abbrev pub given_of : List DeviceExtent → ℕ → ℕ
@@ -39,9 +40,9 @@ given_of extents devid = sum_by (λ extent. cond (extent.devid == devid) extent.
 
 -- the finding that a device states other bytes than it has in device extents
 abbrev pub used_row : ℕ → ℕ → ℕ → Finding
-used_row devid stated given = found 29 (devid ∷ stated ∷ shown_sum given ∷ [])
+used_row devid stated given = found kind.DeviceUsed (devid ∷ stated ∷ shown_sum given ∷ [])
 
--- 29: a device states the bytes that it has in device extents
+-- a device states the bytes that it has in device extents
 abbrev pub device_used : List DeviceExtent → StatedDevice → Option Finding
 device_used extents device = unless (device.used == given_of extents device.devid) (used_row device.devid device.used (given_of extents device.devid))
 
@@ -49,7 +50,7 @@ device_used extents device = unless (device.used == given_of extents device.devi
 abbrev pub has_device : List StatedDevice → ℕ → Bool
 has_device devices devid = list_any (λ (device : StatedDevice). device.devid == devid) devices
 
--- 29: a device without an item has no bytes in device extents
+-- a device without an item has no bytes in device extents
 abbrev pub unstated_used : List StatedDevice → List DeviceExtent → DeviceExtent → Option Finding
 unstated_used devices extents extent =
     unless (has_device devices extent.devid || (given_of extents extent.devid == 0)) (used_row extent.devid 0 (given_of extents extent.devid))

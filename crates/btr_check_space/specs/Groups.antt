@@ -1,10 +1,11 @@
--- Kinds 5, 6, 24, 25, 28 and 30: extents, block groups and chunks.
+-- Extents, block groups and chunks.
 use Rattle.std.specs.Prelude.{ℕ, ◌+◌, ◌==◌, ◌&&◌, Bool, nat_le, nat_lt, List, [], ◌∷◌, ◌++◌, map, drop, zip, filter_map, sum_by, cond, option_to_list, Option}
 use Rattle.std.specs.List.{list_any}
 use Rattle.btr_chunk.specs.declared.chunk.Chunk.{Chunk}
-use Rattle.btr_refs.specs.declared.extent.Extent.{Extent}
-use Rattle.btr_refs.specs.declared.finding.Finding.{Finding}
-use Rattle.btr_refs.specs.Findings.{found, unless, shown_sum}
+use Rattle.btr_findings.specs.declared.finding.Finding.{Finding}
+use Rattle.btr_findings.specs.declared.kind.Kind.TheVariants as kind
+use Rattle.btr_findings.specs.Findings.{found, unless, shown_sum}
+use Rattle.btr_findings.specs.declared.extent.Extent.{Extent}
 use Rattle.btr_check_space.specs.declared.group.Group.{Group}
 use Rattle.btr_check_space.specs.declared.span.Span.{Span}
 use Rattle.btr_check_space.specs.Orders.{chunk_span}
@@ -13,43 +14,43 @@ use Rattle.btr_check_space.specs.Orders.{chunk_span}
 abbrev pub lies_in : Extent → Group → Bool
 lies_in extent group = nat_le group.start extent.addr && nat_le (extent.addr + extent.len) (group.start + group.len)
 
--- 5: an extent lies in a block group
+-- an extent lies in a block group
 abbrev pub outside_group : List Group → Extent → Option Finding
-outside_group groups extent = unless (list_any (lies_in extent) groups) (found 5 (extent.addr ∷ extent.len ∷ []))
+outside_group groups extent = unless (list_any (lies_in extent) groups) (found kind.OutsideGroup (extent.addr ∷ extent.len ∷ []))
 
 -- each element of a list and the one behind it
 abbrev pub neighbours : {X : Type 0} → List X → List (X × X)
 neighbours list = zip list (drop 1 list)
 
--- 6: an extent begins at or behind the end of the one before it
+-- an extent begins at or behind the end of the one before it
 abbrev pub overlap : Extent × Extent → Option Finding
-overlap two = unless (nat_le (two.0.addr + two.0.len) two.1.addr) (found 6 (two.1.addr ∷ two.0.addr ∷ []))
+overlap two = unless (nat_le (two.0.addr + two.0.len) two.1.addr) (found kind.Overlap (two.1.addr ∷ two.0.addr ∷ []))
 
--- 24: a chunk has a block group of its length and type
+-- a chunk has a block group of its length and type
 abbrev pub chunk_group : List Group → Span → Option Finding
 chunk_group groups chunk =
     unless (list_any (λ group. (group.start == chunk.start) && (group.len == chunk.len) && (group.flags == chunk.flags)) groups)
-    (found 24 (chunk.start ∷ []))
+    (found kind.ChunkGroup (chunk.start ∷ []))
 
--- 25: a block group has a chunk of its length
+-- a block group has a chunk of its length
 abbrev pub group_chunk : List Span → Group → Option Finding
-group_chunk chunks group = unless (list_any (λ chunk. (chunk.start == group.start) && (chunk.len == group.len)) chunks) (found 25 (group.start ∷ []))
+group_chunk chunks group = unless (list_any (λ chunk. (chunk.start == group.start) && (chunk.len == group.len)) chunks) (found kind.GroupChunk (group.start ∷ []))
 
 -- the bytes of the extents that begin in a block group
 abbrev pub used_in : List Extent → Group → ℕ
 used_in extents group = sum_by (λ extent. cond (nat_le group.start extent.addr && nat_lt extent.addr (group.start + group.len)) extent.len 0) extents
 
--- 28: a block group states them
+-- a block group states them
 abbrev pub group_used : List Extent → Group → Option Finding
-group_used extents group = unless (group.used == used_in extents group) (found 28 (group.start ∷ group.used ∷ shown_sum (used_in extents group) ∷ []))
+group_used extents group = unless (group.used == used_in extents group) (found kind.GroupUsed (group.start ∷ group.used ∷ shown_sum (used_in extents group) ∷ []))
 
 -- the sum of what the block groups state
 abbrev pub stated_in : List Group → ℕ
 stated_in groups = sum_by (λ (group : Group). group.used) groups
 
--- 30: the superblock states the sum of what the block groups state
+-- the superblock states the sum of what the block groups state
 abbrev pub total_used : ℕ → List Group → Option Finding
-total_used stated groups = unless (stated == stated_in groups) (found 30 (stated ∷ shown_sum (stated_in groups) ∷ []))
+total_used stated groups = unless (stated == stated_in groups) (found kind.TotalUsed (stated ∷ shown_sum (stated_in groups) ∷ []))
 
 -- the findings on extents, block groups and chunks
 abbrev pub group_findings : List Chunk → List Extent → List Group → ℕ → List Finding

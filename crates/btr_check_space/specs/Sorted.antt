@@ -1,7 +1,7 @@
 -- Extents in ascending order, with how long they are up to each.
 use Rattle.std.specs.Prelude.{◌≡◌, ℕ, ◌+◌, ◌≤◌, List, take, length, slice_index, sum_by, cond, nat_le, nat_lt, ◌&&◌}
 use Rattle.std.specs.List.Sorted.{IsPermutation, IsNonDecreasingBy}
-use Rattle.btr_refs.specs.declared.extent.Extent.{Extent}
+use Rattle.btr_findings.specs.declared.extent.Extent.{Extent}
 use Rattle.btr_check_space.specs.declared.group.Group.{Group}
 use Rattle.btr_check_space.specs.declared.begins.Begin.{Begin}
 

@@ -6,7 +6,7 @@ ghost use Rattle.btr_check_space.specs.Sorted.{IsSortedOf, Sums, begin_of, befor
 
 use crate::Group;
 use btr_base::Memory;
-use btr_refs::{Extent, push, with_room};
+use btr_findings::{Extent, push, with_room};
 use std::alloc::Global;
 
 /// Where an extent begins, and how long it is.

@@ -8,7 +8,7 @@ use crate::DeviceExtent;
 use crate::span::Span;
 use btr_base::Memory;
 use btr_chunk::{Chunk, ChunkTable};
-use btr_refs::{push, with_room};
+use btr_findings::{push, with_room};
 use std::alloc::Global;
 
 // The ranges of logical addresses that chunks have.

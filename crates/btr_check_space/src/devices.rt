@@ -4,7 +4,7 @@ ghost use Rattle.btr_check_space.specs.declared.device_extent.DeviceExtent.{Devi
 ghost use Rattle.btr_check_space.specs.declared.stated_device.StatedDevice.{StatedDevice};
 ghost use Rattle.std.specs.BTreeSet.{contains};
 ghost use Rattle.std.specs.Ordering.{nat_cmp};
-ghost use Rattle.btr_refs.specs.Findings.{Adds};
+ghost use Rattle.btr_findings.specs.Findings.{Adds};
 ghost use Rattle.btr_check_space.specs.Devices.{chunk_device, device_chunk, device_findings};
 ghost use Rattle.btr_check_space.specs.Given.{Given, Devids, PutsUnstated, PutsUsed, given_in};
 
@@ -15,7 +15,7 @@ use crate::rows::row;
 use crate::{DeviceExtent, StatedDevice};
 use btr_base::Memory;
 use btr_chunk::{ChunkTable, StripePlace};
-use btr_refs::{Finding, Found, put_unless, shown};
+use btr_findings::{Finding, Found, Kind, put_unless, shown};
 use std::alloc::Global;
 use std::collections::{BTreeMap, BTreeSet};
 
@@ -34,7 +34,7 @@ fn put_chunk_devices(
         put_unless(
             found,
             is_kept,
-            row(26, range.chunk, range.devid, range.offset),
+            row(Kind::ChunkDevice, range.chunk, range.devid, range.offset),
         )?;
     }
     Ok(())
@@ -56,7 +56,11 @@ fn put_device_chunks(
             offset: extent.offset,
         };
         let is_kept = places.contains(&place);
-        put_unless(found, is_kept, row(27, extent.devid, extent.offset, 0))?;
+        put_unless(
+            found,
+            is_kept,
+            row(Kind::DeviceChunk, extent.devid, extent.offset, 0),
+        )?;
     }
     Ok(())
 }
@@ -120,7 +124,7 @@ fn put_device_used(
         put_unless(
             found,
             is_kept,
-            row(29, device.devid, device.used, shown(sum)),
+            row(Kind::DeviceUsed, device.devid, device.used, shown(sum)),
         )?;
     }
     Ok(())
@@ -145,12 +149,16 @@ fn put_unstated_used(
     for extent in extents {
         let sum = given_at(given, extent.devid);
         let is_kept = is_free(devids, extent.devid, sum);
-        put_unless(found, is_kept, row(29, extent.devid, 0, shown(sum)))?;
+        put_unless(
+            found,
+            is_kept,
+            row(Kind::DeviceUsed, extent.devid, 0, shown(sum)),
+        )?;
     }
     Ok(())
 }
 
-/// Puts the findings on chunks, device extents and devices into a set, kinds 26, 27 and 29: stripes of chunks and device extents
+/// Puts the findings on chunks, device extents and devices into a set: stripes of chunks and device extents
 /// without one another, and devices that state another number of bytes in device extents; one without an item states 0. `Memory`:
 /// there is no memory for this.
 pub fn put_device_findings(

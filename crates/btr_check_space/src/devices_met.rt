@@ -1,7 +1,7 @@
 use crate::StatedDevice;
 use crate::items::device_in;
 use btr_base::Memory;
-use btr_refs::push;
+use btr_findings::push;
 use btr_tour::{Met, Visitor};
 use std::alloc::Global;
 use std::marker::Model;

@@ -1,6 +1,6 @@
 // Extents, block groups and chunks that don't agree.
 ghost use Rattle.std.specs.Prelude.{◌≡◌, ◌+◌, nat_le, OnOk, IfOk, map, filter_map, option_to_list};
-ghost use Rattle.btr_refs.specs.Findings.{Adds};
+ghost use Rattle.btr_findings.specs.Findings.{Adds};
 ghost use Rattle.btr_check_space.specs.Cover.{HoldSame};
 ghost use Rattle.btr_check_space.specs.Orders.{group_stretch};
 ghost use Rattle.btr_check_space.specs.Groups.{outside_group, neighbours, overlap, chunk_group, group_chunk, group_used, stated_in, total_used, group_findings};
@@ -13,7 +13,7 @@ use crate::span::{Range, Span};
 use crate::{Cover, Group, Stretch};
 use btr_base::Memory;
 use btr_chunk::ChunkTable;
-use btr_refs::{Extent, Finding, Found, push, put_unless, shown, with_room};
+use btr_findings::{Extent, Finding, Found, Kind, push, put_unless, shown, with_room};
 use std::alloc::Global;
 
 // The ranges of block groups.
@@ -44,7 +44,11 @@ fn put_outside(
     for extent in extents {
         let start = u128::from(extent.addr);
         let is_kept = cover.holds(start, start + u128::from(extent.len));
-        put_unless(found, is_kept, row(5, extent.addr, extent.len, 0))?;
+        put_unless(
+            found,
+            is_kept,
+            row(Kind::OutsideGroup, extent.addr, extent.len, 0),
+        )?;
     }
     Ok(())
 }
@@ -65,7 +69,11 @@ fn put_overlaps(found: &mut Found, extents: &[Extent]) -> Result<(), Memory>
     };
     for extent in rest {
         let is_kept = ends_by(earlier, extent.addr);
-        put_unless(found, is_kept, row(6, extent.addr, earlier.addr, 0))?;
+        put_unless(
+            found,
+            is_kept,
+            row(Kind::Overlap, extent.addr, earlier.addr, 0),
+        )?;
         earlier = extent;
     }
     Ok(())
@@ -82,7 +90,11 @@ fn put_chunk_groups(
 {
     let spans = group_spans(alloc, groups)?;
     for chunk in chunks {
-        put_unless(found, spans.contains(chunk), row(24, chunk.start, 0, 0))?;
+        put_unless(
+            found,
+            spans.contains(chunk),
+            row(Kind::ChunkGroup, chunk.start, 0, 0),
+        )?;
     }
     Ok(())
 }
@@ -102,7 +114,11 @@ fn put_group_chunks(
             start: group.start,
             len: group.len,
         };
-        put_unless(found, ranges.contains(&range), row(25, group.start, 0, 0))?;
+        put_unless(
+            found,
+            ranges.contains(&range),
+            row(Kind::GroupChunk, group.start, 0, 0),
+        )?;
     }
     Ok(())
 }
@@ -124,7 +140,7 @@ fn put_group_used(
         put_unless(
             found,
             is_kept,
-            row(28, group.start, group.used, shown(used)),
+            row(Kind::GroupUsed, group.start, group.used, shown(used)),
         )?;
     }
     Ok(())
@@ -153,11 +169,11 @@ fn put_total_used(found: &mut Found, stated: u64, groups: &[Group]) -> Result<()
     put_unless(
         found,
         u128::from(stated) == sum,
-        row(30, stated, shown(sum), 0),
+        row(Kind::TotalUsed, stated, shown(sum), 0),
     )
 }
 
-/// Puts the findings on extents, block groups and chunks into a set, kinds 5, 6, 24, 25, 28 and 30: extents that lie in no block group or
+/// Puts the findings on extents, block groups and chunks into a set: extents that lie in no block group or
 /// overlap the one before them; chunks and block groups without one another; block groups, and a superblock with `bytes_used`, that
 /// state another number of bytes in extents. Extents and block groups stand in the order of their items. `Memory`: there is no memory
 /// for this.

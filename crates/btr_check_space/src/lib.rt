@@ -6,8 +6,8 @@
 //! `put_group_findings` and `put_device_findings` put all that does not agree into a set of findings. It is promised to the layer above that
 //! these are exactly the findings of the definitions, whatever the items say: also where groups overlap, or where sums pass 2^64.
 //!
-//! The definitions are in `specs/`: `Items` reads the items, `Groups` has the kinds 5, 6, 24, 25, 28 and 30, and `Devices` the kinds 26, 27 and 29.
-//! `Orders`, `Cover`, `Sorted` and `Given` say what look-ups go by.
+//! The definitions are in `specs/`: `Items` reads the items, `Groups` has the rules of extents, block groups and chunks, and `Devices` those of
+//! devices. `Orders`, `Cover`, `Sorted` and `Given` say what look-ups go by.
 #![tactic(auto)]
 
 mod begins;

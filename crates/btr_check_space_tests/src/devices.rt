@@ -1,5 +1,6 @@
 // Chunks, device extents and devices.
 use super::space::{MIB, device_extent, finds, sound};
+use btr_findings::Kind;
 use std::test::Fail;
 
 #[test]
@@ -12,12 +13,22 @@ fn device_extents_are_those_of_stripes(rt: HostRuntime) -> Result<(), Fail> {
     if let Some(device) = shorter.devices.get_mut(0) {
         device.used = 14 * MIB;
     }
-    finds(&rt, alloc, &shorter, &[(26, 16 * MIB, 1, 24 * MIB)])?;
+    finds(
+        &rt,
+        alloc,
+        &shorter,
+        &[(Kind::ChunkDevice, 16 * MIB, 1, 24 * MIB)],
+    )?;
     let mut without_stripe = sound(alloc)?;
     without_stripe
         .device_extents
         .push(device_extent(1, 64 * MIB, MIB, 0))?;
-    finds(&rt, alloc, &without_stripe, &[(27, 1, 64 * MIB, 0)])
+    finds(
+        &rt,
+        alloc,
+        &without_stripe,
+        &[(Kind::DeviceChunk, 1, 64 * MIB, 0)],
+    )
 }
 
 #[test]
@@ -27,7 +38,12 @@ fn devices_state_their_device_extents(rt: HostRuntime) -> Result<(), Fail> {
     if let Some(device) = other_used.devices.get_mut(0) {
         device.used = 0;
     }
-    finds(&rt, alloc, &other_used, &[(29, 1, 0, 16 * MIB)])?;
+    finds(
+        &rt,
+        alloc,
+        &other_used,
+        &[(Kind::DeviceUsed, 1, 0, 16 * MIB)],
+    )?;
     let mut without_item = sound(alloc)?;
     without_item
         .device_extents
@@ -35,6 +51,10 @@ fn devices_state_their_device_extents(rt: HostRuntime) -> Result<(), Fail> {
     without_item
         .device_extents
         .push(device_extent(2, 2 * MIB, MIB, MIB))?;
-    let wanted = [(27, 2, MIB, 0), (27, 2, 2 * MIB, 0), (29, 2, 0, u64::MAX)];
+    let wanted = [
+        (Kind::DeviceChunk, 2, MIB, 0),
+        (Kind::DeviceChunk, 2, 2 * MIB, 0),
+        (Kind::DeviceUsed, 2, 0, u64::MAX),
+    ];
     finds(&rt, alloc, &without_item, &wanted)
 }

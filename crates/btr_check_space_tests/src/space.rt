@@ -5,8 +5,8 @@ ghost use Rattle.btr_chunk.specs.Chunk.{IsChunk};
 use btr_base::Memory;
 use btr_check_space::{DeviceExtent, Group, StatedDevice, put_device_findings, put_group_findings};
 use btr_chunk::{Chunk, ChunkFault, ChunkTable};
+use btr_findings::{Extent, Found, Kind};
 use btr_make_blocks::Body;
-use btr_refs::{Extent, Finding, Found};
 use std::alloc::{AllocError, Global};
 use std::process::Abort;
 use std::test::Fail;
@@ -149,7 +149,7 @@ pub(super) fn finds(
     rt: &impl Abort,
     alloc: Global,
     space: &Space,
-    wanted: &[(u8, u64, u64, u64)],
+    wanted: &[(Kind, u64, u64, u64)],
 ) -> Result<(), Fail> {
     let mut found = Found::new(alloc);
     put_all(alloc, &mut found, &chunks(alloc)?, space)?;

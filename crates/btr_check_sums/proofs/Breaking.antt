@@ -3,10 +3,10 @@ use Rattle.std.proofs.Common.{◌≡◌, ℕ, zero, suc, ◌+◌, ◌*◌, ◌<�
 use Rattle.std.proofs.lemmas.List.{map-append}
 use Rattle.std.proofs.lemmas.List.Elements.{filter_map-append}
 use Rattle.std.specs.List.{cons_option, range_with_len}
-use Rattle.btr_refs.specs.declared.sector_rule.SectorRule.{SectorRule}
-use Rattle.btr_refs.specs.Findings.{Adds, FoundSet, shown_sum, unless}
-use Rattle.btr_refs.specs.Sectors.{sector_finding, sectors}
-use Rattle.btr_refs.proofs.Adding.{adds_as, adds_then}
+use Rattle.btr_findings.specs.declared.sector_rule.SectorRule.{SectorRule}
+use Rattle.btr_findings.specs.Findings.{Adds, FoundSet, shown_sum, unless}
+use Rattle.btr_findings.specs.Sectors.{sector_finding, sectors}
+use Rattle.btr_findings.proofs.Adding.{adds_as, adds_then}
 use Rattle.btr_check_sums.specs.Broken.{broken, broken_if}
 
 range_join : (first a b : ℕ) → range_with_len first (a + b) ≡ range_with_len first a ++ range_with_len (first + a) b

@@ -4,7 +4,7 @@ use Rattle.std.proofs.lemmas.Bool.Decides.{nat_tests}
 use Rattle.std.specs.List.{list_any}
 use Rattle.btr_items.specs.ExtentItem.{is_data}
 use Rattle.btr_items.specs.declared.sum_run.SumRun.{SumRun}
-use Rattle.btr_refs.specs.declared.extent.Extent.{Extent}
+use Rattle.btr_findings.specs.declared.extent.Extent.{Extent}
 use Rattle.btr_check_space.proofs.Prefixes.{any_map, any_filter}
 use Rattle.btr_check_space.specs.Cover.{HoldSame, end_of, is_held}
 use Rattle.btr_check_space.specs.declared.cover.Stretch.{Stretch}

@@ -2,7 +2,7 @@
 use Rattle.std.proofs.Common.{◌≡◌, ℕ, ◌+◌, ◌*◌, ◌<◌, List, [], ◌∷◌, ◌++◌, length, get_or, filter_map, flat_map, Option, refl, sym, ap, ◌∙◌, arith}
 use Rattle.std.proofs.lemmas.List.Elements.{filter_map-append}
 use Rattle.std.proofs.lemmas.List.FromFn.{length-map-range_with_len, get_or-map-range_with_len}
-use Rattle.btr_refs.specs.Sectors.{sectors}
+use Rattle.btr_findings.specs.Sectors.{sectors}
 
 pub sectors_long : (start count : ℕ) → length (sectors start count) ≡ count
 sectors_long start count = length-map-range_with_len (λ i. start + i * 4096) 0 count

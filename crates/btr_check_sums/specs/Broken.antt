@@ -1,9 +1,9 @@
 -- Sectors that break a rule.
 use Rattle.std.specs.Prelude.{◌≡◌, ℕ, ◌-◌, ◌^◌, ◌<◌, ◌≤◌, nat_lt, Bool, List, [], length, slice_index, Option, if◌then◌else◌}
-use Rattle.btr_refs.specs.declared.finding.Finding.{Finding}
-use Rattle.btr_refs.specs.declared.sector_rule.SectorRule.{SectorRule}
-use Rattle.btr_refs.specs.Findings.{shown_sum, unless}
-use Rattle.btr_refs.specs.Sectors.{sector_finding, sector_findings}
+use Rattle.btr_findings.specs.declared.finding.Finding.{Finding}
+use Rattle.btr_findings.specs.declared.sector_rule.SectorRule.{SectorRule}
+use Rattle.btr_findings.specs.Findings.{shown_sum, unless}
+use Rattle.btr_findings.specs.Sectors.{sector_finding, sector_findings}
 use Rattle.btr_check_sums.specs.Ranks.{rank}
 use Rattle.btr_check_sums.specs.declared.overlaps.RankReach.{RankReach}
 

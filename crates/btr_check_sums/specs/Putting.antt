@@ -4,9 +4,9 @@ use Rattle.std.specs.BTreeSet.{BTreeSet}
 use Rattle.btr_base.specs.declared.memory.Memory.{Memory}
 use Rattle.btr_chunk.specs.declared.chunk.Chunk.{Chunk}
 use Rattle.btr_items.specs.declared.sum_run.SumRun.{SumRun}
-use Rattle.btr_refs.specs.declared.extent.Extent.{Extent}
-use Rattle.btr_refs.specs.declared.finding.Finding.{Finding}
-use Rattle.btr_refs.specs.Findings.{Adds, FoundSet}
+use Rattle.btr_findings.specs.declared.finding.Finding.{Finding}
+use Rattle.btr_findings.specs.Findings.{Adds, FoundSet}
+use Rattle.btr_findings.specs.declared.extent.Extent.{Extent}
 use Rattle.btr_check_space.specs.Cover.{HoldSame}
 use Rattle.btr_check_space.specs.declared.cover.Stretch.{Stretch}
 use Rattle.btr_check_sums.specs.declared.used_range.UsedRange.{UsedRange}
@@ -17,17 +17,17 @@ use Rattle.btr_check_sums.specs.Sums.{data_extents, extent_stretch, run_sectors,
 abbrev pub PutsBySums : List Stretch → (List SumRun → List Finding) → FoundSet → FoundSet → Result (Unit {0}) Memory → Type 0
 PutsBySums sums findings old new result = (runs : List SumRun) → HoldSame (map run_stretch runs) sums → OnOk result (Adds (findings runs) old new)
 
--- 12: by them and by the inodes whose data has no checksums, those of a range
+-- by them and by the inodes whose data has no checksums, those of a range
 abbrev pub PutsMissing : ℕ → UsedRange → BTreeSet ℕ → List Chunk → List Stretch → FoundSet → FoundSet → Result (Unit {0}) Memory → Type 0
 PutsMissing tree range loose chunks sums old new result =
     (runs : List SumRun) → (inodes : List ℕ) → Inodes inodes loose → HoldSame (map run_stretch runs) sums
     → OnOk result (Adds (range_missing chunks runs tree inodes range) old new)
 
--- 13: by where runs begin and end, those of a run
+-- by where runs begin and end, those of a run
 abbrev pub PutsOverlaps : SumRun → List ℕ → List ℕ → FoundSet → FoundSet → Result (Unit {0}) Memory → Type 0
 PutsOverlaps run starts ends old new result = (runs : List SumRun) → Bounds runs starts ends → OnOk result (Adds (filter_map (sum_overlap runs) (run_sectors run)) old new)
 
--- 14: by the ranges of addresses of data extents, those of a run
+-- by the ranges of addresses of data extents, those of a run
 abbrev pub PutsStrays : SumRun → List Stretch → FoundSet → FoundSet → Result (Unit {0}) Memory → Type 0
 PutsStrays run cover old new result =
     (extents : List Extent) → HoldSame (map extent_stretch (data_extents extents)) cover → OnOk result (Adds (filter_map (sum_stray extents) (run_sectors run)) old new)

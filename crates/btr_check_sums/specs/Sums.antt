@@ -1,14 +1,15 @@
--- Kinds 12, 13 and 14: checksums of data.
+-- Checksums of data.
 use Rattle.std.specs.Prelude.{ℕ, ◌+◌, ◌-◌, ◌*◌, ◌/◌, ◌==◌, ◌&&◌, Bool, nat_le, nat_lt, min, List, [], ◌∷◌, ◌++◌, filter, filter_map, flat_map, count_by, Option, Some, None, if◌then◌else◌}
 use Rattle.std.specs.List.{list_any}
 use Rattle.btr_chunk.specs.Table.{chunk_at}
 use Rattle.btr_chunk.specs.declared.chunk.Chunk.{Chunk}
 use Rattle.btr_items.specs.ExtentItem.{is_data}
 use Rattle.btr_items.specs.declared.sum_run.SumRun.{SumRun}
-use Rattle.btr_refs.specs.declared.finding.Finding.{Finding}
-use Rattle.btr_refs.specs.Findings.{found, unless, shown_sum}
-use Rattle.btr_refs.specs.Sectors.{sectors}
-use Rattle.btr_refs.specs.declared.extent.Extent.{Extent}
+use Rattle.btr_findings.specs.declared.finding.Finding.{Finding}
+use Rattle.btr_findings.specs.declared.kind.Kind.TheVariants as kind
+use Rattle.btr_findings.specs.Findings.{found, unless, shown_sum}
+use Rattle.btr_findings.specs.Sectors.{sectors}
+use Rattle.btr_findings.specs.declared.extent.Extent.{Extent}
 use Rattle.btr_check_space.specs.declared.cover.Stretch.{Stretch}
 use Rattle.btr_check_sums.specs.declared.used_range.UsedRange.{UsedRange}
 
@@ -24,9 +25,9 @@ covers sector run = nat_le run.start sector && nat_lt sector (run.start + run.co
 abbrev pub summed : List SumRun → List ℕ
 summed runs = flat_map run_sectors runs
 
--- 12: a sector that a file uses has a checksum
+-- a sector that a file uses has a checksum
 abbrev pub sum_missing : List SumRun → ℕ → ℕ → ℕ → Option Finding
-sum_missing runs tree inode sector = unless (list_any (covers sector) runs) (found 12 (tree ∷ inode ∷ shown_sum sector ∷ []))
+sum_missing runs tree inode sector = unless (list_any (covers sector) runs) (found kind.SumMissing (tree ∷ inode ∷ shown_sum sector ∷ []))
 
 -- how many bytes there are from an address up to the end of a chunk
 abbrev pub left_in : ℕ → Option Chunk → ℕ
@@ -54,17 +55,17 @@ module _ (chunks : List Chunk) (runs : List SumRun) (tree : ℕ) where
   abbrev pub tree_missing : List ℕ → List UsedRange → List Finding
   tree_missing loose used = flat_map (range_missing loose) used
 
--- 13: a sector has no more than one checksum
+-- a sector has no more than one checksum
 abbrev pub sum_overlap : List SumRun → ℕ → Option Finding
-sum_overlap runs sector = unless (nat_le (count_by (covers sector) runs) 1) (found 13 (shown_sum sector ∷ []))
+sum_overlap runs sector = unless (nat_le (count_by (covers sector) runs) 1) (found kind.SumOverlap (shown_sum sector ∷ []))
 
 -- a sector lies in a data extent
 abbrev pub is_data_at : ℕ → Extent → Bool
 is_data_at sector extent = is_data extent.flags && (nat_le extent.addr sector && nat_le (sector + 4096) (extent.addr + extent.len))
 
--- 14: a sector that has a checksum lies in a data extent
+-- a sector that has a checksum lies in a data extent
 abbrev pub sum_stray : List Extent → ℕ → Option Finding
-sum_stray extents sector = unless (list_any (is_data_at sector) extents) (found 14 (shown_sum sector ∷ []))
+sum_stray extents sector = unless (list_any (is_data_at sector) extents) (found kind.SumStray (shown_sum sector ∷ []))
 
 -- the findings on checksums
 abbrev pub sum_findings : List SumRun → List Extent → List Finding

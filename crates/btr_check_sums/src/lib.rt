@@ -7,7 +7,7 @@
 //! `put_sum_findings` the sectors that have more than one, or one outside the data extents. It is promised to the layer above that these
 //! are exactly the findings of the definitions, whatever the items say: also where runs or extents overlap.
 //!
-//! The definitions are in `specs/`: `Items` reads the items, `Sums` has the kinds 12 to 14, and `Ranks` says what look-ups go by.
+//! The definitions are in `specs/`: `Items` reads the items, `Sums` has the rules, and `Ranks` says what look-ups go by.
 #![tactic(auto)]
 
 mod items;

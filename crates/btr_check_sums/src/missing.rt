@@ -10,8 +10,8 @@ use crate::{SumPlaces, UsedRange};
 use btr_base::Memory;
 use btr_check_space::{Cover, Reach, Stretch};
 use btr_chunk::ChunkTable;
+use btr_findings::{Found, SectorRule, push, with_room};
 use btr_items::SumRun;
-use btr_refs::{Found, SectorRule, push, with_room};
 use std::alloc::Global;
 use std::collections::BTreeSet;
 
@@ -107,7 +107,7 @@ fn inodes_of(alloc: Global, loose: &[u64]) -> Result<BTreeSet<u64>, Memory>
     Ok(inodes)
 }
 
-/// Puts the findings of kind 12 on a tree of files: the sectors of the ranges that its files use, and that have no checksum, but for
+/// Puts the findings on checksums that a tree of files lacks: the sectors of the ranges that its files use, and that have no checksum, but for
 /// the files in `loose`, whose data has none. Of a range the sectors count that lie in the chunk that holds the extent's address. `Memory`:
 /// there is no memory for them.
 pub fn put_missing_sums(

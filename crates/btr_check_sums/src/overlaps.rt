@@ -1,7 +1,7 @@
 // Sectors that have more than one checksum.
 ghost use Rattle.std.specs.Prelude.{◌≡◌, IfOk, OnOk, map, filter_map, ◌<◌, ◌^◌};
 ghost use Rattle.std.specs.List.Sorted.{IsNonDecreasingBy};
-ghost use Rattle.btr_refs.specs.Findings.{Adds};
+ghost use Rattle.btr_findings.specs.Findings.{Adds};
 ghost use Rattle.btr_check_sums.specs.Putting.{PutsOverlaps};
 ghost use Rattle.btr_check_sums.specs.Broken.{RankReaches, number_or_last};
 ghost use Rattle.btr_check_sums.specs.Ranks.{IsSortedOf, run_start, run_end};
@@ -10,8 +10,8 @@ ghost use Rattle.btr_check_sums.specs.Sums.{sum_overlap, summed};
 use crate::sector_test::{SectorTest, put_broken};
 use btr_base::Memory;
 use btr_check_space::Reach;
+use btr_findings::{Found, SectorRule, push, with_room};
 use btr_items::SumRun;
-use btr_refs::{Found, SectorRule, push, with_room};
 use std::alloc::Global;
 
 // Where a run ends.

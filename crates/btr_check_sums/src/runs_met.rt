@@ -1,7 +1,7 @@
 use crate::items::run_in;
 use btr_base::{Memory, SumKind};
+use btr_findings::push;
 use btr_items::SumRun;
-use btr_refs::push;
 use btr_tour::{Met, Visitor};
 use std::alloc::Global;
 use std::marker::Model;

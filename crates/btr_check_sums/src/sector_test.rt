@@ -1,13 +1,13 @@
 // Sectors that break a rule, many at once.
 ghost use Rattle.std.specs.Prelude.{ℕ, ◌+◌, ◌*◌, ◌<◌, ◌≤◌, ◌^◌, Bool, filter_map, OnOk};
-ghost use Rattle.btr_refs.specs.Findings.{Adds};
-ghost use Rattle.btr_refs.specs.Sectors.{sectors};
+ghost use Rattle.btr_findings.specs.Findings.{Adds};
+ghost use Rattle.btr_findings.specs.Sectors.{sectors};
 ghost use Rattle.btr_check_space.specs.Cover.{Reaches};
 ghost use Rattle.btr_check_sums.specs.Broken.{broken, broken_if};
 
 use btr_base::Memory;
 use btr_check_space::Reach;
-use btr_refs::{Found, SectorRule, put_sectors};
+use btr_findings::{Found, SectorRule, put_sectors};
 
 /// A test of sectors by their addresses.
 pub(crate) trait SectorTest {

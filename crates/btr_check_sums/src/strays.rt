@@ -1,6 +1,6 @@
 // Sectors that have a checksum and lie in no data extent.
 ghost use Rattle.std.specs.Prelude.{IfOk, OnOk, map, filter_map};
-ghost use Rattle.btr_refs.specs.Findings.{Adds};
+ghost use Rattle.btr_findings.specs.Findings.{Adds};
 ghost use Rattle.btr_check_space.specs.Cover.{HoldSame};
 ghost use Rattle.btr_check_sums.specs.Putting.{PutsStrays};
 ghost use Rattle.btr_check_sums.specs.Sums.{data_extents, extent_stretch, sum_stray, summed};
@@ -9,8 +9,8 @@ use crate::sector_test::{SectorTest, put_broken};
 use bitflags::Flags;
 use btr_base::Memory;
 use btr_check_space::{Cover, Reach, Stretch};
+use btr_findings::{Extent, Found, SectorRule, push, with_room};
 use btr_items::{ExtentFlags, SumRun};
-use btr_refs::{Extent, Found, SectorRule, push, with_room};
 use std::alloc::Global;
 
 // The ranges of addresses of data extents.

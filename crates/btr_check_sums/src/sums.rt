@@ -1,16 +1,16 @@
 // What is wrong with the checksums of a filesystem.
 ghost use Rattle.std.specs.Prelude.{OnOk};
-ghost use Rattle.btr_refs.specs.Findings.{Adds};
+ghost use Rattle.btr_findings.specs.Findings.{Adds};
 ghost use Rattle.btr_check_sums.specs.Sums.{sum_findings};
 
 use crate::overlaps::put_overlaps;
 use crate::strays::put_strays;
 use btr_base::Memory;
+use btr_findings::{Extent, Found};
 use btr_items::SumRun;
-use btr_refs::{Extent, Found};
 use std::alloc::Global;
 
-/// Puts the findings on checksums, kinds 13 and 14: each sector that has more than one, and each that has one and lies in no
+/// Puts the findings on checksums: each sector that has more than one, and each that has one and lies in no
 /// data extent. `Memory`: there is no memory for them.
 pub fn put_sum_findings(
     alloc: Global,

@@ -5,7 +5,7 @@ ghost use Rattle.btr_walk.specs.Showing.{item_of};
 use crate::UsedRange;
 use crate::items::{loose_in, used_in};
 use btr_base::Memory;
-use btr_refs::push;
+use btr_findings::push;
 use btr_tour::{Met, Visitor};
 use btr_walk::Found;
 use std::alloc::Global;

@@ -5,9 +5,9 @@ ghost use Rattle.btr_chunk.specs.Chunk.{IsChunk};
 use btr_base::Memory;
 use btr_check_sums::{SumPlaces, UsedRange, put_missing_sums, put_sum_findings, sum_cover};
 use btr_chunk::{Chunk, ChunkFault, ChunkTable};
+use btr_findings::{Extent, Finding, Found, Kind, SectorRule};
 use btr_items::SumRun;
 use btr_make_blocks::Body;
-use btr_refs::{Extent, Finding, Found, SectorRule};
 use std::alloc::Global;
 use std::process::Abort;
 use std::test::Fail;
@@ -81,7 +81,7 @@ fn finds(
     runs: &[SumRun],
     extents: &[Extent],
     loose: &[u64],
-    wanted: &[(u8, u64, u64, u64)],
+    wanted: &[(Kind, u64, u64, u64)],
 ) -> Result<(), Fail> {
     let chunks = one_chunk(alloc, MIB, MIB)?;
     let mut found = Found::new(alloc);
@@ -90,7 +90,7 @@ fn finds(
 }
 
 // Findings are these.
-fn are(rt: &impl Abort, list: &[Finding], wanted: &[(u8, u64, u64, u64)]) -> Result<(), Fail> {
+fn are(rt: &impl Abort, list: &[Finding], wanted: &[(Kind, u64, u64, u64)]) -> Result<(), Fail> {
     assert_eq!(rt; list.len(), wanted.len());
     for (finding, (kind, a, b, c)) in list.iter().zip(wanted) {
         assert_eq!(rt; finding.kind, *kind);
@@ -122,9 +122,12 @@ fn sectors_have_one_checksum_each(rt: HostRuntime) -> Result<(), Fail> {
         &[run(first, 8), run(MIB, 1)],
         &extents,
         &[],
-        &[(14, MIB + 32768, 0, 0)],
+        &[(Kind::SumStray, MIB + 32768, 0, 0)],
     )?;
-    let missing = [(12, 5, 257, first), (12, 5, 257, first + 12288)];
+    let missing = [
+        (Kind::SumMissing, 5, 257, first),
+        (Kind::SumMissing, 5, 257, first + 12288),
+    ];
     finds(&rt, alloc, &[run(first + 4096, 2)], &extents, &[], &missing)?;
     finds(
         &rt,
@@ -134,7 +137,7 @@ fn sectors_have_one_checksum_each(rt: HostRuntime) -> Result<(), Fail> {
         &[256, 257],
         &[],
     )?;
-    let twice = [(13, first + 8192, 0, 0)];
+    let twice = [(Kind::SumOverlap, first + 8192, 0, 0)];
     finds(
         &rt,
         alloc,
@@ -152,7 +155,14 @@ fn checksums_lie_in_data_extents(rt: HostRuntime) -> Result<(), Fail> {
     let halves = [extent(MIB, 12288, 1), extent(MIB + 12288, 20480, 1)];
     finds(&rt, alloc, &runs, &halves, &[], &[])?;
     let apart = [extent(MIB, 12288, 1), extent(MIB + 16384, 16384, 1)];
-    finds(&rt, alloc, &runs, &apart, &[], &[(14, MIB + 12288, 0, 0)])?;
+    finds(
+        &rt,
+        alloc,
+        &runs,
+        &apart,
+        &[],
+        &[(Kind::SumStray, MIB + 12288, 0, 0)],
+    )?;
     let metadata = [
         extent(MIB, 12288, 1),
         extent(MIB + 12288, 16384, 2),
@@ -164,20 +174,23 @@ fn checksums_lie_in_data_extents(rt: HostRuntime) -> Result<(), Fail> {
         &runs,
         &metadata,
         &[],
-        &[(14, MIB + 12288, 0, 0)],
+        &[(Kind::SumStray, MIB + 12288, 0, 0)],
     )
 }
 
 // Where a chunk begins, how long it is, and which of the four sectors lack a checksum then.
-const CHUNKS: &[(u64, u64, &[(u8, u64, u64, u64)])] = &[
+const CHUNKS: &[(u64, u64, &[(Kind, u64, u64, u64)])] = &[
     (
         MIB,
         12288,
-        &[(12, 5, 257, MIB + 4096), (12, 5, 257, MIB + 8192)],
+        &[
+            (Kind::SumMissing, 5, 257, MIB + 4096),
+            (Kind::SumMissing, 5, 257, MIB + 8192),
+        ],
     ),
     (MIB, 4096, &[]),
     (MIB + 4096, MIB, &[]),
-    (MIB - 8192, 16384, &[(12, 5, 257, MIB + 4096)]),
+    (MIB - 8192, 16384, &[(Kind::SumMissing, 5, 257, MIB + 4096)]),
 ];
 
 #[test]
@@ -207,7 +220,10 @@ fn a_length_that_is_far_too_large(rt: HostRuntime) -> Result<(), Fail> {
         sums,
     };
     put_missing_sums(alloc, &mut found, 5, &[], &far, &places)?;
-    let wanted = [(12, 5, 257, MIB + 4096), (12, 5, 257, MIB + 8192)];
+    let wanted = [
+        (Kind::SumMissing, 5, 257, MIB + 4096),
+        (Kind::SumMissing, 5, 257, MIB + 8192),
+    ];
     are(&rt, found.list(alloc)?.to_vec(alloc)?.as_slice(), &wanted)
 }
 

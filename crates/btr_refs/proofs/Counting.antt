@@ -13,10 +13,10 @@ use Rattle.std.specs.Ordering.{is_eq, match_ordering, nat_cmp}
 use Rattle.std.specs.Cmp.{IsTotalOrder, eq_by_cmp_equiv}
 use Rattle.std.specs.declared.cmp.Ordering.{Ordering}
 use Rattle.std.specs.declared.cmp.Ordering.TheVariants.{Less, Equal, Greater}
+use Rattle.btr_findings.proofs.Sets.{both_equal}
 use Rattle.btr_refs.specs.declared.ref_key.RefKey.{RefKey}
 use Rattle.btr_refs.specs.RefKey.{ref_cmp, same_ref}
 use Rattle.btr_refs.specs.Counts.{Counted, CountsLaw, RefCounts, Counts, count_in, sum_of, is_met, counted, counted_all, found_at}
-use Rattle.btr_refs.proofs.Sets.{both_equal}
 
 pub ref_total : IsTotalOrder ref_cmp
 ref_total = then_total (on_total (λ key. key.addr) nat_cmp_total)

@@ -14,7 +14,7 @@ use Rattle.btr_walk.specs.Range.{range}
 use Rattle.btr_walk.specs.Reading.{Map}
 use Rattle.btr_walk.specs.declared.place.RootPlace.{RootPlace}
 use Rattle.btr_walk.proofs.Folds.{fold_run, exec_fold, fold_go, fold_broken}
-use Rattle.btr_refs.specs.declared.extent.Extent.{Extent}
+use Rattle.btr_findings.specs.declared.extent.Extent.{Extent}
 use Rattle.btr_refs.specs.Counts.{Counts, RefCounts, counted, counted_all}
 use Rattle.btr_refs.specs.Extents.{Kept, nothing_kept, kept_with, kept_step, is_formed, refs_in, extent_in, stored_in, extents_in}
 use Rattle.btr_refs.specs.Collecting.{StoredLaw, stored_of}

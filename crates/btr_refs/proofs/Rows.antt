@@ -1,42 +1,19 @@
 -- Rows that are put into a set, one after another.
-use Rattle.std.proofs.Common.{◌≡◌, ℕ, ◌+◌, ◌<◌, Bool, true, false, cond, ◌||◌, List, [], ◌∷◌, ◌++◌, length, take, get_or, Option, Some, None, filter_map, eqb}
+use Rattle.std.proofs.Common.{◌≡◌, ℕ, ◌+◌, ◌<◌, Bool, true, false, cond, ◌||◌, List, ◌++◌, length, take, get_or, filter_map, eqb}
 use Rattle.std.proofs.Common.{refl, sym, ap, ◌∙◌, arith}
 use Rattle.std.proofs.lemmas.Bool.Decides.{nat_tests}
 use Rattle.std.proofs.lemmas.List.Folds.{list_any-append, list_any_more}
 use Rattle.std.specs.BTreeMap.{is_at}
 use Rattle.std.specs.BTreeSet.{BTreeSet, contains}
-use Rattle.std.specs.List.{list_any, cons_option}
+use Rattle.std.specs.List.{list_any}
 use Rattle.std.specs.Map.{keys_of}
 use Rattle.std.specs.Ordering.{is_eq, nat_cmp}
-use Rattle.btr_refs.specs.declared.extent.Extent.{Extent}
-use Rattle.btr_refs.specs.declared.finding.Finding.{Finding}
-use Rattle.btr_refs.specs.Differences.{is_row, is_shown, ref_count, ref_total, ref_alone, has_extent, count_findings, total_findings}
+use Rattle.btr_findings.specs.declared.finding.Finding.{Finding}
+use Rattle.btr_findings.specs.Findings.{is_row, is_one_of, is_same}
+use Rattle.btr_findings.proofs.Rules.{rows-any}
+use Rattle.btr_findings.specs.declared.extent.Extent.{Extent}
+use Rattle.btr_refs.specs.Differences.{ref_count, ref_total, ref_alone, has_extent, count_findings, total_findings}
 use Rattle.btr_refs.specs.Counts.{RefCounts}
-use Rattle.btr_refs.specs.Findings.{is_one_of, is_same}
-
-or_swaps : (a b c : Bool) → ((a || b) || c) ≡ (b || (a || c))
-or_swaps true true c = refl
-or_swaps true false c = refl
-or_swaps false true c = refl
-or_swaps false false c = refl
-
--- the first of what is left was put
-pub row_more : {X : Type 0} (rule : X → Option Finding) (one : Finding) (x : X) (rest all : List X) (put : Bool) (more less first : Bool) → all
-    ≡ x ∷ rest → more ≡ (is_row rule one x || less) → (list_any (is_row rule one) all || less) ≡ (put || first)
-    → (list_any (is_row rule one) rest || more) ≡ (put || first)
-row_more rule one x rest all put more less first is has before =
-    ap (λ b. list_any (is_row rule one) rest || b) has ∙ sym (or_swaps (is_row rule one x) (list_any (is_row rule one) rest) less)
-    ∙ ap (λ l. list_any (is_row rule one) l || less) (sym is) ∙ before
-
--- the findings of a rule on some things
-pub rows-any : {X : Type 0} (rule : X → Option Finding) (one : Finding) (xs : List X) → is_one_of (filter_map rule xs) one ≡ list_any (is_row rule one) xs
-rows-any rule one [] = refl
-rows-any rule one (x ∷ xs) = by (rule x) (rows-any rule one xs)
-  where
-    by : (o : Option Finding) → is_one_of (filter_map rule xs) one ≡ list_any (is_row rule one) xs
-        → is_one_of (cons_option o (filter_map rule xs)) one ≡ (is_shown one o || list_any (is_row rule one) xs)
-    by None rest = rest
-    by (Some finding) rest = ap (λ b. is_same one finding || b) rest
 
 or_two : (f s e : Bool) → (s || (f || e)) ≡ ((f || s) || e)
 or_two true true e = refl

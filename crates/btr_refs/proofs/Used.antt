@@ -6,11 +6,11 @@ use Rattle.std.specs.List.{list_any}
 use Rattle.std.specs.Ordering.{match_ordering, nat_cmp}
 use Rattle.std.specs.declared.cmp.Ordering.{Ordering}
 use Rattle.std.specs.declared.cmp.Ordering.TheVariants.{Less, Equal, Greater}
+use Rattle.btr_findings.proofs.Sets.{both_equal}
 use Rattle.btr_refs.specs.Counts.{counted_all}
 use Rattle.btr_refs.specs.Forward.{Used, TreeBlock, Data, Use, Uses, met, with_use, block_cmp, data_cmp, blocks_with, data_with}
 use Rattle.btr_refs.specs.declared.uses.BlockUse.{BlockUse}
 use Rattle.btr_refs.specs.declared.uses.DataUse.{DataUse}
-use Rattle.btr_refs.proofs.Sets.{both_equal}
 
 -- the references that are counted
 pub refs_all : (uses : List Use) (old : Uses) → (fold with_use old uses).refs ≡ counted_all old.refs (map met uses)

@@ -19,7 +19,7 @@ use Rattle.btr_items.specs.declared.inline_ref.InlineRef.{InlineRef}
 use Rattle.btr_items.specs.declared.loose_ref.LooseRef.{LooseRef}
 use Rattle.btr_walk.specs.Folds.{Next, Go, Broken}
 use Rattle.btr_walk.specs.Le.{TreeItem}
-use Rattle.btr_refs.specs.declared.extent.Extent.{Extent}
+use Rattle.btr_findings.specs.declared.extent.Extent.{Extent}
 use Rattle.btr_refs.specs.Counts.{Counted, RefCounts, counted_all}
 use Rattle.btr_refs.specs.RefKey.{key_of}
 use Rattle.btr_refs.specs.declared.ref_key.RefKey.{RefKey}

@@ -1,14 +1,13 @@
 // Where the references that are counted and those that are stored differ.
 ghost use Rattle.std.specs.Prelude.{◌≡◌, ◌+◌, ◌==◌, cond, OnOk, IfOk};
-ghost use Rattle.btr_refs.specs.Findings.{Adds};
-ghost use Rattle.btr_refs.specs.Differences.{ref_count, ref_total, count_findings, total_findings, Addresses, ListsDifferences, PutsAlone, PutsRow, PutsRows, PutsRefs};
+ghost use Rattle.btr_findings.specs.Findings.{Adds, PutsRow, PutsRows};
+ghost use Rattle.btr_refs.specs.Differences.{ref_count, ref_total, count_findings, total_findings, Addresses, ListsDifferences, PutsAlone, PutsRefs};
 ghost use Rattle.btr_refs.specs.Differences as rows;
 
 use crate::counts::count_in;
-use crate::found::{Found, insert};
-use crate::showing::shown;
-use crate::{Extent, Finding, Findings, Forward, RefKey, Stored};
+use crate::{Forward, RefKey, Stored};
 use btr_base::Memory;
+use btr_findings::{Extent, Finding, Findings, Found, Kind, insert, shown};
 use std::alloc::Global;
 use std::collections::btree_map::Range;
 use std::collections::{BTreeMap, BTreeSet};
@@ -36,7 +35,13 @@ fn put_ref_count(
         counted,
         kept,
     ];
-    insert(found, Finding { kind: 7, n })
+    insert(
+        found,
+        Finding {
+            kind: Kind::RefCount,
+            n,
+        },
+    )
 }
 
 // The references of a map that are counted and stored differently.
@@ -110,12 +115,12 @@ fn addresses_of(alloc: Global, extents: &[Extent]) -> Result<BTreeSet<u64>, Memo
     Ok(addresses)
 }
 
-// Kind 8, of an extent that states `refs`, and of none where that is 0.
+// The finding on an extent that states `refs`, and of none where that is 0.
 fn ref_total(addr: u64, refs: u64, sum: u128) -> Finding
     ensures { result ≡ rows.total_row addr refs sum }
 {
     Finding {
-        kind: 8,
+        kind: Kind::RefTotal,
         n: [addr, refs, shown(sum), 0, 0, 0, 0],
     }
 }
@@ -166,7 +171,7 @@ fn put_ref_alone(
     Ok(())
 }
 
-/// Puts the findings on references into a set, kind 7: a reference that is counted and stored differently. `Memory`: there is no memory;
+/// Puts the findings on references into a set: a reference that is counted and stored differently. `Memory`: there is no memory;
 /// then nothing is said of the set.
 pub fn put_count_findings(
     found: &mut Found,
@@ -180,7 +185,7 @@ pub fn put_count_findings(
     put_ref_counts(found, stored, counted, stored)
 }
 
-/// Puts the findings on sums of references into a set, kind 8: an extent that states another sum than that of the references to its
+/// Puts the findings on sums of references into a set: an extent that states another sum than that of the references to its
 /// address that are stored; and an address that has such references, be it 0 times, and no extent. `Memory`: there is no memory; then
 /// nothing is said of the set.
 pub fn put_total_findings(alloc: Global, found: &mut Found, stored: &Stored) -> Result<(), Memory>
@@ -193,7 +198,7 @@ pub fn put_total_findings(alloc: Global, found: &mut Found, stored: &Stored) -> 
     put_ref_alone(found, refs, &addresses)
 }
 
-/// The findings on references, kinds 7 and 8, in ascending order and each once: a reference that is counted and stored
+/// The findings on references, in ascending order and each once: a reference that is counted and stored
 /// differently; an extent that states another sum than that of the references to its address that are stored; and an address
 /// that has such references, be it 0 times, and no extent. `Memory`: there is no memory for them.
 pub fn differences(alloc: Global, forward: &Forward, stored: &Stored) -> Result<Findings, Memory>

@@ -3,10 +3,10 @@ ghost use Rattle.std.specs.Prelude.{◌≡◌, ◌≤◌, [], length, IfOk, IsTr
 ghost use Rattle.btr_items.specs.Key as key_rules;
 ghost use Rattle.btr_refs.specs.Extents.{is_extent, extent_with, AddsInline, AddsLoose, AddsExtent, AddsAny};
 
+use crate::RefKey;
 use crate::counts::add;
-use crate::growing::{push, with_room};
-use crate::{Extent, RefKey};
 use btr_base::{Key, Memory};
+use btr_findings::{Extent, push, with_room};
 use btr_items::{ExtentItem, LooseRef, inline_refs, item, key_fits};
 use btr_walk::{Folder, Found, Took};
 use std::alloc::Global;

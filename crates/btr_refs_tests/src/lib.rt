@@ -6,8 +6,6 @@ mod collects;
 #[cfg(test)]
 mod rows;
 #[cfg(test)]
-mod sectors;
-#[cfg(test)]
 mod stores;
 #[cfg(test)]
 mod uses;

@@ -1,8 +1,9 @@
 // Where counted and stored references differ.
 use super::stores::{DATA, extent, file, loose, shared, take};
 use btr_base::Memory;
+use btr_findings::{Finding, Kind};
 use btr_items::item;
-use btr_refs::{Finding, Forward, Stored, differences};
+use btr_refs::{Forward, Stored, differences};
 use std::alloc::Global;
 use std::process::Abort;
 use std::test::Fail;
@@ -16,18 +17,18 @@ fn used_by(alloc: Global, inodes: &[u64]) -> Result<Forward, Memory> {
     Ok(forward)
 }
 
-// Kind 7 of an inode of the data extent.
+// The finding that references of an inode to the data extent are counted otherwise than stored.
 fn ref_count(inode: u64, counted: u64, stored: u64) -> Finding {
     Finding {
-        kind: 7,
+        kind: Kind::RefCount,
         n: [DATA, 178, 5, inode, 0, counted, stored],
     }
 }
 
-// Kind 8 of the data extent.
+// The finding that the data extent states another number of references.
 fn ref_total(refs: u64, sum: u64) -> Finding {
     Finding {
-        kind: 8,
+        kind: Kind::RefTotal,
         n: [DATA, refs, sum, 0, 0, 0, 0],
     }
 }

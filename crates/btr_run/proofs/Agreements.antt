@@ -14,7 +14,7 @@ use Rattle.btr_rack.specs.Rack.{Seen, OnlyReads}
 use Rattle.btr_read.specs.Fate.{Agreed, Fault, fate}
 use Rattle.btr_read.specs.Fate as fault
 use Rattle.btr_read.specs.Layout.{Layout}
-use Rattle.btr_refs.specs.declared.finding.Finding.{Finding}
+use Rattle.btr_findings.specs.declared.finding.Finding.{Finding}
 use Rattle.btr_restore.proofs.Agreeing.{array_agreed}
 use Rattle.btr_read.proofs.Compared.{compares_agreed, disagreeing-agreed}
 use Rattle.btr_read.specs.Comparing.{disagreeing}

@@ -11,7 +11,7 @@ use Rattle.btr_rack.specs.declared.error.SinkError.{SinkError}
 use Rattle.btr_rack.specs.declared.error.SinkError.TheVariants.{Failed, Memory as memory_fault}
 use Rattle.btr_rack.proofs.Reading.{reads_more}
 use Rattle.btr_read.specs.Layout.{Layout}
-use Rattle.btr_refs.specs.declared.finding.Finding.{Finding}
+use Rattle.btr_findings.specs.declared.finding.Finding.{Finding}
 use Rattle.btr_volume.specs.Start.{Images}
 use Rattle.btr_volume.specs.declared.stop.Stop.{Stop}
 use Rattle.btr_volume.specs.declared.stop.Stop.TheVariants as stop

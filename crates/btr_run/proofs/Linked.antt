@@ -17,9 +17,9 @@ use Rattle.btr_check.specs.Trees.{root_tree, tree_of_item, trees, uses, uses_of}
 use Rattle.btr_check.specs.declared.places.Place.{Place}
 use Rattle.btr_items.specs.RootItem.{root_item_of}
 use Rattle.btr_read.specs.declared.want.Want.TheVariants.{Tree}
-use Rattle.btr_refs.proofs.Sets.{both_equal}
+use Rattle.btr_findings.proofs.Sets.{both_equal}
+use Rattle.btr_findings.specs.declared.extent.Extent.{Extent}
 use Rattle.btr_refs.specs.Forward.{Use, block_uses, root_use}
-use Rattle.btr_refs.specs.declared.extent.Extent.{Extent}
 use Rattle.btr_resolve.proofs.Linking.{given_by, owners_linked, weaker}
 use Rattle.btr_resolve.specs.Links.{HasUsesOf}
 use Rattle.btr_super.specs.declared.superblock.Super.{Super}

@@ -5,7 +5,7 @@ use Rattle.btr_check.specs.Filesystem as checked
 use Rattle.btr_check.specs.Findings.{findings}
 use Rattle.btr_check.specs.Text.{findings_text}
 use Rattle.btr_read.specs.Fate.{fate}
-use Rattle.btr_refs.specs.declared.finding.Finding.{Finding}
+use Rattle.btr_findings.specs.declared.finding.Finding.{Finding}
 use Rattle.btr_volume.specs.Start.{Images}
 use Rattle.btr_volume.specs.declared.stop.Stop.{Stop}
 use Rattle.btr_run.specs.Faults.{stop_answer}

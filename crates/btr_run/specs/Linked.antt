@@ -2,7 +2,7 @@
 use Rattle.std.specs.Prelude.{◌≡◌, ℕ, ◌<◌, ◌^◌, List, Some, Ok, All}
 use Rattle.btr_check.specs.Trees.{refers_by_address, uses}
 use Rattle.btr_prog.specs.Prog.{exec, steps}
-use Rattle.btr_refs.specs.declared.extent.Extent.{Extent}
+use Rattle.btr_findings.specs.declared.extent.Extent.{Extent}
 use Rattle.btr_resolve.specs.Links.{IsLinked}
 use Rattle.btr_resolve.specs.Owning.{owners}
 use Rattle.btr_super.specs.declared.superblock.Super.{Super}

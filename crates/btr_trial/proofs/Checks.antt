@@ -7,7 +7,7 @@ use Rattle.btr_check.specs.Findings.{findings}
 use Rattle.btr_check.specs.Running.{Answers, Ran, is_outside, world}
 use Rattle.btr_prog.specs.Calls.{First}
 use Rattle.btr_rack.specs.Memory.{MemoryRack, held_of}
-use Rattle.btr_refs.specs.declared.finding.Finding.{Finding}
+use Rattle.btr_findings.specs.declared.finding.Finding.{Finding}
 use Rattle.btr_volume.specs.declared.stop.Stop.{Stop}
 use Rattle.btr_volume.specs.declared.stop.Stop.TheVariants as stop
 use Rattle.btr_volume.specs.declared.volume.Volume.{Volume}

@@ -11,7 +11,7 @@ use Rattle.btr_listing.specs.Step.{Step}
 use Rattle.btr_prog.specs.Prog.{Run, exec, steps_of}
 use Rattle.btr_read.specs.Fate.{Fault, fate}
 use Rattle.btr_read.specs.declared.want.Want.{Want}
-use Rattle.btr_refs.specs.declared.finding.Finding.{Finding}
+use Rattle.btr_findings.specs.declared.finding.Finding.{Finding}
 use Rattle.btr_restore.specs.Journey.{listing}
 use Rattle.btr_restore.specs.Outcome.{tree_after}
 use Rattle.btr_scrub.specs.Filesystem.{Filesystem}

@@ -9,7 +9,7 @@ use crate::opening::{open_filesystem, unless_wanted};
 use crate::rack::SureRack;
 use btr_base::Memory;
 use btr_check::check;
-use btr_refs::Findings;
+use btr_findings::Findings;
 use std::alloc::Global;
 
 /// Checks a volume, and answers how many findings there are; `None` where it is refused.

@@ -1,5 +1,5 @@
 use Rattle.std.proofs.Common.{take}
-use Rattle.btr_refs.specs.Findings.{Adds}
+use Rattle.btr_findings.specs.Findings.{Adds}
 use Rattle.btr_check.proofs.adding.put_all.Given as goal
 
 -- the findings so far

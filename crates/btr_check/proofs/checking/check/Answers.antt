@@ -1,5 +1,5 @@
 use Rattle.std.proofs.Common.{◌≡◌, true, false, None, Some, Ok, Err, refl, ◌∙◌}
-use Rattle.btr_refs.specs.Findings.{HasJust, FoundSet}
+use Rattle.btr_findings.specs.Findings.{HasJust, FoundSet}
 use Rattle.btr_volume.specs.declared.stop.Stop.TheVariants.{Memory as NoMemory}
 use Rattle.btr_check.specs.Before.{refusal}
 use Rattle.btr_check.specs.Findings.{all_findings, findings}

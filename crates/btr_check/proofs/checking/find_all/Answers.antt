@@ -1,6 +1,6 @@
 use Rattle.std.proofs.Common.{◌≡◌, true, Ok, Err, refl, sym, ◌∙◌}
 use Rattle.std.specs.Bool.{⊤}
-use Rattle.btr_refs.specs.Findings.{Adds, HasJust}
+use Rattle.btr_findings.specs.Findings.{Adds, HasJust}
 use Rattle.btr_volume.specs.declared.stop.Stop.TheVariants.{Memory as NoMemory}
 use Rattle.btr_check.specs.Findings.{all_findings, rule_findings}
 use Rattle.btr_check.specs.Passes.{IsWalked, Lists}

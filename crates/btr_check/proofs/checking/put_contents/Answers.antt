@@ -1,6 +1,6 @@
 use Rattle.std.proofs.Common.{◌≡◌, true, ◌++◌, map, refl, ◌∙◌, subst}
-use Rattle.btr_refs.proofs.Adding.{adds_then}
-use Rattle.btr_refs.specs.Findings.{Adds}
+use Rattle.btr_findings.proofs.Adding.{adds_then}
+use Rattle.btr_findings.specs.Findings.{Adds}
 use Rattle.btr_check_space.specs.Cover.{HoldSame}
 use Rattle.btr_check_sums.specs.Sums.{run_stretch}
 use Rattle.btr_volume.specs.declared.stop.Stop.TheVariants.{Memory as NoMemory}

@@ -1,7 +1,7 @@
 use Rattle.std.proofs.Common.{◌≡◌, [], Ok, sym, ap, ◌∙◌}
 use Rattle.btr_files.specs.Sums.{tree_behind}
-use Rattle.btr_refs.proofs.Adding.{adds_none, adds_as}
-use Rattle.btr_refs.specs.Findings.{Adds}
+use Rattle.btr_findings.proofs.Adding.{adds_none, adds_as}
+use Rattle.btr_findings.specs.Findings.{Adds}
 use Rattle.btr_check.specs.Counting.{Unless}
 use Rattle.btr_check.specs.Data.{data_findings, sum_runs}
 use Rattle.btr_check.specs.Families.{IsRunsOf}

@@ -1,6 +1,6 @@
 use Rattle.std.proofs.Common.{◌≡◌, true, ◌++◌, Ok, Err, ◌∙◌}
-use Rattle.btr_refs.proofs.Adding.{adds_then}
-use Rattle.btr_refs.specs.Findings.{Adds}
+use Rattle.btr_findings.proofs.Adding.{adds_then}
+use Rattle.btr_findings.specs.Findings.{Adds}
 use Rattle.btr_check.specs.Counting.{Unless}
 use Rattle.btr_check.specs.Families.{IsRunsOf, found_on_groups, found_on_sums, found_on_extents}
 use Rattle.btr_check.specs.Filesystem.{Filesystem}

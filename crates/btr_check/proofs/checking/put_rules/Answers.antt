@@ -1,7 +1,7 @@
 use Rattle.std.proofs.Common.{◌≡◌, true, List, ◌++◌, Ok, Err}
-use Rattle.btr_refs.proofs.Adding.{adds_then}
-use Rattle.btr_refs.specs.declared.finding.Finding.{Finding}
-use Rattle.btr_refs.specs.Findings.{Adds}
+use Rattle.btr_findings.proofs.Adding.{adds_then}
+use Rattle.btr_findings.specs.declared.finding.Finding.{Finding}
+use Rattle.btr_findings.specs.Findings.{Adds}
 use Rattle.btr_check.specs.Families.{IsRunsOf, found_on_extents, found_on_devices, found_on_files}
 use Rattle.btr_check.specs.Filesystem.{Filesystem}
 use Rattle.btr_check.specs.Findings.{data_if, rule_findings}

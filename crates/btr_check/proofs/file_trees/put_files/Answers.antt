@@ -1,6 +1,6 @@
 use Rattle.std.proofs.Common.{◌≡◌, true, [], Ok, Err, refl, sym, ◌∙◌, subst}
 use Rattle.btr_check_names.specs.Subvolumes.{subvolumes_in, subvolume_findings}
-use Rattle.btr_refs.specs.Findings.{Adds}
+use Rattle.btr_findings.specs.Findings.{Adds}
 use Rattle.btr_volume.specs.declared.stop.Stop.TheVariants.{Memory as NoMemory}
 use Rattle.btr_check.specs.Data.{sum_runs}
 use Rattle.btr_check.specs.Families.{IsCoverOf, found_on_files}

@@ -1,5 +1,5 @@
 use Rattle.std.proofs.Common.{◌≡◌, [], sym}
-use Rattle.btr_refs.proofs.Adding.{adds_as, adds_just, adds_none}
+use Rattle.btr_findings.proofs.Adding.{adds_as, adds_just, adds_none}
 use Rattle.btr_check_sums.specs.Sums.{tree_missing}
 use Rattle.btr_check.proofs.file_trees.put_missing.Goals as goal
 

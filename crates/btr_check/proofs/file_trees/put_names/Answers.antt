@@ -1,7 +1,7 @@
 use Rattle.std.proofs.Common.{◌≡◌, true, fold, Some}
 use Rattle.btr_check_names.specs.Names.{names_findings, names_step}
 use Rattle.btr_check_names.specs.Subvolumes.{subvolumes_at}
-use Rattle.btr_refs.specs.Findings.{Adds}
+use Rattle.btr_findings.specs.Findings.{Adds}
 use Rattle.btr_check.specs.FileTrees.{TreatsNames}
 use Rattle.btr_check.specs.Counting.{Unless}
 use Rattle.std.specs.Bool.{⊤}

@@ -1,5 +1,5 @@
 use Rattle.btr_check.specs.Uses.{extent_findings}
-use Rattle.btr_refs.proofs.Adding.{adds_more_of}
+use Rattle.btr_findings.proofs.Adding.{adds_more_of}
 use Rattle.btr_check.proofs.misusing.put_all_misused.Goals as goal
 
 pub loop-extent-preserved : goal.loop-extent-preserved

@@ -1,5 +1,5 @@
 use Rattle.std.proofs.Common.{List, flat_map, take}
-use Rattle.btr_refs.specs.Findings.{Adds}
+use Rattle.btr_findings.specs.Findings.{Adds}
 use Rattle.btr_refs.specs.Forward.{AreUsedBy, Use}
 use Rattle.btr_check.specs.Uses.{extent_findings}
 use Rattle.btr_check.proofs.misusing.put_all_misused.Given as goal

@@ -1,13 +1,13 @@
 use Rattle.std.proofs.Common.{◌≡◌, ◌||◌}
 use Rattle.std.specs.List.{list_any}
-use Rattle.btr_refs.specs.Findings.{Adds, has, is_one_of}
+use Rattle.btr_findings.specs.Findings.{Adds, has, is_one_of}
+use Rattle.btr_findings.specs.declared.finding.Finding.{Finding}
 use Rattle.btr_refs.specs.Forward.{TreeBlock, Data}
-use Rattle.btr_refs.specs.declared.finding.Finding.{Finding}
 use Rattle.btr_refs.specs.declared.uses.BlockUse.{BlockUse}
 use Rattle.btr_refs.specs.declared.uses.DataUse.{DataUse}
 use Rattle.btr_check.specs.Misusing.{is_by_data}
 use Rattle.btr_check.specs.Uses.{misused, extent_findings}
-use Rattle.btr_refs.proofs.Adding.{on_ok}
+use Rattle.btr_findings.proofs.Adding.{on_ok}
 use Rattle.btr_check.proofs.Misuses.{misused_all}
 use Rattle.btr_check.proofs.misusing.put_misused.Goals as goal
 

@@ -1,8 +1,8 @@
 use Rattle.std.proofs.Common.{◌≡◌, ◌+◌, ◌<◌, ◌^◌, Option, Result, Ok, Err, flat_map, take, get_or}
 use Rattle.btr_files.specs.Sums.{tree_behind}
 use Rattle.btr_items.specs.declared.sum_run.SumRun.{SumRun}
-use Rattle.btr_refs.specs.Findings.{Adds}
-use Rattle.btr_refs.proofs.Adding.{adds_none, adds_more_of}
+use Rattle.btr_findings.specs.Findings.{Adds}
+use Rattle.btr_findings.proofs.Adding.{adds_none, adds_more_of}
 use Rattle.btr_check_sums.specs.Ranks.{run_end}
 use Rattle.btr_volume.specs.declared.root.TreeRoot.{TreeRoot}
 use Rattle.btr_volume.specs.declared.stop.Stop.{Stop}

@@ -1,7 +1,7 @@
 use Rattle.std.proofs.Common.{Ok, flat_map, take}
 use Rattle.btr_ahead.specs.Ahead.{IsAhead}
 use Rattle.btr_files.specs.Sums.{tree_behind}
-use Rattle.btr_refs.specs.Findings.{Adds}
+use Rattle.btr_findings.specs.Findings.{Adds}
 use Rattle.btr_check.specs.Running.{world, Ran}
 use Rattle.btr_check.proofs.Datas.{AreLow, run_findings}
 use Rattle.btr_check.proofs.readable.put_data_findings.Given as goal

@@ -2,8 +2,8 @@ use Rattle.std.proofs.Common.{◌+◌, ◌<◌, ◌^◌, Option, Result, Ok, Err
 use Rattle.std.specs.Option.{option_to_list}
 use Rattle.btr_files.specs.Aheads.{IsSummed}
 use Rattle.btr_files.specs.Sums.{tree_behind}
-use Rattle.btr_refs.specs.Findings.{Adds}
-use Rattle.btr_refs.proofs.Adding.{adds_none}
+use Rattle.btr_findings.specs.Findings.{Adds}
+use Rattle.btr_findings.proofs.Adding.{adds_none}
 use Rattle.btr_check_sums.specs.Ranks.{run_end}
 use Rattle.btr_check_sums.specs.Sums.{run_sectors}
 use Rattle.btr_volume.specs.declared.root.TreeRoot.{TreeRoot}

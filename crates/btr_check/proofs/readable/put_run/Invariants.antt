@@ -2,7 +2,7 @@ use Rattle.std.proofs.Common.{◌<◌, ◌^◌, Ok, filter_map, take}
 use Rattle.btr_ahead.specs.Ahead.{IsAhead}
 use Rattle.btr_files.specs.Aheads.{IsSummed}
 use Rattle.btr_files.specs.Sums.{tree_behind}
-use Rattle.btr_refs.specs.Findings.{Adds}
+use Rattle.btr_findings.specs.Findings.{Adds}
 use Rattle.btr_check_sums.specs.Ranks.{run_end}
 use Rattle.btr_check_sums.specs.Sums.{run_sectors}
 use Rattle.btr_check.specs.Data.{data_lost}

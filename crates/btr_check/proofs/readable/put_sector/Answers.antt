@@ -1,7 +1,8 @@
 use Rattle.std.proofs.Common.{◌≡◌, [], ◌∷◌, Bool, true, Option, Err, refl}
 use Rattle.std.specs.Option.{option_to_list}
 use Rattle.btr_files.specs.Sums.{tree_behind}
-use Rattle.btr_refs.specs.Findings.{Adds, found}
+use Rattle.btr_findings.specs.declared.kind.Kind.TheVariants as kind
+use Rattle.btr_findings.specs.Findings.{Adds, found}
 use Rattle.btr_volume.specs.declared.root.TreeRoot.{TreeRoot}
 use Rattle.btr_volume.specs.declared.stop.Stop.TheVariants.{Memory}
 use Rattle.btr_check.specs.Counting.{Unless}
@@ -38,7 +39,7 @@ returns-in-Ok-put_lost g c =
           (λ B h summed. (
             (h summed).0,
             sector_adds (filesystem c.args.vol.now B) sums c.args.sector.addr c.in-Ok.readable
-                (found 31 (c.args.sector.addr ∷ [])) c.args.found.now c.put_lost.new.found refl c.in-Ok-put_lost.ensures (h summed).1,
+                (found kind.DataLost (c.args.sector.addr ∷ [])) c.args.found.now c.put_lost.new.found refl c.in-Ok-put_lost.ensures (h summed).1,
           ));
     }
 

@@ -1,5 +1,5 @@
 use Rattle.std.proofs.Common.{◌≡◌, true, Ok, Err, ◌∙◌}
-use Rattle.btr_refs.specs.Findings.{Adds}
+use Rattle.btr_findings.specs.Findings.{Adds}
 use Rattle.btr_refs.specs.Forward.{used_by}
 use Rattle.btr_check.specs.Counting.{UsesCount}
 use Rattle.btr_check.specs.Passes.{AreUsed, IsCounted}

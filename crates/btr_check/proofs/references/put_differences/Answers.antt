@@ -1,5 +1,5 @@
 use Rattle.std.proofs.Common.{◌≡◌, true, ◌∙◌}
-use Rattle.btr_refs.specs.Findings.{Adds}
+use Rattle.btr_findings.specs.Findings.{Adds}
 use Rattle.btr_check.specs.ExtentTree.{AreRefsOf}
 use Rattle.btr_check.specs.Passes.{AreUsed, IsCounted, IsWalked, ListsSound, PutsAnd}
 use Rattle.btr_check.specs.Running.{world, filesystem, is_outside}

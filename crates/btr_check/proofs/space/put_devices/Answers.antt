@@ -1,6 +1,6 @@
 use Rattle.std.proofs.Common.{◌≡◌, true, List, Ok, Err, Some, fold, ap, ◌∙◌}
 use Rattle.btr_read.specs.Layout.{Layout}
-use Rattle.btr_refs.specs.Findings.{Adds}
+use Rattle.btr_findings.specs.Findings.{Adds}
 use Rattle.btr_check_space.specs.Items.{with_mark, device_extent_in, device_in}
 use Rattle.btr_check_space.specs.declared.stated_device.StatedDevice.{StatedDevice}
 use Rattle.btr_volume.specs.Tree.{named_root}

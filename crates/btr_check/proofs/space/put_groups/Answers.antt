@@ -1,6 +1,6 @@
 use Rattle.std.proofs.Common.{◌≡◌, true, fold, ap, ◌∙◌}
 use Rattle.btr_read.specs.Layout.{Layout}
-use Rattle.btr_refs.specs.Findings.{Adds}
+use Rattle.btr_findings.specs.Findings.{Adds}
 use Rattle.btr_check_space.specs.Items.{with_mark, group_in}
 use Rattle.btr_super.specs.declared.superblock.Super.{Super}
 use Rattle.btr_check.specs.Families.{found_on_groups}

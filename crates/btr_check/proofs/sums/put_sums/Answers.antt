@@ -1,5 +1,5 @@
 use Rattle.std.proofs.Common.{◌≡◌, true, fold, refl, ◌∙◌}
-use Rattle.btr_refs.specs.Findings.{Adds}
+use Rattle.btr_findings.specs.Findings.{Adds}
 use Rattle.btr_check_sums.specs.Items.{runs_step}
 use Rattle.btr_volume.specs.declared.stop.Stop.TheVariants.{Memory as NoMemory}
 use Rattle.btr_check.specs.Families.{IsRunsOf, found_on_sums}

@@ -1,6 +1,6 @@
 use Rattle.std.proofs.Common.{◌≡◌, ◌+◌, ◌≤◌, ◌++◌, drop, length, take, sym, ap, flat_map, ◌∙◌, arith}
 use Rattle.std.proofs.lemmas.List.{take_all}
-use Rattle.btr_refs.specs.declared.finding.Finding.{Finding}
+use Rattle.btr_findings.specs.declared.finding.Finding.{Finding}
 use Rattle.btr_text.proofs.Writing.{wrote_then, wrote_as, cut_then, cut_longer, cut_as, cut_writes}
 use Rattle.btr_check.specs.Text.{line_of}
 use Rattle.btr_check.proofs.Texts.{first_left, none_left, shown_more, shown_around}

@@ -1,8 +1,7 @@
 use Rattle.std.proofs.Common.{◌≡◌, ◌||◌}
 use Rattle.std.specs.List.{list_any}
-use Rattle.btr_refs.specs.Differences.{is_row}
-use Rattle.btr_refs.specs.Findings.{has}
-use Rattle.btr_refs.specs.declared.finding.Finding.{Finding}
+use Rattle.btr_findings.specs.Findings.{is_row, has}
+use Rattle.btr_findings.specs.declared.finding.Finding.{Finding}
 use Rattle.btr_check_names.specs.Names.{ref_entry}
 use Rattle.btr_check_names.proofs.put_entries.put_ref_entries.Given as goal
 

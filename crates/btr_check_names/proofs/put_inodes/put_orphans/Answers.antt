@@ -1,7 +1,7 @@
-use Rattle.btr_refs.specs.Findings.{unless}
+use Rattle.btr_findings.specs.Findings.{unless}
 use Rattle.btr_check_names.specs.declared.inode_at.InodeAt.{InodeAt}
 use Rattle.btr_check_names.specs.Names.{orphan}
-use Rattle.btr_check_names.proofs.Rules.{rule_next}
+use Rattle.btr_findings.proofs.Rules.{rule_next}
 use Rattle.btr_check_names.proofs.put_inodes.put_orphans.Goals as goal
 
 no_inode : InodeAt

@@ -1,8 +1,7 @@
 use Rattle.std.proofs.Common.{◌≡◌, ◌||◌, take}
 use Rattle.std.specs.List.{list_any}
-use Rattle.btr_refs.specs.Differences.{is_row}
-use Rattle.btr_refs.specs.Findings.{has}
-use Rattle.btr_refs.specs.declared.finding.Finding.{Finding}
+use Rattle.btr_findings.specs.Findings.{is_row, has}
+use Rattle.btr_findings.specs.declared.finding.Finding.{Finding}
 use Rattle.btr_check_names.specs.Names.{orphan}
 use Rattle.btr_check_names.proofs.put_inodes.put_orphans.Given as goal
 

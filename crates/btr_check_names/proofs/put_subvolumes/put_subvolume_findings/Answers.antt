@@ -1,6 +1,6 @@
 use Rattle.std.proofs.Common.{OnOk, subst}
 use Rattle.std.proofs.lemmas.Result.{on_ok_weaker}
-use Rattle.btr_refs.specs.Findings.{Adds}
+use Rattle.btr_findings.specs.Findings.{Adds}
 use Rattle.btr_check_names.specs.Subvolumes.{Subvolumes, subvolume_findings}
 use Rattle.btr_check_names.proofs.Together.{both_added}
 use Rattle.btr_check_names.proofs.put_subvolumes.put_subvolume_findings.Goals as goal

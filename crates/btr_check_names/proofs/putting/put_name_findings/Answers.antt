@@ -1,7 +1,7 @@
 use Rattle.std.proofs.Common.{◌≡◌, ℕ, List, ap, ◌∙◌, OnOk, subst}
 use Rattle.std.proofs.lemmas.Result.{on_ok_weaker}
-use Rattle.btr_refs.proofs.Adding.{adds_as}
-use Rattle.btr_refs.specs.Findings.{Adds}
+use Rattle.btr_findings.proofs.Adding.{adds_as}
+use Rattle.btr_findings.specs.Findings.{Adds}
 use Rattle.btr_check_names.specs.Names.{Names, findings_but, names_findings, removed_dirs}
 use Rattle.btr_check_names.proofs.Together.{all_added}
 use Rattle.btr_check_names.proofs.putting.put_name_findings.Goals as goal

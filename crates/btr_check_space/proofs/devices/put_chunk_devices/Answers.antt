@@ -1,6 +1,7 @@
 use Rattle.std.proofs.Common.{◌≡◌, ◌∷◌, [], ◌&&◌, eqb, get_or, ◌∙◌}
 use Rattle.std.specs.List.{list_any}
-use Rattle.btr_refs.specs.Findings.{unless, found}
+use Rattle.btr_findings.specs.declared.kind.Kind.TheVariants as kind
+use Rattle.btr_findings.specs.Findings.{unless, found}
 use Rattle.btr_check_space.specs.Devices.{chunk_device}
 use Rattle.btr_check_space.specs.declared.device_extent.DeviceExtent.{DeviceExtent}
 use Rattle.btr_check_space.proofs.Found.{extent_found}
@@ -20,5 +21,5 @@ loop-range-preserved c =
     let tests : c.contains-is_kept.result ≡ test = c.contains-is_kept.ensures ∙ extent_found extents c.in_ok-set.set range c.in_ok-set.ensures in
     adds_row (chunk_device extents) ranges i nothing c.args.found.now c.loop-range.found c.put_unless.new.found
     (unless c.contains-is_kept.result c.row.result) c.loop-range-test.true
-    (unless_same c.contains-is_kept.result test c.row.result (found 26 (range.chunk ∷ range.devid ∷ range.offset ∷ [])) tests c.row.ensures)
+    (unless_same c.contains-is_kept.result test c.row.result (found kind.ChunkDevice (range.chunk ∷ range.devid ∷ range.offset ∷ [])) tests c.row.ensures)
     c.loop-range.invariant c.in_ok-put_unless.ensures

@@ -1,5 +1,5 @@
 use Rattle.std.proofs.Common.{take, filter_map}
-use Rattle.btr_refs.specs.Findings.{Adds}
+use Rattle.btr_findings.specs.Findings.{Adds}
 use Rattle.btr_check_space.specs.Devices.{chunk_device}
 use Rattle.btr_check_space.proofs.devices.put_chunk_devices.Given as goal
 

@@ -1,6 +1,7 @@
 use Rattle.std.proofs.Common.{◌≡◌, ◌∷◌, [], ◌&&◌, eqb, get_or, ◌∙◌}
 use Rattle.std.specs.List.{list_any}
-use Rattle.btr_refs.specs.Findings.{unless, found}
+use Rattle.btr_findings.specs.declared.kind.Kind.TheVariants as kind
+use Rattle.btr_findings.specs.Findings.{unless, found}
 use Rattle.btr_check_space.specs.Devices.{device_chunk}
 use Rattle.btr_check_space.specs.declared.device_extent.DeviceExtent.{DeviceExtent}
 use Rattle.btr_check_space.proofs.Found.{place_found}
@@ -20,5 +21,5 @@ loop-extent-preserved c =
     let tests : c.contains-is_kept.result ≡ test = c.contains-is_kept.ensures ∙ place_found ranges c.in_ok-places.places extent c.in_ok-places.ensures in
     adds_row (device_chunk ranges) extents i nothing c.args.found.now c.loop-extent.found c.put_unless.new.found
     (unless c.contains-is_kept.result c.row.result) c.loop-extent-test.true
-    (unless_same c.contains-is_kept.result test c.row.result (found 27 (extent.devid ∷ extent.offset ∷ [])) tests c.row.ensures)
+    (unless_same c.contains-is_kept.result test c.row.result (found kind.DeviceChunk (extent.devid ∷ extent.offset ∷ [])) tests c.row.ensures)
     c.loop-extent.invariant c.in_ok-put_unless.ensures

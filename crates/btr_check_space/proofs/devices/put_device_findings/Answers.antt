@@ -1,8 +1,8 @@
 use Rattle.std.proofs.Common.{◌≡◌, ◌++◌, List, filter_map, ap, ◌∙◌}
 use Rattle.std.proofs.lemmas.Result.{on_ok_weaker}
-use Rattle.btr_refs.proofs.Adding.{adds_then, adds_as}
-use Rattle.btr_refs.specs.Findings.{Adds}
-use Rattle.btr_refs.specs.declared.finding.Finding.{Finding}
+use Rattle.btr_findings.proofs.Adding.{adds_then, adds_as}
+use Rattle.btr_findings.specs.Findings.{Adds}
+use Rattle.btr_findings.specs.declared.finding.Finding.{Finding}
 use Rattle.btr_check_space.specs.Devices as words
 use Rattle.btr_check_space.specs.Devices.{chunk_device, device_chunk, device_used, unstated_used}
 use Rattle.btr_check_space.specs.declared.device_extent.DeviceExtent.{DeviceExtent}

@@ -1,5 +1,6 @@
 use Rattle.std.proofs.Common.{◌≡◌, ◌∷◌, [], eqb, get_or, ap, ◌∙◌}
-use Rattle.btr_refs.specs.Findings.{unless, found, shown_sum}
+use Rattle.btr_findings.specs.declared.kind.Kind.TheVariants as kind
+use Rattle.btr_findings.specs.Findings.{unless, found, shown_sum}
 use Rattle.btr_check_space.specs.Devices.{device_used, given_of, used_row}
 use Rattle.btr_check_space.specs.declared.stated_device.StatedDevice.{StatedDevice}
 use Rattle.btr_check_space.proofs.Put.{adds_row, unless_same}
@@ -15,7 +16,7 @@ loop-device-preserved c = λ extents given.
     let device : StatedDevice = get_or devices i nobody in
     let sum : c.given_at-sum.result ≡ given_of extents device.devid = c.given_at-sum.ensures ∙ given device.devid in
     let row : c.row.result ≡ used_row device.devid device.used (given_of extents device.devid) =
-    c.row.ensures ∙ ap (λ n. found 29 (device.devid ∷ device.used ∷ n ∷ [])) (c.shown.ensures ∙ ap shown_sum sum) in
+    c.row.ensures ∙ ap (λ n. found kind.DeviceUsed (device.devid ∷ device.used ∷ n ∷ [])) (c.shown.ensures ∙ ap shown_sum sum) in
     let tests : eqb c.from.result c.given_at-sum.result ≡ eqb device.used (given_of extents device.devid) =
     ap (λ n. eqb n c.given_at-sum.result) c.from.ensures ∙ ap (eqb device.used) sum in
     adds_row (device_used extents) devices i nobody c.args.found.now c.loop-device.found c.put_unless.new.found

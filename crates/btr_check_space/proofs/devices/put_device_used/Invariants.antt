@@ -1,5 +1,5 @@
 use Rattle.std.proofs.Common.{List, take, filter_map}
-use Rattle.btr_refs.specs.Findings.{Adds}
+use Rattle.btr_findings.specs.Findings.{Adds}
 use Rattle.btr_check_space.specs.Devices.{device_used}
 use Rattle.btr_check_space.specs.Given.{Given}
 use Rattle.btr_check_space.specs.declared.device_extent.DeviceExtent.{DeviceExtent}

@@ -1,5 +1,5 @@
 use Rattle.std.proofs.Common.{List, take, filter_map}
-use Rattle.btr_refs.specs.Findings.{Adds}
+use Rattle.btr_findings.specs.Findings.{Adds}
 use Rattle.btr_check_space.specs.Devices.{unstated_used}
 use Rattle.btr_check_space.specs.Given.{Given, Devids}
 use Rattle.btr_check_space.specs.declared.stated_device.StatedDevice.{StatedDevice}

@@ -1,6 +1,7 @@
 use Rattle.std.proofs.Common.{◌≡◌, ◌∷◌, [], ◌&&◌, eqb, get_or, ◌∙◌}
 use Rattle.std.specs.List.{list_any}
-use Rattle.btr_refs.specs.Findings.{unless, found}
+use Rattle.btr_findings.specs.declared.kind.Kind.TheVariants as kind
+use Rattle.btr_findings.specs.Findings.{unless, found}
 use Rattle.btr_check_space.specs.Groups.{chunk_group}
 use Rattle.btr_check_space.specs.declared.group.Group.{Group}
 use Rattle.btr_check_space.specs.declared.span.Span.{Span}
@@ -21,5 +22,5 @@ loop-chunk-preserved c =
     let tests : c.contains.result ≡ test = c.contains.ensures ∙ span_found groups c.in_ok-spans.spans chunk c.in_ok-spans.ensures in
     adds_row (chunk_group groups) chunks i nothing c.args.found.now c.loop-chunk.found c.put_unless.new.found (unless c.contains.result c.row.result)
     c.loop-chunk-test.true
-    (unless_same c.contains.result test c.row.result (found 24 (chunk.start ∷ [])) tests c.row.ensures)
+    (unless_same c.contains.result test c.row.result (found kind.ChunkGroup (chunk.start ∷ [])) tests c.row.ensures)
     c.loop-chunk.invariant c.in_ok-put_unless.ensures

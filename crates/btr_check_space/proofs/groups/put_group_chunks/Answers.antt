@@ -1,6 +1,7 @@
 use Rattle.std.proofs.Common.{◌≡◌, ◌∷◌, [], ◌&&◌, eqb, get_or, ◌∙◌}
 use Rattle.std.specs.List.{list_any}
-use Rattle.btr_refs.specs.Findings.{unless, found}
+use Rattle.btr_findings.specs.declared.kind.Kind.TheVariants as kind
+use Rattle.btr_findings.specs.Findings.{unless, found}
 use Rattle.btr_check_space.specs.Groups.{group_chunk}
 use Rattle.btr_check_space.specs.declared.group.Group.{Group}
 use Rattle.btr_check_space.specs.declared.span.Span.{Span}
@@ -21,5 +22,5 @@ loop-group-preserved c =
     let tests : c.contains.result ≡ test = c.contains.ensures ∙ range_found chunks c.in_ok-ranges.ranges group c.in_ok-ranges.ensures in
     adds_row (group_chunk chunks) groups i nothing c.args.found.now c.loop-group.found c.put_unless.new.found (unless c.contains.result c.row.result)
     c.loop-group-test.true
-    (unless_same c.contains.result test c.row.result (found 25 (group.start ∷ [])) tests c.row.ensures)
+    (unless_same c.contains.result test c.row.result (found kind.GroupChunk (group.start ∷ [])) tests c.row.ensures)
     c.loop-group.invariant c.in_ok-put_unless.ensures

@@ -1,5 +1,5 @@
 use Rattle.std.proofs.Common.{take, filter_map}
-use Rattle.btr_refs.specs.Findings.{Adds}
+use Rattle.btr_findings.specs.Findings.{Adds}
 use Rattle.btr_check_space.specs.Groups.{group_chunk}
 use Rattle.btr_check_space.proofs.groups.put_group_chunks.Given as goal
 

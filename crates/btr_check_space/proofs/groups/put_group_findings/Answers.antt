@@ -1,8 +1,8 @@
 use Rattle.std.proofs.Common.{◌≡◌, ◌++◌, List, map, filter_map, option_to_list, ap, ◌∙◌}
 use Rattle.std.proofs.lemmas.Result.{on_ok_weaker}
-use Rattle.btr_refs.proofs.Adding.{adds_then, adds_as}
-use Rattle.btr_refs.specs.Findings.{Adds}
-use Rattle.btr_refs.specs.declared.finding.Finding.{Finding}
+use Rattle.btr_findings.proofs.Adding.{adds_then, adds_as}
+use Rattle.btr_findings.specs.Findings.{Adds}
+use Rattle.btr_findings.specs.declared.finding.Finding.{Finding}
 use Rattle.btr_check_space.specs.Groups.{outside_group, neighbours, overlap, chunk_group, group_chunk, group_used, total_used}
 use Rattle.btr_check_space.specs.Orders.{chunk_span}
 use Rattle.btr_check_space.specs.declared.span.Span.{Span}

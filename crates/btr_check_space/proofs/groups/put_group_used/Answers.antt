@@ -1,5 +1,6 @@
 use Rattle.std.proofs.Common.{◌≡◌, ◌∷◌, [], eqb, get_or, ap, ◌∙◌}
-use Rattle.btr_refs.specs.Findings.{unless, found, shown_sum}
+use Rattle.btr_findings.specs.declared.kind.Kind.TheVariants as kind
+use Rattle.btr_findings.specs.Findings.{unless, found, shown_sum}
 use Rattle.btr_check_space.specs.Groups.{group_used, used_in}
 use Rattle.btr_check_space.specs.Sorted.{begun_in}
 use Rattle.btr_check_space.specs.declared.group.Group.{Group}
@@ -19,12 +20,12 @@ loop-group-preserved c =
     let begins = c.in_ok-begins.begins.items in
     let sum : c.sum_within-used.result ≡ used_in extents group =
     c.sum_within-used.ensures ∙ ap (λ list. begun_in list group) c.deref-in-loop-group.ensures.value ∙ used_is extents begins group c.in_ok-begins.ensures.same in
-    let row : c.row.result ≡ found 28 (group.start ∷ group.used ∷ shown_sum (used_in extents group) ∷ []) =
-    c.row.ensures ∙ ap (λ n. found 28 (group.start ∷ group.used ∷ n ∷ [])) (c.shown.ensures ∙ ap shown_sum sum) in
+    let row : c.row.result ≡ found kind.GroupUsed (group.start ∷ group.used ∷ shown_sum (used_in extents group) ∷ []) =
+    c.row.ensures ∙ ap (λ n. found kind.GroupUsed (group.start ∷ group.used ∷ n ∷ [])) (c.shown.ensures ∙ ap shown_sum sum) in
     let tests : eqb c.from.result c.sum_within-used.result ≡ eqb group.used (used_in extents group) =
     ap (λ n. eqb n c.sum_within-used.result) c.from.ensures ∙ ap (eqb group.used) sum in
     adds_row (group_used extents) groups i nothing c.args.found.now c.loop-group.found c.put_unless.new.found
     (unless (eqb c.from.result c.sum_within-used.result) c.row.result) c.loop-group-test.true
     (unless_same (eqb c.from.result c.sum_within-used.result) (eqb group.used (used_in extents group)) c.row.result
-    (found 28 (group.start ∷ group.used ∷ shown_sum (used_in extents group) ∷ [])) tests row)
+    (found kind.GroupUsed (group.start ∷ group.used ∷ shown_sum (used_in extents group) ∷ [])) tests row)
     c.loop-group.invariant c.in_ok-put_unless.ensures

@@ -1,7 +1,8 @@
 use Rattle.std.proofs.Common.{◌≡◌, ◌+◌, ◌∷◌, [], get_or, None, ap, ◌∙◌, arith}
 use Rattle.std.specs.List.{list_any}
-use Rattle.btr_refs.specs.Findings.{unless, found}
-use Rattle.btr_refs.specs.declared.extent.Extent.{Extent}
+use Rattle.btr_findings.specs.declared.kind.Kind.TheVariants as kind
+use Rattle.btr_findings.specs.Findings.{unless, found}
+use Rattle.btr_findings.specs.declared.extent.Extent.{Extent}
 use Rattle.btr_check_space.specs.Cover.{is_held}
 use Rattle.btr_check_space.specs.Groups.{lies_in, outside_group}
 use Rattle.btr_check_space.specs.Orders.{group_stretch}
@@ -29,5 +30,6 @@ loop-extent-preserved c =
     ∙ any_map (is_held extent.addr (extent.addr + extent.len)) group_stretch groups in
     adds_row (outside_group groups) extents i nothing c.args.found.now c.loop-extent.found c.put_unless.new.found
     (unless c.holds-is_kept.result c.row.result) c.loop-extent-test.true
-    (unless_same c.holds-is_kept.result (list_any (lies_in extent) groups) c.row.result (found 5 (extent.addr ∷ extent.len ∷ [])) tests c.row.ensures)
+    (unless_same c.holds-is_kept.result (list_any (lies_in extent) groups) c.row.result
+    (found kind.OutsideGroup (extent.addr ∷ extent.len ∷ [])) tests c.row.ensures)
     c.loop-extent.invariant c.in_ok-put_unless.ensures

@@ -1,9 +1,10 @@
 use Rattle.std.proofs.Common.{◌≡◌, ◌+◌, suc, ◌<◌, ◌≤◌, ◌∷◌, [], None, List, length, leb, get_or, take, filter_map, zip, sym, ap, ◌∙◌, arith}
 use Rattle.std.proofs.lemmas.List.{take_all}
 use Rattle.std.proofs.lemmas.Slice.Zip.{get_or-zip}
-use Rattle.btr_refs.proofs.Adding.{adds_as}
-use Rattle.btr_refs.specs.Findings.{unless, found}
-use Rattle.btr_refs.specs.declared.extent.Extent.{Extent}
+use Rattle.btr_findings.proofs.Adding.{adds_as}
+use Rattle.btr_findings.specs.declared.kind.Kind.TheVariants as kind
+use Rattle.btr_findings.specs.Findings.{unless, found}
+use Rattle.btr_findings.specs.declared.extent.Extent.{Extent}
 use Rattle.btr_check_space.specs.Groups.{neighbours, overlap}
 use Rattle.btr_check_space.proofs.Put.{adds_row, unless_same}
 use Rattle.btr_check_space.proofs.Elements.{default_free, zip_long, zip_short}
@@ -23,10 +24,12 @@ loop-extent-preserved c =
     let extent : Extent = get_or rest i nothing in
     let earlier : c.loop-extent.earlier.now ≡ get_or all i nothing = c.loop-extent.invariant.last nothing in
     let pair : get_or (zip all rest) i (nothing, nothing) ≡ (get_or all i nothing, extent) = get_or-zip all rest i (nothing, nothing) also below in
-    let row : c.row.result ≡ found 6 (extent.addr ∷ (get_or all i nothing).addr ∷ []) = c.row.ensures ∙ ap (λ (e : Extent). found 6 (extent.addr ∷ e.addr ∷ [])) earlier in
+    let row : c.row.result ≡ found kind.Overlap (extent.addr ∷ (get_or all i nothing).addr ∷ []) =
+    c.row.ensures ∙ ap (λ (e : Extent). found kind.Overlap (extent.addr ∷ e.addr ∷ [])) earlier in
     let tests : c.ends_by-is_kept.result ≡ leb ((get_or all i nothing).addr + (get_or all i nothing).len) extent.addr = c.ends_by-is_kept.ensures ∙ ap (λ (e : Extent). leb (e.addr + e.len) extent.addr) earlier in
     let rule : unless c.ends_by-is_kept.result c.row.result ≡ overlap (get_or (zip all rest) i (nothing, nothing)) =
-    unless_same c.ends_by-is_kept.result (leb ((get_or all i nothing).addr + (get_or all i nothing).len) extent.addr) c.row.result (found 6 (extent.addr ∷ (get_or all i nothing).addr ∷ [])) tests row ∙ ap overlap (sym pair) in
+    unless_same c.ends_by-is_kept.result (leb ((get_or all i nothing).addr + (get_or all i nothing).len) extent.addr) c.row.result
+    (found kind.Overlap (extent.addr ∷ (get_or all i nothing).addr ∷ [])) tests row ∙ ap overlap (sym pair) in
     record {
       last = λ d. default_free rest i nothing d below ∙ ap (λ n. get_or all n d) (sym one);
       found = adds_row overlap (zip all rest) i (nothing, nothing) c.args.found.now c.loop-extent.found c.put_unless.new.found

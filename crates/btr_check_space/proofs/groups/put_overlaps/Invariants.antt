@@ -1,6 +1,6 @@
 use Rattle.std.proofs.Common.{◌≡◌, ◌∷◌, take, zip, get_or, filter_map}
-use Rattle.btr_refs.specs.Findings.{Adds}
-use Rattle.btr_refs.specs.declared.extent.Extent.{Extent}
+use Rattle.btr_findings.specs.Findings.{Adds}
+use Rattle.btr_findings.specs.declared.extent.Extent.{Extent}
 use Rattle.btr_check_space.specs.Groups.{overlap}
 use Rattle.btr_check_space.proofs.groups.put_overlaps.Given as goal
 

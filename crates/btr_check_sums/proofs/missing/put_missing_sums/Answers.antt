@@ -1,4 +1,4 @@
-use Rattle.btr_refs.proofs.Adding.{adds_more_of}
+use Rattle.btr_findings.proofs.Adding.{adds_more_of}
 use Rattle.btr_check_sums.specs.Sums.{range_missing}
 use Rattle.btr_check_sums.specs.declared.used_range.UsedRange.{UsedRange}
 use Rattle.btr_check_sums.proofs.missing.put_missing_sums.Goals as goal

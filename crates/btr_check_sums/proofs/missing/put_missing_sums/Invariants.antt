@@ -1,6 +1,6 @@
 use Rattle.std.proofs.Common.{List, map, take, flat_map}
 use Rattle.btr_items.specs.declared.sum_run.SumRun.{SumRun}
-use Rattle.btr_refs.specs.Findings.{Adds}
+use Rattle.btr_findings.specs.Findings.{Adds}
 use Rattle.btr_check_space.specs.Cover.{HoldSame}
 use Rattle.btr_check_sums.specs.Sums.{run_stretch, range_missing}
 use Rattle.btr_check_sums.proofs.missing.put_missing_sums.Given as goal

@@ -1,7 +1,7 @@
 use Rattle.std.proofs.Common.{◌≤◌, length, take, flat_map, filter_map, ap, ◌∙◌}
 use Rattle.std.proofs.lemmas.List.{take_all}
 use Rattle.btr_items.specs.declared.sum_run.SumRun.{SumRun}
-use Rattle.btr_refs.proofs.Adding.{adds_as}
+use Rattle.btr_findings.proofs.Adding.{adds_as}
 use Rattle.btr_check_sums.specs.Sums.{sum_overlap, run_sectors, summed}
 use Rattle.btr_check_sums.proofs.Sectors.{rows_of}
 use Rattle.btr_check_sums.proofs.overlaps.put_overlaps.Goals as goal

@@ -1,8 +1,8 @@
 use Rattle.std.proofs.Common.{◌≡◌, ℕ, ◌+◌, Bool, filter_map, leb, ap, ◌∙◌}
 use Rattle.std.proofs.lemmas.Result.{on_ok_weaker}
-use Rattle.btr_refs.specs.declared.sector_rule.SectorRule.TheVariants.{Overlap}
-use Rattle.btr_refs.specs.Sectors.{sectors}
-use Rattle.btr_refs.proofs.Adding.{adds_as}
+use Rattle.btr_findings.specs.declared.sector_rule.SectorRule.TheVariants.{Overlap}
+use Rattle.btr_findings.specs.Sectors.{sectors}
+use Rattle.btr_findings.proofs.Adding.{adds_as}
 use Rattle.btr_check_sums.specs.Broken.{broken}
 use Rattle.btr_check_sums.specs.Ranks.{rank}
 use Rattle.btr_check_sums.specs.Sums.{run_sectors, sum_overlap}

@@ -1,6 +1,6 @@
 use Rattle.std.proofs.Common.{◌≡◌, ℕ, ◌+◌, ◌*◌, Bool, filter_map, ap, subst, arith}
-use Rattle.btr_refs.specs.Findings.{Adds}
-use Rattle.btr_refs.specs.Sectors.{sectors}
+use Rattle.btr_findings.specs.Findings.{Adds}
+use Rattle.btr_findings.specs.Sectors.{sectors}
 use Rattle.btr_check_sums.specs.Broken.{broken, broken_if}
 use Rattle.btr_check_sums.proofs.Breaking.{broken_more}
 use Rattle.btr_check_sums.proofs.sector_test.put_broken.Goals as goal

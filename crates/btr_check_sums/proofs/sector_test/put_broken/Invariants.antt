@@ -1,6 +1,6 @@
 use Rattle.std.proofs.Common.{◌-◌, ◌≤◌, filter_map}
-use Rattle.btr_refs.specs.Findings.{Adds}
-use Rattle.btr_refs.specs.Sectors.{sectors}
+use Rattle.btr_findings.specs.Findings.{Adds}
+use Rattle.btr_findings.specs.Sectors.{sectors}
 use Rattle.btr_check_sums.specs.Broken.{broken}
 use Rattle.btr_check_sums.proofs.sector_test.put_broken.Given as goal
 

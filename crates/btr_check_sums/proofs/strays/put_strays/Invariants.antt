@@ -1,5 +1,5 @@
 use Rattle.std.proofs.Common.{take, filter_map, flat_map}
-use Rattle.btr_refs.specs.Findings.{Adds}
+use Rattle.btr_findings.specs.Findings.{Adds}
 use Rattle.btr_check_sums.specs.Sums.{sum_stray, run_sectors}
 use Rattle.btr_check_sums.proofs.strays.put_strays.Given as goal
 

@@ -1,6 +1,6 @@
 use Rattle.std.proofs.Common.{filter_map}
 use Rattle.std.proofs.lemmas.Result.{on_ok_weaker}
-use Rattle.btr_refs.proofs.Adding.{adds_then}
+use Rattle.btr_findings.proofs.Adding.{adds_then}
 use Rattle.btr_check_sums.specs.Sums.{sum_overlap, sum_stray, summed}
 use Rattle.btr_check_sums.proofs.sums.put_sum_findings.Goals as goal
 

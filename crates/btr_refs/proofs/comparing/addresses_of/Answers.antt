@@ -1,5 +1,5 @@
 use Rattle.std.proofs.Common.{None}
-use Rattle.btr_refs.specs.declared.extent.Extent.{Extent}
+use Rattle.btr_findings.specs.declared.extent.Extent.{Extent}
 use Rattle.btr_refs.proofs.Rows.{address_more}
 use Rattle.btr_refs.proofs.comparing.addresses_of.Goals as goal
 

@@ -1,10 +1,9 @@
-use Rattle.std.proofs.Common.{◌++◌, List, ap, subst}
-use Rattle.std.specs.List.{list_any}
+use Rattle.std.proofs.Common.{◌++◌, List, subst}
+use Rattle.btr_findings.specs.Findings.{Adds}
+use Rattle.btr_findings.specs.declared.finding.Finding.{Finding}
+use Rattle.btr_findings.proofs.Adding.{adds_then, adds_just}
 use Rattle.btr_refs.specs.Counts.{RefCounts}
 use Rattle.btr_refs.specs.Differences.{count_findings, total_findings}
-use Rattle.btr_refs.specs.Findings.{Adds, is_same}
-use Rattle.btr_refs.specs.declared.finding.Finding.{Finding}
-use Rattle.btr_refs.proofs.Adding.{adds_then, adds_just}
 use Rattle.btr_refs.proofs.comparing.differences.Goals as goal
 
 pub returns : goal.returns

@@ -1,8 +1,8 @@
 use Rattle.std.proofs.Common.{[], subst}
+use Rattle.btr_findings.specs.Findings.{Adds, has}
+use Rattle.btr_findings.proofs.Adding.{on_ok}
 use Rattle.btr_refs.specs.Differences.{PutsRefs, ref_count, count_findings}
 use Rattle.btr_refs.specs.Counts.{RefCounts}
-use Rattle.btr_refs.specs.Findings.{Adds, has}
-use Rattle.btr_refs.proofs.Adding.{on_ok}
 use Rattle.btr_refs.proofs.Rows.{count_rows}
 use Rattle.btr_refs.proofs.comparing.put_count_findings.Goals as goal
 

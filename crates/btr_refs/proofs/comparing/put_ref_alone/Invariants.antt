@@ -1,10 +1,10 @@
 use Rattle.std.proofs.Common.{◌≡◌, ◌||◌, List}
 use Rattle.std.specs.Map.{keys_of}
 use Rattle.std.specs.List.{list_any}
-use Rattle.btr_refs.specs.declared.extent.Extent.{Extent}
-use Rattle.btr_refs.specs.declared.finding.Finding.{Finding}
-use Rattle.btr_refs.specs.Differences.{is_row, ref_alone, Addresses}
-use Rattle.btr_refs.specs.Findings.{has}
+use Rattle.btr_findings.specs.declared.finding.Finding.{Finding}
+use Rattle.btr_findings.specs.Findings.{is_row, has}
+use Rattle.btr_findings.specs.declared.extent.Extent.{Extent}
+use Rattle.btr_refs.specs.Differences.{ref_alone, Addresses}
 use Rattle.btr_refs.proofs.comparing.put_ref_alone.Given as goal
 
 -- what is left to be put, and what was put, are all rows

@@ -1,9 +1,9 @@
 use Rattle.std.proofs.Common.{◌≡◌, ◌||◌}
 use Rattle.std.specs.Map.{keys_of}
 use Rattle.std.specs.List.{list_any}
-use Rattle.btr_refs.specs.declared.finding.Finding.{Finding}
-use Rattle.btr_refs.specs.Differences.{is_row, ref_count}
-use Rattle.btr_refs.specs.Findings.{has}
+use Rattle.btr_findings.specs.declared.finding.Finding.{Finding}
+use Rattle.btr_findings.specs.Findings.{is_row, has}
+use Rattle.btr_refs.specs.Differences.{ref_count}
 use Rattle.btr_refs.proofs.comparing.put_ref_counts.Given as goal
 
 -- what is left to be put, and what was put, are all rows

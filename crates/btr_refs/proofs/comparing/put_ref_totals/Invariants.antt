@@ -1,8 +1,8 @@
 use Rattle.std.proofs.Common.{◌≡◌, ◌||◌, take}
 use Rattle.std.specs.List.{list_any}
-use Rattle.btr_refs.specs.declared.finding.Finding.{Finding}
-use Rattle.btr_refs.specs.Differences.{is_row, ref_total}
-use Rattle.btr_refs.specs.Findings.{has}
+use Rattle.btr_findings.specs.declared.finding.Finding.{Finding}
+use Rattle.btr_findings.specs.Findings.{is_row, has}
+use Rattle.btr_refs.specs.Differences.{ref_total}
 use Rattle.btr_refs.proofs.comparing.put_ref_totals.Given as goal
 
 -- the rows of the extents so far

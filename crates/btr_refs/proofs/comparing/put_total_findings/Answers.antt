@@ -1,9 +1,9 @@
 use Rattle.std.proofs.Common.{[], List, subst}
+use Rattle.btr_findings.specs.Findings.{Adds, has}
+use Rattle.btr_findings.proofs.Adding.{on_ok}
+use Rattle.btr_findings.specs.declared.extent.Extent.{Extent}
 use Rattle.btr_refs.specs.Differences.{PutsRefs, ref_alone, total_findings}
 use Rattle.btr_refs.specs.Counts.{RefCounts}
-use Rattle.btr_refs.specs.Findings.{Adds, has}
-use Rattle.btr_refs.specs.declared.extent.Extent.{Extent}
-use Rattle.btr_refs.proofs.Adding.{on_ok}
 use Rattle.btr_refs.proofs.Rows.{total_rows}
 use Rattle.btr_refs.proofs.comparing.put_total_findings.Goals as goal
 

@@ -1,0 +1,60 @@
+use crate::{Finding, Kind};
+
+/// Which rule a sector of data breaks.
+#[derive(Clone, Copy, Debug, PartialEq, Eq)]
+pub enum SectorRule {
+    /// An inode of a tree uses it, and it has no checksum.
+    Missing {
+        /// The tree.
+        tree: u64,
+        /// The inode.
+        inode: u64,
+    },
+    /// It has more than one checksum.
+    Overlap,
+    /// It has a checksum, and lies in no data extent.
+    Stray,
+    /// It has a checksum, and is lost.
+    Lost,
+}
+
+impl SectorRule {
+    ghost use Rattle.std.specs.Prelude.{◌≡◌};
+    ghost use Rattle.btr_findings.specs.Runs.{is_rule};
+    ghost use Rattle.btr_findings.specs.Sectors.{sector_finding};
+
+    /// The finding on the sector at an address.
+    pub fn finding(self, addr: u64) -> Finding
+        ensures { result ≡ sector_finding self addr }
+    {
+        let (kind, n) = match self {
+            SectorRule::Missing { tree, inode } => (
+                Kind::SumMissing,
+                [tree, inode, addr, 0, 0, 0, 0],
+            ),
+            SectorRule::Overlap => (Kind::SumOverlap, [addr, 0, 0, 0, 0, 0, 0]),
+            SectorRule::Stray => (Kind::SumStray, [addr, 0, 0, 0, 0, 0, 0]),
+            SectorRule::Lost => (Kind::DataLost, [addr, 0, 0, 0, 0, 0, 0]),
+        };
+        Finding { kind, n }
+    }
+
+    /// Whether the two are one rule.
+    pub(crate) fn is(self, other: SectorRule) -> bool
+        ensures { result ≡ is_rule self other }
+    {
+        match (self, other) {
+            (
+                SectorRule::Missing { tree, inode },
+                SectorRule::Missing {
+                    tree: other_tree,
+                    inode: other_inode,
+                },
+            ) => tree == other_tree && inode == other_inode,
+            (SectorRule::Overlap, SectorRule::Overlap)
+            | (SectorRule::Stray, SectorRule::Stray)
+            | (SectorRule::Lost, SectorRule::Lost) => true,
+            _ => false,
+        }
+    }
+}

@@ -1,7 +1,0 @@
-use Rattle.btr_refs.specs.Findings.{Adds}
-use Rattle.btr_refs.specs.Sectors.{sector_findings}
-use Rattle.btr_refs.proofs.found.put_each.Given as goal
-
--- the findings on the sectors so far
-abbrev pub invariant-loop-i : goal.invariant-loop-i
-invariant-loop-i l = Adds (sector_findings l.rule l.start l.i) l.fn.found l.found
