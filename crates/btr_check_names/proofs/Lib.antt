@@ -1,12 +1,15 @@
 pub mod Claims
-pub mod Pairing
+pub mod Counting
+pub mod Differing
+pub mod Halves
 pub mod Packing
 pub mod Reading
 pub mod Joining
 pub mod Looking
-pub mod MetEntries
 pub mod MetInodes
 pub mod MetNames
+pub mod Owing
+pub mod Settling
 pub mod Slotted
 pub mod Meeting
 pub mod Together

@@ -1,8 +1,9 @@
 -- Inodes, one after another, and what is counted of each one's items.
-use Rattle.std.proofs.Common.{◌≡◌, ℕ, ◌+◌, ◌*◌, ◌<◌, Bool, true, false, not, cond, if◌then◌else◌, ◌==◌, ◌&&◌, ◌||◌, ◌⊎◌, nat_le, List, [], ◌∷◌, ◌++◌, length}
-use Rattle.std.proofs.Common.{map, filter, All, Option, Some, None, inl, inr, refl, sym, ap, ◌∙◌, subst, true≢false, eqb-true, eq-eqb, ne_eqb, leb-false}
+use Rattle.std.proofs.Common.{◌≡◌, ℕ, ◌+◌, ◌*◌, ◌≤◌, ◌<◌, Bool, true, false, not, cond, if◌then◌else◌, ◌==◌, ◌&&◌, ◌||◌, ◌⊎◌, nat_le, List, [], ◌∷◌, ◌++◌}
+use Rattle.std.proofs.Common.{length, All, Option, Some, None, inl, inr, refl, sym, ap, ◌∙◌, subst, true≢false, eqb-true, eq-eqb, ne_eqb, leb-false}
 use Rattle.std.proofs.Common.{lt_trans, add-zero, arith}
-use Rattle.std.proofs.lemmas.List.Elements.{All-nil, All-push, All-weaker}
+use Rattle.std.proofs.lemmas.List.Elements.{All-nil, All-push, All-weaker, recursion_from_All}
+use Rattle.std.proofs.lemmas.List.Folds.{list_any-append, list_any_none}
 use Rattle.std.proofs.lemmas.List.Sums.{sum_by_push}
 use Rattle.std.specs.List.{AllByRecursion, list_any}
 use Rattle.std.specs.BTreeMap.{is_at}
@@ -14,42 +15,63 @@ use Rattle.std.specs.declared.cmp.Ordering.TheVariants.{Less, Equal, Greater}
 use Rattle.btr_check_names.specs.declared.current.Current.{Current}
 use Rattle.btr_check_names.specs.declared.inode_at.InodeAt.{InodeAt}
 use Rattle.btr_check_names.specs.Entry.{Entry, NameRef}
+use Rattle.btr_check_names.specs.Halves.{format_at, is_gone_in}
 use Rattle.btr_check_names.specs.Inodes.{Inodes, begun_with, is_counted, last_counted, last_format, may_follow, is_gone, is_last, last_linked, last_named}
-use Rattle.btr_check_names.specs.Inodes.{with_unlinked, linked, named, are_settled}
-use Rattle.btr_check_names.specs.Names.{fits_mode, format_of, is_among, is_removed, is_unlinked, links_of, mode_of_kind, names_size, removed_dirs}
+use Rattle.btr_check_names.specs.Inodes.{with_unlinked, are_settled}
+use Rattle.btr_check_names.specs.Names.{Names, format_of, is_among, is_unlinked, links_of, names_size, orphan_kept}
+use Rattle.btr_check_names.specs.Settled.{counted_in}
 use Rattle.btr_check_names.proofs.Claims.{number_is}
-use Rattle.btr_check_names.proofs.MetEntries.{IsGone, any_left, any_right, any_head}
-use Rattle.btr_check_names.proofs.Pairing.{both, is_not}
+use Rattle.btr_check_names.proofs.Counting.{both, is_not, or_left, or_right, sum_none}
 
--- an inode states what its references and the names in it are
-abbrev counted_of : List Entry → List NameRef → InodeAt → Current
-counted_of indexed refs at = record { at = at; links = links_of refs at.number; names = names_size indexed at.number }
+-- names with some more of each
+abbrev pub add_inodes : Names → List InodeAt → Names
+add_inodes n more = record n { inodes = n.inodes ++ more }
 
-abbrev pub IsCounted : List Entry → List NameRef → InodeAt → Type 0
-IsCounted indexed refs at = is_counted (counted_of indexed refs at) ≡ true
+abbrev pub add_indexed : Names → List Entry → Names
+add_indexed n more = record n { indexed = n.indexed ++ more }
 
-abbrev IsBefore : ℕ → List Entry → List NameRef → InodeAt → Type 0
-IsBefore number indexed refs at = (at.number < number) × IsCounted indexed refs at
+abbrev pub add_hashed : Names → List Entry → Names
+add_hashed n more = record n { hashed = n.hashed ++ more }
+
+abbrev pub add_refs : Names → List NameRef → Names
+add_refs n more = record n { refs = n.refs ++ more }
+
+abbrev pub without_orphans : Names → Names
+without_orphans n = record n { orphans = [] }
+
+abbrev pub add_orphans : Names → List ℕ → Names
+add_orphans n more = record n { orphans = n.orphans ++ more }
+
+-- an inode of a lower number, which states what there is of it
+abbrev IsBefore : ℕ → Names → InodeAt → Type 0
+IsBefore number names at = (at.number < number) × (is_counted (counted_in names at) ≡ true)
+
+-- all that names say is of inodes below a number
+pub record AreBelow (number : ℕ) (names : Names) : Type 0 where
+  pub indexed : All (λ (e : Entry). e.dir < number) names.indexed
+  pub hashed : All (λ (e : Entry). e.dir < number) names.hashed
+  pub refs : All (λ (r : NameRef). r.inode < number) names.refs
 
 -- the last inode: those before it have lower numbers and state what there is of them; of higher ones
 -- there is nothing, and of it what was counted
-pub record IsLast (current : Current) (inodes : List InodeAt) (indexed : List Entry) (refs : List NameRef) : Type 0 where
+pub record IsLast (current : Current) (names : Names) : Type 0 where
   pub front : List InodeAt
-  pub is : inodes ≡ front ++ current.at ∷ []
-  pub before : All (IsBefore current.at.number indexed refs) front
-  pub above : (n : ℕ) → current.at.number < n → (links_of refs n ≡ 0) × (names_size indexed n ≡ 0)
-  pub links : current.links ≡ links_of refs current.at.number
-  pub names : current.names ≡ names_size indexed current.at.number
+  pub is : names.inodes ≡ front ++ current.at ∷ []
+  pub before : All (IsBefore current.at.number names) front
+  pub none_above : AreBelow (current.at.number + 1) names
+  pub links : current.links ≡ links_of names.refs current.at.number
+  pub lengths : current.names ≡ names_size names.indexed current.at.number
 
 -- before the first inode there is nothing
-pub record NothingYet (some_inodes : List InodeAt) (some_indexed : List Entry) (some_refs : List NameRef) : Type 0 where
-  pub inodes : some_inodes ≡ []
-  pub indexed : some_indexed ≡ []
-  pub refs : some_refs ≡ []
+pub record NothingYet (names : Names) : Type 0 where
+  pub inodes : names.inodes ≡ []
+  pub indexed : names.indexed ≡ []
+  pub hashed : names.hashed ≡ []
+  pub refs : names.refs ≡ []
 
-abbrev pub LastMet : Option Current → List InodeAt → List Entry → List NameRef → Type 0
-LastMet None inodes indexed refs = NothingYet inodes indexed refs
-LastMet (Some current) inodes indexed refs = IsLast current inodes indexed refs
+abbrev pub LastMet : Option Current → Names → Type 0
+LastMet None names = NothingYet names
+LastMet (Some current) names = IsLast current names
 
 -- a number is one of these
 abbrev pub IsIn : List ℕ → ℕ → Type 0
@@ -58,124 +80,200 @@ IsIn (x ∷ xs) n = (x ≡ n) ⊎ IsIn xs n
 
 -- an inode has links, or waits for an orphan item, or has one
 abbrev pub IsKept : List ℕ → List ℕ → InodeAt → Type 0
-IsKept unlinked orphans at = ((at.inode.nlink == 0) ≡ false) ⊎ (IsIn unlinked at.number ⊎ (list_any (λ number. at.number == number) orphans ≡ true))
-
-pub no_last : LastMet None [] [] []
-no_last = record { inodes = refl; indexed = refl; refs = refl }
+IsKept unlinked orphans at = ((at.inode.nlink == 0) ≡ false) ⊎ (IsIn unlinked at.number ⊎ (is_among orphans at.number ≡ true))
 
 below_from : (a b : ℕ) → not (nat_le b a) ≡ true → a < b
 below_from a b h = grind (arith, leb-false)
 
-other_number : (a b : ℕ) → a < b → (b == a) ≡ false
-other_number a b below = ne_eqb b a (λ same. absurd (omega arith))
+above_number : (a b : ℕ) → a < b → (b == a) ≡ false
+above_number a b below = ne_eqb b a (λ same. absurd (omega arith))
+
+below_number : (a b : ℕ) → a < b → (a == b) ≡ false
+below_number a b below = ne_eqb a b (λ same. absurd (omega arith))
+
+below_more : (a b : ℕ) (names : Names) → a ≤ b → AreBelow a names → AreBelow b names
+below_more a b names more below = record {
+  indexed = All-weaker (λ (e : Entry). e.dir < a) (λ e. e.dir < b) (λ e h. omega arith) names.indexed below.indexed;
+  hashed = All-weaker (λ (e : Entry). e.dir < a) (λ e. e.dir < b) (λ e h. omega arith) names.hashed below.hashed;
+  refs = All-weaker (λ (r : NameRef). r.inode < a) (λ r. r.inode < b) (λ r h. omega arith) names.refs below.refs;
+}
+
+-- all that came is of inodes below the one that comes
+pub below_next : (last : Option Current) (names : Names) (number : ℕ) → may_follow last number ≡ true → LastMet last names → AreBelow number names
+below_next None names number may nothing =
+    let entry : Entry → Type 0 = λ e. e.dir < number in
+    let ref : NameRef → Type 0 = λ r. r.inode < number in
+    record {
+      indexed = subst (All entry) (sym nothing.indexed) (All-nil entry);
+      hashed = subst (All entry) (sym nothing.hashed) (All-nil entry);
+      refs = subst (All ref) (sym nothing.refs) (All-nil ref);
+    }
+below_next (Some current) names number may here =
+    let below = below_from current.at.number number (both (not (nat_le number current.at.number)) (is_counted current) may).0 in
+    below_more (current.at.number + 1) number names (omega arith) here.none_above
 
 -- an inode comes behind the last one
-pub inode_comes : (last : Option Current) (at : InodeAt) (inodes : List InodeAt) (indexed : List Entry) (refs : List NameRef)
-    → may_follow last at.number ≡ true → LastMet last inodes indexed refs → LastMet (Some (begun_with at)) (inodes ++ at ∷ []) indexed refs
-inode_comes None at inodes indexed refs may nothing = record {
-  front = [];
-  is = ap (λ l. l ++ at ∷ []) nothing.inodes;
-  before = All-nil (IsBefore at.number indexed refs);
-  above = λ n below. (ap (λ l. links_of l n) nothing.refs, ap (λ l. names_size l n) nothing.indexed);
-  links = sym (ap (λ l. links_of l at.number) nothing.refs);
-  names = sym (ap (λ l. names_size l at.number) nothing.indexed);
-}
-inode_comes (Some current) at inodes indexed refs may here =
-    let two = both (not (nat_le at.number current.at.number)) (is_counted current) may in
-    let below = below_from current.at.number at.number two.0 in
-    let counted : is_counted (counted_of indexed refs current.at) ≡ true = (λ i. is_counted (record { at = current.at; links = sym here.links i; names = sym here.names i })) ∙ two.1 in
-    let above = here.above at.number below in
+pub inode_comes : (last : Option Current) (at : InodeAt) (names : Names) → may_follow last at.number ≡ true → LastMet last names
+    → LastMet (Some (begun_with at)) (add_inodes names (at ∷ []))
+inode_comes last at names may here =
+    let below = below_next last names at.number may here in
+    let number = at.number in
     record {
-      front = inodes;
+      front = names.inodes;
       is = refl;
-      before = subst (All (IsBefore at.number indexed refs)) (sym here.is)
-          (All-push (IsBefore at.number indexed refs) here.front current.at
-          (All-weaker (IsBefore current.at.number indexed refs) (IsBefore at.number indexed refs) (λ one h. (lt_trans h.0 below, h.1)) here.front here.before)
-          (below, counted));
-      above = λ n over. here.above n (lt_trans below over);
-      links = sym above.0;
-      names = sym above.1;
+      before = all_before last here may;
+      none_above = below_more number (number + 1) (add_inodes names (at ∷ [])) (omega arith)
+          (record { indexed = below.indexed; hashed = below.hashed; refs = below.refs });
+      links = sym (sum_none (λ (r : NameRef). cond (r.inode == number) 1 0) names.refs
+          (All-weaker (λ (r : NameRef). r.inode < number) (λ r. ◌≡◌ {A = ℕ} (cond (r.inode == number) 1 0) 0)
+          (λ r h. ap (λ b. cond b 1 0) (below_number r.inode number h)) names.refs below.refs));
+      lengths = sym (sum_none (λ (e : Entry). cond (e.dir == number) (2 * length e.name) 0) names.indexed
+          (All-weaker (λ (e : Entry). e.dir < number) (λ e. cond (e.dir == number) (2 * length e.name) 0 ≡ 0)
+          (λ e h. ap (λ b. cond b (2 * length e.name) 0) (below_number e.dir number h)) names.indexed below.indexed));
     }
+  where
+    all_before : (o : Option Current) → LastMet o names → may_follow o at.number ≡ true → All (IsBefore at.number names) names.inodes
+    all_before None nothing may = subst (All (IsBefore at.number names)) (sym nothing.inodes) (All-nil (IsBefore at.number names))
+    all_before (Some current) here may =
+        let two = both (not (nat_le at.number current.at.number)) (is_counted current) may in
+        let under = below_from current.at.number at.number two.0 in
+        subst (All (IsBefore at.number names)) (sym here.is)
+        (All-push (IsBefore at.number names) here.front current.at
+        (All-weaker (IsBefore current.at.number names) (IsBefore at.number names) (λ one h. (lt_trans h.0 under, h.1)) here.front here.before)
+        (under, (λ i. is_counted (record { at = current.at; links = sym here.links i; names = sym here.lengths i })) ∙ two.1))
 
--- one reference more, and one name more
-links_more : (refs : List NameRef) (ref : NameRef) (n : ℕ) → links_of (refs ++ ref ∷ []) n ≡ links_of refs n + cond (ref.inode == n) 1 0
-links_more refs ref n = sum_by_push (λ (r : NameRef). cond (r.inode == n) 1 0) refs ref
-
-links_other : (refs : List NameRef) (ref : NameRef) (n : ℕ) → (ref.inode == n) ≡ false → links_of (refs ++ ref ∷ []) n ≡ links_of refs n
-links_other refs ref n other = links_more refs ref n ∙ ap (λ b. links_of refs n + cond b 1 0) other ∙ add-zero (links_of refs n)
-
-names_more : (indexed : List Entry) (entry : Entry) (n : ℕ) → names_size (indexed ++ entry ∷ []) n ≡ names_size indexed n
-    + cond (entry.dir == n) (2 * length entry.name) 0
-names_more indexed entry n = sum_by_push (λ (e : Entry). cond (e.dir == n) (2 * length e.name) 0) indexed entry
-
-names_other : (indexed : List Entry) (entry : Entry) (n : ℕ) → (entry.dir == n) ≡ false → names_size (indexed ++ entry ∷ []) n ≡ names_size indexed n
-names_other indexed entry n other = names_more indexed entry n ∙ ap (λ b. names_size indexed n + cond b (2 * length entry.name) 0) other
-    ∙ add-zero (names_size indexed n)
-
-pub ref_comes : (last : Option Current) (ref : NameRef) (inodes : List InodeAt) (indexed : List Entry) (refs : List NameRef) → is_last ref.inode last
-    ≡ true → LastMet last inodes indexed refs → LastMet (last_linked last) inodes indexed (refs ++ ref ∷ [])
-ref_comes None ref inodes indexed refs is nothing = absurd (true≢false (sym is))
-ref_comes (Some current) ref inodes indexed refs is here =
+-- a reference of the last inode comes
+pub ref_comes : (last : Option Current) (ref : NameRef) (names : Names) → is_last ref.inode last ≡ true → LastMet last names
+    → LastMet (last_linked last) (add_refs names (ref ∷ []))
+ref_comes None ref names is nothing = absurd (true≢false (sym is))
+ref_comes (Some current) ref names is here =
     let same : current.at.number ≡ ref.inode = eqb-true current.at.number ref.inode is in
+    let more : (n : ℕ) → links_of (names.refs ++ ref ∷ []) n ≡ links_of names.refs n + cond (ref.inode == n) 1 0 =
+    λ n. sum_by_push (λ (r : NameRef). cond (r.inode == n) 1 0) names.refs ref in
+    let other : (n : ℕ) → (ref.inode == n) ≡ false → links_of (names.refs ++ ref ∷ []) n ≡ links_of names.refs n =
+    λ n h. more n ∙ ap (λ b. links_of names.refs n + cond b 1 0) h ∙ add-zero (links_of names.refs n) in
     record {
       front = here.front;
       is = here.is;
-      before = All-weaker (IsBefore current.at.number indexed refs) (IsBefore current.at.number indexed (refs ++ ref ∷ []))
-          (λ one h. (h.0, ap (λ n. is_counted (record { at = one; links = n; names = names_size indexed one.number })) (links_other refs ref one.number (other_number one.number ref.inode (subst (λ m. one.number < m) same h.0))) ∙ h.1))
-          here.front here.before;
-      above = λ n over. (links_other refs ref n (ne_eqb ref.inode n (λ e. absurd (omega arith))) ∙ (here.above n over).0, (here.above n over).1);
-      links = ap (λ n. n + 1) here.links ∙ sym (links_more refs ref current.at.number
-          ∙ ap (λ b. links_of refs current.at.number + cond b 1 0) (eq-eqb ref.inode current.at.number (sym same)));
-      names = here.names;
+      before = All-weaker (IsBefore current.at.number names) (IsBefore current.at.number (add_refs names (ref ∷ [])))
+          (λ one h. (
+            h.0,
+            ap (λ n. is_counted (record { at = one; links = n; names = names_size names.indexed one.number }))
+                (other one.number (above_number one.number ref.inode (subst (λ m. one.number < m) same h.0))) ∙ h.1,
+          )) here.front here.before;
+      none_above = record {
+        indexed = here.none_above.indexed;
+        hashed = here.none_above.hashed;
+        refs = All-push (λ (r : NameRef). r.inode < current.at.number + 1) names.refs ref here.none_above.refs (omega arith);
+      };
+      links = ap (λ n. n + 1) here.links ∙ sym (more current.at.number
+          ∙ ap (λ b. links_of names.refs current.at.number + cond b 1 0) (eq-eqb ref.inode current.at.number (sym same)));
+      lengths = here.lengths;
     }
 
-pub name_comes : (last : Option Current) (entry : Entry) (inodes : List InodeAt) (indexed : List Entry) (refs : List NameRef) → is_last entry.dir last
-    ≡ true → LastMet last inodes indexed refs → LastMet (last_named last entry.name) inodes (indexed ++ entry ∷ []) refs
-name_comes None entry inodes indexed refs is nothing = absurd (true≢false (sym is))
-name_comes (Some current) entry inodes indexed refs is here =
+-- an entry at an index comes, of the last inode
+pub name_comes : (last : Option Current) (entry : Entry) (names : Names) → is_last entry.dir last ≡ true → LastMet last names
+    → LastMet (last_named last entry.name) (add_indexed names (entry ∷ []))
+name_comes None entry names is nothing = absurd (true≢false (sym is))
+name_comes (Some current) entry names is here =
+    let same : current.at.number ≡ entry.dir = eqb-true current.at.number entry.dir is in
+    let long = 2 * length entry.name in
+    let more : (n : ℕ) → names_size (names.indexed ++ entry ∷ []) n ≡ names_size names.indexed n + cond (entry.dir == n) (2 * length entry.name) 0 =
+    λ n. sum_by_push (λ (e : Entry). cond (e.dir == n) (2 * length e.name) 0) names.indexed entry in
+    let other : (n : ℕ) → (entry.dir == n) ≡ false → names_size (names.indexed ++ entry ∷ []) n ≡ names_size names.indexed n =
+    λ n h. more n ∙ ap (λ b. names_size names.indexed n + cond b (2 * length entry.name) 0) h ∙ add-zero (names_size names.indexed n) in
+    record {
+      front = here.front;
+      is = here.is;
+      before = All-weaker (IsBefore current.at.number names) (IsBefore current.at.number (add_indexed names (entry ∷ [])))
+          (λ one h. (
+            h.0,
+            ap (λ n. is_counted (record { at = one; links = links_of names.refs one.number; names = n }))
+                (other one.number (above_number one.number entry.dir (subst (λ m. one.number < m) same h.0))) ∙ h.1,
+          )) here.front here.before;
+      none_above = record {
+        indexed = All-push (λ (e : Entry). e.dir < current.at.number + 1) names.indexed entry here.none_above.indexed (omega arith);
+        hashed = here.none_above.hashed;
+        refs = here.none_above.refs;
+      };
+      links = here.links;
+      lengths = ap (λ n. n + long) here.lengths ∙ sym (more current.at.number
+          ∙ ap (λ b. names_size names.indexed current.at.number + cond b long 0) (eq-eqb entry.dir current.at.number (sym same)));
+    }
+
+-- an entry under a hash comes, of the last inode
+pub hash_comes : (last : Option Current) (entry : Entry) (names : Names) → is_last entry.dir last ≡ true → LastMet last names
+    → LastMet last (add_hashed names (entry ∷ []))
+hash_comes None entry names is nothing = absurd (true≢false (sym is))
+hash_comes (Some current) entry names is here =
     let same : current.at.number ≡ entry.dir = eqb-true current.at.number entry.dir is in
     record {
       front = here.front;
       is = here.is;
-      before = All-weaker (IsBefore current.at.number indexed refs) (IsBefore current.at.number (indexed ++ entry ∷ []) refs)
-          (λ one h. (h.0, ap (λ n. is_counted (record { at = one; links = links_of refs one.number; names = n })) (names_other indexed entry one.number (other_number one.number entry.dir (subst (λ m. one.number < m) same h.0))) ∙ h.1))
-          here.front here.before;
-      above = λ n over. ((here.above n over).0, names_other indexed entry n (ne_eqb entry.dir n (λ e. absurd (omega arith))) ∙ (here.above n over).1);
+      before = here.before;
+      none_above = record {
+        indexed = here.none_above.indexed;
+        hashed = All-push (λ (e : Entry). e.dir < current.at.number + 1) names.hashed entry here.none_above.hashed (omega arith);
+        refs = here.none_above.refs;
+      };
       links = here.links;
-      names = ap (λ n. n + 2 * length entry.name) here.names
-          ∙ sym (names_more indexed entry current.at.number ∙ ap (λ b. names_size indexed current.at.number + cond b (2 * length entry.name) 0)
-          (eq-eqb entry.dir current.at.number (sym same)));
+      lengths = here.lengths;
     }
 
 -- at the end each inode states what there is of it
-pub all_counted : (last : Option Current) (inodes : List InodeAt) (indexed : List Entry) (refs : List NameRef) → last_counted last ≡ true
-    → LastMet last inodes indexed refs → All (IsCounted indexed refs) inodes
-all_counted None inodes indexed refs counted nothing = subst (All (IsCounted indexed refs)) (sym nothing.inodes) (All-nil (IsCounted indexed refs))
-all_counted (Some current) inodes indexed refs counted here =
-    subst (All (IsCounted indexed refs)) (sym here.is)
-    (All-push (IsCounted indexed refs) here.front current.at
-    (All-weaker (IsBefore current.at.number indexed refs) (IsCounted indexed refs) (λ one h. h.1) here.front here.before)
-    ((λ i. is_counted (record { at = current.at; links = sym here.links i; names = sym here.names i })) ∙ counted))
+pub all_counted : (last : Option Current) (names : Names) → last_counted last ≡ true → LastMet last names
+    → All (λ at. is_counted (counted_in names at) ≡ true) names.inodes
+all_counted None names counted nothing =
+    let P : InodeAt → Type 0 = λ at. is_counted (counted_in names at) ≡ true in
+    subst (All P) (sym nothing.inodes) (All-nil P)
+all_counted (Some current) names counted here =
+    let P : InodeAt → Type 0 = λ at. is_counted (counted_in names at) ≡ true in
+    subst (All P) (sym here.is)
+    (All-push P here.front current.at (All-weaker (IsBefore current.at.number names) P (λ one h. h.1) here.front here.before)
+    ((λ i. is_counted (record { at = current.at; links = sym here.links i; names = sym here.lengths i })) ∙ counted))
 
--- the last inode is the one that a claim of its reference leads to
-pub last_fits : (last : Option Current) (ref : NameRef) (inodes : List InodeAt) (indexed : List Entry) (refs : List NameRef) → is_last ref.inode last
-    ≡ true → LastMet last inodes indexed refs
-    → (e : Entry) → e.location.objectid ≡ ref.inode → mode_of_kind e.kind ≡ last_format last → list_any (fits_mode e) inodes ≡ true
-last_fits None ref inodes indexed refs is nothing e to mode = absurd (true≢false (sym is))
-last_fits (Some current) ref inodes indexed refs is here e to mode =
-    let same : current.at.number ≡ ref.inode = eqb-true current.at.number ref.inode is in
-    let number = eq-eqb e.location.objectid current.at.number (to ∙ sym same) in
-    let format = eq-eqb (mode_of_kind e.kind) (format_of current.at.inode) mode in
-    ap (list_any (fits_mode e)) here.is ∙ any_right (fits_mode e) here.front (current.at ∷ [])
-    (any_head (fits_mode e) current.at [] (λ i. number i && format i))
+-- the kind in the mode of the last of some inodes, and of those before one more
+format_last : (front : List InodeAt) (at : InodeAt) → AllByRecursion (λ (one : InodeAt). one.number < at.number) front
+    → format_at (front ++ at ∷ []) at.number ≡ format_of at.inode
+format_last [] at all = ap (λ b. if b then format_of at.inode else 0) (eq-eqb at.number at.number refl)
+format_last (x ∷ xs) at all =
+    ap (λ b. if b then format_of x.inode else format_at (xs ++ at ∷ []) at.number) (below_number x.number at.number all.0) ∙ format_last xs at all.1
 
--- a directory without links is there where it is the last inode
-pub gone_there : (last : Option Current) (dir : ℕ) (inodes : List InodeAt) (indexed : List Entry) (refs : List NameRef) → LastMet last inodes indexed refs
-    → is_gone dir last ≡ true → IsGone inodes dir
-gone_there None dir inodes indexed refs nothing is = absurd (true≢false (sym is))
-gone_there (Some current) dir inodes indexed refs here is =
+pub format_before : (inodes : List InodeAt) (at : InodeAt) (n : ℕ) → n < at.number → format_at (inodes ++ at ∷ []) n ≡ format_at inodes n
+format_before [] at n below = ap (λ b. if b then format_of at.inode else 0) (above_number n at.number below)
+format_before (x ∷ xs) at n below = ap (λ f. if x.number == n then format_of x.inode else f) (format_before xs at n below)
+
+or_none : (a : Bool) → (a || false) ≡ a
+or_none true = refl
+or_none false = refl
+
+-- a directory below one more inode is gone where it was
+pub gone_before : (inodes : List InodeAt) (at : InodeAt) (dir : ℕ) → dir < at.number → is_gone_in (inodes ++ at ∷ []) dir ≡ is_gone_in inodes dir
+gone_before inodes at dir below =
+    list_any-append (λ (one : InodeAt). (one.number == dir) && is_unlinked one) inodes (at ∷ [])
+    ∙ ap (λ b. is_gone_in inodes dir || ((b && is_unlinked at) || false)) (above_number dir at.number below) ∙ or_none (is_gone_in inodes dir)
+
+-- what is said of the last inode is so among all
+pub format_there : (last : Option Current) (names : Names) (number : ℕ) → is_last number last ≡ true → LastMet last names
+    → last_format last ≡ format_at names.inodes number
+format_there None names number is nothing = absurd (true≢false (sym is))
+format_there (Some current) names number is here =
+    let below : AllByRecursion (λ (one : InodeAt). one.number < current.at.number) here.front = recursion_from_All
+    (λ (one : InodeAt). one.number < current.at.number) here.front (All-weaker (IsBefore current.at.number names)
+    (λ one. one.number < current.at.number) (λ one h. h.0) here.front here.before) in
+    sym ((λ i. format_at (here.is i) (sym (eqb-true current.at.number number is) i)) ∙ format_last here.front current.at below)
+
+pub gone_there : (last : Option Current) (names : Names) (dir : ℕ) → is_last dir last ≡ true → LastMet last names
+    → is_gone dir last ≡ is_gone_in names.inodes dir
+gone_there None names dir is nothing = absurd (true≢false (sym is))
+gone_there (Some current) names dir is here =
     let test : InodeAt → Bool = λ at. (at.number == dir) && is_unlinked at in
-    ap (list_any test) here.is ∙ any_right test here.front (current.at ∷ []) (any_head test current.at [] is)
+    let below : All (λ at. ((at.number == dir) && is_unlinked at) ≡ false) here.front = All-weaker (IsBefore current.at.number names)
+    (λ at. ((at.number == dir) && is_unlinked at) ≡ false)
+    (λ at h. ap (λ b. b && is_unlinked at) (below_number at.number dir (subst (λ m. at.number < m) (eqb-true current.at.number dir is) h.0)))
+    here.front here.before in
+    sym (ap (list_any test) here.is ∙ list_any-append test here.front (current.at ∷ [])
+    ∙ ap (λ b. b || (test current.at || false)) (list_any_none test here.front below) ∙ or_none (test current.at))
 
 -- inodes without links
 inserted_by : (o : Ordering) (x : ℕ) (xs : List ℕ) (k n : ℕ) → (IsIn xs n → IsIn (insert_key nat_cmp xs k) n) → IsIn (x ∷ xs) n
@@ -242,13 +340,15 @@ waits_or_named : (number : ℕ) (unlinked orphans : List ℕ) (one : InodeAt) �
     ⊎ (number ≡ one.number) → IsKept (remove_key (is_at (nat_cmp number)) unlinked) (orphans ++ number ∷ []) one
 waits_or_named number unlinked orphans one (inl waits) = inr (inl waits)
 waits_or_named number unlinked orphans one (inr same) = inr (inr
-    (any_right (λ n. one.number == n) orphans (number ∷ []) (any_head (λ n. one.number == n) number [] (eq-eqb one.number number (sym same)))))
+    (list_any-append (λ n. one.number == n) orphans (number ∷ []) ∙ or_right (is_among orphans one.number) ((one.number == number) || false)
+    (or_left (one.number == number) false (eq-eqb one.number number (sym same)))))
 
 named_kept : (number : ℕ) (unlinked orphans : List ℕ) (one : InodeAt) → IsKept unlinked orphans one
     → IsKept (remove_key (is_at (nat_cmp number)) unlinked) (orphans ++ number ∷ []) one
 named_kept number unlinked orphans one (inl linked) = inl linked
 named_kept number unlinked orphans one (inr (inl waits)) = waits_or_named number unlinked orphans one (removed unlinked number one.number waits)
-named_kept number unlinked orphans one (inr (inr named)) = inr (inr (any_left (λ n. one.number == n) orphans (number ∷ []) named))
+named_kept number unlinked orphans one (inr (inr named)) =
+    inr (inr (list_any-append (λ n. one.number == n) orphans (number ∷ []) ∙ or_left (is_among orphans one.number) ((one.number == number) || false) named))
 
 pub orphan_comes : (number : ℕ) (unlinked orphans : List ℕ) (inodes : List InodeAt) → All (IsKept unlinked orphans) inodes
     → All (IsKept (remove_key (is_at (nat_cmp number)) unlinked) (orphans ++ number ∷ [])) inodes
@@ -271,36 +371,9 @@ all_settled inodes h =
     let two = both (not inodes.is_wrong) (length inodes.unlinked == 0) one.0 in
     record { right = is_not inodes.is_wrong two.0; counted = one.1; none = λ n is. nothing_in inodes.unlinked n two.1 is }
 
--- a directory without links is being removed where none waits for an orphan item
-pub kept_removed : (unlinked orphans : List ℕ) (at : InodeAt) → ((number : ℕ) → IsIn unlinked number → ⊥) → IsKept unlinked orphans at → is_unlinked at ≡ true
-    → is_removed orphans at ≡ true
-kept_removed unlinked orphans at none (inl linked) is = absurd (true≢false (sym (both (format_of at.inode == 0o040000) (at.inode.nlink == 0) is).1 ∙ linked))
-kept_removed unlinked orphans at none (inr (inl waits)) is = absurd (none at.number waits)
-kept_removed unlinked orphans at none (inr (inr named)) is = λ i. is i && named i
-
--- a directory without links that is there is the first inode, or one behind it
-removed_either : (unlinked orphans : List ℕ) (at : InodeAt) (inodes : List InodeAt) (dir : ℕ) → ((number : ℕ) → IsIn unlinked number → ⊥)
-    → IsKept unlinked orphans at → (IsGone inodes dir → is_among (removed_dirs orphans inodes) dir ≡ true)
-    → (b : Bool) → ((at.number == dir) && is_unlinked at) ≡ b → (b || list_any (λ (one : InodeAt). (one.number == dir) && is_unlinked one) inodes) ≡ true
-    → ((at.number ≡ dir) × (is_removed orphans at ≡ true)) ⊎ (is_among (removed_dirs orphans inodes) dir ≡ true)
-removed_either unlinked orphans at inodes dir none kept behind true it rest =
-    let two = both (at.number == dir) (is_unlinked at) it in
-    inl (eqb-true at.number dir two.0, kept_removed unlinked orphans at none kept two.1)
-removed_either unlinked orphans at inodes dir none kept behind false it rest = inr (behind rest)
-
-removed_first : (orphans : List ℕ) (at : InodeAt) (inodes : List InodeAt) (dir : ℕ) (b : Bool) → is_removed orphans at ≡ b
-    → ((at.number ≡ dir) × (is_removed orphans at ≡ true)) ⊎ (is_among (removed_dirs orphans inodes) dir ≡ true)
-    → is_among (map (λ (one : InodeAt). one.number) (cond b (at ∷ filter (is_removed orphans) inodes) (filter (is_removed orphans) inodes))) dir ≡ true
-removed_first orphans at inodes dir true is (inl it) = ap (λ c. c || is_among (removed_dirs orphans inodes) dir) (eq-eqb dir at.number (sym it.0))
-removed_first orphans at inodes dir true is (inr rest) = any_right (λ number. dir == number) (at.number ∷ []) (removed_dirs orphans inodes) rest
-removed_first orphans at inodes dir false is (inl it) = absurd (true≢false (sym it.1 ∙ is))
-removed_first orphans at inodes dir false is (inr rest) = rest
-
--- a directory without links that is there is among those that are being removed
-pub all_removed : (unlinked orphans : List ℕ) (inodes : List InodeAt) (dir : ℕ) → ((number : ℕ) → IsIn unlinked number → ⊥)
-    → AllByRecursion (IsKept unlinked orphans) inodes → IsGone inodes dir → is_among (removed_dirs orphans inodes) dir ≡ true
-all_removed unlinked orphans [] dir none kept gone = gone
-all_removed unlinked orphans (at ∷ inodes) dir none kept gone =
-    removed_first orphans at inodes dir (is_removed orphans at) refl
-    (removed_either unlinked orphans at inodes dir none kept.0 (all_removed unlinked orphans inodes dir none kept.1)
-    ((at.number == dir) && is_unlinked at) refl gone)
+-- where none waits for an orphan item, each inode has links or one
+pub kept_orphan : (unlinked orphans : List ℕ) (at : InodeAt) → ((number : ℕ) → IsIn unlinked number → ⊥) → IsKept unlinked orphans at
+    → orphan_kept orphans at ≡ true
+kept_orphan unlinked orphans at none (inl linked) = or_left (not (at.inode.nlink == 0)) (is_among orphans at.number) (ap not linked)
+kept_orphan unlinked orphans at none (inr (inl waits)) = absurd (none at.number waits)
+kept_orphan unlinked orphans at none (inr (inr named)) = or_right (not (at.inode.nlink == 0)) (is_among orphans at.number) named

@@ -97,6 +97,10 @@ named inodes number name = record {
   unlinked = inodes.unlinked;
 }
 
+-- an entry in a directory comes, under its name's hash
+abbrev pub hashed : Inodes → ℕ → Inodes
+hashed inodes number = record { last = inodes.last; is_wrong = inodes.is_wrong || not (is_last number inodes.last); unlinked = inodes.unlinked }
+
 -- an orphan item names an inode
 abbrev pub released : Inodes → ℕ → Inodes
 released inodes number = record { last = inodes.last; is_wrong = inodes.is_wrong; unlinked = remove_key (is_at (nat_cmp number)) inodes.unlinked }

@@ -1,10 +1,13 @@
+pub mod Differences
 pub mod Entry
+pub mod Halves
 pub mod Inodes
 pub mod Items
 pub mod Names
 pub mod Packed
 pub mod Pairs
 pub mod Sets
+pub mod Settled
 pub mod Shown
 pub mod ShownNames
 pub mod Slots

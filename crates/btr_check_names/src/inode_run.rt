@@ -1,6 +1,6 @@
 // The inodes of a tree, one after another.
 ghost use Rattle.std.specs.Prelude.{◌≡◌, OnOk};
-ghost use Rattle.btr_check_names.specs.Inodes.{no_inodes, begun, linked, named, released, may_follow, is_last, are_settled};
+ghost use Rattle.btr_check_names.specs.Inodes.{no_inodes, begun, hashed, linked, named, released, may_follow, is_last, are_settled};
 ghost use Rattle.btr_check_names.specs.Inodes as words;
 
 use crate::InodeAt;
@@ -89,6 +89,15 @@ impl InodeRun {
             self.is_wrong = true;
         }
         add_name(&mut self.last, name)
+    }
+
+    /// The directory of a number has one more name under its hash.
+    pub(crate) fn hash(&mut self, number: u64)
+        ensures { self.new ≡ hashed self.old number }
+    {
+        if !is_last(&self.last, number) {
+            self.is_wrong = true;
+        }
     }
 
     /// An orphan item names an inode.

@@ -6,6 +6,9 @@
 //! hold. It is promised to the layer above that `put_name_findings` adds exactly the findings of kinds 15 to 22 to a set, and
 //! `put_subvolume_findings` those of kind 23. Each kind is one pass that looks up in an ordered set or map, which is let go behind it.
 //!
+//! A tree that is sound needs no such passes: `Unpaired` is a visitor that counts names on two sides (`Halves`) and keeps what has no other
+//! side yet. A tree that has most of its items from a settled one (`Settled`) is settled by what differs (`Differences`).
+//!
 //! The definitions are in `specs/`: `Names` for kinds 15 to 22, `Subvolumes` for kind 23, `Items` for what one item says; `Packed`, `Shown`
 //! and `ShownNames` say how names lie in a buffer, and `Sets` what the sets and sums have.
 #![tactic(auto)]
@@ -50,4 +53,4 @@ use subvolume_list::SubvolumeList;
 use subvolume_name::SubvolumeName;
 pub use subvolume_names::{SubvolumeNames, subvolumes_law};
 pub use tree_names::{TreeNames, names_law};
-pub use unpaired::{Unpaired, unpaired_law};
+pub use unpaired::{Unpaired, difference_law, settled_law, unpaired_law};

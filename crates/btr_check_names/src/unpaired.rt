@@ -1,10 +1,13 @@
 // What of the names in a tree of files has not met its counterpart yet.
 ghost use Rattle.std.specs.Prelude.{◌≡◌, ◌∷◌, ◌++◌, [], filter, OnOk};
+ghost use Rattle.btr_check_names.specs.Differences.{DifferenceLaw};
 ghost use Rattle.btr_check_names.specs.Entry.{entry_of, ref_of};
+ghost use Rattle.btr_check_names.specs.Halves.{asked_half, hash_half, index_half, meets, ref_half, sided};
 ghost use Rattle.btr_check_names.specs.Names as words;
 ghost use Rattle.btr_check_names.specs.Pairs.{entry_claim};
+ghost use Rattle.btr_check_names.specs.Settled.{SettledLaw};
 ghost use Rattle.btr_check_names.specs.Subvolumes.{leads_to_root};
-ghost use Rattle.btr_check_names.specs.Unpaired.{hash_met, index_met, link_asked, link_met, UnpairedLaw};
+ghost use Rattle.btr_check_names.specs.Unpaired.{UnpairedLaw};
 
 use crate::claim::Claim;
 use crate::inode_run::InodeRun;
@@ -25,6 +28,7 @@ use std::alloc::Global;
 #[derive(Drop)]
 pub struct Unpaired {
     pub(crate) dirid: u64,
+    pub(crate) is_turned: bool,
     pub(crate) inodes: InodeRun,
     pub(crate) entries: Pairs,
     pub(crate) links: Pairs,
@@ -32,13 +36,15 @@ pub struct Unpaired {
 }
 
 impl Unpaired {
-    ghost use Rattle.std.specs.Prelude.{◌≡◌, ◌∷◌, [], fold, OnOk};
+    ghost use Rattle.std.specs.Prelude.{◌≡◌, ◌||◌, ◌∷◌, [], fold, OnOk};
     ghost use Rattle.btr_items.specs.Entry.{entries_of};
     ghost use Rattle.btr_items.specs.ExtRef.{ext_refs_of};
     ghost use Rattle.btr_items.specs.InodeRef.{inode_refs_of};
     ghost use Rattle.btr_check_names.specs.Entry.{entry_of, ref_of};
+    ghost use Rattle.btr_check_names.specs.Inodes.{is_gone};
     ghost use Rattle.btr_check_names.specs.Items.{entries_read, refs_read, ext_refs_read, inodes_in, indexed_in, hashed_in, refs_in, orphans_in};
-    ghost use Rattle.btr_check_names.specs.Unpaired.{nothing_unpaired, unpaired_with, with_inode, with_indexed, with_hashed, with_ref, with_orphan, are_paired};
+    ghost use Rattle.btr_check_names.specs.Unpaired.{nothing_unpaired, unpaired_with, with_inode, with_indexed, with_hashed, with_ref, with_orphan};
+    ghost use Rattle.btr_check_names.specs.Unpaired.{are_paired, are_whole, compared};
 
     /// No item of the tree came yet, whose first directory has the inode `dirid`.
     pub fn new(alloc: Global, dirid: u64) -> Unpaired
@@ -46,6 +52,7 @@ impl Unpaired {
     {
         Unpaired {
             dirid,
+            is_turned: false,
             inodes: InodeRun::new(alloc),
             entries: Pairs::new(alloc),
             links: Pairs::new(alloc),
@@ -65,11 +72,39 @@ impl Unpaired {
         Ok(())
     }
 
+    /// Whether the inodes state what was counted, and their entries have met their counterparts.
+    pub fn are_whole(&self) -> bool
+        ensures { result ≡ are_whole self.now }
+    {
+        self.inodes.are_settled() && self.entries.are_met()
+    }
+
     /// Whether all names have met their counterparts. Then nothing is wrong with them, kinds 15 to 22.
     pub fn are_paired(&self) -> bool
         ensures { result ≡ are_paired self.now }
     {
-        self.inodes.are_settled() && self.entries.are_met() && self.links.are_met()
+        self.are_whole() && self.links.are_met()
+    }
+
+    /// The items that come now are those of a tree that this one is compared with: their links count on the other side.
+    pub fn compared(self, alloc: Global) -> Unpaired
+        ensures { result ≡ compared self }
+    {
+        Unpaired {
+            dirid: self.dirid,
+            is_turned: true,
+            inodes: InodeRun::new(alloc),
+            entries: Pairs::new(alloc),
+            links: self.links,
+            subvolumes: self.subvolumes,
+        }
+    }
+
+    // Whether the entries of a directory needn't meet one another: it has no links, or another tree is compared.
+    fn is_aside(&self, dir: u64) -> bool
+        ensures { result ≡ (self.now.is_turned || is_gone dir self.now.inodes.last) }
+    {
+        self.is_turned || self.inodes.is_gone(dir)
     }
 
     // Takes an inode.
@@ -84,9 +119,10 @@ impl Unpaired {
         ensures { OnOk result (self.new ≡ with_indexed self.old (entry_of entry.now)) }
     {
         let is_gone = self.inodes.is_gone(entry.dir);
+        let is_aside = self.is_aside(entry.dir);
         self.inodes.name(entry.dir, entry.name)?;
-        meet_index(&mut self.entries, is_gone, entry)?;
-        ask_link(&mut self.links, is_gone, entry)?;
+        meet_index(&mut self.entries, is_aside, entry)?;
+        ask_link(&mut self.links, self.is_turned, is_gone, entry)?;
         keep_root(&mut self.subvolumes, entry)
     }
 
@@ -94,8 +130,9 @@ impl Unpaired {
     fn put_hashed(&mut self, entry: &DirEntry<'_>) -> Result<(), Memory>
         ensures { OnOk result (self.new ≡ with_hashed self.old (entry_of entry.now)) }
     {
-        let is_gone = self.inodes.is_gone(entry.dir);
-        meet_hash(&mut self.entries, is_gone, entry)
+        let is_aside = self.is_aside(entry.dir);
+        self.inodes.hash(entry.dir);
+        meet_hash(&mut self.entries, is_aside, entry)
     }
 
     // Takes a reference.
@@ -104,7 +141,7 @@ impl Unpaired {
     {
         let format = self.inodes.format();
         self.inodes.link(link.inode)?;
-        meet_link(&mut self.links, self.dirid, format, link)
+        meet_link(&mut self.links, self.is_turned, self.dirid, format, link)
     }
 
     // Takes the inode of an item, if it is an INODE_ITEM.
@@ -213,34 +250,39 @@ fn claim_under_hash(entry: &DirEntry<'_>) -> Claim
     Claim::of_entry(&under_hash(entry))
 }
 
-// An entry at an index meets the one under its name's hash, unless its directory has no links.
-fn meet_index(entries: &mut Pairs, is_gone: bool, entry: &DirEntry<'_>) -> Result<(), Memory>
-    ensures { OnOk result (entries.new ≡ index_met is_gone entries.old (entry_of entry.now)) }
+// An entry at an index meets the one under its name's hash, unless it is set aside.
+fn meet_index(entries: &mut Pairs, is_aside: bool, entry: &DirEntry<'_>) -> Result<(), Memory>
+    ensures { OnOk result (entries.new ≡ meets entries.old (index_half is_aside (entry_of entry.now))) }
 {
-    if is_gone {
+    if is_aside {
         return Ok(());
     }
     entries.meet(claim_under_hash(entry), true, entry.name)
 }
 
-// An entry under a hash meets the one at an index, unless its directory has no links.
-fn meet_hash(entries: &mut Pairs, is_gone: bool, entry: &DirEntry<'_>) -> Result<(), Memory>
-    ensures { OnOk result (entries.new ≡ hash_met is_gone entries.old (entry_of entry.now)) }
+// An entry under a hash meets the one at an index, unless it is set aside.
+fn meet_hash(entries: &mut Pairs, is_aside: bool, entry: &DirEntry<'_>) -> Result<(), Memory>
+    ensures { OnOk result (entries.new ≡ meets entries.old (hash_half is_aside (entry_of entry.now))) }
 {
-    if is_gone {
+    if is_aside {
         return Ok(());
     }
     entries.meet(Claim::of_entry(entry), false, entry.name)
 }
 
 // An entry asks for the reference of the inode that it leads to, if it leads to one and its directory has links.
-fn ask_link(links: &mut Pairs, is_gone: bool, entry: &DirEntry<'_>) -> Result<(), Memory>
-    ensures { OnOk result (links.new ≡ link_asked is_gone links.old (entry_of entry.now)) }
+fn ask_link(
+    links: &mut Pairs,
+    is_turned: bool,
+    is_gone: bool,
+    entry: &DirEntry<'_>,
+) -> Result<(), Memory>
+    ensures { OnOk result (links.new ≡ meets links.old (sided is_turned (asked_half is_gone (entry_of entry.now)))) }
 {
     if is_gone || entry.target.kind != item::INODE_ITEM {
         return Ok(());
     }
-    links.meet(Claim::of_link(entry), true, entry.name)
+    links.meet(Claim::of_link(entry), !is_turned, entry.name)
 }
 
 // Keeps an entry that leads to a subvolume.
@@ -254,13 +296,19 @@ fn keep_root(list: &mut EntryList, entry: &DirEntry<'_>) -> Result<(), Memory>
 }
 
 // A reference of an inode whose mode has this kind of a file meets its entry, if it is to have one.
-fn meet_link(links: &mut Pairs, dirid: u64, format: u32, link: &LinkName<'_>) -> Result<(), Memory>
-    ensures { OnOk result (links.new ≡ link_met dirid format links.old (ref_of link.now)) }
+fn meet_link(
+    links: &mut Pairs,
+    is_turned: bool,
+    dirid: u64,
+    format: u32,
+    link: &LinkName<'_>,
+) -> Result<(), Memory>
+    ensures { OnOk result (links.new ≡ meets links.old (sided is_turned (ref_half dirid format (ref_of link.now)))) }
 {
     if is_free(dirid, link) {
         return Ok(());
     }
-    links.meet(Claim::of_ref(link, format), false, link.name)
+    links.meet(Claim::of_ref(link, format), is_turned, link.name)
 }
 
 impl Visitor<Memory> for Unpaired {
@@ -280,4 +328,17 @@ impl Visitor<Memory> for Unpaired {
 /// function is the law: its contract says it, and its body is empty.
 pub fn unpaired_law()
     ensures { UnpairedLaw }
+{}
+
+/// Nothing is wrong with names that are settled, kinds 15 to 22. This function is the law: its contract says it,
+/// and its body is empty.
+pub fn settled_law()
+    ensures { SettledLaw }
+{}
+
+/// A tree costs its differences: one that has most of its items from a tree whose names are settled is settled
+/// too where a visit of its other items, and then one of those of that tree that it hasn't, leave all names
+/// paired. This function is the law: its contract says it, and its body is empty.
+pub fn difference_law()
+    ensures { DifferenceLaw }
 {}
