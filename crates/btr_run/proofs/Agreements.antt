@@ -255,11 +255,8 @@ module _ (read_data : Bool) (old mid new : Seen) (first : OnlyReads old mid) (vo
         of (stop.Tree (tree.Malformed a)) r f = inl (inl (refusing (stop.Tree (tree.Malformed a)) (f refl)))
         of (stop.Deletion id) r f = inl (inl (refusing (stop.Deletion id) (f refl)))
         of stop.Balance r f = inl (inl (refusing stop.Balance (f refl)))
-        of (stop.Missing id) r f = absurd r
-        of (stop.Image slot) r f = absurd r
-        of stop.Sink r f = absurd r
-        of stop.Out r f = absurd r
         of stop.Memory r f = inl (inr (inr (inr refl)))
+        of other r f = absurd r
 
     pub stopped_agreed : (text : Option Text) (account : CallAccount) → Tells volume.store.layout mid new
         (λ B. is_outside end ≡ false → refusal (record { sup = volume.sup; chunks = volume.store.layout.chunks; blocks = B }) ≡ Some end)

@@ -1,6 +1,6 @@
 -- Words are a sentence of one form at most.
 use Rattle.std.proofs.Common.{◌≡◌, ◌⊎◌, inl, inr, ⊎_elim, ℕ, ◌+◌, ◌<◌, Bool, true, false, not, cond, List, [], ◌∷◌, ◌++◌, length, refl, sym, ap, ◌∙◌, subst}
-use Rattle.std.proofs.Common.{ap₂, arith, eqb, eqb-true, zero, suc}
+use Rattle.std.proofs.Common.{ap₂, arith, eqb, eqb-true, ltb, ltb-true, zero, suc}
 use Rattle.std.specs.Prelude.{◌||◌, codes}
 use Rattle.std.specs.Bool.{Decides}
 use Rattle.std.specs.Str.{bytes_eq}
@@ -12,7 +12,8 @@ use Rattle.btr_run.specs.Words.{parts_of, plan_for}
 use Rattle.btr_run.specs.declared.place.Read.{Read}
 use Rattle.btr_run.specs.declared.plan.Plan.{Plan}
 use Rattle.btr_run.specs.declared.sentence.Sentence.{Sentence}
-use Rattle.btr_run.proofs.Forms.{IsNumbered, form_at, forms, numbered}
+use Rattle.btr_run.specs.declared.sentence.Sentence.TheVariants.{Super}
+use Rattle.btr_run.proofs.Forms.{form_at, forms}
 use Rattle.btr_run.proofs.Reading.{accepted, same_word}
 
 -- the word of an option
@@ -121,6 +122,24 @@ never_both (Word this ∷ p) (Word that ∷ q) is at other words old new old' ne
 -- two forms are one, or no words are of both
 abbrev are_apart : Sentence → Sentence → Bool
 are_apart s t = apart (parts_of s) (parts_of t) || apart (parts_of t) (parts_of s)
+
+-- a form has a number
+pub record IsNumbered (sentence : Sentence) : Type 0 where
+  pub number : ℕ
+  pub below : number < length forms
+  pub is : form_at number ≡ sentence
+
+-- the place of the first form that isn't apart from one, which is its own
+abbrev place_of : Sentence → List Sentence → ℕ
+place_of s [] = 0
+place_of s (t ∷ ts) = cond (are_apart s t) (suc (place_of s ts)) 0
+
+by_number : (n : ℕ) → ltb n (length forms) ≡ true → IsNumbered (form_at n)
+by_number n lt = record { number = n; below = ltb-true n (length forms) lt; is = refl }
+
+pub numbered : (sentence : Sentence) → IsNumbered sentence
+numbered Super = by_number (place_of Super forms) refl
+numbered sentence = by_number (place_of sentence forms) refl
 
 -- a test of all numbers below some
 abbrev all_below : ℕ → (ℕ → Bool) → Bool

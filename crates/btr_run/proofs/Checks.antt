@@ -55,69 +55,33 @@ module _ (end : Stop) (reading : OfReading end) where
   stop_calm = of end reading
     where
       of : (s : Stop) → OfReading s → IsNoFault (stop_answer s)
-      of (stop.NoTree id) r = record { no_out = λ e. cc; no_sink = λ e. cc }
       of (stop.Tree f) r = tree_no_fault f
-      of (stop.Deletion id) r = record { no_out = λ e. cc; no_sink = λ e. cc }
-      of stop.Balance r = record { no_out = λ e. cc; no_sink = λ e. cc }
-      of (stop.Missing id) r = absurd r
-      of (stop.Image slot) r = absurd r
       of stop.Sink r = absurd r
       of stop.Out r = absurd r
-      of stop.Memory r = record { no_out = λ e. cc; no_sink = λ e. cc }
+      of s r = record { no_out = λ e. cc; no_sink = λ e. cc }
 
   pub stop_line : error_line (stop_answer end) ≢ []
   stop_line = of end reading
     where
       of : (s : Stop) → OfReading s → error_line (stop_answer s) ≢ []
-      of (stop.NoTree id) r e = cc
       of (stop.Tree (tree.Lost a)) r e = cc
-      of (stop.Tree (tree.Unread a slot)) r e = cc
-      of (stop.Tree (tree.Unmapped a)) r e = cc
-      of (stop.Tree (tree.Crosses a)) r e = cc
-      of (stop.Tree (tree.Malformed a)) r e = cc
-      of (stop.Deletion id) r e = cc
-      of stop.Balance r e = cc
-      of (stop.Missing id) r e = absurd r
-      of (stop.Image slot) r e = absurd r
-      of stop.Sink r e = absurd r
       of stop.Out r e = absurd r
-      of stop.Memory r e = cc
+      of s r e = cc
 
   pub stop_none : NoneOf (stop_answer end)
   stop_none = of end reading
     where
       of : (s : Stop) → OfReading s → NoneOf (stop_answer s)
-      of (stop.NoTree id) r = tt
       of (stop.Tree (tree.Lost a)) r = tt
-      of (stop.Tree (tree.Unread a slot)) r = tt
-      of (stop.Tree (tree.Unmapped a)) r = tt
-      of (stop.Tree (tree.Crosses a)) r = tt
-      of (stop.Tree (tree.Malformed a)) r = tt
-      of (stop.Deletion id) r = tt
-      of stop.Balance r = tt
-      of (stop.Missing id) r = absurd r
-      of (stop.Image slot) r = absurd r
-      of stop.Sink r = absurd r
-      of stop.Out r = absurd r
-      of stop.Memory r = tt
+      of s r = tt
 
   pub stop_no_image : (slot : ℕ) → stop_answer end ≢ ImageFault slot
   stop_no_image slot = of end reading
     where
       of : (s : Stop) → OfReading s → stop_answer s ≢ ImageFault slot
-      of (stop.NoTree id) r e = cc
       of (stop.Tree (tree.Lost a)) r e = cc
-      of (stop.Tree (tree.Unread a other)) r e = cc
-      of (stop.Tree (tree.Unmapped a)) r e = cc
-      of (stop.Tree (tree.Crosses a)) r e = cc
-      of (stop.Tree (tree.Malformed a)) r e = cc
-      of (stop.Deletion id) r e = cc
-      of stop.Balance r e = cc
-      of (stop.Missing id) r e = absurd r
       of (stop.Image other) r e = absurd r
-      of stop.Sink r e = absurd r
-      of stop.Out r e = absurd r
-      of stop.Memory r e = cc
+      of s r e = cc
 
 -- The filesystem is open, and it isn't checked.
 module _ (read_data : Bool) (old mid new : Seen) (first : OnlyReads old mid) (second : OnlyReads mid new) (layout : Layout) (end : Stop)
@@ -143,11 +107,8 @@ module _ (read_data : Bool) (old mid new : Seen) (first : OnlyReads old mid) (se
       of (stop.Tree (tree.Malformed a)) r u f = inl (refusing (stop.Tree (tree.Malformed a)) (f refl))
       of (stop.Deletion id) r u f = inl (refusing (stop.Deletion id) (f refl))
       of stop.Balance r u f = inl (refusing stop.Balance (f refl))
-      of (stop.Missing id) r u f = absurd r
-      of (stop.Image slot) r u f = absurd r
-      of stop.Sink r u f = absurd r
-      of stop.Out r u f = absurd r
       of stop.Memory r u f = inr refl
+      of other r u f = absurd r
 
   pub stopped_effect : (volume : Volume) → volume.store.layout ≡ layout → (text : Option Text) (account : CallAccount)
       → IfSteady old.held old.account mid.account (λ images. OpensFilesystem images (Ok volume))
@@ -174,11 +135,8 @@ module _ (read_data : Bool) (old mid new : Seen) (first : OnlyReads old mid) (se
   stopped_cause own fault e told = (layout, own, of end cause (ap tree_in e ∙ tree_back fault))
     where
       by : (f : TreeFault) → IsUnread f → StopUnread layout mid new (stop.Tree f) → FaultCause layout old new f
-      by (tree.Lost a) u c = absurd u
       by (tree.Unread a slot) u c = cause_since new layout layout (tree.Unread a slot) refl first c
-      by (tree.Unmapped a) u c = absurd u
-      by (tree.Crosses a) u c = absurd u
-      by (tree.Malformed a) u c = absurd u
+      by other u c = absurd u
 
       of : (s : Stop) → StopUnread layout mid new s → tree_in (stop_answer s) ≡ Some fault → FaultCause layout old new fault
       of (stop.Tree f) c e = let same : f ≡ fault = cc (sym (tree_back f) ∙ e) in by fault told (subst (λ g. StopUnread layout mid new (stop.Tree g)) same c)

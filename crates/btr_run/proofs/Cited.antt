@@ -1,16 +1,14 @@
--- The words that the plan of a sentence cites are there.
-use Rattle.std.proofs.Common.{ℕ, Bool, true, false, ◌+◌, ◌<◌, ◌≤◌, List, [], ◌∷◌, length, refl, sym, ap, subst, arith}
+-- The words that the plan of a sentence names are there: images, a destination and a file in it.
+use Rattle.std.proofs.Common.{ℕ, ◌+◌, ◌<◌, ◌≤◌, List, [], ◌∷◌, length, refl, sym, ap, subst, arith}
 use Rattle.std.proofs.lemmas.List.{length-append, length-drop}
-use Rattle.btr_run.specs.Commands.{HasWords}
-use Rattle.btr_run.specs.Queries.{HasQueryWords}
-use Rattle.btr_run.specs.Restores.{options_words, plan_by}
+use Rattle.btr_run.specs.Restores.{options_words}
 use Rattle.btr_run.specs.Words.{Destination, File, IsSentence, Number, Part, Reads, TakesDestination, Volume, Word, Words, command_of, images_of, nothing_of}
 use Rattle.btr_run.specs.SelfTested.{TakesImages}
-use Rattle.btr_run.specs.Words.{parts_of, restore_of}
+use Rattle.btr_run.specs.Words.{parts_of}
 use Rattle.btr_run.specs.declared.place.Read.{Read}
 use Rattle.btr_run.specs.declared.plan.Plan.{Plan}
 use Rattle.btr_run.specs.declared.sentence.Sentence.{Sentence}
-use Rattle.btr_run.specs.declared.sentence.Sentence.TheVariants.{Restore, Send, SelfTest}
+use Rattle.btr_run.specs.declared.sentence.Sentence.TheVariants.{SelfTest}
 use Rattle.btr_run.proofs.Apart.{begins_so}
 
 -- images are named behind some parts
@@ -107,16 +105,6 @@ names_there (Destination ∷ left) at words old new bound reads before within =
       length-append (options_words d.options) (d.name ∷ []),
     )
 
--- the words that a sentence's command cites
-cited : (sentence : Sentence) (read : Read) (n : ℕ) → AreThere read n → HasWords (command_of sentence read) n
-cited Restore read n lt = of read.options.salvage
-  where
-    of : (salvage : Bool) → HasQueryWords (restore_of salvage read.name (plan_by read.options)) n
-    of true = lt.0
-    of false = lt.0
-cited Send read n lt = lt
-cited sentence read n lt = tt
-
 -- all other forms than the self-test's name images
 names_images : (sentence : Sentence) (read : Read) → TakesImages (command_of sentence read) → NamesImages (parts_of sentence)
 names_images SelfTest read takes = absurd (takes read.number refl)
@@ -141,7 +129,6 @@ module _ (plan : Plan) (words : Words) (s : IsSentence plan words) where
   some_word = let first = begins_so (parts_of s.sentence) 0 words (nothing_of s.sentence) s.read s.is_read in
       omega (arith, ap (λ (l : Words). length l) first.are)
 
-  pub has_words : HasWords plan.command (length words)
-  has_words = subst (λ (p : Plan). HasWords p.command (length words)) (sym s.plan_is)
-      (cited s.sentence s.read (length words) (names_there (parts_of s.sentence) 0 words (nothing_of s.sentence) s.read (length words) s.is_read
-      (some_word, some_word) (omega arith)))
+  -- the words that were read as a destination and as a file in it
+  pub are_there : AreThere s.read (length words)
+  are_there = names_there (parts_of s.sentence) 0 words (nothing_of s.sentence) s.read (length words) s.is_read (some_word, some_word) (omega arith)

@@ -138,35 +138,14 @@ comes_shown May IsOne x y result same same_calls scarce shows = of shows.put.put
     text : List ℕ
     text = shows.shown.text
 
+    ends : (how : How) → HasEnded May x y (showing shows.shown) result how → Comes May IsOne x y result
+    ends how ended = record { outcome = showing shows.shown; is_one = shows.is_one; no_fault = shows.no_fault; how = how; ended = ended }
+
     of : (r : Result Unit SinkError) → Puts x.text y.text text r → Counts x.out_calls y.out_calls r → result ≡ due_after r shows.shown.answer
         → Comes May IsOne x y result
-    of (Ok u) puts counts due =
-        record {
-          outcome = showing shows.shown;
-          is_one = shows.is_one;
-          no_fault = shows.no_fault;
-          how = Whole;
-          ended =
-              (due, same_calls, counts, text_stands x y same text puts);
-        }
-    of (Err Failed) puts counts due =
-        record {
-          outcome = showing shows.shown;
-          is_one = shows.is_one;
-          no_fault = shows.no_fault;
-          how = OutFailed;
-          ended =
-              (due, ((counts.0, counts.1), counts.2), same_calls, text_partly x y same shows.shown puts);
-        }
-    of (Err memory_fault) puts counts due =
-        record {
-          outcome = showing shows.shown;
-          is_one = shows.is_one;
-          no_fault = shows.no_fault;
-          how = Wanted;
-          ended =
-              (due, scarce counts.0, same_calls, counts.1, text_partly x y same shows.shown puts);
-        }
+    of (Ok u) puts counts due = ends Whole (due, same_calls, counts, text_stands x y same text puts)
+    of (Err Failed) puts counts due = ends OutFailed (due, ((counts.0, counts.1), counts.2), same_calls, text_partly x y same shows.shown puts)
+    of (Err memory_fault) puts counts due = ends Wanted (due, scarce counts.0, same_calls, counts.1, text_partly x y same shows.shown puts)
 
 -- all steps are a first part
 pub whole_first : (steps : List Step) → IsFirstPart steps steps

@@ -19,10 +19,7 @@ tree_in answer = None
 
 pub tree_back : (fault : TreeFault) → tree_in (tree_answer fault) ≡ Some fault
 tree_back (tree.Lost addr) = refl
-tree_back (tree.Unread addr slot) = refl
-tree_back (tree.Unmapped addr) = refl
-tree_back (tree.Crosses addr) = refl
-tree_back (tree.Malformed addr) = refl
+tree_back fault = refl
 
 -- an answer that is none
 pub no_tree : (answer : Answer) → tree_in answer ≡ None → (fault : TreeFault) → answer ≡ tree_answer fault → ⊥

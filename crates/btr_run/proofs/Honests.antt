@@ -22,10 +22,10 @@ use Rattle.btr_run.specs.Filesystem.{Filesystem, filesystem_of, with_roots, with
 use Rattle.btr_run.specs.Honest.{SalvageIsCommitted, SendIsStream}
 use Rattle.btr_run.specs.Listed.{listed_answer, listed_by}
 use Rattle.btr_run.specs.Outcomes.{Outcome}
-use Rattle.btr_run.specs.Restored.{skipped_in}
+use Rattle.btr_run.specs.Queries.Restored.{skipped_in}
 use Rattle.btr_run.specs.Rows.{row_outcome}
-use Rattle.btr_run.specs.Salvaged.{missed_in, salvage_row}
-use Rattle.btr_run.specs.Sent.{send_row}
+use Rattle.btr_run.specs.Queries.Salvaged.{missed_in, salvage_row}
+use Rattle.btr_run.specs.Queries.Sent.{send_row}
 use Rattle.btr_run.specs.declared.answer.Answer.TheVariants.{Done}
 use Rattle.btr_run.proofs.Rows.{row_opened}
 

@@ -28,8 +28,6 @@ pub mod Orders
 pub mod Agreements
 pub mod Listings
 pub mod Rows
-pub mod Dumps
-pub mod Resolvings
 pub mod Performing
 pub mod Promises
 pub mod Mendings

@@ -27,10 +27,10 @@ use Rattle.btr_run.specs.Behind.{AnyFault, IfSteady, IsBehind, IsLayoutOf, HasTr
 use Rattle.btr_run.specs.Faults.{tree_answer}
 use Rattle.btr_run.specs.Filesystem.{IsRefusal, MayMend, OpensAs, OpensFilesystem, filesystem_in, filesystem_of}
 use Rattle.btr_run.specs.Listed.{ListsUpTo, listed_answer, listed_by, stopped_answer}
-use Rattle.btr_run.specs.Outcomes.{Outcome, refused, Comes, IsFirstPart, IsNoFault, Stands, StandsOf, StandsPartly, Whole, SinkFailed, OutFailed, Wanted}
-use Rattle.btr_run.specs.Outcomes.{OrBare, OrMemory}
+use Rattle.btr_run.specs.Outcomes.{Outcome, refused, Comes, HasEnded, How, IsFirstPart, IsNoFault, Stands, StandsOf, StandsPartly, Whole, SinkFailed, OutFailed}
+use Rattle.btr_run.specs.Outcomes.{OrBare, OrMemory, Wanted}
 use Rattle.btr_run.specs.declared.answer.Answer.{Answer}
-use Rattle.btr_run.specs.declared.answer.Answer.TheVariants.{Done, NoTree, ImageFault, Unread}
+use Rattle.btr_run.specs.declared.answer.Answer.TheVariants.{Done, NoTree, ImageFault, Memory, OutFault, SinkFault, Unread}
 use Rattle.btr_run.proofs.Agreements.{agreeing_opened}
 use Rattle.btr_run.proofs.Coming.{comes_also, comes_bare, when_told, whole_first}
 use Rattle.btr_run.proofs.Refusals.{open_line, open_no_fault}
@@ -109,15 +109,14 @@ module _ {A : Type 0} (left_out : A → ℕ) (layout : Layout) (mid new : Seen) 
 
   -- it follows a run
   module _ (r : Run Want Fault Step A) (IsOne : Outcome → Type 0) (one : IsOne (listed_by left_out r)) (unread : HasUnread Is r IsOne) where
+    ends : (how : How) (answer : Answer) → HasEnded (Unit {0}) x y (listed_by left_out r) answer how → Comes (Unit {0}) IsOne x y answer
+    ends how answer ended =
+        record { outcome = listed_by left_out r; is_one = one; no_fault = listed_no_fault r.ending; how = how; ended = ended }
+
     wholly : (ending : Result A Fault) (answer : Answer) → answer ≡ listed_answer left_out ending → (done ≡ steps_of r.marks) × (r.ending ≡ ending)
         → y.sink_calls ≡ x.sink_calls → y.out_calls ≡ x.out_calls → Comes (Unit {0}) IsOne x y answer
-    wholly ending answer is follows same_sink same_out = record {
-      outcome = listed_by left_out r;
-      is_one = one;
-      no_fault = listed_no_fault r.ending;
-      how = Whole;
-      ended = (is ∙ ap (listed_answer left_out) (sym follows.1), same_sink, same_out, subst (λ l. Stands x y l []) follows.0 stands);
-    }
+    wholly ending answer is follows same_sink same_out =
+        ends Whole answer (is ∙ ap (listed_answer left_out) (sym follows.1), same_sink, same_out, subst (λ l. Stands x y l []) follows.0 stands)
 
     -- what it comes to up to a block that could not be read
     up_to : (u : UnreadBlock) → Breaks no_part (λ ws. Names Is u ([] ++ ws)) r done → y.sink_calls ≡ x.sink_calls → y.out_calls ≡ x.out_calls
@@ -151,40 +150,27 @@ module _ {A : Type 0} (left_out : A → ℕ) (layout : Layout) (mid new : Seen) 
         of (Err (stop.Tree (tree.Crosses a))) cause sc oc follows = wholly (Err (fault.Crosses a)) (tree_answer (tree.Crosses a)) refl follows sc oc
         of (Err (stop.Tree (tree.Malformed a))) cause sc oc follows = wholly (Err (fault.Malformed a)) (tree_answer (tree.Malformed a)) refl follows sc oc
         of (Err (stop.Tree (tree.Unread a slot))) cause sc oc follows = up_to (record { addr = a; slot = slot }) follows sc oc
-        of (Err stop.Sink) cause sc oc follows = record {
-          outcome = listed_by left_out r;
-          is_one = one;
-          no_fault = listed_no_fault r.ending;
-          how = SinkFailed;
-          ended = (refl, ((sc.0, sc.1), sc.2), ⊎_elim (λ same. inl same) (λ one. inr ((one.0, one.1), one.2)) oc, partly follows);
-        }
-        of (Err stop.Out) cause sc oc follows =
-            record {
-              outcome = listed_by left_out r;
-              is_one = one;
-              no_fault = listed_no_fault r.ending;
-              how = OutFailed;
-              ended =
-                  (refl, ((oc.0, oc.1), oc.2), sc, partly follows);
-            }
-        of (Err stop.Memory) cause sc oc follows =
-            record {
-              outcome = listed_by left_out r;
-              is_one = one;
-              no_fault = listed_no_fault r.ending;
-              how = Wanted;
-              ended =
-                  (refl, tt, sc, oc, partly follows);
-            }
-        of (Err (stop.Deletion id)) cause sc oc follows = absurd cause
-        of (Err stop.Balance) cause sc oc follows = absurd cause
-        of (Err (stop.Missing id)) cause sc oc follows = absurd cause
-        of (Err (stop.Image slot)) cause sc oc follows = absurd cause
+        of (Err stop.Sink) cause sc oc follows =
+            ends SinkFailed SinkFault (refl, ((sc.0, sc.1), sc.2), ⊎_elim (λ same. inl same) (λ one. inr ((one.0, one.1), one.2)) oc, partly follows)
+        of (Err stop.Out) cause sc oc follows = ends OutFailed OutFault (refl, ((oc.0, oc.1), oc.2), sc, partly follows)
+        of (Err stop.Memory) cause sc oc follows = ends Wanted Memory (refl, tt, sc, oc, partly follows)
+        of (Err other) cause sc oc follows = absurd cause
 
   -- whatever failed some steps were done
   module _ (IsOne : Outcome → Type 0) (by_value : (a : A) → IsOne (record { answer = Done (left_out a); steps = done }))
       (by_tree : (f : TreeFault) → IsOne (record { answer = tree_answer f; steps = done }))
       (by_none : (id : ℕ) → result ≡ Err (stop.NoTree id) → IsOne (record { answer = NoTree id; steps = done })) where
+    -- an answer behind all of these steps
+    by_answer : (a : Answer) → IsOne (record { answer = a; steps = done }) → IsNoFault a → y.sink_calls ≡ x.sink_calls → y.out_calls ≡ x.out_calls
+        → Comes (Unit {0}) (OrBare IsOne) x y a
+    by_answer a is no_fault same_sink same_out = record {
+      outcome = record { answer = a; steps = done };
+      is_one = inl is;
+      no_fault = no_fault;
+      how = Whole;
+      ended = (refl, same_sink, same_out, stands);
+    }
+
     -- any outcome of these steps, whose end wasn't reached
     abbrev broken : Outcome
     broken = record { answer = tree_answer (tree.Lost 0); steps = done }
@@ -192,105 +178,38 @@ module _ {A : Type 0} (left_out : A → ℕ) (layout : Layout) (mid new : Seen) 
     all : StandsPartly x y broken []
     all = record { done = done; first = whole_first done; stands = stands }
 
+    breaks : (how : How) (a : Answer) → HasEnded (Unit {0}) x y broken a how → Comes (Unit {0}) (OrBare IsOne) x y a
+    breaks how a ended =
+        record { outcome = broken; is_one = inl (by_tree (tree.Lost 0)); no_fault = tree_no_fault (tree.Lost 0); how = how; ended = ended }
+
     pub some_come : Comes (Unit {0}) (OrBare IsOne) x y (answered result)
     some_come = of result refl cause sink_calls out_calls
       where
         of : (e : Result A Stop) → result ≡ e → StopCause layout mid new e → SinkCounts x.sink_calls y.sink_calls e → OutCounts x.out_calls y.out_calls e
             → Comes (Unit {0}) (OrBare IsOne) x y (answered e)
-        of (Ok a) is cause sc oc =
-            record {
-              outcome = record { answer = Done (left_out a); steps = done };
-              is_one = inl (by_value a);
-              no_fault = done_no_fault (left_out a);
-              how =
-                  Whole;
-              ended = (refl, sc, oc, stands);
-            }
-        of (Err (stop.NoTree id)) is cause sc oc =
-            record {
-              outcome = record { answer = NoTree id; steps = done };
-              is_one = inl (by_none id is);
-              no_fault = record
-                  { no_out = λ e. cc; no_sink = λ e. cc };
-              how = Whole;
-              ended = (refl, sc, oc, stands);
-            }
-        of (Err (stop.Tree f)) is cause sc oc =
-            record {
-              outcome = record { answer = tree_answer f; steps = done };
-              is_one = inl (by_tree f);
-              no_fault = tree_no_fault f;
-              how = Whole;
-              ended =
-                  (refl, sc, oc, stands);
-            }
-        of (Err stop.Sink) is cause sc oc = record {
-          outcome = broken;
-          is_one = inl (by_tree (tree.Lost 0));
-          no_fault = tree_no_fault (tree.Lost 0);
-          how = SinkFailed;
-          ended = (refl, ((sc.0, sc.1), sc.2), ⊎_elim (λ same. inl same) (λ one. inr ((one.0, one.1), one.2)) oc, all);
-        }
-        of (Err stop.Out) is cause sc oc =
-            record {
-              outcome = broken;
-              is_one = inl (by_tree (tree.Lost 0));
-              no_fault = tree_no_fault (tree.Lost 0);
-              how = OutFailed;
-              ended =
-                  (refl, ((oc.0, oc.1), oc.2), sc, all);
-            }
-        of (Err stop.Memory) is cause sc oc =
-            record {
-              outcome = broken;
-              is_one = inl (by_tree (tree.Lost 0));
-              no_fault = tree_no_fault (tree.Lost 0);
-              how = Wanted;
-              ended =
-                  (refl, tt, sc, oc, all);
-            }
-        of (Err (stop.Deletion id)) is cause sc oc = absurd cause
-        of (Err stop.Balance) is cause sc oc = absurd cause
-        of (Err (stop.Missing id)) is cause sc oc = absurd cause
-        of (Err (stop.Image slot)) is cause sc oc = absurd cause
+        of (Ok a) is cause sc oc = by_answer (Done (left_out a)) (by_value a) (done_no_fault (left_out a)) sc oc
+        of (Err (stop.NoTree id)) is cause sc oc = by_answer (NoTree id) (by_none id is) (record { no_out = λ e. cc; no_sink = λ e. cc }) sc oc
+        of (Err (stop.Tree f)) is cause sc oc = by_answer (tree_answer f) (by_tree f) (tree_no_fault f) sc oc
+        of (Err stop.Sink) is cause sc oc =
+            breaks SinkFailed SinkFault (refl, ((sc.0, sc.1), sc.2), ⊎_elim (λ same. inl same) (λ one. inr ((one.0, one.1), one.2)) oc, all)
+        of (Err stop.Out) is cause sc oc = breaks OutFailed OutFault (refl, ((oc.0, oc.1), oc.2), sc, all)
+        of (Err stop.Memory) is cause sc oc = breaks Wanted Memory (refl, tt, sc, oc, all)
+        of (Err other) is cause sc oc = absurd cause
 
   no_image : (slot : ℕ) → answered result ≢ ImageFault slot
   no_image slot = of result cause
     where
       of : (r : Result A Stop) → StopCause layout mid new r → answered r ≢ ImageFault slot
-      of (Ok a) cause e = cc
       of (Err (stop.Tree (tree.Lost a))) cause e = cc
-      of (Err (stop.Tree (tree.Unread a s))) cause e = cc
-      of (Err (stop.Tree (tree.Unmapped a))) cause e = cc
-      of (Err (stop.Tree (tree.Crosses a))) cause e = cc
-      of (Err (stop.Tree (tree.Malformed a))) cause e = cc
-      of (Err (stop.NoTree id)) cause e = cc
-      of (Err stop.Sink) cause e = cc
-      of (Err stop.Out) cause e = cc
-      of (Err stop.Memory) cause e = cc
-      of (Err (stop.Deletion id)) cause e = absurd cause
-      of (Err stop.Balance) cause e = absurd cause
-      of (Err (stop.Missing id)) cause e = absurd cause
       of (Err (stop.Image other)) cause e = absurd cause
+      of r cause e = cc
 
   none_of : NoneOf (answered result)
   none_of = of result
     where
       of : (r : Result A Stop) → NoneOf (answered r)
-      of (Ok a) = tt
       of (Err (stop.Tree (tree.Lost a))) = tt
-      of (Err (stop.Tree (tree.Unread a slot))) = tt
-      of (Err (stop.Tree (tree.Unmapped a))) = tt
-      of (Err (stop.Tree (tree.Crosses a))) = tt
-      of (Err (stop.Tree (tree.Malformed a))) = tt
-      of (Err (stop.NoTree id)) = tt
-      of (Err stop.Sink) = tt
-      of (Err stop.Out) = tt
-      of (Err stop.Memory) = tt
-      of (Err (stop.Deletion id)) = tt
-      of (Err stop.Balance) = tt
-      of (Err (stop.Missing id)) = tt
-      of (Err (stop.Image other)) = tt
+      of r = tt
 
   -- since the filesystem was opened
   module _ (old : Seen) (first : OnlyReads old mid) (second : OnlyReads mid new) (volume : Volume) (is_layout : volume.store.layout ≡ layout) (answer : Answer)
@@ -306,10 +225,7 @@ module _ {A : Type 0} (left_out : A → ℕ) (layout : Layout) (mid new : Seen) 
         of (Err stop.Sink) cause e = absurd (cc e)
         of (Err stop.Out) cause e = absurd (cc e)
         of (Err stop.Memory) cause e = absurd (cc e)
-        of (Err (stop.Deletion id)) cause e = absurd cause
-        of (Err stop.Balance) cause e = absurd cause
-        of (Err (stop.Missing id)) cause e = absurd cause
-        of (Err (stop.Image other)) cause e = absurd cause
+        of (Err other) cause e = absurd cause
 
     pub listed_behind : IsLayoutOf old new layout → IsBehind MayMend AnyFault old new answer
     listed_behind own = subst (IsBehind MayMend AnyFault old new) (sym is) (record {

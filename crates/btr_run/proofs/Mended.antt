@@ -44,12 +44,8 @@ shown_of (Err end) = refused (stop_answer end)
 
 ended_as : (write : Bool) (images : Images) (fs : scrubbed.Filesystem) (r : Result (Unit {0}) Fault)
     → scrub_ended write images fs r ≡ shown_of (effect_of_ending write images fs r).answer
-ended_as write images fs (Ok u) = refl
-ended_as write images fs (Err (fault.Unmapped a)) = refl
-ended_as write images fs (Err (fault.Crosses a)) = refl
 ended_as write images fs (Err (fault.Lost a)) = refl
-ended_as write images fs (Err (fault.Malformed a)) = refl
-ended_as write images fs (Err (fault.NoTree id)) = refl
+ended_as write images fs ending = refl
 
 unless_as : (write : Bool) (images : Images) (fs : scrubbed.Filesystem) (o : Option Stripe)
     → scrub_unless write images fs o ≡ shown_of (effect_unless write images fs o).answer

@@ -1,4 +1,5 @@
--- What a sentence asks for fits its command: the word that names a file is such a name, a volume can be made, and a self-test names no image.
+-- What a sentence asks for fits its command: the words that it cites are there, the one that names a file is such a name, a volume can be made, and a
+-- self-test names no image.
 use Rattle.std.proofs.Common.{◌≡◌, ◌⊎◌, inl, inr, ⊎_elim, ℕ, ◌+◌, Bool, true, false, not, List, [], ◌∷◌, ◌++◌, length, get_or, refl, sym, ap, ◌∙◌}
 use Rattle.std.proofs.Common.{◌<◌, ◌≤◌, subst, arith}
 use Rattle.std.specs.Prelude.{◌&&◌, nat_le}
@@ -18,6 +19,7 @@ use Rattle.btr_run.specs.declared.place.Read.{Read}
 use Rattle.btr_run.specs.declared.plan.Plan.{Plan}
 use Rattle.btr_run.specs.declared.sentence.Sentence.{Sentence}
 use Rattle.btr_run.specs.declared.sentence.Sentence.TheVariants.{Restore, Send, SelfTest}
+use Rattle.btr_run.proofs.Cited.{AreThere, are_there}
 
 -- the word of this number names a file
 abbrev IsFileAt : Words → ℕ → Type 0
@@ -94,20 +96,23 @@ stream_name word is =
 volume_size : (n : ℕ) → is_volume n ≡ true → (1 ≤ n) × (n ≤ 1000)
 volume_size n is = let tests = both (nat_le 1 n) (nat_le n 1000) is in (grind (arith, nat_tests, tests.0), grind (arith, nat_tests, tests.1))
 
-named : (sentence : Sentence) (words : Words) (read : Read) → Reads (parts_of sentence) 0 words (nothing_of sentence) read
-    → IsFit (command_of sentence read) words
-named Restore words read is = of read.options.salvage
+named : (sentence : Sentence) (words : Words) (read : Read) → AreThere read (length words)
+    → Reads (parts_of sentence) 0 words (nothing_of sentence) read → IsFit (command_of sentence read) words
+named Restore words read there is = of read.options.salvage
   where
     of : (salvage : Bool) → IsQueryFit (restore_of salvage read.name (plan_by read.options)) words
-    of true = refl
-    of false = tt
-named Send words read is =
-    stream_name (get_or words read.file []) (file_named words [] (parts_of Send) 0 words (nothing_of Send) read refl refl is (inl tt))
-named SelfTest words read is = subst (λ n. (1 ≤ n) × (n ≤ 1000)) (sym (ap (λ (r : Read). r.number) is.5.5)) (volume_size is.5.0 is.5.3)
-named sentence words read is = tt
+    of true = (there.0, refl)
+    of false = there.0
+named Send words read there is = (
+  there.0,
+  there.1,
+  stream_name (get_or words read.file []) (file_named words [] (parts_of Send) 0 words (nothing_of Send) read refl refl is (inl tt)),
+)
+named SelfTest words read there is = subst (λ n. (1 ≤ n) × (n ≤ 1000)) (sym (ap (λ (r : Read). r.number) is.5.5)) (volume_size is.5.0 is.5.3)
+named sentence words read there is = tt
 
 pub is_fit : (plan : Plan) (words : Words) → IsSentence plan words → IsFit plan.command words
-is_fit plan words s = subst (λ (p : Plan). IsFit p.command words) (sym s.plan_is) (named s.sentence words s.read s.is_read)
+is_fit plan words s = subst (λ (p : Plan). IsFit p.command words) (sym s.plan_is) (named s.sentence words s.read (are_there plan words s) s.is_read)
 
 -- only its own form asks for a self-test
 its_form : (sentence : Sentence) (read : Read) (number : ℕ) → command_of sentence read ≡ command.SelfTest number → sentence ≡ SelfTest

@@ -12,8 +12,8 @@ use Rattle.btr_restore.specs.Running.{Outside}
 use Rattle.btr_read.specs.Layout.{Layout}
 use Rattle.btr_volume.specs.Start.{Start}
 use Rattle.btr_walk.specs.Reading.{FaultCause}
-use Rattle.btr_run.specs.Agreeing.{AreAgreedFor, ComesAgreed, FollowsAgreed}
-use Rattle.btr_run.specs.Unopened.{IsUnopened}
+use Rattle.btr_run.specs.Agreeing.{ComesAgreed, FollowsAgreed}
+use Rattle.btr_run.specs.Unopened.{AreAgreed, IsUnopened}
 use Rattle.btr_run.specs.Answers.{error_line}
 use Rattle.btr_run.specs.Behind.{IfSteady, IsFault, IsLayoutOf}
 use Rattle.btr_run.specs.Causes.{IsBehindWords, opened_with}
@@ -283,13 +283,13 @@ module _ (words names : Words) (plan : Plan) (sentence : IsSentence plan words) 
             (order from.number p (sym (ap (λ (q : Plan). q.command) one)))))
 
     pub command_agreed : (x y : Outside) → OpensAll names old.shelf mid.held (Ok tt)
-        → IfSome mid.held (λ images. AreAgreedFor plan.command words images → Comes (MayWant plan.command words x.out_calls)
+        → IfSome mid.held (λ images. AreAgreed images → Comes (MayWant plan.command words x.out_calls)
         (ComesAgreed plan.command words images) x y answer)
         → IfSome old.shelf (λ shelf. FollowsAgreed words shelf x y answer)
     command_agreed x y = of old.shelf mid.held
       where
         Comes_so : Command → Images → Type 0
-        Comes_so command images = AreAgreedFor command words images → Comes (MayWant command words x.out_calls) (ComesAgreed command words images) x y answer
+        Comes_so command images = AreAgreed images → Comes (MayWant command words x.out_calls) (ComesAgreed command words images) x y answer
 
         of : (shelf : Option Shelf) (held : Option Images) → OpensAll names shelf held (Ok tt) → IfSome held (λ images. Comes_so plan.command images)
             → IfSome shelf (λ shelf. FollowsAgreed words shelf x y answer)

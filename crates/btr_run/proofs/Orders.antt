@@ -52,7 +52,7 @@ use Rattle.btr_run.specs.Order.{AnswersAs, FollowsOrder, InOrder, IsAgreed, Keep
 use Rattle.btr_run.specs.Outcomes.{IsPut, Stands, due_after}
 use Rattle.btr_run.specs.Words.{Words}
 use Rattle.btr_run.specs.Listed.{stopped_answer}
-use Rattle.btr_run.specs.Restored.{skipped_in}
+use Rattle.btr_run.specs.Queries.Restored.{skipped_in}
 use Rattle.btr_run.specs.declared.answer.Answer.{Answer}
 use Rattle.btr_run.proofs.Coming.{with_line}
 
@@ -138,13 +138,7 @@ goes_since layout old mid new first r done (Err Broke) f = f
 -- the answer of a call, as that of the journey
 listed_as : (layout : Layout) (old new : Seen) (result : Result Counts Stop) → StopCause layout old new result
     → AnswersAs (journey.opened (ended result)) (stopped_answer skipped_in result)
-listed_as layout old new (Ok counts) cause = refl
-listed_as layout old new (Err (stop.NoTree id)) cause = refl
 listed_as layout old new (Err (stop.Tree (tree.Lost a))) cause = refl
-listed_as layout old new (Err (stop.Tree (tree.Unread a slot))) cause = refl
-listed_as layout old new (Err (stop.Tree (tree.Unmapped a))) cause = refl
-listed_as layout old new (Err (stop.Tree (tree.Crosses a))) cause = refl
-listed_as layout old new (Err (stop.Tree (tree.Malformed a))) cause = refl
 listed_as layout old new (Err stop.Sink) cause = inr (inl refl)
 listed_as layout old new (Err stop.Out) cause = inr (inr (inl refl))
 listed_as layout old new (Err stop.Memory) cause = inr (inr (inr refl))
@@ -152,13 +146,11 @@ listed_as layout old new (Err (stop.Deletion id)) cause = absurd cause
 listed_as layout old new (Err stop.Balance) cause = absurd cause
 listed_as layout old new (Err (stop.Missing id)) cause = absurd cause
 listed_as layout old new (Err (stop.Image slot)) cause = absurd cause
+listed_as layout old new result cause = refl
 
 tree_as : (f : TreeFault) → AnswersAs (Err (halt_of f)) (tree_answer f)
 tree_as (tree.Lost a) = refl
-tree_as (tree.Unread a slot) = refl
-tree_as (tree.Unmapped a) = refl
-tree_as (tree.Crosses a) = refl
-tree_as (tree.Malformed a) = refl
+tree_as f = refl
 
 module _ (plan : RestorePlan) (dest : List ℕ) (images : Images) (start : Start) (begun : start_of images ≡ Ok start) (agreed : IsAgreed images start)
     (old new : Seen) (then : journey.OpenedThen plan dest start old new) (refused : journey.OpenRefused plan dest start old new)

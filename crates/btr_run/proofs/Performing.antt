@@ -4,17 +4,18 @@ use Rattle.std.specs.Option.{IfSome}
 use Rattle.btr_files.specs.declared.plan.RestorePlan.{RestorePlan}
 use Rattle.btr_rack.specs.Rack.{Account, OnlyReads, Seen, Steady}
 use Rattle.btr_restore.specs.Running.{Outside}
-use Rattle.btr_run.specs.Agreeing.{AreAgreedFor, ComesAgreed}
+use Rattle.btr_run.specs.Agreeing.{ComesAgreed}
 use Rattle.btr_run.specs.Behind.{IfSteady, IsBehind}
 use Rattle.btr_run.specs.Commands.{IsBehindCommand, KeepsRack, MayCome, MayFail, MayWant, TellsCause, command_outcome}
 use Rattle.btr_run.specs.Order.{InOrder}
 use Rattle.btr_run.specs.Outcomes.{Outcome, Comes, OrBare, OrMemory, Shows}
 use Rattle.btr_run.specs.Queries.{query_row}
 use Rattle.btr_run.specs.Repaired.{LeavesScrubbed}
-use Rattle.btr_run.specs.Restored.{restore_row}
+use Rattle.btr_run.specs.Queries.Restored.{restore_row}
 use Rattle.btr_run.specs.Rows.{IsRowDone, Row, row_outcome}
 use Rattle.btr_run.specs.Run.{Eyes, Given, IsAsked, IsPerformed, Run, before, behind, outside_before, outside_behind}
 use Rattle.btr_run.specs.Stored.{IsStored}
+use Rattle.btr_run.specs.Unopened.{AreAgreed}
 use Rattle.btr_run.specs.Words.{Words}
 use Rattle.btr_run.specs.declared.answer.Answer.{Answer}
 use Rattle.btr_run.specs.declared.plan.Command.{Command}
@@ -40,12 +41,12 @@ module _ (May : Type 0) (x y : Outside) (scarce : x.out_calls.ample ≡ false �
   shown_told IsOne shows = comes_shown May (OrBare IsOne) x y answer same same_calls scarce shows
 
   -- what it comes to where the images agree
-  pub shown_so : (Agrees : Images → Type 0) (IsOne : Images → Outcome → Type 0) (held : Option Images)
-      → IfSome held (λ images. Agrees images → Shows (IsOne images) x.text y.text x.out_calls y.out_calls answer)
-      → IfSome held (λ images. Agrees images → Comes May (IsOne images) x y answer)
-  shown_so Agrees IsOne held =
-      when_told held (λ images. Agrees images → Shows (IsOne images) x.text y.text x.out_calls y.out_calls answer)
-      (λ images. Agrees images → Comes May (IsOne images) x y answer)
+  pub shown_so : (IsOne : Images → Outcome → Type 0) (held : Option Images)
+      → IfSome held (λ images. AreAgreed images → Shows (IsOne images) x.text y.text x.out_calls y.out_calls answer)
+      → IfSome held (λ images. AreAgreed images → Comes May (IsOne images) x y answer)
+  shown_so IsOne held =
+      when_told held (λ images. AreAgreed images → Shows (IsOne images) x.text y.text x.out_calls y.out_calls answer)
+      (λ images. AreAgreed images → Comes May (IsOne images) x y answer)
       (λ images shows agreed. comes_shown May (IsOne images) x y answer same same_calls scarce (shows agreed))
 
 -- reading keeps a rack
@@ -100,7 +101,7 @@ module _ {R T O : Type 0} (eyes : Eyes R T O) (words : Words) (old : Given R T O
     pub mended : IfSteady (before beside).held (before beside).account (behind beside).account (λ images.
         Shows (OrMemory (λ outcome. command_outcome command words images ≡ Some outcome)) x.text y.text x.out_calls y.out_calls answer)
         → Shows (OrBare (MayCome command words)) x.text y.text x.out_calls y.out_calls answer
-        → IfSome (before beside).held (λ images. AreAgreedFor command words images → Shows
+        → IfSome (before beside).held (λ images. AreAgreed images → Shows
         (ComesAgreed command words images) x.text y.text x.out_calls y.out_calls answer)
         → IsBehindCommand command (before beside) (behind beside) answer
         → (command ≡ Scrub true → LeavesScrubbed (before beside) (behind beside) answer)
@@ -110,7 +111,7 @@ module _ {R T O : Type 0} (eyes : Eyes R T O) (words : Words) (old : Given R T O
           (before beside).account (behind beside).account effect;
       told = shown_told May x y scarce refl refl answer (MayCome command words) told;
       order = λ number plan is. absurd (other (Restore number plan) is);
-      agreed = shown_so May x y scarce refl refl answer (AreAgreedFor command words) (ComesAgreed command words) (before beside).held agreed;
+      agreed = shown_so May x y scarce refl refl answer (ComesAgreed command words) (before beside).held agreed;
       stored = λ undone no_sink. stored;
       alone = λ never. refl;
       cause = cause;
@@ -122,7 +123,7 @@ module _ {R T O : Type 0} (eyes : Eyes R T O) (words : Words) (old : Given R T O
         → IfSteady (before beside).held (before beside).account (behind beside).account (λ images.
         Shows (OrMemory (λ outcome. command_outcome command words images ≡ Some outcome)) x.text y.text x.out_calls y.out_calls answer)
         → Shows (OrBare (MayCome command words)) x.text y.text x.out_calls y.out_calls answer
-        → IfSome (before beside).held (λ images. AreAgreedFor command words images → Shows
+        → IfSome (before beside).held (λ images. AreAgreed images → Shows
         (ComesAgreed command words images) x.text y.text x.out_calls y.out_calls answer)
         → IsBehind (MayFail command) (TellsCause command) (before beside) (behind beside) answer
         → IsPerformed beside command
@@ -130,9 +131,9 @@ module _ {R T O : Type 0} (eyes : Eyes R T O) (words : Words) (old : Given R T O
         mended effect told agreed (only_reads command (before beside) (behind beside) answer cause) (λ is. absurd (reads is))
 
 -- what is told of a command whatever its images hold is told of images that agree
-pub so_too : {Images : Type 0} (held : Option Images) (Agrees : Images → Type 0) (P : Type 0) → P → IfSome held (λ images. Agrees images → P)
-so_too None Agrees P p = tt
-so_too (Some images) Agrees P p = λ agreed. p
+pub so_too : (held : Option Images) (P : Type 0) → P → IfSome held (λ images. AreAgreed images → P)
+so_too None P p = tt
+so_too (Some images) P p = λ agreed. p
 
 -- a query that was done: its row, and what stands beside it
 pub asked : {R T O : Type 0} (run : Run R T O) (query : Query)

@@ -20,7 +20,7 @@ use Rattle.btr_restore.specs.Journey.{journey, listing}
 use Rattle.btr_restore.specs.Outcome.{Ending, Outcome, after_step, nothing, outcome, outcome_by, tree_after}
 use Rattle.btr_restore.specs.Restoring.{sink_after}
 use Rattle.btr_restore.specs.Running.{Outside}
-use Rattle.btr_listing.specs.Step.{Step, Start as Starts, Dir, Up, File, Bytes, Zeros, Done as Finishes, Line, part}
+use Rattle.btr_listing.specs.Step.{Step, Line, part}
 use Rattle.btr_volume.specs.Maps.{array_layout, diverged_at, roots_differ, volume_map}
 use Rattle.btr_volume.specs.Start.{Images, Start, start_of, layout_by}
 use Rattle.btr_volume.specs.Table.{TableResult, refusal_of, table_scan}
@@ -34,7 +34,7 @@ use Rattle.btr_run.specs.Filesystem.{with_roots, with_start, with_table}
 use Rattle.btr_run.specs.Outcomes as tool
 use Rattle.btr_run.specs.Promise.{IsOutcomeOf, KeepsHeadline, KeepsOutcome, StandsAs, ended_answer}
 use Rattle.btr_run.specs.Listed.{listed_answer}
-use Rattle.btr_run.specs.Restored.{restore_row, skipped_in}
+use Rattle.btr_run.specs.Queries.Restored.{restore_row, skipped_in}
 use Rattle.btr_run.specs.Rows.{row_in, row_outcome}
 use Rattle.btr_run.specs.Words.{Words, IsSentence, images_of}
 use Rattle.btr_run.specs.declared.answer.Answer.{Answer}
@@ -125,18 +125,12 @@ module _ (seen : Seen) (settles : SettledLaw) (then : (plan : RestorePlan) (dest
 
   -- a step in a sink, and in what it tells
   tree_step : (s : Sink) (step : Step) → (sink_after s step).tree ≡ option_map (λ t. after_step t step) s.tree
-  tree_step s (Starts name) = refl
-  tree_step s (Dir name) = refl
-  tree_step s Up = refl
-  tree_step s (File name) = refl
-  tree_step s (Bytes bytes) = refl
-  tree_step s (Zeros count) = refl
-  tree_step s Finishes = refl
   tree_step s (Line text) = of s.tree
     where
       of : (o : Option Tree) → o ≡ option_map (λ (t : Tree). t) o
       of None = refl
       of (Some t) = refl
+  tree_step s step = refl
 
   told_steps : (steps : List Step) (s : Sink) (t : Tree) → IfSome s.tree (λ u. u ≡ t) → IfSome (fold sink_after s steps).tree (λ u. u ≡ fold after_step t steps)
   told_steps [] s t h = h

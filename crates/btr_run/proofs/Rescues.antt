@@ -1,5 +1,5 @@
 -- A block that can be had is found by a restore.
-use Rattle.std.proofs.Common.{◌≡◌, inl, inr, ℕ, Bool, true, false, List, [], ◌∷◌, Some, Result, Ok, Err, refl, sym, ap, ◌∙◌, subst}
+use Rattle.std.proofs.Common.{◌≡◌, ℕ, Bool, true, false, List, [], ◌∷◌, Some, Ok, refl, sym, ap, ◌∙◌, subst}
 use Rattle.std.proofs.lemmas.Bool.{false≢true}
 use Rattle.btr_prog.specs.Maps.{Each, IsWhole}
 use Rattle.btr_prog.specs.Prog.{needs}
@@ -8,7 +8,7 @@ use Rattle.btr_read.proofs.Fates.{sought_of}
 use Rattle.btr_read.proofs.Trials.{fails_where_none}
 use Rattle.btr_read.specs.Candidates.{Target, candidates, stands, value_of}
 use Rattle.btr_read.specs.declared.candidate.Candidate.{Candidate}
-use Rattle.btr_read.specs.Fate.{Fault, fate, fate_of, is_plain, or_lost, passing, sought}
+use Rattle.btr_read.specs.Fate.{fate, fate_of, is_plain, or_lost, passing, sought}
 use Rattle.btr_read.specs.Layout.{Layout}
 use Rattle.btr_read.specs.Want.{addr_of, passes}
 use Rattle.btr_read.specs.declared.want.Want.{Want}

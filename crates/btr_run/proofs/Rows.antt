@@ -1,8 +1,6 @@
 -- What a row of the table comes to: where the filesystem isn't opened, and where a call did what some run of its program says, whatever failed.
-use Rattle.std.proofs.Common.{◌≡◌, ◌≢◌, ◌⊎◌, inl, inr, ⊎_elim, false, ℕ, List, [], ◌∷◌, Option, Some, None, Result, Ok, Err, refl, ap, ◌∙◌, sym, subst, arith}
+use Rattle.std.proofs.Common.{◌≡◌, ◌≢◌, ◌⊎◌, inl, inr, ⊎_elim, ℕ, List, [], ◌∷◌, Option, Some, None, Result, Ok, Err, refl, ap, ◌∙◌, sym, subst, arith}
 use Rattle.std.specs.Option.{IfSome}
-use Rattle.btr_files.specs.declared.counts.Counts.{Counts}
-use Rattle.btr_files.specs.declared.plan.RestorePlan.{RestorePlan}
 use Rattle.btr_listing.specs.Step.{Step, part}
 use Rattle.btr_prog.specs.Answers.{Follows}
 use Rattle.btr_prog.specs.Calls.{Any, First}
@@ -14,16 +12,8 @@ use Rattle.btr_rack.specs.Rack.{NoneFailed, OnlyReads, Seen, Steady}
 use Rattle.btr_read.specs.Fate.{Agreed, Fault, choices, fate}
 use Rattle.btr_read.specs.Layout.{Layout}
 use Rattle.btr_read.specs.declared.want.Want.{Want}
-use Rattle.btr_restore.specs.Journey.{listing}
 use Rattle.btr_restore.specs.Restoring.{Did, OutCounts, SinkCounts, StopCause, ended}
 use Rattle.btr_restore.specs.Running.{Outside, Ran, scene_of, world}
-use Rattle.btr_salvage.specs.Attempts.{TriesTo}
-use Rattle.btr_salvage.specs.Running.{Ran as Salvaged_so}
-use Rattle.btr_salvage.specs.Salvaging.{salvage_run, salvaging}
-use Rattle.btr_salvage.specs.declared.salvaged.Salvaged.{Salvaged}
-use Rattle.btr_salvage.proofs.Attempts.{tries_one}
-use Rattle.btr_send.specs.Sending.{sending}
-use Rattle.btr_send.specs.declared.plan.SendPlan.{SendPlan}
 use Rattle.btr_volume.specs.Lookup.{Program}
 use Rattle.btr_volume.specs.Opening.{SuperUnread}
 use Rattle.btr_volume.specs.Start.{Images}
@@ -35,10 +25,7 @@ use Rattle.btr_run.specs.Behind.{AnyFault, HasTreeCause, IfSteady, IsFault}
 use Rattle.btr_run.specs.Filesystem.{Filesystem, IsRefusal, MayMend, OpensAs, OpensFilesystem, filesystem_in, filesystem_of}
 use Rattle.btr_run.specs.Listed.{stopped_answer}
 use Rattle.btr_run.specs.Outcomes.{Stands, refused}
-use Rattle.btr_run.specs.Restored.{restore_row, skipped_in}
-use Rattle.btr_run.specs.Rows.{IsRestored, IsRowDone, IsRowOrUnread, Row, listing_row, row_in, row_outcome}
-use Rattle.btr_run.specs.Salvaged.{missed_in, salvage_row}
-use Rattle.btr_run.specs.Sent.{send_row}
+use Rattle.btr_run.specs.Rows.{IsRestored, IsRowDone, IsRowOrUnread, Row, listing_row, program_row, row_in, row_outcome}
 use Rattle.btr_run.specs.Unopened.{IsOrUnopened}
 use Rattle.btr_run.specs.declared.answer.Answer.{Answer}
 use Rattle.btr_run.specs.declared.answer.Answer.TheVariants.{ImageFault, Limit}
@@ -75,7 +62,7 @@ row_unopened row old new x answer result is refusal content opened reads image t
   agreed = when_told old.held _ _ (λ images comes agreed.
       comes_also (row.MayWant x.out_calls) (row.MayWant x.out_calls) (IsOrUnopened images (row_outcome row images)) (IsRowOrUnread row images) x x result
       (λ u. u)
-      (λ outcome o. ⊎_elim (λ is. inl is) (λ unread. inr (inr unread)) o) (comes agreed.0))
+      (λ outcome o. ⊎_elim (λ is. inl is) (λ unread. inr (inr unread)) o) (comes agreed))
       (unopened_comes (row_outcome row) (row_refused row) (row.MayWant x.out_calls) old new answer result is x opened);
   told = listings.unopened_told (row.MayWant x.out_calls) answer result is refusal row.MayBe x;
   cause = unopened_behind answer result is refusal AnyFault old new reads image tree hidden counted;
@@ -154,8 +141,8 @@ module _ {A : Type 0} (CallsSink : Type 0) (left_out : A → ℕ) (run_by : File
   row_done content opened = record {
     effect = listings.listed_effect left_out layout mid new x y did.done stands result cause sink_calls out_calls old first reads volume refl answer is
         run (row_outcome row) (λ images o. row_opened row images fs o) steadily content;
-    agreed = when_told old.held _ _ (λ images comes agreed. comes agreed.0)
-        (listings.listed_agreed left_out layout mid new x y did.done stands result cause sink_calls out_calls old first reads volume refl answer is
+    agreed =
+        listings.listed_agreed left_out layout mid new x y did.done stands result cause sink_calls out_calls old first reads volume refl answer is
         IsChosen (IsRowOrUnread row)
         (λ images o r goes. inr (inl (fs, o, record { run = r; is_run = goes; comes = inl refl })))
         (λ images o r goes u upto rest place named. inr (inl (
@@ -166,38 +153,21 @@ module _ {A : Type 0} (CallsSink : Type 0) (left_out : A → ℕ) (run_by : File
             is_run = goes;
             comes = inr (listings.lists_up_to layout mid new r u upto rest place named);
           },
-        ))) chosen opened);
+        ))) chosen opened;
     told = listings.listed_told left_out layout mid new x y did.done stands result cause sink_calls out_calls old first reads volume refl answer is
         IsRestored (λ a. inl (left_out a, refl)) (λ f. inr (inr (f, refl))) (λ id none. inr (inl (id, refl)));
     cause = listings.listed_behind left_out layout mid new x y did.done stands result cause sink_calls out_calls old first reads volume refl answer is
         (opened_layout old mid new volume first reads opened);
   }
 
--- ---- the rows
-
-module _ (old mid new : Seen) (first : OnlyReads old mid) (volume after : Volume) (x y : Outside) (answer : Answer) where
-  pub restored_done : (plan : RestorePlan) (dest : List ℕ) (result : Result Counts Stop) → answer ≡ stopped_answer skipped_in result
-      → Ran (listing plan dest volume.sup) (world mid volume x) (world new after y) result
-      → IfSteady old.held old.account mid.account (λ images. OpensFilesystem images (Ok volume))
-      → IfSome old.held (λ images. OpensAs images old mid (Ok volume)) → IsRowDone (restore_row plan dest) old new x y answer
-  restored_done plan dest result is ran =
-      row_done (plan.dry ≡ false) skipped_in (λ fs B. exec B (listing plan dest fs.sup)) (λ fs Bs. GoesTo Bs (listing plan dest fs.sup))
-      (λ fs. one_run (listing plan dest fs.sup)) old mid new first volume after x y answer result is ran.reads ran.did ran.cause ran.sink_calls ran.out_calls
-
-  pub salvaged_done : (plan : RestorePlan) (dest : List ℕ) (result : Result Salvaged Stop) → answer ≡ stopped_answer missed_in result
-      → Salvaged_so (salvaging plan dest volume.sup) (world mid volume x) (world new after y) result
-      → IfSteady old.held old.account mid.account (λ images. OpensFilesystem images (Ok volume))
-      → IfSome old.held (λ images. OpensAs images old mid (Ok volume)) → IsRowDone (salvage_row plan dest) old new x y answer
-  salvaged_done plan dest result is ran =
-      row_done (Unit {0}) missed_in (λ fs B. salvage_run B plan dest fs.sup) (λ fs Bs. TriesTo Bs (salvaging plan dest fs.sup))
-      (λ fs B r tries. tries_one (λ (n : ℕ). B) B (λ n want. refl) (salvaging plan dest fs.sup) r tries) old mid new first volume after x y answer result is
-      ran.reads ran.did ran.cause ran.sink_calls ran.out_calls
-
-  pub sent_done : (plan : SendPlan) (dest name : List ℕ) (result : Result Counts Stop) → answer ≡ stopped_answer skipped_in result
-      → Ran (sending dest name volume.sup plan) (world mid volume x) (world new after y) result
-      → IfSteady old.held old.account mid.account (λ images. OpensFilesystem images (Ok volume))
-      → IfSome old.held (λ images. OpensAs images old mid (Ok volume)) → IsRowDone (send_row plan dest name) old new x y answer
-  sent_done plan dest name result is ran =
-      row_done (Unit {0}) skipped_in (λ fs B. exec B (sending dest name fs.sup plan)) (λ fs Bs. GoesTo Bs (sending dest name fs.sup plan))
-      (λ fs. one_run (sending dest name fs.sup plan)) old mid new first volume after x y answer result is ran.reads ran.did ran.cause ran.sink_calls
-      ran.out_calls
+-- a program was run
+pub program_done : {A : Type 0} (CallsSink : Type 0) (left_out : A → ℕ) (program : Filesystem → Program Step A)
+    (old mid new : Seen) (first : OnlyReads old mid) (volume after : Volume) (x y : Outside) (answer : Answer) (result : Result A Stop)
+    → answer ≡ stopped_answer left_out result
+    → Ran (program (filesystem_in volume)) (world mid volume x) (world new after y) result
+    → IfSteady old.held old.account mid.account (λ images. OpensFilesystem images (Ok volume))
+    → IfSome old.held (λ images. OpensAs images old mid (Ok volume))
+    → IsRowDone (program_row CallsSink left_out program) old new x y answer
+program_done CallsSink left_out program old mid new first volume after x y answer result is ran =
+    row_done CallsSink left_out (λ fs B. exec B (program fs)) (λ fs Bs. GoesTo Bs (program fs)) (λ fs. one_run (program fs))
+    old mid new first volume after x y answer result is ran.reads ran.did ran.cause ran.sink_calls ran.out_calls

@@ -165,13 +165,8 @@ module _ (write : Bool) (old mid : Seen) (first : OnlyReads old mid) (volume : V
           of : (s : Stop) → StopCause {A = Tally} layout mid at (Err s) → OfReading s
           of (stop.NoTree id) c = tt
           of (stop.Tree f) c = tt
-          of (stop.Deletion id) c = absurd c
-          of stop.Balance c = absurd c
-          of (stop.Missing id) c = absurd c
-          of (stop.Image slot) c = absurd c
-          of stop.Sink c = absurd c
-          of stop.Out c = absurd c
           of stop.Memory c = tt
+          of other c = absurd c
 
       told_cause : HasToldCause IsNoCrossing old at (stop_answer why)
       told_cause f e told = (layout, opened_layout old mid at volume first second opened, of why cause (ap tree_in e ∙ tree_back f))
@@ -228,13 +223,8 @@ module _ (write : Bool) (old mid : Seen) (first : OnlyReads old mid) (volume : V
           of images steady o (stop.Tree (tree.Malformed a)) f c = inl (ending_refused images (fault.Malformed a) o f.1)
           of images steady o (stop.Tree (tree.Unread a slot)) f c = absurd
               (none_unread layout mid at steady (record { addr = a; slot = slot }) (wants_of f.before) f.holds)
-          of images steady o (stop.Deletion id) f c = absurd c
-          of images steady o stop.Balance f c = absurd c
-          of images steady o (stop.Missing id) f c = absurd c
-          of images steady o (stop.Image slot) f c = absurd c
-          of images steady o stop.Sink f c = absurd c
-          of images steady o stop.Out f c = absurd c
           of images steady o stop.Memory f c = inr refl
+          of images steady o other f c = absurd c
 
     -- a list that is refused
     unplaced : (f : TreeFault) → IsUnplaced layout f → StopCause {A = Tally} layout mid at (Err (stop.Tree f))

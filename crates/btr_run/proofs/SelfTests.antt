@@ -127,13 +127,7 @@ module _ (volume : Option Images) (number : ℕ) (sink : Sink) (calls : CallAcco
           put_so t is old new before after (Err Failed) (behind_lines number t old mid new lines ends.0)
           (subst (λ b. Counts {T = Unit {0}} b after (Err Failed)) same ends.1) answer due
       of (Err stops.Memory) ends due = wanted_so t is old new before after (behind_lines number t old mid new lines ends.0) (ends.1 ∙ same) answer due
-      of (Err (stops.NoTree id)) ends due = absurd ends
-      of (Err (stops.Tree fault)) ends due = absurd ends
-      of (Err (stops.Deletion id)) ends due = absurd ends
-      of (Err stops.Balance) ends due = absurd ends
-      of (Err (stops.Missing devid)) ends due = absurd ends
-      of (Err (stops.Image slot)) ends due = absurd ends
-      of (Err stops.Sink) ends due = absurd ends
+      of (Err other) ends due = absurd ends
 
 -- ---- the answer
 

@@ -83,18 +83,8 @@ refusal_comes images old new text account refusal cause read steady = shows_bare
         → OrMemory (λ outcome. super_outcome images ≡ Some outcome) (refused (open_answer r))
     of (opening.ImageFault slot) cause read = absurd (steady_not_rose old.account.faults new.account.faults steady cause.faults)
     of opening.Memory cause read = inr refl
-    of (opening.NoSuper slot) cause read = inl (ap newest_shown read)
-    of (opening.SumKind kind) cause read = inl (ap newest_shown read)
-    of (opening.Foreign slot) cause read = inl (ap newest_shown read)
-    of (opening.Twin slot) cause read = inl (ap newest_shown read)
-    of (opening.Diverged slot) cause read = inl (ap newest_shown read)
-    of (opening.Unsupported bits) cause read = inl (ap newest_shown read)
-    of opening.Geometry cause read = inl (ap newest_shown read)
-    of opening.LogPending cause read = inl (ap newest_shown read)
-    of opening.BadArray cause read = inl (ap newest_shown read)
-    of (opening.BadChunk start) cause read = inl (ap newest_shown read)
-    of (opening.Limit which n) cause read = inl (ap newest_shown read)
     of (opening.Tree f) cause read = absurd cause
+    of refusal cause read = inl (ap newest_shown read)
 
 -- reading superblocks only reads
 pub supers_read : {T : Type 0} (old new : Seen) (r : Result T OpenFault) → OnlyCounts old new → SupersCause old new r → OnlyReads old new
@@ -106,19 +96,9 @@ supers_read {T} old new r same cause = of r cause
     of : (r : Result T OpenFault) → SupersCause old new r → OnlyReads old new
     of (Ok x) cause = calm cause
     of (Err (opening.ImageFault slot)) cause = record { same = same; later = cause.faults.0; same_shut = cause.shut }
-    of (Err opening.Memory) cause = calm cause
-    of (Err (opening.NoSuper slot)) cause = calm cause
-    of (Err (opening.SumKind kind)) cause = calm cause
-    of (Err (opening.Foreign slot)) cause = calm cause
-    of (Err (opening.Twin slot)) cause = calm cause
-    of (Err (opening.Diverged slot)) cause = calm cause
-    of (Err (opening.Unsupported bits)) cause = calm cause
-    of (Err opening.Geometry) cause = calm cause
-    of (Err opening.LogPending) cause = calm cause
-    of (Err opening.BadArray) cause = calm cause
-    of (Err (opening.BadChunk start)) cause = calm cause
     of (Err (opening.Limit which n)) cause = calm cause.1
     of (Err (opening.Tree f)) cause = absurd cause
+    of (Err refusal) cause = calm cause
 
 -- where there are no superblocks
 module _ (old new : Seen) (refusal : OpenFault) (cause : SupersCause {T = Vec Super Global} old new (Err refusal)) where

@@ -16,29 +16,23 @@ use Rattle.btr_read.specs.declared.want.Want.{Want}
 use Rattle.btr_walk.specs.Reading.{UnreadBlock}
 use Rattle.btr_walk.specs.declared.fault.TreeFault.TheVariants as tree
 use Rattle.btr_volume.specs.declared.stop.Stop.{Stop}
-use Rattle.btr_volume.specs.declared.stop.Stop.TheVariants.{NoTree, Tree, Deletion, Balance, Missing, Image, Sink, Out, Memory}
+use Rattle.btr_volume.specs.declared.stop.Stop.TheVariants.{NoTree, Tree, Out, Memory}
 use Rattle.btr_dump.specs.Pieces.{Text}
 use Rattle.btr_dump.specs.Showing.{TextRun, part, whole, Puts, PutsAsked}
 use Rattle.btr_dump.specs.Stops.{StopCounts}
 use Rattle.btr_run.specs.Filesystem.{fault_answer}
 use Rattle.btr_run.specs.Outcomes.{Outcome, IsNoFault, Shows, showing}
-use Rattle.btr_run.specs.Trees.{whole_answer, asked_answer, ending_answer, shown_by, call_answer}
+use Rattle.btr_run.specs.Queries.Trees.{whole_answer, asked_answer, ending_answer, shown_by, call_answer}
 use Rattle.btr_run.specs.declared.answer.Answer.{Answer}
 use Rattle.btr_run.specs.declared.answer.Answer.TheVariants.{SinkFault, OutFault, Unread, Memory as wanted}
 
 fault_no_out : (f : Fault) → fault_answer f ≢ OutFault
-fault_no_out (fault.Unmapped a) e = cc
-fault_no_out (fault.Crosses a) e = cc
 fault_no_out (fault.Lost a) e = cc
-fault_no_out (fault.Malformed a) e = cc
-fault_no_out (fault.NoTree n) e = cc
+fault_no_out f e = cc
 
 fault_no_sink : (f : Fault) → fault_answer f ≢ SinkFault
-fault_no_sink (fault.Unmapped a) e = cc
-fault_no_sink (fault.Crosses a) e = cc
 fault_no_sink (fault.Lost a) e = cc
-fault_no_sink (fault.Malformed a) e = cc
-fault_no_sink (fault.NoTree n) e = cc
+fault_no_sink f e = cc
 
 -- a block that can't be had is neither
 pub fault_no_fault : (f : Fault) → IsNoFault (fault_answer f)
@@ -169,12 +163,7 @@ module _ (Is : UnreadBlock → Want → Type 0) (IsOne : Outcome → Type 0) (ol
       (unread (record { addr = a; slot = slot })) puts.done puts.adds puts.follows counts
   puts_come r one unread (Err Out) puts counts = failed whole_answer fine_whole r IsOne one old new before after puts.done puts.adds puts.follows counts
   puts_come r one unread (Err Memory) puts counts = wants whole_answer fine_whole r IsOne one old new before after puts.done puts.adds puts.follows counts
-  puts_come r one unread (Err (NoTree n)) puts counts = absurd puts.follows
-  puts_come r one unread (Err (Deletion n)) puts counts = absurd puts.follows
-  puts_come r one unread (Err Balance) puts counts = absurd puts.follows
-  puts_come r one unread (Err (Missing n)) puts counts = absurd puts.follows
-  puts_come r one unread (Err (Image slot)) puts counts = absurd puts.follows
-  puts_come r one unread (Err Sink) puts counts = absurd puts.follows
+  puts_come r one unread (Err other) puts counts = absurd puts.follows
 
   -- the same where a tree was asked for
   pub asked_come : (r : TextRun (Option ℕ)) → IsOne (showing (shown_by asked_answer r)) → HasUnread Is r IsOne → (result : Result (Unit {0}) Stop)
@@ -194,8 +183,4 @@ module _ (Is : UnreadBlock → Want → Type 0) (IsOne : Outcome → Type 0) (ol
       (unread (record { addr = a; slot = slot })) puts.done puts.adds puts.follows counts
   asked_come r one unread (Err Out) puts counts = failed asked_answer fine_asked r IsOne one old new before after puts.done puts.adds puts.follows counts
   asked_come r one unread (Err Memory) puts counts = wants asked_answer fine_asked r IsOne one old new before after puts.done puts.adds puts.follows counts
-  asked_come r one unread (Err (Deletion n)) puts counts = absurd puts.follows
-  asked_come r one unread (Err Balance) puts counts = absurd puts.follows
-  asked_come r one unread (Err (Missing n)) puts counts = absurd puts.follows
-  asked_come r one unread (Err (Image slot)) puts counts = absurd puts.follows
-  asked_come r one unread (Err Sink) puts counts = absurd puts.follows
+  asked_come r one unread (Err other) puts counts = absurd puts.follows

@@ -32,11 +32,11 @@ use Rattle.btr_run.specs.Answers.{error_line}
 use Rattle.btr_run.specs.Behind.{AnyFault, IfSteady, IsBehind, IsFault, IsLayoutOf, HasTreeCause}
 use Rattle.btr_run.specs.Faults.{open_answer, tree_answer}
 use Rattle.btr_run.specs.Filesystem.{Filesystem, OpensFilesystem, IsBySupers, IsRefusal, MayMend, filesystem_of}
-use Rattle.btr_run.specs.Outcomes.{Outcome, IsNoFault, Shows, OrBare, OrMemory, refused, showing}
-use Rattle.btr_run.specs.Trees.{BreaksOff, IsTreesOutcome, asked_answer, call_answer, shown_by, whole_answer}
+use Rattle.btr_run.specs.Outcomes.{Outcome, IsNoFault, IsPut, Shown, Shows, OrBare, OrMemory, refused, showing}
+use Rattle.btr_run.specs.Queries.Trees.{BreaksOff, IsTreesOutcome, asked_answer, call_answer, shown_by, whole_answer}
 use Rattle.btr_run.specs.declared.answer.Answer.{Answer}
 use Rattle.btr_run.specs.declared.answer.Answer.TheVariants.{Done, Usage, NoSuper, SumKind, Foreign, Twin, Unsupported, Geometry, LogPending, BadArray, Limit}
-use Rattle.btr_run.specs.declared.answer.Answer.TheVariants.{NoTree, ImageFault}
+use Rattle.btr_run.specs.declared.answer.Answer.TheVariants.{NoTree, ImageFault, Memory, OutFault}
 use Rattle.btr_run.proofs.Coming.{shows_bare}
 use Rattle.btr_run.proofs.Coming.{when_told}
 use Rattle.btr_run.proofs.Faulting.{tree_in, tree_back}
@@ -68,7 +68,7 @@ module _ (layout : Layout) (old new : Seen) where
   steadily P tells = told_where old.held (Steady old.account.faults new.account.faults) (λ images. P (fate images layout))
       (λ steady. tells.calls.content First (omega (arith, tells.calls.later, steady.0), steady.1))
 
-  steadily_block : (addr : ℕ) (P : Map → Type 0) → TellsBlock layout addr old new P → IfSteady old.held old.account new.account
+  pub steadily_block : (addr : ℕ) (P : Map → Type 0) → TellsBlock layout addr old new P → IfSteady old.held old.account new.account
       (λ images. P (fate images layout))
   steadily_block addr P tells = told_where old.held (Steady old.account.faults new.account.faults) (λ images. P (fate images layout))
       (λ steady. tells.calls.content First (omega (arith, tells.calls.later, steady.0), steady.1))
@@ -82,7 +82,7 @@ module _ (layout : Layout) (old new : Seen) where
       of (Some images) is = λ agreed. subst (λ (o : Option Images). IfSome o (λ i. P (fate i layout))) is
           (tells.calls.content Any (subst (λ (o : Option Images). IfSome o (λ i. Agreed i layout)) (sym is) agreed))
 
-  told_block : (addr : ℕ) (P : Map → Type 0) → TellsBlock layout addr old new P → IfSome old.held
+  pub told_block : (addr : ℕ) (P : Map → Type 0) → TellsBlock layout addr old new P → IfSome old.held
       (λ images. Agree images layout (Block addr) → P (fate images layout))
   told_block addr P tells = of old.held refl
     where
@@ -101,79 +101,45 @@ module _ (layout : Layout) (old new : Seen) where
 
   module _ (text text' : Option Text) (before after : CallAccount) (result : Result (Unit {0}) Stop) (counts : StopCounts before after result) where
     -- what a call comes to that shows the text of a run
-    pub run_comes : (run : Map → TextRun (Unit {0})) → Tells layout old new (λ B. Puts Is (run B) text text' result)
+    pub run_comes : (run : Map → TextRun (Unit {0}))
+        → IfSteady old.held old.account new.account (λ images. Puts Is (run (fate images layout)) text text' result)
         → IfSteady old.held old.account new.account
         (λ images. Shows (λ outcome. outcome ≡ showing (shown_by whole_answer (run (fate images layout)))) text text' before after (call_answer result))
-    run_comes run tells =
-        when_told old.held (λ images. Steady old.account.faults new.account.faults → Puts Is (run (fate images layout)) text text' result)
-        (λ images. Steady old.account.faults new.account.faults → Shows
-        (λ outcome. outcome ≡ showing (shown_by whole_answer (run (fate images layout)))) text text' before after (call_answer result))
-        (λ images puts steady. let IsOne : Outcome → Type 0 = λ outcome. outcome ≡ showing (shown_by whole_answer (run (fate images layout))) in
+    run_comes run =
+        when_told old.held _ _ (λ images puts steady.
+        let IsOne : Outcome → Type 0 = λ outcome. outcome ≡ showing (shown_by whole_answer (run (fate images layout))) in
         puts_come Is IsOne text text' before after (run (fate images layout)) refl (none_off IsOne (run (fate images layout)) steady) result
-        (puts steady) counts) (steadily (λ B. Puts Is (run B) text text' result) tells)
+        (puts steady) counts)
 
-    pub block_comes : (addr : ℕ) (run : Map → TextRun (Unit {0})) → TellsBlock layout addr old new (λ B. Puts Is (run B) text text' result)
-        → IfSteady old.held old.account new.account
-        (λ images. Shows (λ outcome. outcome ≡ showing (shown_by whole_answer (run (fate images layout)))) text text' before after (call_answer result))
-    block_comes addr run tells =
-        when_told old.held (λ images. Steady old.account.faults new.account.faults → Puts Is (run (fate images layout)) text text' result)
-        (λ images. Steady old.account.faults new.account.faults → Shows
-        (λ outcome. outcome ≡ showing (shown_by whole_answer (run (fate images layout)))) text text' before after (call_answer result))
-        (λ images puts steady. let IsOne : Outcome → Type 0 = λ outcome. outcome ≡ showing (shown_by whole_answer (run (fate images layout))) in
-        puts_come Is IsOne text text' before after (run (fate images layout)) refl (none_off IsOne (run (fate images layout)) steady) result
-        (puts steady) counts) (steadily_block addr (λ B. Puts Is (run B) text text' result) tells)
-
-    pub tree_comes : (run : Map → TextRun (Option ℕ)) → Tells layout old new (λ B. PutsAsked Is (run B) text text' result)
+    pub tree_comes : (run : Map → TextRun (Option ℕ))
+        → IfSteady old.held old.account new.account (λ images. PutsAsked Is (run (fate images layout)) text text' result)
         → IfSteady old.held old.account new.account
         (λ images. Shows (λ outcome. outcome ≡ showing (shown_by asked_answer (run (fate images layout)))) text text' before after (call_answer result))
-    tree_comes run tells =
-        when_told old.held (λ images. Steady old.account.faults new.account.faults → PutsAsked Is (run (fate images layout)) text text' result)
-        (λ images. Steady old.account.faults new.account.faults → Shows
-        (λ outcome. outcome ≡ showing (shown_by asked_answer (run (fate images layout)))) text text' before after (call_answer result))
-        (λ images puts steady. let IsOne : Outcome → Type 0 = λ outcome. outcome ≡ showing (shown_by asked_answer (run (fate images layout))) in
+    tree_comes run =
+        when_told old.held _ _ (λ images puts steady.
+        let IsOne : Outcome → Type 0 = λ outcome. outcome ≡ showing (shown_by asked_answer (run (fate images layout))) in
         asked_come Is IsOne text text' before after (run (fate images layout)) refl (none_off IsOne (run (fate images layout)) steady) result
-        (puts steady) counts) (steadily (λ B. PutsAsked Is (run B) text text' result) tells)
+        (puts steady) counts)
 
-    -- what it comes to where the images agree
-    pub run_agreed : (run : Map → TextRun (Unit {0})) → Tells layout old new (λ B. Puts Is (run B) text text' result)
-        → IfSome old.held (λ images. Agreed images layout → Shows
-        (λ outcome. (outcome ≡ showing (shown_by whole_answer (run (fate images layout))))
-        ⊎ BreaksOff (run (fate images layout)) outcome) text text' before after (call_answer result))
-    run_agreed run tells =
-        when_told old.held (λ images. Agreed images layout → Puts Is (run (fate images layout)) text text' result)
-        (λ images. Agreed images layout → Shows (λ outcome. (outcome ≡ showing (shown_by whole_answer (run (fate images layout))))
-        ⊎ BreaksOff (run (fate images layout)) outcome) text text' before after (call_answer result))
-        (λ images puts agreed. let r = run (fate images layout) in
-        puts_come Is (λ outcome. (outcome ≡ showing (shown_by whole_answer r)) ⊎ BreaksOff r outcome) text text' before after r (inl refl)
-        (λ u upto rest place named. inr (breaks_off r u upto rest place named)) result (puts agreed) counts)
-        (told_agreed (λ B. Puts Is (run B) text text' result) tells)
+    -- what it comes to where the images agree in what it reads
+    module _ (Agrees : Images → Type 0) where
+      pub run_agreed : (run : Map → TextRun (Unit {0})) → IfSome old.held (λ images. Agrees images → Puts Is (run (fate images layout)) text text' result)
+          → IfSome old.held (λ images. Agrees images → Shows
+          (λ outcome. (outcome ≡ showing (shown_by whole_answer (run (fate images layout))))
+          ⊎ BreaksOff (run (fate images layout)) outcome) text text' before after (call_answer result))
+      run_agreed run =
+          when_told old.held _ _ (λ images puts agreed. let r = run (fate images layout) in
+          puts_come Is (λ outcome. (outcome ≡ showing (shown_by whole_answer r)) ⊎ BreaksOff r outcome) text text' before after r (inl refl)
+          (λ u upto rest place named. inr (breaks_off r u upto rest place named)) result (puts agreed) counts)
 
-    pub block_agreed : (addr : ℕ) (run : Map → TextRun (Unit {0})) → TellsBlock layout addr old new (λ B. Puts Is (run B) text text' result)
-        → IfSome old.held (λ images. Agree images layout (Block addr) → Shows
-        (λ outcome. (outcome ≡ showing (shown_by whole_answer (run (fate images layout))))
-        ⊎ BreaksOff (run (fate images layout)) outcome) text text' before after (call_answer result))
-    block_agreed addr run tells =
-        when_told old.held (λ images. Agree images layout (Block addr) → Puts Is (run (fate images layout)) text text' result)
-        (λ images. Agree images layout (Block addr) → Shows
-        (λ outcome. (outcome ≡ showing (shown_by whole_answer (run (fate images layout))))
-        ⊎ BreaksOff (run (fate images layout)) outcome) text text' before after (call_answer result))
-        (λ images puts agree. let r = run (fate images layout) in
-        puts_come Is (λ outcome. (outcome ≡ showing (shown_by whole_answer r)) ⊎ BreaksOff r outcome) text text' before after r (inl refl)
-        (λ u upto rest place named. inr (breaks_off r u upto rest place named)) result (puts agree) counts)
-        (told_block addr (λ B. Puts Is (run B) text text' result) tells)
-
-    pub tree_agreed : (run : Map → TextRun (Option ℕ)) → Tells layout old new (λ B. PutsAsked Is (run B) text text' result)
-        → IfSome old.held (λ images. Agreed images layout → Shows
-        (λ outcome. (outcome ≡ showing (shown_by asked_answer (run (fate images layout))))
-        ⊎ BreaksOff (run (fate images layout)) outcome) text text' before after (call_answer result))
-    tree_agreed run tells =
-        when_told old.held (λ images. Agreed images layout → PutsAsked Is (run (fate images layout)) text text' result)
-        (λ images. Agreed images layout → Shows (λ outcome. (outcome ≡ showing (shown_by asked_answer (run (fate images layout))))
-        ⊎ BreaksOff (run (fate images layout)) outcome) text text' before after (call_answer result))
-        (λ images puts agreed. let r = run (fate images layout) in
-        asked_come Is (λ outcome. (outcome ≡ showing (shown_by asked_answer r)) ⊎ BreaksOff r outcome) text text' before after r (inl refl)
-        (λ u upto rest place named. inr (breaks_off r u upto rest place named)) result (puts agreed) counts)
-        (told_agreed (λ B. PutsAsked Is (run B) text text' result) tells)
+      pub tree_agreed : (run : Map → TextRun (Option ℕ)) → IfSome old.held (λ images. Agrees images → PutsAsked Is (run (fate images layout)) text text' result)
+          → IfSome old.held (λ images. Agrees images → Shows
+          (λ outcome. (outcome ≡ showing (shown_by asked_answer (run (fate images layout))))
+          ⊎ BreaksOff (run (fate images layout)) outcome) text text' before after (call_answer result))
+      tree_agreed run =
+          when_told old.held _ _ (λ images puts agreed. let r = run (fate images layout) in
+          asked_come Is (λ outcome. (outcome ≡ showing (shown_by asked_answer r)) ⊎ BreaksOff r outcome) text text' before after r (inl refl)
+          (λ u upto rest place named. inr (breaks_off r u upto rest place named)) result (puts agreed) counts)
 
 -- the filesystem isn't opened
 module _ (answer result : Answer) (is : result ≡ answer) (refusal : IsRefusal answer) where
@@ -217,10 +183,7 @@ module _ (answer result : Answer) (is : result ≡ answer) (refusal : IsRefusal 
 -- a tree that can't be read on is neither a fault of the output nor of the sink
 pub tree_no_fault : (f : TreeFault) → IsNoFault (tree_answer f)
 tree_no_fault (tree.Lost a) = record { no_out = λ e. cc; no_sink = λ e. cc }
-tree_no_fault (tree.Unread a slot) = record { no_out = λ e. cc; no_sink = λ e. cc }
-tree_no_fault (tree.Unmapped a) = record { no_out = λ e. cc; no_sink = λ e. cc }
-tree_no_fault (tree.Crosses a) = record { no_out = λ e. cc; no_sink = λ e. cc }
-tree_no_fault (tree.Malformed a) = record { no_out = λ e. cc; no_sink = λ e. cc }
+tree_no_fault fault = record { no_out = λ e. cc; no_sink = λ e. cc }
 
 module _ (text text' : Option Text) (before after : CallAccount) (answer : Answer) (result : Result (Unit {0}) Stop) (is : answer ≡ call_answer result)
     (counts : StopCounts before after result) where
@@ -233,52 +196,23 @@ module _ (text text' : Option Text) (before after : CallAccount) (answer : Answe
       calm : IsNoFault (Done 0)
       calm = record { no_out = λ e. cc; no_sink = λ e. cc }
 
+      -- an answer is due behind the text that was put
+      so : (a result : Answer) → IsNoFault a → (a ≡ Done 0) ⊎ ((id : ℕ) × (a ≡ NoTree id)) ⊎ ((fault : TreeFault) × (a ≡ tree_answer fault))
+          → IsPut text text' before after grows.more a result → Shows (OrBare IsTreesOutcome) text text' before after result
+      so a result no_fault ends put =
+          let shown : Shown = record { answer = a; text = grows.more } in
+          record { shown = shown; is_one = inl (record { shown = shown; is = refl; ends = ends }); no_fault = no_fault; put = put }
+
       of : (r : Result (Unit {0}) Stop) → StopCounts before after r → Shows (OrBare IsTreesOutcome) text text' before after (call_answer r)
-      of (Ok u) counts = record {
-        shown = record { answer = Done 0; text = grows.more };
-        is_one = inl
-            (record { shown = record { answer = Done 0; text = grows.more }; is = refl; ends = inl refl });
-        no_fault = calm;
-        put = record
-            { put = Ok tt; puts = grows.adds; counts = counts; due = refl };
-      }
-      of (Err (stop.Tree f)) counts = record {
-        shown = record { answer = tree_answer f; text = grows.more };
-        is_one = inl
-            (record { shown = record { answer = tree_answer f; text = grows.more }; is = refl; ends = inr (inr (f, refl)) });
-        no_fault = tree_no_fault f;
-        put =
-            record { put = Ok tt; puts = grows.adds; counts = counts; due = refl };
-      }
-      of (Err (stop.NoTree id)) counts = record {
-        shown = record { answer = NoTree id; text = grows.more };
-        is_one = inl
-            (record { shown = record { answer = NoTree id; text = grows.more }; is = refl; ends = inr (inl (id, refl)) });
-        no_fault = record
-            { no_out = λ e. cc; no_sink = λ e. cc };
-        put = record { put = Ok tt; puts = grows.adds; counts = counts; due = refl };
-      }
-      of (Err stop.Out) counts = record {
-        shown = record { answer = Done 0; text = grows.more };
-        is_one = inl
-            (record { shown = record { answer = Done 0; text = grows.more }; is = refl; ends = inl refl });
-        no_fault = calm;
-        put = record
-            { put = Err sink.Failed; puts = some; counts = counts; due = refl };
-      }
-      of (Err stop.Memory) counts = record {
-        shown = record { answer = Done 0; text = grows.more };
-        is_one = inl
-            (record { shown = record { answer = Done 0; text = grows.more }; is = refl; ends = inl refl });
-        no_fault = calm;
-        put = record
-            { put = Err sink.Memory; puts = some; counts = counts; due = refl };
-      }
-      of (Err (stop.Deletion id)) counts = absurd counts
-      of (Err stop.Balance) counts = absurd counts
-      of (Err (stop.Missing id)) counts = absurd counts
-      of (Err (stop.Image slot)) counts = absurd counts
-      of (Err stop.Sink) counts = absurd counts
+      of (Ok u) counts = so (Done 0) (Done 0) calm (inl refl) (record { put = Ok tt; puts = grows.adds; counts = counts; due = refl })
+      of (Err (stop.Tree f)) counts =
+          so (tree_answer f) (tree_answer f) (tree_no_fault f) (inr (inr (f, refl))) (record { put = Ok tt; puts = grows.adds; counts = counts; due = refl })
+      of (Err (stop.NoTree id)) counts =
+          so (NoTree id) (NoTree id) (record { no_out = λ e. cc; no_sink = λ e. cc }) (inr (inl (id, refl)))
+          (record { put = Ok tt; puts = grows.adds; counts = counts; due = refl })
+      of (Err stop.Out) counts = so (Done 0) OutFault calm (inl refl) (record { put = Err sink.Failed; puts = some; counts = counts; due = refl })
+      of (Err stop.Memory) counts = so (Done 0) Memory calm (inl refl) (record { put = Err sink.Memory; puts = some; counts = counts; due = refl })
+      of (Err other) counts = absurd counts
 
 -- the answer is none of those that the words or the superblocks alone decide
 abbrev pub NoneOf : Answer → Type 0
@@ -300,19 +234,12 @@ mends_of answer none_of refusal by e = of refusal by (subst NoneOf e none_of)
   where
     of : (r : OpenFault) → IsBySupers r → NoneOf (open_answer r) → ⊥
     of (opening.ImageFault slot) by none = by
-    of (opening.NoSuper slot) by none = none
-    of (opening.SumKind kind) by none = none
-    of (opening.Foreign slot) by none = none
-    of (opening.Twin slot) by none = none
     of (opening.Diverged slot) by none = by
-    of (opening.Unsupported bits) by none = none
-    of opening.Geometry by none = none
-    of opening.LogPending by none = none
-    of opening.BadArray by none = none
     of (opening.BadChunk start) by none = by
     of (opening.Limit which count) by none = by
     of (opening.Tree f) by none = by
     of opening.Memory by none = by
+    of other by none = none
 
 module _ (old mid new : Seen) (first : OnlyReads old mid) (second : OnlyReads mid new) (before after : CallAccount) (answer : Answer)
     (result : Result (Unit {0}) Stop) (is : answer ≡ call_answer result) (counts : StopCounts before after result) where
@@ -320,39 +247,17 @@ module _ (old mid new : Seen) (first : OnlyReads old mid) (second : OnlyReads mi
   no_image slot = of result counts
     where
       of : (r : Result (Unit {0}) Stop) → StopCounts before after r → call_answer r ≢ ImageFault slot
-      of (Ok u) counts e = cc
       of (Err (stop.Tree (tree.Lost a))) counts e = cc
-      of (Err (stop.Tree (tree.Unread a slot))) counts e = cc
-      of (Err (stop.Tree (tree.Unmapped a))) counts e = cc
-      of (Err (stop.Tree (tree.Crosses a))) counts e = cc
-      of (Err (stop.Tree (tree.Malformed a))) counts e = cc
-      of (Err (stop.NoTree id)) counts e = cc
-      of (Err stop.Out) counts e = cc
-      of (Err stop.Memory) counts e = cc
-      of (Err (stop.Deletion id)) counts e = absurd counts
-      of (Err stop.Balance) counts e = absurd counts
-      of (Err (stop.Missing id)) counts e = absurd counts
       of (Err (stop.Image other)) counts e = absurd counts
       of (Err stop.Sink) counts e = absurd counts
+      of r counts e = cc
 
   none_of : NoneOf (call_answer result)
   none_of = of result
     where
       of : (r : Result (Unit {0}) Stop) → NoneOf (call_answer r)
-      of (Ok u) = tt
       of (Err (stop.Tree (tree.Lost a))) = tt
-      of (Err (stop.Tree (tree.Unread a slot))) = tt
-      of (Err (stop.Tree (tree.Unmapped a))) = tt
-      of (Err (stop.Tree (tree.Crosses a))) = tt
-      of (Err (stop.Tree (tree.Malformed a))) = tt
-      of (Err (stop.NoTree id)) = tt
-      of (Err stop.Out) = tt
-      of (Err stop.Memory) = tt
-      of (Err (stop.Deletion id)) = tt
-      of (Err stop.Balance) = tt
-      of (Err (stop.Missing id)) = tt
-      of (Err (stop.Image other)) = tt
-      of (Err stop.Sink) = tt
+      of r = tt
 
   tree_cause : (layout : Layout) → IsLayoutOf old new layout → StopCause layout mid new result → HasTreeCause old new (call_answer result)
   tree_cause layout own cause fault is = (layout, own, of result cause (ap tree_in is ∙ tree_back fault))
@@ -361,14 +266,7 @@ module _ (old mid new : Seen) (first : OnlyReads old mid) (second : OnlyReads mi
       of (Ok u) cause e = absurd (cc e)
       of (Err (stop.Tree f)) cause e = let same : f ≡ fault = cc (sym (tree_back f) ∙ e) in subst (FaultCause layout old new) same
           (cause_since new layout layout f refl first cause)
-      of (Err (stop.NoTree id)) cause e = absurd (cc e)
-      of (Err stop.Out) cause e = absurd (cc e)
-      of (Err stop.Memory) cause e = absurd (cc e)
-      of (Err (stop.Deletion id)) cause e = absurd (cc e)
-      of (Err stop.Balance) cause e = absurd (cc e)
-      of (Err (stop.Missing id)) cause e = absurd (cc e)
-      of (Err (stop.Image other)) cause e = absurd (cc e)
-      of (Err stop.Sink) cause e = absurd (cc e)
+      of (Err other) cause e = absurd (cc e)
 
   pub shown_behind : (layout : Layout) → IsLayoutOf old new layout → StopCause layout mid new result → IsBehind MayMend AnyFault old new answer
   shown_behind layout own cause = subst (IsBehind MayMend AnyFault old new) (sym is) (record {

@@ -12,7 +12,8 @@ use Rattle.btr_run.specs.declared.place.Next.TheVariants as next
 use Rattle.btr_run.specs.declared.place.Read.{Read}
 use Rattle.btr_run.specs.declared.sentence.Sentence.{Sentence}
 use Rattle.btr_run.specs.declared.sentence.Sentence.TheVariants.{Super}
-use Rattle.btr_run.proofs.Forms.{form_at, forms, numbered}
+use Rattle.btr_run.proofs.Apart.{numbered}
+use Rattle.btr_run.proofs.Forms.{form_at, forms}
 use Rattle.btr_run.proofs.Machine.{reached, reached_from, reached_stuck, step}
 use Rattle.btr_run.proofs.Reading.{accepted, live, sound}
 

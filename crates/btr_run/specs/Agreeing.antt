@@ -16,7 +16,7 @@ use Rattle.btr_run.specs.Filesystem.{Filesystem, filesystem_of}
 use Rattle.btr_run.specs.Images.{most_images, taken}
 use Rattle.btr_run.specs.Outcomes.{Outcome, Comes, IsPrinted, OrBare, refused, showing}
 use Rattle.btr_run.specs.Queries.{query_row}
-use Rattle.btr_run.specs.Rows.{AreAgreedBy, IsRowOrUnread}
+use Rattle.btr_run.specs.Rows.{IsRowOrUnread}
 use Rattle.btr_run.specs.Scrubbed.{filesystem_as, scrub_outcome, tally_shown}
 use Rattle.btr_run.specs.Unopened.{AreAgreed, IsOrUnopened}
 use Rattle.btr_run.specs.Words.{Words, IsSentence, images_of}
@@ -25,14 +25,6 @@ use Rattle.btr_run.specs.declared.answer.Answer.TheVariants.{Unread}
 use Rattle.btr_run.specs.declared.plan.Command.{Command}
 use Rattle.btr_run.specs.declared.plan.Command.TheVariants.{Super, Ask, Check, Scrub, SelfTest}
 use Rattle.btr_run.specs.declared.plan.Plan.{Plan}
-
--- the images agree in all that a command reads
-abbrev pub AreAgreedFor : Command → Words → Images → Type 0
-AreAgreedFor Super words images = AreAgreed images
-AreAgreedFor (Ask query) words images = AreAgreedBy (query_row query words) images
-AreAgreedFor (Check read_data) words images = AreAgreed images
-AreAgreedFor (Scrub write) words images = AreAgreed images
-AreAgreedFor (SelfTest number) words images = AreAgreed images
 
 -- a check comes to what the images hold, or to a block that could not be read, before anything is
 -- put
@@ -78,7 +70,7 @@ abbrev pub FollowsAgreed : Words → Shelf → Outside → Outside → Answer �
 FollowsAgreed words shelf x y result =
     (plan : Plan) (images : Images)
     → AsksOf words shelf plan images
-    → AreAgreedFor plan.command words images
+    → AreAgreed images
     → Comes (MayWantBy words x.out_calls) (ComesAgreed plan.command words images) x y result
 
 -- a command over images that agree did what it comes to, and behind it the line of the answer was
@@ -87,7 +79,7 @@ abbrev pub KeepsAgreed : Words → Shelf → Outside → Outside → Answer → 
 KeepsAgreed words shelf x y result =
     (plan : Plan) (images : Images)
     → AsksOf words shelf plan images
-    → AreAgreedFor plan.command words images
+    → AreAgreed images
     → (outcome : Outcome) × ComesAgreed plan.command words images outcome
     × IsPrinted (MayWantBy words x.out_calls) x y outcome result
 

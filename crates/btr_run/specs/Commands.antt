@@ -14,7 +14,7 @@ use Rattle.btr_run.specs.Checked.{check_outcome, IsCheckOutcome}
 use Rattle.btr_run.specs.Filesystem.{MayMend}
 use Rattle.btr_run.specs.Newest.{super_outcome, IsSuperOutcome}
 use Rattle.btr_run.specs.Outcomes.{Outcome}
-use Rattle.btr_run.specs.Queries.{HasQueryWords, IsQueryFit, query_row}
+use Rattle.btr_run.specs.Queries.{IsQueryFit, query_row}
 use Rattle.btr_run.specs.Rows.{row_outcome}
 use Rattle.btr_run.specs.Faults.{tree_answer}
 use Rattle.btr_run.specs.Scrubbed.{scrub_outcome, IsScrubOutcome}
@@ -69,29 +69,35 @@ MayWant (SelfTest number) words out = Unit {0}
 
 -- a command that calls the sink: a query that does
 abbrev pub CallsSink : Command → Words → Type 0
+CallsSink Super words = ⊥
 CallsSink (Ask query) words = (query_row query words).CallsSink
-CallsSink command words = ⊥
+CallsSink (Check read_data) words = ⊥
+CallsSink (Scrub write) words = ⊥
+CallsSink (SelfTest number) words = ⊥
 
--- the words that a command cites are there
-abbrev pub HasWords : Command → ℕ → Type 0
-HasWords (Ask query) words = HasQueryWords query words
-HasWords command words = Unit {0}
-
--- what a command asks for beside: what a query does, and that a volume can be made
+-- what a command asks for of its words: what a query does, and that a volume can be made
 abbrev pub IsFit : Command → Words → Type 0
+IsFit Super words = Unit {0}
 IsFit (Ask query) words = IsQueryFit query words
+IsFit (Check read_data) words = Unit {0}
+IsFit (Scrub write) words = Unit {0}
 IsFit (SelfTest number) words = (1 ≤ number) × (number ≤ 1000)
-IsFit command words = Unit {0}
 
 -- whether a command writes into the images, which are opened for it then
 abbrev pub opens_to_write : Command → Bool
+opens_to_write Super = false
+opens_to_write (Ask query) = false
+opens_to_write (Check read_data) = false
 opens_to_write (Scrub write) = write
-opens_to_write command = false
+opens_to_write (SelfTest number) = false
 
 -- the command that scrubs
 abbrev pub IsScrub : Command → Type 0
+IsScrub Super = ⊥
+IsScrub (Ask query) = ⊥
+IsScrub (Check read_data) = ⊥
 IsScrub (Scrub write) = Unit {0}
-IsScrub command = ⊥
+IsScrub (SelfTest number) = ⊥
 
 -- a read, a write or a sync of a scrub failed on an image, of a rack that isn't sure: this was the
 -- last failed call

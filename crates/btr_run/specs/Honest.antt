@@ -15,10 +15,10 @@ use Rattle.btr_send.specs.Sectors.{AreBytes}
 use Rattle.btr_send.specs.declared.plan.SendPlan.{SendPlan}
 use Rattle.btr_volume.specs.Start.{Images}
 use Rattle.btr_run.specs.Filesystem.{Filesystem, filesystem_of}
-use Rattle.btr_run.specs.Restored.{skipped_in}
+use Rattle.btr_run.specs.Queries.Restored.{skipped_in}
 use Rattle.btr_run.specs.Rows.{row_outcome}
-use Rattle.btr_run.specs.Salvaged.{missed_in, salvage_row}
-use Rattle.btr_run.specs.Sent.{send_row}
+use Rattle.btr_run.specs.Queries.Salvaged.{missed_in, salvage_row}
+use Rattle.btr_run.specs.Queries.Sent.{send_row}
 use Rattle.btr_run.specs.declared.answer.Answer.TheVariants.{Done}
 
 -- what `restore -i` left of the committed listing of a filesystem, where so much was missed

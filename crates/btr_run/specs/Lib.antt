@@ -20,12 +20,7 @@ pub mod Promise
 pub mod Order
 pub mod Unopened
 pub mod Rows
-pub mod Trees
-pub mod Restored
-pub mod Resolved
-pub mod Sent
 pub mod SelfTested
-pub mod Salvaged
 pub mod Queries
 pub mod Commands
 pub mod Causes

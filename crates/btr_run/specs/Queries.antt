@@ -1,12 +1,17 @@
 -- The queries: one case each.
-use Rattle.std.specs.Prelude.{◌≡◌, ℕ, ◌<◌, false, [], get_or}
+pub mod Resolved
+pub mod Restored
+pub mod Salvaged
+pub mod Sent
+pub mod Trees
+use Rattle.std.specs.Prelude.{◌≡◌, ◌<◌, false, [], get_or, length}
 use Rattle.btr_send.specs.Names.{IsStreamName}
-use Rattle.btr_run.specs.Resolved.{resolve_row}
-use Rattle.btr_run.specs.Restored.{restore_row}
+use Rattle.btr_run.specs.Queries.Resolved.{resolve_row}
+use Rattle.btr_run.specs.Queries.Restored.{restore_row}
 use Rattle.btr_run.specs.Rows.{Row}
-use Rattle.btr_run.specs.Salvaged.{salvage_row}
-use Rattle.btr_run.specs.Sent.{send_row}
-use Rattle.btr_run.specs.Trees.{dump_row}
+use Rattle.btr_run.specs.Queries.Salvaged.{salvage_row}
+use Rattle.btr_run.specs.Queries.Sent.{send_row}
+use Rattle.btr_run.specs.Queries.Trees.{dump_row}
 use Rattle.btr_run.specs.Words.{Words}
 use Rattle.btr_run.specs.declared.query.Query.{Query}
 use Rattle.btr_run.specs.declared.query.Query.TheVariants.{Dump, Resolve, Restore, Salvage, Send}
@@ -19,16 +24,12 @@ query_row (Restore dest plan) words = restore_row plan (get_or words dest [])
 query_row (Salvage dest plan) words = salvage_row plan (get_or words dest [])
 query_row (Send dest file plan) words = send_row plan (get_or words dest []) (get_or words file [])
 
--- the words that a query cites are there
-abbrev pub HasQueryWords : Query → ℕ → Type 0
-HasQueryWords (Restore dest plan) words = dest < words
-HasQueryWords (Salvage dest plan) words = dest < words
-HasQueryWords (Send dest file plan) words = (dest < words) × (file < words)
-HasQueryWords query words = Unit {0}
-
--- what a query asks for beside: one that goes on after faults isn't dry, and the word that names a
--- file is such a name
+-- what a query asks for of its words: those that it cites are there, and the one that names a file
+-- is such a name; and one that goes on after faults isn't dry
 abbrev pub IsQueryFit : Query → Words → Type 0
-IsQueryFit (Salvage dest plan) words = plan.dry ≡ false
-IsQueryFit (Send dest file plan) words = IsStreamName (get_or words file [])
-IsQueryFit query words = Unit {0}
+IsQueryFit (Dump choice) words = Unit {0}
+IsQueryFit (Resolve addr) words = Unit {0}
+IsQueryFit (Restore dest plan) words = dest < length words
+IsQueryFit (Salvage dest plan) words = (dest < length words) × (plan.dry ≡ false)
+IsQueryFit (Send dest file plan) words =
+    (dest < length words) × (file < length words) × IsStreamName (get_or words file [])

@@ -2,13 +2,14 @@
 -- its clauses say of it.
 use Rattle.std.specs.Prelude.{◌≡◌, ◌⊎◌, ℕ, IfSome, Result, Ok, Err}
 use Rattle.btr_listing.specs.Step.{Step}
-use Rattle.btr_prog.specs.Prog.{Run}
+use Rattle.btr_prog.specs.Goes.{GoesTo}
+use Rattle.btr_prog.specs.Prog.{Run, exec}
 use Rattle.btr_rack.specs.Out.{CallAccount}
 use Rattle.btr_rack.specs.Rack.{Seen}
 use Rattle.btr_read.specs.Fate.{Fault, choices, fate}
-use Rattle.btr_read.specs.Layout.{Layout}
 use Rattle.btr_read.specs.declared.want.Want.{Want}
 use Rattle.btr_restore.specs.Running.{Outside}
+use Rattle.btr_volume.specs.Lookup.{Program}
 use Rattle.btr_volume.specs.Start.{Images}
 use Rattle.btr_walk.specs.Reading.{Map}
 use Rattle.btr_walk.specs.declared.fault.TreeFault.{TreeFault}
@@ -21,13 +22,12 @@ use Rattle.btr_run.specs.Unopened.{AreAgreed, IsUnopened}
 use Rattle.btr_run.specs.declared.answer.Answer.{Answer}
 use Rattle.btr_run.specs.declared.answer.Answer.TheVariants.{Done, NoTree}
 
--- a row: what it comes to over a filesystem; what else where reads failed and the images agree, and
--- in what they agree beside the blocks of trees; what it may come to whatever they hold; where it
--- may want memory, by the output; and whether it calls the sink
+-- a row: what it comes to over a filesystem; what else where reads failed and the images agree;
+-- what it may come to whatever they hold; where it may want memory, by the output; and whether it
+-- calls the sink
 pub record Row : Type 1 where
   pub whole : Images → Filesystem → Outcome
   pub IsUpTo : Images → Filesystem → Outcome → Type 0
-  pub Agrees : Images → Layout → Type 0
   pub MayBe : Outcome → Type 0
   pub MayWant : CallAccount → Type 0
   pub CallsSink : Type 0
@@ -40,12 +40,6 @@ row_in row images (Err answer) = refused answer
 -- what a row comes to over the filesystem of some images
 unfoldable pub row_outcome : Row → Images → Outcome
 row_outcome row images = row_in row images (filesystem_of images)
-
--- the images agree in all that a row reads
-abbrev pub AreAgreedBy : Row → Images → Type 0
-AreAgreedBy row images =
-    AreAgreed images
-    × ((fs : Filesystem) → filesystem_of images ≡ Ok fs → row.Agrees images fs.layout)
 
 -- what a row comes to where reads failed and the images agree: the whole, or it up to a block that
 -- could not be read, unless the filesystem isn't opened
@@ -61,7 +55,7 @@ pub record IsRowDone (row : Row) (old new : Seen) (x y : Outside) (answer : Answ
   pub effect : IfSteady old.held old.account new.account (λ images.
       Comes (row.MayWant x.out_calls)
       (OrMemory (λ outcome. row_outcome row images ≡ outcome)) x y answer)
-  pub agreed : IfSome old.held (λ images. AreAgreedBy row images
+  pub agreed : IfSome old.held (λ images. AreAgreed images
       → Comes (row.MayWant x.out_calls) (IsRowOrUnread row images) x y answer)
   pub told : Comes (row.MayWant x.out_calls) (OrBare row.MayBe) x y answer
   pub cause : IsBehind MayMend AnyFault old new answer
@@ -82,8 +76,12 @@ abbrev pub listing_row : {A : Type 0} → Type 0 → (A → ℕ)
 listing_row CallsSink left_out run_by IsRun = record {
   whole = λ images fs. listed_by left_out (run_by fs (fate images fs.layout));
   IsUpTo = λ images fs. ListsTo left_out (IsRun fs (λ n. choices images n fs.layout));
-  Agrees = λ images layout. Unit {0};
   MayBe = IsRestored;
   MayWant = λ out. Unit {0};
   CallsSink = CallsSink;
 }
+
+-- the row of a program that lists over a filesystem
+abbrev pub program_row : {A : Type 0} → Type 0 → (A → ℕ) → (Filesystem → Program Step A) → Row
+program_row CallsSink left_out program =
+    listing_row CallsSink left_out (λ fs B. exec B (program fs)) (λ fs Bs. GoesTo Bs (program fs))

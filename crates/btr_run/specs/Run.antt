@@ -8,7 +8,7 @@ use Rattle.btr_rack.specs.Out.{CallAccount}
 use Rattle.btr_rack.specs.Rack.{Seen, Shelf, Steady}
 use Rattle.btr_rack.specs.Sink.{Sink}
 use Rattle.btr_restore.specs.Running.{Outside, outside}
-use Rattle.btr_run.specs.Agreeing.{AreAgreedFor, ComesAgreed, FollowsAgreed, KeepsAgreed}
+use Rattle.btr_run.specs.Agreeing.{ComesAgreed, FollowsAgreed, KeepsAgreed}
 use Rattle.btr_run.specs.Behind.{IfSteady}
 use Rattle.btr_run.specs.Checked.{found}
 use Rattle.btr_run.specs.Causes.{HidesNone, ImageCause, IsBehindWords, IsMissingImage, IsShut}
@@ -26,6 +26,7 @@ use Rattle.btr_run.specs.Repaired.{WaitedBefore}
 use Rattle.btr_run.specs.Rows.{IsRowDone}
 use Rattle.btr_run.specs.SelfTested.{AsksToTry, IsTrialOf}
 use Rattle.btr_run.specs.Stored.{IsStored, IsStoredOrTold}
+use Rattle.btr_run.specs.Unopened.{AreAgreed}
 use Rattle.btr_run.specs.Words.{Words}
 use Rattle.btr_volume.specs.Start.{Images}
 use Rattle.btr_run.specs.declared.answer.Answer.{Answer}
@@ -287,7 +288,7 @@ module _ {R T O : Type 0} (run : Run R T O) where
     pub order : (number : ℕ) (plan : RestorePlan) → command ≡ Ask (Restore number plan)
         → IfSome before.held (λ images. InOrder plan (get_or run.words number []) images
         before behind outside_before outside_behind run.answer)
-    pub agreed : IfSome before.held (λ images. AreAgreedFor command run.words images
+    pub agreed : IfSome before.held (λ images. AreAgreed images
         → Comes (MayWant command run.words outside_before.out_calls)
         (ComesAgreed command run.words images)
         outside_before outside_behind run.answer)

@@ -4,7 +4,7 @@ ghost use Rattle.std.specs.String.{string_bytes};
 ghost use Rattle.btr_scrub_copies.specs.Writes.{AreWritable};
 ghost use Rattle.btr_rack.specs.Sink.{NotStarted};
 ghost use Rattle.btr_run.specs.Answers.{answer_of};
-ghost use Rattle.btr_run.specs.Commands.{HasWords, IsFit, opens_to_write};
+ghost use Rattle.btr_run.specs.Commands.{IsFit, opens_to_write};
 ghost use Rattle.btr_run.specs.Run.{IsPerformed, eyes, ran};
 ghost use Rattle.btr_run.specs.SelfTested.{TakesImages};
 
@@ -12,7 +12,7 @@ use crate::answer::Answer;
 use crate::checking::show_findings;
 use crate::newest::show_newest;
 use crate::plan::Command;
-use crate::queries::ask;
+use crate::query::ask;
 use crate::scrubbing::scrub_images;
 use btr_rack::{Out, Rack, TreeSink};
 use std::alloc::Global;
@@ -30,7 +30,6 @@ pub(crate) fn perform<R: Rack, T: TreeSink, O: Out>(
 ) -> Result<Answer, Answer>
     requires images { TakesImages command }
     requires open { 0 < length (R.seen rack.old).slots }
-    requires words { HasWords command (length words.now) }
     requires fit { IsFit command (map string_bytes words.now) }
     requires writable { opens_to_write command ≡ true → AreWritable (R.seen rack.old).slots }
     requires fresh { (T.sink tree.old).stage ≡ NotStarted }

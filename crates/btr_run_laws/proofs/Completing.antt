@@ -52,13 +52,13 @@ use Rattle.btr_run.specs.Newest.{newest_shown, shown}
 use Rattle.btr_run.specs.Outcomes.{Outcome, showing}
 use Rattle.btr_run.specs.Promise.{StandsAs, ended_answer}
 use Rattle.btr_run.specs.Queries.{query_row}
-use Rattle.btr_run.specs.Resolved.{none_left_out, owners_run}
-use Rattle.btr_run.specs.Restored.{skipped_in}
+use Rattle.btr_run.specs.Queries.Resolved.{none_left_out, owners_run}
+use Rattle.btr_run.specs.Queries.Restored.{skipped_in}
 use Rattle.btr_run.specs.Rows.{Row, row_outcome}
-use Rattle.btr_run.specs.Salvaged.{missed_in}
+use Rattle.btr_run.specs.Queries.Salvaged.{missed_in}
 use Rattle.btr_run.specs.Scrubbed.{counts, filesystem_as, scrub_ended, scrub_in, scrub_outcome, scrub_unless, tally_shown}
 use Rattle.btr_run.specs.SelfTested.{AsksToTry, IsTrialOutcome, TakesImages}
-use Rattle.btr_run.specs.Trees.{asked_answer, ending_answer, shown_by, trees_shown, whole_answer}
+use Rattle.btr_run.specs.Queries.Trees.{asked_answer, ending_answer, shown_by, trees_shown, whole_answer}
 use Rattle.btr_run.specs.Words.{Words, IsSentence, images_of}
 use Rattle.btr_run.specs.declared.answer.Answer.{Answer}
 use Rattle.btr_run.specs.declared.answer.Answer.TheVariants.{Done}

@@ -99,10 +99,12 @@ HasNeeds (SelfTest number) words images fs = ⊥
 -- the command was done: a check and a scrub answer what they count, and any other how many entries
 -- it left out
 abbrev pub IsDone : Command → Images → Filesystem → Answer → Type 0
+IsDone super_command images fs answer = (skipped : ℕ) × (answer ≡ Done skipped)
+IsDone (Ask query) images fs answer = (skipped : ℕ) × (answer ≡ Done skipped)
 IsDone (Check read_data) images fs answer =
     answer ≡ found (length (findings read_data (filesystem_by images fs)))
 IsDone (Scrub write) images fs answer = answer ≡ found (counts write images (filesystem_as fs)).lost
-IsDone command images fs answer = (skipped : ℕ) × (answer ≡ Done skipped)
+IsDone (SelfTest number) images fs answer = ⊥
 
 -- where `run` has the effect of its words over the images, which make a filesystem
 abbrev pub CommandsComplete : Type 0

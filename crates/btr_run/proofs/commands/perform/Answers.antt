@@ -1,8 +1,7 @@
-use Rattle.std.proofs.Common.{◌∙◌, length, map, sym, ap, subst}
+use Rattle.std.proofs.Common.{◌∙◌, map, sym, ap, subst}
 use Rattle.std.specs.String.{string_bytes}
 use Rattle.btr_rack.specs.Sink.{is_in_file}
-use Rattle.btr_run.specs.Agreeing.{AreAgreedFor}
-use Rattle.btr_run.specs.Commands.{HasWords, IsFit, opens_to_write}
+use Rattle.btr_run.specs.Commands.{IsFit, opens_to_write}
 use Rattle.btr_run.specs.Run.{IsPerformed}
 use Rattle.btr_run.specs.declared.plan.Command.TheVariants.{Super, Check, Scrub}
 use Rattle.btr_run.proofs.Performing.{mended, query_performed, scrub_writes, shown, so_too}
@@ -14,11 +13,8 @@ returns-in-Super g c =
     (shown _ _ _ _ _ _ Super (g.met.T.TreeSink.settled c.args.tree.now (ap is_in_file c.requires.fresh)) (λ scarce. scarce) (λ query is. absurd (cc is))
     (λ is. absurd (cc is))
     c.show_newest.ensures.effect c.show_newest.ensures.told
-    (so_too (g.R.Rack.seen c.args.rack.now).held (AreAgreedFor Super (map string_bytes c.args.words.now)) _ c.show_newest.ensures.told)
+    (so_too (g.R.Rack.seen c.args.rack.now).held _ c.show_newest.ensures.told)
     c.show_newest.ensures.cause)
-
-pub ask-requires-clause-words : goal.ask-requires-clause-words
-ask-requires-clause-words g c = subst (λ command. HasWords command (length c.args.words.now)) c.in-Ask.is c.requires.words
 
 pub ask-requires-clause-fit : goal.ask-requires-clause-fit
 ask-requires-clause-fit g c = subst (λ command. IsFit command (map string_bytes c.args.words.now)) c.in-Ask.is c.requires.fit

@@ -1,11 +1,38 @@
-use Rattle.std.proofs.Common.{◌∙◌, Ok, Err, refl, ap}
+use Rattle.std.proofs.Common.{◌≡◌, ◌∙◌, ℕ, List, Result, Ok, Err, refl, ap}
+use Rattle.std.specs.Option.{IfSome}
+use Rattle.btr_files.specs.declared.plan.RestorePlan.{RestorePlan}
+use Rattle.btr_rack.specs.Rack.{OnlyReads, Seen}
 use Rattle.btr_rack.specs.Sink.{is_in_file}
+use Rattle.btr_restore.specs.Running.{Outside, world}
+use Rattle.btr_salvage.specs.Attempts.{TriesTo}
+use Rattle.btr_salvage.specs.Running.{Ran}
+use Rattle.btr_salvage.specs.Salvaging.{salvage_run, salvaging}
+use Rattle.btr_salvage.specs.declared.salvaged.Salvaged.{Salvaged}
+use Rattle.btr_salvage.proofs.Attempts.{tries_one}
+use Rattle.btr_volume.specs.declared.stop.Stop.{Stop}
+use Rattle.btr_volume.specs.declared.volume.Volume.{Volume}
+use Rattle.btr_run.specs.Behind.{IfSteady}
 use Rattle.btr_run.specs.Faults.{stop_answer}
-use Rattle.btr_run.specs.Salvaged.{salvage_row}
+use Rattle.btr_run.specs.Filesystem.{OpensAs, OpensFilesystem}
+use Rattle.btr_run.specs.Listed.{stopped_answer}
+use Rattle.btr_run.specs.Queries.Salvaged.{missed_in, salvage_row}
+use Rattle.btr_run.specs.Rows.{IsRowDone}
+use Rattle.btr_run.specs.declared.answer.Answer.{Answer}
 use Rattle.btr_run.specs.declared.answer.Answer.TheVariants.{Done}
 use Rattle.btr_run.proofs.Coming.{answer_gives}
-use Rattle.btr_run.proofs.Rows.{row_unopened, salvaged_done}
-use Rattle.btr_run.proofs.salvaging.salvage_files.Goals as goal
+use Rattle.btr_run.proofs.Rows.{row_done, row_unopened}
+use Rattle.btr_run.proofs.query.salvaging.salvage_files.Goals as goal
+
+-- The filesystem is open, and a subvolume was salvaged.
+salvaged_done : (old mid new : Seen) (first : OnlyReads old mid) (volume after : Volume) (x y : Outside) (answer : Answer)
+    (plan : RestorePlan) (dest : List ℕ) (result : Result Salvaged Stop) → answer ≡ stopped_answer missed_in result
+    → Ran (salvaging plan dest volume.sup) (world mid volume x) (world new after y) result
+    → IfSteady old.held old.account mid.account (λ images. OpensFilesystem images (Ok volume))
+    → IfSome old.held (λ images. OpensAs images old mid (Ok volume)) → IsRowDone (salvage_row plan dest) old new x y answer
+salvaged_done old mid new first volume after x y answer plan dest result is ran =
+    row_done (Unit {0}) missed_in (λ fs B. salvage_run B plan dest fs.sup) (λ fs Bs. TriesTo Bs (salvaging plan dest fs.sup))
+    (λ fs B r tries. tries_one (λ (n : ℕ). B) B (λ n want. refl) (salvaging plan dest fs.sup) r tries) old mid new first volume after x y answer result is
+    ran.reads ran.did ran.cause ran.sink_calls ran.out_calls
 
 pub returns-in_err-volume-clause-done : goal.returns-in_err-volume-clause-done
 returns-in_err-volume-clause-done g c =

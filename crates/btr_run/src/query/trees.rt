@@ -11,7 +11,8 @@ ghost use Rattle.btr_run.specs.Behind.{IfSteady};
 ghost use Rattle.btr_run.specs.Listed.{BesideSinks};
 ghost use Rattle.btr_run.specs.Outcomes.{Shows, showing};
 ghost use Rattle.btr_run.specs.Rows.{IsRowDone};
-ghost use Rattle.btr_run.specs.Trees.{AgreesOn, ShowsUpTo, call_answer, dump_row, trees_shown};
+ghost use Rattle.btr_run.specs.Queries.Trees.{AgreesOn, ShowsUpTo, call_answer, dump_row};
+ghost use Rattle.btr_run.specs.Queries.Trees.{trees_shown};
 
 use crate::answer::Answer;
 use crate::filesystem::open_filesystem;

@@ -4,7 +4,7 @@ ghost use Rattle.btr_rack.specs.Sink.{NotStarted};
 ghost use Rattle.btr_restore.specs.Running.{outside_of};
 ghost use Rattle.btr_run.specs.Answers.{answer_of};
 ghost use Rattle.btr_run.specs.Rows.{IsRowDone};
-ghost use Rattle.btr_run.specs.Salvaged.{salvage_row};
+ghost use Rattle.btr_run.specs.Queries.Salvaged.{salvage_row};
 ghost use Rattle.btr_run.specs.Stored.{IsStored};
 
 use crate::answer::Answer;

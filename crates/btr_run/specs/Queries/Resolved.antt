@@ -36,7 +36,6 @@ abbrev pub resolve_row : ℕ → Row
 resolve_row addr = record {
   whole = λ images fs. listed_by none_left_out (owners_run addr images fs);
   IsUpTo = λ images fs. ListsUpTo (owners_run addr images fs);
-  Agrees = λ images layout. Unit {0};
   MayBe = IsResolved;
   MayWant = λ out. Unit {0};
   CallsSink = ⊥;

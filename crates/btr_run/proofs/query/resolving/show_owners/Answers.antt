@@ -26,14 +26,17 @@ use Rattle.btr_run.specs.Behind.{IfSteady}
 use Rattle.btr_run.specs.Filesystem.{OpensAs, OpensFilesystem, filesystem_in}
 use Rattle.btr_run.specs.Listed.{BesideSinks, lined, line_mark, listed_by, stopped_answer}
 use Rattle.btr_run.specs.Outcomes.{Stands}
-use Rattle.btr_run.specs.Resolved.{IsResolved, none_left_out, owners_run, resolve_row}
+use Rattle.btr_run.specs.Queries.Resolved.{IsResolved, none_left_out, owners_run, resolve_row}
 use Rattle.btr_run.specs.Rows.{IsRowDone, IsRowOrUnread, Row, row_outcome}
 use Rattle.btr_run.specs.declared.answer.Answer.{Answer}
-use Rattle.btr_run.proofs.Coming.{when_told}
+use Rattle.btr_run.specs.Faults.{stop_answer}
+use Rattle.btr_run.specs.declared.answer.Answer.TheVariants.{Done}
+use Rattle.btr_run.proofs.Coming.{answer_gives}
 use Rattle.btr_run.proofs.Filesystems.{opened_layout}
 use Rattle.btr_run.proofs.Listings as listings
-use Rattle.btr_run.proofs.Rows.{row_opened}
+use Rattle.btr_run.proofs.Rows.{row_opened, row_unopened}
 use Rattle.btr_run.proofs.TreesShown.{steadily, told_agreed}
+use Rattle.btr_run.proofs.query.resolving.show_owners.Goals as goal
 
 -- lines as steps
 abbrev put_lines : List (List ℕ) → List Step
@@ -116,52 +119,24 @@ module _ {A : Type 0} (Is : UnreadBlock → Want → Type 0) (r : Run Want Fault
 module _ (layout : Layout) (old new : Seen) where
   cause_is : (e : Result ℕ Stop) → call.StopCause layout old new e → StopCause layout old new e
   cause_is (Ok n) cause = tt
-  cause_is (Err (stop.Tree f)) cause = cause
   cause_is (Err (stop.NoTree id)) cause = absurd cause
-  cause_is (Err (stop.Deletion id)) cause = cause
-  cause_is (Err stop.Balance) cause = cause
-  cause_is (Err (stop.Missing id)) cause = cause
-  cause_is (Err (stop.Image slot)) cause = cause
   cause_is (Err stop.Sink) cause = absurd cause
   cause_is (Err stop.Out) cause = tt
   cause_is (Err stop.Memory) cause = tt
+  cause_is (Err other) cause = cause
 
   no_sink : (c : CallAccount) (e : Result ℕ Stop) → call.StopCause layout old new e → SinkCounts c c e
-  no_sink c (Ok n) cause = refl
-  no_sink c (Err (stop.Tree f)) cause = refl
-  no_sink c (Err (stop.NoTree id)) cause = refl
-  no_sink c (Err (stop.Deletion id)) cause = refl
-  no_sink c (Err stop.Balance) cause = refl
-  no_sink c (Err (stop.Missing id)) cause = refl
-  no_sink c (Err (stop.Image slot)) cause = refl
   no_sink c (Err stop.Sink) cause = absurd cause
-  no_sink c (Err stop.Out) cause = refl
-  no_sink c (Err stop.Memory) cause = refl
+  no_sink c e cause = refl
 
   counts_are : (calls calls' : CallAccount) (e : Result ℕ Stop) → call.StopCause layout old new e → call.StopCounts calls calls' e → OutCounts calls calls' e
-  counts_are calls calls' (Ok n) cause counts = counts
-  counts_are calls calls' (Err (stop.Tree f)) cause counts = counts
-  counts_are calls calls' (Err (stop.NoTree id)) cause counts = counts
-  counts_are calls calls' (Err (stop.Deletion id)) cause counts = counts
-  counts_are calls calls' (Err stop.Balance) cause counts = counts
-  counts_are calls calls' (Err (stop.Missing id)) cause counts = counts
-  counts_are calls calls' (Err (stop.Image slot)) cause counts = counts
   counts_are calls calls' (Err stop.Sink) cause counts = absurd cause
-  counts_are calls calls' (Err stop.Out) cause counts = counts
-  counts_are calls calls' (Err stop.Memory) cause counts = counts
+  counts_are calls calls' e cause counts = counts
 
   halts_are : (r : Run Want Fault Step ℕ) (done : List Step) (e : Result ℕ Stop) → call.StopCause layout old new e
       → Follows (unread_by layout old new) step.part [] r done (call.ended e) → Follows (unread_by layout old new) step.part [] r done (ended e)
-  halts_are r done (Ok n) cause f = f
-  halts_are r done (Err (stop.Tree x)) cause f = f
   halts_are r done (Err (stop.NoTree id)) cause f = absurd cause
-  halts_are r done (Err (stop.Deletion id)) cause f = f
-  halts_are r done (Err stop.Balance) cause f = f
-  halts_are r done (Err (stop.Missing id)) cause f = f
-  halts_are r done (Err (stop.Image slot)) cause f = f
-  halts_are r done (Err stop.Sink) cause f = f
-  halts_are r done (Err stop.Out) cause f = f
-  halts_are r done (Err stop.Memory) cause f = f
+  halts_are r done e cause f = f
 
   no_tree : (id : ℕ) (e : Result ℕ Stop) → e ≡ Err (stop.NoTree id) → call.StopCause layout old new e → ⊥
   no_tree id e is cause = subst (call.StopCause layout old new) is cause
@@ -214,7 +189,7 @@ module _ (addr : ℕ) (old mid new : Seen) (first : OnlyReads old mid) (volume a
   agreed_run None f = tt
   agreed_run (Some images) f = λ agreed. (run images, refl, follows (fate images layout) (f agreed))
 
-  pub resolved_done : IfSteady old.held old.account mid.account (λ images. OpensFilesystem images (Ok volume))
+  resolved_done : IfSteady old.held old.account mid.account (λ images. OpensFilesystem images (Ok volume))
       → IfSome old.held (λ images. OpensAs images old mid (Ok volume))
       → BesideSinks text calls text' calls' (λ a b. IsRowDone row old new a b answer)
   resolved_done content opened s c = record {
@@ -223,8 +198,7 @@ module _ (addr : ℕ) (old mid new : Seen) (first : OnlyReads old mid) (volume a
         is
         run (row_outcome row) (λ images o. row_opened row images (filesystem_in volume) o)
         (steady_run mid.held (steadily layout mid new IsFollowed ran.content)) content;
-    agreed = when_told old.held _ _ (λ images comes agreed. comes agreed.0)
-        (listings.listed_agreed none_left_out layout mid new (x s c) (y s c) done (did s c) result (cause_is layout mid new result ran.cause)
+    agreed = listings.listed_agreed none_left_out layout mid new (x s c) (y s c) done (did s c) result (cause_is layout mid new result ran.cause)
         (no_sink layout mid new c result ran.cause) (counts_are layout mid new calls calls' result ran.cause ran.calls) old first ran.reads volume refl answer
         is
         (λ images r. run images ≡ r) (IsRowOrUnread row)
@@ -234,7 +208,7 @@ module _ (addr : ℕ) (old mid new : Seen) (first : OnlyReads old mid) (volume a
           o,
           listings.lists_up_to layout mid new (run images) u upto rest (ap (λ (q : Run Want Fault Step ℕ). q.marks) same ∙ place) named,
         )))
-        (agreed_run mid.held (told_agreed layout mid new IsFollowed ran.content)) opened);
+        (agreed_run mid.held (told_agreed layout mid new IsFollowed ran.content)) opened;
     told = listings.listed_told none_left_out layout mid new (x s c) (y s c) done (did s c) result (cause_is layout mid new result ran.cause)
         (no_sink layout mid new c result ran.cause) (counts_are layout mid new calls calls' result ran.cause ran.calls) old first ran.reads volume refl answer
         is
@@ -245,3 +219,28 @@ module _ (addr : ℕ) (old mid new : Seen) (first : OnlyReads old mid) (volume a
         is
         (opened_layout old mid new volume first ran.reads opened);
   }
+
+pub returns-in_err-volume : goal.returns-in_err-volume
+returns-in_err-volume g c s calls =
+    let e = c.in_err-volume.ensures in
+    row_unopened (resolve_row c.args.addr) (g.R.Rack.seen c.args.rack.now) (g.R.Rack.seen c.open_filesystem.new.rack) _ c.in_err-volume.field-0.0 _
+    (answer_gives c.from_residual.result c.in_err-volume.field-0.0 c.from_residual.ensures.1) e.refusal e.content e.opened e.reads e.image e.tree e.hidden
+    e.counted
+
+pub returns-in_err-resolve : goal.returns-in_err-resolve
+returns-in_err-resolve g c s calls =
+    resolved_done c.args.addr (g.R.Rack.seen c.args.rack.now) (g.R.Rack.seen c.open_filesystem.new.rack) (g.R.Rack.seen c.resolve.new.rack)
+    c.in_ok-volume.ensures.reads c.in_ok-volume.volume c.resolve.new.vol (g.O.Out.text c.args.out.now) (g.O.Out.text c.resolve.new.out)
+    (g.O.Out.account c.args.out.now)
+    (g.O.Out.account c.resolve.new.out) _
+    (Err c.in_err-resolve.field-0.0)
+    (answer_gives c.from_residual-in_err-resolve.result (stop_answer c.in_err-resolve.field-0.0) c.from_residual-in_err-resolve.ensures.1)
+    c.in_err-resolve.ensures c.in_ok-volume.ensures.content c.in_ok-volume.ensures.opened s calls
+
+pub returns : goal.returns
+returns g c s calls =
+    resolved_done c.args.addr (g.R.Rack.seen c.args.rack.now) (g.R.Rack.seen c.open_filesystem.new.rack) (g.R.Rack.seen c.resolve.new.rack)
+    c.in_ok-volume.ensures.reads c.in_ok-volume.volume c.resolve.new.vol (g.O.Out.text c.args.out.now) (g.O.Out.text c.resolve.new.out)
+    (g.O.Out.account c.args.out.now)
+    (g.O.Out.account c.resolve.new.out) (Done 0)
+    (Ok c.in_ok-resolve.field-0) refl c.in_ok-resolve.ensures c.in_ok-volume.ensures.content c.in_ok-volume.ensures.opened s calls

@@ -88,7 +88,7 @@ pub record IsTreesOutcome (outcome : Outcome) : Type 0 where
   pub ends : (shown.answer ≡ Done 0) ⊎ ((id : ℕ) × (shown.answer ≡ NoTree id))
       ⊎ ((fault : TreeFault) × (shown.answer ≡ tree_answer fault))
 
--- a block that is shown by its address alone is tested by less than a block of a tree, and its
+-- where a block is shown by its address alone, which is tested by less than a block of a tree, its
 -- copies agree too
 abbrev pub AgreesOn : DumpChoice → Images → Layout → Type 0
 AgreesOn All images layout = Unit {0}
@@ -96,12 +96,13 @@ AgreesOn (Block addr) images layout = Agree images layout (want.Block addr)
 AgreesOn (Tree id) images layout = Unit {0}
 AgreesOn RootLines images layout = Unit {0}
 
--- the row of showing trees: the pieces of their text, whole or up to a block that could not be read
+-- the row of showing trees: the pieces of their text, whole or up to a block that could not be
+-- read, where the copies of a block that is asked for agree
 abbrev pub dump_row : DumpChoice → Row
 dump_row choice = record {
   whole = λ images fs. showing (trees_shown choice (fate images fs.layout) fs.sup);
-  IsUpTo = λ images fs. BreaksOffIn choice (fate images fs.layout) fs.sup;
-  Agrees = AgreesOn choice;
+  IsUpTo = λ images fs outcome. AgreesOn choice images fs.layout
+      → BreaksOffIn choice (fate images fs.layout) fs.sup outcome;
   MayBe = IsTreesOutcome;
   MayWant = λ out. out.ample ≡ false;
   CallsSink = ⊥;

@@ -1,12 +1,13 @@
 use Rattle.std.proofs.Common.{◌≡◌, ◌∙◌, Bool, true, false, Ok, Err, refl, ap}
 use Rattle.btr_rack.specs.Sink.{is_in_file}
+use Rattle.btr_restore.specs.Journey.{listing}
 use Rattle.btr_restore.specs.Running.{KeepsSink}
 use Rattle.btr_run.specs.Faults.{stop_answer}
-use Rattle.btr_run.specs.Restored.{restore_row}
+use Rattle.btr_run.specs.Queries.Restored.{restore_row, skipped_in}
 use Rattle.btr_run.proofs.Coming.{answer_gives}
 use Rattle.btr_run.proofs.Orders.{opened_in_order, unopened_in_order}
-use Rattle.btr_run.proofs.Rows.{restored_done, row_unopened}
-use Rattle.btr_run.proofs.restoring.restore_files.Goals as goal
+use Rattle.btr_run.proofs.Rows.{program_done, row_unopened}
+use Rattle.btr_run.proofs.query.restoring.restore_files.Goals as goal
 
 pub returns-in_err-volume-clause-done : goal.returns-in_err-volume-clause-done
 returns-in_err-volume-clause-done g c =
@@ -18,15 +19,17 @@ returns-in_err-volume-clause-done g c =
 
 pub returns-in_err-counts-clause-done : goal.returns-in_err-counts-clause-done
 returns-in_err-counts-clause-done g c =
-    restored_done (g.R.Rack.seen c.args.rack.now) (g.R.Rack.seen c.open_filesystem.new.rack) (g.R.Rack.seen c.restore.new.rack)
-    c.in_ok-volume.ensures.reads c.in_ok-volume.volume c.restore.new.vol _ _ _ c.args.plan.now c.args.dest.now (Err c.in_err-counts.field-0.0)
+    program_done (c.args.plan.now.dry ≡ false) skipped_in (λ fs. listing c.args.plan.now c.args.dest.now fs.sup)
+    (g.R.Rack.seen c.args.rack.now) (g.R.Rack.seen c.open_filesystem.new.rack) (g.R.Rack.seen c.restore.new.rack)
+    c.in_ok-volume.ensures.reads c.in_ok-volume.volume c.restore.new.vol _ _ _ (Err c.in_err-counts.field-0.0)
     (answer_gives c.from_residual-in_err-counts.result (stop_answer c.in_err-counts.field-0.0) c.from_residual-in_err-counts.ensures.1)
     c.in_err-counts.ensures.ran c.in_ok-volume.ensures.content c.in_ok-volume.ensures.opened
 
 pub returns-clause-done : goal.returns-clause-done
 returns-clause-done g c =
-    restored_done (g.R.Rack.seen c.args.rack.now) (g.R.Rack.seen c.open_filesystem.new.rack) (g.R.Rack.seen c.restore.new.rack)
-    c.in_ok-volume.ensures.reads c.in_ok-volume.volume c.restore.new.vol _ _ _ c.args.plan.now c.args.dest.now (Ok c.in_ok-counts.counts)
+    program_done (c.args.plan.now.dry ≡ false) skipped_in (λ fs. listing c.args.plan.now c.args.dest.now fs.sup)
+    (g.R.Rack.seen c.args.rack.now) (g.R.Rack.seen c.open_filesystem.new.rack) (g.R.Rack.seen c.restore.new.rack)
+    c.in_ok-volume.ensures.reads c.in_ok-volume.volume c.restore.new.vol _ _ _ (Ok c.in_ok-counts.counts)
     refl c.in_ok-counts.ensures.ran c.in_ok-volume.ensures.content c.in_ok-volume.ensures.opened
 
 pub returns-in_err-volume-clause-order : goal.returns-in_err-volume-clause-order

@@ -2,7 +2,7 @@
 ghost use Rattle.std.specs.Prelude.{◌<◌, length};
 ghost use Rattle.btr_run.specs.Answers.{answer_of};
 ghost use Rattle.btr_run.specs.Listed.{BesideSinks};
-ghost use Rattle.btr_run.specs.Resolved.{resolve_row};
+ghost use Rattle.btr_run.specs.Queries.Resolved.{resolve_row};
 ghost use Rattle.btr_run.specs.Rows.{IsRowDone};
 
 use crate::answer::Answer;
