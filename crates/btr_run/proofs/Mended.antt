@@ -11,8 +11,10 @@ use Rattle.btr_read.specs.Fate.{Agreed, Fault}
 use Rattle.btr_read.specs.Fate as fault
 use Rattle.btr_read.specs.Layout.{Layout}
 use Rattle.btr_scrub.specs.Filesystem as scrubbed
-use Rattle.btr_scrub.specs.Gathering.{stop_halt}
-use Rattle.btr_scrub.specs.Judging.{IsUnplaced}
+use Rattle.btr_scrub.specs.Gathering.{stop_halt, wants_among}
+use Rattle.btr_read.specs.declared.want.Want.{Want}
+use Rattle.btr_scrub.specs.Judging.{IsFirstRefused, IsRefused}
+use Rattle.btr_scrub.proofs.Refusing.{refused_one}
 use Rattle.btr_scrub.specs.Repair.{effect, effect_of_ending, effect_unless, first_missing, meeting}
 use Rattle.btr_scrub.specs.Scrubbed.{AnswersAs, HasEffect, IsScrubbed, called}
 use Rattle.btr_scrub.specs.Units.{Met, units_in}
@@ -75,16 +77,19 @@ module _ (write : Bool) (old mid new : Seen) (first : OnlyReads old mid) (volume
     is_listed (Err (mend.Image s)) tally says = cc (sym says ∙ is)
     is_listed (Err mend.Memory) tally says = cc (sym says ∙ is)
 
-    unplaced : (f : TreeFault) → result ≡ Err (stop.Tree f) → IsUnplaced layout f → ⊥
-    unplaced (tree.Lost a) e u = u
-    unplaced (tree.Unread a s) e u = u
-    unplaced (tree.Unmapped a) e u = cc (sym e ∙ is)
-    unplaced (tree.Crosses a) e u = cc (sym e ∙ is)
-    unplaced (tree.Malformed a) e u = cc (sym e ∙ is)
+    unread_refused : (f : TreeFault) (from : ℕ) (want : Want) → result ≡ Err (stop.Tree f) → IsRefused layout from want f → ⊥
+    unread_refused (tree.Lost a) from want e u = u
+    unread_refused (tree.Unread a s) from want e u = u
+    unread_refused (tree.Unmapped a) from want e u = cc (sym e ∙ is)
+    unread_refused (tree.Crosses a) from want e u = cc (sym e ∙ is)
+    unread_refused (tree.Malformed a) from want e u = cc (sym e ∙ is)
+
+    is_refused : (f : TreeFault) (wants : List Want) → result ≡ Err (stop.Tree f) → IsFirstRefused layout 0 wants f → ⊥
+    is_refused f wants e r = let one = refused_one layout 0 wants f r in unread_refused f one.0 one.1.0 e one.1.1
 
     by : (at : Seen) (met : List Met) (l : Listing) → Goes volume.sup layout write mid at new met result l → LacksUnits images (refused (Unread addr slot))
     by at met Listed g = absurd (is_listed g.1.ended g.1.tally g.1.says)
-    by at met (Refused f) g = absurd (unplaced f g.0 g.2)
+    by at met (Refused f) g = absurd (is_refused f (wants_among met) g.0 g.2)
     by at met (Stopped why) g =
         let same : why ≡ stop.Tree (tree.Unread addr slot) = cc (sym g.0 ∙ is) in
         let follows = at_map layout mid at images

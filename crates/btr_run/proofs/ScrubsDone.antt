@@ -2,7 +2,6 @@
 use Rattle.std.proofs.Common.{◌≡◌, ◌⊎◌, inl, inr, ⊎_elim, ℕ, Bool, true, false, List, [], fold, Option, Some, None, Result, Ok, Err, refl, sym, ap, ◌∙◌, subst}
 use Rattle.std.proofs.Common.{arith}
 use Rattle.std.specs.Option.{IfSome}
-use Rattle.std.specs.List.{All}
 use Rattle.std.specs.Prelude.{IsSomeAnd, OnOk}
 use Rattle.btr_check.specs.Running.{OfReading}
 use Rattle.btr_scrub_copies.specs.Writes.{AccountsMend, FailsAt, IsStopped, Leaves, Write, write_on, writes_if}
@@ -18,10 +17,11 @@ use Rattle.btr_read.specs.Layout.{Layout}
 use Rattle.btr_read.specs.Reading.{AgreedOn}
 use Rattle.btr_scrub.specs.Filesystem as scrubbed
 use Rattle.btr_scrub.specs.Gathering.{StopCause, TreeCause, wants_among, count_met, stop_halt}
-use Rattle.btr_scrub.specs.Judging.{IsUnplaced}
-use Rattle.btr_scrub.specs.Plain.{plain_among}
-use Rattle.btr_scrub.specs.Repair.{blocks, effect_of_ending, effect_unless, first_missing, meeting, met, writes}
-use Rattle.btr_scrub.specs.Right.{Committed, IsRepairable, StandsFor}
+use Rattle.btr_read.specs.declared.want.Want.{Want}
+use Rattle.btr_scrub.specs.Judging.{IsFirstRefused, IsRefused}
+use Rattle.btr_scrub.proofs.Refusing.{refused_one}
+use Rattle.btr_scrub.specs.Repair.{effect_of_ending, effect_unless, first_missing, meeting, met, writes}
+use Rattle.btr_scrub.specs.Right.{Committed, IsCommitted, SparedStand}
 use Rattle.btr_scrub.specs.Scrubbed.{IsSafe, called}
 use Rattle.btr_scrub_copies.specs.Syncing.{plain}
 use Rattle.btr_scrub.specs.Scrubbing.{IsOfScrub, Works}
@@ -96,15 +96,15 @@ module _ (write : Bool) (old mid : Seen) (first : OnlyReads old mid) (volume : V
   -- each checked block can be had from what is left, where it was sure what the images hold
   abbrev HasBlocks : Seen → Type 0
   HasBlocks new = Steady mid.account.faults new.account.faults ⊎ AgreedOn layout mid.held
-      → IfSome mid.held (λ images. IsSomeAnd new.held (λ left. (C : Committed) → IsRepairable images fs C → All (StandsFor left C) (blocks images fs)))
+      → IfSome mid.held (λ images. IsSomeAnd new.held (λ left. (C : Committed) → IsCommitted images fs C → SparedStand images left fs C))
 
   keeps_blocks : (new : Seen) → HasBlocks new → (images left : Images) → old.held ≡ Some images → new.held ≡ Some left
       → Steady old.account.faults new.account.faults ⊎ AreAgreed images → filesystem_of images ≡ Ok (filesystem_in volume) → KeepsBlocks images left
   keeps_blocks new had images left told told' sure opens other C is_other =
-      subst (λ (f : Filesystem). IsRepairable images (filesystem_as f) C → All (StandsFor left C) (blocks images (filesystem_as f)))
+      subst (λ (f : Filesystem). IsCommitted images (filesystem_as f) C → SparedStand images left (filesystem_as f) C)
       (one (sym opens ∙ is_other))
-      (subst (λ (o : Option Images). IsSomeAnd o (λ l. (D : Committed) → IsRepairable images fs D → All (StandsFor l D) (blocks images fs))) told'
-      (told_at mid.held (λ i. IsSomeAnd new.held (λ l. (D : Committed) → IsRepairable i fs D → All (StandsFor l D) (blocks i fs))) images held (had is_sure)) C)
+      (subst (λ (o : Option Images). IsSomeAnd o (λ l. (D : Committed) → IsCommitted images fs D → SparedStand images l fs D)) told'
+      (told_at mid.held (λ i. IsSomeAnd new.held (λ l. (D : Committed) → IsCommitted i fs D → SparedStand i l fs D)) images held (had is_sure)) C)
     where
       one : {a b : Filesystem} → ◌≡◌ {A = Result Filesystem Answer} (Ok a) (Ok b) → a ≡ b
       one e = cc e
@@ -227,15 +227,16 @@ module _ (write : Bool) (old mid : Seen) (first : OnlyReads old mid) (volume : V
           of images steady o other f c = absurd c
 
     -- a list that is refused
-    unplaced : (f : TreeFault) → IsUnplaced layout f → StopCause {A = Tally} layout mid at (Err (stop.Tree f))
-    unplaced (tree.Lost a) u = absurd u
-    unplaced (tree.Unread a slot) u = absurd u
-    unplaced (tree.Unmapped a) u = u
-    unplaced (tree.Crosses a) u = inl u
-    unplaced (tree.Malformed a) u = tt
+    refused_cause : (f : TreeFault) (from : ℕ) (want : Want) → IsRefused layout from want f → StopCause {A = Tally} layout mid at (Err (stop.Tree f))
+    refused_cause (tree.Lost a) from want u = absurd u
+    refused_cause (tree.Unread a slot) from want u = absurd u
+    refused_cause (tree.Unmapped a) from want u = (want, u)
+    refused_cause (tree.Crosses a) from want u = inl (want, u)
+    refused_cause (tree.Malformed a) from want u = tt
 
-    pub listing_refused : (f : TreeFault) → IsUnplaced layout f → Tells layout mid at (λ B. ⊥) → Scrubs write old at (Err (tree_answer f))
-    listing_refused f u tells = halted (stop.Tree f) (unplaced f u)
+    pub listing_refused : (f : TreeFault) (wants : List Want) → IsFirstRefused layout 0 wants f → Tells layout mid at (λ B. ⊥)
+        → Scrubs write old at (Err (tree_answer f))
+    listing_refused f wants r tells = let one = refused_one layout 0 wants f r in halted (stop.Tree f) (refused_cause f one.0 one.1.0 one.1.1)
         (each_told old.held (λ images. Steady old.account.faults at.account.faults → ScrubsTo write images (Err (tree_answer f)))
         (λ images told steady. absurd (sure_told (λ B. ⊥) at second tells images told (inl steady)).1))
 
@@ -243,14 +244,14 @@ module _ (write : Bool) (old mid : Seen) (first : OnlyReads old mid) (volume : V
     module _ (listed : ListedWrites) (countings : ListedCounts) (table : IsTable layout.chunks) (new : Seen) (had : HasBlocks new) (done : List Met)
         (tells : Tells layout mid at (λ B. Follows (unread_by layout mid at) no_part [] (exec B (units_in volume.sup layout.chunks)) done (Ok tt))) where
       abbrev ws : Images → List Write
-      ws images = listed_writes_for layout (wants_among done) (plain_among done) images
+      ws images = listed_writes_for layout (wants_among done) images
 
       abbrev Is : Map → Type 0
       Is B = Follows (unread_by layout mid at) no_part [] (exec B (units_in volume.sup layout.chunks)) done (Ok tt)
 
       module _ (tally : Tally) (ended : Result (Unit {0}) MendFault)
-          (works : Works layout write (listed_writes_for layout (wants_among done) (plain_among done))
-          (listed_count_for layout write (wants_among done) (plain_among done)) at new
+          (works : Works layout write (listed_writes_for layout (wants_among done))
+          (listed_count_for layout write (wants_among done)) at new
           (first_tally (fold count_met 0 done)) tally ended) where
         since : Steady old.account.faults new.account.faults → Steady old.account.faults at.account.faults
         since steady = (omega (arith, steady.0, works.does.only.later), omega (arith, steady.1, works.does.only.later))
@@ -259,7 +260,7 @@ module _ (write : Bool) (old mid : Seen) (first : OnlyReads old mid) (volume : V
         at_images images told = ap (λ (s : Seen). s.held) all.same ∙ told
 
         writes_are : (images : Images) → done ≡ met images fs → ws images ≡ writes images fs
-        writes_are images is = ap (λ d. listed_writes_for layout (wants_among d) (plain_among d) images) is ∙ listed images fs
+        writes_are images is = ap (λ d. listed_writes_for layout (wants_among d) images) is ∙ listed images fs
 
         keeps : KeepsRack old new
         keeps = record {
@@ -406,12 +407,12 @@ module _ (write : Bool) (old mid : Seen) (first : OnlyReads old mid) (volume : V
           where
             tally_is : (images : Images) → old.held ≡ Some images → done ≡ met images fs → tally ≡ counts write images fs
             tally_is images told same =
-                told_at at.held (λ i. tally ≡ listed_count_for layout write (wants_among done) (plain_among done) i
+                told_at at.held (λ i. tally ≡ listed_count_for layout write (wants_among done) i
                 (first_tally (fold count_met 0 done))) images
                 (at_images images told)
-                (subst (λ r. OnOk r (IfSome at.held (λ i. tally ≡ listed_count_for layout write (wants_among done) (plain_among done) i
+                (subst (λ r. OnOk r (IfSome at.held (λ i. tally ≡ listed_count_for layout write (wants_among done) i
                 (first_tally (fold count_met 0 done))))) is works.counts)
-                ∙ ap (λ d. listed_count_for layout write (wants_among d) (plain_among d) images
+                ∙ ap (λ d. listed_count_for layout write (wants_among d) images
                 (first_tally (fold count_met 0 d))) same
                 ∙ countings images fs write table
 
@@ -445,7 +446,7 @@ module _ (write : Bool) (old mid : Seen) (first : OnlyReads old mid) (volume : V
       by given at second done (Stopped why) g = ended_as (Err why) at g.0 g.1 (listing_stopped given at second why g.3 done g.2)
       by given at second done Listed g = ended_as (whole.answer_of g.1.ended g.1.tally) new g.1.says refl
           (worked given at second listed countings table new safe.left done g.0 g.1.tally g.1.ended g.1.works)
-      by given at second done (Refused f) g = ended_as (Err (stop.Tree f)) at g.0 g.1 (listing_refused given at second f g.2 g.3)
+      by given at second done (Refused f) g = ended_as (Err (stop.Tree f)) at g.0 g.1 (listing_refused given at second f (wants_among done) g.2 g.3)
 
       of : (m : Option Stripe) → first_missing layout ≡ m → IfSome m (λ stripe. (result ≡ Err (stop.Missing stripe.devid)) × (new ≡ mid))
           → Scrubs write old new (answered result)

@@ -6,8 +6,7 @@ use Rattle.btr_scrub_copies.specs.Writes.{IsStopped}
 use Rattle.btr_rack.specs.Rack.{OnlyReads, Rose, Seen, Shelf, Slot, Steady}
 use Rattle.btr_read.specs.Layout.{Layout}
 use Rattle.btr_scrub.specs.Leaves.{WaitsInOne}
-use Rattle.btr_scrub.specs.Repair.{blocks}
-use Rattle.btr_scrub.specs.Right.{Committed, IsRepairable, StandsFor}
+use Rattle.btr_scrub.specs.Right.{Committed, IsCommitted, SparedStand}
 use Rattle.btr_scrub.specs.declared.tally.Tally.{Tally}
 use Rattle.btr_volume.specs.Start.{Images}
 use Rattle.btr_run.specs.Unopened.{AreAgreed}
@@ -48,18 +47,17 @@ KeepsRepair words shelf held =
 abbrev pub MayWrite : Answer → Type 0
 MayWrite answer = IsFault answer ⊎ ((lost : ℕ) × (answer ≡ found lost))
 
--- of a filesystem that can be repaired each checked block can be had from what is left, with its
--- committed bytes
+-- of what was committed each checked block that can be spared can be had from what is left
 abbrev pub KeepsBlocks : Images → Images → Type 0
 KeepsBlocks images left =
     (fs : Filesystem) (C : Committed) → filesystem_of images ≡ Ok fs
-    → IsRepairable images (filesystem_as fs) C
-    → All (StandsFor left C) (blocks images (filesystem_as fs))
+    → IsCommitted images (filesystem_as fs) C
+    → SparedStand images left (filesystem_as fs) C
 
 -- What stands in the images, by the answer. Where no call failed, or where the copies agree,
 -- whatever failed: the writes that mend the filesystem up to one of them, which stands perhaps in
 -- part; all of them behind a scrub that was finished; and, wherever it stopped, each checked block
--- can be had. Any answer but those of `MayWrite` leaves each byte.
+-- that can be spared can be had. Any answer but those of `MayWrite` leaves each byte.
 pub record LeavesImages (calm : Type 0) (images left : Images) (answer : Answer) : Type 0 where
   pub stopped : calm ⊎ AreAgreed images → IsStopped (mending_writes images) images left
   pub finished : (lost : ℕ) → answer ≡ found lost → calm ⊎ AreAgreed images

@@ -1,7 +1,7 @@
 -- What a scrub of the example needs.
 use Rattle.std.proofs.Common.{◌≡◌, ℕ, ◌/◌, ◌%◌, ◌^◌, ◌<◌, Bool, true, false, cond, List, [], ◌∷◌, ◌++◌, length, get_or, Option, Some, None, Result, Ok, refl}
 use Rattle.std.proofs.Common.{sym, ap, ◌∙◌, subst}
-use Rattle.std.proofs.Common.{arith, eqb-true, ltb-true}
+use Rattle.std.proofs.Common.{arith, eqb-true, inl, ltb-true}
 use Rattle.std.specs.Prelude.{IsSome, filter_map, nat_lt, replicate, slice_get, ◌==◌, ◌&&◌}
 use Rattle.std.specs.List.{All, filter, list_all}
 use Rattle.std.specs.Option.{IfSome, option_and_then}
@@ -26,7 +26,7 @@ use Rattle.btr_read.specs.declared.candidate.Candidate.TheVariants.{Read}
 use Rattle.btr_read.specs.declared.want.Want.{Want}
 use Rattle.btr_read.specs.declared.want.Want.TheVariants.{Tree, Block, Sector, Plain}
 use Rattle.btr_scrub.specs.Repair.{blocks, is_checked, meeting, target_met}
-use Rattle.btr_scrub.specs.Right.{AllPass as AllCommittedPass, HasRightCopy, IsHonest, IsRepairable}
+use Rattle.btr_scrub.specs.Right.{AllPass as AllCommittedPass, CanBeSpared, IsCommitted, IsHonest}
 use Rattle.btr_scrub.specs.Units.{units}
 use Rattle.btr_super.specs.Super.{super_of}
 use Rattle.btr_volume.specs.Maps.{array_layout}
@@ -125,11 +125,11 @@ slices =
     (block_is_slice _ refl refl) (block_is_slice _ refl refl) (block_is_slice _ refl refl) (block_is_slice _ refl refl)
 
 -- each has its copy
-copies : All (HasRightCopy images committed_blocks) (blocks images (filesystem_as fs))
+spared : All (CanBeSpared images (filesystem_as fs) committed_blocks) (blocks images (filesystem_as fs))
 unfolding sealed
-copies =
-    each_of_four (HasRightCopy images committed_blocks) (λ some. (0, Mirror 0, omega arith, refl, refl)) (λ some. (0, Mirror 0, omega arith, refl, refl))
-    (λ some. (0, Mirror 0, omega arith, refl, refl)) (λ some. (0, Mirror 0, omega arith, refl, refl))
+spared =
+    each_of_four (CanBeSpared images (filesystem_as fs) committed_blocks) (inl (0, Mirror 0, omega arith, refl, refl))
+    (inl (0, Mirror 0, omega arith, refl, refl)) (inl (0, Mirror 0, omega arith, refl, refl)) (inl (0, Mirror 0, omega arith, refl, refl))
 
 -- the committed bytes pass
 abbrev PassesAt : ℕ → ℕ → ℕ → Option (List ℕ) → Type 0
@@ -188,17 +188,14 @@ honest_so want = of (committed_blocks want) refl
         honest want bytes (get_or (passing_for images (sought layout want)) k d) is
         (k, lt, get_or_default (passing_for images (sought layout want)) k (get_or (passing_for images (sought layout want)) k d) d lt)
 
-repairable : IsRepairable images (filesystem_as fs) committed_blocks
-repairable = record {
+known : IsCommitted images (filesystem_as fs) committed_blocks
+known = record {
   given = refl;
-  met = ends;
   pass = all_pass;
   honest = honest_so;
   committed = each_of_four (λ t. IsSome (committed_blocks t.want)) refl refl refl refl;
   slices = slices;
-  copies = copies;
-  rows = All-nil _;
 }
 
 pub meets_scrubs : MeetsScrubs
-meets_scrubs = record { opened = opened; repairable = repairable }
+meets_scrubs = record { opened = opened; listed = ends; known = known; spared = spared }

@@ -2,7 +2,7 @@
 -- tree, a tree of extents, and one of files, in which a file `f` of two bytes stands. Its checksums
 -- aren't computed: a block is sealed by the checksum of what stands behind it, whatever that is.
 use Rattle.std.specs.Prelude.{◌≡◌, ℕ, ◌+◌, ◌-◌, ◌*◌, ◌==◌, ◌&&◌, if◌then◌else◌, false, List, []}
-use Rattle.std.specs.Prelude.{◌∷◌, ◌++◌, length, replicate, codes, Option, Some, None, Ok}
+use Rattle.std.specs.Prelude.{◌∷◌, ◌++◌, All, length, replicate, codes, Option, Some, None, Ok}
 use Rattle.byteorder.specs.Endian.{little_bytes}
 use Rattle.btr_base.specs.Crc.{crc32c}
 use Rattle.btr_base.specs.declared.key.Key.{Key}
@@ -15,7 +15,8 @@ use Rattle.btr_read.specs.declared.want.Want.{Want}
 use Rattle.btr_read.specs.declared.want.Want.TheVariants.{Tree, Block, Sector, Plain}
 use Rattle.btr_restore.specs.Committed.{AreWhole, IsClosed, IsHonest, committed}
 use Rattle.btr_restore.specs.Journey.{journey}
-use Rattle.btr_scrub.specs.Right.{IsRepairable}
+use Rattle.btr_scrub.specs.Repair.{blocks, meeting}
+use Rattle.btr_scrub.specs.Right.{CanBeSpared, IsCommitted}
 use Rattle.btr_super.specs.Super.{magic, super_of}
 use Rattle.btr_volume.specs.Maps.{volume_map}
 use Rattle.btr_volume.specs.Start.{Images, Start, layout_by, start_of}
@@ -214,7 +215,9 @@ pub record MeetsRestores : Type 0 where
   pub whole : AreWhole plan (codes "out") images start committed_blocks
   pub agreed : IsAgreed images start
 
--- and those on scrubs
+-- and those on scrubs: its blocks can all be listed, and spared
 pub record MeetsScrubs : Type 0 where
   pub opened : filesystem_of images ≡ Ok fs
-  pub repairable : IsRepairable images (filesystem_as fs) committed_blocks
+  pub listed : (meeting images (filesystem_as fs)).ending ≡ Ok tt
+  pub known : IsCommitted images (filesystem_as fs) committed_blocks
+  pub spared : All (CanBeSpared images (filesystem_as fs) committed_blocks) (blocks images (filesystem_as fs))

@@ -23,32 +23,32 @@ use Rattle.btr_read.specs.Layout.{HaveOwnSlots, Layout, device_in}
 use Rattle.btr_read.specs.declared.device.Device.{Device}
 use Rattle.btr_read.specs.declared.want.Want.{Want}
 use Rattle.btr_read.proofs.Ones.{in_below}
-use Rattle.btr_scrub_copies.specs.Blocks.{bad_parts, block_writes, is_lost}
 use Rattle.btr_scrub_copies.proofs.Syncs.{passing_filter}
 use Rattle.btr_scrub_copies.specs.Writes.{Images, Write, write_on, writes_if}
 use Rattle.btr_scrub_copies.proofs.Copied.{has_mirror}
 use Rattle.btr_scrub_row.specs.Rows.{Row, parities, parity_writes, range_in_element, row_writes}
+use Rattle.btr_scrub_row.specs.Wanted.{is_checked, is_lost_block, mending_writes, wrong_parts}
 use Rattle.btr_scrub.specs.Devices.{HaveLengths}
 use Rattle.btr_scrub.specs.Glue.{In}
 use Rattle.btr_scrub.specs.Leaves.{KeepsOutside}
 use Rattle.btr_scrub.specs.Order.{IsSought, targets}
 use Rattle.btr_scrub.specs.Places.{IsOfElement}
-use Rattle.btr_scrub.specs.Repair.{covers, first_missing, is_in_chunk, is_in_row, is_missing, mending_writes, missing_stripes, row_of, rows_in}
+use Rattle.btr_scrub.specs.Repair.{covers, first_missing, is_in_chunk, is_in_row, is_missing, missing_stripes, row_of, rows_in}
 use Rattle.btr_scrub.specs.Scrubbing.{chunk_count_for, chunk_writes_for, all_writes_for, count_row, count_site}
 use Rattle.btr_scrub.specs.Scrubbing.{count_row_of, rows_count, rows_writes, sites_count, sites_in, sites_writes}
 use Rattle.btr_scrub.specs.declared.tally.Tally.{Tally}
-use Rattle.btr_scrub.proofs.Agreeing.{SiteAlike, of_mapped, site_alike, writes_alike}
+use Rattle.btr_scrub.proofs.Agreeing.{SiteAlike, of_mapped, site_alike}
 use Rattle.btr_scrub.proofs.Blockwise.{none_first, none_flat, none_passes, of_targets}
 use Rattle.btr_scrub.proofs.CopyWrites.{same_element, written_byte}
 use Rattle.btr_scrub_row.proofs.Elements.{range_stands, stands_on}
 use Rattle.btr_scrub.proofs.Places.{is_at}
 use Rattle.btr_scrub.proofs.Positions.{IsCopyByte, is_sought, of_range, on_stripe}
-use Rattle.btr_scrub.proofs.RowAgreeing.{RowAlike, flat_same, fold_same, row_writes_alike}
+use Rattle.btr_scrub.proofs.RowAgreeing.{RowAlike, beside, flat_same, fold_same, row_writes_alike}
 use Rattle.btr_scrub.proofs.RowWrites.{IsBlockOf, IsRowIn, row_short, row_stays, written_row}
 use Rattle.btr_scrub.proofs.Scrubbing.{IsUnmoved}
 use Rattle.btr_scrub.proofs.Shorts.{Short, shorts_keep_if, site_short}
 use Rattle.btr_scrub.proofs.Writes.{any_flat, any_map}
-use Rattle.btr_scrub.specs.Plain.{Doubts}
+use Rattle.btr_scrub_copies.specs.Fresh.{Failing}
 
 -- ---- which chunk a byte of a device is of
 
@@ -109,7 +109,19 @@ in_take (suc n) (y ∷ xs) x (inr i) = let r = in_take n xs x i in (suc r.0, ome
 
 -- ---- a chunk of the table
 
-module _ (kept : Doubts) (layout : Layout) (table : IsTable layout.chunks) (own : HaveOwnSlots layout.devices) (none : first_missing layout ≡ None) (number : ℕ) (chunk : Chunk) (there : slice_get layout.chunks number ≡ Some chunk) (wants : List Want) where
+-- what is counted for a row is the same
+pub row_counted : (images images' : Images) (layout : Layout) (write : Bool) (row : Row) (also : Failing) (tally : Tally) → RowAlike images images' layout row also
+    → count_row images' layout write tally (beside also row) ≡ count_row images layout write tally row
+row_counted images images' layout write row also tally a =
+    let f = row.failing in
+    let bad = sum_same (λ t. length (wrong_parts images' also t)) (λ t. length (wrong_parts images f t)) row.blocks (λ t i. ap length (a.blocks t i).wrong) in
+    let repaired = sum_same (λ t. length (mending_writes images' also t)) (λ t. length (mending_writes images f t)) row.blocks (λ t i. ap length (a.blocks t i).writes) in
+    let lost = count_same (is_lost_block images') (is_lost_block images) row.blocks (λ t i. (a.blocks t i).lost) in
+    let parity = sum_same (λ q. length (parity_writes images' layout (beside also row) q)) (λ q. length (parity_writes images layout row q)) (parities row.chunk.profile) (λ q i. ap length (a.parities q i)) in
+    ap (count_row_of row.blocks tally)
+    (λ i. record { blocks = count_by is_checked row.blocks; bad = bad i; repaired = cond write (repaired i) 0; lost = lost i; parity = parity i })
+
+module _ (kept : Failing) (layout : Layout) (table : IsTable layout.chunks) (own : HaveOwnSlots layout.devices) (none : first_missing layout ≡ None) (number : ℕ) (chunk : Chunk) (there : slice_get layout.chunks number ≡ Some chunk) (wants : List Want) where
   sound : IsChunk chunk
   sound = (table.sound number chunk there).0
 
@@ -206,7 +218,7 @@ module _ (kept : Doubts) (layout : Layout) (table : IsTable layout.chunks) (own 
       where
         by : (o : Option ℕ) → mirrors chunk ≡ o → list_any (λ (w : Write). covers slot off w.range)
             (cond (is_none o) (rows_writes layout (rows_in kept (targets layout wants) chunk) images)
-            (sites_writes kept.failing (sites_in layout chunk wants) images)) ≡ true → InChunk layout number slot off
+            (sites_writes kept (sites_in layout chunk wants) images)) ≡ true → InChunk layout number slot off
         by None parity h =
             let f = any_flat (λ (w : Write). covers slot off w.range) (row_writes images layout) (rows_in kept (targets layout wants) chunk) h in
             let of = of_rows parity f.0 f.1 in
@@ -214,9 +226,9 @@ module _ (kept : Doubts) (layout : Layout) (table : IsTable layout.chunks) (own 
             let same = number_same w.1.number of.is.chunk_number f.0.chunk w.1.there of.is.there in
             subst (λ k. InChunk layout k slot off) (same ∙ of.number_is) (element_in_chunk layout f.0 w.0 slot off table w.1)
         by (Some n) copies h =
-            let f = any_flat (λ (w : Write). covers slot off w.range) (mending_writes images kept.failing) (sites_in layout chunk wants) h in
+            let f = any_flat (λ (w : Write). covers slot off w.range) (mending_writes images kept) (sites_in layout chunk wants) h in
             let of = of_chunk f.0 f.1 in
-            let b = written_byte kept.failing images layout lengths f.0 of.is n (ap mirrors of.chunk_is ∙ copies) slot off f.2 in
+            let b = written_byte kept images layout lengths f.0 of.is n (ap mirrors of.chunk_is ∙ copies) slot off f.2 in
             subst (λ k. InChunk layout k slot off) of.number_is (copy_in_chunk layout f.0 slot off table of.is b)
 
     -- each write in the chunk has at most as many bytes as its range
@@ -224,23 +236,10 @@ module _ (kept : Doubts) (layout : Layout) (table : IsTable layout.chunks) (own 
     chunk_short = by (mirrors chunk) refl
       where
         by : (o : Option ℕ) → mirrors chunk ≡ o → All (Short images)
-            (cond (is_none o) (rows_writes layout (rows_in kept (targets layout wants) chunk) images) (sites_writes kept.failing (sites_in layout chunk wants) images))
+            (cond (is_none o) (rows_writes layout (rows_in kept (targets layout wants) chunk) images) (sites_writes kept (sites_in layout chunk wants) images))
         by None parity = flat_short images (row_writes images layout) (rows_in kept (targets layout wants) chunk) (λ row i. let of = of_rows parity row i in row_short layout row table of.is images lengths of.blocks)
-        by (Some n) copies = flat_short images (λ t. mending_writes images kept.failing t) (sites_in layout chunk wants)
-            (λ t i. site_short images layout lengths t (of_chunk t i).is kept.failing)
-
-    pub row_counts_alike : (write : Bool) (images' : Images) (row : Row) (tally : Tally) → RowAlike images images' layout row
-        → count_row images' layout write tally row ≡ count_row images layout write tally row
-    row_counts_alike write images' row tally a =
-        let bad = sum_same (λ t. length (bad_parts images' t)) (λ t. length (bad_parts images t)) row.blocks (λ t i. ap length (a.blocks t i).bad) in
-        let repaired = sum_same (λ t. length (block_writes images' t)) (λ t. length (block_writes images t)) row.blocks (λ t i. ap length (writes_alike images images' t (a.blocks t i))) in
-        let lost = count_same (is_lost images') (is_lost images) row.blocks (λ t i. ap is_none (a.blocks t i).accepted) in
-        let parity = sum_same (λ q. length (parity_writes images' layout row q)) (λ q. length (parity_writes images layout row q)) (parities row.chunk.profile) (λ q i. ap length (a.parities q i)) in
-        ap (count_row_of row.blocks tally) (
-        ap (λ n. record { bad = n; repaired = cond write (sum_by (λ t. length (block_writes images' t)) row.blocks) 0; lost = count_by (is_lost images') row.blocks; parity = sum_by (λ q. length (parity_writes images' layout row q)) (parities row.chunk.profile) }) bad
-        ∙ ap (λ n. record { bad = sum_by (λ t. length (bad_parts images t)) row.blocks; repaired = cond write n 0; lost = count_by (is_lost images') row.blocks; parity = sum_by (λ q. length (parity_writes images' layout row q)) (parities row.chunk.profile) }) repaired
-        ∙ ap (λ n. record { bad = sum_by (λ t. length (bad_parts images t)) row.blocks; repaired = cond write (sum_by (λ t. length (block_writes images t)) row.blocks) 0; lost = n; parity = sum_by (λ q. length (parity_writes images' layout row q)) (parities row.chunk.profile) }) lost
-        ∙ ap (λ n. record { bad = sum_by (λ t. length (bad_parts images t)) row.blocks; repaired = cond write (sum_by (λ t. length (block_writes images t)) row.blocks) 0; lost = count_by (is_lost images) row.blocks; parity = n }) parity)
+        by (Some n) copies = flat_short images (λ t. mending_writes images kept t) (sites_in layout chunk wants)
+            (λ t i. site_short images layout lengths t (of_chunk t i).is kept)
 
     -- nothing of the chunk was written: what is to be written and counted there is as before
     pub chunk_stays : (write : Bool) (images' : Images) (ranges : List Range) → KeepsOutside ranges images images'
@@ -249,20 +248,20 @@ module _ (kept : Doubts) (layout : Layout) (table : IsTable layout.chunks) (own 
         × ((x : Tally) → chunk_count_for kept layout write chunk wants images' x ≡ chunk_count_for kept layout write chunk wants images x)
     chunk_stays write images' ranges keeps free = (by_writes (mirrors chunk) refl, λ x. by_counts x (mirrors chunk) refl)
       where
-        each_row : (parity : mirrors chunk ≡ None) (r : Row) → In r (rows_in kept (targets layout wants) chunk) → RowAlike images images' layout r
+        each_row : (parity : mirrors chunk ≡ None) (r : Row) → In r (rows_in kept (targets layout wants) chunk) → RowAlike images images' layout r r.failing
         each_row parity r i =
             let of = of_rows parity r i in
             row_stays layout r table of.is images lengths images' ranges of.blocks keeps
             (λ q slot off e. free slot off (subst (λ k. InChunk layout k slot off)
             (number_same e.number of.is.chunk_number r.chunk e.there of.is.there ∙ of.number_is) (element_in_chunk layout r q slot off table e)))
 
-        each_block : (n : ℕ) → mirrors chunk ≡ Some n → (t : Target) → In t (sites_in layout chunk wants) → SiteAlike kept.failing images images' t
+        each_block : (n : ℕ) → mirrors chunk ≡ Some n → (t : Target) → In t (sites_in layout chunk wants) → SiteAlike kept images images' t
         each_block n copies t i =
             let of = of_chunk t i in
             let has : mirrors t.chunk ≡ Some n = ap mirrors of.chunk_is ∙ copies in
             site_alike images images' t n has (λ k lt. same_element images images' layout ranges t (Mirror k) lengths of.is keeps
             (λ slot off c. free slot off (subst (λ j. InChunk layout j slot off) of.number_is
-            (copy_in_chunk layout t slot off table of.is (byte t of.is n k has lt slot off (range_of t (Mirror k)) refl c))))) kept.failing
+            (copy_in_chunk layout t slot off table of.is (byte t of.is n k has lt slot off (range_of t (Mirror k)) refl c))))) kept
           where
             byte : (t : Target) → IsSought layout t → (n k : ℕ) → mirrors t.chunk ≡ Some n → k < n → (slot off : ℕ) (o : Option Range)
                 → range_of t (Mirror k) ≡ o → IsSomeAnd o (λ range. covers slot off range ≡ true) → IsCopyByte layout t slot off
@@ -270,26 +269,26 @@ module _ (kept : Doubts) (layout : Layout) (table : IsTable layout.chunks) (own 
             byte t is n k has lt slot off (Some range) e c = of_range layout t k slot off range is (has_mirror t n k has lt) e c
 
         by_writes : (o : Option ℕ) → mirrors chunk ≡ o → cond (is_none o) (rows_writes layout (rows_in kept (targets layout wants) chunk) images')
-            (sites_writes kept.failing (sites_in layout chunk wants) images')
-            ≡ cond (is_none o) (rows_writes layout (rows_in kept (targets layout wants) chunk) images) (sites_writes kept.failing (sites_in layout chunk wants) images)
+            (sites_writes kept (sites_in layout chunk wants) images')
+            ≡ cond (is_none o) (rows_writes layout (rows_in kept (targets layout wants) chunk) images) (sites_writes kept (sites_in layout chunk wants) images)
         by_writes None parity = flat_same (row_writes images' layout) (row_writes images layout) (rows_in kept (targets layout wants) chunk)
-            (λ r i. row_writes_alike images images' layout r (each_row parity r i))
-        by_writes (Some n) copies = flat_same (mending_writes images' kept.failing) (mending_writes images kept.failing) (sites_in layout chunk wants)
+            (λ r i. row_writes_alike images images' layout r r.failing (each_row parity r i))
+        by_writes (Some n) copies = flat_same (mending_writes images' kept) (mending_writes images kept) (sites_in layout chunk wants)
             (λ t i. (each_block n copies t i).writes)
 
         by_counts : (x : Tally) (o : Option ℕ) → mirrors chunk ≡ o
             → cond (is_none o) (rows_count layout write (rows_in kept (targets layout wants) chunk) images' x)
-            (sites_count kept.failing write (sites_in layout chunk wants) images' x)
+            (sites_count kept write (sites_in layout chunk wants) images' x)
             ≡ cond (is_none o) (rows_count layout write (rows_in kept (targets layout wants) chunk) images x)
-            (sites_count kept.failing write (sites_in layout chunk wants) images x)
+            (sites_count kept write (sites_in layout chunk wants) images x)
         by_counts x None parity = fold_same (count_row images' layout write) (count_row images layout write)
-            (rows_in kept (targets layout wants) chunk) x (λ r i z. row_counts_alike write images' r z (each_row parity r i))
-        by_counts x (Some n) copies = fold_same (count_site kept.failing images' write) (count_site kept.failing images write) (sites_in layout chunk wants) x
+            (rows_in kept (targets layout wants) chunk) x (λ r i z. row_counted images images' layout write r r.failing z (each_row parity r i))
+        by_counts x (Some n) copies = fold_same (count_site kept images' write) (count_site kept images write) (sites_in layout chunk wants) x
             (λ t i z. (each_block n copies t i).counts write z)
 
 -- ---- the chunks before one
 
-module _ (kept : Doubts) (layout : Layout) (table : IsTable layout.chunks) (own : HaveOwnSlots layout.devices) (none : first_missing layout ≡ None) (wants : List Want) (images : Images) (lengths : HaveLengths images layout) (number : ℕ) (chunk : Chunk) (there : slice_get layout.chunks number ≡ Some chunk) where
+module _ (kept : Failing) (layout : Layout) (table : IsTable layout.chunks) (own : HaveOwnSlots layout.devices) (none : first_missing layout ≡ None) (wants : List Want) (images : Images) (lengths : HaveLengths images layout) (number : ℕ) (chunk : Chunk) (there : slice_get layout.chunks number ≡ Some chunk) where
   before_short : All (Short images) (all_writes_for kept layout (take number layout.chunks) wants images)
   before_short = flat_short images (λ c. chunk_writes_for kept layout c wants images) (take number layout.chunks)
       (λ c i. let j = in_take number layout.chunks c i in chunk_short kept layout table own none j.0 c j.2 wants images lengths)
@@ -311,7 +310,7 @@ module _ (kept : Doubts) (layout : Layout) (table : IsTable layout.chunks) (own 
           absurd (omega (arith, same, j.1))
 
 -- what was written in the chunks before one leaves what is to be written and counted there
-pub chunk_unmoved : (kept : Doubts) (layout : Layout) (write : Bool) (wants : List Want) (held : Option Images) (number : ℕ) (chunk : Chunk)
+pub chunk_unmoved : (kept : Failing) (layout : Layout) (write : Bool) (wants : List Want) (held : Option Images) (number : ℕ) (chunk : Chunk)
     → IsTable layout.chunks → HaveOwnSlots layout.devices → first_missing layout ≡ None → slice_get layout.chunks number ≡ Some chunk
     → ((images : Images) → held ≡ Some images → HaveLengths images layout)
     → IsUnmoved layout write (all_writes_for kept layout (take number layout.chunks) wants) (chunk_writes_for kept layout chunk wants)

@@ -14,13 +14,14 @@ use Rattle.btr_read.specs.declared.candidate.Candidate.{Candidate}
 use Rattle.btr_read.specs.declared.candidate.Candidate.TheVariants.{Read}
 use Rattle.btr_read.proofs.Ones.{in_below}
 use Rattle.btr_read.proofs.Order.{in_ways, with_copies}
+use Rattle.btr_read.specs.Fate.{is_plain}
 use Rattle.btr_scrub_copies.specs.Blocks.{accepted, are_accepted, bad_parts, block_writes, copy_writes, is_good, is_sound, own_parts}
 use Rattle.btr_scrub_copies.proofs.Syncs.{passing_filter}
 use Rattle.btr_scrub_copies.specs.Mending.{mended_of}
 use Rattle.btr_scrub_copies.specs.Writes.{Images, writes_if}
 use Rattle.btr_scrub_copies.specs.Fresh.{Failing, first_trusted, fresh, fresh_writes, freshened, is_on_behind, is_stale, is_trusted, reads_doubtful, stale_beside, stale_parts}
+use Rattle.btr_scrub_row.specs.Wanted.{mending_writes}
 use Rattle.btr_scrub.specs.Glue.{In}
-use Rattle.btr_scrub.specs.Repair.{is_loose, mending_writes}
 use Rattle.btr_scrub.specs.Scrubbing.{count_site, counted, counted_plain}
 use Rattle.btr_scrub.specs.declared.tally.Tally.{Tally}
 
@@ -84,6 +85,34 @@ trusted_from fails t c e =
     let both = and_parts (stands t c) (not (reads_doubtful fails t c)) p.1 in
     record { there = p.0; stand = both.0; sure = not_true (reads_doubtful fails t c) both.1 }
 
+-- a plain sector whose candidates give the same, and at whose own places the same bytes stand
+module _ (images images' : Images) (t : Target) (values : (c : Candidate) → In c (candidates t) → value_of images' t c ≡ value_of images t c)
+    (owns : (part : Part) → In part (own_parts t) → element images' t part ≡ element images t part) (fails : Failing) where
+  pub fresh_same : fresh images' fails t ≡ fresh images fails t
+  fresh_same = by (first_trusted fails t) refl
+    where
+      by : (o : Option Candidate) → first_trusted fails t ≡ o → option_map (value_of images' t) o ≡ option_map (value_of images t) o
+      by None e = refl
+      by (Some c) e = ap Some (values c (trusted_from fails t c e).there)
+
+  pub stale_same : stale_parts images' fails t ≡ stale_parts images fails t
+  stale_same = ap (λ o. option_map_or (stale_beside images' fails t) o []) fresh_same ∙ by (fresh images fails t)
+    where
+      by : (o : Option (List ℕ)) → option_map_or (stale_beside images' fails t) o [] ≡ option_map_or (stale_beside images fails t) o []
+      by None = refl
+      by (Some bytes) = filter_same (is_stale images' fails t bytes) (is_stale images fails t bytes) (own_parts t)
+          (λ part i. ap (λ xs. is_on_behind fails t part && not (bytes_eq xs bytes)) (owns part i))
+
+  pub fresh_writes_same : fresh_writes images' fails t ≡ fresh_writes images fails t
+  fresh_writes_same =
+      ap (λ ps. option_map_or (λ bytes. copy_writes t bytes ps) (fresh images' fails t) []) stale_same
+      ∙ ap (λ o. option_map_or (λ bytes. copy_writes t bytes (stale_parts images fails t)) o []) fresh_same
+
+  pub freshened_same : (write : Bool) → freshened images' fails t write ≡ freshened images fails t write
+  freshened_same write =
+      ap (λ ps. record { bad = length ps; repaired = length (writes_if write (fresh_writes images' fails t)); lost = false }) stale_same
+      ∙ ap (λ w. record { bad = length (stale_parts images fails t); repaired = length (writes_if write w); lost = false }) fresh_writes_same
+
 module _ (images images' : Images) (t : Target) (n : ℕ) (has : mirrors t.chunk ≡ Some n) (same : (k : ℕ) → k < n → element images' t (Mirror k) ≡ element images t (Mirror k)) where
   own : own_parts t ≡ map Mirror (range_with_len 0 n)
   own = ap (λ o. option_map_or (λ copies. map Mirror (range_with_len 0 copies)) o (Slice t.at.index ∷ [])) has
@@ -123,44 +152,19 @@ module _ (images images' : Images) (t : Target) (n : ℕ) (has : mirrors t.chunk
       let r = of_mapped (λ k. Read (Mirror k)) c (range_with_len 0 n) (subst (In c) (with_copies t n has) (in_ways t c i)) in
       subst (λ d. value_of images' t d ≡ value_of images t d) r.2 (same r.0 (in_below n r.0 r.1))
 
+  owns : (part : Part) → In part (own_parts t) → element images' t part ≡ element images t part
+  owns part i =
+      let r = of_mapped Mirror part (range_with_len 0 n) (subst (In part) own i) in
+      subst (λ p. element images' t p ≡ element images t p) r.2 (same r.0 (in_below n r.0 r.1))
+
   module _ (fails : Failing) where
-    fresh_same : fresh images' fails t ≡ fresh images fails t
-    fresh_same = by (first_trusted fails t) refl
-      where
-        by : (o : Option Candidate) → first_trusted fails t ≡ o → option_map (value_of images' t) o ≡ option_map (value_of images t) o
-        by None e = refl
-        by (Some c) e = ap Some (values c (trusted_from fails t c e).there)
-
-    stale_same : stale_parts images' fails t ≡ stale_parts images fails t
-    stale_same = ap (λ o. option_map_or (stale_beside images' fails t) o []) fresh_same ∙ by (fresh images fails t)
-      where
-        one : (bytes : List ℕ) (part : Part) → In part (own_parts t) → is_stale images' fails t bytes part ≡ is_stale images fails t bytes part
-        one bytes part i =
-            let r = of_mapped Mirror part (range_with_len 0 n) (subst (In part) own i) in
-            subst (λ p. is_stale images' fails t bytes p ≡ is_stale images fails t bytes p) r.2
-            (ap (λ xs. is_on_behind fails t (Mirror r.0) && not (bytes_eq xs bytes)) (same r.0 (in_below n r.0 r.1)))
-
-        by : (o : Option (List ℕ)) → option_map_or (stale_beside images' fails t) o [] ≡ option_map_or (stale_beside images fails t) o []
-        by None = refl
-        by (Some bytes) = filter_same (is_stale images' fails t bytes) (is_stale images fails t bytes) (own_parts t) (one bytes)
-
-    fresh_writes_same : fresh_writes images' fails t ≡ fresh_writes images fails t
-    fresh_writes_same =
-        ap (λ ps. option_map_or (λ bytes. copy_writes t bytes ps) (fresh images' fails t) []) stale_same
-        ∙ ap (λ o. option_map_or (λ bytes. copy_writes t bytes (stale_parts images fails t)) o []) fresh_same
-
-    freshened_same : (write : Bool) → freshened images' fails t write ≡ freshened images fails t write
-    freshened_same write =
-        ap (λ ps. record { bad = length ps; repaired = length (writes_if write (fresh_writes images' fails t)); lost = false }) stale_same
-        ∙ ap (λ w. record { bad = length (stale_parts images fails t); repaired = length (writes_if write w); lost = false }) fresh_writes_same
-
     -- ---- what is to be written for either, and counted
 
     pub site_alike : SiteAlike fails images images' t
     site_alike = record {
-      writes = ap (λ w. cond (is_loose t) w (block_writes images' t)) fresh_writes_same
-          ∙ ap (λ w. cond (is_loose t) (fresh_writes images fails t) w) (writes_alike images images' t copies_alike);
+      writes = ap (λ w. cond (is_plain t.want) w (block_writes images' t)) (fresh_writes_same images images' t values owns fails)
+          ∙ ap (λ w. cond (is_plain t.want) (fresh_writes images fails t) w) (writes_alike images images' t copies_alike);
       counts = λ write tally.
-          ap (λ m. cond (is_loose t) (counted_plain tally m) (counted tally (mended_of images' t write))) (freshened_same write)
-          ∙ ap (λ m. cond (is_loose t) (counted_plain tally (freshened images fails t write)) (counted tally m)) (mended_alike images images' t copies_alike write);
+          ap (λ m. cond (is_plain t.want) (counted_plain tally m) (counted tally (mended_of images' t write))) (freshened_same images images' t values owns fails write)
+          ∙ ap (λ m. cond (is_plain t.want) (counted_plain tally (freshened images fails t write)) (counted tally m)) (mended_alike images images' t copies_alike write);
     }

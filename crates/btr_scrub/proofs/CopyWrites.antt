@@ -22,21 +22,24 @@ use Rattle.btr_read.specs.declared.device.Device.{Device}
 use Rattle.btr_read.proofs.Ones.{in_below}
 use Rattle.btr_read.proofs.Order.{in_ways, with_copies}
 use Rattle.btr_read.proofs.Pieces.{length-slice_range}
+use Rattle.btr_read.specs.Fate.{is_plain}
 use Rattle.btr_scrub_copies.specs.Blocks.{accepted, bad_parts, block_writes, copy_writes, is_sound, own_parts, written_over}
 use Rattle.btr_scrub_copies.proofs.Syncs.{passing_filter}
 use Rattle.btr_scrub_copies.specs.Writes.{Images, Write}
 use Rattle.btr_scrub_copies.proofs.Copied.{has_mirror}
+use Rattle.btr_scrub_row.specs.Wanted.{mending_writes}
 use Rattle.btr_scrub.specs.Devices.{HaveLengths}
 use Rattle.btr_scrub.specs.Glue.{In}
 use Rattle.btr_scrub.specs.Leaves.{Fits, KeepsOutside}
 use Rattle.btr_scrub.specs.Order.{IsSought}
 use Rattle.btr_scrub.specs.Repair.{covers}
-use Rattle.btr_scrub_copies.specs.Fresh.{Failing, first_trusted, fresh, fresh_writes, is_stale, stale_beside, stale_parts}
-use Rattle.btr_scrub.specs.Repair.{is_loose, mending_writes}
+use Rattle.btr_scrub_copies.specs.Fresh.{Failing, first_trusted, fresh, fresh_writes, stale_parts}
 use Rattle.btr_scrub.proofs.Agreeing.{IsTrusted, SiteAlike, of_mapped, site_alike, trusted_from}
 use Rattle.btr_scrub_row.proofs.Elements.{range_stands, stands_on}
 use Rattle.btr_scrub.proofs.Positions.{IsCopyByte, of_range, shares}
-use Rattle.btr_scrub.proofs.Staying.{covered, range_same}
+use Rattle.btr_scrub.proofs.OwnPlaces.{stale_own}
+use Rattle.btr_scrub.proofs.Places.{covered}
+use Rattle.btr_scrub.proofs.Survival.{range_same}
 use Rattle.btr_scrub.proofs.Writes.{any_filter_map, any_flat, any_map, mapped}
 
 -- ---- a range that stands
@@ -142,14 +145,6 @@ fresh_from fails images t bytes e = by (first_trusted fails t) refl e
         let trusted = trusted_from fails t c is in
         record { way = c; trusted = trusted; value = same_Some (value_of images t c) bytes e; reads = ap (λ b. cond b (Some (value_of images t c)) None) trusted.stand ∙ e }
 
--- a stale place is one of its own
-pub stale_own : (fails : Failing) (images : Images) (t : Target) (part : Part) → In part (stale_parts images fails t) → In part (own_parts t)
-stale_own fails images t part i = by (fresh images fails t) i
-  where
-    by : (o : Option (List ℕ)) → In part (option_map_or (stale_beside images fails t) o []) → In part (own_parts t)
-    by None i = absurd i
-    by (Some bytes) i = (passing_filter (is_stale images fails t bytes) part (own_parts t) i).0
-
 module _ (fails : Failing) (images : Images) (layout : Layout) (lengths : HaveLengths images layout) where
   module _ (t : Target) (is : IsSought layout t) (n : ℕ) (has : mirrors t.chunk ≡ Some n) where
     own : own_parts t ≡ map Mirror (range_with_len 0 n)
@@ -208,7 +203,7 @@ module _ (fails : Failing) (images : Images) (layout : Layout) (lengths : HaveLe
         by (Some bytes) e = over_fit bytes (stale_parts images fails t) (long_fresh bytes e)
 
     pub site_fits : All (Fits images) (mending_writes images fails t)
-    site_fits = by (is_loose t)
+    site_fits = by (is_plain t.want)
       where
         by : (b : Bool) → All (Fits images) (cond b (fresh_writes images fails t) (block_writes images t))
         by true = fresh_fits
@@ -244,7 +239,7 @@ module _ (fails : Failing) (images : Images) (layout : Layout) (lengths : HaveLe
 
     -- each byte that is written for a block or a plain sector is
     pub written_byte : (slot off : ℕ) → list_any (λ (w : Write). covers slot off w.range) (mending_writes images fails t) ≡ true → IsCopyByte layout t slot off
-    written_byte slot off h = by (is_loose t) h
+    written_byte slot off h = by (is_plain t.want) h
       where
         by : (b : Bool) → list_any (λ (w : Write). covers slot off w.range) (cond b (fresh_writes images fails t) (block_writes images t)) ≡ true
             → IsCopyByte layout t slot off

@@ -1,6 +1,5 @@
 -- What becomes of an extent, by the tests that it is put to.
-use Rattle.std.proofs.Common.{◌≡◌, ℕ, ◌+◌, true, false, cond, Option, Some, is_some, ap, ◌∙◌}
-use Rattle.btr_chunk.specs.Chunk.{mirrors}
+use Rattle.std.proofs.Common.{◌≡◌, ℕ, ◌+◌, true, false, cond, Option, Some, ap, ◌∙◌}
 use Rattle.btr_chunk.specs.declared.chunk.Chunk.{Chunk}
 use Rattle.btr_prog.specs.Prog.{Return, Stop, bind}
 use Rattle.btr_read.specs.Fate.{Crosses, Malformed}
@@ -13,7 +12,7 @@ use Rattle.btr_scrub.specs.declared.extent.Extent.{Extent}
 module _ (s : Super) (sums : Option TreeRoot) (chunk : Chunk) (end : ℕ) where
   module _ (leaf : ℕ) (extent : Extent) where
     abbrev blocks : Meeting ℕ
-    blocks = bind (blocks_of s sums (is_some (mirrors chunk)) extent extent.level) (λ u. Return (extent.addr + extent.len))
+    blocks = bind (blocks_of s sums extent extent.level) (λ u. Return (extent.addr + extent.len))
 
     abbrev judged : Meeting ℕ
     judged = cond (is_crossing chunk extent) (Stop (Crosses extent.addr)) blocks

@@ -29,8 +29,7 @@ use Rattle.btr_walk.proofs.Joined.{drawn, joined, unread_on}
 use Rattle.btr_scrub.specs.Gathering.{Gathers, IsCrossing, Lists, ListsUnits, Reaches, Scene, TreeCause, StopCause, wants_among, count_met, ended, scene}
 use Rattle.btr_scrub.specs.Gathering.{stop_halt}
 use Rattle.btr_scrub.specs.Listed.{AddsTo, IsList, kept_wants}
-use Rattle.btr_scrub.specs.Plain.{plain_among}
-use Rattle.btr_scrub.specs.Units.{Checked, Copied, Meeting, Met, Unchecked}
+use Rattle.btr_scrub.specs.Units.{Checked, Meeting, Met, Unchecked}
 use Rattle.btr_scrub.specs.declared.gathered.Gathered.{Gathered}
 
 -- ---- what is listed
@@ -38,21 +37,14 @@ use Rattle.btr_scrub.specs.declared.gathered.Gathered.{Gathered}
 among-append : (met more : List Met) → wants_among (met ++ more) ≡ wants_among met ++ wants_among more
 among-append [] more = refl
 among-append (Checked want ∷ met) more = ap (λ q. want ∷ q) (among-append met more)
-among-append (Copied addr ∷ met) more = ap (λ q. Plain addr ∷ q) (among-append met more)
-among-append (Unchecked addr ∷ met) more = among-append met more
-
-plain-append : (met more : List Met) → plain_among (met ++ more) ≡ plain_among met ++ plain_among more
-plain-append [] more = refl
-plain-append (Checked want ∷ met) more = plain-append met more
-plain-append (Copied addr ∷ met) more = plain-append met more
-plain-append (Unchecked addr ∷ met) more = ap (λ q. addr ∷ q) (plain-append met more)
+among-append (Unchecked addr ∷ met) more = ap (λ q. Plain addr ∷ q) (among-append met more)
 
 count-append : (n : ℕ) (met more : List Met) → fold count_met n (met ++ more) ≡ fold count_met (fold count_met n met) more
 count-append n [] more = refl
 count-append n (m ∷ met) more = count-append (count_met n m) met more
 
 pub lists_none : (x : Gathered) → IsList x.list → Lists x x []
-lists_none x is = record { is_list = is; kind = refl; wants = sym (append-nil (kept_wants x.list)); unchecked = refl; plain = sym (append-nil x.plain) }
+lists_none x is = record { is_list = is; kind = refl; wants = sym (append-nil (kept_wants x.list)); unchecked = refl }
 
 pub lists_then : (x y z : Gathered) (done more : List Met) → Lists x y done → Lists y z more → Lists x z (done ++ more)
 lists_then x y z done more h g = record {
@@ -61,12 +53,10 @@ lists_then x y z done more h g = record {
   wants = g.wants ∙ ap (λ q. q ++ wants_among more) h.wants ∙ append_assoc (kept_wants x.list) (wants_among done) (wants_among more)
       ∙ ap (λ q. kept_wants x.list ++ q) (sym (among-append done more));
   unchecked = g.unchecked ∙ ap (λ n. fold count_met n more) h.unchecked ∙ sym (count-append x.unchecked done more);
-  plain = g.plain ∙ ap (λ q. q ++ plain_among more) h.plain ∙ append_assoc x.plain (plain_among done) (plain_among more)
-      ∙ ap (λ q. x.plain ++ q) (sym (plain-append done more));
 }
 
-pub lists_added : (x y : Gathered) (want : Want) → AddsTo x.list y.list want → y.unchecked ≡ x.unchecked → y.plain ≡ x.plain → Lists x y (Checked want ∷ [])
-lists_added x y want a same plain = record { is_list = a.is_list; kind = a.kind; wants = a.wants; unchecked = same; plain = plain ∙ sym (append-nil x.plain) }
+pub lists_added : (x y : Gathered) (want : Want) → AddsTo x.list y.list want → y.unchecked ≡ x.unchecked → Lists x y (Checked want ∷ [])
+lists_added x y want a same = record { is_list = a.is_list; kind = a.kind; wants = a.wants; unchecked = same }
 
 -- ---- what is told
 
@@ -340,15 +330,14 @@ gathers_no_tree {A} id x serves = record {
 }
 
 -- what was listed behind an empty list
-pub lists_units : (p : Meeting (Unit {0})) (x y : Scene) → kept_wants x.list.list ≡ [] → x.list.unchecked ≡ 0 → x.list.plain ≡ []
+pub lists_units : (p : Meeting (Unit {0})) (x y : Scene) → kept_wants x.list.list ≡ [] → x.list.unchecked ≡ 0
     → Gathers p x y (Ok tt) → ListsUnits p x.vol.store.layout x.rack y.rack (Ok y.list)
-lists_units p x y none zero no_plain g = record {
+lists_units p x y none zero g = record {
   done = g.done;
   lists = record {
     is_list = g.lists.is_list;
     wants = g.lists.wants ∙ ap (λ q. q ++ wants_among g.done) none;
     unchecked = g.lists.unchecked ∙ ap (λ n. fold count_met n g.done) zero;
-    plain = g.lists.plain ∙ ap (λ q. q ++ plain_among g.done) no_plain;
   };
   content = g.content;
   cause = tt;

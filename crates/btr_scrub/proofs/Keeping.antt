@@ -4,33 +4,36 @@ use Rattle.std.proofs.Common.{slice_get, All, Option, Some, None, IsSome, is_som
 use Rattle.std.proofs.lemmas.Bool.{cases_lt, false≢true}
 use Rattle.std.proofs.lemmas.List.{get_or_past, get_or-set_same}
 use Rattle.std.proofs.lemmas.Option.{same_Some}
-use Rattle.std.specs.List.{Contains, flat_map, fold, list_any}
-use Rattle.std.specs.Option.{option_map_or}
+use Rattle.std.specs.List.{Contains, cons_option, flat_map, fold, list_any}
+use Rattle.std.specs.Option.{option_map, option_map_or}
 use Rattle.btr_chunk.specs.Chunk.{data_count, mirrors, stripe_length}
 use Rattle.btr_chunk.specs.Mapping.{IsPosition}
 use Rattle.btr_chunk.specs.declared.chunk.Chunk.{Chunk}
 use Rattle.btr_chunk.specs.declared.place.Part.{Part}
 use Rattle.btr_chunk.specs.declared.place.Part.TheVariants.{Mirror, Slice, P, Q}
 use Rattle.btr_chunk.proofs.Bytes.{IsPosition-position}
-use Rattle.btr_chunk.proofs.Rows.{without_copies}
 use Rattle.btr_rack.specs.Rack.{bytes_of, image_of, pasted, range_in}
 use Rattle.btr_rack.specs.declared.place.Place.{Place as Range}
 use Rattle.btr_read.specs.Candidates.{Target, candidates, copies, element, parts_read, range_of, rebuilt, size_of, slice_count, stands, value_of, ways}
 use Rattle.btr_read.specs.Candidates as read
-use Rattle.btr_read.specs.Fate.{passing}
+use Rattle.btr_read.specs.Fate.{is_plain, passing}
+use Rattle.btr_read.specs.declared.setting.Setting.{Setting}
+use Rattle.btr_read.specs.declared.want.Want.TheVariants.{Block, Plain, Sector, Tree}
 use Rattle.btr_read.specs.Layout.{Layout}
 use Rattle.btr_read.specs.Want.{addr_of, passes}
 use Rattle.btr_read.specs.declared.candidate.Candidate.{Candidate}
 use Rattle.btr_read.specs.declared.candidate.Candidate.TheVariants.{Read}
 use Rattle.btr_read.specs.declared.want.Want.{Want}
-use Rattle.btr_read.proofs.Order.{in_candidates}
 use Rattle.btr_read.proofs.Trials.{fails_where_none}
 use Rattle.btr_read.proofs.Values.{value_by_ranges}
-use Rattle.btr_scrub_copies.specs.Blocks.{accepted, block_writes, is_good}
+use Rattle.btr_scrub_copies.specs.Blocks.{accepted, bad_parts, block_writes, copy_writes, is_good}
+use Rattle.btr_scrub_copies.specs.Fresh.{fresh_writes}
+use Rattle.btr_scrub_row.specs.Wanted.{mending_writes, new_bytes, wrong_parts}
 use Rattle.btr_scrub_copies.specs.Writes.{AreAmong, Images, IsStopped, Write, ranges_of, write_on}
 use Rattle.btr_scrub_copies.proofs.Syncs.{passing_filter}
 use Rattle.btr_scrub_row.specs.Rows.{Row, parities, parities_writes, parity_writes, range_in_element, rebuilt_writes}
-use Rattle.btr_scrub_row.proofs.Judges.{writes_one, written_at}
+use Rattle.btr_scrub_row.proofs.Settled.{bad_are, mending_is, own as own_are, written_at}
+use Rattle.btr_scrub.proofs.OwnPlaces.{wrong_own}
 use Rattle.btr_scrub_row.proofs.Pasted.{at_range, length-pasted, pasted-within, range_pasted}
 use Rattle.btr_scrub.specs.Devices.{HaveLengths}
 use Rattle.btr_scrub.specs.Glue.{In, IsInRow, LiesInRow}
@@ -41,21 +44,21 @@ use Rattle.btr_scrub.specs.Places.{IsOfElement}
 use Rattle.btr_scrub.specs.Repair.{byte_at, covers, is_in_row}
 use Rattle.btr_scrub.proofs.AcrossChunks.{OfRows, row_is}
 use Rattle.btr_scrub.proofs.Blockwise.{fold_append}
+use Rattle.btr_scrub.proofs.Columns.{own_candidate}
 use Rattle.btr_scrub.proofs.CopyWrites.{element_is, is_there, long_element, same_element}
 use Rattle.btr_scrub.proofs.Elements.{HasRanges, has_ranges}
 use Rattle.btr_scrub.proofs.InWrong.{of_filter_map}
 use Rattle.btr_scrub.proofs.Outliving.{same_block}
 use Rattle.btr_scrub.proofs.Outside.{left_short, right_short, stopped_keeps}
-use Rattle.btr_scrub.proofs.Places.{covering, elements_apart}
+use Rattle.btr_scrub.proofs.Places.{covered, covering, elements_apart}
 use Rattle.btr_scrub.proofs.RowAgreeing.{parity_has}
 use Rattle.btr_scrub.proofs.RowWrites.{IsBlockOf, block_byte, has_own, in_one_element, row_short, written_parity}
-use Rattle.btr_scrub.proofs.Shorts.{Short, block_short, shorts_keep}
+use Rattle.btr_scrub.proofs.Shorts.{Short, shorts_keep, site_short}
 use Rattle.btr_scrub.proofs.Some.{in_of}
 use Rattle.btr_scrub.proofs.SoundRows.{address_is}
-use Rattle.btr_scrub.proofs.Staying.{covered, range_same}
-use Rattle.btr_scrub.proofs.Survival.{of_filter, some_of}
-use Rattle.btr_scrub.proofs.Writes.{any_flat, any_map}
-use Rattle.btr_scrub.specs.Plain.{Doubts}
+use Rattle.btr_scrub.proofs.Survival.{of_filter, range_same, some_of}
+use Rattle.btr_scrub.proofs.Writes.{any_filter_map, any_flat, any_map, mapped}
+use Rattle.btr_scrub_copies.specs.Fresh.{Failing}
 
 -- ---- images that differ in ranges
 
@@ -154,6 +157,13 @@ is_slice Q = false
 
 -- ---- a full stripe
 
+-- a plain sector always passes
+plain_passes : (s : Setting) (w : Want) (bytes : List ℕ) → is_plain w ≡ true → passes s w bytes ≡ true
+plain_passes s (Tree addr generation level) bytes e = absurd (false≢true e)
+plain_passes s (Block addr) bytes e = absurd (false≢true e)
+plain_passes s (Sector addr sum) bytes e = absurd (false≢true e)
+plain_passes s (Plain addr) bytes e = refl
+
 module _ (images : Images) (layout : Layout) (wants : List Want) (row : Row) (here : IsRowAmong images layout wants row) where
   abbrev ts : List Target
   ts = targets layout wants
@@ -161,11 +171,11 @@ module _ (images : Images) (layout : Layout) (wants : List Want) (row : Row) (he
   inside : row.number * 65536 + 65536 ≤ stripe_length row.chunk
   inside = omega (arith, here.is_row.position.inside)
 
-  abbrev kept : Doubts
-  kept = record { columns = λ chunk number. row.kept; failing = λ slot. false }
+  abbrev kept : Failing
+  kept = row.failing
 
   of : OfRows kept layout here.table here.own_slots here.given here.is_row.number row.chunk here.is_row.there wants row
-  of = subst (λ bs. OfRows kept layout here.table here.own_slots here.given here.is_row.number row.chunk here.is_row.there wants (record { chunk = row.chunk; number = row.number; blocks = bs; kept = row.kept })) (sym here.is_row.made)
+  of = subst (λ bs. OfRows kept layout here.table here.own_slots here.given here.is_row.number row.chunk here.is_row.there wants (record { chunk = row.chunk; number = row.number; blocks = bs; failing = row.failing })) (sym here.is_row.made)
       (row_is kept layout here.table here.own_slots here.given here.is_row.number row.chunk here.is_row.there wants row.number here.is_row.parity inside)
 
   among : (t : Target) → In t row.blocks → In t ts
@@ -222,48 +232,54 @@ module _ (images : Images) (layout : Layout) (wants : List Want) (row : Row) (he
         let off = ap (λ (r : Range). r.off) there.is in
         omega (arith, there.within, off, ap (λ s. length (image_of images s)) slot)
 
-    own_candidate : In (Read (Slice t.at.index)) (candidates t)
-    own_candidate = in_candidates t (Read (Slice t.at.index)) (subst (In (Read (Slice t.at.index))) (sym ways_are) (elim (without_copies t.chunk.profile (length t.chunk.stripes) no_copies) [
-      | inl five ↦ subst (λ p. In (Read (Slice t.at.index)) (rebuilt p (slice_count t) t.at.index)) (sym five) (inl refl)
-      | inr six ↦ subst (λ p. In (Read (Slice t.at.index)) (rebuilt p (slice_count t) t.at.index)) (sym six) (inl refl)
-    ]))
-      where
-        ways_are : ways t ≡ rebuilt t.chunk.profile (slice_count t) t.at.index
-        ways_are = ap (λ o. option_map_or copies o (rebuilt t.chunk.profile (slice_count t) t.at.index)) no_copies
-
     -- a byte of it is of its element
     own_byte : (slot off : ℕ) → covers slot off place ≡ true → IsOfElement layout row (Slice t.at.index) slot off
     own_byte slot off c = block_byte layout row here.table of.is t (Slice t.at.index) slot off block (has_own layout row here.table of.is t block)
         (subst (λ o. IsSomeAnd o (λ range. covers slot off range ≡ true)) (sym own.block) c)
 
-    -- what is written for it
-    writes_are : block_writes images t ≡ option_map_or (λ bytes. cond (not (is_good images t (Slice t.at.index))) (written_at place bytes ∷ []) [])
-        (accepted images t) []
-    writes_are = writes_one images t no_copies place own.block
-
-    -- lies in its place
-    written_there : (slot off : ℕ) → list_any (covers slot off) (ranges_of (block_writes images t)) ≡ true → covers slot off place ≡ true
-    written_there slot off h = by (accepted images t) (not (is_good images t (Slice t.at.index)))
-        (subst (λ ws. list_any (covers slot off) (ranges_of ws) ≡ true) writes_are h)
+    -- what is written for it lies in its place
+    written_there : (slot off : ℕ) → list_any (covers slot off) (ranges_of (mending_writes images row.failing t)) ≡ true → covers slot off place ≡ true
+    written_there slot off h = by (new_bytes images row.failing t) (subst (λ ws. list_any (covers slot off) (ranges_of ws) ≡ true) (mending_is images row t) h)
       where
-        first : (b : Bool) → (b || false) ≡ true → b ≡ true
-        first true e = refl
-        first false e = e
+        only : (q : Part) → In q (Slice t.at.index ∷ []) → Slice t.at.index ≡ q
+        only q (inl e) = e
+        only q (inr k) = absurd k
 
-        by : (o : Option (List ℕ)) (b : Bool) → list_any (covers slot off)
-            (ranges_of (option_map_or (λ bytes. cond b (written_at place bytes ∷ []) []) o [])) ≡ true → covers slot off place ≡ true
-        by None b h = absurd (false≢true h)
-        by (Some bytes) true h = first (covers slot off place) h
-        by (Some bytes) false h = absurd (false≢true h)
+        by : (o : Option (List ℕ)) → list_any (covers slot off)
+            (ranges_of (option_map_or (λ bytes. copy_writes t bytes (wrong_parts images row.failing t)) o [])) ≡ true → covers slot off place ≡ true
+        by None h = absurd (false≢true h)
+        by (Some bytes) h =
+            let parts = wrong_parts images row.failing t in
+            let any : list_any (λ (w : Write). covers slot off w.range) (copy_writes t bytes parts) ≡ true = sym (any_map (covers slot off) (λ (w : Write). w.range) (copy_writes t bytes parts)) ∙ h in
+            let f = any_filter_map (λ (w : Write). covers slot off w.range) (λ q. option_map (λ (range : Range). record { range = range; bytes = bytes }) (range_of t q)) parts any in
+            let q : Slice t.at.index ≡ f.0 = only f.0 (subst (In f.0) (own_are images t no_copies) (wrong_own images row.failing t f.0 f.1)) in
+            let m = mapped (λ (range : Range). record { range = range; bytes = bytes }) (range_of t f.0) f.2.0 f.2.1 in
+            let same : place ≡ m.0 = same_Some place m.0 (sym own.block ∙ ap (range_of t) q ∙ m.1) in
+            ap (covers slot off) same ∙ ap (λ (w : Write). covers slot off w.range) m.2 ∙ f.2.2
 
-    -- where it passes nothing is
-    good_unwritten : is_good images t (Slice t.at.index) ≡ true → block_writes images t ≡ []
-    good_unwritten good = writes_are ∙ ap (λ b. option_map_or (λ bytes. cond (not b) (written_at place bytes ∷ []) []) (accepted images t) []) good
-        ∙ by (accepted images t)
-      where
-        by : (o : Option (List ℕ)) → option_map_or (λ bytes. cond (not true) (written_at place bytes ∷ []) []) o [] ≡ []
-        by None = refl
-        by (Some bytes) = refl
+    -- what is written for a checked block
+    module _ (checked : is_plain t.want ≡ false) where
+      one : (bytes : List ℕ) (b : Bool) → copy_writes t bytes (cond b (Slice t.at.index ∷ []) []) ≡ cond b (written_at place bytes ∷ []) []
+      one bytes true = ap (λ o. cons_option (option_map (λ r. written_at r bytes) o) []) own.block
+      one bytes false = refl
+
+      writes_are : mending_writes images row.failing t ≡ option_map_or (λ bytes. cond (not (is_good images t (Slice t.at.index))) (written_at place bytes ∷ []) [])
+          (accepted images t) []
+      writes_are = ap (λ b. cond b (fresh_writes images row.failing t) (block_writes images t)) checked ∙ by (accepted images t)
+        where
+          by : (o : Option (List ℕ)) → option_map_or (λ bytes. copy_writes t bytes (bad_parts images t)) o []
+              ≡ option_map_or (λ bytes. cond (not (is_good images t (Slice t.at.index))) (written_at place bytes ∷ []) []) o []
+          by None = refl
+          by (Some bytes) = ap (copy_writes t bytes) (bad_are images t no_copies) ∙ one bytes (not (is_good images t (Slice t.at.index)))
+
+      -- where it passes nothing is
+      good_unwritten : is_good images t (Slice t.at.index) ≡ true → mending_writes images row.failing t ≡ []
+      good_unwritten good = writes_are ∙ ap (λ b. option_map_or (λ bytes. cond (not b) (written_at place bytes ∷ []) []) (accepted images t) []) good
+          ∙ by (accepted images t)
+        where
+          by : (o : Option (List ℕ)) → option_map_or (λ bytes. cond (not true) (written_at place bytes ∷ []) []) o [] ≡ []
+          by None = refl
+          by (Some bytes) = refl
 
   abbrev base : ℕ → ℕ
   base index = row.chunk.start + (data_count row.chunk.profile (length row.chunk.stripes) * row.number + index) * 65536
@@ -294,13 +310,13 @@ module _ (images : Images) (layout : Layout) (wants : List Want) (row : Row) (he
   -- a byte of a block that is written is written for it alone
   written_for : (t : Target) (i : In t row.blocks) (slot off : ℕ) → covers slot off (place t i) ≡ true
       → list_any (covers slot off) (ranges_of (rebuilt_writes images layout row)) ≡ true
-      → list_any (covers slot off) (ranges_of (block_writes images t)) ≡ true
+      → list_any (covers slot off) (ranges_of (mending_writes images row.failing t)) ≡ true
   written_for t i slot off c h =
       let any : list_any (λ (w : Write). covers slot off w.range) (rebuilt_writes images layout row) ≡ true = sym (any_map (covers slot off) (λ (w : Write). w.range) (rebuilt_writes images layout row)) ∙ h in
-      let f = any_flat (λ (w : Write). covers slot off w.range) (block_writes images) row.blocks any in
-      let mine : list_any (covers slot off) (ranges_of (block_writes images f.0)) ≡ true = any_map (covers slot off) (λ (w : Write). w.range) (block_writes images f.0) ∙ f.2 in
+      let f = any_flat (λ (w : Write). covers slot off w.range) (mending_writes images row.failing) row.blocks any in
+      let mine : list_any (covers slot off) (ranges_of (mending_writes images row.failing f.0)) ≡ true = any_map (covers slot off) (λ (w : Write). w.range) (mending_writes images row.failing f.0) ∙ f.2 in
       let same = shared t f.0 i f.1 slot off c (written_there f.0 f.1 slot off mine) in
-      subst (λ u. list_any (covers slot off) (ranges_of (block_writes images u)) ≡ true) (sym same) mine
+      subst (λ u. list_any (covers slot off) (ranges_of (mending_writes images row.failing u)) ≡ true) (sym same) mine
 
   -- ---- what stands at a block's own place when the blocks are written
 
@@ -308,10 +324,10 @@ module _ (images : Images) (layout : Layout) (wants : List Want) (row : Row) (he
     bytes : List ℕ
     long : length bytes ≡ size_of t
     pass : passes t.setting t.want bytes ≡ true
-    from : ((block_writes images t ≡ []) × (bytes ≡ element images t (Slice t.at.index))) ⊎ (block_writes images t ≡ written_at (place t i) bytes ∷ [])
+    from : ((mending_writes images row.failing t ≡ []) × (bytes ≡ element images t (Slice t.at.index))) ⊎ (mending_writes images row.failing t ≡ written_at (place t i) bytes ∷ [])
 
-  final : (t : Target) (i : In t row.blocks) → IsHad images t → FillsPlace images t → Final t i
-  final t i had fills = by (is_good images t (Slice t.at.index)) refl
+  final : (t : Target) (i : In t row.blocks) → is_plain t.want ≡ false → IsHad images t → FillsPlace images t → Final t i
+  final t i checked had fills = by (is_good images t (Slice t.at.index)) refl
     where
       some : (bytes : List ℕ) × (accepted images t ≡ Some bytes)
       some = some_of (accepted images t) had
@@ -321,13 +337,13 @@ module _ (images : Images) (layout : Layout) (wants : List Want) (row : Row) (he
         bytes = element images t (Slice t.at.index);
         long = long_element images layout t (Slice t.at.index) here.lengths (block t i).is (own_stands t i);
         pass = good;
-        from = inl (good_unwritten t i good, refl);
+        from = inl (good_unwritten t i checked good, refl);
       }
       by false bad = record {
         bytes = some.0;
         long = fills some.0 some.1;
         pass = accepted_passes images t some.0 some.1;
-        from = inr (writes_are t i
+        from = inr (writes_are t i checked
             ∙ ap (λ b. option_map_or (λ bytes. cond (not b) (written_at (place t i) bytes ∷ []) []) (accepted images t) []) bad
             ∙ ap (λ o. option_map_or (λ bytes. written_at (place t i) bytes ∷ []) o []) some.1);
       }
@@ -343,8 +359,8 @@ module _ (images : Images) (layout : Layout) (wants : List Want) (row : Row) (he
     covered_there k lt = covered (own t i).slot ((own t i).off + t.at.rest) (size_of t) ((own t i).off + t.at.rest + k) (omega arith) (omega (arith, lt))
 
     -- its own write brings the bytes
-    own_write : (now : Images) → SameLengths now → block_writes images t ≡ written_at (place t i) f.bytes ∷ []
-        → Holds (fold write_on now (block_writes images t))
+    own_write : (now : Images) → SameLengths now → mending_writes images row.failing t ≡ written_at (place t i) f.bytes ∷ []
+        → Holds (fold write_on now (mending_writes images row.failing t))
     own_write now same is k lt =
         let slot = (own t i).slot in
         let off = (own t i).off + t.at.rest in
@@ -355,12 +371,12 @@ module _ (images : Images) (layout : Layout) (wants : List Want) (row : Row) (he
     lengths_then : (now : Images) (ws : List Write) → SameLengths now → All (Short images) ws → SameLengths (fold write_on now ws)
     lengths_then now ws same short slot = (shorts_keep now ws (short_after images now ws same short)).lengths slot ∙ same slot
 
-    short_of : (u : Target) → In u row.blocks → All (Short images) (block_writes images u)
-    short_of u j = block_short images layout here.lengths u (of.blocks u j).is
+    short_of : (u : Target) → In u row.blocks → All (Short images) (mending_writes images row.failing u)
+    short_of u j = site_short images layout here.lengths u (of.blocks u j).is row.failing
 
     -- those of any block leave them
-    one_more : (now : Images) (u : Target) (j : In u row.blocks) → SameLengths now → Holds now → Holds (fold write_on now (block_writes images u))
-    one_more now u j same holds k lt = by (list_any (covers slot (off + k)) (ranges_of (block_writes images u))) refl
+    one_more : (now : Images) (u : Target) (j : In u row.blocks) → SameLengths now → Holds now → Holds (fold write_on now (mending_writes images row.failing u))
+    one_more now u j same holds k lt = by (list_any (covers slot (off + k)) (ranges_of (mending_writes images row.failing u))) refl
       where
         slot : ℕ
         slot = (own t i).slot
@@ -368,43 +384,43 @@ module _ (images : Images) (layout : Layout) (wants : List Want) (row : Row) (he
         off : ℕ
         off = (own t i).off + t.at.rest
 
-        keeps : KeepsOutside (ranges_of (block_writes images u)) now (fold write_on now (block_writes images u))
-        keeps = shorts_keep now (block_writes images u) (short_after images now (block_writes images u) same (short_of u j))
+        keeps : KeepsOutside (ranges_of (mending_writes images row.failing u)) now (fold write_on now (mending_writes images row.failing u))
+        keeps = shorts_keep now (mending_writes images row.failing u) (short_after images now (mending_writes images row.failing u) same (short_of u j))
 
-        of_itself : t ≡ u → list_any (covers slot (off + k)) (ranges_of (block_writes images u)) ≡ true
-            → ((block_writes images t ≡ []) × (f.bytes ≡ element images t (Slice t.at.index))) ⊎ (block_writes images t ≡ written_at (place t i) f.bytes ∷ [])
-            → byte_at (fold write_on now (block_writes images u)) slot (off + k) ≡ get_or f.bytes k 0
+        of_itself : t ≡ u → list_any (covers slot (off + k)) (ranges_of (mending_writes images row.failing u)) ≡ true
+            → ((mending_writes images row.failing t ≡ []) × (f.bytes ≡ element images t (Slice t.at.index))) ⊎ (mending_writes images row.failing t ≡ written_at (place t i) f.bytes ∷ [])
+            → byte_at (fold write_on now (mending_writes images row.failing u)) slot (off + k) ≡ get_or f.bytes k 0
         of_itself is h (inl none) = absurd (false≢true (subst (λ ws. list_any (covers slot (off + k)) (ranges_of ws) ≡ true)
-            (ap (block_writes images) (sym is) ∙ none.0) h))
-        of_itself is h (inr one) = ap (λ u. byte_at (fold write_on now (block_writes images u)) slot (off + k)) (sym is) ∙ own_write now same one k lt
+            (ap (mending_writes images row.failing) (sym is) ∙ none.0) h))
+        of_itself is h (inr one) = ap (λ u. byte_at (fold write_on now (mending_writes images row.failing u)) slot (off + k)) (sym is) ∙ own_write now same one k lt
 
-        by : (b : Bool) → list_any (covers slot (off + k)) (ranges_of (block_writes images u)) ≡ b
-            → byte_at (fold write_on now (block_writes images u)) slot (off + k) ≡ get_or f.bytes k 0
+        by : (b : Bool) → list_any (covers slot (off + k)) (ranges_of (mending_writes images row.failing u)) ≡ b
+            → byte_at (fold write_on now (mending_writes images row.failing u)) slot (off + k) ≡ get_or f.bytes k 0
         by false e = keeps.bytes slot (off + k) e ∙ holds k lt
         by true e = of_itself (shared t u i j slot (off + k) (covered_there k lt) (written_there u j slot (off + k) e)) e f.from
 
     all_more : (now : Images) (us : List Target) → ((u : Target) → In u us → In u row.blocks) → SameLengths now → Holds now
-        → Holds (fold write_on now (flat_map (block_writes images) us))
+        → Holds (fold write_on now (flat_map (mending_writes images row.failing) us))
     all_more now [] each same holds = holds
     all_more now (u ∷ us) each same holds =
         let j = each u (inl refl) in
-        let next = fold write_on now (block_writes images u) in
-        subst Holds (sym (fold_append write_on now (block_writes images u) (flat_map (block_writes images) us)))
-        (all_more next us (λ v k. each v (inr k)) (lengths_then now (block_writes images u) same (short_of u j)) (one_more now u j same holds))
+        let next = fold write_on now (mending_writes images row.failing u) in
+        subst Holds (sym (fold_append write_on now (mending_writes images row.failing u) (flat_map (mending_writes images row.failing) us)))
+        (all_more next us (λ v k. each v (inr k)) (lengths_then now (mending_writes images row.failing u) same (short_of u j)) (one_more now u j same holds))
 
     -- so they stand there behind all
-    all_written : (now : Images) (us : List Target) → ((u : Target) → In u us → In u row.blocks) → In t us → SameLengths now → block_writes images t
-        ≡ written_at (place t i) f.bytes ∷ [] → Holds (fold write_on now (flat_map (block_writes images) us))
+    all_written : (now : Images) (us : List Target) → ((u : Target) → In u us → In u row.blocks) → In t us → SameLengths now → mending_writes images row.failing t
+        ≡ written_at (place t i) f.bytes ∷ [] → Holds (fold write_on now (flat_map (mending_writes images row.failing) us))
     all_written now [] each j same is = absurd j
     all_written now (u ∷ us) each (inl e) same is =
-        let next = fold write_on now (block_writes images u) in
-        let first : Holds next = subst (λ v. Holds (fold write_on now (block_writes images v))) (sym e) (own_write now same is) in
-        subst Holds (sym (fold_append write_on now (block_writes images u) (flat_map (block_writes images) us)))
-        (all_more next us (λ v k. each v (inr k)) (lengths_then now (block_writes images u) same (short_of u (each u (inl refl)))) first)
+        let next = fold write_on now (mending_writes images row.failing u) in
+        let first : Holds next = subst (λ v. Holds (fold write_on now (mending_writes images row.failing v))) (sym e) (own_write now same is) in
+        subst Holds (sym (fold_append write_on now (mending_writes images row.failing u) (flat_map (mending_writes images row.failing) us)))
+        (all_more next us (λ v k. each v (inr k)) (lengths_then now (mending_writes images row.failing u) same (short_of u (each u (inl refl)))) first)
     all_written now (u ∷ us) each (inr j) same is =
-        let next = fold write_on now (block_writes images u) in
-        subst Holds (sym (fold_append write_on now (block_writes images u) (flat_map (block_writes images) us)))
-        (all_written next us (λ v k. each v (inr k)) j (lengths_then now (block_writes images u) same (short_of u (each u (inl refl)))) is)
+        let next = fold write_on now (mending_writes images row.failing u) in
+        subst Holds (sym (fold_append write_on now (mending_writes images row.failing u) (flat_map (mending_writes images row.failing) us)))
+        (all_written next us (λ v k. each v (inr k)) j (lengths_then now (mending_writes images row.failing u) same (short_of u (each u (inl refl)))) is)
 
     stands_first : f.bytes ≡ element images t (Slice t.at.index) → Holds images
     stands_first is k lt =
@@ -416,8 +432,8 @@ module _ (images : Images) (layout : Layout) (wants : List Want) (row : Row) (he
     holds : Holds after
     holds = by f.from
       where
-        by : ((block_writes images t ≡ []) × (f.bytes ≡ element images t (Slice t.at.index)))
-            ⊎ (block_writes images t ≡ written_at (place t i) f.bytes ∷ []) → Holds after
+        by : ((mending_writes images row.failing t ≡ []) × (f.bytes ≡ element images t (Slice t.at.index)))
+            ⊎ (mending_writes images row.failing t ≡ written_at (place t i) f.bytes ∷ []) → Holds after
         by (inl none) = all_more images row.blocks (λ u j. j) (λ slot. refl) (stands_first none.1)
         by (inr one) = all_written images row.blocks (λ u j. j) i (λ slot. refl) one
 
@@ -436,15 +452,15 @@ module _ (images : Images) (layout : Layout) (wants : List Want) (row : Row) (he
 
   -- ---- the first turn
 
-  -- what stands at the place of a block that passes there stays
-  good_stays : (stored : Images) (t : Target) (i : In t row.blocks) → KeepsOutside (ranges_of (rebuilt_writes images layout row)) images stored
+  -- what stands at the place of a checked block that passes there stays
+  good_stays : (stored : Images) (t : Target) (i : In t row.blocks) → is_plain t.want ≡ false → KeepsOutside (ranges_of (rebuilt_writes images layout row)) images stored
       → is_good images t (Slice t.at.index) ≡ true → is_good stored t (Slice t.at.index) ≡ true
-  good_stays stored t i keeps good =
+  good_stays stored t i checked keeps good =
       ap (passes t.setting t.want) (same_element images stored layout (ranges_of (rebuilt_writes images layout row)) t (Slice t.at.index) here.lengths
       (block t i).is keeps free) ∙ good
     where
       none_there : (slot off : ℕ) → covers slot off (place t i) ≡ true → list_any (covers slot off) (ranges_of (rebuilt_writes images layout row)) ≡ true → ⊥
-      none_there slot off c h = false≢true (subst (λ ws. list_any (covers slot off) (ranges_of ws) ≡ true) (good_unwritten t i good)
+      none_there slot off c h = false≢true (subst (λ ws. list_any (covers slot off) (ranges_of ws) ≡ true) (good_unwritten t i checked good)
           (written_for t i slot off c h))
 
       free : (slot off : ℕ) → IsSomeAnd (range_of t (Slice t.at.index)) (λ range. covers slot off range ≡ true)
@@ -478,7 +494,12 @@ module _ (images : Images) (layout : Layout) (wants : List Want) (row : Row) (he
       by all w
     where
       by : KeepsOutside (ranges_of (rebuilt_writes images layout row)) images stored → Withstands images layout row t → IsHad stored t
-      by all (inl good) = had_by stored t (Read (Slice t.at.index)) (own_candidate t i) (ap (λ b. b && true) (own_stands t i)) (good_stays stored t i all good)
+      by all (inl good) = had_by stored t (Read (Slice t.at.index)) (own_candidate t (no_copies t i)) (ap (λ b. b && true) (own_stands t i))
+          (still (is_plain t.want) refl)
+        where
+          still : (b : Bool) → is_plain t.want ≡ b → is_good stored t (Slice t.at.index) ≡ true
+          still true plain = plain_passes t.setting t.want (element stored t (Slice t.at.index)) plain
+          still false checked = good_stays stored t i checked all good
       by all (inr h) = had_by stored t h.way h.there h.stand (ap (passes t.setting t.want) (way_stays stored t i h all) ∙ h.pass)
 
   -- ---- the second turn
@@ -497,11 +518,11 @@ module _ (images : Images) (layout : Layout) (wants : List Want) (row : Row) (he
       by q e (inl p) = false≢true (sym (e ∙ ap is_slice p))
       by q e (inr p) = false≢true (sym (e ∙ ap is_slice p))
 
-  second_keeps : (left stored : Images) (waits : List Range) (t : Target) → IsStopped (parities_writes images layout row) after left
+  checked_keeps : (left stored : Images) (waits : List Range) (t : Target) → IsStopped (parities_writes images layout row) after left
       → AreAmong waits (ranges_of (parities_writes images layout row)) → KeepsOutside waits left stored
-      → In t row.blocks → IsHad images t → FillsPlace images t → is_good stored t (Slice t.at.index) ≡ true
-  second_keeps left stored waits t stopped among keeps i had fills =
-      let f = final t i had fills in
+      → (i : In t row.blocks) → is_plain t.want ≡ false → IsHad images t → FillsPlace images t → is_good stored t (Slice t.at.index) ≡ true
+  checked_keeps left stored waits t stopped among keeps i checked had fills =
+      let f = final t i checked had fills in
       let short = short_after images after (parities_writes images layout row) rebuilt_keeps.lengths parities_short in
       let all = keeps_then (ranges_of (parities_writes images layout row)) waits after left stored among (stopped_keeps after left (parities_writes images layout row) short stopped) keeps in
       ap (passes t.setting t.want)
@@ -518,6 +539,15 @@ module _ (images : Images) (layout : Layout) (wants : List Want) (row : Row) (he
               → list_any (covers slot off) (ranges_of (parities_writes images layout row)) ≡ false
           by false e = e
           by true e = absurd (apart_from_parities t i slot off (subst (λ o. IsSomeAnd o (λ range. covers slot off range ≡ true)) (place_is t i) c) e)
+
+  second_keeps : (left stored : Images) (waits : List Range) (t : Target) → IsStopped (parities_writes images layout row) after left
+      → AreAmong waits (ranges_of (parities_writes images layout row)) → KeepsOutside waits left stored
+      → In t row.blocks → IsHad images t → FillsPlace images t → is_good stored t (Slice t.at.index) ≡ true
+  second_keeps left stored waits t stopped among keeps i had fills = by (is_plain t.want) refl
+    where
+      by : (b : Bool) → is_plain t.want ≡ b → is_good stored t (Slice t.at.index) ≡ true
+      by true plain = plain_passes t.setting t.want (element stored t (Slice t.at.index)) plain
+      by false checked = checked_keeps left stored waits t stopped among keeps i checked had fills
 
 pub first_turn_keeps_blocks : FirstTurnKeepsBlocks
 first_turn_keeps_blocks images left stored layout wants row waits t here stopped among keeps i w = first_keeps images layout wants row here left

@@ -4,10 +4,12 @@ pub mod Stripes
 pub mod Pasting
 pub mod Survival
 pub mod Places
+pub mod OwnPlaces
 pub mod Wrong
 pub mod Paging
 pub mod Listing
 pub mod Reading
+pub mod Columns
 pub mod Staying
 pub mod Writes
 pub mod Gathering
@@ -29,6 +31,7 @@ pub mod RowWrites
 pub mod AcrossChunks
 pub mod Working
 pub mod Placing
+pub mod Refusing
 pub mod Ends
 pub mod Unitwise
 pub mod Lists
@@ -37,7 +40,6 @@ pub mod RowNumbers
 pub mod NextRow
 pub mod Rowwise
 pub mod OneRow
-pub mod PlainRuns
 pub mod Keepings
 pub mod Doubting
 pub mod Told
@@ -53,3 +55,5 @@ pub mod Safe
 pub mod Sums
 pub mod Tallying
 pub mod Scrubbed
+pub mod RowValues
+pub mod CalmRows

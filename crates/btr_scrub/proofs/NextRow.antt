@@ -1,5 +1,5 @@
 -- One full stripe more of a chunk with parity: those between have no checked block.
-use Rattle.std.proofs.Common.{◌≡◌, ◌⊎◌, ℕ, ◌+◌, ◌-◌, ◌*◌, ◌<◌, ◌≤◌, Bool, true, false, ◌&&◌, eqb, List, [], ◌∷◌, ◌++◌, map, length, All, slice_get, Option}
+use Rattle.std.proofs.Common.{◌≡◌, ◌⊎◌, ℕ, ◌+◌, ◌-◌, ◌*◌, ◌<◌, ◌≤◌, Bool, true, false, ◌&&◌, eqb, List, [], ◌∷◌, ◌++◌, map, All, slice_get, Option}
 use Rattle.std.proofs.Common.{Some, None, Result, Ok, refl, sym, ap, ◌∙◌, subst, inl, inr, arith, append-nil}
 use Rattle.std.proofs.lemmas.Bool.{eq-eqb}
 use Rattle.std.proofs.lemmas.Grind.{flat_map-append}
@@ -14,7 +14,7 @@ use Rattle.btr_read.specs.Fate.{Fault, sought}
 use Rattle.btr_read.specs.Layout.{HaveOwnSlots, Layout}
 use Rattle.btr_read.specs.declared.want.Want.{Want}
 use Rattle.btr_read.proofs.Ones.{in_below}
-use Rattle.btr_scrub_copies.specs.Blocks.{block_writes}
+use Rattle.btr_scrub_row.specs.Wanted.{mending_writes}
 use Rattle.btr_scrub_copies.specs.Writes.{Images, Write, write_on, writes_if}
 use Rattle.btr_scrub_row.specs.Mending.{IsRowOf, IsOn, is_at, mended_row}
 use Rattle.btr_scrub_row.specs.Rows.{Row, parities, parity_writes, row_writes}
@@ -31,29 +31,29 @@ use Rattle.btr_scrub.proofs.RowAgreeing.{row_writes_alike}
 use Rattle.btr_scrub.proofs.RowWrites.{row_short, row_stays, written_row}
 use Rattle.btr_scrub.proofs.Shorts.{Short, shorts_keep_if}
 use Rattle.btr_scrub.proofs.Writes.{any_flat, any_map}
-use Rattle.btr_scrub.proofs.AcrossChunks.{element_stands, flat_short, row_counts_alike, row_is}
+use Rattle.btr_scrub.proofs.AcrossChunks.{element_stands, flat_short, row_counted, row_is}
 use Rattle.btr_scrub.proofs.Blockwise.{filter_none, filter_all, fold_append, in_append, of_targets}
 use Rattle.btr_scrub.proofs.RowNumbers.{in_range, range_split, row_is_not, rows_to, start_there}
 use Rattle.btr_scrub.proofs.Lists.{all_from}
 use Rattle.btr_scrub.proofs.Agreeing.{of_mapped}
 use Rattle.btr_scrub.proofs.Positions.{is_sought}
 use Rattle.btr_scrub.proofs.Scrubbing.{IsUnmoved}
-use Rattle.btr_scrub.specs.Plain.{Doubts}
+use Rattle.btr_scrub_copies.specs.Fresh.{Failing}
 
 -- ---- empty rows
 
-decided_none : (images : Images) (layout : Layout) (chunk : Chunk) (r : ℕ) (k : ℕ → Bool) (q : _) → parity_writes images layout (record { chunk = chunk; number = r; blocks = []; kept = k }) q ≡ []
+decided_none : (images : Images) (layout : Layout) (chunk : Chunk) (r : ℕ) (k : Failing) (q : _) → parity_writes images layout (record { chunk = chunk; number = r; blocks = []; failing = k }) q ≡ []
 decided_none images layout chunk r k q = refl
 
 parities_none : (images : Images) (layout : Layout) (row : Row) (qs : List _) → row.blocks ≡ [] → flat_map (parity_writes images layout row) qs ≡ []
 parities_none images layout row [] e = refl
 parities_none images layout row (q ∷ qs) e =
-    ap (λ ws. ws ++ flat_map (parity_writes images layout row) qs) (ap (λ bs. parity_writes images layout (record { chunk = row.chunk; number = row.number; blocks = bs; kept = row.kept }) q) e ∙ decided_none images layout row.chunk row.number row.kept q)
+    ap (λ ws. ws ++ flat_map (parity_writes images layout row) qs) (ap (λ bs. parity_writes images layout (record { chunk = row.chunk; number = row.number; blocks = bs; failing = row.failing }) q) e ∙ decided_none images layout row.chunk row.number row.failing q)
     ∙ parities_none images layout row qs e
 
 pub empty_writes : (images : Images) (layout : Layout) (row : Row) → row.blocks ≡ [] → row_writes images layout row ≡ []
 empty_writes images layout row e =
-    ap (λ bs. flat_map (block_writes images) bs ++ flat_map (parity_writes images layout row) (parities row.chunk.profile)) e
+    ap (λ bs. flat_map (mending_writes images row.failing) bs ++ flat_map (parity_writes images layout row) (parities row.chunk.profile)) e
     ∙ parities_none images layout row (parities row.chunk.profile) e
 
 pub empty_count : (images : Images) (layout : Layout) (write : Bool) (tally : Tally) (row : Row) → row.blocks ≡ []
@@ -74,7 +74,7 @@ empties_count images layout write tally (r ∷ rs) h = ap (λ t. rows_count layo
 
 -- ---- one chunk with parity
 
-module _ (kept : Doubts) (layout : Layout) (table : IsTable layout.chunks) (own : HaveOwnSlots layout.devices) (given : first_missing layout ≡ None) (number : ℕ) (chunk : Chunk) (there : slice_get layout.chunks number ≡ Some chunk) (parity : mirrors chunk ≡ None) (wants : List Want) where
+module _ (kept : Failing) (layout : Layout) (table : IsTable layout.chunks) (own : HaveOwnSlots layout.devices) (given : first_missing layout ≡ None) (number : ℕ) (chunk : Chunk) (there : slice_get layout.chunks number ≡ Some chunk) (parity : mirrors chunk ≡ None) (wants : List Want) where
   -- rows from q on up to n, all of them empty
   pub more_rows : (q n : ℕ) → q ≤ n → ((k : ℕ) → q ≤ k → k < n → (row_of kept (targets layout wants) chunk k).blocks ≡ []) → (images : Images)
       → rows_writes layout (rows_to kept (targets layout wants) chunk n) images ≡ rows_writes layout (rows_to kept (targets layout wants) chunk q) images
@@ -196,13 +196,13 @@ module _ (kept : Doubts) (layout : Layout) (table : IsTable layout.chunks) (own 
     -- ---- the row, as it is to be mended
 
     pub counts_row : (write : Bool) (images : Images) (x : Tally)
-        → counted_row x (length (row_of kept (targets layout wants) chunk r).blocks)
+        → counted_row x
         (mended_row images layout (row_of kept (targets layout wants) chunk r) write)
         ≡ count_row images layout write x (row_of kept (targets layout wants) chunk r)
     counts_row write images x =
         let row = row_of kept (targets layout wants) chunk r in
         let e : row.blocks ≡ n.head ∷ n.tail = row_blocks ∙ n.some_block in
-        ap (λ bs. counted_row x (length bs) (mended_row images layout row write)) e ∙ sym (ap (λ bs. count_row_of bs x (mended_row images layout row write)) e)
+        sym (ap (λ bs. count_row_of bs x (mended_row images layout row write)) e)
 
     -- what is told of it stays when the rows before it are mended
     pub unmoved_row : (write : Bool) (held : Option Images) → ((images : Images) → held ≡ Some images → HaveLengths images layout)
@@ -217,9 +217,8 @@ module _ (kept : Doubts) (layout : Layout) (table : IsTable layout.chunks) (own 
         let here = row_is kept layout table own given number chunk there wants r parity n.fits in
         let alike = row_stays layout row table here.is images l after (map (λ (w : Write). w.range) ws) here.blocks (shorts_keep_if write images ws (flat_short images (row_writes images layout) (rows_to kept (targets layout wants) chunk q) (λ x i. short x i images l)))
         (λ part slot off o. free images slot off part o) in (
-          row_writes_alike images after layout row alike,
-          λ x. row_counts_alike kept layout table own given number chunk there wants images l write
-              after row x alike,
+          row_writes_alike images after layout row row.failing alike,
+          λ x. row_counted images after layout write row row.failing x alike,
         )
       where
         below_fits : (k : ℕ) → k < q → k * 65536 + 65536 ≤ stripe_length chunk

@@ -1,7 +1,6 @@
 -- One full stripe of the table, as it was mended.
-use Rattle.std.proofs.Common.{◌≡◌, ℕ, ◌+◌, ◌*◌, ◌≤◌, count_by, get_or, is_none, Bool, true, false, leb, cond, List, [], length, slice_get, Option, Some, None}
+use Rattle.std.proofs.Common.{◌≡◌, ℕ, ◌+◌, ◌*◌, ◌≤◌, count_by, is_none, Bool, true, false, leb, cond, List, [], length, slice_get, Option, Some, None}
 use Rattle.std.proofs.Common.{IfSome, IsSomeAnd, is_some, Result, Ok, Err, refl, sym, ap, ◌∙◌, subst, inl, inr, arith}
-use Rattle.std.proofs.lemmas.List.{length-map}
 use Rattle.std.proofs.lemmas.Option.{same_Some, slice_get_within}
 use Rattle.btr_chunk.specs.Chunk.{stripe_length}
 use Rattle.btr_chunk.specs.Mapping.{elements_of, holds, place_at, stripe_of}
@@ -24,10 +23,11 @@ use Rattle.btr_read.specs.Serves.{Serves}
 use Rattle.btr_read.specs.Store.{Blocks, SameLoans}
 use Rattle.btr_read.specs.Want.{addr_of, len_of}
 use Rattle.btr_read.specs.declared.want.Want.{Want}
+use Rattle.btr_scrub_copies.specs.Fresh.{flagged}
 use Rattle.btr_scrub_copies.specs.Syncing.{IsSyncOr, plain}
 use Rattle.btr_scrub_copies.specs.Writes.{AreWritable, Images, Write, writes_if}
 use Rattle.btr_scrub_copies.specs.declared.mended.MendFault.{MendFault}
-use Rattle.btr_scrub_row.specs.Mending.{AreKept, HasRoom, IsFullStripe, IsOfRow, IsOn, IsRow, IsRowOf, MendsRow, is_at, mended_row}
+use Rattle.btr_scrub_row.specs.Mending.{HasRoom, IsFullStripe, IsOfRow, IsOn, IsRow, IsRowOf, MendsRow, mended_row}
 use Rattle.btr_scrub_row.specs.Rows.{Row, range_in_element, row_writes}
 use Rattle.btr_scrub_row.specs.declared.buffer.RowBuffer.{RowBuffer}
 use Rattle.btr_scrub_row.specs.declared.mended.MendedRow.{MendedRow}
@@ -51,23 +51,20 @@ pub has_room : (layout : Layout) (buffer : RowBuffer) (start number : ℕ) (want
     → IsRowOf layout start number wants row → HasRoom buffer (length row.chunk.stripes)
 has_room layout buffer start number wants row rooms is = let n = chunk_number layout start number row is.stripe in rooms n.0 row.chunk n.1 is.stripe.parity
 
-pub as_many : (layout : Layout) (start number : ℕ) (wants : List Want) (row : Row) → IsRowOf layout start number wants row → length wants ≡ length row.blocks
-as_many layout start number wants row is = sym (length-map wants (sought layout)) ∙ ap length is.blocks ∙ length-map row.blocks is_at
-
--- some blocks' row, whose kept columns are those that are flagged
-pub flagged : (layout : Layout) (start number : ℕ) (wants : List Want) (flags : List Bool) → IsRow layout start number wants → (row : Row)
-    × IsRowOf layout start number wants row × AreKept flags row
-flagged layout start number wants flags h =
+-- some blocks' row, beside the images that are flagged
+pub flagged_row : (layout : Layout) (start number : ℕ) (wants : List Want) (flags : List Bool) → IsRow layout start number wants → (row : Row)
+    × IsRowOf layout start number wants row × (row.failing ≡ flagged flags)
+flagged_row layout start number wants flags h =
     let r = h.row in
     let s = h.is.stripe in
-    let row : Row = record { chunk = r.chunk; number = r.number; blocks = r.blocks; kept = λ column. get_or flags column false } in (
+    let row : Row = record { chunk = r.chunk; number = r.number; blocks = r.blocks; failing = flagged flags } in (
       row,
       record {
         stripe = record { chunk = s.chunk; number_is = s.number_is; parity = s.parity; inside = s.inside; stand = s.stand };
         blocks = h.is.blocks;
         lie = all_from (IsOn row) r.blocks (λ t i. let on = all_in (IsOn r) r.blocks t h.is.lie i in record { chunk = on.chunk; number = on.number });
       },
-      λ column lt. refl,
+      refl,
     )
 
 -- behind a call that left the slots, the layout and the loans all blocks can be mended still
@@ -127,24 +124,24 @@ module _ (layout : Layout) (write : Bool) (row : Row) (m n : List Bool) (a b : S
   in_scrub range (inr of) = inr (in_stripe range of)
 
   pub scrubs_row : (tally tally' : Tally) (mended : MendedRow) → MendsRow layout row write m n a b (Ok mended) → tally'
-      ≡ counted_row tally (length row.blocks) mended
+      ≡ counted_row tally mended
       → Scrubs {A = Unit {0}} (alone layout row.chunk) write (λ images. row_writes images layout row)
-      (λ images tally. counted_row tally (length row.blocks) (mended_row images layout row write)) m n a b tally tally' (Ok (tt {0}))
+      (λ images tally. counted_row tally (mended_row images layout row write)) m n a b tally tally' (Ok (tt {0}))
   scrubs_row tally tally' mended h e = record {
     does = does_value (IsOfScrub (alone layout row.chunk)) the_writes [] [] (plain a) (plain b) mended tt
         (does_weaker (IsSyncOr (IsOfRow layout row)) (IsOfScrub (alone layout row.chunk)) the_writes [] [] (plain a) (plain b) (Ok mended) in_scrub h.does);
     waits = waits_weaker (IsOfRow layout row) (LiesInStripe (alone layout row.chunk)) a b in_stripe h.lie;
     marked = h.marked;
     stranded = h.stranded;
-    counts = tell a.held (λ images. tally' ≡ counted_row tally (length row.blocks) (mended_row images layout row write))
-        (λ images held. e ∙ ap (counted_row tally (length row.blocks))
+    counts = tell a.held (λ images. tally' ≡ counted_row tally (mended_row images layout row write))
+        (λ images held. e ∙ ap (counted_row tally)
         (told a.held (λ images. mended ≡ mended_row images layout row write) images held h.counts));
     unwritten = h.unwritten;
   }
 
   pub scrubs_row_not : (tally : Tally) (fault : MendFault) → MendsRow layout row write m n a b (Err fault)
       → Scrubs {A = Unit {0}} (alone layout row.chunk) write (λ images. row_writes images layout row)
-      (λ images tally. counted_row tally (length row.blocks) (mended_row images layout row write)) m n a b tally tally (Err fault)
+      (λ images tally. counted_row tally (mended_row images layout row write)) m n a b tally tally (Err fault)
   scrubs_row_not tally fault h = record {
     does = does_fault {A = MendedRow} {B = Unit {0}} (IsOfScrub (alone layout row.chunk)) the_writes [] [] (plain a) (plain b) fault
         (does_weaker {A = MendedRow} (IsSyncOr (IsOfRow layout row)) (IsOfScrub (alone layout row.chunk)) the_writes [] [] (plain a) (plain b) (Err fault) in_scrub h.does);

@@ -87,16 +87,16 @@ module _ (B : Map) (kind : SumKind) (addr : ℕ) (sum : Sum) where
       let p = le {S = ⊥} tree.place (key sums_objectid extent_csum addr) in
       behind (exec B p).marks (exec B p).ending (sym (ap (λ (r : Run Want fate.Fault ⊥ (Option Sum)). r.ending) (exec-bind B p (sum_found kind addr))) ∙ h)
 
-abbrev met_of : Bool → ℕ → Option Sum → Meeting (Unit {0})
-met_of copied addr found = Emit (sector_met copied addr found) (Return tt)
+abbrev met_of : ℕ → Option Sum → Meeting (Unit {0})
+met_of addr found = Emit (sector_met addr found) (Return tt)
 
 -- a sector was listed with the checksum that was looked up
-pub gathers_sector : (s : Super) (sums : Option TreeRoot) (copied : Bool) (addr : ℕ) (old new : Seen) (vol vol' : Volume) (x y : Gathered) (sum : Sum)
+pub gathers_sector : (s : Super) (sums : Option TreeRoot) (addr : ℕ) (old new : Seen) (vol vol' : Volume) (x y : Gathered) (sum : Sum)
     → length sum.bytes ≡ 32 → Serves new vol'.store → OnlyReads old new → SameVolume vol vol'
     → Looks vol.store.layout old new (sum_at (kind_in s) sums addr) (Ok (Some sum))
-    → AddsTo x.list y.list (Sector addr (stored_sum (kind_in s) sum.bytes)) → y.unchecked ≡ x.unchecked → y.plain ≡ x.plain
-    → Gathers (sector s sums copied addr) (scene old vol x) (scene new vol' y) (Ok tt)
-gathers_sector s sums copied addr old new vol vol' x y sum long serves reads same l added count plain =
+    → AddsTo x.list y.list (Sector addr (stored_sum (kind_in s) sum.bytes)) → y.unchecked ≡ x.unchecked
+    → Gathers (sector s sums addr) (scene old vol x) (scene new vol' y) (Ok tt)
+gathers_sector s sums addr old new vol vol' x y sum long serves reads same l added count =
     let layout = vol.store.layout in
     let kind = kind_in s in
     let p = sum_at kind sums addr in
@@ -106,31 +106,31 @@ gathers_sector s sums copied addr old new vol vol' x y sum long serves reads sam
       volume = same;
       serves = serves;
       done = met;
-      lists = lists_added x y (Sector addr (stored_sum kind sum.bytes)) added count plain;
+      lists = lists_added x y (Sector addr (stored_sum kind sum.bytes)) added count;
       content = drawn layout (λ B. Follows {S = ⊥} (unread_by layout old new) no_part [] (exec B p) [] (Ok (Some sum)))
-          (λ B. Follows (unread_by layout old new) no_part [] (exec B (sector s sums copied addr)) met (Ok tt))
+          (λ B. Follows (unread_by layout old new) no_part [] (exec B (sector s sums addr)) met (Ok tt))
           (λ B f.
           let stored = is_stored B kind addr sum sums f.1 in
-          subst (λ r. Follows (unread_by layout old new) no_part [] r met (Ok tt)) (sym (exec-bind B (quiet p) (met_of copied addr)))
-          (follows_then (unread_by layout old new) no_part [] (exec B (quiet p)) (Some sum) (λ found. exec B (met_of copied addr found)) [] met (Ok tt)
+          subst (λ r. Follows (unread_by layout old new) no_part [] r met (Ok tt)) (sym (exec-bind B (quiet p) (met_of addr)))
+          (follows_then (unread_by layout old new) no_part [] (exec B (quiet p)) (Some sum) (λ found. exec B (met_of addr found)) [] met (Ok tt)
           (follows_quiet (unread_by layout old new) no_part [] B p [] (Ok (Some sum)) f)
           (ap (λ found. Checked (Sector addr found) ∷ []) (again kind stored.0 sum long stored.1), refl))) l;
       cause = tt;
     }
 
 -- one sector more
-pub sectors_first : (s : Super) (sums : Option TreeRoot) (copied : Bool) (count addr i : ℕ) → i < count → sectors s sums copied (count - i) (addr + i * 4096)
-    ≡ bind (sector s sums copied (addr + i * 4096)) (λ u. sectors s sums copied (count - (i + 1)) (addr + (i + 1) * 4096))
-sectors_first s sums copied count addr i lt =
+pub sectors_first : (s : Super) (sums : Option TreeRoot) (count addr i : ℕ) → i < count → sectors s sums (count - i) (addr + i * 4096)
+    ≡ bind (sector s sums (addr + i * 4096)) (λ u. sectors s sums (count - (i + 1)) (addr + (i + 1) * 4096))
+sectors_first s sums count addr i lt =
     let more : count - i ≡ suc (count - (i + 1)) = omega (arith, lt) in
     let next : addr + i * 4096 + 4096 ≡ addr + (i + 1) * 4096 = omega arith in
-    ap (λ n. sectors s sums copied n (addr + i * 4096)) more ∙ ap (λ a. bind (sector s sums copied (addr + i * 4096)) (λ u. sectors s sums copied (count - (i + 1)) a)) next
+    ap (λ n. sectors s sums n (addr + i * 4096)) more ∙ ap (λ a. bind (sector s sums (addr + i * 4096)) (λ u. sectors s sums (count - (i + 1)) a)) next
 
-pub sectors_all : (s : Super) (sums : Option TreeRoot) (copied : Bool) (count addr : ℕ) → sectors s sums copied count addr ≡ sectors s sums copied (count - 0) (addr + 0 * 4096)
-sectors_all s sums copied count addr =
+pub sectors_all : (s : Super) (sums : Option TreeRoot) (count addr : ℕ) → sectors s sums count addr ≡ sectors s sums (count - 0) (addr + 0 * 4096)
+sectors_all s sums count addr =
     let all : count ≡ count - 0 = omega arith in
     let here : addr ≡ addr + 0 * 4096 = omega arith in
-    ap (λ n. sectors s sums copied n addr) all ∙ ap (λ a. sectors s sums copied (count - 0) a) here
+    ap (λ n. sectors s sums n addr) all ∙ ap (λ a. sectors s sums (count - 0) a) here
 
-pub sectors_none : (s : Super) (sums : Option TreeRoot) (copied : Bool) (count addr i : ℕ) → count ≤ i → sectors s sums copied (count - i) addr ≡ Return tt
-sectors_none s sums copied count addr i le = let none : count - i ≡ 0 = omega (arith, le) in ap (λ n. sectors s sums copied n addr) none
+pub sectors_none : (s : Super) (sums : Option TreeRoot) (count addr i : ℕ) → count ≤ i → sectors s sums (count - i) addr ≡ Return tt
+sectors_none s sums count addr i le = let none : count - i ≡ 0 = omega (arith, le) in ap (λ n. sectors s sums n addr) none

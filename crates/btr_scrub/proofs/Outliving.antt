@@ -1,7 +1,7 @@
 -- Whatever stands in the ranges of the writes, each checked block can be had.
-use Rattle.std.proofs.Common.{◌≡◌, ◌≢◌, ◌⊎◌, ℕ, zero, suc, ◌+◌, ◌*◌, ◌/◌, ◌<◌, ◌≤◌, Bool, true, false, not, cond, ◌&&◌, ◌||◌, eqb, List, [], ◌∷◌, map, slice_get}
-use Rattle.std.proofs.Common.{Option, Some, None, is_none, is_some, IsSomeAnd, refl, sym, ap, ◌∙◌, subst, inl, inr, arith, Result, Ok, Err}
-use Rattle.std.proofs.lemmas.Bool.{false≢true, and_from, and_parts, cases_lt, eq-eqb}
+use Rattle.std.proofs.Common.{◌≡◌, ◌⊎◌, ℕ, ◌+◌, ◌*◌, ◌/◌, ◌<◌, ◌≤◌, Bool, true, false, not, cond, ◌&&◌, ◌||◌, eqb, List, [], ◌∷◌, map, slice_get}
+use Rattle.std.proofs.Common.{Option, Some, None, is_none, is_some, IsSome, IsSomeAnd, refl, sym, ap, ◌∙◌, subst, inl, inr, arith, Result, Ok, Err}
+use Rattle.std.proofs.lemmas.Bool.{false≢true, and_from, and_parts, eq-eqb}
 use Rattle.std.specs.Str.{bytes_eq}
 use Rattle.std.proofs.lemmas.Option.{same_Some}
 use Rattle.std.specs.List.{cons_option, list_any, range_with_len}
@@ -17,7 +17,7 @@ use Rattle.btr_chunk.specs.declared.position.Elements.{Elements}
 use Rattle.btr_chunk.proofs.Apart.{copies_apart}
 use Rattle.btr_rack.specs.declared.place.Place.{Place as Range}
 use Rattle.btr_read.specs.Candidates.{Target, candidates, element, range_of, size_of, stands, value_of}
-use Rattle.btr_read.specs.Fate.{Fault, sought}
+use Rattle.btr_read.specs.Fate.{is_plain, Fault, sought}
 use Rattle.btr_read.specs.Layout.{HaveOwnSlots, Layout, device_in}
 use Rattle.btr_read.specs.Want.{addr_of, len_of}
 use Rattle.btr_read.specs.declared.candidate.Candidate.{Candidate}
@@ -32,29 +32,30 @@ use Rattle.btr_scrub_copies.proofs.Syncs.{passing_filter}
 use Rattle.btr_scrub_copies.specs.Writes.{Images, Write}
 use Rattle.btr_scrub_copies.proofs.Copied.{has_mirror}
 use Rattle.btr_scrub_row.specs.Rows.{row_writes}
+use Rattle.btr_scrub_row.specs.Wanted.{mending_writes}
 use Rattle.btr_scrub.specs.Devices.{HaveLengths}
 use Rattle.btr_scrub.specs.Glue.{In}
 use Rattle.btr_scrub.specs.Leaves.{KeepsOutside}
 use Rattle.btr_scrub.specs.Order.{AreApart, IsSought, targets}
 use Rattle.btr_scrub_copies.specs.Fresh.{Failing, first_trusted, fresh, fresh_writes, is_on_behind, is_on_doubtful, is_stale, reads_doubtful, stale_beside}
 use Rattle.btr_scrub_copies.specs.Fresh.{stale_parts}
-use Rattle.btr_scrub.specs.Repair.{covers, first_missing, is_in_chunk, is_in_row, is_loose, mending_writes, ok_or_none, row_of, rows_in}
-use Rattle.btr_scrub.specs.Right.{Committed, HasFewWrong, StandsFor}
+use Rattle.btr_scrub.specs.Repair.{covers, first_missing, is_in_chunk, is_in_row, ok_or_none, row_of, rows_in}
+use Rattle.btr_scrub.specs.Right.{Committed, HasFewWrongAt, HasRightPlace, StandsFor}
 use Rattle.btr_scrub.specs.Scrubbing.{all_writes_for, chunk_writes_for, rows_writes, sites_in, sites_writes}
 use Rattle.btr_scrub.specs.Staying.{AvoidRight, IsInCopies, IsInWrong}
 use Rattle.btr_scrub.proofs.AcrossChunks.{copy_in_chunk, element_in_chunk, of_chunk, one_chunk, row_is}
 use Rattle.btr_scrub.proofs.Agreeing.{IsTrusted, of_mapped, trusted_from}
 use Rattle.btr_scrub.proofs.Blockwise.{all_behind, of_targets, part_is_given}
-use Rattle.btr_scrub.proofs.CopyWrites.{same_element, stale_own, written_byte}
+use Rattle.btr_scrub.proofs.CopyWrites.{same_element, written_byte}
+use Rattle.btr_scrub.proofs.OwnPlaces.{stale_own}
 use Rattle.btr_scrub.proofs.Lists.{any_in, at_in, in_any, in_map}
 use Rattle.btr_scrub.proofs.Positions.{IsCopyByte, copy_of_range, is_of_copy, is_sought, left_false, of_range, shares}
 use Rattle.btr_scrub.proofs.RowWrites.{written_row}
 use Rattle.btr_scrub.proofs.RowNumbers.{row_fits}
-use Rattle.btr_scrub.proofs.SoundRows.{CanBeHad, checked_there, is_row, right_is_sound, right_there, sound_row}
+use Rattle.btr_scrub.proofs.SoundRows.{CanBeHad, is_row, right_is_sound, right_passes, right_there, sound_row}
 use Rattle.btr_scrub.proofs.Staying.{row_outlives_writes}
 use Rattle.btr_scrub.proofs.Survival.{in_filter, some_of}
 use Rattle.btr_scrub.proofs.Writes.{any_filter_map, any_flat, any_map, mapped, row_writes_are_wrong}
-use Rattle.btr_scrub.specs.Plain.{Doubts}
 
 -- an image that isn't in doubt isn't behind
 sure_not_behind : (fails : Failing) (t : Target) (part : Part) → is_on_doubtful fails t part ≡ false → is_on_behind fails t part ≡ false
@@ -111,22 +112,8 @@ same_copy layout t slot off table own is b c =
     (is_of_copy layout t slot off table is b)
     (subst (λ d. IsOfCopy layout.chunks (record { devid = d; offset = off }) is.number c.copy (addr_of t.want + c.behind)) (sym devid) (is_of_copy layout t slot off table is c))).1
 
--- numbers from one on
-below_in : (a n x : ℕ) → a ≤ x → x < a + n → In x (range_with_len a n)
-below_in a zero x from to = absurd (omega (arith, from, to))
-below_in a (suc n) x from to = elim (cases_lt a x) [
-  | inl lt ↦ inr (below_in (a + 1) n x (omega (arith, lt)) (omega (arith, to)))
-  | inr le ↦ inl (omega (arith, le, from))
-]
-
-at_member : {X : Type 0} (xs : List X) (i : ℕ) (x : X) → slice_get xs i ≡ Some x → In x xs
-at_member [] i x e = cc
-at_member (y ∷ xs) zero x e = inl (same_Some y x e)
-at_member (y ∷ xs) (suc i) x e = inr (at_member xs i x e)
-
-module _ (kept : Doubts) (images : Images) (layout : Layout) (C : Committed) (wants : List Want) (table : IsTable layout.chunks)
-    (own : HaveOwnSlots layout.devices) (none : first_missing layout ≡ None) (lengths : HaveLengths images layout)
-    (had : CanBeHad kept images layout C wants) (apart : AreApart layout 0 wants) where
+module _ (kept : Failing) (images : Images) (layout : Layout) (wants : List Want) (table : IsTable layout.chunks)
+    (own : HaveOwnSlots layout.devices) (none : first_missing layout ≡ None) (lengths : HaveLengths images layout) (apart : AreApart layout 0 wants) where
   abbrev ts : List Target
   ts = targets layout wants
 
@@ -148,7 +135,7 @@ module _ (kept : Doubts) (images : Images) (layout : Layout) (C : Committed) (wa
     is : IsSought layout block
     copies : ℕ
     has : mirrors block.chunk ≡ Some copies
-    written : list_any (covered_at slot off) (mending_writes images kept.failing block) ≡ true
+    written : list_any (covered_at slot off) (mending_writes images kept block) ≡ true
 
   -- for a full stripe
   record ForRow (slot off : ℕ) : Type 0 where
@@ -165,7 +152,7 @@ module _ (kept : Doubts) (images : Images) (layout : Layout) (C : Committed) (wa
   for_chunk slot off number chunk there h = by (mirrors chunk) refl h
     where
       by : (o : Option ℕ) → mirrors chunk ≡ o → list_any (covered_at slot off)
-          (cond (is_none o) (rows_writes layout (rows_in kept ts chunk) images) (sites_writes kept.failing (sites_in layout chunk wants) images)) ≡ true
+          (cond (is_none o) (rows_writes layout (rows_in kept ts chunk) images) (sites_writes kept (sites_in layout chunk wants) images)) ≡ true
           → ForCopies slot off ⊎ ForRow slot off
       by None parity h =
           let n = stripe_length chunk / 65536 in
@@ -175,7 +162,7 @@ module _ (kept : Doubts) (images : Images) (layout : Layout) (C : Committed) (wa
           let lt = in_below n r.0 r.1 in
           inr (record { number = number; chunk = chunk; there = there; parity = parity; row = r.0; inside = omega (arith, lt); written = subst (λ row. list_any (covered_at slot off) (row_writes images layout row) ≡ true) (sym r.2) f.2 })
       by (Some n) copies h =
-          let f = any_flat (covered_at slot off) (mending_writes images kept.failing) (sites_in layout chunk wants) h in
+          let f = any_flat (covered_at slot off) (mending_writes images kept) (sites_in layout chunk wants) h in
           let of = of_chunk kept layout table own none number chunk there wants f.0 f.1 in
           inl (record { block = f.0; among = (passing_filter (is_in_chunk chunk) f.0 ts f.1).0; is = of.is; copies = n; has = ap mirrors of.chunk_is ∙ copies; written = f.2 })
 
@@ -186,11 +173,11 @@ module _ (kept : Doubts) (images : Images) (layout : Layout) (C : Committed) (wa
       let j = at_in f.0 layout.chunks f.1 in
       for_chunk slot off j.0 f.0 j.1 f.2
 
-  -- ---- the writes leave what is right
+  -- ---- writes for copies leave all else
 
   in_copies : (slot off : ℕ) → ForCopies slot off → IsInCopies layout slot off
   in_copies slot off c =
-      let b = copy_in_chunk layout c.block slot off table c.is (written_byte kept.failing images layout lengths c.block c.is c.copies c.has slot off c.written) in
+      let b = copy_in_chunk layout c.block slot off table c.is (written_byte kept images layout lengths c.block c.is c.copies c.has slot off c.written) in
       let same : c.block.chunk ≡ b.lies.chunk = same_Some c.block.chunk b.lies.chunk (sym c.is.there ∙ b.lies.there) in
       record {
         devid = b.devid;
@@ -202,47 +189,6 @@ module _ (kept : Doubts) (images : Images) (layout : Layout) (C : Committed) (wa
         lies = b.lies;
         copies = ap (λ k. is_some (mirrors k)) (sym same) ∙ ap is_some c.has;
       }
-
-  in_wrong : (slot off : ℕ) → ForRow slot off → IsInWrong images layout C ts slot off
-  in_wrong slot off f =
-      let row = row_of kept ts f.chunk f.row in
-      row_writes_are_wrong images layout C ts row slot off table
-      (is_row kept images layout C wants table own none lengths had apart f.number f.chunk f.there f.row f.parity f.inside)
-      (sound_row kept images layout C wants table own none lengths had apart f.number f.chunk f.there f.row f.parity f.inside)
-      (right_there kept images layout C wants table own none lengths had apart f.number f.chunk f.there f.row f.parity f.inside)
-      (any_map (covers slot off) (λ (w : Write). w.range) (row_writes images layout row) ∙ f.written)
-
-  avoid : AvoidRight images layout C ts ranges
-  avoid slot off h = elim (for_what slot off h) [ inl c ↦ inr (in_copies slot off c) | inr f ↦ inl (in_wrong slot off f) ]
-
-  -- ---- blocks of full stripes
-
-  module _ (t : Target) (among : In t ts) (is : IsSought layout t) (parity : mirrors t.chunk ≡ None) where
-    fits : t.at.row * 65536 + 65536 ≤ stripe_length t.chunk
-    fits = omega (arith, row_fits layout table is.number t.chunk is.there parity (addr_of t.want) is.held, ap (λ (e : Elements). e.row) is.at)
-
-    mine : In t (row_of kept ts t.chunk t.at.row).blocks
-    mine = in_filter (is_in_row t.chunk t.at.row) t ts among
-        (and_from (eqb t.chunk.start t.chunk.start) (eqb t.at.row t.at.row) (eq-eqb t.chunk.start t.chunk.start refl) (eq-eqb t.at.row t.at.row refl))
-
-    some_blocks : (bs : List Target) → In t bs → bs ≢ []
-    some_blocks [] i e = i
-    some_blocks (b ∷ bs) i e = cc
-
-    few : HasFewWrong images layout C (row_of kept ts t.chunk t.at.row)
-    few =
-        let n = stripe_length t.chunk / 65536 in
-        let listed : rows_in kept ts t.chunk ≡ map (row_of kept ts t.chunk) (range_with_len 0 n) = ap (λ o. cond (is_none o) (map (row_of kept ts t.chunk) (range_with_len 0 n)) []) parity in
-        had.rows t.chunk (row_of kept ts t.chunk t.at.row) (at_member layout.chunks is.number t.chunk is.there)
-        (subst (In (row_of kept ts t.chunk t.at.row)) (sym listed)
-        (in_map (row_of kept ts t.chunk) t.at.row (range_with_len 0 n) (below_in 0 n t.at.row (omega arith) (omega (arith, fits)))))
-        (some_blocks (row_of kept ts t.chunk t.at.row).blocks mine)
-
-    row_outlives : (left : Images) → KeepsOutside ranges images left → StandsFor left C t
-    row_outlives left keeps =
-        row_outlives_writes images left layout C ts (row_of kept ts t.chunk t.at.row) ranges t table own lengths
-        (is_row kept images layout C wants table own none lengths had apart is.number t.chunk is.there t.at.row parity fits) avoid keeps
-        (sound_row kept images layout C wants table own none lengths had apart is.number t.chunk is.there t.at.row parity fits) few mine
 
   -- ---- blocks and plain sectors with copies
 
@@ -281,13 +227,13 @@ module _ (kept : Doubts) (images : Images) (layout : Layout) (C : Committed) (wa
           never (subst (λ part. In part parts) same f.1)
 
       -- where it isn't written for itself
-      module _ (not_own : (slot off : ℕ) → covers slot off range ≡ true → list_any (covered_at slot off) (mending_writes images kept.failing t) ≡ true → ⊥) where
+      module _ (not_own : (slot off : ℕ) → covers slot off range ≡ true → list_any (covered_at slot off) (mending_writes images kept t) ≡ true → ⊥) where
         -- it isn't for any other
         not_written : (slot off : ℕ) → covers slot off range ≡ true → ForCopies slot off ⊎ ForRow slot off → ⊥
         not_written slot off c (inl f) =
-            let s = shares layout t f.block slot off table own is f.is (byte slot off c) (written_byte kept.failing images layout lengths f.block f.is f.copies f.has slot off f.written) in
+            let s = shares layout t f.block slot off table own is f.is (byte slot off c) (written_byte kept images layout lengths f.block f.is f.copies f.has slot off f.written) in
             let same : t ≡ f.block = same_block layout wants 0 t f.block s.one s.other apart among f.among s.below s.under s.same in
-            not_own slot off c (subst (λ u. list_any (covered_at slot off) (mending_writes images kept.failing u) ≡ true) (sym same) f.written)
+            not_own slot off c (subst (λ u. list_any (covered_at slot off) (mending_writes images kept u) ≡ true) (sym same) f.written)
         not_written slot off c (inr f) =
             let of = row_is kept layout table own none f.number f.chunk f.there wants f.row f.parity f.inside in
             let w = written_row layout (row_of kept ts f.chunk f.row) table of.is images slot off of.blocks f.written in
@@ -306,95 +252,134 @@ module _ (kept : Doubts) (images : Images) (layout : Layout) (C : Committed) (wa
         stays left keeps = same_element images left layout ranges t (Mirror k) lengths is keeps
             (λ slot off c. free slot off (subst (λ o. IsSomeAnd o (λ range. covers slot off range ≡ true)) whole c))
 
-    -- a right copy of a checked block isn't written
-    module _ (checked : is_loose t ≡ false) where
-      not_mended : (k : ℕ) (lt : k < n) → C t.want ≡ Some (element images t (Mirror k)) → (range : Range) (whole : range_of t (Mirror k) ≡ Some range)
-          → (slot off : ℕ) → covers slot off range ≡ true → list_any (covered_at slot off) (mending_writes images kept.failing t) ≡ true → ⊥
-      not_mended k lt right range whole slot off c written =
-          by (accepted images t) refl
-          (subst (λ b. list_any (covered_at slot off) (cond b (fresh_writes images kept.failing t) (block_writes images t)) ≡ true) checked written)
-        where
-          by : (o : Option (List ℕ)) → accepted images t ≡ o → list_any (covered_at slot off) (option_map_or (written_over images t) o []) ≡ true → ⊥
-          by None e h = false≢true h
-          by (Some bytes) e h =
-              not_over k lt range whole bytes (bad_parts images t) (λ part i. (passing_filter (λ part. not (is_sound images t part)) part (own_parts t) i).0)
-              (λ i. not_bad (is_sound images t (Mirror k)) (passing_filter (λ part. not (is_sound images t part)) (Mirror k) (own_parts t) i).1
-              (right_is_sound kept images layout C wants table own none lengths had t among checked is (Mirror k) bytes e right)) slot off c h
-
-      copies_outlive : (left : Images) → KeepsOutside ranges images left → StandsFor left C t
-      copies_outlive left keeps =
-          let a = in_any (λ part. C t.want ≡ Some (element images t part)) (own_parts t) (had.copies t among checked (ap is_some has)) in
-          let j = of_mapped Mirror a.0 (range_with_len 0 n) (subst (In a.0) own_are a.1) in
-          let lt = in_below n j.0 j.1 in
-          let right : C t.want ≡ Some (element images t (Mirror j.0)) = a.2 ∙ ap (λ part. Some (element images t part)) (sym j.2) in
-          let given = part_is_given layout t (Mirror j.0) table is (has_mirror t n j.0 has lt) none in
-          let r = some_of (range_of t (Mirror j.0)) given in
-          any_in (λ c. (stands t c ≡ true) × (C t.want ≡ Some (value_of left t c))) (candidates t) (Read (Mirror j.0))
-          (in_candidates t (Read (Mirror j.0)) (subst (In (Read (Mirror j.0))) (sym (with_copies t n has))
-          (in_map (λ copy. Read (Mirror copy)) j.0 (range_with_len 0 n) j.1)))
-          (ap (λ b. b && true) given, right ∙ ap Some (sym (stays j.0 lt r.0 r.1 (not_mended j.0 lt right r.0 r.1) left keeps)))
-
     -- a copy of a plain sector on an image that isn't in doubt isn't either
-    module _ (loose : is_loose t ≡ true) where
-      not_freshened : (k : ℕ) (lt : k < n) → is_on_doubtful kept.failing t (Mirror k) ≡ false → (range : Range) (whole : range_of t (Mirror k) ≡ Some range)
-          → (slot off : ℕ) → covers slot off range ≡ true → list_any (covered_at slot off) (mending_writes images kept.failing t) ≡ true → ⊥
+    module _ (sector : is_plain t.want ≡ true) where
+      not_freshened : (k : ℕ) (lt : k < n) → is_on_doubtful kept t (Mirror k) ≡ false → (range : Range) (whole : range_of t (Mirror k) ≡ Some range)
+          → (slot off : ℕ) → covers slot off range ≡ true → list_any (covered_at slot off) (mending_writes images kept t) ≡ true → ⊥
       not_freshened k lt sure range whole slot off c written =
-          by (fresh images kept.failing t) refl
-          (subst (λ b. list_any (covered_at slot off) (cond b (fresh_writes images kept.failing t) (block_writes images t)) ≡ true) loose written)
+          by (fresh images kept t) refl
+          (subst (λ b. list_any (covered_at slot off) (cond b (fresh_writes images kept t) (block_writes images t)) ≡ true) sector written)
         where
-          stale : (o : Option (List ℕ)) → In (Mirror k) (option_map_or (stale_beside images kept.failing t) o []) → is_on_behind kept.failing t (Mirror k) ≡ true
+          stale : (o : Option (List ℕ)) → In (Mirror k) (option_map_or (stale_beside images kept t) o []) → is_on_behind kept t (Mirror k) ≡ true
           stale None i = absurd i
           stale (Some bytes) i =
-              let p = passing_filter (is_stale images kept.failing t bytes) (Mirror k) (own_parts t) i in
-              (and_parts (is_on_behind kept.failing t (Mirror k)) (not (bytes_eq (element images t (Mirror k)) bytes)) p.1).0
+              let p = passing_filter (is_stale images kept t bytes) (Mirror k) (own_parts t) i in
+              (and_parts (is_on_behind kept t (Mirror k)) (not (bytes_eq (element images t (Mirror k)) bytes)) p.1).0
 
-          by : (o : Option (List ℕ)) → fresh images kept.failing t ≡ o
-              → list_any (covered_at slot off) (option_map_or (λ bytes. copy_writes t bytes (stale_parts images kept.failing t)) o []) ≡ true → ⊥
+          by : (o : Option (List ℕ)) → fresh images kept t ≡ o
+              → list_any (covered_at slot off) (option_map_or (λ bytes. copy_writes t bytes (stale_parts images kept t)) o []) ≡ true → ⊥
           by None e h = false≢true h
           by (Some bytes) e h =
-              not_over k lt range whole bytes (stale_parts images kept.failing t) (stale_own kept.failing images t)
-              (λ i. false≢true (sym (sure_not_behind kept.failing t (Mirror k) sure) ∙ stale (fresh images kept.failing t) i)) slot off c h
+              not_over k lt range whole bytes (stale_parts images kept t) (stale_own kept images t)
+              (λ i. false≢true (sym (sure_not_behind kept t (Mirror k) sure) ∙ stale (fresh images kept t) i)) slot off c h
 
-      fresh_stays : (left : Images) → KeepsOutside ranges images left → fresh left kept.failing t ≡ fresh images kept.failing t
-      fresh_stays left keeps = by (first_trusted kept.failing t) refl
+      fresh_stays : (left : Images) → KeepsOutside ranges images left → fresh left kept t ≡ fresh images kept t
+      fresh_stays left keeps = by (first_trusted kept t) refl
         where
-          same : (c : Candidate) → IsTrusted kept.failing t c → value_of left t c ≡ value_of images t c
+          same : (c : Candidate) → IsTrusted kept t c → value_of left t c ≡ value_of images t c
           same c trusted =
               let j = of_mapped (λ copy. Read (Mirror copy)) c (range_with_len 0 n) (subst (In c) (with_copies t n has) (in_ways t c trusted.there)) in
               let lt = in_below n j.0 j.1 in
               let stand : (is_some (range_of t (Mirror j.0)) && true) ≡ true = ap (stands t) j.2 ∙ trusted.stand in
               let given = (and_parts (is_some (range_of t (Mirror j.0))) true stand).0 in
               let r = some_of (range_of t (Mirror j.0)) given in
-              let sure : (is_on_doubtful kept.failing t (Mirror j.0) || false) ≡ false = ap (reads_doubtful kept.failing t) j.2 ∙ trusted.sure in
+              let sure : (is_on_doubtful kept t (Mirror j.0) || false) ≡ false = ap (reads_doubtful kept t) j.2 ∙ trusted.sure in
               sym (ap (value_of left t) j.2)
-              ∙ stays j.0 lt r.0 r.1 (not_freshened j.0 lt (left_false (is_on_doubtful kept.failing t (Mirror j.0)) false sure) r.0 r.1) left keeps
+              ∙ stays j.0 lt r.0 r.1 (not_freshened j.0 lt (left_false (is_on_doubtful kept t (Mirror j.0)) false sure) r.0 r.1) left keeps
               ∙ ap (value_of images t) j.2
 
-          by : (o : Option Candidate) → first_trusted kept.failing t ≡ o → option_map (value_of left t) o ≡ option_map (value_of images t) o
+          by : (o : Option Candidate) → first_trusted kept t ≡ o → option_map (value_of left t) o ≡ option_map (value_of images t) o
           by None e = refl
-          by (Some c) e = ap Some (same c (trusted_from kept.failing t c e))
-
-  -- ---- all blocks
-
-  pub block_outlives : (left : Images) (t : Target) → In t ts → is_loose t ≡ false → KeepsOutside ranges images left → StandsFor left C t
-  block_outlives left t among checked keeps = by (mirrors t.chunk) refl
-    where
-      is : IsSought layout t
-      is = let w = of_targets layout t wants among in is_sought layout w.0 t w.2
-
-      by : (o : Option ℕ) → mirrors t.chunk ≡ o → StandsFor left C t
-      by None parity = row_outlives t among is parity left keeps
-      by (Some n) has = copies_outlive t among is n has checked left keeps
+          by (Some c) e = ap Some (same c (trusted_from kept t c e))
 
   -- ---- all plain sectors with copies
 
-  pub fresh_outlives : (left : Images) (t : Target) → In t ts → is_loose t ≡ true → KeepsOutside ranges images left
-      → fresh left kept.failing t ≡ fresh images kept.failing t
-  fresh_outlives left t among loose keeps = by (mirrors t.chunk) refl
-    where
-      is : IsSought layout t
-      is = let w = of_targets layout t wants among in is_sought layout w.0 t w.2
+  pub fresh_outlives : (left : Images) (t : Target) → In t ts → is_plain t.want ≡ true → IsSome (mirrors t.chunk) → KeepsOutside ranges images left
+      → fresh left kept t ≡ fresh images kept t
+  fresh_outlives left t among sector copies keeps =
+      let w = of_targets layout t wants among in
+      let n = some_of (mirrors t.chunk) copies in
+      fresh_stays t among (is_sought layout w.0 t w.2) n.0 n.1 sector left keeps
 
-      by : (o : Option ℕ) → mirrors t.chunk ≡ o → fresh left kept.failing t ≡ fresh images kept.failing t
-      by None parity = absurd (false≢true (sym (checked_there t parity) ∙ loose))
-      by (Some n) has = fresh_stays t among is n has loose left keeps
+  -- ---- blocks that can be had
+
+  module _ (C : Committed) (had : CanBeHad kept images layout C wants) where
+    in_wrong : (slot off : ℕ) → ForRow slot off → IsInWrong images layout C kept ts slot off
+    in_wrong slot off f =
+        let row = row_of kept ts f.chunk f.row in
+        row_writes_are_wrong images layout C kept ts row slot off table
+        (is_row kept images layout C wants table own none lengths had apart f.number f.chunk f.there f.row f.parity f.inside)
+        (sound_row kept images layout C wants table own none lengths had apart f.number f.chunk f.there f.row f.parity f.inside)
+        (right_there kept images layout C wants table own none lengths had apart f.number f.chunk f.there f.row f.parity f.inside)
+        (any_map (covers slot off) (λ (w : Write). w.range) (row_writes images layout row) ∙ f.written)
+
+    avoid : AvoidRight images layout C kept ts ranges
+    avoid slot off h = elim (for_what slot off h) [ inl c ↦ inr (in_copies slot off c) | inr f ↦ inl (in_wrong slot off f) ]
+
+    module _ (t : Target) (among : In t ts) (is : IsSought layout t) (checked : is_plain t.want ≡ false) where
+      -- ---- blocks of full stripes
+
+      module _ (parity : mirrors t.chunk ≡ None) where
+        fits : t.at.row * 65536 + 65536 ≤ stripe_length t.chunk
+        fits = omega (arith, row_fits layout table is.number t.chunk is.there parity (addr_of t.want) is.held, ap (λ (e : Elements). e.row) is.at)
+
+        mine : In t (row_of kept ts t.chunk t.at.row).blocks
+        mine = in_filter (is_in_row t.chunk t.at.row) t ts among
+            (and_from (eqb t.chunk.start t.chunk.start) (eqb t.at.row t.at.row) (eq-eqb t.chunk.start t.chunk.start refl) (eq-eqb t.at.row t.at.row refl))
+
+        row_outlives : HasRightPlace images C t ⊎ HasFewWrongAt images layout C (row_of kept ts t.chunk t.at.row) t → (left : Images)
+            → KeepsOutside ranges images left → StandsFor left C t
+        row_outlives spared left keeps =
+            row_outlives_writes images left layout C kept ts (row_of kept ts t.chunk t.at.row) ranges t table own lengths
+            (is_row kept images layout C wants table own none lengths had apart is.number t.chunk is.there t.at.row parity fits) avoid keeps
+            (sound_row kept images layout C wants table own none lengths had apart is.number t.chunk is.there t.at.row parity fits)
+            (right_passes kept images layout C wants table own none lengths had t is) spared mine checked
+
+      -- ---- blocks with copies
+
+      -- a right copy isn't written
+      module _ (n : ℕ) (has : mirrors t.chunk ≡ Some n) where
+        not_mended : (k : ℕ) (lt : k < n) → C t.want ≡ Some (element images t (Mirror k)) → (range : Range) (whole : range_of t (Mirror k) ≡ Some range)
+            → (slot off : ℕ) → covers slot off range ≡ true → list_any (covered_at slot off) (mending_writes images kept t) ≡ true → ⊥
+        not_mended k lt right range whole slot off c written =
+            by (accepted images t) refl
+            (subst (λ b. list_any (covered_at slot off) (cond b (fresh_writes images kept t) (block_writes images t)) ≡ true) checked written)
+          where
+            by : (o : Option (List ℕ)) → accepted images t ≡ o → list_any (covered_at slot off) (option_map_or (written_over images t) o []) ≡ true → ⊥
+            by None e h = false≢true h
+            by (Some bytes) e h =
+                not_over t among is n has k lt range whole bytes (bad_parts images t)
+                (λ part i. (passing_filter (λ part. not (is_sound images t part)) part (own_parts t) i).0)
+                (λ i. not_bad t among is n has (is_sound images t (Mirror k))
+                (passing_filter (λ part. not (is_sound images t part)) (Mirror k) (own_parts t) i).1
+                (right_is_sound kept images layout C wants table own none lengths had t among checked is (Mirror k) bytes e right)) slot off c h
+
+        copies_outlive : HasRightPlace images C t → (left : Images) → KeepsOutside ranges images left → StandsFor left C t
+        copies_outlive right_copy left keeps =
+            let a = in_any (λ part. C t.want ≡ Some (element images t part)) (own_parts t) right_copy in
+            let j = of_mapped Mirror a.0 (range_with_len 0 n) (subst (In a.0) (own_are t among is n has) a.1) in
+            let lt = in_below n j.0 j.1 in
+            let right : C t.want ≡ Some (element images t (Mirror j.0)) = a.2 ∙ ap (λ part. Some (element images t part)) (sym j.2) in
+            let given = part_is_given layout t (Mirror j.0) table is (has_mirror t n j.0 has lt) none in
+            let r = some_of (range_of t (Mirror j.0)) given in
+            any_in (λ c. (stands t c ≡ true) × (C t.want ≡ Some (value_of left t c))) (candidates t) (Read (Mirror j.0))
+            (in_candidates t (Read (Mirror j.0)) (subst (In (Read (Mirror j.0))) (sym (with_copies t n has))
+            (in_map (λ copy. Read (Mirror copy)) j.0 (range_with_len 0 n) j.1)))
+            (ap (λ b. b && true) given, right ∙ ap Some (sym (stays t among is n has j.0 lt r.0 r.1 (not_mended j.0 lt right r.0 r.1) left keeps)))
+
+    -- ---- all blocks
+
+    pub block_outlives : (left : Images) (t : Target) → In t ts → is_plain t.want ≡ false
+        → HasRightPlace images C t ⊎ ((mirrors t.chunk ≡ None) × HasFewWrongAt images layout C (row_of kept ts t.chunk t.at.row) t)
+        → KeepsOutside ranges images left → StandsFor left C t
+    block_outlives left t among checked spared keeps = by (mirrors t.chunk) refl spared
+      where
+        is : IsSought layout t
+        is = let w = of_targets layout t wants among in is_sought layout w.0 t w.2
+
+        by : (o : Option ℕ) → mirrors t.chunk ≡ o
+            → HasRightPlace images C t ⊎ ((mirrors t.chunk ≡ None) × HasFewWrongAt images layout C (row_of kept ts t.chunk t.at.row) t) → StandsFor left C t
+        by None parity (inl right) = row_outlives t among is checked parity (inl right) left keeps
+        by None parity (inr few) = row_outlives t among is checked parity (inr few.1) left keeps
+        by (Some n) has (inl right) = copies_outlive t among is checked n has right left keeps
+        by (Some n) has (inr few) = absurd (false≢true (sym (ap is_some few.0) ∙ ap is_some has))

@@ -9,7 +9,7 @@ use Rattle.btr_scrub_copies.specs.declared.mended.MendFault.{MendFault}
 use Rattle.btr_scrub.specs.Leaves.{KeepsOutside}
 use Rattle.btr_scrub.specs.Repair.{covers}
 use Rattle.btr_scrub.specs.Scrubbing.{chunk_writes_for}
-use Rattle.btr_scrub.specs.Whole.{WorksKeepTheRest, listed_doubts, listed_writes_for}
+use Rattle.btr_scrub.specs.Whole.{WorksKeepTheRest, listed_failing, listed_writes_for}
 use Rattle.btr_scrub.proofs.AcrossChunks.{chunk_short, flat_short}
 use Rattle.btr_scrub.proofs.Lists.{at_in}
 use Rattle.btr_scrub.proofs.Shorts.{Short, one_short, shorts_keep, shorts_keep_if}
@@ -77,19 +77,19 @@ stopped_if false images left ws all s =
     record { count = none.count; lengths = none.lengths; bytes = λ slot off e. none.bytes slot off refl }
 
 pub works_keep_the_rest : WorksKeepTheRest
-works_keep_the_rest layout write wants plain count old new t u result images left table own given lengths held is h = by result h.does.held
+works_keep_the_rest layout write wants count old new t u result images left table own given lengths held is h = by result h.does.held
   where
-    shorts : All (Short images) (listed_writes_for layout wants plain images)
-    shorts = flat_short images (λ c. chunk_writes_for (listed_doubts layout wants plain images) layout c wants images) layout.chunks (λ c i. let j = at_in c layout.chunks i in chunk_short (listed_doubts layout wants plain images) layout table own given j.0 c j.1 wants images lengths)
+    shorts : All (Short images) (listed_writes_for layout wants images)
+    shorts = flat_short images (λ c. chunk_writes_for (listed_failing layout wants images) layout c wants images) layout.chunks (λ c i. let j = at_in c layout.chunks i in chunk_short (listed_failing layout wants images) layout table own given j.0 c j.1 wants images lengths)
 
-    by : (r : Result (Unit {0}) MendFault) → Leaves (λ images. writes_if write (listed_writes_for layout wants plain images)) old.held new.held r
-        → KeepsOutside (ranges (listed_writes_for layout wants plain images)) images left
+    by : (r : Result (Unit {0}) MendFault) → Leaves (λ images. writes_if write (listed_writes_for layout wants images)) old.held new.held r
+        → KeepsOutside (ranges (listed_writes_for layout wants images)) images left
     by (Ok x) l =
-        let after : new.held ≡ Some (fold write_on images (writes_if write (listed_writes_for layout wants plain images))) = subst (λ o. Leaves {A = Unit {0}} {E = MendFault} (λ images. writes_if write (listed_writes_for layout wants plain images)) o new.held (Ok x)) held l in
-        subst (KeepsOutside (ranges (listed_writes_for layout wants plain images)) images)
-        (same_Some (fold write_on images (writes_if write (listed_writes_for layout wants plain images))) left (sym after ∙ is))
-        (shorts_keep_if write images (listed_writes_for layout wants plain images) shorts)
+        let after : new.held ≡ Some (fold write_on images (writes_if write (listed_writes_for layout wants images))) = subst (λ o. Leaves {A = Unit {0}} {E = MendFault} (λ images. writes_if write (listed_writes_for layout wants images)) o new.held (Ok x)) held l in
+        subst (KeepsOutside (ranges (listed_writes_for layout wants images)) images)
+        (same_Some (fold write_on images (writes_if write (listed_writes_for layout wants images))) left (sym after ∙ is))
+        (shorts_keep_if write images (listed_writes_for layout wants images) shorts)
     by (Err e) l =
-        let stopped : IsSomeAnd new.held (IsStopped (writes_if write (listed_writes_for layout wants plain images)) images) = subst (λ o. Leaves {A = Unit {0}} {E = MendFault} (λ images. writes_if write (listed_writes_for layout wants plain images)) o new.held (Err e)) held l in
-        stopped_if write images left (listed_writes_for layout wants plain images) shorts
-        (subst (λ o. IsSomeAnd o (IsStopped (writes_if write (listed_writes_for layout wants plain images)) images)) is stopped)
+        let stopped : IsSomeAnd new.held (IsStopped (writes_if write (listed_writes_for layout wants images)) images) = subst (λ o. Leaves {A = Unit {0}} {E = MendFault} (λ images. writes_if write (listed_writes_for layout wants images)) o new.held (Err e)) held l in
+        stopped_if write images left (listed_writes_for layout wants images) shorts
+        (subst (λ o. IsSomeAnd o (IsStopped (writes_if write (listed_writes_for layout wants images)) images)) is stopped)

@@ -1,5 +1,5 @@
 -- Plain sectors of a chunk no image of which is behind are passed at once.
-use Rattle.std.proofs.Common.{◌≡◌, ℕ, ◌+◌, ◌<◌, ◌≤◌, ◌&&◌, Bool, true, false, cond, List, [], ◌∷◌, ◌++◌, slice_get, IsSome, is_some, Some, Result, Ok, refl, sym, ap, ◌∙◌}
+use Rattle.std.proofs.Common.{◌≡◌, ℕ, ◌+◌, ◌<◌, ◌≤◌, Bool, true, false, cond, List, [], ◌∷◌, ◌++◌, slice_get, Some, Ok, refl, sym, ap, ◌∙◌}
 use Rattle.std.proofs.Common.{subst, inl, inr, arith, append_assoc, append-nil}
 use Rattle.std.proofs.lemmas.Grind.{flat_map-append}
 use Rattle.std.specs.List.{fold}
@@ -8,22 +8,23 @@ use Rattle.btr_chunk.specs.Table.{IsTable}
 use Rattle.btr_chunk.specs.declared.chunk.Chunk.{Chunk}
 use Rattle.btr_rack.specs.Rack.{Seen}
 use Rattle.btr_read.specs.Candidates.{Target, size_of}
-use Rattle.btr_read.specs.Fate.{is_plain, sought}
+use Rattle.btr_read.specs.Fate.{is_plain}
 use Rattle.btr_read.specs.Layout.{Layout}
 use Rattle.btr_read.specs.Want.{addr_of, len_of}
 use Rattle.btr_read.specs.declared.want.Want.{Want}
 use Rattle.btr_read.proofs.Fates.{sought_of}
 use Rattle.btr_scrub_copies.specs.Blocks.{block_writes}
-use Rattle.btr_scrub_copies.specs.Mending.{IsCopied, mended_of}
+use Rattle.btr_scrub_copies.specs.Mending.{mended_of}
 use Rattle.btr_scrub_copies.specs.Syncing.{plain}
 use Rattle.btr_scrub_copies.specs.Writes.{Images, Write, write_on, writes_if}
 use Rattle.btr_scrub_copies.specs.Fresh.{Failing, fresh_writes, freshened}
+use Rattle.btr_scrub_row.specs.Wanted.{mending_writes}
 use Rattle.btr_scrub.specs.Glue.{In}
 use Rattle.btr_scrub.specs.Judged.{has_behind}
 use Rattle.btr_scrub.specs.Leaves.{alone}
 use Rattle.btr_scrub.specs.Listed.{PassesIf}
 use Rattle.btr_scrub.specs.Order.{IsSought, targets}
-use Rattle.btr_scrub.specs.Repair.{is_loose, mending_writes, stood}
+use Rattle.btr_scrub.specs.Repair.{stood}
 use Rattle.btr_scrub.specs.Scrubbing.{IsOfScrub, Scrubs, count_site, counted, counted_plain, sites_count, sites_writes}
 use Rattle.btr_scrub.specs.declared.tally.Tally.{Tally}
 use Rattle.btr_scrub.proofs.Blockwise.{IsNext, IsUnderway, fold_append, in_append, next_block, one_target}
@@ -32,26 +33,11 @@ use Rattle.btr_scrub.proofs.Scrubbing.{held_after, scrubs_as, told}
 
 -- ---- what is a plain sector
 
--- what a want with copies is of, by the want
-pub loose_is : (layout : Layout) (want : Want) (t : Target) → IsCopied layout want → sought layout want ≡ Ok t → is_loose t ≡ is_plain want
-loose_is layout want t copied e =
-    let same : copied.target ≡ t = same_ok copied.target t (sym copied.is_sought ∙ e) in
-    ap (λ w. is_plain w && is_some (mirrors t.chunk)) (sought_of layout want t e).want_is
-    ∙ ap (λ b. is_plain want && b) (subst (λ (u : Target). IsSome (mirrors u.chunk)) same copied.copies)
-    ∙ and_true (is_plain want)
-  where
-    same_ok : {E : Type 0} (t u : Target) → ◌≡◌ {A = Result Target E} (Ok t) (Ok u) → t ≡ u
-    same_ok t u e = cc
-
-    and_true : (b : Bool) → (b && true) ≡ b
-    and_true true = refl
-    and_true false = refl
-
 -- what is written for a plain sector and counted, and for a checked block
-pub as_plain : (fails : Failing) (images : Images) (t : Target) → is_loose t ≡ true → mending_writes images fails t ≡ fresh_writes images fails t
+pub as_plain : (fails : Failing) (images : Images) (t : Target) → is_plain t.want ≡ true → mending_writes images fails t ≡ fresh_writes images fails t
 as_plain fails images t e = ap (λ b. cond b (fresh_writes images fails t) (block_writes images t)) e
 
-pub counts_as_plain : (fails : Failing) (images : Images) (write : Bool) (tally : Tally) (t : Target) → is_loose t ≡ true
+pub counts_as_plain : (fails : Failing) (images : Images) (write : Bool) (tally : Tally) (t : Target) → is_plain t.want ≡ true
     → count_site fails images write tally t ≡ counted_plain tally (freshened images fails t write)
 counts_as_plain fails images write tally t e =
     ap (λ b. cond b (counted_plain tally (freshened images fails t write)) (counted tally (mended_of images t write))) e
@@ -84,17 +70,15 @@ module _ (fails : Failing) (layout : Layout) (write : Bool) (table : IsTable lay
     calm_there : has_behind layout.devices fails t.chunk ≡ false
     calm_there = ap (has_behind layout.devices fails) next.mine ∙ calm
 
-    loose : is_loose t ≡ true
-    loose =
-        ap (λ w. is_plain w && is_some (mirrors t.chunk)) (sought_of layout want t next.is_sought).want_is
-        ∙ ap (λ b. b && is_some (mirrors t.chunk)) is_bare ∙ ap is_some has
+    is_sector : is_plain t.want ≡ true
+    is_sector = ap is_plain (sought_of layout want t next.is_sought).want_is ∙ is_bare
 
     none_written : (images : Images) → mending_writes images fails t ≡ []
-    none_written images = as_plain fails images t loose ∙ none_fresh fails layout t n table next.is has calm_there images
+    none_written images = as_plain fails images t is_sector ∙ none_fresh fails layout t n table next.is has calm_there images
 
     none_counted : (images : Images) (u : Tally) → count_site fails images write u t ≡ counted_plain u nothing
     none_counted images u =
-        counts_as_plain fails images write u t loose ∙ ap (counted_plain u) (none_freshened fails layout t n table next.is has calm_there images write)
+        counts_as_plain fails images write u t is_sector ∙ ap (counted_plain u) (none_freshened fails layout t n table next.is has calm_there images write)
 
     -- the counts with it stay as they are with another one
     pub settled : (p : Images → List Write) (c : Images → Tally → Tally) (m m' m'' : List Bool) (a b z : Seen) (tally tally' tally'' : Tally)

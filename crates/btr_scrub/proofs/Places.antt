@@ -1,7 +1,7 @@
 -- Each byte of a device is of one stripe, and of one element, at most.
 use Rattle.std.proofs.Common.{◌≡◌, ℕ, ◌+◌, ◌*◌, ◌<◌, ◌≤◌, true, ◌&&◌, eqb, leb, ltb, length, Option, Some, None, IsSome, IsSomeAnd, slice_get, refl, sym, ap}
 use Rattle.std.proofs.Common.{◌∙◌, subst, arith}
-use Rattle.std.proofs.lemmas.Bool.{and_parts, eqb-true, leb-true, ltb-true}
+use Rattle.std.proofs.lemmas.Bool.{and_from, and_parts, eq-eqb, eqb-true, le-leb, leb-true, lt-ltb, ltb-true}
 use Rattle.std.proofs.lemmas.Option.{same_Some}
 use Rattle.btr_chunk.specs.Chunk.{IsChunk}
 use Rattle.btr_chunk.specs.Mapping.{HasPart, IsPosition, place_at, stripe_of}
@@ -40,6 +40,11 @@ covering slot off range e =
     let a = and_parts (eqb range.slot slot && leb range.off off) (ltb off (range.off + range.len)) e in
     let b = and_parts (eqb range.slot slot) (leb range.off off) a.0 in
     (eqb-true range.slot slot b.0, leb-true range.off off b.1, ltb-true off (range.off + range.len) a.1)
+
+pub covered : (slot off len i : ℕ) → off ≤ i → i < off + len → covers slot i (range_in slot off len) ≡ true
+covered slot off len i le lt =
+    and_from (eqb slot slot && leb off i) (ltb i (off + len)) (and_from (eqb slot slot) (leb off i) (eq-eqb slot slot refl) (le-leb off i le))
+    (lt-ltb i (off + len) lt)
 
 is_some_of : (o : Option Range) (P : Range → Type 0) → IsSomeAnd o P → IsSome o
 is_some_of None P h = absurd h

@@ -17,7 +17,8 @@ use Rattle.btr_walk.specs.declared.fault.TreeFault.TheVariants as tree
 use Rattle.btr_scrub.specs.Judging.{JudgedOne}
 use Rattle.btr_scrub.proofs.Positions.{left_false, not_above}
 
-not_ok : (r : Result Target Fault) (f : Fault) → r ≡ Err f → IsOk r → ⊥
+-- a refusal is no value
+pub not_ok : (r : Result Target Fault) (f : Fault) → r ≡ Err f → IsOk r → ⊥
 not_ok r f e h = false≢true (subst IsOk e h)
 
 -- bytes that have a position end in their chunk
@@ -34,8 +35,8 @@ ends_inside chunk addr len at e = by (holds chunk addr) (crosses chunk addr len)
 module _ (layout : Layout) (from : ℕ) (want : Want) (addr : ℕ) (is : addr ≡ addr_of want) where
   pub no_chunk : None ≡ chunk_at layout.chunks addr → JudgedOne layout from want (Err (tree.Unmapped addr))
   no_chunk e =
-      let none : sought layout want ≡ Err (Unmapped addr) = ap (λ a. sought_in layout want (chunk_at layout.chunks a)) (sym is) ∙ ap (sought_in layout want) (sym e) ∙ ap (λ a. Err (Unmapped a)) (sym is) in
-      ((want, none), λ _. not_ok (sought layout want) (Unmapped addr) none)
+      ap (λ a. sought_in layout want (chunk_at layout.chunks a)) (sym is) ∙ ap (sought_in layout want) (sym e)
+      ∙ ap (λ a. Err (Unmapped a)) (sym is)
 
   module _ (chunk : Chunk) (len : ℕ) (there : Some chunk ≡ chunk_at layout.chunks addr) (long : len ≡ len_of layout.setting want) where
     at_chunk : (r : Result Elements MapFault) → r ≡ elements_of chunk addr len → sought layout want ≡ sought_at layout want chunk r
@@ -45,14 +46,10 @@ module _ (layout : Layout) (from : ℕ) (want : Want) (addr : ℕ) (is : addr �
         ∙ ap (λ n. sought_at layout want chunk (elements_of chunk addr n)) (sym long) ∙ ap (sought_at layout want chunk) (sym e)
 
     pub not_in_chunk : Err map_fault.Unmapped ≡ elements_of chunk addr len → JudgedOne layout from want (Err (tree.Unmapped addr))
-    not_in_chunk e =
-        let none : sought layout want ≡ Err (Unmapped addr) = at_chunk (Err map_fault.Unmapped) e ∙ ap (λ a. Err (Unmapped a)) (sym is) in
-        ((want, none), λ _. not_ok (sought layout want) (Unmapped addr) none)
+    not_in_chunk e = at_chunk (Err map_fault.Unmapped) e ∙ ap (λ a. Err (Unmapped a)) (sym is)
 
     pub crosses_there : Err map_fault.Crosses ≡ elements_of chunk addr len → JudgedOne layout from want (Err (tree.Crosses addr))
-    crosses_there e =
-        let none : sought layout want ≡ Err (Crosses addr) = at_chunk (Err map_fault.Crosses) e ∙ ap (λ a. Err (Crosses a)) (sym is) in
-        ((want, none), λ _. not_ok (sought layout want) (Crosses addr) none)
+    crosses_there e = at_chunk (Err map_fault.Crosses) e ∙ ap (λ a. Err (Crosses a)) (sym is)
 
     pub is_placed : (at : Elements) → Ok at ≡ elements_of chunk addr len → IsOk (sought layout want)
     is_placed at e = subst IsOk (sym (at_chunk (Ok at) e)) refl

@@ -1,6 +1,6 @@
 -- What is written for a full stripe hangs on the bytes of its elements alone.
-use Rattle.std.proofs.Common.{◌≡◌, ◌⊎◌, ℕ, ◌*◌, ◌<◌, Bool, not, cond, ◌&&◌, ◌||◌, eqb, List, [], ◌∷◌, ◌++◌, map, length, slice_get, set, Option, Some, None}
-use Rattle.std.proofs.Common.{IsNone, is_some, refl, sym, ap, ◌∙◌, subst, inl, inr}
+use Rattle.std.proofs.Common.{◌≡◌, ◌⊎◌, ℕ, ◌*◌, ◌<◌, Bool, false, not, cond, ◌&&◌, ◌||◌, eqb, List, [], ◌∷◌, ◌++◌, map, length, slice_get, set, Option, Some, None}
+use Rattle.std.proofs.Common.{IsNone, is_none, is_some, nat_lt, refl, sym, ap, ◌∙◌, subst, inl, inr}
 use Rattle.std.specs.List.{filter, filter_map, flat_map, fold, list_all, list_any, range_with_len}
 use Rattle.std.specs.Option.{option_map, option_map_or}
 use Rattle.std.specs.Str.{bytes_eq}
@@ -22,13 +22,16 @@ use Rattle.btr_read.specs.declared.candidate.Candidate.{Candidate}
 use Rattle.btr_read.specs.declared.candidate.Candidate.TheVariants.{Read, ByP, ByQ, ByBoth}
 use Rattle.btr_read.proofs.Ones.{in_below}
 use Rattle.btr_read.proofs.Order.{in_ways}
-use Rattle.btr_scrub_copies.specs.Blocks.{accepted, block_writes, is_sound, own_parts}
+use Rattle.btr_read.specs.Fate.{is_plain}
+use Rattle.btr_scrub_copies.specs.Blocks.{accepted, bad_parts, block_writes, is_sound, own_parts}
+use Rattle.btr_scrub_copies.specs.Fresh.{Failing, fresh, fresh_writes, stale_parts}
+use Rattle.btr_scrub_row.specs.Wanted.{is_checked, is_lost_block, mending_writes, new_bytes, renewed, wrong_parts}
 use Rattle.btr_scrub_copies.specs.Writes.{Images}
 use Rattle.btr_scrub_row.specs.Rows as rows
-use Rattle.btr_scrub_row.specs.Rows.{Row, blocks_at, column_of, differing, differs, element_with, is_decided, meets, parities, parity_writes, range_in_element}
+use Rattle.btr_scrub_row.specs.Rows.{Row, blocks_at, column_of, differing, differs, element_with, is_decided, is_sure, is_surer, meets, parities, parity_writes, range_in_element}
 use Rattle.btr_scrub_row.specs.Rows.{row_writes, sector_write, slice_with, slices_with, with_block}
 use Rattle.btr_scrub.specs.Glue.{In}
-use Rattle.btr_scrub.proofs.Agreeing.{Alike, filter_map_same, filter_same, of_mapped, writes_alike}
+use Rattle.btr_scrub.proofs.Agreeing.{Alike, filter_map_same, filter_same, fresh_same, fresh_writes_same, of_mapped, stale_same, writes_alike}
 use Rattle.btr_scrub.proofs.Survival.{of_filter}
 
 -- ---- lists
@@ -51,6 +54,13 @@ all_same f g (x ∷ xs) h = ap (λ b. b && list_all f xs) (h x (inl refl)) ∙ a
 
 -- ---- one block
 
+-- what comes of a block of a row is the same, in other images and beside others that fail
+pub record BlockAlike (fails also : Failing) (images images' : Images) (t : Target) : Type 0 where
+  pub writes : mending_writes images' also t ≡ mending_writes images fails t
+  pub wrong : wrong_parts images' also t ≡ wrong_parts images fails t
+  pub bytes : new_bytes images' also t ≡ new_bytes images fails t
+  pub lost : is_lost_block images' t ≡ is_lost_block images t
+
 module _ (images images' : Images) (t : Target) (none : mirrors t.chunk ≡ None) (index : t.at.index < slice_count t)
     (same : (part : Part) → HasPart t.chunk.profile (length t.chunk.stripes) part → element images' t part ≡ element images t part) where
   slice_has : (k : ℕ) → k < slice_count t → HasPart t.chunk.profile (length t.chunk.stripes) (part.Slice k)
@@ -63,14 +73,11 @@ module _ (images images' : Images) (t : Target) (none : mirrors t.chunk ≡ None
   same_p : element images' t part.P ≡ element images t part.P
   same_p = same part.P (subst IsNone (sym none) refl)
 
-  by_value : (c : Candidate) → value_of images' t c ≡ value_of images t c → reading images' t c ≡ reading images t c
-  by_value c e = ap (λ bytes. cond (stands t c) (Some bytes) None) e
+  own_value : value_of images' t (Read (part.Slice t.at.index)) ≡ value_of images t (Read (part.Slice t.at.index))
+  own_value = same (part.Slice t.at.index) (slice_has t.at.index index)
 
-  own_value : reading images' t (Read (part.Slice t.at.index)) ≡ reading images t (Read (part.Slice t.at.index))
-  own_value = by_value (Read (part.Slice t.at.index)) (same (part.Slice t.at.index) (slice_has t.at.index index))
-
-  p_value : reading images' t ByP ≡ reading images t ByP
-  p_value = by_value ByP (
+  p_value : value_of images' t ByP ≡ value_of images t ByP
+  p_value = (
       ap (λ ss. the_one (size_of t) (λ X. bytes_eq (parity_p (size_of t) (set ss t.at.index X)) (element images' t part.P))) same_slices
       ∙ ap (λ p. the_one (size_of t) (λ X. bytes_eq (parity_p (size_of t) (set (slices images t) t.at.index X)) p)) same_p)
 
@@ -78,13 +85,13 @@ module _ (images images' : Images) (t : Target) (none : mirrors t.chunk ≡ None
     same_q : element images' t part.Q ≡ element images t part.Q
     same_q = same part.Q six
 
-    q_value : reading images' t ByQ ≡ reading images t ByQ
-    q_value = by_value ByQ (
+    q_value : value_of images' t ByQ ≡ value_of images t ByQ
+    q_value = (
         ap (λ ss. the_one (size_of t) (λ X. bytes_eq (parity_q (size_of t) (set ss t.at.index X)) (element images' t part.Q))) same_slices
         ∙ ap (λ q. the_one (size_of t) (λ X. bytes_eq (parity_q (size_of t) (set (slices images t) t.at.index X)) q)) same_q)
 
-    both_value : (j : ℕ) → reading images' t (ByBoth j) ≡ reading images t (ByBoth j)
-    both_value j = by_value (ByBoth j) (
+    both_value : (j : ℕ) → value_of images' t (ByBoth j) ≡ value_of images t (ByBoth j)
+    both_value j = (
         ap (λ ss. the_one (size_of t) (λ X. list_any (λ Y. bytes_eq (parity_p (size_of t) (set (set ss j Y) t.at.index X)) (element images' t part.P)
         && bytes_eq (parity_q (size_of t) (set (set ss j Y) t.at.index X)) (element images' t part.Q)) (byte_lists (size_of t)))) same_slices
         ∙ ap (λ p. the_one (size_of t) (λ X. list_any (λ Y. bytes_eq (parity_p (size_of t) (set (set (slices images t) j Y) t.at.index X)) p &&
@@ -95,21 +102,21 @@ module _ (images images' : Images) (t : Target) (none : mirrors t.chunk ≡ None
   all : (o : Option ℕ) → mirrors t.chunk ≡ o → ways t ≡ option_map_or copies o (rebuilt t.chunk.profile (slice_count t) t.at.index)
   all o e = ap (λ o. option_map_or copies o (rebuilt t.chunk.profile (slice_count t) t.at.index)) e
 
-  with_five : t.chunk.profile ≡ Raid5 → (c : Candidate) → In c (rebuilt Raid5 (slice_count t) t.at.index) → reading images' t c ≡ reading images t c
-  with_five five c (inl e) = subst (λ d. reading images' t d ≡ reading images t d) e own_value
-  with_five five c (inr (inl e)) = subst (λ d. reading images' t d ≡ reading images t d) e p_value
+  with_five : t.chunk.profile ≡ Raid5 → (c : Candidate) → In c (rebuilt Raid5 (slice_count t) t.at.index) → value_of images' t c ≡ value_of images t c
+  with_five five c (inl e) = subst (λ d. value_of images' t d ≡ value_of images t d) e own_value
+  with_five five c (inr (inl e)) = subst (λ d. value_of images' t d ≡ value_of images t d) e p_value
   with_five five c (inr (inr i)) = absurd i
 
-  with_six : t.chunk.profile ≡ Raid6 → (c : Candidate) → In c (rebuilt Raid6 (slice_count t) t.at.index) → reading images' t c ≡ reading images t c
-  with_six six c (inl e) = subst (λ d. reading images' t d ≡ reading images t d) e own_value
-  with_six six c (inr (inl e)) = subst (λ d. reading images' t d ≡ reading images t d) e p_value
-  with_six six c (inr (inr (inl e))) = subst (λ d. reading images' t d ≡ reading images t d) e (q_value six)
+  with_six : t.chunk.profile ≡ Raid6 → (c : Candidate) → In c (rebuilt Raid6 (slice_count t) t.at.index) → value_of images' t c ≡ value_of images t c
+  with_six six c (inl e) = subst (λ d. value_of images' t d ≡ value_of images t d) e own_value
+  with_six six c (inr (inl e)) = subst (λ d. value_of images' t d ≡ value_of images t d) e p_value
+  with_six six c (inr (inr (inl e))) = subst (λ d. value_of images' t d ≡ value_of images t d) e (q_value six)
   with_six six c (inr (inr (inr i))) =
       let r = of_mapped ByBoth c (others (slice_count t) t.at.index) i in
-      subst (λ d. reading images' t d ≡ reading images t d) r.2 (both_value six r.0)
+      subst (λ d. value_of images' t d ≡ value_of images t d) r.2 (both_value six r.0)
 
-  reads : (c : Candidate) → In c (candidates t) → reading images' t c ≡ reading images t c
-  reads c i = elim (without_copies t.chunk.profile (length t.chunk.stripes) none) [
+  pub values : (c : Candidate) → In c (candidates t) → value_of images' t c ≡ value_of images t c
+  values c i = elim (without_copies t.chunk.profile (length t.chunk.stripes) none) [
     | inl five ↦ with_five five c (subst (λ p. In c (rebuilt p (slice_count t) t.at.index)) five (subst (In c) (all None none) (in_ways t c i)))
     | inr six ↦ with_six six c (subst (λ p. In c (rebuilt p (slice_count t) t.at.index)) six (subst (In c) (all None none) (in_ways t c i)))
   ]
@@ -122,12 +129,37 @@ module _ (images images' : Images) (t : Target) (none : mirrors t.chunk ≡ None
       (ap (λ bytes. not (passes t.setting t.want bytes)) (same (part.Slice t.at.index) (slice_has t.at.index index)))
   bads q (inr i) = absurd i
 
-  -- a block whose slices and parities are the same
-  pub parity_alike : Alike images images' t
-  parity_alike = record {
+  reads : (c : Candidate) → In c (candidates t) → reading images' t c ≡ reading images t c
+  reads c i = ap (λ bytes. cond (stands t c) (Some bytes) None) (values c i)
+
+  alike : Alike images images' t
+  alike = record {
     bad = filter_same (λ q. not (is_sound images' t q)) (λ q. not (is_sound images t q)) (own_parts t) (λ q i. bads q (subst (In q) own i));
     accepted = ap (λ xs. slice_get (filter (passes t.setting t.want) xs) 0) (filter_map_same (reading images' t) (reading images t) (candidates t) reads);
   }
+
+  owns : (q : Part) → In q (own_parts t) → element images' t q ≡ element images t q
+  owns q i = by q (subst (In q) own i)
+    where
+      by : (q : Part) → In q (part.Slice t.at.index ∷ []) → element images' t q ≡ element images t q
+      by q (inl e) = subst (λ q. element images' t q ≡ element images t q) e (same (part.Slice t.at.index) (slice_has t.at.index index))
+      by q (inr i) = absurd i
+
+  -- a block whose slices and parities are the same
+  pub parity_alike : (fails : Failing) → BlockAlike fails fails images images' t
+  parity_alike fails =
+      let p = is_plain t.want in
+      let fresh' = fresh_same images images' t values owns fails in
+      let stale = stale_same images images' t values owns fails in
+      record {
+        writes = ap (λ w. cond p w (block_writes images' t)) (fresh_writes_same images images' t values owns fails)
+            ∙ ap (λ w. cond p (fresh_writes images fails t) w) (writes_alike images images' t alike);
+        wrong = ap (λ ps. cond p ps (bad_parts images' t)) stale ∙ ap (λ ps. cond p (stale_parts images fails t) ps) alike.bad;
+        bytes = ap (λ ps. cond p (cond (nat_lt 0 (length ps)) (fresh images' fails t) None) (accepted images' t)) stale
+            ∙ ap (λ o. cond p (cond (nat_lt 0 (length (stale_parts images fails t))) o None) (accepted images' t)) fresh'
+            ∙ ap (λ o. cond p (renewed images fails t) o) alike.accepted;
+        lost = ap (λ o. is_checked t && is_none o) alike.accepted;
+      }
 
 -- ---- a row
 
@@ -147,65 +179,96 @@ parity_has p n q none i = elim (without_copies p n none) [
     with_two (inr (inl e)) = subst (λ q. HasPart Raid6 n q × ((q ≡ part.P) ⊎ (q ≡ part.Q))) e (refl, inr refl)
     with_two (inr (inr h)) = absurd h
 
+-- a row, beside other images that fail
+abbrev pub beside : Failing → Row → Row
+beside also row = record { chunk = row.chunk; number = row.number; blocks = row.blocks; failing = also }
+
 -- what is told of a row
-pub record RowAlike (images images' : Images) (layout : Layout) (row : Row) : Type 0 where
-  pub blocks : (t : Target) → In t row.blocks → Alike images images' t
-  pub parities : (q : Part) → In q (parities row.chunk.profile) → parity_writes images' layout row q ≡ parity_writes images layout row q
+pub record RowAlike (images images' : Images) (layout : Layout) (row : Row) (also : Failing) : Type 0 where
+  pub blocks : (t : Target) → In t row.blocks → BlockAlike row.failing also images images' t
+  pub parities : (q : Part) → In q (parities row.chunk.profile) → parity_writes images' layout (beside also row) q ≡ parity_writes images layout row q
 
-pub row_writes_alike : (images images' : Images) (layout : Layout) (row : Row) → RowAlike images images' layout row → row_writes images' layout row
+pub row_writes_alike : (images images' : Images) (layout : Layout) (row : Row) (also : Failing) → RowAlike images images' layout row also → row_writes images' layout (beside also row)
     ≡ row_writes images layout row
-row_writes_alike images images' layout row a =
-    ap (λ ws. ws ++ flat_map (parity_writes images' layout row) (parities row.chunk.profile))
-    (flat_same (block_writes images') (block_writes images) row.blocks (λ t i. writes_alike images images' t (a.blocks t i)))
-    ∙ ap (λ ws. flat_map (block_writes images) row.blocks ++ ws)
-    (flat_same (parity_writes images' layout row) (parity_writes images layout row) (parities row.chunk.profile) a.parities)
+row_writes_alike images images' layout row also a =
+    ap (λ ws. ws ++ flat_map (parity_writes images' layout (beside also row)) (parities row.chunk.profile))
+    (flat_same (mending_writes images' also) (mending_writes images row.failing) row.blocks (λ t i. (a.blocks t i).writes))
+    ∙ ap (λ ws. flat_map (mending_writes images row.failing) row.blocks ++ ws)
+    (flat_same (parity_writes images' layout (beside also row)) (parity_writes images layout row) (parities row.chunk.profile) a.parities)
 
-module _ (images images' : Images) (layout : Layout) (row : Row) (none : mirrors row.chunk ≡ None)
-    (same : (q : Part) → HasPart row.chunk.profile (length row.chunk.stripes) q → rows.element images' layout row q ≡ rows.element images layout row q)
-    (blocks : (t : Target) → In t row.blocks → Alike images images' t) where
-  given_same : (t : Target) → In t row.blocks → (bytes : List ℕ) → with_block images' layout (accepted images') bytes t
-      ≡ with_block images layout (accepted images) bytes t
-  given_same t i bytes = ap (λ o. option_map_or (pasted bytes t.at.rest) o bytes) (blocks t i).accepted
+module _ (images images' : Images) (layout : Layout) (row : Row) (also : Failing) (none : mirrors row.chunk ≡ None)
+    (same : (q : Part) → HasPart row.chunk.profile (length row.chunk.stripes) q → rows.element images' layout (beside also row) q ≡ rows.element images layout row q)
+    (blocks : (t : Target) → In t row.blocks → BlockAlike row.failing also images images' t)
+    (sures : (t : Target) → In t row.blocks → is_sure images' layout (beside also row) t ≡ is_sure images layout row t) where
+  given_same : (t : Target) → In t row.blocks → (bytes : List ℕ) → with_block images' layout (new_bytes images' also) bytes t
+      ≡ with_block images layout (new_bytes images row.failing) bytes t
+  given_same t i bytes = ap (λ o. option_map_or (pasted bytes t.at.rest) o bytes) (blocks t i).bytes
 
-  slice_same : (k : ℕ) → k < rows.slice_count row → slice_with images' layout (accepted images') row k ≡ slice_with images layout (accepted images) row k
+  slice_same : (k : ℕ) → k < rows.slice_count row → slice_with images' layout (new_bytes images' also) row k ≡ slice_with images layout (new_bytes images row.failing) row k
   slice_same k lt =
-      ap (λ bytes. fold (with_block images' layout (accepted images')) bytes (blocks_at row k)) (same (part.Slice k) (subst IsNone (sym none) refl, lt))
-      ∙ fold_same (with_block images' layout (accepted images')) (with_block images layout (accepted images)) (blocks_at row k)
+      ap (λ bytes. fold (with_block images' layout (new_bytes images' also)) bytes (blocks_at row k)) (same (part.Slice k) (subst IsNone (sym none) refl, lt))
+      ∙ fold_same (with_block images' layout (new_bytes images' also)) (with_block images layout (new_bytes images row.failing)) (blocks_at row k)
       (rows.element images layout row (part.Slice k)) (λ t i bytes. given_same t (of_filter (λ u. eqb u.at.index k) t row.blocks i) bytes)
 
-  slices_same : slices_with images' layout (accepted images') row ≡ slices_with images layout (accepted images) row
-  slices_same = map_same (slice_with images' layout (accepted images') row) (slice_with images layout (accepted images) row)
+  slices_same : slices_with images' layout (new_bytes images' also) row ≡ slices_with images layout (new_bytes images row.failing) row
+  slices_same = map_same (slice_with images' layout (new_bytes images' also) row) (slice_with images layout (new_bytes images row.failing) row)
       (range_with_len 0 (rows.slice_count row)) (λ k i. slice_same k (in_below (rows.slice_count row) k i))
 
-  with_same : (q : Part) → (q ≡ part.P) ⊎ (q ≡ part.Q) → element_with images' layout (accepted images') row q
-      ≡ element_with images layout (accepted images) row q
-  with_same q (inl e) = subst (λ q. element_with images' layout (accepted images') row q ≡ element_with images layout (accepted images) row q) (sym e)
+  with_same : (q : Part) → (q ≡ part.P) ⊎ (q ≡ part.Q) → element_with images' layout (new_bytes images' also) row q
+      ≡ element_with images layout (new_bytes images row.failing) row q
+  with_same q (inl e) = subst (λ q. element_with images' layout (new_bytes images' also) row q ≡ element_with images layout (new_bytes images row.failing) row q) (sym e)
       (ap (parity_p 65536) slices_same)
-  with_same q (inr e) = subst (λ q. element_with images' layout (accepted images') row q ≡ element_with images layout (accepted images) row q) (sym e)
+  with_same q (inr e) = subst (λ q. element_with images' layout (new_bytes images' also) row q ≡ element_with images layout (new_bytes images row.failing) row q) (sym e)
       (ap (parity_q 65536) slices_same)
 
-  decided_same : (column : ℕ) → is_decided images' layout row column ≡ is_decided images layout row column
+  decided_same : (column : ℕ) → is_decided images' layout (beside also row) column ≡ is_decided images layout row column
   decided_same column =
-      ap (λ b. list_any (meets column) row.blocks && (not (row.kept column) && b))
-      (all_same (λ t. not (meets column t) || is_some (accepted images' t)) (λ t. not (meets column t) || is_some (accepted images t)) row.blocks
-      (λ t i. ap (λ o. not (meets column t) || is_some o) (blocks t i).accepted))
+      ap (λ b. list_any (meets column) row.blocks && b)
+      (all_same (λ t. not (meets column t) || is_sure images' layout (beside also row) t) (λ t. not (meets column t) || is_sure images layout row t) row.blocks
+      (λ t i. ap (λ b. not (meets column t) || b) (sures t i)))
 
-  parity_same : (q : Part) → In q (parities row.chunk.profile) → parity_writes images' layout row q ≡ parity_writes images layout row q
+  parity_same : (q : Part) → In q (parities row.chunk.profile) → parity_writes images' layout (beside also row) q ≡ parity_writes images layout row q
   parity_same q i =
       let has = parity_has row.chunk.profile (length row.chunk.stripes) q none i in
       let wanted = with_same q has.1 in
       let old = same q has.0 in
-      let differ : (column : ℕ) → differs images' layout row q column ≡ differs images layout row q column =
-      λ column. ap (λ xs. not (bytes_eq (column_of column xs) (column_of column (element_with images' layout (accepted images') row q)))) old
+      let differ : (column : ℕ) → differs images' layout (beside also row) q column ≡ differs images layout row q column =
+      λ column. ap (λ xs. not (bytes_eq (column_of column xs) (column_of column (element_with images' layout (new_bytes images' also) row q)))) old
       ∙ ap (λ xs. not (bytes_eq (column_of column (rows.element images layout row q)) (column_of column xs))) wanted in
-      ap (filter_map (sector_write images' layout row q))
-      (filter_same (λ column. is_decided images' layout row column && differs images' layout row q column)
+      ap (filter_map (sector_write images' layout (beside also row) q))
+      (filter_same (λ column. is_decided images' layout (beside also row) column && differs images' layout (beside also row) q column)
       (λ column. is_decided images layout row column && differs images layout row q column) (range_with_len 0 16)
-      (λ column _. ap (λ b. b && differs images' layout row q column) (decided_same column)
+      (λ column _. ap (λ b. b && differs images' layout (beside also row) q column) (decided_same column)
       ∙ ap (λ b. is_decided images layout row column && b) (differ column)))
-      ∙ filter_map_same (sector_write images' layout row q) (sector_write images layout row q) (differing images layout row q)
+      ∙ filter_map_same (sector_write images' layout (beside also row) q) (sector_write images layout row q) (differing images layout row q)
       (λ column _. ap (λ xs. option_map (λ (range : Range). record { range = range; bytes = column_of column xs }) (range_in_element layout row q (column * 4096) 4096)) wanted)
 
   -- a row whose elements and blocks are the same
-  pub row_alike : RowAlike images images' layout row
+  pub row_alike : RowAlike images images' layout row also
   row_alike = record { blocks = blocks; parities = parity_same }
+
+-- what stands in a block's place is sure as before, where it gets the same
+pub sure_same : (images images' : Images) (layout : Layout) (row : Row) (t : Target) → new_bytes images' row.failing t ≡ new_bytes images row.failing t
+    → is_sure images' layout row t ≡ is_sure images layout row t
+sure_same images images' layout row t e = ap (λ o. is_some o || is_plain t.want && is_surer images layout row t) e
+
+-- ---- beside other images that fail
+
+-- what comes of a checked block doesn't hang on them
+checked_alike : (fails also : Failing) (images : Images) (t : Target) → is_plain t.want ≡ false → BlockAlike fails also images images t
+checked_alike fails also images t e = record {
+  writes = ap (λ b. cond b (fresh_writes images also t) (block_writes images t)) e ∙ sym (ap (λ b. cond b (fresh_writes images fails t) (block_writes images t)) e);
+  wrong = ap (λ b. cond b (stale_parts images also t) (bad_parts images t)) e ∙ sym (ap (λ b. cond b (stale_parts images fails t) (bad_parts images t)) e);
+  bytes = ap (λ b. cond b (renewed images also t) (accepted images t)) e ∙ sym (ap (λ b. cond b (renewed images fails t) (accepted images t)) e);
+  lost = refl;
+}
+
+-- so what comes of a row without plain sectors doesn't either
+pub checked_row : (images : Images) (layout : Layout) (row : Row) (also : Failing) → mirrors row.chunk ≡ None
+    → ((t : Target) → In t row.blocks → is_plain t.want ≡ false) → RowAlike images images layout row also
+checked_row images layout row also none checked =
+    row_alike images images layout row also none (λ q has. refl) (λ t i. checked_alike row.failing also images t (checked t i))
+    (λ t i.
+    ap (λ o. is_some o || is_plain t.want && is_surer images layout (beside also row) t) (checked_alike row.failing also images t (checked t i)).bytes
+    ∙ ap (λ b. is_some (new_bytes images row.failing t) || b && is_surer images layout (beside also row) t) (checked t i)
+    ∙ sym (ap (λ b. is_some (new_bytes images row.failing t) || b && is_surer images layout row t) (checked t i)))

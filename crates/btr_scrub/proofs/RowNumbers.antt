@@ -27,7 +27,7 @@ use Rattle.btr_scrub.specs.Repair.{is_in_chunk, is_in_row, row_of, rows_in}
 use Rattle.btr_scrub.specs.Rowing.{row_in}
 use Rattle.btr_scrub.proofs.Blockwise.{chunk_same, ok_of}
 use Rattle.btr_scrub.proofs.Positions.{is_sought, striped_position}
-use Rattle.btr_scrub.specs.Plain.{Doubts}
+use Rattle.btr_scrub_copies.specs.Fresh.{Failing}
 
 -- ---- numbers from one on
 
@@ -80,10 +80,10 @@ div_mono : (a b k : ℕ) → 0 < k → a ≤ b → a / k ≤ b / k
 div_mono a b k pos le = le-div (a / k) b k pos (omega (arith, div-mul-le_self a k, le))
 
 -- the rows of a chunk below one
-abbrev pub rows_to : Doubts → List Target → Chunk → ℕ → List Row
+abbrev pub rows_to : Failing → List Target → Chunk → ℕ → List Row
 rows_to kept ts chunk n = map (row_of kept ts chunk) (range_with_len 0 n)
 
-pub all_rows : (kept : Doubts) (ts : List Target) (chunk : Chunk) → mirrors chunk ≡ None → rows_in kept ts chunk
+pub all_rows : (kept : Failing) (ts : List Target) (chunk : Chunk) → mirrors chunk ≡ None → rows_in kept ts chunk
     ≡ rows_to kept ts chunk (stripe_length chunk / 65536)
 all_rows kept ts chunk parity = ap (λ o. cond (is_none o) (rows_to kept ts chunk (stripe_length chunk / 65536)) []) parity
 

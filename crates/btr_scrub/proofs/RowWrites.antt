@@ -1,6 +1,6 @@
 -- The writes for a full stripe lie in its elements, and leave those of other rows.
-use Rattle.std.proofs.Common.{◌≡◌, ℕ, ◌+◌, ◌-◌, ◌*◌, ◌<◌, ◌≤◌, true, false, not, ◌&&◌, List, [], ◌∷◌, map, length, drop, slice_get, All, Option, Some, None}
-use Rattle.std.proofs.Common.{IsNone, IsSome, IfSome, IsSomeAnd, refl, sym, ap, ◌∙◌, subst, inl, inr, arith, length-take}
+use Rattle.std.proofs.Common.{◌≡◌, ℕ, ◌+◌, ◌-◌, ◌*◌, ◌<◌, ◌≤◌, true, false, ◌&&◌, List, [], ◌∷◌, map, length, drop, slice_get, All, Option, Some, None}
+use Rattle.std.proofs.Common.{IsNone, IsSome, IsSomeAnd, refl, sym, ap, ◌∙◌, subst, inl, inr, arith, length-take}
 use Rattle.std.proofs.lemmas.Bool.{false≢true}
 use Rattle.std.proofs.lemmas.List.Elements.{All-append, All-cons, All-nil}
 use Rattle.std.proofs.lemmas.Option.{same_Some}
@@ -18,12 +18,13 @@ use Rattle.btr_chunk.proofs.Rows.{without_copies}
 use Rattle.btr_rack.specs.Rack.{bytes_of, image_of, range_in}
 use Rattle.btr_rack.specs.declared.place.Place.{Place as Range}
 use Rattle.btr_read.specs.Candidates.{Target, range_of, range_on, size_of}
-use Rattle.btr_read.specs.Cause.{LiesIn}
 use Rattle.btr_read.specs.Layout.{Layout, device_in}
 use Rattle.btr_read.specs.Want.{addr_of}
 use Rattle.btr_read.specs.declared.device.Device.{Device}
 use Rattle.btr_read.proofs.Ones.{in_below}
-use Rattle.btr_scrub_copies.specs.Blocks.{accepted, bad_parts, block_writes, is_sound, own_parts, written_over}
+use Rattle.btr_scrub_copies.specs.Blocks.{copy_writes, own_parts}
+use Rattle.btr_scrub_row.specs.Wanted.{mending_writes, new_bytes, wrong_parts}
+use Rattle.btr_scrub_row.proofs.Settled.{mending_is}
 use Rattle.btr_scrub_copies.proofs.Syncs.{passing_filter}
 use Rattle.btr_scrub_copies.specs.Writes.{Images, Write}
 use Rattle.btr_scrub_row.specs.Rows as rows
@@ -35,14 +36,14 @@ use Rattle.btr_scrub.specs.Leaves.{KeepsOutside}
 use Rattle.btr_scrub.specs.Order.{IsSought}
 use Rattle.btr_scrub.specs.Places.{IsOfElement}
 use Rattle.btr_scrub.specs.Repair.{covers}
-use Rattle.btr_scrub.proofs.Agreeing.{Alike}
 use Rattle.btr_scrub.proofs.CopyWrites.{same_element}
 use Rattle.btr_scrub_row.proofs.Elements.{range_stands, stands_on, stripe-row}
-use Rattle.btr_scrub.proofs.Places.{covering}
+use Rattle.btr_scrub.proofs.Places.{covered, covering}
 use Rattle.btr_scrub.proofs.Positions.{striped_fits, striped_position}
-use Rattle.btr_scrub.proofs.RowAgreeing.{RowAlike, parity_alike, parity_has, row_alike}
-use Rattle.btr_scrub.proofs.Shorts.{Short, block_short}
-use Rattle.btr_scrub.proofs.Staying.{covered, range_same}
+use Rattle.btr_scrub.proofs.RowAgreeing.{BlockAlike, RowAlike, parity_alike, parity_has, row_alike, sure_same}
+use Rattle.btr_scrub.proofs.Shorts.{Short, site_short}
+use Rattle.btr_scrub.proofs.OwnPlaces.{wrong_own}
+use Rattle.btr_scrub.proofs.Survival.{range_same}
 use Rattle.btr_scrub.proofs.Writes.{any_append, any_filter_map, any_flat, mapped}
 
 -- a full stripe of the table, all of whose elements stand
@@ -161,8 +162,10 @@ module _ (layout : Layout) (row : Row) (table : IsTable layout.chunks) (is_row :
 
   -- a byte that is written for a block
   pub written_block : (images : Images) (t : Target) (slot off : ℕ) → IsBlockOf layout row t
-      → list_any (λ (w : Write). covers slot off w.range) (block_writes images t) ≡ true → IsOfElement layout row (part.Slice t.at.index) slot off
-  written_block images t slot off of h = by (accepted images t) h
+      → list_any (λ (w : Write). covers slot off w.range) (mending_writes images row.failing t) ≡ true
+      → IsOfElement layout row (part.Slice t.at.index) slot off
+  written_block images t slot off of h =
+      by (new_bytes images row.failing t) (ap (list_any (λ (w : Write). covers slot off w.range)) (sym (mending_is images row t)) ∙ h)
     where
       own : own_parts t ≡ part.Slice t.at.index ∷ []
       own = ap (λ o. option_map_or (λ copies. map part.Mirror (range_with_len 0 copies)) o (part.Slice t.at.index ∷ []))
@@ -172,32 +175,19 @@ module _ (layout : Layout) (row : Row) (table : IsTable layout.chunks) (is_row :
       only q (inl e) = e
       only q (inr i) = absurd i
 
-      by : (o : Option (List ℕ)) → list_any (λ (w : Write). covers slot off w.range) (option_map_or (written_over images t) o []) ≡ true
+      by : (o : Option (List ℕ)) → list_any (λ (w : Write). covers slot off w.range)
+          (option_map_or (λ bytes. copy_writes t bytes (wrong_parts images row.failing t)) o []) ≡ true
           → IsOfElement layout row (part.Slice t.at.index) slot off
       by None h = absurd (false≢true h)
       by (Some bytes) h =
-          let f = any_filter_map (λ (w : Write). covers slot off w.range) (λ q. option_map (λ (range : Range). record { range = range; bytes = bytes }) (range_of t q)) (bad_parts images t) h in
-          let bad = passing_filter (λ q. not (is_sound images t q)) f.0 (own_parts t) f.1 in
-          let q : part.Slice t.at.index ≡ f.0 = only f.0 (subst (In f.0) own bad.0) in
+          let f = any_filter_map (λ (w : Write). covers slot off w.range) (λ q. option_map (λ (range : Range). record { range = range; bytes = bytes }) (range_of t q)) (wrong_parts images row.failing t) h in
+          let q : part.Slice t.at.index ≡ f.0 = only f.0 (subst (In f.0) own (wrong_own images row.failing t f.0 f.1)) in
           let m = mapped (λ (range : Range). record { range = range; bytes = bytes }) (range_of t f.0) f.2.0 f.2.1 in
           let cover : covers slot off m.0 ≡ true = ap (λ (w : Write). covers slot off w.range) m.2 ∙ f.2.2 in
           block_byte t (part.Slice t.at.index) slot off of (has_own t of) (subst (λ o. IsSomeAnd o (λ range. covers slot off range ≡ true)) (sym (ap (range_of t) q ∙ m.1)) cover)
 
   column_at : (column : ℕ) → column < 16 → IsPosition row.chunk (record { row = row.number; index = 0; rest = column * 4096 })
   column_at column few = record { index = is_row.position.index; inside = omega (arith, is_row.position.inside, few) }
-
-  -- a sector of an element lies in it
-  pub sector_inside : (q : Part) (column : ℕ) (range : Range) → HasPart row.chunk.profile (length row.chunk.stripes) q → column < 16
-      → range_in_element layout row q (column * 4096) 4096 ≡ Some range → IfSome (range_in_element layout row q 0 65536) (LiesIn range)
-  sector_inside q column range has few e =
-      let b = begins q has in
-      let l = lies q 0 (column * 4096) has (column_at column few) in
-      let place = place_at row.chunk q (record { row = row.number; index = 0; rest = column * 4096 }) in
-      let given : device_in layout.devices place.devid ≡ Some b.device = ap (device_in layout.devices) l.devid ∙ b.given in
-      let same : range ≡ range_in b.device.slot place.offset 4096 = same_Some range (range_in b.device.slot place.offset 4096) (sym e ∙ range_stands place.offset 4096 (device_in layout.devices place.devid) b.device given (omega (arith, b.within, l.offset, few))) in
-      let off : range.off ≡ place.offset = ap (λ (r : Range). r.off) same in
-      let len : range.len ≡ 4096 = ap (λ (r : Range). r.len) same in
-      subst (λ o. IfSome o (LiesIn range)) (sym b.whole) (record { slot = ap (λ (r : Range). r.slot) same; from = omega (arith, off, l.offset); to = omega (arith, off, len, l.offset, few) })
 
   -- each byte of the writes for a parity lies in its element
   pub written_parity : (images : Images) (q : Part) (slot off : ℕ) → HasPart row.chunk.profile (length row.chunk.stripes) q
@@ -207,7 +197,7 @@ module _ (layout : Layout) (row : Row) (table : IsTable layout.chunks) (is_row :
       let column = f.0 in
       let d = passing_filter (λ column. is_decided images layout row column && differs images layout row q column) column (range_with_len 0 16) f.1 in
       let few : column < 16 = in_below 16 column d.0 in
-      let m = mapped (λ (range : Range). record { range = range; bytes = column_of column (element_with images layout (accepted images) row q) }) (range_in_element layout row q (column * 4096) 4096) f.2.0 f.2.1 in
+      let m = mapped (λ (range : Range). record { range = range; bytes = column_of column (element_with images layout (new_bytes images row.failing) row q) }) (range_in_element layout row q (column * 4096) 4096) f.2.0 f.2.1 in
       in_element q 0 (column * 4096) 4096 slot off m.0 has (column_at column few) (omega (arith, few)) m.1
       (ap (λ (w : Write). covers slot off w.range) m.2 ∙ f.2.2)
 
@@ -217,8 +207,8 @@ module _ (layout : Layout) (row : Row) (table : IsTable layout.chunks) (is_row :
       → (q : Part) × IsOfElement layout row q slot off
   written_row images slot off of h =
       let W = λ (w : Write). covers slot off w.range in
-      elim (any_append W (flat_map (block_writes images) row.blocks) (flat_map (parity_writes images layout row) (parities row.chunk.profile)) h) [
-        | inl bad ↦ let f = any_flat W (block_writes images) row.blocks bad in (part.Slice f.0.at.index, written_block images f.0 slot off (of f.0 f.1) f.2)
+      elim (any_append W (flat_map (mending_writes images row.failing) row.blocks) (flat_map (parity_writes images layout row) (parities row.chunk.profile)) h) [
+        | inl bad ↦ let f = any_flat W (mending_writes images row.failing) row.blocks bad in (part.Slice f.0.at.index, written_block images f.0 slot off (of f.0 f.1) f.2)
         | inr parity ↦
             let f = any_flat W (parity_writes images layout row) (parities row.chunk.profile) parity in
             let p = parity_has row.chunk.profile (length row.chunk.stripes) f.0 is_row.parity f.1 in
@@ -235,7 +225,7 @@ module _ (layout : Layout) (row : Row) (table : IsTable layout.chunks) (is_row :
   module _ (images : Images) (lengths : HaveLengths images layout) where
     sector_short : (q : Part) (column : ℕ) → HasPart row.chunk.profile (length row.chunk.stripes) q → column < 16 → (o : Option Range)
         → range_in_element layout row q (column * 4096) 4096 ≡ o → (others : List Write) → All (Short images) others
-        → All (Short images) (cons_option (option_map (λ (range : Range). record { range = range; bytes = column_of column (element_with images layout (accepted images) row q) }) o) others)
+        → All (Short images) (cons_option (option_map (λ (range : Range). record { range = range; bytes = column_of column (element_with images layout (new_bytes images row.failing) row q) }) o) others)
     sector_short q column has few None e others rest = rest
     sector_short q column has few (Some range) e others rest =
         let b = begins q has in
@@ -244,7 +234,7 @@ module _ (layout : Layout) (row : Row) (table : IsTable layout.chunks) (is_row :
         let given : device_in layout.devices place.devid ≡ Some b.device = ap (device_in layout.devices) l.devid ∙ b.given in
         let inside : place.offset + 4096 ≤ b.device.len = omega (arith, b.within, l.offset, few) in
         let same : range ≡ range_in b.device.slot place.offset 4096 = same_Some range (range_in b.device.slot place.offset 4096) (sym e ∙ range_stands place.offset 4096 (device_in layout.devices place.devid) b.device given inside) in
-        let bytes = element_with images layout (accepted images) row q in
+        let bytes = element_with images layout (new_bytes images row.failing) row q in
         let slot : range.slot ≡ b.device.slot = ap (λ (r : Range). r.slot) same in
         let off : range.off ≡ place.offset = ap (λ (r : Range). r.off) same in
         let len : range.len ≡ 4096 = ap (λ (r : Range). r.len) same in
@@ -260,8 +250,8 @@ module _ (layout : Layout) (row : Row) (table : IsTable layout.chunks) (is_row :
 
     pub row_short : ((t : Target) → In t row.blocks → IsBlockOf layout row t) → All (Short images) (row_writes images layout row)
     row_short of =
-        All-append (Short images) (flat_map (block_writes images) row.blocks) (flat_map (parity_writes images layout row) (parities row.chunk.profile))
-        (flat_short images (block_writes images) row.blocks (λ t i. block_short images layout lengths t (of t i).is))
+        All-append (Short images) (flat_map (mending_writes images row.failing) row.blocks) (flat_map (parity_writes images layout row) (parities row.chunk.profile))
+        (flat_short images (mending_writes images row.failing) row.blocks (λ t i. site_short images layout lengths t (of t i).is row.failing))
         (flat_short images (parity_writes images layout row) (parities row.chunk.profile) (λ q i. let p = parity_has row.chunk.profile (length row.chunk.stripes) q is_row.parity i in
         sectors_short q p.0 (differing images layout row q) (λ column j. in_below 16 column
         (passing_filter (λ column. is_decided images layout row column && differs images layout row q column) column (range_with_len 0 16) j).0)))
@@ -269,8 +259,9 @@ module _ (layout : Layout) (row : Row) (table : IsTable layout.chunks) (is_row :
     -- ---- what is told of the row, where none of its bytes was written
 
     pub row_stays : (images' : Images) (ranges : List Range) → ((t : Target) → In t row.blocks → IsBlockOf layout row t) → KeepsOutside ranges images images'
-        → ((q : Part) (slot off : ℕ) → IsOfElement layout row q slot off → list_any (covers slot off) ranges ≡ false) → RowAlike images images' layout row
-    row_stays images' ranges of keeps free = row_alike images images' layout row is_row.parity elements blocks
+        → ((q : Part) (slot off : ℕ) → IsOfElement layout row q slot off → list_any (covers slot off) ranges ≡ false) → RowAlike images images' layout row row.failing
+    row_stays images' ranges of keeps free = row_alike images images' layout row row.failing is_row.parity elements blocks
+        (λ t i. sure_same images images' layout row t (blocks t i).bytes)
       where
         elements : (q : Part) → HasPart row.chunk.profile (length row.chunk.stripes) q → rows.element images' layout row q ≡ rows.element images layout row q
         elements q has =
@@ -283,10 +274,10 @@ module _ (layout : Layout) (row : Row) (table : IsTable layout.chunks) (is_row :
             (sym (keeps.lengths slot)) (λ i from to. keeps.bytes slot i (free q slot i (of_element q has b i from to)))
             ∙ sym (ap (λ (o : Option Range). option_map_or (λ range. bytes_of images range.slot range.off range.len) o []) b.whole)
 
-        blocks : (t : Target) → In t row.blocks → Alike images images' t
+        blocks : (t : Target) → In t row.blocks → BlockAlike row.failing row.failing images images' t
         blocks t i =
             let o = of t i in
             let position : IsPosition t.chunk t.at = subst (IsPosition t.chunk) (sym o.is.at) (IsPosition-position t.chunk (addr_of t.want) (table.sound o.is.number t.chunk o.is.there).0 o.is.held) in
             parity_alike images images' t (subst (λ c. mirrors c ≡ None) (sym o.chunk) is_row.parity) position.index
             (λ q has. same_element images images' layout ranges t q lengths o.is keeps
-            (λ slot off c. free q slot off (block_byte t q slot off o (subst (λ k. HasPart k.profile (length k.stripes) q) o.chunk has) c)))
+            (λ slot off c. free q slot off (block_byte t q slot off o (subst (λ k. HasPart k.profile (length k.stripes) q) o.chunk has) c))) row.failing

@@ -1,5 +1,5 @@
 -- The full stripes of a chunk with parity, one after another.
-use Rattle.std.proofs.Common.{◌≡◌, ◌⊎◌, ℕ, ◌+◌, ◌-◌, ◌/◌, ◌<◌, ◌≤◌, Bool, true, false, leb, ltb, List, [], ◌∷◌, ◌++◌, map, length, slice_get, Some, None}
+use Rattle.std.proofs.Common.{◌≡◌, ◌⊎◌, ℕ, ◌+◌, ◌-◌, ◌/◌, ◌<◌, ◌≤◌, Bool, true, false, leb, ltb, List, [], ◌∷◌, ◌++◌, map, slice_get, Some, None}
 use Rattle.std.proofs.Common.{Result, Ok, Err, refl, sym, ap, ◌∙◌, subst, inl, inr, arith, append_assoc, append-nil}
 use Rattle.std.proofs.lemmas.Bool.{and_parts, cases_eq, leb-true, ltb-true, and_from, le-leb, lt-ltb}
 use Rattle.std.proofs.lemmas.Grind.{flat_map-append}
@@ -35,9 +35,9 @@ use Rattle.btr_scrub.proofs.RowNumbers.{tail_apart}
 use Rattle.btr_scrub.proofs.NextRow.{IsNextRow, counts_row, counts_with, mine_is, more_counts, more_rows, unmoved_row, writes_with}
 use Rattle.btr_scrub.proofs.Positions.{is_sought}
 use Rattle.btr_scrub.proofs.Scrubbing.{scrubs_as, scrubs_cut, scrubs_none, scrubs_nothing, scrubs_then}
-use Rattle.btr_scrub.specs.Plain.{Doubts}
+use Rattle.btr_scrub_copies.specs.Fresh.{Failing}
 
-module _ (kept : Doubts) (layout : Layout) (table : IsTable layout.chunks) (own : HaveOwnSlots layout.devices) (given : first_missing layout ≡ None) (number : ℕ) (chunk : Chunk) (there : slice_get layout.chunks number ≡ Some chunk) (parity : mirrors chunk ≡ None) (wants : List Want) where
+module _ (kept : Failing) (layout : Layout) (table : IsTable layout.chunks) (own : HaveOwnSlots layout.devices) (given : first_missing layout ≡ None) (number : ℕ) (chunk : Chunk) (there : slice_get layout.chunks number ≡ Some chunk) (parity : mirrors chunk ≡ None) (wants : List Want) where
   -- the rows below q were mended; what is left lies in later rows, or in later chunks
   pub record RowsUnderway (write : Bool) (left : List Want) (m m' : List Bool) (a b : Seen) (tally tally' : Tally) : Type 0 where
     pub past : List Want
@@ -210,7 +210,7 @@ module _ (kept : Doubts) (layout : Layout) (table : IsTable layout.chunks) (own 
     module _ (lengths : (images : Images) → a.held ≡ Some images → HaveLengths images layout) (left' : List Want) (r : ℕ) (mine : List Want) (n : IsNextRow kept layout table own given number chunk there parity wants h.q h.past left' r mine) (m'' : List Bool) (z : Seen) (tally'' : Tally) where
       both : (e : Result (Unit {0}) MendFault)
           → Scrubs {A = Unit {0}} (alone layout chunk) write (λ images. row_writes images layout (row_of kept (targets layout wants) chunk r))
-          (λ images x. counted_row x (length (row_of kept (targets layout wants) chunk r).blocks)
+          (λ images x. counted_row x
           (mended_row images layout (row_of kept (targets layout wants) chunk r) write)) m' m'' b z tally' tally'' e
           → Scrubs {A = Unit {0}} (alone layout chunk) write (λ images. rows_writes layout (rows_to kept (targets layout wants) chunk h.q) images
           ++ row_writes images layout (row_of kept (targets layout wants) chunk r))
@@ -223,13 +223,13 @@ module _ (kept : Doubts) (layout : Layout) (table : IsTable layout.chunks) (own 
           (λ images x. count_row images layout write x row) m m' m'' a b z tally tally' tally'' tt e
           (unmoved_row kept layout table own given number chunk there parity wants h.q h.past left' r mine n write a.held lengths) h.done
           (scrubs_as (alone layout chunk) write (λ images. row_writes images layout row) (λ images. row_writes images layout row)
-          (λ images x. counted_row x (length row.blocks) (mended_row images layout row write)) (λ images x. count_row images layout write x row)
+          (λ images x. counted_row x (mended_row images layout row write)) (λ images x. count_row images layout write x row)
           m' m'' b z tally' tally'' e
           (λ images q. (refl, counts_row kept layout table own given number chunk there parity wants h.q h.past left' r mine n write images tally')) one)
 
       -- one row more
       pub rows_more : Scrubs {A = Unit {0}} (alone layout chunk) write (λ images. row_writes images layout (row_of kept (targets layout wants) chunk r))
-          (λ images x. counted_row x (length (row_of kept (targets layout wants) chunk r).blocks)
+          (λ images x. counted_row x
           (mended_row images layout (row_of kept (targets layout wants) chunk r) write)) m' m'' b z tally' tally'' (Ok (tt {0}))
           → RowsUnderway write left' m m'' a z tally tally''
       rows_more one = record {
@@ -260,7 +260,7 @@ module _ (kept : Doubts) (layout : Layout) (table : IsTable layout.chunks) (own 
       -- a halt in it
       pub rows_cut : (fault : MendFault)
           → Scrubs {A = Unit {0}} (alone layout chunk) write (λ images. row_writes images layout (row_of kept (targets layout wants) chunk r))
-          (λ images x. counted_row x (length (row_of kept (targets layout wants) chunk r).blocks)
+          (λ images x. counted_row x
           (mended_row images layout (row_of kept (targets layout wants) chunk r) write)) m' m'' b z tally' tally'' (Err fault)
           → Scrubs {A = Unit {0}} (alone layout chunk) write (rows_writes layout (rows_in kept (targets layout wants) chunk))
           (rows_count layout write (rows_in kept (targets layout wants) chunk)) m m'' a z tally tally'' (Err fault)

@@ -1,24 +1,26 @@
 -- A filesystem whose blocks can all be had again is safe at any write.
-use Rattle.std.proofs.Common.{◌≡◌, ◌≢◌, ◌<◌, true, false, not, List, [], map, IsSome, IfSome, sym, ap, subst, inl, inr}
+use Rattle.std.proofs.Common.{◌≡◌, ◌⊎◌, ◌<◌, true, false, not, List, map, None, IsSome, IfSome, sym, ap, subst, inl, inr}
+use Rattle.btr_chunk.specs.Chunk.{mirrors}
 use Rattle.btr_chunk.specs.Table.{IsTable}
 use Rattle.btr_parity.specs.Slices.{IsSlice}
 use Rattle.btr_rack.specs.declared.place.Place.{Place as Range}
 use Rattle.btr_read.specs.Candidates.{Target, size_of}
-use Rattle.btr_read.specs.Fate.{fate}
+use Rattle.btr_read.specs.Fate.{is_plain, fate}
 use Rattle.btr_read.specs.Layout.{HaveOwnSlots, Layout}
 use Rattle.btr_read.specs.declared.want.Want.{Want}
 use Rattle.btr_scrub_copies.specs.Writes.{Images, Write}
-use Rattle.btr_scrub_row.specs.Rows.{Row}
+use Rattle.btr_scrub_row.specs.Wanted.{is_checked}
 use Rattle.btr_scrub.specs.Devices.{HaveLengths}
 use Rattle.btr_scrub.specs.Filesystem.{Filesystem}
 use Rattle.btr_scrub.specs.Gathering.{wants_among}
 use Rattle.btr_scrub.specs.Glue.{In}
 use Rattle.btr_scrub.specs.Leaves.{KeepsOutside}
 use Rattle.btr_scrub.specs.Order.{AreApart, targets}
-use Rattle.btr_scrub.specs.Repair.{blocks, doubted, is_checked, is_loose, met, ranges, rows, rows_in, sites}
-use Rattle.btr_scrub.specs.Right.{AreBytes, Committed, HasFewWrong, HasRightCopy, IsOfStale, IsOfWrongCopy, IsRepairable, IsWrongRange, LiesInWrong}
+use Rattle.btr_scrub.specs.Repair.{blocks, failed, met, ranges, row_of, rows, rows_in, sites}
+use Rattle.btr_scrub.specs.Scrubbing.{all_writes_for}
+use Rattle.btr_scrub.specs.Right.{AreBytes, CanBeSpared, Committed, HasFewWrongAt, HasRightPlace, IsOfStale, IsOfWrongParity, IsOfWrongPlace}
+use Rattle.btr_scrub.specs.Right.{IsCommitted, IsWrongRange, RangesLeaveFresh, RangesLieInWrong, RangesMayHoldAnything, StandsFor}
 use Rattle.btr_scrub_copies.specs.Fresh.{fresh}
-use Rattle.btr_scrub.specs.Right.{RangesLeaveFresh, RangesLieInWrong, RangesMayHoldAnything, StandsFor}
 use Rattle.btr_scrub.proofs.InWrong.{IsWrong, not_bad, range_is_wrong}
 use Rattle.btr_scrub.proofs.Lists.{all_from, all_in, any_in, in_flat}
 use Rattle.btr_scrub.proofs.Outliving.{block_outlives, fresh_outlives}
@@ -41,51 +43,59 @@ module _ (images : Images) (fs : Filesystem) (table : IsTable fs.layout.chunks) 
   same = targets_met layout (met images fs)
 
   -- a site that isn't a plain sector is a checked block, and the other way round
-  block_of : (t : Target) → In t (targets layout wants) → is_loose t ≡ false → In t (blocks images fs)
+  block_of : (t : Target) → In t (targets layout wants) → is_plain t.want ≡ false → In t (blocks images fs)
   block_of t i checked = in_filter is_checked t (sites images fs) (subst (In t) same i) (ap not checked)
 
-  of_block : (t : Target) → In t (blocks images fs) → In t (targets layout wants) × (is_loose t ≡ false)
+  of_block : (t : Target) → In t (blocks images fs) → In t (targets layout wants) × (is_plain t.want ≡ false)
   of_block t i =
       let f = passing_filter is_checked t (sites images fs) i in
-      (subst (In t) (sym same) f.0, not_bad (is_loose t) f.1)
+      (subst (In t) (sym same) f.0, not_bad (is_plain t.want) f.1)
 
-  module _ (C : Committed) (h : IsRepairable images fs C) where
-    apart : AreApart layout 0 wants
-    apart = units_apart fs.sup layout table node some (fate images layout) tt h.met
+  apart : AreApart layout 0 wants
+  apart = units_apart fs.sup layout table node some (fate images layout)
 
-    had : CanBeHad (doubted images fs) images layout C wants
-    had = record {
-      bytes = bytes;
-      pass = h.pass;
-      honest = h.honest;
-      committed = λ t i checked. all_in (λ (t : Target). IsSome (C t.want)) (blocks images fs) t h.committed (block_of t i checked);
-      slices = λ t i checked. all_in (λ (t : Target). IfSome (C t.want) (IsSlice (size_of t))) (blocks images fs) t h.slices (block_of t i checked);
-      copies = λ t i checked. all_in (HasRightCopy images C) (blocks images fs) t h.copies (block_of t i checked);
-      rows = λ chunk row c i. all_in (λ (row : Row). (row.blocks ≢ []) → HasFewWrong images layout C row) (rows images fs) row h.rows
-          (in_flat (rows_in (doubted images fs) (sites images fs)) chunk row layout.chunks c
-          (subst (λ ts. In row (rows_in (doubted images fs) ts chunk)) same i));
-    }
+  written : (left : Images) → KeepsOutside (ranges images fs) images left
+      → KeepsOutside (map (λ (w : Write). w.range) (all_writes_for (failed images fs) layout layout.chunks wants images)) images left
+  written left keeps = subst (λ ws. KeepsOutside (map (λ (w : Write). w.range) ws) images left) (sym (writes_beside images fs)) keeps
+
+  had : (C : Committed) → IsCommitted images fs C → CanBeHad (failed images fs) images layout C wants
+  had C h = record {
+    bytes = bytes;
+    pass = h.pass;
+    honest = h.honest;
+    committed = λ t i checked. all_in (λ (t : Target). IsSome (C t.want)) (blocks images fs) t h.committed (block_of t i checked);
+    slices = λ t i checked. all_in (λ (t : Target). IfSome (C t.want) (IsSlice (size_of t))) (blocks images fs) t h.slices (block_of t i checked);
+  }
+
+  -- the row of a block is the same by the list
+  row_same : (C : Committed) (t : Target) → CanBeSpared images fs C t
+      → HasRightPlace images C t
+      ⊎ ((mirrors t.chunk ≡ None) × HasFewWrongAt images layout C (row_of (failed images fs) (targets layout wants) t.chunk t.at.row) t)
+  row_same C t spared =
+      subst (λ ts. HasRightPlace images C t ⊎ ((mirrors t.chunk ≡ None) × HasFewWrongAt images layout C (row_of (failed images fs) ts t.chunk t.at.row) t))
+      (sym same) spared
 
   pub may_hold_anything : RangesMayHoldAnything images fs
   may_hold_anything C left h keeps =
-      all_from (StandsFor left C) (blocks images fs) (λ t i.
+      all_from (λ t. CanBeSpared images fs C t → StandsFor left C t) (blocks images fs) (λ t i spared.
       let b = of_block t i in
-      block_outlives (doubted images fs) images layout C wants table own h.given lengths (had C h) (apart C h) left t b.0 b.1
-      (subst (λ ws. KeepsOutside (map (λ (w : Write). w.range) ws) images left) (sym (writes_beside images fs)) keeps))
+      block_outlives (failed images fs) images layout wants table own h.given lengths apart C (had C h) left t b.0 b.1 (row_same C t spared)
+      (written left keeps))
 
   pub leave_fresh : RangesLeaveFresh images fs
-  leave_fresh C left h keeps =
-      all_from (λ t. is_loose t ≡ true → fresh left (doubted images fs).failing t ≡ fresh images (doubted images fs).failing t) (sites images fs) (λ t i loose.
-      fresh_outlives (doubted images fs) images layout C wants table own h.given lengths (had C h) (apart C h) left t (subst (In t) (sym same) i) loose
-      (subst (λ ws. KeepsOutside (map (λ (w : Write). w.range) ws) images left) (sym (writes_beside images fs)) keeps))
+  leave_fresh left given keeps =
+      all_from (λ t. is_plain t.want ≡ true → IsSome (mirrors t.chunk) → fresh left (failed images fs) t ≡ fresh images (failed images fs) t) (sites images fs) (λ t i sector copies.
+      fresh_outlives (failed images fs) images layout wants table own given lengths apart left t (subst (In t) (sym same) i) sector copies (written left keeps))
 
   pub lie_in_wrong : RangesLieInWrong images fs
   lie_in_wrong C h = all_from (IsWrongRange images fs C) (ranges images fs) (λ range i.
-      of range (range_is_wrong (doubted images fs) images layout C wants table own h.given lengths (had C h) (apart C h) range
+      of range (range_is_wrong (failed images fs) images layout C wants table own h.given lengths (had C h) apart range
       (subst (λ ws. In range (map (λ (w : Write). w.range) ws)) (sym (writes_beside images fs)) i)))
     where
-      of : (range : Range) → IsWrong (doubted images fs) images layout C wants table own h.given lengths (had C h) (apart C h) range
+      of : (range : Range) → IsWrong (failed images fs) images layout C wants table own h.given lengths (had C h) apart range
           → IsWrongRange images fs C range
-      of range (inl (chunk, c, (row, i, lies))) = inl (any_in (λ row. LiesInWrong images layout C row range) (rows images fs) row (in_flat (rows_in (doubted images fs) (sites images fs)) chunk row layout.chunks c (subst (λ ts. In row (rows_in (doubted images fs) ts chunk)) same i)) lies)
-      of range (inr (inl (t, i, checked, wrong))) = inr (inl (any_in (IsOfWrongCopy images C range) (blocks images fs) t (block_of t i checked) wrong))
-      of range (inr (inr (t, i, stale))) = inr (inr (any_in (IsOfStale images (doubted images fs).failing range) (sites images fs) t (subst (In t) same i) stale))
+      of range (inl (chunk, c, (row, i, wrong))) = inl (any_in (IsOfWrongParity images layout C range) (rows images fs) row
+          (in_flat (rows_in (failed images fs) (sites images fs)) chunk row layout.chunks c
+          (subst (λ ts. In row (rows_in (failed images fs) ts chunk)) same i)) wrong)
+      of range (inr (inl (t, i, checked, wrong))) = inr (inl (any_in (IsOfWrongPlace images C range) (blocks images fs) t (block_of t i checked) wrong))
+      of range (inr (inr (t, i, stale))) = inr (inr (any_in (IsOfStale images (failed images fs) range) (sites images fs) t (subst (In t) same i) stale))

@@ -1,5 +1,5 @@
 -- What a call of scrub answers and leaves, from what it did.
-use Rattle.std.proofs.Common.{◌≡◌, ℕ, ◌<◌, ◌≤◌, Bool, true, false, cond, List, [], map, All, Option, Some, None, IfSome, IsSomeAnd, OnOk, Result, Ok, Err, refl}
+use Rattle.std.proofs.Common.{◌≡◌, ℕ, ◌<◌, ◌≤◌, Bool, true, false, cond, List, [], map, Option, Some, None, IfSome, IsSomeAnd, OnOk, Result, Ok, Err, refl}
 use Rattle.std.proofs.Common.{sym, ap, ◌∙◌, subst, inl, inr, arith}
 use Rattle.std.proofs.lemmas.List.{append-nil}
 use Rattle.std.proofs.lemmas.Option.{same_Some}
@@ -30,10 +30,9 @@ use Rattle.btr_scrub_copies.proofs.Turning.{read_at}
 use Rattle.btr_scrub.specs.Devices.{HaveLengths}
 use Rattle.btr_scrub.specs.Gathering.{StopCause, wants_among, count_met, stop_halt}
 use Rattle.btr_scrub.specs.Leaves.{KeepsOutside}
-use Rattle.btr_scrub.specs.Plain.{plain_among}
-use Rattle.btr_scrub.specs.Repair.{Effect, blocks, devid_of, effect, effect_of_ending, effect_unless, first_missing, meeting, stood_tally, stop_of, tally}
+use Rattle.btr_scrub.specs.Repair.{Effect, devid_of, effect, effect_of_ending, effect_unless, first_missing, meeting, stood_tally, stop_of, tally}
 use Rattle.btr_scrub.specs.Repair.{writes}
-use Rattle.btr_scrub.specs.Right.{AreBytes, Committed, IsRepairable, RangesLeaveFresh, RangesLieInWrong, RangesMayHoldAnything, StandsFor}
+use Rattle.btr_scrub.specs.Right.{AreBytes, Committed, IsCommitted, RangesLeaveFresh, RangesLieInWrong, RangesMayHoldAnything, SparedStand}
 use Rattle.btr_scrub.specs.Scrubbed.{AnswersAs, Called, HasEffect, IsImageFault, IsLeftBy, IsSafe, IsScrubbed, IsSure, OfImages, ReadsAt}
 use Rattle.btr_scrub_copies.specs.Syncing.{plain}
 use Rattle.btr_scrub.specs.Scrubbing.{IsOfScrub, Works}
@@ -207,11 +206,11 @@ module _ (c : Called) where
         (lengths : (images : Images) → c.old.held ≡ Some images → HaveLengths images layout) (mid : Seen) (reads : OnlyReads c.old mid) (done : List Met)
         (tells : Tells layout c.old mid (λ B. Follows (unread_by layout c.old mid) no_part [] (exec B (units_in c.fs.sup layout.chunks)) done
         (Ok tt))) (tally' : Tally) (ended : Result (Unit {0}) MendFault)
-        (works : Works layout c.write (listed_writes_for layout (wants_among done) (plain_among done))
-        (listed_count_for layout c.write (wants_among done) (plain_among done)) mid c.new (first_tally (fold count_met 0 done)) tally' ended)
+        (works : Works layout c.write (listed_writes_for layout (wants_among done))
+        (listed_count_for layout c.write (wants_among done)) mid c.new (first_tally (fold count_met 0 done)) tally' ended)
         (says : c.result ≡ answer_of ended tally') where
       abbrev ws : Images → List Write
-      ws images = listed_writes_for layout (wants_among done) (plain_among done) images
+      ws images = listed_writes_for layout (wants_among done) images
 
       abbrev Done : Images → Type 0
       Done images = Follows (unread_by layout c.old mid) no_part [] (exec (fate images layout) (units_in c.fs.sup layout.chunks)) done (Ok tt)
@@ -224,7 +223,7 @@ module _ (c : Called) where
       mid_held images e = ap (λ (s : Seen). s.held) reads.same ∙ e
 
       writes_are : (images : Images) → Done images → ws images ≡ writes images c.fs
-      writes_are images d = ap (λ m. listed_writes_for layout (wants_among m) (plain_among m) images) d.0 ∙ listed_writes images c.fs
+      writes_are images d = ap (λ m. listed_writes_for layout (wants_among m) images) d.0 ∙ listed_writes images c.fs
 
       effect_ok : (images : Images) → Done images → effect c.write images c.fs ≡ effect_of_ending c.write images c.fs (Ok tt)
       effect_ok images d = effect_is images (Ok tt) d.1
@@ -246,11 +245,11 @@ module _ (c : Called) where
 
           tally_is : tally' ≡ stood_tally (tally images c.fs c.write)
           tally_is =
-              told mid.held (λ i. tally' ≡ listed_count_for layout c.write (wants_among done) (plain_among done) i
+              told mid.held (λ i. tally' ≡ listed_count_for layout c.write (wants_among done) i
               (first_tally (fold count_met 0 done))) images (mid_held images e)
               (subst (λ r. OnOk r (IfSome mid.held (λ i. tally'
-              ≡ listed_count_for layout c.write (wants_among done) (plain_among done) i (first_tally (fold count_met 0 done))))) is works.counts)
-              ∙ ap (λ m. listed_count_for layout c.write (wants_among m) (plain_among m) images (first_tally (fold count_met 0 m))) d.0
+              ≡ listed_count_for layout c.write (wants_among done) i (first_tally (fold count_met 0 done))))) is works.counts)
+              ∙ ap (λ m. listed_count_for layout c.write (wants_among m) images (first_tally (fold count_met 0 m))) d.0
               ∙ listed_counts images c.fs c.write table
 
           all_done : HasEffect c images left
@@ -278,8 +277,8 @@ module _ (c : Called) where
             by : (b : Bool) → c.write ≡ b → KeepsOutside (map (λ (w : Write). w.range) (writes_if c.write (ws images))) images left
             by true w =
                 subst (λ b. KeepsOutside (map (λ (w : Write). w.range) (writes_if b (ws images))) images left) (sym w)
-                (works_keep_the_rest layout c.write (wants_among done) (plain_among done)
-                (listed_count_for layout c.write (wants_among done) (plain_among done)) mid c.new (first_tally (fold count_met 0 done)) tally'
+                (works_keep_the_rest layout c.write (wants_among done)
+                (listed_count_for layout c.write (wants_among done)) mid c.new (first_tally (fold count_met 0 done)) tally'
                 ended images left
                 table own given (lengths images e) (mid_held images e) g works)
             by false w =
@@ -378,6 +377,16 @@ module _ (c : Called) where
     ranges_keep true images left vs k = k
     ranges_keep false images left vs k = record { count = k.count; lengths = k.lengths; bytes = λ slot off e. k.bytes slot off refl }
 
+    left_keeps : first_missing layout ≡ None → (images left : Images) → IsLeftBy (effect c.write images c.fs).writes images left
+        → KeepsOutside (map (λ (w : Write). w.range) (writes images c.fs)) images left
+    left_keeps given images left k = by (meeting images c.fs).ending refl
+      where
+        by : (r : Result (Unit {0}) Fault) → (meeting images c.fs).ending ≡ r → KeepsOutside (map (λ (w : Write). w.range) (writes images c.fs)) images left
+        by (Ok u) e = ranges_keep c.write images left (writes images c.fs)
+            (subst (λ (x : Effect). KeepsOutside (map (λ (w : Write). w.range) x.writes) images left) (effect_is given images (Ok u) e) k.rest)
+        by (Err f) e = ranges_keep false images left (writes images c.fs)
+            (subst (λ (x : Effect). KeepsOutside (map (λ (w : Write). w.range) x.writes) images left) (effect_is given images (Err f) e) k.rest)
+
     pub is_safe : IsSafe c
     is_safe = record {
       anything = tell c.old.held (λ images. RangesMayHoldAnything images c.fs)
@@ -386,14 +395,12 @@ module _ (c : Called) where
           (λ images e. leave_fresh images c.fs table own (lengths images e) (bytes images e) node some);
       wrong = tell c.old.held (λ images. RangesLieInWrong images c.fs)
           (λ images e. lie_in_wrong images c.fs table own (lengths images e) (bytes images e) node some);
-      left = λ sure. of_images c (λ images left. (C : Committed) → IsRepairable images c.fs C → All (StandsFor left C) (blocks images c.fs))
+      left = λ sure. of_images c (λ images left. (C : Committed) → IsCommitted images c.fs C → SparedStand images left c.fs C)
           (λ images e. let l = images_of c (λ images left. IsLeftBy (effect c.write images c.fs).writes images left) images e (scrubbed.left sure) in (l.0, l.1))
           (λ images left e g C h.
           let l = images_of c (λ images left. IsLeftBy (effect c.write images c.fs).writes images left) images e (scrubbed.left sure) in
           let k : IsLeftBy (effect c.write images c.fs).writes images left = subst (IsLeftBy (effect c.write images c.fs).writes images) (same_Some l.0 left (sym l.1 ∙ g)) l.2 in
-          let same : (effect c.write images c.fs).writes ≡ writes_if c.write (writes images c.fs) = ap (λ (x : Effect). x.writes) (effect_is h.given images (Ok tt) h.met) in
-          may_hold_anything images c.fs table own (lengths images e) (bytes images e) node some C left h
-          (ranges_keep c.write images left (writes images c.fs) (subst (λ vs. KeepsOutside (map (λ (w : Write). w.range) vs) images left) same k.rest)));
+          may_hold_anything images c.fs table own (lengths images e) (bytes images e) node some C left h (left_keeps h.given images left k));
     }
 
 -- what is known of a device that isn't given, by its id alone

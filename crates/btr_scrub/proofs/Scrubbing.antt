@@ -198,21 +198,25 @@ module _ (layout : Layout) (write : Bool) where
   }
 
   -- nothing was done
-  pub scrubs_none : {A : Type 0} (marks : List Bool) (a : Seen) (t : Tally) (x : A)
-      → Scrubs {A = A} layout write (λ i. []) (λ i y. y) marks marks a a t t (Ok x)
-  scrubs_none marks a t x = record {
+  pub scrubs_idle : {A : Type 0} (count : Tally → Tally) (marks : List Bool) (a : Seen) (t : Tally) (x : A)
+      → Scrubs {A = A} layout write (λ i. []) (λ i. count) marks marks a a t (count t) (Ok x)
+  scrubs_idle count marks a t x = record {
     does = recast (IsOfScrub layout) (λ i. []) (λ i. writes_if write []) [] [] (plain a) (plain a) (Ok x) (λ images e. none write)
         (does_reads (IsOfScrub layout) [] (plain a) (plain a) x (record { same = refl; later = omega arith; same_shut = refl }) (record { faults = refl; fresh = refl; missed = refl; last = refl; opening = refl; shut = refl }));
     waits = λ range i. inl i;
     marked = λ all. all;
     stranded = refl;
-    counts = tell a.held (λ images. t ≡ t) (λ images e. refl);
+    counts = tell a.held (λ images. count t ≡ count t) (λ images e. refl);
     unwritten = λ w. record { same = refl; later = omega arith; same_shut = refl };
   }
     where
       none : (b : Bool) → [] ≡ writes_if b []
       none true = refl
       none false = refl
+
+  pub scrubs_none : {A : Type 0} (marks : List Bool) (a : Seen) (t : Tally) (x : A)
+      → Scrubs {A = A} layout write (λ i. []) (λ i y. y) marks marks a a t t (Ok x)
+  scrubs_none marks a t x = scrubs_idle (λ y. y) marks a t x
 
 -- nothing was done, as there was no memory
 pub scrubs_nothing : (layout : Layout) (write : Bool) (marks : List Bool) (a : Seen) (t : Tally)

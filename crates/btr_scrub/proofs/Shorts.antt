@@ -17,15 +17,16 @@ use Rattle.btr_read.specs.Solution.{byte_lists, the_one}
 use Rattle.btr_read.specs.declared.candidate.Candidate.{Candidate}
 use Rattle.btr_read.specs.declared.candidate.Candidate.TheVariants.{Read, ByP, ByQ, ByBoth}
 use Rattle.btr_read.proofs.Ones.{all_slices}
+use Rattle.btr_read.specs.Fate.{is_plain}
 use Rattle.btr_scrub_copies.specs.Blocks.{accepted, bad_parts, block_writes, copy_writes, written_over}
 use Rattle.btr_scrub_copies.specs.Writes.{Images, Write, write_on, writes_if}
+use Rattle.btr_scrub_row.specs.Wanted.{mending_writes}
 use Rattle.btr_scrub.specs.Devices.{HaveLengths}
 use Rattle.btr_scrub.specs.Glue.{In}
 use Rattle.btr_scrub.specs.Leaves.{KeepsOutside}
 use Rattle.btr_scrub.specs.Order.{IsSought}
 use Rattle.btr_scrub.specs.Repair.{covers}
 use Rattle.btr_scrub_copies.specs.Fresh.{Failing, fresh, fresh_writes, stale_parts}
-use Rattle.btr_scrub.specs.Repair.{is_loose, mending_writes}
 use Rattle.btr_scrub.proofs.CopyWrites.{first_of, fresh_from, is_there}
 use Rattle.btr_scrub_row.proofs.Pasted.{length-pasted, pasted-outside}
 use Rattle.btr_scrub.proofs.Pasting.{image_set, keeps_more, keeps_none, not_covered}
@@ -163,7 +164,7 @@ module _ (images : Images) (layout : Layout) (lengths : HaveLengths images layou
           over_short bytes (stale_parts images fails t) (subst (λ xs. length xs ≤ size_of t) f.value (value_short images t f.way))
 
   pub site_short : (fails : Failing) → All (Short images) (mending_writes images fails t)
-  site_short fails = by (is_loose t)
+  site_short fails = by (is_plain t.want)
     where
       by : (b : Bool) → All (Short images) (cond b (fresh_writes images fails t) (block_writes images t))
       by true = fresh_short fails

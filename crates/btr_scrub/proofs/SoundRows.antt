@@ -1,12 +1,14 @@
--- The full stripes of a filesystem whose blocks can all be had: their blocks are apart, and what is accepted for them is committed.
-use Rattle.std.proofs.Common.{◌≡◌, ◌≢◌, ◌⊎◌, ℕ, ◌+◌, ◌-◌, ◌*◌, ◌/◌, ◌%◌, ◌≤◌, Bool, true, false, cond, ◌&&◌, eqb, leb, ltb, List, [], ◌∷◌, length, slice_get, All}
-use Rattle.std.proofs.Common.{Option, Some, None, IsSome, is_some, IfSome, Result, Ok, Err, IsOk, refl, sym, ap, ◌∙◌, subst, inl, inr, arith}
+-- The full stripes of a filesystem of which it is known what was committed: their blocks are apart, and what these get is right.
+use Rattle.std.proofs.Common.{◌≡◌, ◌⊎◌, ℕ, ◌+◌, ◌-◌, ◌*◌, ◌/◌, ◌%◌, ◌<◌, ◌≤◌, nat_lt, drop, slice_range, Bool, true, false, cond, eqb, leb, ltb, List, [], ◌∷◌, length, slice_get, All}
+use Rattle.std.proofs.Common.{Option, Some, None, IsSome, IfSome, Result, Ok, Err, IsOk, refl, sym, ap, ◌∙◌, subst, inl, inr, arith}
 use Rattle.std.proofs.lemmas.Bool.{false≢true, and_parts, eqb-true, leb-true}
 use Rattle.std.proofs.lemmas.Option.{same_Some}
 use Rattle.std.proofs.Math.Nat.{div-add-mod}
 use Rattle.std.specs.List.{cons_option, filter}
+use Rattle.std.proofs.lemmas.List.Elements.{All-drop, All-take}
+use Rattle.btr_read.proofs.Pieces.{length-slice_range}
 use Rattle.btr_chunk.specs.Chunk.{data_count, is_striped, mirrors, stripe_length}
-use Rattle.btr_chunk.specs.Mapping.{IsPosition}
+use Rattle.btr_chunk.specs.Mapping.{HasPart, IsPosition}
 use Rattle.btr_chunk.specs.Table.{IsTable}
 use Rattle.btr_chunk.specs.declared.chunk.Chunk.{Chunk}
 use Rattle.btr_chunk.specs.declared.place.Part.{Part}
@@ -23,40 +25,35 @@ use Rattle.btr_read.proofs.Fates.{sought_of}
 use Rattle.btr_scrub_copies.specs.Blocks.{accepted, is_good, is_sound}
 use Rattle.btr_scrub_copies.specs.Writes.{Images}
 use Rattle.btr_scrub_copies.proofs.Firsts.{sound_place}
+use Rattle.btr_scrub_row.specs.Rows as rows
 use Rattle.btr_scrub_row.specs.Rows.{Row, blocks_at}
 use Rattle.btr_scrub.specs.Devices.{HaveLengths}
-use Rattle.btr_scrub.specs.Glue.{In}
+use Rattle.btr_scrub.specs.Glue.{In, IsInRow, LiesInRow}
 use Rattle.btr_scrub.specs.Order.{AreApart, IsSought, targets}
-use Rattle.btr_scrub.specs.Repair.{first_missing, is_in_row, is_loose, ok_or_none, row_of, rows_in}
-use Rattle.btr_scrub.specs.Right.{AllPass, AreBytes, Committed, HasFewWrong, HasRightCopy, IsHonest}
+use Rattle.btr_scrub.specs.Repair.{first_missing, is_in_row, ok_or_none, row_of}
+use Rattle.btr_scrub.specs.Columns.{right_for}
+use Rattle.btr_scrub.specs.Right.{AllPass, AreBytes, Committed, IsHonest}
 use Rattle.btr_scrub.specs.Staying.{IsRowOf}
-use Rattle.btr_scrub.specs.Survival.{AcceptsRight, AreBehind, IsSoundRow, RightPasses}
+use Rattle.btr_scrub.specs.Survival.{AcceptsRight, AreBehind, GetsRight, IsSoundRow, RightPasses}
 use Rattle.btr_scrub.proofs.AcrossChunks.{OfRows, row_is}
 use Rattle.btr_scrub.proofs.Blockwise.{of_targets}
 use Rattle.btr_scrub.proofs.Lists.{all_in}
 use Rattle.btr_scrub.proofs.Positions.{striped_position}
 use Rattle.btr_scrub.proofs.RowWrites.{IsBlockOf, in_one_element}
-use Rattle.btr_scrub.proofs.Survival.{elements_are_slices, in_filter, of_filter, some_of}
-use Rattle.btr_scrub.specs.Plain.{Doubts}
+use Rattle.btr_scrub.proofs.Survival.{elements_are_slices, in_filter, of_filter, right_checked, right_plain, some_of}
+use Rattle.btr_scrub.proofs.CopyWrites.{fresh_from}
+use Rattle.btr_scrub.proofs.Elements.{block_of_element}
+use Rattle.btr_scrub.proofs.RowValues.{value_whole}
+use Rattle.btr_scrub_copies.specs.Fresh.{Failing, fresh, stale_parts}
+use Rattle.btr_scrub_row.specs.Wanted.{new_bytes, renewed}
 
--- what isn't said of plain sectors is said of each block in a chunk with parity
-pub checked_there : (t : Target) → mirrors t.chunk ≡ None → is_loose t ≡ false
-checked_there t e = ap (λ o. is_plain t.want && is_some o) e ∙ none (is_plain t.want)
-  where
-    none : (b : Bool) → (b && false) ≡ false
-    none true = refl
-    none false = refl
-
--- what is known of the checked blocks of some wants, which can all be had
-pub record CanBeHad (kept : Doubts) (images : Images) (layout : Layout) (C : Committed) (wants : List Want) : Type 0 where
+-- what is known of what was committed of the checked blocks of some wants
+pub record CanBeHad (kept : Failing) (images : Images) (layout : Layout) (C : Committed) (wants : List Want) : Type 0 where
   pub bytes : AreBytes images
   pub pass : AllPass layout C
   pub honest : IsHonest images layout C
-  pub committed : (t : Target) → In t (targets layout wants) → is_loose t ≡ false → IsSome (C t.want)
-  pub slices : (t : Target) → In t (targets layout wants) → is_loose t ≡ false → IfSome (C t.want) (IsSlice (size_of t))
-  pub copies : (t : Target) → In t (targets layout wants) → is_loose t ≡ false → HasRightCopy images C t
-  pub rows : (chunk : Chunk) (row : Row) → In chunk layout.chunks → In row (rows_in kept (targets layout wants) chunk) → (row.blocks ≢ [])
-      → HasFewWrong images layout C row
+  pub committed : (t : Target) → In t (targets layout wants) → is_plain t.want ≡ false → IsSome (C t.want)
+  pub slices : (t : Target) → In t (targets layout wants) → is_plain t.want ≡ false → IfSome (C t.want) (IsSlice (size_of t))
 
 -- ---- the blocks of a slice
 
@@ -120,7 +117,14 @@ module _ (layout : Layout) (p q : Target → Bool) (base : ℕ) where
 
 -- ---- the row of a number
 
-module _ (kept : Doubts) (images : Images) (layout : Layout) (C : Committed) (wants : List Want) (table : IsTable layout.chunks) (own : HaveOwnSlots layout.devices) (none : first_missing layout ≡ None) (lengths : HaveLengths images layout) (had : CanBeHad kept images layout C wants) where
+-- some bytes of a slice are a slice
+slice_of_slice : (xs : List ℕ) (from size : ℕ) → from + size ≤ 65536 → IsSlice 65536 xs → IsSlice size (slice_range xs from (from + size))
+slice_of_slice xs from size fits is = record {
+  long = length-slice_range xs from (from + size) (omega (arith, fits, is.long)) ∙ omega arith;
+  bytes = All-take (λ b. b < 256) (from + size - from) (drop from xs) (All-drop (λ b. b < 256) from xs is.bytes);
+}
+
+module _ (kept : Failing) (images : Images) (layout : Layout) (C : Committed) (wants : List Want) (table : IsTable layout.chunks) (own : HaveOwnSlots layout.devices) (none : first_missing layout ≡ None) (lengths : HaveLengths images layout) (had : CanBeHad kept images layout C wants) where
   -- committed bytes of a block pass
   pub right_passes : (t : Target) → IsSought layout t → RightPasses C t
   right_passes t is = subst (λ s. IfSome (C t.want) (λ bytes. passes s t.want bytes ≡ true)) (sym is.setting) (had.pass t.want)
@@ -130,7 +134,7 @@ module _ (kept : Doubts) (images : Images) (layout : Layout) (C : Committed) (wa
   first_in (y ∷ xs) x e = inl (same_Some y x e)
 
   -- what is accepted for a block is committed
-  pub accepts_right : (t : Target) → In t (targets layout wants) → is_loose t ≡ false → AcceptsRight images C t
+  pub accepts_right : (t : Target) → In t (targets layout wants) → is_plain t.want ≡ false → AcceptsRight images C t
   accepts_right t among checked = by (accepted images t) refl
     where
       by : (o : Option (List ℕ)) → accepted images t ≡ o → IfSome o (λ bytes. C t.want ≡ Some bytes)
@@ -145,7 +149,7 @@ module _ (kept : Doubts) (images : Images) (layout : Layout) (C : Committed) (wa
           b.1 ∙ ap Some (sym (all_in (λ other. other ≡ b.0) (passing images t) x mine (first_in (passing images t) x e)))
 
   -- a place of a block that has the committed bytes is sound, where anything is accepted
-  pub right_is_sound : (t : Target) → In t (targets layout wants) → is_loose t ≡ false → IsSought layout t → (q : Part) (bytes : List ℕ) → accepted images t ≡ Some bytes
+  pub right_is_sound : (t : Target) → In t (targets layout wants) → is_plain t.want ≡ false → IsSought layout t → (q : Part) (bytes : List ℕ) → accepted images t ≡ Some bytes
       → C t.want ≡ Some (element images t q) → is_sound images t q ≡ true
   right_is_sound t among checked is q bytes e right =
       let committed : C t.want ≡ Some bytes = subst (λ o. IfSome o (λ bytes. C t.want ≡ Some bytes)) e (accepts_right t among checked) in
@@ -159,8 +163,8 @@ module _ (kept : Doubts) (images : Images) (layout : Layout) (C : Committed) (wa
     of : OfRows kept layout table own none number chunk there wants row
     of = row_is kept layout table own none number chunk there wants r parity inside
 
-    pub is_row : IsRowOf layout (targets layout wants) row
-    is_row = record { number = of.is.chunk_number; there = of.is.there; parity = of.is.parity; position = of.is.position; made = refl }
+    pub is_row : IsRowOf layout kept (targets layout wants) row
+    is_row = record { number = of.is.chunk_number; there = of.is.there; parity = of.is.parity; position = of.is.position; made = refl; beside = refl }
 
     block_parity : (t : Target) → IsBlockOf layout row t → mirrors t.chunk ≡ None
     block_parity t b = ap mirrors b.chunk ∙ parity
@@ -178,26 +182,82 @@ module _ (kept : Doubts) (images : Images) (layout : Layout) (C : Committed) (wa
         in_it : (t : Target) → In t (targets layout wants) → is_in_row chunk r t ≡ true → In t row.blocks
         in_it t among mine = in_filter (is_in_row chunk r) t (targets layout wants) among mine
 
+    -- ---- one block of it
+
+    module _ (t : Target) (i : In t row.blocks) where
+      b : IsBlockOf layout row t
+      b = of.blocks t i
+
+      among : In t (targets layout wants)
+      among = of_filter (is_in_row chunk r) t (targets layout wants) i
+
+      in_row : IsInRow t
+      in_row =
+          let rule = (table.sound b.is.number t.chunk b.is.there).0 in
+          record { keeps_rule = rule; position = subst (IsPosition t.chunk) (sym b.is.at) (IsPosition-position t.chunk (addr_of t.want) rule b.is.held); parity = block_parity t b }
+
+      lies : LiesInRow layout row t
+      lies = record { chunk = b.chunk; number = b.number; devices = b.is.devices; inside = in_one_element layout t b.is (block_parity t b) }
+
+      -- what is in its place in an element is a slice
+      piece : (q : Part) → HasPart t.chunk.profile (length t.chunk.stripes) q → IsSlice (size_of t) (element images t q)
+      piece q has =
+          let there = subst (λ c. HasPart c.profile (length c.stripes) q) b.chunk has in
+          let stands = of.is.stand q there in
+          subst (IsSlice (size_of t)) (sym (block_of_element images layout row t q in_row lies has stands))
+          (slice_of_slice (rows.element images layout row q) t.at.rest (size_of t) lies.inside (elements_are_slices images layout row q had.bytes lengths stands))
+
+      -- so what a plain sector gets is
+      gets_whole : IfSome (new_bytes images kept t) (IsSlice (size_of t)) ⊎ (is_plain t.want ≡ false)
+      gets_whole = at (is_plain t.want) refl
+        where
+          fresh_whole : (o : Option (List ℕ)) → fresh images kept t ≡ o → IfSome o (IsSlice (size_of t))
+          fresh_whole None e = tt
+          fresh_whole (Some bytes) e =
+              let f = fresh_from kept images t bytes e in
+              subst (IsSlice (size_of t)) f.value
+              (value_whole images t (block_parity t b) in_row.position.index in_row.keeps_rule.few piece f.way f.trusted.there)
+
+          renewed_whole : (c : Bool) → IfSome (cond c (fresh images kept t) None) (IsSlice (size_of t))
+          renewed_whole true = fresh_whole (fresh images kept t) refl
+          renewed_whole false = tt
+
+          at : (c : Bool) → is_plain t.want ≡ c → IfSome (new_bytes images kept t) (IsSlice (size_of t)) ⊎ (is_plain t.want ≡ false)
+          at true plain = inl (subst (λ c. IfSome (cond c (renewed images kept t) (accepted images t)) (IsSlice (size_of t))) (sym plain)
+              (renewed_whole (nat_lt 0 (length (stale_parts images kept t)))))
+          at false checked = inr checked
+
+      right_whole : IfSome (right_for images C row t) (IsSlice (size_of t))
+      right_whole = at (is_plain t.want) refl
+        where
+          at : (c : Bool) → is_plain t.want ≡ c → IfSome (right_for images C row t) (IsSlice (size_of t))
+          at true plain = elim gets_whole [
+            | inl whole ↦ subst (λ o. IfSome o (IsSlice (size_of t))) (sym (right_plain images C row t plain)) whole
+            | inr checked ↦ absurd (false≢true (sym checked ∙ plain))
+          ]
+          at false checked = subst (λ o. IfSome o (IsSlice (size_of t))) (sym (right_checked images C row t checked)) (had.slices t among checked)
+
+      gets_right : GetsRight images C row t
+      gets_right = at (is_plain t.want) refl
+        where
+          same : (o : Option (List ℕ)) → IfSome o (λ bytes. o ≡ Some bytes)
+          same None = tt
+          same (Some bytes) = refl
+
+          at : (c : Bool) → is_plain t.want ≡ c → GetsRight images C row t
+          at true plain = subst (λ o. IfSome (new_bytes images kept t) (λ bytes. o ≡ Some bytes)) (sym (right_plain images C row t plain)) (same (new_bytes images kept t))
+          at false checked = subst (λ o. IfSome (new_bytes images kept t) (λ bytes. o ≡ Some bytes)) (sym (right_checked images C row t checked))
+              (subst (λ c. IfSome (cond c (renewed images kept t) (accepted images t)) (λ bytes. C t.want ≡ Some bytes)) (sym checked) (accepts_right t among checked))
+
     pub sound_row : IsSoundRow images layout C row
     sound_row = record {
       parity = parity;
-      blocks = λ t i.
-          let b = of.blocks t i in
-          let among = of_filter (is_in_row chunk r) t (targets layout wants) i in
-          let rule = (table.sound b.is.number t.chunk b.is.there).0 in
-          record {
-            in_row = record { keeps_rule = rule; position = subst (IsPosition t.chunk) (sym b.is.at) (IsPosition-position t.chunk (addr_of t.want) rule b.is.held); parity = block_parity t b };
-            lies = record { chunk = b.chunk; number = b.number; devices = b.is.devices; inside = in_one_element layout t b.is (block_parity t b) };
-            committed = had.committed t among (checked_there t (block_parity t b));
-            bytes = had.slices t among (checked_there t (block_parity t b));
-          };
+      blocks = λ t i. record { in_row = in_row t i; lies = lies t i; committed = λ checked. had.committed t (among t i) checked; bytes = right_whole t i };
       spaced = spaced;
       stand = of.is.stand;
       bytes = λ q has. elements_are_slices images layout row q had.bytes lengths (of.is.stand q has);
     }
 
-    -- committed bytes of its blocks pass, and are what is accepted
-    pub right_there : (t : Target) → In t row.blocks → RightPasses C t × AcceptsRight images C t
-    right_there t i =
-        let b = of.blocks t i in
-        (right_passes t b.is, accepts_right t (of_filter (is_in_row chunk r) t (targets layout wants) i) (checked_there t (block_parity t b)))
+    -- what its blocks get is right
+    pub right_there : (t : Target) → In t row.blocks → GetsRight images C row t
+    right_there t i = gets_right t i

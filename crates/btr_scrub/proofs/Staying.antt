@@ -1,16 +1,15 @@
--- Right elements stay.
-use Rattle.std.proofs.Common.{◌≡◌, ◌⊎◌, ℕ, ◌+◌, ◌-◌, ◌<◌, ◌≤◌, Bool, true, false, ◌&&◌, eqb, leb, ltb, List, [], length, get_or, drop, slice_range, slice_get}
+-- What isn't wrong stays.
+use Rattle.std.proofs.Common.{◌≡◌, ◌⊎◌, ℕ, ◌+◌, ◌-◌, ◌<◌, ◌≤◌, Bool, true, false, List, [], length, get_or, slice_get}
 use Rattle.std.proofs.Common.{Option, Some, None, IsSome, IsSomeAnd, is_some, refl, sym, ap, ◌∙◌, subst, inl, inr, arith}
-use Rattle.std.proofs.lemmas.Bool.{false≢true, and_from, eq-eqb, le-leb, lt-ltb}
-use Rattle.std.proofs.lemmas.List.{ext_get_or, get_or-take, get_or-drop}
+use Rattle.std.proofs.lemmas.Bool.{false≢true}
 use Rattle.std.proofs.lemmas.Option.{same_Some}
 use Rattle.std.specs.List.{filter, list_any}
 use Rattle.std.specs.Option.{option_map_or}
 use Rattle.btr_chunk.specs.Chunk.{mirrors}
 use Rattle.btr_chunk.specs.Mapping.{place_at, stripe_of}
 use Rattle.btr_chunk.specs.Table.{IsTable}
+use Rattle.btr_chunk.specs.declared.chunk.Chunk.{Chunk}
 use Rattle.btr_chunk.specs.declared.place.Part.{Part}
-use Rattle.btr_chunk.specs.declared.place.Part.TheVariants as part
 use Rattle.btr_rack.specs.Rack.{bytes_of, image_of, range_in}
 use Rattle.btr_rack.specs.declared.place.Place.{Place as Range}
 use Rattle.btr_read.specs.Candidates.{Target}
@@ -18,47 +17,48 @@ use Rattle.btr_read.specs.Layout.{HaveOwnSlots, Layout, device_in}
 use Rattle.btr_read.proofs.Pieces.{length-slice_range}
 use Rattle.btr_scrub.specs.Places.{IsOfElement}
 use Rattle.btr_scrub.specs.Repair.{covers, is_in_row}
-use Rattle.btr_scrub.specs.Right.{Committed, IsRight, committed_for}
-use Rattle.btr_scrub_row.specs.Rows.{Row, element_with, range_in_element}
+use Rattle.btr_scrub.specs.Columns.{Committed, IsWrongAt}
+use Rattle.btr_scrub_row.specs.Rows.{Row, element, range_in_element}
 use Rattle.btr_scrub.specs.Staying.{AvoidRight, IsInCopies, IsInWrong, IsRowOf, RightStays, RowOutlivesWrites}
 use Rattle.btr_scrub_row.proofs.Elements.{range_stands, stands_on}
 use Rattle.btr_chunk.specs.Apart.{LiesIn}
 use Rattle.btr_chunk.proofs.Apart.{stripes_apart}
-use Rattle.btr_scrub.proofs.Places.{elements_apart, is_at}
-use Rattle.btr_scrub.proofs.Survival.{row_survives}
+use Rattle.btr_scrub.proofs.Places.{covered, elements_apart, is_at}
+use Rattle.btr_scrub.proofs.Columns.{row_survives}
+use Rattle.btr_scrub.proofs.Survival.{at_range}
+use Rattle.btr_scrub_copies.specs.Fresh.{Failing}
 use Rattle.btr_scrub_copies.specs.Writes.{Images}
 
--- ranges of two lists that have the same bytes there
-pub range_same : (xs ys : List ℕ) (a b : ℕ) → b ≤ length xs → length ys ≡ length xs → ((i : ℕ) → a ≤ i → i < b → get_or xs i 0 ≡ get_or ys i 0)
-    → slice_range xs a b ≡ slice_range ys a b
-range_same xs ys a b le long same =
-    let lx = length-slice_range xs a b le in
-    ext_get_or 0 (slice_range xs a b) (slice_range ys a b) (lx ∙ sym (length-slice_range ys a b (omega (arith, le, long))))
-    (λ i below. let lt : i < b - a = omega (arith, below, lx) in
-    get_or-take (b - a) (drop a xs) i 0 lt ∙ get_or-drop a xs i 0 ∙ same (a + i) (omega arith) (omega (arith, lt))
-    ∙ sym (get_or-take (b - a) (drop a ys) i 0 lt ∙ get_or-drop a ys i 0))
+-- one place of an element has a byte of a slot
+same_place : (o : Option Range) (off x y : ℕ) → IsSomeAnd o (λ range. off ≡ range.off + x) → IsSomeAnd o (λ range. off ≡ range.off + y) → x ≡ y
+same_place None off x y h g = absurd h
+same_place (Some range) off x y h g = omega (arith, h, g)
 
--- an element doesn't hang on the columns whose parities are kept
-kept_apart : (images : Images) (layout : Layout) (given : Target → Option (List ℕ)) (row : Row) (kept : ℕ → Bool) (q : Part)
-    → element_with images layout given (record { chunk = row.chunk; number = row.number; blocks = row.blocks; kept = kept }) q ≡ element_with images layout given row q
-kept_apart images layout given row kept (part.Mirror i) = refl
-kept_apart images layout given row kept (part.Slice i) = refl
-kept_apart images layout given row kept part.P = refl
-kept_apart images layout given row kept part.Q = refl
+-- a row made of these
+abbrev made : Chunk → ℕ → List Target → Failing → Row
+made chunk number blocks fails = record { chunk = chunk; number = number; blocks = blocks; failing = fails }
 
-module _ (images : Images) (layout : Layout) (C : Committed) (blocks : List Target) (table : IsTable layout.chunks)
-    (own : HaveOwnSlots layout.devices) (row : Row) (is_row : IsRowOf layout blocks row) (q : Part)
-    (right : IsRight images layout C row q) (slot off : ℕ) (of : IsOfElement layout row q slot off) where
-  -- a byte of a right element lies in no wrong one
-  not_wrong : IsInWrong images layout C blocks slot off → ⊥
+-- one that is made of the same is the same
+same_row : (row other : Row) → row.chunk ≡ other.chunk → row.number ≡ other.number → row.blocks ≡ other.blocks → row.failing ≡ other.failing → row ≡ other
+same_row row other chunk number blocks fails =
+    ap (λ c. made c row.number row.blocks row.failing) chunk ∙ ap (λ n. made other.chunk n row.blocks row.failing) number
+    ∙ ap (λ bs. made other.chunk other.number bs row.failing) blocks ∙ ap (made other.chunk other.number other.blocks) fails
+
+module _ (images : Images) (layout : Layout) (C : Committed) (fails : Failing) (blocks : List Target) (table : IsTable layout.chunks)
+    (own : HaveOwnSlots layout.devices) (row : Row) (is_row : IsRowOf layout fails blocks row) (q : Part) (place : ℕ)
+    (fine : ¬ (IsWrongAt images layout C row q place)) (slot off : ℕ) (of : IsOfElement layout row q slot off)
+    (at : IsSomeAnd (range_in_element layout row q 0 65536) (λ range. off ≡ range.off + place)) where
+  -- a byte that isn't wrong in this row isn't in any
+  not_wrong : IsInWrong images layout C fails blocks slot off → ⊥
   not_wrong w =
       let same = elements_apart layout row w.row q w.part slot off table own of w.of in
       let blocks_same : row.blocks ≡ w.row.blocks = is_row.made ∙ ap (λ c. filter (is_in_row c row.number) blocks) same.0 ∙ ap (λ n. filter (is_in_row w.row.chunk n) blocks) same.1 ∙ sym w.is_row.made in
-      let mine : IsRight images layout C (record { chunk = w.row.chunk; number = w.row.number; blocks = w.row.blocks; kept = row.kept }) q =
-      subst (λ bs. IsRight images layout C (record { chunk = w.row.chunk; number = w.row.number; blocks = bs; kept = row.kept }) q) blocks_same
-      (subst (λ n. IsRight images layout C (record { chunk = w.row.chunk; number = n; blocks = row.blocks; kept = row.kept }) q) same.1
-      (subst (λ c. IsRight images layout C (record { chunk = c; number = row.number; blocks = row.blocks; kept = row.kept }) q) same.0 right)) in
-      w.wrong (subst (λ p. IsRight images layout C w.row p) same.2 (mine ∙ kept_apart images layout (committed_for C) w.row row.kept q))
+      let row_is : w.row ≡ row = sym (same_row row w.row same.0 same.1 blocks_same (is_row.beside ∙ sym w.is_row.beside)) in
+      let here : w.place ≡ place = same_place (range_in_element layout row q 0 65536) off w.place place
+      (subst (λ p. IsSomeAnd (range_in_element layout row p 0 65536) (λ range. off ≡ range.off + w.place)) (sym same.2)
+      (subst (λ r. IsSomeAnd (range_in_element layout r w.part 0 65536) (λ range. off ≡ range.off + w.place)) row_is w.at)) at in
+      fine (subst (IsWrongAt images layout C row q) here
+      (subst (λ p. IsWrongAt images layout C row p w.place) (sym same.2) (subst (λ r. IsWrongAt images layout C r w.part w.place) row_is w.wrong)))
 
   -- nor in a chunk with copies
   not_copies : IsInCopies layout slot off → ⊥
@@ -71,50 +71,65 @@ module _ (images : Images) (layout : Layout) (C : Committed) (blocks : List Targ
       let chunk : row.chunk ≡ c.lies.chunk = same_Some row.chunk c.lies.chunk (sym of.there ∙ ap (slice_get layout.chunks) both.0 ∙ c.lies.there) in
       false≢true (sym (ap (λ k. is_some (mirrors k)) (sym chunk) ∙ ap is_some is_row.parity) ∙ c.copies)
 
-  not_in_ranges : (ranges : List Range) → AvoidRight images layout C blocks ranges → list_any (covers slot off) ranges ≡ false
+  not_in_ranges : (ranges : List Range) → AvoidRight images layout C fails blocks ranges → list_any (covers slot off) ranges ≡ false
   not_in_ranges ranges avoid = by (list_any (covers slot off) ranges) refl
     where
       by : (b : Bool) → list_any (covers slot off) ranges ≡ b → list_any (covers slot off) ranges ≡ false
       by true e = elim (avoid slot off e) [ inl w ↦ absurd (not_wrong w) | inr c ↦ absurd (not_copies c) ]
       by false e = e
 
-pub covered : (slot off len i : ℕ) → off ≤ i → i < off + len → covers slot i (range_in slot off len) ≡ true
-covered slot off len i le lt =
-    and_from (eqb slot slot && leb off i) (ltb i (off + len)) (and_from (eqb slot slot) (leb off i) (eq-eqb slot slot refl) (le-leb off i le))
-    (lt-ltb i (off + len) lt)
-
 none_or : (o : Option Range) → (IsSome o → (x : Range) × (o ≡ Some x)) × ((b : Bool) → is_some o ≡ b → (o ≡ None) ⊎ IsSome o)
 none_or None = ((λ h. absurd (false≢true h)), λ b e. inl refl)
 none_or (Some r) = ((λ h. (r, refl)), λ b e. inr refl)
 
 pub right_stays : RightStays
-right_stays images left layout C blocks row ranges table own lengths is_row avoid keeps q has right =
-    let place = place_at row.chunk q (record { row = row.number; index = 0; rest = 0 }) in
-    let r = range_in_element layout row q 0 65536 in
-    elim ((none_or r).1 (is_some r) refl) [
-      | inl none ↦ ap (λ (o : Option Range). option_map_or (λ range. bytes_of left range.slot range.off range.len) o []) none
-          ∙ sym (ap (λ (o : Option Range). option_map_or (λ range. bytes_of images range.slot range.off range.len) o []) none)
-      | inr some ↦
-          let s = stands_on place.offset 65536 (device_in layout.devices place.devid) some in
-          let e = range_stands place.offset 65536 (device_in layout.devices place.devid) s.device s.there s.within in
-          let slot = s.device.slot in
-          let long = lengths place.devid s.device s.there in
-          let bytes : bytes_of left slot place.offset 65536 ≡ bytes_of images slot place.offset 65536 =
-          range_same (image_of left slot) (image_of images slot) place.offset (place.offset + 65536)
-          (omega (arith, s.within, long, keeps.lengths slot)) (sym (keeps.lengths slot))
-          (λ i from to. keeps.bytes slot i (not_in_ranges images layout C blocks table own row is_row q right slot i (record {
-            number = is_row.number;
-            there = is_row.there;
-            parity = is_row.parity;
-            position = is_row.position;
-            has = has;
-            covers = subst (λ o. IsSomeAnd o (λ range. covers slot i range ≡ true)) (sym e) (covered slot place.offset 65536 i from to);
-          }) ranges avoid)) in
-          ap (λ (o : Option Range). option_map_or (λ range. bytes_of left range.slot range.off range.len) o []) e
-          ∙ bytes
-          ∙ sym (ap (λ (o : Option Range). option_map_or (λ range. bytes_of images range.slot range.off range.len) o []) e)
-    ]
+right_stays images left layout C fails blocks row ranges table own lengths is_row avoid keeps = record {
+  lengths = λ q has. elim ((none_or (range q)).1 (is_some (range q)) refl) [
+    | inl none ↦ ap length (bytes_there left q None none) ∙ sym (ap length (bytes_there images q None none))
+    | inr some ↦
+        let s = there q some in
+        ap length (bytes_there left q (Some s.0) s.1)
+        ∙ length-slice_range (image_of left s.0.slot) s.0.off (s.0.off + s.0.len) (omega (arith, s.2, keeps.lengths s.0.slot))
+        ∙ sym (ap length (bytes_there images q (Some s.0) s.1) ∙ length-slice_range (image_of images s.0.slot) s.0.off (s.0.off + s.0.len) s.2)
+  ];
+  bytes = λ q x has lt fine. elim ((none_or (range q)).1 (is_some (range q)) refl) [
+    | inl none ↦ ap (λ xs. get_or xs x 0) (bytes_there left q None none ∙ sym (bytes_there images q None none))
+    | inr some ↦
+        let s = there q some in
+        let off = s.0.off + x in
+        let inside : x < s.0.off + s.0.len - s.0.off = omega (arith, lt, s.3) in
+        let of : IsOfElement layout row q s.0.slot off = record {
+          number = is_row.number;
+          there = is_row.there;
+          parity = is_row.parity;
+          position = is_row.position;
+          has = has;
+          covers = subst (λ o. IsSomeAnd o (λ range. covers s.0.slot off range ≡ true)) (sym s.1)
+              (covered s.0.slot s.0.off s.0.len off (omega arith) (omega (arith, lt, s.3)));
+        } in
+        ap (λ xs. get_or xs x 0) (bytes_there left q (Some s.0) s.1) ∙ at_range (image_of left s.0.slot) s.0.off (s.0.off + s.0.len) x 0 inside
+        ∙ keeps.bytes s.0.slot off (not_in_ranges images layout C fails blocks table own row is_row q x fine s.0.slot off of
+        (subst (λ o. IsSomeAnd o (λ range. off ≡ range.off + x)) (sym s.1) refl) ranges avoid)
+        ∙ sym (ap (λ xs. get_or xs x 0) (bytes_there images q (Some s.0) s.1) ∙ at_range (image_of images s.0.slot) s.0.off (s.0.off + s.0.len) x 0 inside)
+  ];
+}
+  where
+    range : Part → Option Range
+    range q = range_in_element layout row q 0 65536
+
+    bytes_there : (now : Images) (q : Part) (o : Option Range) → range q ≡ o → element now layout row q
+        ≡ option_map_or (λ r. bytes_of now r.slot r.off r.len) o []
+    bytes_there now q o e = ap (λ (o : Option Range). option_map_or (λ r. bytes_of now r.slot r.off r.len) o []) e
+
+    -- where an element stands
+    there : (q : Part) → IsSome (range q) → (r : Range) × (range q ≡ Some r) × (r.off + r.len ≤ length (image_of images r.slot)) × (r.len ≡ 65536)
+    there q some =
+        let place = place_at row.chunk q (record { row = row.number; index = 0; rest = 0 }) in
+        let s = stands_on place.offset 65536 (device_in layout.devices place.devid) some in
+        let e = range_stands place.offset 65536 (device_in layout.devices place.devid) s.device s.there s.within in
+        (range_in s.device.slot place.offset 65536, e, omega (arith, s.within, lengths place.devid s.device s.there), refl)
 
 pub row_outlives_writes : RowOutlivesWrites
-row_outlives_writes images left layout C blocks row ranges t table own lengths is_row avoid keeps sound few among =
-    row_survives images left layout C row t sound few (right_stays images left layout C blocks row ranges table own lengths is_row avoid keeps) among
+row_outlives_writes images left layout C fails blocks row ranges t table own lengths is_row avoid keeps sound pass spared among checked =
+    row_survives images left layout C row t sound pass spared
+    (right_stays images left layout C fails blocks row ranges table own lengths is_row avoid keeps) among checked

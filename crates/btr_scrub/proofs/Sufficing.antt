@@ -1,9 +1,9 @@
 -- What is written beside flags is what is written beside the images that fail.
-use Rattle.std.proofs.Common.{◌≡◌, ℕ, ◌/◌, Bool, true, false, cond, ◌&&◌, ◌||◌, not, List, [], ◌∷◌, map, slice_get, Option, Some, None, is_none, is_some, IfSome}
+use Rattle.std.proofs.Common.{◌≡◌, ℕ, ◌/◌, Bool, true, false, cond, ◌||◌, List, [], ◌∷◌, ◌++◌, map, Option, Some, None, is_none, IfSome}
 use Rattle.std.proofs.Common.{OnOk, Result, Err, refl, sym, ap, ◌∙◌, subst, inl, inr}
 use Rattle.std.proofs.Math.Path.{fun_ext}
 use Rattle.std.proofs.lemmas.Bool.{false≢true}
-use Rattle.std.specs.List.{filter, list_any, range_with_len}
+use Rattle.std.specs.List.{flat_map, fold, list_any, range_with_len}
 use Rattle.btr_chunk.specs.Chunk.{mirrors, stripe_length}
 use Rattle.btr_chunk.specs.Table.{IsTable}
 use Rattle.btr_chunk.specs.declared.chunk.Chunk.{Chunk}
@@ -24,23 +24,24 @@ use Rattle.btr_scrub_copies.specs.declared.mended.MendFault.TheVariants.{Image, 
 use Rattle.btr_scrub_copies.proofs.Doing.{does_behind, does_failed}
 use Rattle.btr_scrub_copies.proofs.Syncs.{passing_filter}
 use Rattle.btr_scrub_copies.proofs.Turning.{read_at, reads_plain, strands_none}
+use Rattle.btr_scrub_row.specs.Wanted.{mending_writes}
 use Rattle.btr_scrub.specs.Doubts.{failing}
 use Rattle.btr_scrub_copies.specs.Fresh.{Failing, flagged, fresh_writes, freshened}
 use Rattle.btr_scrub.specs.Glue.{In}
-use Rattle.btr_scrub.specs.Judged.{AreFailing, IsIdle, Suffices, has_behind, has_older, some_parity}
+use Rattle.btr_scrub.specs.Judged.{AreFailing, IsIdle, Suffices, has_behind, has_older, some_older, some_parity}
 use Rattle.btr_scrub.specs.Leaves.{LiesInStripe}
 use Rattle.btr_scrub.specs.Order.{IsSought, targets}
-use Rattle.btr_scrub.specs.Plain.{Doubts, doubts_of, is_kept, is_surer, is_unsure, slices_of}
-use Rattle.btr_scrub.specs.Repair.{first_missing, is_in_chunk, is_in_row, is_loose, mending_writes, rows_in}
+use Rattle.btr_scrub.specs.Repair.{first_missing, is_in_chunk, is_in_row, row_of, rows_in}
 use Rattle.btr_scrub.specs.Scrubbing.{IsOfScrub, Works, all_count_for, all_writes_for, chunk_count_for, chunk_writes_for, count_site, counted}
-use Rattle.btr_scrub.specs.Scrubbing.{counted_plain, rows_count, rows_writes, sites_count, sites_in, sites_writes}
-use Rattle.btr_scrub.specs.Whole.{listed_count_for, listed_doubts, listed_writes_for}
+use Rattle.btr_scrub_row.specs.Rows.{row_writes}
+use Rattle.btr_scrub.specs.Scrubbing.{count_row, counted_plain, rows_count, rows_writes, sites_count, sites_in, sites_writes}
+use Rattle.btr_scrub.specs.Whole.{listed_count_for, listed_failing, listed_writes_for}
 use Rattle.btr_scrub.specs.declared.tally.Tally.{Tally}
-use Rattle.btr_scrub.proofs.AcrossChunks.{of_chunk}
+use Rattle.btr_scrub.proofs.AcrossChunks.{of_chunk, row_counted}
 use Rattle.btr_scrub.proofs.Blockwise.{of_targets}
 use Rattle.btr_scrub.proofs.Calm.{calm_chunk, none_fresh, none_freshened, none_of}
 use Rattle.btr_scrub.proofs.Lists.{at_in}
-use Rattle.btr_scrub.proofs.RowAgreeing.{flat_same, fold_same}
+use Rattle.btr_scrub.proofs.RowAgreeing.{RowAlike, checked_row, flat_same, fold_same, row_writes_alike}
 use Rattle.btr_scrub.proofs.Scrubbing.{told}
 use Rattle.btr_scrub.proofs.Working.{waits_before, works_as}
 
@@ -51,31 +52,48 @@ pub record SameBeside (fails also : Failing) (images : Images) (t : Target) : Ty
   pub writes : mending_writes images fails t ≡ mending_writes images also t
   pub counts : (write : Bool) (tally : Tally) → count_site fails images write tally t ≡ count_site also images write tally t
 
-module _ (kept also : Doubts) (layout : Layout) (wants : List Want) (images : Images) where
-  pub record Alike (chunk : Chunk) : Type 0 where
-    pub columns : mirrors chunk ≡ None → (row column : ℕ) → kept.columns chunk row column ≡ also.columns chunk row column
-    pub sites : (n : ℕ) → mirrors chunk ≡ Some n → (t : Target) → In t (sites_in layout chunk wants) → SameBeside kept.failing also.failing images t
+-- the same of each made of a list
+flat_mapped : {X Y Z : Type 0} (f : Y → List Z) (g h : X → Y) (xs : List X) → ((x : X) → f (g x) ≡ f (h x)) → flat_map f (map g xs) ≡ flat_map f (map h xs)
+flat_mapped f g h [] e = refl
+flat_mapped f g h (x ∷ xs) e = ap (λ zs. zs ++ flat_map f (map g xs)) (e x) ∙ ap (λ zs. f (h x) ++ zs) (flat_mapped f g h xs e)
 
-  rows_alike : (chunk : Chunk) → Alike chunk → mirrors chunk ≡ None → rows_in kept (targets layout wants) chunk ≡ rows_in also (targets layout wants) chunk
+fold_mapped : {X Y Z : Type 0} (f : Z → Y → Z) (g h : X → Y) (xs : List X) (z : Z) → ((x : X) (z : Z) → f z (g x) ≡ f z (h x))
+    → fold f z (map g xs) ≡ fold f z (map h xs)
+fold_mapped f g h [] z e = refl
+fold_mapped f g h (x ∷ xs) z e = ap (λ y. fold f y (map g xs)) (e x z) ∙ fold_mapped f g h xs (f z (h x)) e
+
+module _ (kept also : Failing) (layout : Layout) (wants : List Want) (images : Images) where
+  pub record Alike (chunk : Chunk) : Type 0 where
+    pub rows : mirrors chunk ≡ None → (number : ℕ) → RowAlike images images layout (row_of also (targets layout wants) chunk number) kept
+    pub sites : (n : ℕ) → mirrors chunk ≡ Some n → (t : Target) → In t (sites_in layout chunk wants) → SameBeside kept also images t
+
+  abbrev all_rows : Chunk → List ℕ
+  all_rows chunk = range_with_len 0 (stripe_length chunk / 65536)
+
+  rows_alike : (chunk : Chunk) → Alike chunk → mirrors chunk ≡ None
+      → rows_writes layout (rows_in kept (targets layout wants) chunk) images ≡ rows_writes layout (rows_in also (targets layout wants) chunk) images
   rows_alike chunk h none =
-      ap (λ f. cond (is_none (mirrors chunk))
-      (map (λ number. record {
-        chunk = chunk;
-        number = number;
-        blocks = filter (is_in_row chunk number)
-            (targets layout wants);
-        kept = f number;
-      }) (range_with_len 0 (stripe_length chunk / 65536))) [])
-      (fun_ext (λ row. fun_ext (λ column. h.columns none row column)))
+      ap (λ o. rows_writes layout (cond (is_none o) (map (row_of kept (targets layout wants) chunk) (all_rows chunk)) []) images) none
+      ∙ flat_mapped (row_writes images layout) (row_of kept (targets layout wants) chunk) (row_of also (targets layout wants) chunk) (all_rows chunk)
+      (λ k. row_writes_alike images images layout (row_of also (targets layout wants) chunk k) kept (h.rows none k))
+      ∙ sym (ap (λ o. rows_writes layout (cond (is_none o) (map (row_of also (targets layout wants) chunk) (all_rows chunk)) []) images) none)
+
+  rows_counted : (write : Bool) (chunk : Chunk) (tally : Tally) → Alike chunk → mirrors chunk ≡ None
+      → rows_count layout write (rows_in kept (targets layout wants) chunk) images tally ≡ rows_count layout write (rows_in also (targets layout wants) chunk) images tally
+  rows_counted write chunk tally h none =
+      ap (λ o. rows_count layout write (cond (is_none o) (map (row_of kept (targets layout wants) chunk) (all_rows chunk)) []) images tally) none
+      ∙ fold_mapped (count_row images layout write) (row_of kept (targets layout wants) chunk) (row_of also (targets layout wants) chunk) (all_rows chunk) tally
+      (λ k x. row_counted images images layout write (row_of also (targets layout wants) chunk k) kept x (h.rows none k))
+      ∙ sym (ap (λ o. rows_count layout write (cond (is_none o) (map (row_of also (targets layout wants) chunk) (all_rows chunk)) []) images tally) none)
 
   writes_alike : (chunk : Chunk) → Alike chunk → chunk_writes_for kept layout chunk wants images ≡ chunk_writes_for also layout chunk wants images
   writes_alike chunk h = by (mirrors chunk) refl
     where
       by : (o : Option ℕ) → mirrors chunk ≡ o
-          → cond (is_none o) (rows_writes layout (rows_in kept (targets layout wants) chunk) images) (sites_writes kept.failing (sites_in layout chunk wants) images)
-          ≡ cond (is_none o) (rows_writes layout (rows_in also (targets layout wants) chunk) images) (sites_writes also.failing (sites_in layout chunk wants) images)
-      by None e = ap (λ rs. rows_writes layout rs images) (rows_alike chunk h e)
-      by (Some n) e = flat_same (mending_writes images kept.failing) (mending_writes images also.failing) (sites_in layout chunk wants)
+          → cond (is_none o) (rows_writes layout (rows_in kept (targets layout wants) chunk) images) (sites_writes kept (sites_in layout chunk wants) images)
+          ≡ cond (is_none o) (rows_writes layout (rows_in also (targets layout wants) chunk) images) (sites_writes also (sites_in layout chunk wants) images)
+      by None e = rows_alike chunk h e
+      by (Some n) e = flat_same (mending_writes images kept) (mending_writes images also) (sites_in layout chunk wants)
           (λ t i. (h.sites n e t i).writes)
 
   count_alike : (write : Bool) (chunk : Chunk) (tally : Tally) → Alike chunk
@@ -84,11 +102,11 @@ module _ (kept also : Doubts) (layout : Layout) (wants : List Want) (images : Im
     where
       by : (o : Option ℕ) → mirrors chunk ≡ o
           → cond (is_none o) (rows_count layout write (rows_in kept (targets layout wants) chunk) images tally)
-          (sites_count kept.failing write (sites_in layout chunk wants) images tally)
+          (sites_count kept write (sites_in layout chunk wants) images tally)
           ≡ cond (is_none o) (rows_count layout write (rows_in also (targets layout wants) chunk) images tally)
-          (sites_count also.failing write (sites_in layout chunk wants) images tally)
-      by None e = ap (λ rs. rows_count layout write rs images tally) (rows_alike chunk h e)
-      by (Some n) e = fold_same (count_site kept.failing images write) (count_site also.failing images write) (sites_in layout chunk wants) tally
+          (sites_count also write (sites_in layout chunk wants) images tally)
+      by None e = rows_counted write chunk tally h e
+      by (Some n) e = fold_same (count_site kept images write) (count_site also images write) (sites_in layout chunk wants) tally
           (λ t i x. (h.sites n e t i).counts write x)
 
   pub all_writes_alike : (chunks : List Chunk) → ((chunk : Chunk) → In chunk chunks → Alike chunk)
@@ -102,20 +120,6 @@ module _ (kept also : Doubts) (layout : Layout) (wants : List Want) (images : Im
       (λ x chunk. chunk_count_for also layout write chunk wants images x) chunks tally (λ chunk i x. count_alike write chunk x (h chunk i))
 
 -- ---- flags that suffice
-
-any_false : {X : Type 0} (p : X → Bool) (xs : List X) → ((x : X) → p x ≡ false) → list_any p xs ≡ false
-any_false p [] h = refl
-any_false p (x ∷ xs) h = ap (λ b. b || list_any p xs) (h x) ∙ any_false p xs h
-
-and_false : (b : Bool) → (b && false) ≡ false
-and_false true = refl
-and_false false = refl
-
--- without plain sectors no column is kept
-none_kept : (layout : Layout) (f : Failing) (plain : List ℕ) (chunk : Chunk) (row column : ℕ) → plain ≡ [] → is_kept layout f plain chunk row column ≡ false
-none_kept layout f plain chunk row column e =
-    ap (λ ps. is_kept layout f ps chunk row column) e
-    ∙ any_false (is_unsure layout f [] chunk row column) (range_with_len 0 (slices_of chunk)) (λ slice. and_false (not (is_surer layout f chunk row slice)))
 
 no_parity : (chunk : Chunk) (chunks : List Chunk) → some_parity chunks ≡ false → In chunk chunks → mirrors chunk ≡ None → ⊥
 no_parity chunk [] e i none = i
@@ -132,7 +136,7 @@ none_in : {X : Type 0} (p : X → Bool) (xs : List X) (x : X) → list_any p xs 
 none_in p xs x none i = let j = at_in x xs i in none_of p xs j.0 x none j.1
 
 -- a checked block is mended alike
-checked_alike : (fails also : Failing) (images : Images) (t : Target) → is_loose t ≡ false → SameBeside fails also images t
+checked_alike : (fails also : Failing) (images : Images) (t : Target) → is_plain t.want ≡ false → SameBeside fails also images t
 checked_alike fails also images t e = record {
   writes = ap (λ b. cond b (fresh_writes images fails t) (block_writes images t)) e ∙ sym (ap (λ b. cond b (fresh_writes images also t) (block_writes images t)) e);
   counts = λ write tally.
@@ -144,68 +148,66 @@ checked_alike fails also images t e = record {
 calm_alike : (fails also : Failing) (layout : Layout) (t : Target) (n : ℕ) (images : Images) → IsTable layout.chunks → IsSought layout t
     → mirrors t.chunk ≡ Some n → ((f : Failing) → has_behind layout.devices f t.chunk ≡ false) → SameBeside fails also images t
 calm_alike fails also layout t n images table is has calm = record {
-  writes = ap (λ ws. cond (is_loose t) ws (block_writes images t))
+  writes = ap (λ ws. cond (is_plain t.want) ws (block_writes images t))
       (none_fresh fails layout t n table is has (calm fails) images ∙ sym (none_fresh also layout t n table is has (calm also) images));
-  counts = λ write tally. ap (λ m. cond (is_loose t) (counted_plain tally m) (counted tally (mended_of images t write)))
+  counts = λ write tally. ap (λ m. cond (is_plain t.want) (counted_plain tally m) (counted tally (mended_of images t write)))
       (none_freshened fails layout t n table is has (calm fails) images write ∙ sym (none_freshened also layout t n table is has (calm also) images write));
 }
 
-module _ (layout : Layout) (wants : List Want) (sectors : List ℕ) (rack : Seen) (flags : List Bool) (table : IsTable layout.chunks)
-    (own : HaveOwnSlots layout.devices) (given : first_missing layout ≡ None)
-    (suffice : Suffices layout wants sectors rack flags) (images : Images) (held : rack.held ≡ Some images) where
-  abbrev by_flags : Doubts
-  by_flags = doubts_of layout (flagged flags) sectors
+-- a want that isn't plain
+not_plain : (layout : Layout) (wants : List Want) (t : Target) → In t (targets layout wants) → list_any is_plain wants ≡ false → is_plain t.want ≡ false
+not_plain layout wants t i none =
+    let w = of_targets layout t wants i in
+    ap is_plain (sought_of layout w.0 t w.2).want_is ∙ none_in is_plain wants w.0 none w.1
 
-  abbrev by_images : Doubts
-  by_images = listed_doubts layout wants sectors images
+module _ (layout : Layout) (wants : List Want) (rack : Seen) (flags : List Bool) (table : IsTable layout.chunks)
+    (own : HaveOwnSlots layout.devices) (given : first_missing layout ≡ None)
+    (suffice : Suffices layout wants rack flags) (images : Images) (held : rack.held ≡ Some images) where
+  abbrev by_flags : Failing
+  by_flags = flagged flags
+
+  abbrev by_images : Failing
+  by_images = listed_failing layout wants images
 
   -- where the images that fail are flagged all is the same
-  doubts_same : AreFailing layout wants rack flags → by_flags ≡ by_images
-  doubts_same are = ap (λ f. doubts_of layout f sectors)
-      (fun_ext (told rack.held (λ images. (slot : ℕ) → flagged flags slot ≡ failing images (targets layout wants) slot) images held are))
+  failing_same : AreFailing layout wants rack flags → by_flags ≡ by_images
+  failing_same are = fun_ext (told rack.held (λ images. (slot : ℕ) → flagged flags slot ≡ failing images (targets layout wants) slot) images held are)
 
-  module _ (idle : IsIdle layout wants sectors) where
-    columns_idle : (chunk : Chunk) → In chunk layout.chunks → mirrors chunk ≡ None → (row column : ℕ)
-        → by_flags.columns chunk row column ≡ by_images.columns chunk row column
-    columns_idle chunk i none row column = elim idle.rows [
-      | inl empty ↦ none_kept layout (flagged flags) sectors chunk row column empty
-          ∙ sym (none_kept layout (failing images (targets layout wants)) sectors chunk row column empty)
-      | inr copies ↦ absurd (no_parity chunk layout.chunks copies i none)
-    ]
+  -- without plain sectors
+  all_checked : list_any is_plain wants ≡ false → (chunk : Chunk) → Alike by_flags by_images layout wants images chunk
+  all_checked none chunk = record {
+    rows = λ parity number. checked_row images layout (row_of by_images (targets layout wants) chunk number) by_flags parity
+        (λ t i. not_plain layout wants t (passing_filter (is_in_row chunk number) t (targets layout wants) i).0 none);
+    sites = λ n has t i. checked_alike by_flags by_images images t (not_plain layout wants t (passing_filter (is_in_chunk chunk) t (targets layout wants) i).0 none);
+  }
 
-    -- a want that isn't plain
-    not_plain : (t : Target) → In t (targets layout wants) → list_any is_plain wants ≡ false → is_loose t ≡ false
-    not_plain t i none =
-        let w = of_targets layout t wants i in
-        ap (λ b. b && is_some (mirrors t.chunk)) (ap is_plain (sought_of layout w.0 t w.2).want_is ∙ none_in is_plain wants w.0 none w.1)
+  -- with copies alone, and no older image
+  all_young : some_parity layout.chunks ≡ false → some_older layout ≡ false → (chunk : Chunk) → In chunk layout.chunks → Alike by_flags by_images layout wants images chunk
+  all_young copies young chunk j =
+      let at = at_in chunk layout.chunks j in
+      record {
+        rows = λ parity. absurd (no_parity chunk layout.chunks copies j parity);
+        sites = λ n has t i.
+            let of = of_chunk by_flags layout table own given at.0 chunk at.1 wants t i in
+            calm_alike by_flags by_images layout t n images table of.is (ap mirrors of.chunk_is ∙ has) (λ f.
+            ap (has_behind layout.devices f) of.chunk_is ∙ calm_chunk f layout.devices chunk (none_of (has_older layout.devices) layout.chunks at.0 chunk young at.1));
+      }
 
-    sites_idle : (number : ℕ) (chunk : Chunk) → slice_get layout.chunks number ≡ Some chunk → (n : ℕ) → mirrors chunk ≡ Some n
-        → (t : Target) → In t (sites_in layout chunk wants) → SameBeside by_flags.failing by_images.failing images t
-    sites_idle number chunk there n has t i =
-        let of = of_chunk by_flags layout table own given number chunk there wants t i in
-        let among = (passing_filter (is_in_chunk chunk) t (targets layout wants) i).0 in
-        elim idle.copies [
-          | inl none ↦ checked_alike by_flags.failing by_images.failing images t (not_plain t among none)
-          | inr young ↦ calm_alike by_flags.failing by_images.failing layout t n images table of.is (ap mirrors of.chunk_is ∙ has) (λ f.
-              ap (has_behind layout.devices f) of.chunk_is ∙ calm_chunk f layout.devices chunk (none_of (has_older layout.devices) layout.chunks number chunk young there))
-        ]
+  all_idle : IsIdle layout wants → (chunk : Chunk) → In chunk layout.chunks → Alike by_flags by_images layout wants images chunk
+  all_idle (inl none) chunk i = all_checked none chunk
+  all_idle (inr young) chunk i = all_young young.0 young.1 chunk i
 
-    all_idle : (chunk : Chunk) → In chunk layout.chunks → Alike by_flags by_images layout wants images chunk
-    all_idle chunk i =
-        let j = at_in chunk layout.chunks i in
-        record { columns = columns_idle chunk i; sites = λ n has t k. sites_idle j.0 chunk j.1 n has t k }
-
-  pub flags_write : all_writes_for by_flags layout layout.chunks wants images ≡ listed_writes_for layout wants sectors images
+  pub flags_write : all_writes_for by_flags layout layout.chunks wants images ≡ listed_writes_for layout wants images
   flags_write = elim suffice [
     | inl idle ↦ all_writes_alike by_flags by_images layout wants images layout.chunks (all_idle idle)
-    | inr are ↦ ap (λ d. all_writes_for d layout layout.chunks wants images) (doubts_same are)
+    | inr are ↦ ap (λ d. all_writes_for d layout layout.chunks wants images) (failing_same are)
   ]
 
   pub flags_count : (write : Bool) (tally : Tally)
-      → all_count_for by_flags layout write layout.chunks wants images tally ≡ listed_count_for layout write wants sectors images tally
+      → all_count_for by_flags layout write layout.chunks wants images tally ≡ listed_count_for layout write wants images tally
   flags_count write tally = elim suffice [
     | inl idle ↦ all_count_alike by_flags by_images layout wants images write layout.chunks tally (all_idle idle)
-    | inr are ↦ ap (λ d. all_count_for d layout write layout.chunks wants images tally) (doubts_same are)
+    | inr are ↦ ap (λ d. all_count_for d layout write layout.chunks wants images tally) (failing_same are)
   ]
 
 -- ---- behind reads
@@ -248,20 +250,20 @@ module _ (layout : Layout) (write : Bool) (f : Images → List Write) (c : Image
   }
 
 -- a work beside flags that suffice, behind the reads that came to them
-pub works_beside : (layout : Layout) (write : Bool) (wants : List Want) (sectors : List ℕ) (flags : List Bool) (a b z : Seen) (t u : Tally)
+pub works_beside : (layout : Layout) (write : Bool) (wants : List Want) (flags : List Bool) (a b z : Seen) (t u : Tally)
     (r : Result (Unit {0}) MendFault)
     → IsTable layout.chunks → HaveOwnSlots layout.devices → first_missing layout ≡ None
-    → OnlyReads a b → NoneFailed a.account b.account → Suffices layout wants sectors a flags
-    → Works layout write (all_writes_for (doubts_of layout (flagged flags) sectors) layout layout.chunks wants)
-    (all_count_for (doubts_of layout (flagged flags) sectors) layout write layout.chunks wants) b z t u r
-    → Works layout write (listed_writes_for layout wants sectors) (listed_count_for layout write wants sectors) a z t u r
-works_beside layout write wants sectors flags a b z t u r table own given reads none suffice h =
-    let d = doubts_of layout (flagged flags) sectors in
-    works_as layout write (all_writes_for d layout layout.chunks wants) (listed_writes_for layout wants sectors)
-    (all_count_for d layout write layout.chunks wants) (listed_count_for layout write wants sectors) a z t u r
+    → OnlyReads a b → NoneFailed a.account b.account → Suffices layout wants a flags
+    → Works layout write (all_writes_for (flagged flags) layout layout.chunks wants)
+    (all_count_for (flagged flags) layout write layout.chunks wants) b z t u r
+    → Works layout write (listed_writes_for layout wants) (listed_count_for layout write wants) a z t u r
+works_beside layout write wants flags a b z t u r table own given reads none suffice h =
+    let d = flagged flags in
+    works_as layout write (all_writes_for d layout layout.chunks wants) (listed_writes_for layout wants)
+    (all_count_for d layout write layout.chunks wants) (listed_count_for layout write wants) a z t u r
     (λ images held. (
-      flags_write layout wants sectors a flags table own given suffice images held,
-      flags_count layout wants sectors a flags table own given suffice images held write t,
+      flags_write layout wants a flags table own given suffice images held,
+      flags_count layout wants a flags table own given suffice images held write t,
     ))
     (works_behind layout write (all_writes_for d layout layout.chunks wants) (all_count_for d layout write layout.chunks wants)
     a b reads z t u r none h)

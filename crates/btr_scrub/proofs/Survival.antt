@@ -1,36 +1,41 @@
 -- The blocks of a full stripe as they should be.
-use Rattle.std.proofs.Common.{◌≡◌, ℕ, ◌+◌, ◌-◌, ◌<◌, ◌≤◌, Bool, true, false, cond, eqb, List, [], ◌∷◌, ◌++◌, length, get_or, take, drop, slice_range, Option}
+use Rattle.std.proofs.Common.{◌≡◌, ℕ, ◌+◌, ◌-◌, ◌<◌, ◌≤◌, Bool, true, false, cond, eqb, List, [], ◌∷◌, ◌++◌, length, map, get_or, take, drop, slice_range}
+use Rattle.std.proofs.Common.{Option}
 use Rattle.std.proofs.Common.{Some, None, IsSome, IfSome, IsNone, All, refl, sym, ap, ◌∙◌, subst, inl, inr, arith}
 use Rattle.std.proofs.lemmas.Bool.{false≢true, eq-eqb, cases_lt}
-use Rattle.std.proofs.lemmas.List.{get_or-take, get_or-drop, get_or_past, same_lists}
+use Rattle.std.proofs.lemmas.List.{ext_get_or, get_or-take, get_or-drop, get_or_past, same_lists}
 use Rattle.std.proofs.lemmas.List.Elements.{All-append, All-nil, All-take, All-drop}
 use Rattle.std.proofs.lemmas.List.FromFn.{length-map-range_with_len, get_or-map-range_with_len}
-use Rattle.std.specs.List.{Contains, filter, fold}
+use Rattle.std.specs.List.{filter, fold, range_with_len}
 use Rattle.std.specs.Option.{option_map_or}
-use Rattle.btr_chunk.specs.Chunk.{data_count, mirror_count}
+use Rattle.btr_chunk.specs.Chunk.{mirror_count, mirrors}
 use Rattle.btr_chunk.specs.Mapping.{HasPart, place_at}
 use Rattle.btr_chunk.specs.declared.place.Part.{Part}
 use Rattle.btr_chunk.specs.declared.place.Part.TheVariants as part
 use Rattle.btr_parity.specs.Slices.{IsSlice, parity_p, parity_q}
 use Rattle.btr_parity.specs.Ways.{Stripe, IsConsistent}
+use Rattle.btr_parity.proofs.Lost.{parity_p_slice, weighted_slice}
 use Rattle.btr_rack.specs.Rack.{bytes_of, image_of, pasted}
 use Rattle.btr_rack.specs.declared.place.Place.{Place as Range}
-use Rattle.btr_read.specs.Candidates.{Target, candidates, parts_read, size_of, slice_count, stands, value_of}
+use Rattle.btr_read.specs.Candidates.{Target, size_of}
 use Rattle.btr_read.specs.Layout.{Layout, device_in}
+use Rattle.btr_read.specs.Fate.{is_plain}
 use Rattle.btr_read.proofs.Pieces.{length-slice_range}
-use Rattle.btr_scrub.specs.Glue.{In, IsNearly, right_bytes}
-use Rattle.btr_scrub.specs.Right.{Committed, HasFewWrong, committed_for}
+use Rattle.btr_scrub_row.specs.Wanted.{new_bytes}
+use Rattle.btr_scrub.specs.Glue.{In, right_bytes}
+use Rattle.btr_scrub.specs.Columns.{Committed, right_for}
 use Rattle.btr_scrub_row.specs.Rows as rows
 use Rattle.btr_scrub_row.specs.Rows.{Row, blocks_at, element, element_with, slice_with, slices_with, with_block}
-use Rattle.btr_scrub.specs.Survival.{AreBehind, ElementsAreSlices, IsSoundRow, KeepsRight, RowSurvives}
+use Rattle.btr_scrub.specs.Survival.{AreBehind, ElementsAreSlices, IsSoundRow}
 use Rattle.btr_scrub_row.proofs.Elements.{range_stands, stands_on}
 use Rattle.btr_scrub_row.proofs.Pasted.{length-pasted, pasted-below, pasted-within}
-use Rattle.btr_scrub.proofs.Stripes.{any_of, no_mirror, row_gives_blocks}
+use Rattle.btr_scrub.proofs.Stripes.{no_mirror}
+use Rattle.btr_scrub_copies.specs.Blocks.{own_parts}
 use Rattle.btr_scrub_copies.specs.Writes.{Images}
 
 -- ---- ranges by their bytes
 
-at_range : (xs : List ℕ) (a b i d : ℕ) → i < b - a → get_or (slice_range xs a b) i d ≡ get_or xs (a + i) d
+pub at_range : (xs : List ℕ) (a b i d : ℕ) → i < b - a → get_or (slice_range xs a b) i d ≡ get_or xs (a + i) d
 at_range xs a b i d lt = get_or-take (b - a) (drop a xs) i d lt ∙ get_or-drop a xs i d
 
 pub range_ext : (xs ys : List ℕ) (a b : ℕ) → b ≤ length xs → length xs ≡ length ys → ((i d : ℕ) → a ≤ i → i < b → get_or xs i d ≡ get_or ys i d)
@@ -39,6 +44,15 @@ range_ext xs ys a b le long same =
     let lx = length-slice_range xs a b le in
     same_lists (slice_range xs a b) (slice_range ys a b) (lx ∙ sym (length-slice_range ys a b (omega (arith, le, long))))
     (λ i d below. let lt : i < b - a = omega (arith, below, lx) in at_range xs a b i d lt ∙ same (a + i) d (omega arith) (omega (arith, lt)) ∙ sym (at_range ys a b i d lt))
+
+-- ranges of two lists that have the same bytes there
+pub range_same : (xs ys : List ℕ) (a b : ℕ) → b ≤ length xs → length ys ≡ length xs → ((i : ℕ) → a ≤ i → i < b → get_or xs i 0 ≡ get_or ys i 0)
+    → slice_range xs a b ≡ slice_range ys a b
+range_same xs ys a b le long same =
+    let lx = length-slice_range xs a b le in
+    ext_get_or 0 (slice_range xs a b) (slice_range ys a b) (lx ∙ sym (length-slice_range ys a b (omega (arith, le, long))))
+    (λ i below. let lt : i < b - a = omega (arith, below, lx) in
+    at_range xs a b i 0 lt ∙ same (a + i) (omega arith) (omega (arith, lt)) ∙ sym (at_range ys a b i 0 lt))
 
 range_pasted : (xs : List ℕ) (off : ℕ) (bytes : List ℕ) → off + length bytes ≤ length xs → slice_range (pasted xs off bytes) off (off + length bytes) ≡ bytes
 range_pasted xs off bytes fits =
@@ -143,6 +157,14 @@ elements_are_slices images layout row q all lengths h =
 
 -- ---- the row
 
+-- without copies a block's only place of its own is its slice
+pub own_slice : (t : Target) (q : Part) → mirrors t.chunk ≡ None → In q (own_parts t) → part.Slice t.at.index ≡ q
+own_slice t q none i = by (subst (λ o. In q (option_map_or (λ n. map part.Mirror (range_with_len 0 n)) o (part.Slice t.at.index ∷ []))) none i)
+  where
+    by : In q (part.Slice t.at.index ∷ []) → part.Slice t.at.index ≡ q
+    by (inl e) = e
+    by (inr h) = absurd h
+
 pub in_filter : {X : Type 0} (p : X → Bool) (x : X) (xs : List X) → In x xs → p x ≡ true → In x (filter p xs)
 in_filter p x [] i e = absurd i
 in_filter p x (y ∷ xs) i e = by (p y) refl i (λ j. in_filter p x xs j e)
@@ -166,11 +188,19 @@ pub some_of : {X : Type 0} (o : Option X) → IsSome o → (x : X) × (o ≡ Som
 some_of None h = absurd (false≢true h)
 some_of (Some x) h = (x, refl)
 
+-- the right bytes of a checked block are the committed ones, and those of a plain sector what it gets
+pub right_checked : (images : Images) (C : Committed) (row : Row) (t : Target) → is_plain t.want ≡ false → right_for images C row t ≡ C t.want
+right_checked images C row t e = ap (λ b. cond b (new_bytes images row.failing t) (C t.want)) e
+
+pub right_plain : (images : Images) (C : Committed) (row : Row) (t : Target) → is_plain t.want ≡ true
+    → right_for images C row t ≡ new_bytes images row.failing t
+right_plain images C row t e = ap (λ b. cond b (new_bytes images row.failing t) (C t.want)) e
+
 module _ (images : Images) (layout : Layout) (C : Committed) (row : Row) (sound : IsSoundRow images layout C row) where
   abbrev given : Target → Option (List ℕ)
-  given = committed_for C
+  given = right_for images C row
 
-  abbrev right : Stripe
+  abbrev pub right : Stripe
   right = record {
     slices = slices_with images layout given row;
     p = parity_p 65536 (slices_with images layout given row);
@@ -200,22 +230,22 @@ module _ (images : Images) (layout : Layout) (C : Committed) (row : Row) (sound 
         q = refl;
       }
 
-  right_part : (q : Part) → HasPart row.chunk.profile (length row.chunk.stripes) q → element_with images layout given row q
+  pub right_part : (q : Part) → HasPart row.chunk.profile (length row.chunk.stripes) q → element_with images layout given row q
       ≡ right_bytes (rows.slice_count row) right q
   right_part (part.Mirror i) has = absurd (no_mirror (mirror_count row.chunk.profile (length row.chunk.stripes)) i sound.parity has)
   right_part (part.Slice i) has = sym (at_slice i [] has.1)
   right_part part.P has = refl
   right_part part.Q has = refl
 
-  pub near : (left : Images) (few : HasFewWrong images layout C row) → KeepsRight images left layout C row → IsNearly left layout row right few.wrong
-  near left few keeps = record {
-    few = few.few;
-    stand = sound.stand;
-    others = λ q has fine. let is = few.others q has fine in keeps q has is ∙ is ∙ right_part q has;
-  }
+  -- and is as long
+  pub right_long : (q : Part) → HasPart row.chunk.profile (length row.chunk.stripes) q → length (element_with images layout given row q) ≡ 65536
+  right_long (part.Mirror i) has = absurd (no_mirror (mirror_count row.chunk.profile (length row.chunk.stripes)) i sound.parity has)
+  right_long (part.Slice i) has = (right_slice i has.1).long
+  right_long part.P has = (parity_p_slice 65536 right.slices right_is.sizes).long
+  right_long part.Q has = (weighted_slice 65536 0 right.slices right_is.sizes).long
 
-  -- the right slice has a block's committed bytes in the block's place
-  pub block_there : (t : Target) (b : List ℕ) → In t row.blocks → t.at.index < rows.slice_count row → C t.want ≡ Some b
+  -- the right slice has a block's right bytes in the block's place
+  pub block_there : (t : Target) (b : List ℕ) → In t row.blocks → t.at.index < rows.slice_count row → right_for images C row t ≡ Some b
       → slice_range (get_or right.slices t.at.index []) t.at.rest (t.at.rest + size_of t) ≡ b
   block_there t b among lt e =
       ap (λ xs. slice_range xs t.at.rest (t.at.rest + size_of t)) (at_slice t.at.index [] lt)
@@ -223,17 +253,3 @@ module _ (images : Images) (layout : Layout) (C : Committed) (row : Row) (sound 
       (fits t.at.index)
       (sound.bytes (part.Slice t.at.index) (slice_there t.at.index lt))
       (in_filter (λ u. eqb u.at.index t.at.index) t row.blocks among (eq-eqb t.at.index t.at.index refl)) e
-
-pub row_survives : RowSurvives
-row_survives images left layout C row t sound few keeps among =
-    let block = sound.blocks t among in
-    let b = some_of (C t.want) block.committed in
-    let n : slice_count t ≡ rows.slice_count row = ap (λ c. data_count c.profile (length c.stripes)) block.lies.chunk in
-    let lt : t.at.index < rows.slice_count row = omega (arith, n, block.in_row.position.index) in
-    let there = block_there images layout C row sound t b.0 among lt b.1 in
-    let bytes = slice_range (get_or (slices_with images layout (committed_for C) row) t.at.index []) t.at.rest (t.at.rest + size_of t) in
-    any_of (λ c. (stands t c ≡ true) × All (λ q. ¬ (Contains (parts_read (slice_count t) t.at.index c) q)) few.wrong × (value_of left t c ≡ bytes))
-    (λ c. (stands t c ≡ true) × (C t.want ≡ Some (value_of left t c))) (candidates t)
-    (λ c h. (h.0, b.1 ∙ ap Some (sym (h.2 ∙ there))))
-    (row_gives_blocks left layout row (right images layout C row sound) few.wrong t block.in_row block.lies (right_is images layout C row sound)
-    (near images layout C row sound left few keeps))

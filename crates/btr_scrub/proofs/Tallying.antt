@@ -16,20 +16,21 @@ use Rattle.btr_read.specs.Candidates.{Target}
 use Rattle.btr_read.specs.Layout.{Layout}
 use Rattle.btr_read.specs.Want.{addr_of}
 use Rattle.btr_read.specs.declared.want.Want.{Want}
+use Rattle.btr_read.specs.Fate.{is_plain}
 use Rattle.btr_scrub_copies.specs.Blocks.{bad_parts, block_writes, is_lost}
-use Rattle.btr_scrub_copies.proofs.Syncs.{passing_filter}
 use Rattle.btr_scrub_copies.specs.Mending.{mended_of}
 use Rattle.btr_scrub_copies.specs.Writes.{Images, Write, writes_if}
 use Rattle.btr_scrub_row.specs.Mending.{mended_row}
 use Rattle.btr_scrub_row.specs.Rows.{Row, parities, parity_writes}
+use Rattle.btr_scrub_row.specs.Wanted.{is_checked, is_lost_block, mending_writes, wrong_parts}
 use Rattle.btr_scrub.specs.Gathering.{wants_among, count_met}
 use Rattle.btr_scrub.specs.Glue.{In}
 use Rattle.btr_scrub.specs.Order.{IsSought}
-use Rattle.btr_scrub_copies.specs.Fresh.{fresh_writes, freshened, stale_parts}
-use Rattle.btr_scrub.specs.Repair.{doubted, is_checked, is_in_chunk, is_in_row, is_loose, is_unchecked, mending_writes, met, row_of, rows_in, sites, stood}
-use Rattle.btr_scrub.specs.Repair.{stood_tally, tally, wrong_parts}
+use Rattle.btr_scrub_copies.specs.Fresh.{Failing, fresh_writes, freshened, stale_parts}
+use Rattle.btr_scrub.specs.Repair.{failed, is_in_chunk, is_in_row, is_unchecked, met, row_of, rows_in, sites, stood}
+use Rattle.btr_scrub.specs.Repair.{stood_tally, tally}
 use Rattle.btr_scrub.specs.Scrubbing.{all_count_for, count_row, count_row_of, count_site, counted, counted_plain, counted_row, rows_count, sites_count}
-use Rattle.btr_scrub.specs.Units.{Checked, Copied, Met, Unchecked}
+use Rattle.btr_scrub.specs.Units.{Checked, Met, Unchecked}
 use Rattle.btr_scrub.specs.Whole.{ListedCounts, first_tally}
 use Rattle.btr_scrub.specs.declared.tally.Tally.{Tally}
 use Rattle.btr_scrub.proofs.AcrossChunks.{sum_same}
@@ -37,10 +38,8 @@ use Rattle.btr_scrub.proofs.Blockwise.{of_targets}
 use Rattle.btr_scrub.proofs.Lists.{at_in}
 use Rattle.btr_scrub.proofs.Positions.{is_sought}
 use Rattle.btr_scrub.proofs.RowNumbers.{all_rows, row_fits, same_start}
-use Rattle.btr_scrub.proofs.SoundRows.{checked_there}
 use Rattle.btr_scrub.proofs.Sums.{IsOnce, sum_filter, sum_flat, sum_map, sum_one, sum_parts, sum_parts_of, sum_zero}
-use Rattle.btr_scrub.proofs.Told.{doubts_are, targets_met}
-use Rattle.btr_scrub.specs.Plain.{Doubts}
+use Rattle.btr_scrub.proofs.Told.{failing_are, targets_met}
 
 -- ---- counts that stand still
 
@@ -56,10 +55,10 @@ rises get step f (x ∷ xs) t n h e =
     let whole : n + f x + sum_by f xs ≡ n + sum_by f (x ∷ xs) = omega (arith, sum_by-cons f x xs) in
     rises get step f xs (step t x) (n + f x) (λ y i. h y (inr i)) (h x (inl refl) t n e) ∙ ap stood whole
 
-module _ (kept : Doubts) (images : Images) (layout : Layout) (write : Bool) (ts : List Target) where
+module _ (kept : Failing) (images : Images) (layout : Layout) (write : Bool) (ts : List Target) where
   -- a count, and what a block and a full stripe add to it
   record Adds (get : Tally → ℕ) (of_block : Target → ℕ) (of_row : Row → ℕ) : Type 0 where
-    block : (u : Tally) (m : ℕ) (t : Target) → get u ≡ stood m → get (count_site kept.failing images write u t) ≡ stood (m + of_block t)
+    block : (u : Tally) (m : ℕ) (t : Target) → get u ≡ stood m → get (count_site kept images write u t) ≡ stood (m + of_block t)
     row : (u : Tally) (m : ℕ) (r : Row) → get u ≡ stood m → get (count_row images layout write u r) ≡ stood (m + of_row r)
 
   -- what a chunk adds
@@ -68,16 +67,16 @@ module _ (kept : Doubts) (images : Images) (layout : Layout) (write : Bool) (ts 
 
   abbrev count_chunk : Tally → Chunk → Tally
   count_chunk u chunk = cond (is_none (mirrors chunk)) (rows_count layout write (rows_in kept ts chunk) images u)
-      (sites_count kept.failing write (filter (is_in_chunk chunk) ts) images u)
+      (sites_count kept write (filter (is_in_chunk chunk) ts) images u)
 
   chunk_adds : (get : Tally → ℕ) (of_block : Target → ℕ) (of_row : Row → ℕ) → Adds get of_block of_row → (chunk : Chunk) (u : Tally) (m : ℕ) → get u
       ≡ stood m → get (count_chunk u chunk) ≡ stood (m + of_chunk of_block of_row chunk)
   chunk_adds get of_block of_row adds chunk u m e = by (is_none (mirrors chunk))
     where
-      by : (b : Bool) → get (cond b (rows_count layout write (rows_in kept ts chunk) images u) (sites_count kept.failing write (filter (is_in_chunk chunk) ts) images u))
+      by : (b : Bool) → get (cond b (rows_count layout write (rows_in kept ts chunk) images u) (sites_count kept write (filter (is_in_chunk chunk) ts) images u))
           ≡ stood (m + cond b (sum_by of_row (rows_in kept ts chunk)) (sum_by of_block (filter (is_in_chunk chunk) ts)))
       by true = rises get (count_row images layout write) of_row (rows_in kept ts chunk) u m (λ r i v k e. adds.row v k r e) e
-      by false = rises get (count_site kept.failing images write) of_block (filter (is_in_chunk chunk) ts) u m (λ t i v k e. adds.block v k t e) e
+      by false = rises get (count_site kept images write) of_block (filter (is_in_chunk chunk) ts) u m (λ t i v k e. adds.block v k t e) e
 
   all_add : (get : Tally → ℕ) (of_block : Target → ℕ) (of_row : Row → ℕ) → Adds get of_block of_row → (chunks : List Chunk) (u : Tally) (m : ℕ)
       → get u ≡ stood m → get (fold count_chunk u chunks) ≡ stood (m + sum_by (of_chunk of_block of_row) chunks)
@@ -86,19 +85,19 @@ module _ (kept : Doubts) (images : Images) (layout : Layout) (write : Bool) (ts 
 
   -- ---- the counts
 
-  abbrev in_row : (Target → ℕ) → Row → ℕ
-  in_row f r = sum_by f r.blocks
+  -- what the blocks of a full stripe add, beside its images that fail
+  abbrev in_row : (Failing → Target → ℕ) → Row → ℕ
+  in_row f r = sum_by (f r.failing) r.blocks
 
-  -- a full stripe without checked blocks adds nothing
+  -- a full stripe without blocks adds nothing
   row_adds : (get : Tally → ℕ) (f : Row → ℕ) → ((u : Tally) (m : ℕ) (r : Row) → get u ≡ stood m
-      → get (counted_row u (length r.blocks) (mended_row images layout r write)) ≡ stood (m + f r)) → ((r : Row) → r.blocks ≡ [] → f r ≡ 0)
+      → get (counted_row u (mended_row images layout r write)) ≡ stood (m + f r)) → ((r : Row) → r.blocks ≡ [] → f r ≡ 0)
       → (u : Tally) (m : ℕ) (r : Row) → get u ≡ stood m → get (count_row images layout write u r) ≡ stood (m + f r)
   row_adds get f some none u m r e = by r.blocks refl
     where
       by : (bs : List Target) → r.blocks ≡ bs → get (count_row_of r.blocks u (mended_row images layout r write)) ≡ stood (m + f r)
       by [] is = ap (λ bs. get (count_row_of bs u (mended_row images layout r write))) is ∙ e ∙ ap stood (omega (arith, none r is))
-      by (b ∷ bs) is = ap (λ bs. get (count_row_of bs u (mended_row images layout r write))) is
-          ∙ sym (ap (λ bs. get (counted_row u (length bs) (mended_row images layout r write))) is) ∙ some u m r e
+      by (b ∷ bs) is = ap (λ bs. get (count_row_of bs u (mended_row images layout r write))) is ∙ some u m r e
 
   -- the sum of what is written, where it is written
   written_sum : (f : Target → List Write) (us : List Target) → cond write (sum_by (λ t. length (f t)) us) 0 ≡ sum_by (λ t. length (writes_if write (f t))) us
@@ -108,30 +107,24 @@ module _ (kept : Doubts) (images : Images) (layout : Layout) (write : Bool) (ts 
       by true = refl
       by false = sym (sum_zero (λ (t : Target). 0) us (λ t i. refl))
 
-  -- what a checked block adds, and what any site does
-  abbrev written : Target → ℕ
-  written t = length (writes_if write (block_writes images t))
+  -- what a block adds to each count, beside images that fail
+  abbrev counts_one : Failing → Target → ℕ
+  counts_one fails t = cond (is_checked t) 1 0
 
-  abbrev site_written : Target → ℕ
-  site_written t = length (writes_if write (mending_writes images kept.failing t))
+  abbrev wrong : Failing → Target → ℕ
+  wrong fails t = length (wrong_parts images fails t)
 
-  abbrev wrong : Target → ℕ
-  wrong t = length (wrong_parts images kept.failing t)
+  abbrev written : Failing → Target → ℕ
+  written fails t = length (writes_if write (mending_writes images fails t))
 
-  abbrev lost : Target → ℕ
-  lost t = cond (is_lost images t) 1 0
+  abbrev lost : Failing → Target → ℕ
+  lost fails t = cond (is_lost_block images t) 1 0
 
-  abbrev counts_one : Target → ℕ
-  counts_one t = cond (is_loose t) 0 1
-
-  abbrev site_lost : Target → ℕ
-  site_lost t = cond (is_loose t) 0 (lost t)
-
-  site_adds : (get : Tally → ℕ) (u : Tally) (t : Target) (n : Bool → ℕ) → get (counted_plain u (freshened images kept.failing t write)) ≡ n true
-      → get (counted u (mended_of images t write)) ≡ n false → get (count_site kept.failing images write u t) ≡ n (is_loose t)
-  site_adds get u t n one other = by (is_loose t)
+  site_adds : (get : Tally → ℕ) (u : Tally) (t : Target) (n : Bool → ℕ) → get (counted_plain u (freshened images kept t write)) ≡ n true
+      → get (counted u (mended_of images t write)) ≡ n false → get (count_site kept images write u t) ≡ n (is_plain t.want)
+  site_adds get u t n one other = by (is_plain t.want)
     where
-      by : (b : Bool) → get (cond b (counted_plain u (freshened images kept.failing t write)) (counted u (mended_of images t write))) ≡ n b
+      by : (b : Bool) → get (cond b (counted_plain u (freshened images kept t write)) (counted u (mended_of images t write))) ≡ n b
       by true = one
       by false = other
 
@@ -142,40 +135,40 @@ module _ (kept : Doubts) (images : Images) (layout : Layout) (write : Bool) (ts 
   same : (n m : ℕ) → n ≡ stood m → n ≡ stood (m + 0)
   same n m e = e ∙ ap stood (omega arith)
 
-  none_in : (f : Target → ℕ) (r : Row) → r.blocks ≡ [] → in_row f r ≡ 0
-  none_in f r is = ap (sum_by f) is
+  none_in : (f : Failing → Target → ℕ) (r : Row) → r.blocks ≡ [] → in_row f r ≡ 0
+  none_in f r is = ap (sum_by (f r.failing)) is
 
-  blocks_add : Adds (λ (t : Tally). t.blocks) counts_one (in_row (λ t. 1))
+  blocks_add : Adds (λ (t : Tally). t.blocks) (counts_one kept) (in_row counts_one)
   blocks_add = record {
-    block = λ u m t e. site_adds (λ (t : Tally). t.blocks) u t (λ b. stood (m + cond b 0 1)) (same u.blocks m e) (more u.blocks m 1 1 e refl);
-    row = row_adds (λ (t : Tally). t.blocks) (in_row (λ t. 1))
-        (λ u m r e. more u.blocks m (length r.blocks) (in_row (λ t. 1) r) e (sym (sum_one r.blocks))) (none_in (λ t. 1));
+    block = λ u m t e. site_adds (λ (t : Tally). t.blocks) u t (λ b. stood (m + cond (not b) 1 0)) (same u.blocks m e) (more u.blocks m 1 1 e refl);
+    row = row_adds (λ (t : Tally). t.blocks) (in_row counts_one)
+        (λ u m r e. more u.blocks m (in_row counts_one r) (in_row counts_one r) e refl) (none_in counts_one);
   }
 
-  bad_add : Adds (λ (t : Tally). t.bad) wrong (in_row (λ t. length (bad_parts images t)))
+  bad_add : Adds (λ (t : Tally). t.bad) (wrong kept) (in_row wrong)
   bad_add = record {
-    block = λ u m t e. site_adds (λ (t : Tally). t.bad) u t (λ b. stood (m + length (cond b (stale_parts images kept.failing t) (bad_parts images t))))
-        (more u.bad m (length (stale_parts images kept.failing t)) (length (stale_parts images kept.failing t)) e refl)
+    block = λ u m t e. site_adds (λ (t : Tally). t.bad) u t (λ b. stood (m + length (cond b (stale_parts images kept t) (bad_parts images t))))
+        (more u.bad m (length (stale_parts images kept t)) (length (stale_parts images kept t)) e refl)
         (more u.bad m (length (bad_parts images t)) (length (bad_parts images t)) e refl);
-    row = row_adds (λ (t : Tally). t.bad) (in_row (λ t. length (bad_parts images t)))
-        (λ u m r e. more u.bad m (in_row (λ t. length (bad_parts images t)) r) (in_row (λ t. length (bad_parts images t)) r) e refl)
-        (none_in (λ t. length (bad_parts images t)));
+    row = row_adds (λ (t : Tally). t.bad) (in_row wrong)
+        (λ u m r e. more u.bad m (in_row wrong r) (in_row wrong r) e refl) (none_in wrong);
   }
 
-  repaired_add : Adds (λ (t : Tally). t.repaired) site_written (in_row written)
+  repaired_add : Adds (λ (t : Tally). t.repaired) (written kept) (in_row written)
   repaired_add = record {
     block = λ u m t e. site_adds (λ (t : Tally). t.repaired) u t
-        (λ b. stood (m + length (writes_if write (cond b (fresh_writes images kept.failing t) (block_writes images t)))))
-        (more u.repaired m (length (writes_if write (fresh_writes images kept.failing t))) (length (writes_if write (fresh_writes images kept.failing t))) e refl)
-        (more u.repaired m (written t) (written t) e refl);
+        (λ b. stood (m + length (writes_if write (cond b (fresh_writes images kept t) (block_writes images t)))))
+        (more u.repaired m (length (writes_if write (fresh_writes images kept t))) (length (writes_if write (fresh_writes images kept t))) e refl)
+        (more u.repaired m (length (writes_if write (block_writes images t))) (length (writes_if write (block_writes images t))) e refl);
     row = row_adds (λ (t : Tally). t.repaired) (in_row written)
-        (λ u m r e. more u.repaired m (cond write (sum_by (λ t. length (block_writes images t)) r.blocks) 0) (in_row written r) e
-        (written_sum (block_writes images) r.blocks)) (none_in written);
+        (λ u m r e. more u.repaired m (cond write (sum_by (λ t. length (mending_writes images r.failing t)) r.blocks) 0) (in_row written r) e
+        (written_sum (mending_writes images r.failing) r.blocks)) (none_in written);
   }
 
-  lost_add : Adds (λ (t : Tally). t.lost) site_lost (in_row lost)
+  lost_add : Adds (λ (t : Tally). t.lost) (lost kept) (in_row lost)
   lost_add = record {
-    block = λ u m t e. site_adds (λ (t : Tally). t.lost) u t (λ b. stood (m + cond b 0 (lost t))) (same u.lost m e) (more u.lost m (lost t) (lost t) e refl);
+    block = λ u m t e. site_adds (λ (t : Tally). t.lost) u t (λ b. stood (m + cond (not b && is_lost images t) 1 0)) (same u.lost m e)
+        (more u.lost m (cond (is_lost images t) 1 0) (cond (is_lost images t) 1 0) e refl);
     row = row_adds (λ (t : Tally). t.lost) (in_row lost) (λ u m r e. more u.lost m (in_row lost r) (in_row lost r) e refl) (none_in lost);
   }
 
@@ -183,7 +176,7 @@ module _ (kept : Doubts) (images : Images) (layout : Layout) (write : Bool) (ts 
   parity_in r = sum_by (λ part. length (parity_writes images layout r part)) (parities r.chunk.profile)
 
   parity_none : (r : Row) → r.blocks ≡ [] → parity_in r ≡ 0
-  parity_none r is = sum_zero (λ part. length (parity_writes images layout r part)) (parities r.chunk.profile) (λ q i. ap (λ bs. length (parity_writes images layout (record { chunk = r.chunk; number = r.number; blocks = bs; kept = r.kept }) q)) is)
+  parity_none r is = sum_zero (λ part. length (parity_writes images layout r part)) (parities r.chunk.profile) (λ q i. ap (λ bs. length (parity_writes images layout (record { chunk = r.chunk; number = r.number; blocks = bs; failing = r.failing }) q)) is)
 
   parity_add : Adds (λ (t : Tally). t.parity) (λ t. 0) parity_in
   parity_add = record {
@@ -242,11 +235,11 @@ module _ (kept : Doubts) (images : Images) (layout : Layout) (write : Bool) (ts 
     range_at a (suc n) zero lt = ap Some (omega arith)
     range_at a (suc n) (suc i) lt = range_at (a + 1) n i (omega (arith, lt)) ∙ ap Some (omega arith)
 
-    in_rows : (number : ℕ) (chunk : Chunk) → slice_get layout.chunks number ≡ Some chunk → mirrors chunk ≡ None → (f : Target → ℕ)
-        → sum_by (in_row f) (rows_in kept ts chunk) ≡ sum_by f (filter (is_in_chunk chunk) ts)
+    in_rows : (number : ℕ) (chunk : Chunk) → slice_get layout.chunks number ≡ Some chunk → mirrors chunk ≡ None → (f : Failing → Target → ℕ)
+        → sum_by (in_row f) (rows_in kept ts chunk) ≡ sum_by (f kept) (filter (is_in_chunk chunk) ts)
     in_rows number chunk there parity f =
         ap (sum_by (in_row f)) (all_rows kept ts chunk parity) ∙ sum_map (in_row f) (row_of kept ts chunk) (range_with_len 0 n)
-        ∙ sum_parts_of f (is_in_row chunk) (is_in_chunk chunk) (range_with_len 0 n) ts once (λ t k e. ap (λ b. b && eqb t.at.row k) e)
+        ∙ sum_parts_of (f kept) (is_in_row chunk) (is_in_chunk chunk) (range_with_len 0 n) ts once (λ t k e. ap (λ b. b && eqb t.at.row k) e)
       where
         n : ℕ
         n = stripe_length chunk / 65536
@@ -286,34 +279,31 @@ module _ (kept : Doubts) (images : Images) (layout : Layout) (write : Bool) (ts 
                 absurd (ne (omega (arith, equal, eqb-true t.at.row other q)))
             by j other ne found false q = ap (λ b. is_in_chunk chunk t && b) q ∙ ap (λ b. b && false) e
 
-    -- where what a site adds is for a checked block what that adds in a full stripe
-    module _ (f g : Target → ℕ) (same_there : (t : Target) → is_loose t ≡ false → g t ≡ f t) where
-      chunk_sum : (chunk : Chunk) → In chunk layout.chunks → of_chunk f (in_row g) chunk ≡ sum_by f (filter (is_in_chunk chunk) ts)
+    -- what all blocks add
+    module _ (f : Failing → Target → ℕ) where
+      chunk_sum : (chunk : Chunk) → In chunk layout.chunks → of_chunk (f kept) (in_row f) chunk ≡ sum_by (f kept) (filter (is_in_chunk chunk) ts)
       chunk_sum chunk i = let j = at_in chunk layout.chunks i in by j.0 j.1 (mirrors chunk) refl
         where
-          checked : (number : ℕ) → slice_get layout.chunks number ≡ Some chunk → mirrors chunk ≡ None → (t : Target)
-              → In t (filter (is_in_chunk chunk) ts) → is_loose t ≡ false
-          checked number there parity t i =
-              let p = passing_filter (is_in_chunk chunk) t ts i in
-              checked_there t (ap mirrors (same_start layout table number chunk there parity t (placed t p.0) p.1) ∙ parity)
-
           by : (number : ℕ) → slice_get layout.chunks number ≡ Some chunk → (o : Option ℕ) → mirrors chunk ≡ o
-              → cond (is_none o) (sum_by (in_row g) (rows_in kept ts chunk)) (sum_by f (filter (is_in_chunk chunk) ts)) ≡ sum_by f (filter (is_in_chunk chunk) ts)
-          by number there None parity = in_rows number chunk there parity g
-              ∙ sum_same g f (filter (is_in_chunk chunk) ts) (λ t i. same_there t (checked number there parity t i))
+              → cond (is_none o) (sum_by (in_row f) (rows_in kept ts chunk)) (sum_by (f kept) (filter (is_in_chunk chunk) ts))
+              ≡ sum_by (f kept) (filter (is_in_chunk chunk) ts)
+          by number there None parity = in_rows number chunk there parity f
           by number there (Some n) copies = refl
 
-      all_sum : sum_by (of_chunk f (in_row g)) layout.chunks ≡ sum_by f ts
-      all_sum = sum_same (of_chunk f (in_row g)) (λ chunk. sum_by f (filter (is_in_chunk chunk) ts)) layout.chunks chunk_sum
-          ∙ sum_parts f is_in_chunk layout.chunks ts once_chunk
+      all_sum : sum_by (of_chunk (f kept) (in_row f)) layout.chunks ≡ sum_by (f kept) ts
+      all_sum = sum_same (of_chunk (f kept) (in_row f)) (λ chunk. sum_by (f kept) (filter (is_in_chunk chunk) ts)) layout.chunks chunk_sum
+          ∙ sum_parts (f kept) is_in_chunk layout.chunks ts once_chunk
 
-    -- what is counted of checked blocks alone
-    checked_sum : (f : Target → ℕ) → sum_by (λ t. cond (is_loose t) 0 (f t)) ts ≡ sum_by f (filter is_checked ts)
-    checked_sum f = sum_same (λ t. cond (is_loose t) 0 (f t)) (λ t. cond (is_checked t) (f t) 0) ts (λ t i. by (is_loose t) (f t)) ∙ sym (sum_filter f is_checked ts)
+    blocks_sum : sum_by (counts_one kept) ts ≡ length (filter is_checked ts)
+    blocks_sum = sym (sum_filter (λ t. 1) is_checked ts) ∙ sum_one (filter is_checked ts)
+
+    lost_sum : sum_by (lost kept) ts ≡ count_by (is_lost images) (filter is_checked ts)
+    lost_sum = sum_same (lost kept) (λ t. cond (is_checked t) (cond (is_lost images t) 1 0) 0) ts (λ t i. by (is_checked t) (is_lost images t))
+        ∙ sym (sum_filter (λ t. cond (is_lost images t) 1 0) is_checked ts)
       where
-        by : (b : Bool) (n : ℕ) → cond b 0 n ≡ cond (not b) n 0
-        by true n = refl
-        by false n = refl
+        by : (b l : Bool) → ◌≡◌ {A = ℕ} (cond (b && l) 1 0) (cond b (cond l 1 0) 0)
+        by true l = refl
+        by false l = refl
 
     parity_sum : sum_by (of_chunk (λ t. 0) parity_in) layout.chunks ≡ sum_by parity_in (flat_map (rows_in kept ts) layout.chunks)
     parity_sum = sum_same (of_chunk (λ t. 0) parity_in) (λ chunk. sum_by parity_in (rows_in kept ts chunk)) layout.chunks
@@ -348,30 +338,20 @@ module _ (kept : Doubts) (images : Images) (layout : Layout) (write : Bool) (ts 
       counted_all get of_block of_row n total adds e is = all_add get of_block of_row adds layout.chunks start n e ∙ ap stood is
 
       blocks_are : all.blocks ≡ stood (length (filter is_checked ts))
-      blocks_are = counted_all (λ (t : Tally). t.blocks) counts_one (in_row (λ t. 1)) 0 (length (filter is_checked ts)) blocks_add refl
-          (omega (arith, all_sum counts_one (λ t. 1) (λ t e. sym (ap (λ b. cond b 0 1) e)), checked_sum (λ t. 1), sum_one (filter is_checked ts)))
+      blocks_are = counted_all (λ (t : Tally). t.blocks) (counts_one kept) (in_row counts_one) 0 (length (filter is_checked ts)) blocks_add refl
+          (omega (arith, all_sum counts_one, blocks_sum))
 
-      bad_are : all.bad ≡ stood (sum_by wrong ts)
-      bad_are = counted_all (λ (t : Tally). t.bad) wrong (in_row (λ t. length (bad_parts images t))) 0 (sum_by wrong ts) bad_add refl
-          (omega (
-            arith,
-            all_sum wrong (λ t. length (bad_parts images t))
-                (λ t e. sym (ap (λ b. length (cond b (stale_parts images kept.failing t) (bad_parts images t))) e)),
-          ))
+      bad_are : all.bad ≡ stood (sum_by (wrong kept) ts)
+      bad_are = counted_all (λ (t : Tally). t.bad) (wrong kept) (in_row wrong) 0 (sum_by (wrong kept) ts) bad_add refl (omega (arith, all_sum wrong))
 
-      repaired_are : all.repaired ≡ stood (cond write (sum_by (λ t. length (mending_writes images kept.failing t)) ts) 0)
-      repaired_are = counted_all (λ (t : Tally). t.repaired) site_written (in_row written) 0
-          (cond write (sum_by (λ t. length (mending_writes images kept.failing t)) ts) 0) repaired_add refl
-          (omega (
-            arith,
-            all_sum site_written written
-                (λ t e. sym (ap (λ b. length (writes_if write (cond b (fresh_writes images kept.failing t) (block_writes images t)))) e)),
-            written_sum (mending_writes images kept.failing) ts,
-          ))
+      repaired_are : all.repaired ≡ stood (cond write (sum_by (λ t. length (mending_writes images kept t)) ts) 0)
+      repaired_are = counted_all (λ (t : Tally). t.repaired) (written kept) (in_row written) 0
+          (cond write (sum_by (λ t. length (mending_writes images kept t)) ts) 0) repaired_add refl
+          (omega (arith, all_sum written, written_sum (mending_writes images kept) ts))
 
       lost_are : all.lost ≡ stood (count_by (is_lost images) (filter is_checked ts))
-      lost_are = counted_all (λ (t : Tally). t.lost) site_lost (in_row lost) 0 (count_by (is_lost images) (filter is_checked ts)) lost_add refl
-          (omega (arith, all_sum site_lost lost (λ t e. sym (ap (λ b. cond b 0 (lost t)) e)), checked_sum lost))
+      lost_are = counted_all (λ (t : Tally). t.lost) (lost kept) (in_row lost) 0 (count_by (is_lost images) (filter is_checked ts)) lost_add refl
+          (omega (arith, all_sum lost, lost_sum))
 
       parity_are : all.parity ≡ stood (sum_by parity_in (flat_map (rows_in kept ts) layout.chunks))
       parity_are = counted_all (λ (t : Tally). t.parity) (λ t. 0) parity_in 0 (sum_by parity_in (flat_map (rows_in kept ts) layout.chunks)) parity_add
@@ -385,9 +365,6 @@ unchecked_among : (ms : List Met) (n : ℕ) → fold count_met (stood n) ms ≡ 
 unchecked_among [] n = ap stood (omega arith)
 unchecked_among (Checked want ∷ ms) n = unchecked_among ms n
     ∙ ap (λ k. stood (n + k)) (sym (sum_by-cons (λ m. cond (is_unchecked m) 1 0) (Checked want) ms ∙ omega arith))
-unchecked_among (Copied addr ∷ ms) n =
-    let whole : n + 1 + count_by is_unchecked ms ≡ n + count_by is_unchecked (Copied addr ∷ ms) = omega (arith, sum_by-cons (λ m. cond (is_unchecked m) 1 0) (Copied addr) ms) in
-    ap (λ k. fold count_met k ms) (stood_add n 1) ∙ unchecked_among ms (n + 1) ∙ ap stood whole
 unchecked_among (Unchecked addr ∷ ms) n =
     let whole : n + 1 + count_by is_unchecked ms ≡ n + count_by is_unchecked (Unchecked addr ∷ ms) = omega (arith, sum_by-cons (λ m. cond (is_unchecked m) 1 0) (Unchecked addr) ms) in
     ap (λ k. fold count_met k ms) (stood_add n 1) ∙ unchecked_among ms (n + 1) ∙ ap stood whole
@@ -398,7 +375,7 @@ same_tally a b blocks bad repaired lost parity unchecked = λ i. record { blocks
 
 pub listed_counts : ListedCounts
 listed_counts images fs write table =
-    ap (λ k. all_count_for k layout write layout.chunks wants images (first_tally (fold count_met 0 ms))) (doubts_are images fs)
+    ap (λ k. all_count_for k layout write layout.chunks wants images (first_tally (fold count_met 0 ms))) (failing_are images fs)
     ∙ ap (λ n. all_count_for kept layout write layout.chunks wants images (first_tally n)) (unchecked_among ms 0 ∙ ap stood whole)
     ∙ ap (λ ts. fold (count_chunk kept images layout write ts) (first_tally (stood unchecked)) layout.chunks) (targets_met layout ms)
     ∙ same_tally (fold (count_chunk kept images layout write us) (first_tally (stood unchecked)) layout.chunks) (stood_tally (tally images fs write))
@@ -409,8 +386,8 @@ listed_counts images fs write table =
     (parity_are kept images layout write us table placed unchecked)
     (unchecked_are kept images layout write us table placed unchecked)
   where
-    kept : Doubts
-    kept = doubted images fs
+    kept : Failing
+    kept = failed images fs
 
     layout : Layout
     layout = fs.layout

@@ -1,4 +1,4 @@
--- The checked blocks of a sound filesystem have a position, and are apart.
+-- The checked blocks that are met have a position, and are apart.
 use Rattle.std.proofs.Common.{◌≡◌, ◌⊎◌, ℕ, zero, suc, ◌+◌, ◌-◌, ◌*◌, ◌/◌, ◌%◌, ◌^◌, ◌<◌, ◌≤◌, Bool, true, false, not, cond, ◌&&◌, ◌||◌, eqb, leb, ltb, is_some}
 use Rattle.std.proofs.Common.{List, [], ◌∷◌, ◌++◌, map, drop, slice_get, Option, Some, None, Result, Ok, Err, IsOk, refl, sym, ap, ◌∙◌, subst, inl, inr, arith}
 use Rattle.std.proofs.Common.{append-nil}
@@ -9,7 +9,7 @@ use Rattle.std.specs.List.{filter}
 use Rattle.btr_base.specs.Key.{key_le, key_number}
 use Rattle.btr_base.specs.declared.key.Key.{Key}
 use Rattle.btr_prog.specs.Prog.{Emit, Return, Stop, bind, exec, steps_of}
-use Rattle.btr_read.specs.Fate.{Crosses, Fault, Malformed}
+use Rattle.btr_read.specs.Fate.{Crosses, Malformed}
 use Rattle.btr_read.specs.declared.want.Want.{Want}
 use Rattle.btr_node.specs.Block.{Item, KeyPointer}
 use Rattle.btr_node.specs.declared.node.Node.{Node}
@@ -20,7 +20,7 @@ use Rattle.btr_walk.specs.Spot.{judged}
 use Rattle.btr_walk.specs.declared.place.RootPlace.{RootPlace}
 use Rattle.btr_walk.specs.declared.spot.Spot.{Spot}
 use Rattle.btr_base.specs.declared.stored.Sum.{Sum}
-use Rattle.btr_chunk.specs.Chunk.{is_striped, mirrors}
+use Rattle.btr_chunk.specs.Chunk.{is_striped}
 use Rattle.btr_chunk.specs.Mapping.{crosses, holds, position}
 use Rattle.btr_chunk.specs.Table.{IsTable, chunk_at}
 use Rattle.btr_chunk.specs.declared.chunk.Chunk.{Chunk}
@@ -37,7 +37,8 @@ use Rattle.btr_volume.specs.declared.root.TreeRoot.{TreeRoot}
 use Rattle.btr_walk.specs.Reading.{Map}
 use Rattle.btr_scrub.specs.Gathering.{wants_among}
 use Rattle.btr_scrub.specs.Order.{AreApart}
-use Rattle.btr_scrub.specs.Units.{Checked, Copied, Met, Unchecked, bare_met, blocks_of, extent_met, extent_of, if_stated, in_chunk, in_chunks, units_in, with_extents}
+use Rattle.btr_scrub.specs.Units.{Checked, Meeting, Met, Unchecked, blocks_of, extent_met, extent_of, if_stated, in_chunk, in_chunks}
+use Rattle.btr_scrub.specs.Units.{units_in, with_extents}
 use Rattle.btr_scrub.specs.Units.{is_crossing, is_extent, is_malformed, item_met, sector, sector_met, sectors, stated_extent}
 use Rattle.btr_scrub.specs.declared.extent.Extent.{Extent}
 use Rattle.btr_items.specs.ExtentItem.{extent_item_of}
@@ -48,7 +49,7 @@ use Rattle.btr_items.specs.declared.extent_item.ExtentItem.{ExtentItem}
 use Rattle.btr_items.specs.declared.fault.ItemFault.{ItemFault}
 use Rattle.btr_volume.specs.Tree.{key, last, tree_of}
 use Rattle.btr_scrub.proofs.Positions.{not_above}
-use Rattle.btr_scrub.proofs.Ends.{Ends, Yields, each_ends, ends_bind, ends_looks}
+use Rattle.btr_scrub.proofs.Ends.{Ends, Yields, each_ends, ends_as, ends_bind, ends_looks, holds_of}
 
 module _ (lo hi : Key) where
   abbrev pub Within : TreeItem → Type 0
@@ -122,11 +123,14 @@ module _ (layout : Layout) where
   apart_more a b [] ys h g = apart_from a b ys h g
   apart_more a b (x ∷ xs) ys h g = (h.0, h.1, apart_more (addr_of x + len_of layout.setting x) b xs ys h.2 g)
 
+  between_apart : (a b : ℕ) (xs : List Want) → AreBetween layout a b xs → AreApart layout a xs
+  between_apart a b [] h = tt
+  between_apart a b (x ∷ xs) h = (h.0, h.1, between_apart (addr_of x + len_of layout.setting x) b xs h.2)
+
 wants_more : (xs ys : List Met) → wants_among (xs ++ ys) ≡ wants_among xs ++ wants_among ys
 wants_more [] ys = refl
 wants_more (Checked w ∷ xs) ys = ap (λ ws. w ∷ ws) (wants_more xs ys)
-wants_more (Copied a ∷ xs) ys = ap (λ ws. Plain a ∷ ws) (wants_more xs ys)
-wants_more (Unchecked a ∷ xs) ys = wants_more xs ys
+wants_more (Unchecked a ∷ xs) ys = ap (λ ws. Plain a ∷ ws) (wants_more xs ys)
 
 -- ---- one chunk
 
@@ -160,12 +164,6 @@ left_true false b e f = absurd (false≢true e)
 not_not : (b : Bool) → not b ≡ false → b ≡ true
 not_not true e = refl
 not_not false e = absurd (false≢true (sym e))
-
-no_value : {A : Type 0} {F : Type 0} {f : F} (a : A) → Err f ≡ Ok a → ⊥
-no_value a e = cc
-
-same_value : (a b : ℕ) → ◌≡◌ {A = Result ℕ Fault} (Ok a) (Ok b) → a ≡ b
-same_value a b e = cc
 
 module _ (s : Super) (layout : Layout) (table : IsTable layout.chunks) (node : s.nodesize ≡ layout.setting.nodesize) (some : 0 < s.nodesize) (B : Map) (sums : Option TreeRoot) (number : ℕ) (chunk : Chunk) (there : slice_get layout.chunks number ≡ Some chunk) where
   f : Facts chunk
@@ -206,33 +204,36 @@ module _ (s : Super) (layout : Layout) (table : IsTable layout.chunks) (node : s
       (and_false (is_striped chunk.profile) (ltb 65536 ((addr - chunk.start) % 65536 + 4096))
       (not_below ((addr - chunk.start) % 65536 + 4096) 65536 (omega (arith, aligned, f.aligned, from))))
 
-  one_sector : (copied : Bool) (addr : ℕ) → addr % 4096 ≡ 0 → chunk.start ≤ addr → addr + 4096 ≤ chunk.start + chunk.length
-      → Ends B (sector s sums copied addr) (λ ys u. AreBetween layout addr (addr + 4096) (wants_among ys))
-  one_sector copied addr aligned from to =
-      ends_looks B (sum_at (kind_in s) sums addr) (λ sum. Emit (sector_met copied addr sum) (Return tt))
-      (λ ys u. AreBetween layout addr (addr + 4096) (wants_among ys)) (λ sum u e. by sum)
-    where
-      bare : (b : Bool) → AreBetween layout addr (addr + 4096) (wants_among (bare_met b addr ∷ []))
-      bare true = (omega arith, placed (Plain addr) from (omega (arith, to)) (sector_fits addr aligned from to), omega arith)
-      bare false = omega arith
+  -- some blocks that are met, from an address on
+  abbrev Apart : ℕ → List Met → Type 0
+  Apart from ys = AreApart layout from (wants_among ys)
 
-      by : (sum : Option Sum) → AreBetween layout addr (addr + 4096) (wants_among (sector_met copied addr sum ∷ []))
-      by None = bare copied
+  abbrev Between : ℕ → ℕ → List Met → Type 0
+  Between from to ys = AreBetween layout from to (wants_among ys)
+
+  one_sector : (addr : ℕ) → addr % 4096 ≡ 0 → chunk.start ≤ addr → addr + 4096 ≤ chunk.start + chunk.length
+      → Ends B (sector s sums addr) (λ ys u. Between addr (addr + 4096) ys) (Apart addr)
+  one_sector addr aligned from to =
+      ends_looks B (sum_at (kind_in s) sums addr) (λ sum. Emit (sector_met addr sum) (Return tt))
+      (λ ys u. Between addr (addr + 4096) ys) (Apart addr) tt by
+    where
+      by : (sum : Option Sum) → Between addr (addr + 4096) (sector_met addr sum ∷ [])
+      by None = (omega arith, placed (Plain addr) from (omega (arith, to)) (sector_fits addr aligned from to), omega arith)
       by (Some sum) = (omega arith, placed (Sector addr sum) from (omega (arith, to)) (sector_fits addr aligned from to), omega arith)
 
-  pub all_sectors : (copied : Bool) (n addr : ℕ) → addr % 4096 ≡ 0 → chunk.start ≤ addr → addr + n * 4096 ≤ chunk.start + chunk.length
-      → Ends B (sectors s sums copied n addr) (λ ys u. AreBetween layout addr (addr + n * 4096) (wants_among ys))
-  all_sectors copied zero addr aligned from to = λ u e. omega arith
-  all_sectors copied (suc n) addr aligned from to =
-      ends_bind B (sector s sums copied addr) (λ _. sectors s sums copied n (addr + 4096)) (λ ys u. AreBetween layout addr (addr + 4096) (wants_among ys))
-      (λ ys u. AreBetween layout addr (addr + suc n * 4096) (wants_among ys))
-      (one_sector copied addr aligned from (omega (arith, to)))
-      (λ u v e xs q.
-      let rest = all_sectors copied n (addr + 4096) (omega (arith, aligned)) (omega (arith, from)) (omega (arith, to)) v e in
-      let ys = steps_of (exec B (sectors s sums copied n (addr + 4096))).marks in
-      subst (AreBetween layout addr (addr + suc n * 4096)) (sym (wants_more xs ys))
+  pub all_sectors : (n addr : ℕ) → addr % 4096 ≡ 0 → chunk.start ≤ addr → addr + n * 4096 ≤ chunk.start + chunk.length
+      → Ends B (sectors s sums n addr) (λ ys u. Between addr (addr + n * 4096) ys) (Apart addr)
+  all_sectors zero addr aligned from to = omega arith
+  all_sectors (suc n) addr aligned from to =
+      ends_bind B (sector s sums addr) (λ _. sectors s sums n (addr + 4096)) (λ ys u. Between addr (addr + 4096) ys)
+      (λ ys u. Between addr (addr + suc n * 4096) ys) (Apart addr) (one_sector addr aligned from (omega (arith, to)))
+      (λ u xs q. ends_as B (sectors s sums n (addr + 4096)) (λ ys v. Between (addr + 4096) (addr + 4096 + n * 4096) ys)
+      (λ ys v. Between addr (addr + suc n * 4096) (xs ++ ys)) (Apart (addr + 4096)) (λ ys. Apart addr (xs ++ ys))
+      (λ ys v h. subst (AreBetween layout addr (addr + suc n * 4096)) (sym (wants_more xs ys))
       (between_more layout addr (addr + 4096) (addr + suc n * 4096) (wants_among xs) (wants_among ys) q
-      (between_to layout (addr + 4096) (addr + 4096 + n * 4096) (addr + suc n * 4096) (wants_among ys) rest (omega arith))))
+      (between_to layout (addr + 4096) (addr + 4096 + n * 4096) (addr + suc n * 4096) (wants_among ys) h (omega arith))))
+      (λ ys h. subst (AreApart layout addr) (sym (wants_more xs ys)) (apart_more layout addr (addr + 4096) (wants_among xs) (wants_among ys) q h))
+      (all_sectors n (addr + 4096) (omega (arith, aligned)) (omega (arith, from)) (omega (arith, to))))
 
   -- an extent that keeps the rules
   record IsSound (extent : Extent) : Type 0 where
@@ -242,9 +243,9 @@ module _ (s : Super) (layout : Layout) (table : IsTable layout.chunks) (node : s
     node_long : is_some extent.level ≡ true → extent.len ≡ s.nodesize
     uncrossed : is_some extent.level ≡ true → crosses chunk extent.addr extent.len ≡ false
 
-  all_blocks : (copied : Bool) (extent : Extent) → IsSound extent → (level : Option ℕ) → extent.level ≡ level
-      → Ends B (blocks_of s sums copied extent level) (λ ys u. AreBetween layout extent.addr (extent.addr + extent.len) (wants_among ys))
-  all_blocks copied extent is (Some level) e = λ u _.
+  all_blocks : (extent : Extent) → IsSound extent → (level : Option ℕ) → extent.level ≡ level
+      → Ends B (blocks_of s sums extent level) (λ ys u. Between extent.addr (extent.addr + extent.len) ys) (Apart extent.addr)
+  all_blocks extent is (Some level) e =
       let long = is.node_long (ap is_some e) in
       let len : extent.len ≡ layout.setting.nodesize = long ∙ node in (
         omega arith,
@@ -252,11 +253,12 @@ module _ (s : Super) (layout : Layout) (table : IsTable layout.chunks) (node : s
             (subst (λ n. crosses chunk extent.addr n ≡ false) len (is.uncrossed (ap is_some e))),
         omega (arith, len),
       )
-  all_blocks copied extent is None e = λ u h.
+  all_blocks extent is None e =
       let n = extent.len / 4096 in
-      between_to layout extent.addr (extent.addr + n * 4096) (extent.addr + extent.len)
-      (wants_among (steps_of (exec B (sectors s sums copied n extent.addr)).marks))
-      (all_sectors copied n extent.addr is.aligned is.from (omega (arith, is.to)) u h) (omega arith)
+      ends_as B (sectors s sums n extent.addr) (λ ys u. Between extent.addr (extent.addr + n * 4096) ys)
+      (λ ys u. Between extent.addr (extent.addr + extent.len) ys) (Apart extent.addr) (Apart extent.addr)
+      (λ ys u h. between_to layout extent.addr (extent.addr + n * 4096) (extent.addr + extent.len) (wants_among ys) h (omega arith)) (λ ys h. h)
+      (all_sectors n extent.addr is.aligned is.from (omega (arith, is.to)))
 
   -- what holds of the blocks so far, behind an extent that ends at `end`
   pub record SoFar (xs : List Met) (end : ℕ) : Type 0 where
@@ -265,37 +267,59 @@ module _ (s : Super) (layout : Layout) (table : IsTable layout.chunks) (node : s
     pub low : to ≤ chunk.start + (end - chunk.start)
     pub high : to ≤ chunk.start + chunk.length
 
+  abbrev Grows : ℕ → List Met → ℕ → Type 0
+  Grows end ys end' = (xs : List Met) → SoFar xs end → SoFar (xs ++ ys) end'
+
+  abbrev Far : ℕ → List Met → Type 0
+  Far end ys = (xs : List Met) → SoFar xs end → Apart chunk.start (xs ++ ys)
+
+  so_apart : (xs : List Met) (end : ℕ) → SoFar xs end → Apart chunk.start xs
+  so_apart xs end so = between_apart layout chunk.start so.to (wants_among xs) so.between
+
+  none_more : (end : ℕ) → Far end []
+  none_more end xs so = subst (Apart chunk.start) (sym (append-nil xs)) (so_apart xs end so)
+
+  -- an extent that keeps the rules, behind the one before
+  module _ (end : ℕ) (extent : Extent) (is : IsSound extent) (le : end ≤ extent.addr) where
+    abbrev blocks : Meeting (Unit {0})
+    blocks = blocks_of s sums extent extent.level
+
+    far : (ys : List Met) → Apart extent.addr ys → Far end ys
+    far ys h xs so = subst (AreApart layout chunk.start) (sym (wants_more xs ys)) (apart_more layout chunk.start so.to (wants_among xs) (wants_among ys)
+        so.between (apart_from layout so.to extent.addr (wants_among ys) (omega (arith, so.low, is.from, le)) h))
+
+    grows : (ys : List Met) → Between extent.addr (extent.addr + extent.len) ys → Grows end ys (extent.addr + extent.len)
+    grows ys q xs so = record {
+      to = extent.addr + extent.len;
+      between = subst (AreBetween layout chunk.start (extent.addr + extent.len)) (sym (wants_more xs ys))
+          (between_more layout chunk.start so.to (extent.addr + extent.len) (wants_among xs) (wants_among ys) so.between
+          (between_from layout so.to extent.addr (extent.addr + extent.len) (wants_among ys) (omega (arith, so.low, is.from, le)) q));
+      low = omega (arith, is.from);
+      high = is.to;
+    }
+
+    done : Ends B (bind blocks (λ _. Return (extent.addr + extent.len))) (Grows end) (Far end)
+    done =
+        ends_bind B blocks (λ _. Return (extent.addr + extent.len)) (λ ys u. Between extent.addr (extent.addr + extent.len) ys) (Grows end) (Far end)
+        (ends_as B blocks (λ ys u. Between extent.addr (extent.addr + extent.len) ys) (λ ys u. Between extent.addr (extent.addr + extent.len) ys)
+        (Apart extent.addr) (Far end) (λ ys u q. q) far (all_blocks extent is extent.level refl))
+        (λ u ys q xs so. subst (λ zs. SoFar (xs ++ zs) (extent.addr + extent.len)) (sym (append-nil ys)) (grows ys q xs so))
+
   met_extent : (end leaf : ℕ) (extent : Extent) → (is_malformed s end extent ≡ false → is_crossing chunk extent ≡ false → IsSound extent
-      × (end ≤ extent.addr)) → Ends B (extent_met s sums chunk end leaf (Some extent)) (λ ys end'. (xs : List Met) → SoFar xs end → SoFar (xs ++ ys) end')
+      × (end ≤ extent.addr)) → Ends B (extent_met s sums chunk end leaf (Some extent)) (Grows end) (Far end)
   met_extent end leaf extent h = by (is_malformed s end extent) refl
     where
-      done : IsSound extent → end ≤ extent.addr → Ends B (bind (blocks_of s sums (is_some (mirrors chunk)) extent extent.level) (λ _. Return (extent.addr + extent.len)))
-          (λ ys end'. (xs : List Met) → SoFar xs end → SoFar (xs ++ ys) end')
-      done is le =
-          ends_bind B (blocks_of s sums (is_some (mirrors chunk)) extent extent.level) (λ _. Return (extent.addr + extent.len))
-          (λ ys u. AreBetween layout extent.addr (extent.addr + extent.len) (wants_among ys))
-          (λ ys end'. (xs : List Met) → SoFar xs end → SoFar (xs ++ ys) end')
-          (all_blocks (is_some (mirrors chunk)) extent is extent.level refl)
-          (λ u end' e ys q xs so. subst (λ z. SoFar (xs ++ (ys ++ [])) z) (same_value (extent.addr + extent.len) end' e) (subst (λ zs. SoFar (xs ++ zs) (extent.addr + extent.len)) (sym (append-nil ys)) (record {
-            to = extent.addr + extent.len;
-            between = subst (AreBetween layout chunk.start (extent.addr + extent.len)) (sym (wants_more xs ys))
-                (between_more layout chunk.start so.to (extent.addr + extent.len) (wants_among xs) (wants_among ys) so.between
-                (between_from layout so.to extent.addr (extent.addr + extent.len) (wants_among ys) (omega (arith, so.low, is.from, le)) q));
-            low = omega (arith, is.from);
-            high = is.to;
-          })))
-
       or : (c : Bool) → is_malformed s end extent ≡ false → is_crossing chunk extent ≡ c
-          → Ends B (cond c (Stop (Crosses extent.addr)) (bind (blocks_of s sums (is_some (mirrors chunk)) extent extent.level) (λ _. Return (extent.addr + extent.len))))
-          (λ ys end'. (xs : List Met) → SoFar xs end → SoFar (xs ++ ys) end')
-      or true m e = λ a d. absurd (no_value a d)
-      or false m e = done (h m e).0 (h m e).1
+          → Ends B (cond c (Stop (Crosses extent.addr)) (bind (blocks_of s sums extent extent.level) (λ _. Return (extent.addr + extent.len))))
+          (Grows end) (Far end)
+      or true m e = none_more end
+      or false m e = let k = h m e in done end extent k.0 k.1
 
       by : (b : Bool) → is_malformed s end extent ≡ b
           → Ends B (cond b (Stop (Malformed leaf)) (cond (is_crossing chunk extent) (Stop (Crosses extent.addr))
-          (bind (blocks_of s sums (is_some (mirrors chunk)) extent extent.level) (λ _. Return (extent.addr + extent.len)))))
-          (λ ys end'. (xs : List Met) → SoFar xs end → SoFar (xs ++ ys) end')
-      by true e = λ a d. absurd (no_value a d)
+          (bind (blocks_of s sums extent extent.level) (λ _. Return (extent.addr + extent.len)))))
+          (Grows end) (Far end)
+      by true e = none_more end
       by false e = or (is_crossing chunk extent) e refl
 
   -- ---- the extent of an item
@@ -371,29 +395,31 @@ module _ (s : Super) (layout : Layout) (table : IsTable layout.chunks) (node : s
       by_fits true q e = by_read (extent_item_of item.key.kind item.body) e
           (and_parts (key_fits item.key) (body_fits (form_of item.key.kind) (kind_in s) item.key item.body) q).0
 
-  one_item : (end : ℕ) (item : TreeItem) → key_le (key chunk.start 0 0) item.key ≡ true
-      → Ends B (item_met s sums chunk end item) (λ ys end'. (xs : List Met) → SoFar xs end → SoFar (xs ++ ys) end')
+  one_item : (end : ℕ) (item : TreeItem) → key_le (key chunk.start 0 0) item.key ≡ true → Ends B (item_met s sums chunk end item) (Grows end) (Far end)
   one_item end item lo = by (is_extent item.key) refl
     where
-      met : is_extent item.key ≡ true → (o : Option Extent) → extent_of s item ≡ o
-          → Ends B (extent_met s sums chunk end item.leaf o) (λ ys end'. (xs : List Met) → SoFar xs end → SoFar (xs ++ ys) end')
-      met is None e = λ a d. absurd (no_value a d)
+      met : is_extent item.key ≡ true → (o : Option Extent) → extent_of s item ≡ o → Ends B (extent_met s sums chunk end item.leaf o) (Grows end) (Far end)
+      met is None e = none_more end
       met is (Some extent) e = met_extent end item.leaf extent (λ fine uncrossed. extent_is item extent end lo is e fine uncrossed)
 
-      by : (b : Bool) → is_extent item.key ≡ b → Ends B (cond b (extent_met s sums chunk end item.leaf (extent_of s item)) (Return end))
-          (λ ys end'. (xs : List Met) → SoFar xs end → SoFar (xs ++ ys) end')
+      by : (b : Bool) → is_extent item.key ≡ b → Ends B (cond b (extent_met s sums chunk end item.leaf (extent_of s item)) (Return end)) (Grows end) (Far end)
       by true is = met is (extent_of s item) refl
-      by false is = λ end' e xs so. subst (λ z. SoFar (xs ++ []) z) (same_value end end' e) (subst (λ zs. SoFar zs end) (sym (append-nil xs)) so)
+      by false is = λ xs so. subst (λ zs. SoFar zs end) (sym (append-nil xs)) so
+
+  first : SoFar [] 0
+  first = record { to = chunk.start; between = omega arith; low = omega arith; high = omega arith }
 
   -- the blocks of the chunk lie in it, one behind another
-  pub chunk_ends : (extents : TreeRoot) → Ends B (in_chunk s sums chunk extents)
-      (λ ys u. AreBetween layout chunk.start (chunk.start + chunk.length) (wants_among ys))
-  chunk_ends extents = λ end e.
+  pub chunk_ends : (extents : TreeRoot)
+      → Ends B (in_chunk s sums chunk extents) (λ ys u. Between chunk.start (chunk.start + chunk.length) ys) (Apart chunk.start)
+  chunk_ends extents =
       let lo = key chunk.start 0 0 in
       let hi = key (chunk.start + chunk.length - 1) 255 last in
-      let all = each_ends B (item_met s sums chunk) (Within lo hi) SoFar one_item (range lo hi extents.place) (yields_range lo hi extents.place) 0 end e [] (record { to = chunk.start; between = omega arith; low = omega arith; high = omega arith }) in
-      between_to layout chunk.start all.to (chunk.start + chunk.length) (wants_among (steps_of (exec B (in_chunk s sums chunk extents)).marks))
-      all.between all.high
+      ends_as B (in_chunk s sums chunk extents) (Grows 0) (λ ys u. Between chunk.start (chunk.start + chunk.length) ys) (Far 0) (Apart chunk.start)
+      (λ ys end all. let so = all [] first in between_to layout chunk.start so.to (chunk.start + chunk.length) (wants_among ys) so.between so.high)
+      (λ ys far. far [] first)
+      (each_ends B (item_met s sums chunk) (Within lo hi) SoFar (Apart chunk.start) so_apart one_item (range lo hi extents.place)
+      (yields_range lo hi extents.place) 0)
 
 -- ---- all chunks
 
@@ -408,28 +434,38 @@ tail_at xs i x ys e = sym (drop-drop 1 i xs) ∙ ap (drop 1) e
 
 -- the chunks from one on, in the order of the table
 module _ (s : Super) (layout : Layout) (table : IsTable layout.chunks) (node : s.nodesize ≡ layout.setting.nodesize) (some : 0 < s.nodesize) (B : Map) where
+  abbrev ApartFrom : ℕ → List Met → Type 0
+  ApartFrom from ys = AreApart layout from (wants_among ys)
+
   chunks_end : (sums : Option TreeRoot) (extents : TreeRoot) (chunks : List Chunk) (i from : ℕ) → drop i layout.chunks ≡ chunks
       → ((j : ℕ) (c : Chunk) → i ≤ j → slice_get layout.chunks j ≡ Some c → from ≤ c.start)
-      → Ends B (in_chunks s sums extents chunks) (λ ys u. AreApart layout from (wants_among ys))
-  chunks_end sums extents [] i from e behind = λ u _. tt
+      → Ends B (in_chunks s sums extents chunks) (λ ys u. ApartFrom from ys) (ApartFrom from)
+  chunks_end sums extents [] i from e behind = tt
   chunks_end sums extents (chunk ∷ chunks) i from e behind =
       let there = head_at layout.chunks i chunk chunks e in
-      ends_bind B (in_chunk s sums chunk extents) (λ _. in_chunks s sums extents chunks)
-      (λ ys u. AreBetween layout chunk.start (chunk.start + chunk.length) (wants_among ys)) (λ ys u. AreApart layout from (wants_among ys))
-      (chunk_ends s layout table node some B sums i chunk there extents)
-      (λ _ u d xs q.
-      let ys = steps_of (exec B (in_chunks s sums extents chunks)).marks in
-      let rest = chunks_end sums extents chunks (i + 1) (chunk.start + chunk.length) (tail_at layout.chunks i chunk chunks e) (λ j c le at. (table.apart i j chunk c (omega (arith, le)) there at).0) u d in
-      subst (AreApart layout from) (sym (wants_more xs ys))
-      (apart_from layout from chunk.start (wants_among xs ++ wants_among ys) (behind i chunk (omega arith) there)
-      (apart_more layout chunk.start (chunk.start + chunk.length) (wants_among xs) (wants_among ys) q rest)))
+      let end = chunk.start + chunk.length in
+      let low = behind i chunk (omega arith) there in
+      let more = λ (xs : List Met) (q : AreBetween layout chunk.start end (wants_among xs)) (ys : List Met) (h : ApartFrom end ys).
+      subst (AreApart layout from) (sym (wants_more xs ys)) (apart_from layout from chunk.start (wants_among xs ++ wants_among ys) low
+      (apart_more layout chunk.start end (wants_among xs) (wants_among ys) q h)) in
+      ends_bind B (in_chunk s sums chunk extents) (λ _. in_chunks s sums extents chunks) (λ ys u. AreBetween layout chunk.start end (wants_among ys))
+      (λ ys u. ApartFrom from ys) (ApartFrom from)
+      (ends_as B (in_chunk s sums chunk extents) (λ ys u. AreBetween layout chunk.start end (wants_among ys))
+      (λ ys u. AreBetween layout chunk.start end (wants_among ys)) (ApartFrom chunk.start) (ApartFrom from) (λ ys u q. q)
+      (λ ys h. apart_from layout from chunk.start (wants_among ys) low h) (chunk_ends s layout table node some B sums i chunk there extents))
+      (λ _ xs q. ends_as B (in_chunks s sums extents chunks) (λ ys u. ApartFrom end ys) (λ ys u. ApartFrom from (xs ++ ys)) (ApartFrom end)
+      (λ ys. ApartFrom from (xs ++ ys)) (λ ys u. more xs q ys) (more xs q)
+      (chunks_end sums extents chunks (i + 1) end (tail_at layout.chunks i chunk chunks e)
+      (λ j c le at. (table.apart i j chunk c (omega (arith, le)) there at).0)))
 
-  with_extents_end : (o : Option TreeRoot) → Ends B (with_extents s layout.chunks o) (λ ys u. AreApart layout 0 (wants_among ys))
-  with_extents_end None = λ u e. absurd (no_value u e)
+  with_extents_end : (o : Option TreeRoot) → Ends B (with_extents s layout.chunks o) (λ ys u. ApartFrom 0 ys) (ApartFrom 0)
+  with_extents_end None = tt
   with_extents_end (Some extents) =
-      ends_looks B (tree_of s 7) (λ sums. in_chunks s sums extents layout.chunks) (λ ys u. AreApart layout 0 (wants_among ys))
+      ends_looks B (tree_of s 7) (λ sums. in_chunks s sums extents layout.chunks) (λ ys u. ApartFrom 0 ys) (ApartFrom 0) tt
       (λ sums. chunks_end sums extents layout.chunks 0 0 refl (λ j c le at. omega arith))
 
-  -- the checked blocks, where all could be met, have a position and are apart
-  pub units_apart : Ends B (units_in s layout.chunks) (λ ys u. AreApart layout 0 (wants_among ys))
-  units_apart = ends_looks B (tree_of s 2) (with_extents s layout.chunks) (λ ys u. AreApart layout 0 (wants_among ys)) with_extents_end
+  -- the checked blocks that are met, however that ends, have a position and are apart
+  pub units_apart : ApartFrom 0 (steps_of (exec B (units_in s layout.chunks)).marks)
+  units_apart =
+      holds_of (ApartFrom 0) (steps_of (exec B (units_in s layout.chunks)).marks) (exec B (units_in s layout.chunks)).ending
+      (ends_looks B (tree_of s 2) (with_extents s layout.chunks) (λ ys u. ApartFrom 0 ys) (ApartFrom 0) tt with_extents_end)

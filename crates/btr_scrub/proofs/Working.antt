@@ -46,7 +46,7 @@ use Rattle.btr_scrub.proofs.RowAgreeing.{map_same}
 use Rattle.btr_scrub.proofs.Scrubbing.{IsUnmoved, does_cut, does_next, does_weaker, held_after, if_append, recast, tell, told, waits_weaker}
 use Rattle.btr_scrub.proofs.Some.{any_at}
 use Rattle.btr_scrub.proofs.Stripes.{any_of}
-use Rattle.btr_scrub.specs.Plain.{Doubts}
+use Rattle.btr_scrub_copies.specs.Fresh.{Failing}
 
 -- ---- one chunk
 
@@ -257,7 +257,7 @@ take_one xs i x e = ap (λ n. take n xs) (add-one i) ∙ take_suc xs i x e
 split_at : {X : Type 0} (xs : List X) (i : ℕ) (x : X) → slice_get xs i ≡ Some x → xs ≡ take i xs ++ x ∷ drop (i + 1) xs
 split_at xs i x e = sym (take-append-drop i xs) ∙ ap (λ ys. take i xs ++ ys) (drop_one xs i x e)
 
-module _ (kept : Doubts) (layout : Layout) (wants : List Want) where
+module _ (kept : Failing) (layout : Layout) (wants : List Want) where
   -- the chunks before one are past, mended and synced
   pub record ChunksPast (write : Bool) (left : List Want) (number : ℕ) (old new : Seen) (tally tally' : Tally) : Type 0 where
     pub past : List Want
@@ -269,7 +269,7 @@ module _ (kept : Doubts) (layout : Layout) (wants : List Want) where
     pub done : Works {A = Unit {0}} layout write (all_writes_for kept layout (take number layout.chunks) wants)
         (all_count_for kept layout write (take number layout.chunks) wants) old new tally tally' (Ok tt)
 
-module _ (kept : Doubts) (layout : Layout) (table : IsTable layout.chunks) (wants : List Want) where
+module _ (kept : Failing) (layout : Layout) (table : IsTable layout.chunks) (wants : List Want) where
   -- what is written in a chunk is so for the blocks that are left, where those past lie in none of its rows
   pub left_for : (write : Bool) (chunk : Chunk) (past left : List Want) → wants ≡ past ++ left
       → ((t : Target) → In t (targets layout past) → is_in_chunk chunk t ≡ false) → (images : Images)
@@ -279,16 +279,16 @@ module _ (kept : Doubts) (layout : Layout) (table : IsTable layout.chunks) (want
       let both : targets layout wants ≡ targets layout past ++ targets layout left = ap (targets layout) split ∙ filter_map-append (λ w. ok_or_none (sought layout w)) past left in
       let blocks : sites_in layout chunk wants ≡ sites_in layout chunk left =
       ap (filter (is_in_chunk chunk)) both ∙ filter-append (is_in_chunk chunk) (targets layout past) (targets layout left) ∙ ap (λ xs. xs ++ sites_in layout chunk left) (filter_none (is_in_chunk chunk) (targets layout past) outside) in
-      let in_rows : (r : ℕ) → row_of kept (targets layout wants) chunk r ≡ row_of kept (targets layout left) chunk r = λ r. ap (λ bs. record { chunk = chunk; number = r; blocks = bs; kept = kept.columns chunk r }) (
+      let in_rows : (r : ℕ) → row_of kept (targets layout wants) chunk r ≡ row_of kept (targets layout left) chunk r = λ r. ap (λ bs. record { chunk = chunk; number = r; blocks = bs; failing = kept }) (
       ap (filter (is_in_row chunk r)) both ∙ filter-append (is_in_row chunk r) (targets layout past) (targets layout left)
       ∙ ap (λ xs. xs ++ filter (is_in_row chunk r) (targets layout left)) (filter_none (is_in_row chunk r) (targets layout past) (λ t i. ap (λ b. b && eqb t.at.row r) (outside t i)))) in
       let rs : rows_in kept (targets layout wants) chunk ≡ rows_in kept (targets layout left) chunk = ap (λ xs. cond (is_none (mirrors chunk)) xs []) (map_same (row_of kept (targets layout wants) chunk) (row_of kept (targets layout left) chunk) (range_with_len 0 (stripe_length chunk / 65536)) (λ r _. in_rows r)) in (
-        sym (ap (λ x. cond (is_none (mirrors chunk)) (rows_writes layout x images) (sites_writes kept.failing (sites_in layout chunk wants) images)) rs
-            ∙ ap (λ x. cond (is_none (mirrors chunk)) (rows_writes layout (rows_in kept (targets layout left) chunk) images) (sites_writes kept.failing x images)) blocks),
+        sym (ap (λ x. cond (is_none (mirrors chunk)) (rows_writes layout x images) (sites_writes kept (sites_in layout chunk wants) images)) rs
+            ∙ ap (λ x. cond (is_none (mirrors chunk)) (rows_writes layout (rows_in kept (targets layout left) chunk) images) (sites_writes kept x images)) blocks),
         λ y. sym (ap (λ x. cond (is_none (mirrors chunk)) (rows_count layout write x images y)
-            (sites_count kept.failing write (sites_in layout chunk wants) images y)) rs
+            (sites_count kept write (sites_in layout chunk wants) images y)) rs
             ∙ ap (λ x. cond (is_none (mirrors chunk)) (rows_count layout write (rows_in kept (targets layout left) chunk) images y)
-            (sites_count kept.failing write x images y)) blocks),
+            (sites_count kept write x images y)) blocks),
       )
 
   pub chunks_none : (write : Bool) (a : Seen) (tally : Tally) → AreApart layout 0 wants → ChunksPast kept layout wants write wants 0 a a tally tally

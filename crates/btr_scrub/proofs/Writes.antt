@@ -1,11 +1,12 @@
--- The writes of a full stripe lie in wrong elements.
-use Rattle.std.proofs.Common.{◌≡◌, ◌⊎◌, ℕ, ◌+◌, ◌*◌, ◌<◌, Bool, true, false, not, ◌&&◌, ◌||◌, List, [], ◌∷◌, ◌++◌, map, length, slice_get, Option, Some, None}
+-- The writes of a full stripe lie where it is wrong.
+use Rattle.std.proofs.Common.{◌≡◌, ◌⊎◌, ℕ, ◌+◌, ◌-◌, ◌*◌, ◌<◌, ◌≤◌, Bool, true, false, ◌&&◌, ◌||◌, List, [], ◌∷◌, ◌++◌, map, length, slice_get, Option}
+use Rattle.std.proofs.Common.{Some, None}
 use Rattle.std.proofs.Common.{IsNone, IsSomeAnd, is_some, refl, sym, ap, ◌∙◌, subst, inl, inr, arith}
 use Rattle.std.proofs.lemmas.Bool.{false≢true, and_parts}
 use Rattle.std.proofs.lemmas.Option.{same_Some}
 use Rattle.std.specs.List.{filter_map, cons_option, flat_map, list_any, range_with_len}
 use Rattle.std.specs.Option.{option_map, option_map_or}
-use Rattle.btr_chunk.specs.Chunk.{IsChunk, mirror_count, mirrors}
+use Rattle.btr_chunk.specs.Chunk.{IsChunk, mirror_count}
 use Rattle.btr_chunk.specs.Mapping.{HasPart, place_at, place_on}
 use Rattle.btr_chunk.specs.Table.{IsTable}
 use Rattle.btr_chunk.specs.declared.place.Part.{Part}
@@ -21,19 +22,23 @@ use Rattle.btr_rack.specs.declared.place.Place.{Place as Range}
 use Rattle.btr_read.specs.Candidates.{Target, range_of, size_of}
 use Rattle.btr_read.specs.Layout.{Layout, device_in}
 use Rattle.btr_read.proofs.Ones.{in_below}
-use Rattle.btr_scrub_copies.specs.Blocks.{accepted, bad_parts, block_writes, is_good, is_sound, own_parts, written_over}
+use Rattle.btr_scrub_copies.specs.Blocks.{copy_writes}
+use Rattle.btr_scrub_copies.specs.Fresh.{Failing}
+use Rattle.btr_scrub_row.specs.Wanted.{mending_writes, new_bytes, wrong_parts}
+use Rattle.btr_scrub_row.proofs.Settled.{mending_is}
 use Rattle.btr_scrub.specs.Glue.{In}
 use Rattle.btr_scrub.specs.Repair.{covers}
-use Rattle.btr_scrub.specs.Right.{Committed, IsRight}
+use Rattle.btr_scrub.specs.Columns.{Committed, IsInWrongColumn, IsWrongAt}
 use Rattle.btr_scrub_row.specs.Rows.{Row, column_of, differing, differs, element_with, is_decided, parities, parity_writes, range_in_element, row_writes}
 use Rattle.btr_scrub_row.specs.Rows.{sector_write}
 use Rattle.btr_scrub.specs.Staying.{IsInWrong, IsRowOf, RowWritesAreWrong}
-use Rattle.btr_scrub.specs.Survival.{AcceptsRight, IsParity, IsSoundRow, RightPasses}
+use Rattle.btr_scrub.specs.Survival.{GetsRight, IsParity, IsSoundRow}
 use Rattle.btr_scrub_row.proofs.Elements.{range_stands, stands_on, stripe-row}
 use Rattle.btr_scrub.proofs.Elements.{has_ranges}
-use Rattle.btr_scrub.proofs.Places.{covering}
-use Rattle.btr_scrub.proofs.Staying.{covered}
-use Rattle.btr_scrub.proofs.Wrong.{bad_block_is_wrong, differing_parity_is_wrong}
+use Rattle.btr_scrub.proofs.OwnPlaces.{wrong_own}
+use Rattle.btr_scrub.proofs.Survival.{own_slice}
+use Rattle.btr_scrub.proofs.Places.{covered, covering}
+use Rattle.btr_scrub.proofs.Wrong.{differing_parity_is_wrong}
 use Rattle.btr_scrub_copies.proofs.Syncs.{passing_filter}
 use Rattle.btr_scrub_copies.specs.Writes.{Images, Write}
 
@@ -76,32 +81,48 @@ any_filter_map f g (x ∷ xs) h = by (g x) refl h (any_filter_map f g xs)
         or true t h rest = (x, inl refl, (y, e, t))
         or false t h rest = let r = rest h in (r.0, inr r.1, r.2)
 
-not_good : (b : Bool) → not b ≡ true → b ≡ false
-not_good true e = absurd (false≢true e)
-not_good false e = refl
-
 pub mapped : {X Y : Type 0} (g : X → Y) (o : Option X) (y : Y) → option_map g o ≡ Some y → (x : X) × (o ≡ Some x) × (g x ≡ y)
 mapped g None y e = absurd (false≢true (ap is_some e))
 mapped g (Some x) y e = (x, refl, same_Some (g x) y e)
 
 -- ---- one row
 
-module _ (images : Images) (layout : Layout) (C : Committed) (blocks : List Target) (row : Row) (slot off : ℕ) (table : IsTable layout.chunks) (is_row : IsRowOf layout blocks row) (sound : IsSoundRow images layout C row) where
-  wrong_at : (q : Part) → HasPart row.chunk.profile (length row.chunk.stripes) q
-      → IsSomeAnd (range_in_element layout row q 0 65536) (λ range. covers slot off range ≡ true) → ¬ (IsRight images layout C row q)
-      → IsInWrong images layout C blocks slot off
-  wrong_at q has covers wrong = record {
+module _ (images : Images) (layout : Layout) (C : Committed) (fails : Failing) (blocks : List Target) (row : Row) (slot off : ℕ) (table : IsTable layout.chunks) (is_row : IsRowOf layout fails blocks row) (sound : IsSoundRow images layout C row) where
+  -- a byte of an element, by its place there
+  record IsByte (q : Part) (from to : ℕ) : Type 0 where
+    covers : IsSomeAnd (range_in_element layout row q 0 65536) (λ range. covers slot off range ≡ true)
+    place : ℕ
+    at : IsSomeAnd (range_in_element layout row q 0 65536) (λ range. off ≡ range.off + place)
+    low : from ≤ place
+    high : place < to
+
+  byte_of : (q : Part) (from len base : ℕ) → range_in_element layout row q 0 65536 ≡ Some (range_in slot base 65536) → base + from ≤ off
+      → off < base + from + len → from + len ≤ 65536 → IsByte q from (from + len)
+  byte_of q from len base e low high inside = record {
+    covers = subst (λ o. IsSomeAnd o (λ range. covers slot off range ≡ true)) (sym e)
+        (covered slot base 65536 off (omega (arith, low)) (omega (arith, high, inside)));
+    place = off - base;
+    at = subst (λ o. IsSomeAnd o (λ range. off ≡ range.off + (off - base))) (sym e) (omega (arith, low));
+    low = omega (arith, low);
+    high = omega (arith, low, high);
+  }
+
+  wrong_at : (q : Part) (from to : ℕ) → HasPart row.chunk.profile (length row.chunk.stripes) q → (byte : IsByte q from to)
+      → IsWrongAt images layout C row q byte.place → IsInWrong images layout C fails blocks slot off
+  wrong_at q from to has byte wrong = record {
     row = row;
     is_row = is_row;
     part = q;
-    of = record { number = is_row.number; there = is_row.there; parity = is_row.parity; position = is_row.position; has = has; covers = covers };
+    of = record { number = is_row.number; there = is_row.there; parity = is_row.parity; position = is_row.position; has = has; covers = byte.covers };
+    place = byte.place;
+    at = byte.at;
     wrong = wrong;
   }
 
   -- a block's range in its own slice
   block_covers : (t : Target) (range : Range) → In t row.blocks → range_of t (part.Slice t.at.index) ≡ Some range → covers slot off range ≡ true
       → (HasPart row.chunk.profile (length row.chunk.stripes) (part.Slice t.at.index))
-      × IsSomeAnd (range_in_element layout row (part.Slice t.at.index) 0 65536) (λ range. covers slot off range ≡ true)
+      × IsByte (part.Slice t.at.index) t.at.rest (t.at.rest + size_of t)
   block_covers t range among e c =
       let block = sound.blocks t among in
       let mine : HasPart t.chunk.profile (length t.chunk.stripes) (part.Slice t.at.index) = (subst IsNone (sym block.in_row.parity) refl, block.in_row.position.index) in
@@ -110,37 +131,31 @@ module _ (images : Images) (layout : Layout) (C : Committed) (blocks : List Targ
       let same : range ≡ range_in r.slot (r.off + t.at.rest) (size_of t) = same_Some range (range_in r.slot (r.off + t.at.rest) (size_of t)) (sym e ∙ r.block) in
       let at = covering slot off (range_in r.slot (r.off + t.at.rest) (size_of t)) (ap (covers slot off) (sym same) ∙ c) in (
         has,
-        subst (λ o. IsSomeAnd o (λ range. covers slot off range ≡ true)) (sym r.element)
-            (subst (λ s. covers slot off (range_in s r.off 65536) ≡ true) (sym at.0)
-            (covered slot r.off 65536 off (omega (arith, at.1)) (omega (arith, at.2, block.lies.inside)))),
+        byte_of (part.Slice t.at.index) t.at.rest (size_of t) r.off (r.element ∙ ap (λ s. Some (range_in s r.off 65536)) at.0) at.1 at.2 block.lies.inside,
       )
 
-  own_part : (t : Target) (q : Part) → mirrors t.chunk ≡ None → In q (own_parts t) → part.Slice t.at.index ≡ q
-  own_part t q none i = by (subst (λ o. In q (option_map_or (λ copies. map part.Mirror (range_with_len 0 copies)) o (part.Slice t.at.index ∷ []))) none i)
+  of_block : (t : Target) → In t row.blocks
+      → list_any (λ (w : Write). covers slot off w.range) (mending_writes images row.failing t) ≡ true → IsInWrong images layout C fails blocks slot off
+  of_block t among h =
+      by (new_bytes images row.failing t) (ap (list_any (λ (w : Write). covers slot off w.range)) (sym (mending_is images row t)) ∙ h)
     where
-      by : In q (part.Slice t.at.index ∷ []) → part.Slice t.at.index ≡ q
-      by (inl e) = e
-      by (inr h) = absurd h
-
-  of_block : (t : Target) (o : Option (List ℕ)) → In t row.blocks → RightPasses C t
-      → list_any (λ (w : Write). covers slot off w.range) (option_map_or (written_over images t) o []) ≡ true → IsInWrong images layout C blocks slot off
-  of_block t None among pass h = absurd (false≢true h)
-  of_block t (Some bytes) among pass h =
-      let f = any_filter_map (λ (w : Write). covers slot off w.range) (λ q. option_map (λ range. record { range = range; bytes = bytes }) (range_of t q)) (bad_parts images t) h in
-      let bad = passing_filter (λ q. not (is_sound images t q)) f.0 (own_parts t) f.1 in
-      let q : part.Slice t.at.index ≡ f.0 = own_part t f.0 (sound.blocks t among).in_row.parity bad.0 in
-      let w = f.2.0 in
-      let m = mapped (λ range. record { range = range; bytes = bytes }) (range_of t f.0) w f.2.1 in
-      let range : range_of t (part.Slice t.at.index) ≡ Some m.0 = ap (range_of t) q ∙ m.1 in
-      let cover : covers slot off m.0 ≡ true = ap (λ (w : Write). covers slot off w.range) m.2 ∙ f.2.2 in
-      let fails : is_good images t (part.Slice t.at.index) ≡ false = ap (is_sound images t) q ∙ not_good (is_sound images t f.0) bad.1 in
-      let c = block_covers t m.0 among range cover in
-      wrong_at (part.Slice t.at.index) c.0 c.1 (bad_block_is_wrong images layout C row t sound among pass fails)
+      by : (o : Option (List ℕ)) → list_any (λ (w : Write). covers slot off w.range)
+          (option_map_or (λ bytes. copy_writes t bytes (wrong_parts images row.failing t)) o []) ≡ true → IsInWrong images layout C fails blocks slot off
+      by None h = absurd (false≢true h)
+      by (Some bytes) h =
+          let f = any_filter_map (λ (w : Write). covers slot off w.range) (λ q. option_map (λ range. record { range = range; bytes = bytes }) (range_of t q)) (wrong_parts images row.failing t) h in
+          let q : part.Slice t.at.index ≡ f.0 = own_slice t f.0 (sound.blocks t among).in_row.parity (wrong_own images row.failing t f.0 f.1) in
+          let m = mapped (λ range. record { range = range; bytes = bytes }) (range_of t f.0) f.2.0 f.2.1 in
+          let range : range_of t (part.Slice t.at.index) ≡ Some m.0 = ap (range_of t) q ∙ m.1 in
+          let cover : covers slot off m.0 ≡ true = ap (λ (w : Write). covers slot off w.range) m.2 ∙ f.2.2 in
+          let c = block_covers t m.0 among range cover in
+          wrong_at (part.Slice t.at.index) t.at.rest (t.at.rest + size_of t) c.0 c.1
+          (record { block = t; among = among; bad = subst (λ q. In q (wrong_parts images row.failing t)) (sym q) f.1; from = c.1.low; to = c.1.high })
 
   -- a sector of a parity in its element
   sector_covers : (q : Part) (column : ℕ) (range : Range) → HasPart row.chunk.profile (length row.chunk.stripes) q → column < 16
       → range_in_element layout row q (column * 4096) 4096 ≡ Some range → covers slot off range ≡ true
-      → IsSomeAnd (range_in_element layout row q 0 65536) (λ range. covers slot off range ≡ true)
+      → IsByte q (column * 4096) (column * 4096 + 4096)
   sector_covers q column range has few e c =
       let at0 : Elements = record { row = row.number; index = 0; rest = 0 } in
       let at1 : Elements = record { row = row.number; index = 0; rest = column * 4096 } in
@@ -159,22 +174,32 @@ module _ (images : Images) (layout : Layout) (C : Committed) (blocks : List Targ
       let piece = range_stands behind.offset 4096 (device_in layout.devices behind.devid) s.device part_there (omega (arith, s.within, offset, start, few)) in
       let is : range ≡ range_in s.device.slot behind.offset 4096 = same_Some range (range_in s.device.slot behind.offset 4096) (sym e ∙ piece) in
       let at = covering slot off (range_in s.device.slot behind.offset 4096) (ap (covers slot off) (sym is) ∙ c) in
-      subst (λ o. IsSomeAnd o (λ range. covers slot off range ≡ true)) (sym whole)
-      (subst (λ n. covers slot off (range_in n place.offset 65536) ≡ true) (sym at.0)
-      (covered slot place.offset 65536 off (omega (arith, at.1, offset, start)) (omega (arith, at.2, offset, start, few))))
+      byte_of q (column * 4096) 4096 place.offset (whole ∙ ap (λ n. Some (range_in n place.offset 65536)) at.0)
+      (omega (arith, at.1, offset, start)) (omega (arith, at.2, offset, start)) (omega (arith, few))
 
-  of_parity : (q : Part) → IsParity q → HasPart row.chunk.profile (length row.chunk.stripes) q → ((t : Target) → In t row.blocks → AcceptsRight images C t)
-      → list_any (λ (w : Write). covers slot off w.range) (parity_writes images layout row q) ≡ true → IsInWrong images layout C blocks slot off
+  parity_wrong : (q : Part) (x : ℕ) → IsParity q → IsInWrongColumn images layout C row q x → IsWrongAt images layout C row q x
+  parity_wrong (part.Mirror i) x parity w = absurd parity
+  parity_wrong (part.Slice i) x parity w = absurd parity
+  parity_wrong part.P x parity w = w
+  parity_wrong part.Q x parity w = w
+
+  of_parity : (q : Part) → IsParity q → HasPart row.chunk.profile (length row.chunk.stripes) q → ((t : Target) → In t row.blocks → GetsRight images C row t)
+      → list_any (λ (w : Write). covers slot off w.range) (parity_writes images layout row q) ≡ true → IsInWrong images layout C fails blocks slot off
   of_parity q parity has right h =
       let f = any_filter_map (λ (w : Write). covers slot off w.range) (sector_write images layout row q) (differing images layout row q) h in
       let column = f.0 in
       let d = passing_filter (λ column. is_decided images layout row column && differs images layout row q column) column (range_with_len 0 16) f.1 in
       let few : column < 16 = in_below 16 column d.0 in
       let both = and_parts (is_decided images layout row column) (differs images layout row q column) d.1 in
-      let m = mapped (λ range. record { range = range; bytes = column_of column (element_with images layout (accepted images) row q) }) (range_in_element layout row q (column * 4096) 4096) f.2.0 f.2.1 in
+      let m = mapped (λ range. record { range = range; bytes = column_of column (element_with images layout (new_bytes images row.failing) row q) }) (range_in_element layout row q (column * 4096) 4096) f.2.0 f.2.1 in
       let cover : covers slot off m.0 ≡ true = ap (λ (w : Write). covers slot off w.range) m.2 ∙ f.2.2 in
-      wrong_at q has (sector_covers q column m.0 has few m.1 cover)
-      (differing_parity_is_wrong images layout C row q column sound right parity few both.0 both.1)
+      let byte = sector_covers q column m.0 has few m.1 cover in
+      wrong_at q (column * 4096) (column * 4096 + 4096) has byte (parity_wrong q byte.place parity (record {
+        column = column;
+        from = byte.low;
+        to = byte.high;
+        wrong = differing_parity_is_wrong images layout C row q column sound right parity few both.0 both.1;
+      }))
 
   parity_of : (p : Profile) (n : ℕ) (q : Part) → mirror_count p n ≡ None → In q (parities p) → IsParity q × HasPart p n q
   parity_of p n q none i = elim (without_copies p n none) [
@@ -192,15 +217,15 @@ module _ (images : Images) (layout : Layout) (C : Committed) (blocks : List Targ
       with_six (inr (inr h)) = absurd h
 
 pub row_writes_are_wrong : RowWritesAreWrong
-row_writes_are_wrong images layout C blocks row slot off table is_row sound right h =
+row_writes_are_wrong images layout C fails blocks row slot off table is_row sound right h =
     let W = λ (w : Write). covers slot off w.range in
     let any : list_any W (row_writes images layout row) ≡ true = sym (any_map (covers slot off) (λ (w : Write). w.range) (row_writes images layout row)) ∙ h in
-    elim (any_append W (flat_map (block_writes images) row.blocks) (flat_map (parity_writes images layout row) (parities row.chunk.profile)) any) [
+    elim (any_append W (flat_map (mending_writes images row.failing) row.blocks) (flat_map (parity_writes images layout row) (parities row.chunk.profile)) any) [
       | inl bad ↦
-          let f = any_flat W (block_writes images) row.blocks bad in
-          of_block images layout C blocks row slot off table is_row sound f.0 (accepted images f.0) f.1 (right f.0 f.1).0 f.2
+          let f = any_flat W (mending_writes images row.failing) row.blocks bad in
+          of_block images layout C fails blocks row slot off table is_row sound f.0 f.1 f.2
       | inr parity ↦
           let f = any_flat W (parity_writes images layout row) (parities row.chunk.profile) parity in
-          let p = parity_of images layout C blocks row slot off table is_row sound row.chunk.profile (length row.chunk.stripes) f.0 is_row.parity f.1 in
-          of_parity images layout C blocks row slot off table is_row sound f.0 p.0 p.1 (λ t among. (right t among).1) f.2
+          let p = parity_of images layout C fails blocks row slot off table is_row sound row.chunk.profile (length row.chunk.stripes) f.0 is_row.parity f.1 in
+          of_parity images layout C fails blocks row slot off table is_row sound f.0 p.0 p.1 right f.2
     ]

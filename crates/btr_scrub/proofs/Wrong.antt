@@ -1,5 +1,5 @@
 -- What is to be written lies in wrong elements.
-use Rattle.std.proofs.Common.{◌≡◌, ◌⊎◌, ℕ, ◌+◌, ◌-◌, ◌*◌, ◌<◌, ◌≤◌, Bool, true, false, not, ◌&&◌, ◌||◌, eqb, ltb, List, [], ◌∷◌, map, length, get_or}
+use Rattle.std.proofs.Common.{◌≡◌, ◌⊎◌, ℕ, suc, ◌+◌, ◌-◌, ◌*◌, ◌<◌, ◌≤◌, Bool, true, false, not, cond, ◌&&◌, ◌||◌, eqb, ltb, nat_lt, List, [], ◌∷◌, map, length, get_or}
 use Rattle.std.proofs.Common.{slice_range, Option, Some, None, IfSome, is_some, refl, sym, ap, ◌∙◌, subst, inl, inr, arith}
 use Rattle.std.proofs.lemmas.Bool.{false≢true, and_parts, cases_lt, lt-ltb}
 use Rattle.std.proofs.lemmas.List.{same_lists, length-map, get_or-map}
@@ -18,34 +18,85 @@ use Rattle.btr_read.specs.Candidates.{Target, size_of, slice_count}
 use Rattle.btr_read.specs.Candidates as read
 use Rattle.btr_read.specs.Layout.{Layout}
 use Rattle.btr_read.specs.Want.{passes}
-use Rattle.btr_scrub_copies.specs.Blocks.{accepted}
+use Rattle.btr_read.specs.Fate.{is_plain}
+use Rattle.btr_scrub_copies.specs.Blocks.{accepted, bad_parts, is_good, is_sound, own_parts}
+use Rattle.btr_scrub_copies.specs.Fresh.{Failing, fresh, is_on_behind, is_stale, stale_beside, stale_parts}
+use Rattle.btr_scrub_copies.proofs.Syncs.{passing_filter}
+use Rattle.btr_scrub_row.specs.Wanted.{new_bytes, renewed}
 use Rattle.btr_parity.specs.Laws.{ranges_of}
 use Rattle.btr_scrub.specs.Glue.{In}
-use Rattle.btr_scrub.specs.Right.{committed_for}
+use Rattle.btr_scrub.specs.Columns.{Committed, IsRight, right_for}
 use Rattle.btr_scrub_row.specs.Rows as rows
-use Rattle.btr_scrub_row.specs.Rows.{Row, blocks_at, column_of, element, element_with, meets, slice_with, slices_with, with_block}
-use Rattle.btr_scrub.specs.Survival.{BadBlockIsWrong, DifferingParityIsWrong, IsParity}
+use Rattle.btr_scrub_row.specs.Rows.{Row, blocks_at, column_of, element, element_with, is_sure, is_surer, meets, slice_with, slices_with, with_block}
+use Rattle.btr_scrub.specs.Survival.{BadBlockIsWrong, DifferingParityIsWrong, IsParity, IsSoundRow}
 use Rattle.btr_scrub.proofs.Elements.{block_of_element}
 use Rattle.btr_parity.proofs.Ranges.{parity_of_ranges}
 use Rattle.btr_scrub_row.proofs.Pasted.{length-pasted, pasted-above, pasted-below, pasted-within}
-use Rattle.btr_scrub.proofs.Survival.{block_there, at_slice, slice_there, some_of, of_filter, range_ext}
+use Rattle.btr_scrub.proofs.Survival.{block_there, at_slice, right_checked, right_plain, slice_there, some_of, of_filter, range_ext}
 use Rattle.btr_scrub_copies.specs.Writes.{Images}
 
--- a bad block's slice isn't right, since committed bytes pass
-pub bad_block_is_wrong : BadBlockIsWrong
-bad_block_is_wrong images layout C row t sound among pass bad right =
+-- what is known of a stale place of a plain sector
+record IsStaleAt (images : Images) (fails : Failing) (t : Target) (q : Part) : Type 0 where
+  bytes : List ℕ
+  gets : new_bytes images fails t ≡ Some bytes
+  differs : bytes_eq (read.element images t q) bytes ≡ false
+
+not_so : (b : Bool) → not b ≡ true → b ≡ false
+not_so true e = absurd (false≢true e)
+not_so false e = refl
+
+stale_at : (images : Images) (fails : Failing) (t : Target) (q : Part) → is_plain t.want ≡ true → In q (stale_parts images fails t) → IsStaleAt images fails t q
+stale_at images fails t q plain i = by (fresh images fails t) refl i
+  where
+    some_long : (parts : List Part) → In q parts → nat_lt 0 (length parts) ≡ true
+    some_long [] i = absurd i
+    some_long (p ∷ parts) i = lt-ltb 0 (suc (length parts)) (omega arith)
+
+    by : (o : Option (List ℕ)) → fresh images fails t ≡ o → In q (option_map_or (stale_beside images fails t) o []) → IsStaleAt images fails t q
+    by None e i = absurd i
+    by (Some bytes) e i' =
+        let p = passing_filter (is_stale images fails t bytes) q (own_parts t) i' in
+        record {
+          bytes = bytes;
+          gets = ap (λ b. cond b (renewed images fails t) (accepted images t)) plain
+              ∙ ap (λ b. cond b (fresh images fails t) None) (some_long (stale_parts images fails t) i) ∙ e;
+          differs = not_so (bytes_eq (read.element images t q) bytes)
+              (and_parts (is_on_behind fails t q) (not (bytes_eq (read.element images t q) bytes)) p.1).1;
+        }
+
+-- a slice of a row that is right has the right bytes of each block in its place
+right_value : (images : Images) (layout : Layout) (C : Committed) (row : Row) (t : Target) → IsSoundRow images layout C row → In t row.blocks
+    → (bytes : List ℕ) → right_for images C row t ≡ Some bytes → IsRight images layout C row (part.Slice t.at.index)
+    → read.element images t (part.Slice t.at.index) ≡ bytes
+right_value images layout C row t sound among bytes is right =
     let block = sound.blocks t among in
-    let b = some_of (C t.want) block.committed in
     let n : slice_count t ≡ rows.slice_count row = ap (λ c. data_count c.profile (length c.stripes)) block.lies.chunk in
     let lt : t.at.index < rows.slice_count row = omega (arith, n, block.in_row.position.index) in
     let has : HasPart row.chunk.profile (length row.chunk.stripes) (part.Slice t.at.index) = slice_there images layout C row sound t.at.index lt in
     let mine : HasPart t.chunk.profile (length t.chunk.stripes) (part.Slice t.at.index) = subst (λ c. HasPart c.profile (length c.stripes) (part.Slice t.at.index)) (sym block.lies.chunk) has in
-    let value : read.element images t (part.Slice t.at.index) ≡ b.0 =
     block_of_element images layout row t (part.Slice t.at.index) block.in_row block.lies mine (sound.stand (part.Slice t.at.index) has)
     ∙ ap (λ xs. slice_range xs t.at.rest (t.at.rest + size_of t)) (right ∙ sym (at_slice images layout C row sound t.at.index [] lt))
-    ∙ block_there images layout C row sound t b.0 among lt b.1 in
-    let passing : passes t.setting t.want b.0 ≡ true = subst (λ o. IfSome o (λ bytes. passes t.setting t.want bytes ≡ true)) b.1 pass in
-    false≢true (sym bad ∙ ap (passes t.setting t.want) value ∙ passing)
+    ∙ block_there images layout C row sound t bytes among lt is
+
+-- a place at which something is wrong lies in a slice that isn't right: committed bytes pass, and fresh bytes differ
+pub bad_block_is_wrong : BadBlockIsWrong
+bad_block_is_wrong images layout C row t sound among pass bad right = by (is_plain t.want) refl bad
+  where
+    q : Part
+    q = part.Slice t.at.index
+
+    by : (b : Bool) → is_plain t.want ≡ b → In q (cond b (stale_parts images row.failing t) (bad_parts images t)) → ⊥
+    by true plain i =
+        let s = stale_at images row.failing t q plain i in
+        let value = right_value images layout C row t sound among s.bytes (right_plain images C row t plain ∙ s.gets) right in
+        let d = bytes_eq-Decides (read.element images t q) s.bytes in
+        false≢true (sym s.differs ∙ d.1 value)
+    by false checked i =
+        let b = some_of (C t.want) ((sound.blocks t among).committed checked) in
+        let value = right_value images layout C row t sound among b.0 (right_checked images C row t checked ∙ b.1) right in
+        let passing : passes t.setting t.want b.0 ≡ true = subst (λ o. IfSome o (λ bytes. passes t.setting t.want bytes ≡ true)) b.1 pass in
+        let unsound = not_so (is_good images t q) (passing_filter (λ part. not (is_sound images t part)) q (own_parts t) i).1 in
+        false≢true (sym unsound ∙ ap (passes t.setting t.want) value ∙ passing)
 
 -- ---- decided columns
 
@@ -146,9 +197,13 @@ module _ (images : Images) (layout : Layout) (g h : Target → Option (List ℕ)
       ∙ sym (get_or-map cut hs i [] d (omega (arith, lt, lh))
       ∙ ap cut (get_or-map-range_with_len (slice_with images layout h row) 0 n i i [] lt (omega arith))))
 
-not_lost : (b : Bool) (o : Option (List ℕ)) → (not b || is_some o) ≡ true → b ≡ true → is_some o ≡ true
-not_lost true o h e = h
-not_lost false o h e = absurd (false≢true e)
+not_lost : (b c : Bool) → (not b || c) ≡ true → b ≡ true → c ≡ true
+not_lost true c h e = h
+not_lost false c h e = absurd (false≢true e)
+
+or_false : (b : Bool) → (b || false) ≡ true → b ≡ true
+or_false true e = refl
+or_false false e = e
 
 accepted_is : (o p : Option (List ℕ)) → IfSome o (λ bytes. p ≡ Some bytes) → is_some o ≡ true → o ≡ p
 accepted_is None p h e = absurd (false≢true e)
@@ -163,38 +218,50 @@ column_fits c lt = omega (arith, lt)
 
 pub differing_parity_is_wrong : DifferingParityIsWrong
 differing_parity_is_wrong images layout C row q c sound right parity few decided differ is =
-    let none_lost = list_all (λ t. not (meets c t) || is_some (accepted images t)) row.blocks in
-    let all = (and_parts (not (row.kept c)) none_lost (and_parts (list_any (meets c) row.blocks) (not (row.kept c) && none_lost) decided).1).1 in
+    let new = new_bytes images row.failing in
+    let target = right_for images C row in
+    let sure = list_all (λ t. not (meets c t) || is_sure images layout row t) row.blocks in
+    let all = (and_parts (list_any (meets c) row.blocks) sure decided).1 in
     let agrees = λ (i : ℕ) (t : Target) (among : In t (blocks_at row i)). by i t among all in
-    let same = all_columns images layout (accepted images) (committed_for C) c row few agrees (λ i lt. sound.bytes (part.Slice i) (slice_there images layout C row sound i lt)) in
-    let equal : column_of c (element images layout row q) ≡ column_of c (element_with images layout (accepted images) row q) = ap (column_of c) is ∙ sym (parts q parity same) in
-    let yes : bytes_eq (column_of c (element images layout row q)) (column_of c (element_with images layout (accepted images) row q)) ≡ true =
-    (let d = bytes_eq-Decides (column_of c (element images layout row q)) (column_of c (element_with images layout (accepted images) row q)) in d.1 equal) in
+    let same = all_columns images layout new target c row few agrees (λ i lt. sound.bytes (part.Slice i) (slice_there images layout C row sound i lt)) in
+    let equal : column_of c (element images layout row q) ≡ column_of c (element_with images layout new row q) = is ∙ sym (parts q parity same) in
+    let yes : bytes_eq (column_of c (element images layout row q)) (column_of c (element_with images layout new row q)) ≡ true =
+    (let d = bytes_eq-Decides (column_of c (element images layout row q)) (column_of c (element_with images layout new row q)) in d.1 equal) in
     false≢true (sym (ap not yes) ∙ differ)
   where
-    by : (i : ℕ) (t : Target) → In t (blocks_at row i) → list_all (λ t. not (meets c t) || is_some (accepted images t)) row.blocks ≡ true
-        → Agrees images layout (accepted images) (committed_for C) c t
+    -- what a block gets is right where it is sure
+    gets : (t : Target) → In t row.blocks → is_sure images layout row t ≡ true → new_bytes images row.failing t ≡ right_for images C row t
+    gets t there sure = at (is_plain t.want) refl
+      where
+        at : (b : Bool) → is_plain t.want ≡ b → new_bytes images row.failing t ≡ right_for images C row t
+        at true plain = sym (right_plain images C row t plain)
+        at false checked = accepted_is (new_bytes images row.failing t) (right_for images C row t) (right t there)
+            (or_false (is_some (new_bytes images row.failing t))
+            (ap (λ b. is_some (new_bytes images row.failing t) || b && is_surer images layout row t) (sym checked) ∙ sure))
+
+    by : (i : ℕ) (t : Target) → In t (blocks_at row i) → list_all (λ t. not (meets c t) || is_sure images layout row t) row.blocks ≡ true
+        → Agrees images layout (new_bytes images row.failing) (right_for images C row) c t
     by i t among all =
         let there : In t row.blocks = of_filter (λ u. eqb u.at.index i) t row.blocks among in
         let block = sound.blocks t there in
         record {
           inside = block.lies.inside;
-          one = accepted_slice (size_of t) (accepted images t) (C t.want) (right t there) block.bytes;
+          one = accepted_slice (size_of t) (new_bytes images row.failing t) (right_for images C row t) (right t there) block.bytes;
           other = block.bytes;
-          same = λ met. accepted_is (accepted images t) (C t.want) (right t there)
-              (not_lost (meets c t) (accepted images t) (all_at (λ u. not (meets c u) || is_some (accepted images u)) row.blocks t all there) met);
+          same = λ met. gets t there (not_lost (meets c t) (is_sure images layout row t)
+              (all_at (λ u. not (meets c u) || is_sure images layout row u) row.blocks t all there) met);
         }
 
-    parts : (q : Part) → IsParity q → ranges_of (c * 4096) (c * 4096 + 4096) (slices_with images layout (accepted images) row)
-        ≡ ranges_of (c * 4096) (c * 4096 + 4096) (slices_with images layout (committed_for C) row)
-        → column_of c (element_with images layout (accepted images) row q) ≡ column_of c (element_with images layout (committed_for C) row q)
+    parts : (q : Part) → IsParity q → ranges_of (c * 4096) (c * 4096 + 4096) (slices_with images layout (new_bytes images row.failing) row)
+        ≡ ranges_of (c * 4096) (c * 4096 + 4096) (slices_with images layout (right_for images C row) row)
+        → column_of c (element_with images layout (new_bytes images row.failing) row q) ≡ column_of c (element_with images layout (right_for images C row) row q)
     parts (part.Mirror i) h same = absurd h
     parts (part.Slice i) h same = absurd h
     parts part.P h same =
-        sym (parity_of_ranges.of_p 65536 (c * 4096) (c * 4096 + 4096) (slices_with images layout (accepted images) row) (omega arith) (column_fits c few))
+        sym (parity_of_ranges.of_p 65536 (c * 4096) (c * 4096 + 4096) (slices_with images layout (new_bytes images row.failing) row) (omega arith) (column_fits c few))
         ∙ ap (parity_p (c * 4096 + 4096 - c * 4096)) same
-        ∙ parity_of_ranges.of_p 65536 (c * 4096) (c * 4096 + 4096) (slices_with images layout (committed_for C) row) (omega arith) (column_fits c few)
+        ∙ parity_of_ranges.of_p 65536 (c * 4096) (c * 4096 + 4096) (slices_with images layout (right_for images C row) row) (omega arith) (column_fits c few)
     parts part.Q h same =
-        sym (parity_of_ranges.of_q 65536 (c * 4096) (c * 4096 + 4096) (slices_with images layout (accepted images) row) (omega arith) (column_fits c few))
+        sym (parity_of_ranges.of_q 65536 (c * 4096) (c * 4096 + 4096) (slices_with images layout (new_bytes images row.failing) row) (omega arith) (column_fits c few))
         ∙ ap (parity_q (c * 4096 + 4096 - c * 4096)) same
-        ∙ parity_of_ranges.of_q 65536 (c * 4096) (c * 4096 + 4096) (slices_with images layout (committed_for C) row) (omega arith) (column_fits c few)
+        ∙ parity_of_ranges.of_q 65536 (c * 4096) (c * 4096 + 4096) (slices_with images layout (right_for images C row) row) (omega arith) (column_fits c few)

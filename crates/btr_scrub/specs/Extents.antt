@@ -1,13 +1,13 @@
 -- Where a chunk's addresses lie, as far as its extents are judged by it.
 use Rattle.std.specs.Prelude.{◌+◌, ◌-◌, ◌%◌, ◌&&◌, ◌||◌, Bool, is_some, nat_lt}
-use Rattle.btr_chunk.specs.Chunk.{is_striped, mirrors}
+use Rattle.btr_chunk.specs.Chunk.{is_striped}
 use Rattle.btr_chunk.specs.declared.chunk.Chunk.{Chunk}
 use Rattle.btr_scrub.specs.declared.extent.Extent.{Extent}
 use Rattle.btr_scrub.specs.declared.extent.Span.{Span}
 
--- where a chunk's addresses lie, and whether it is striped, and has copies
+-- where a chunk's addresses lie, and whether it is striped
 abbrev pub span_of : Chunk → Span
-span_of chunk = record { start = chunk.start; length = chunk.length; striped = is_striped chunk.profile; copied = is_some (mirrors chunk) }
+span_of chunk = record { start = chunk.start; length = chunk.length; striped = is_striped chunk.profile }
 
 -- an extent passes the end
 abbrev pub passes_end : Span → Extent → Bool

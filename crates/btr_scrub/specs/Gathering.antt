@@ -18,22 +18,19 @@ use Rattle.btr_volume.specs.declared.stop.Stop.{Stop}
 use Rattle.btr_volume.specs.declared.stop.Stop.TheVariants.{NoTree, Tree, Deletion, Balance, Missing, Image, Sink, Out, Memory}
 use Rattle.btr_volume.specs.declared.volume.Volume.{Volume}
 use Rattle.btr_scrub.specs.Listed.{IsList, kept_wants}
-use Rattle.btr_scrub.specs.Plain.{plain_among}
-use Rattle.btr_scrub.specs.Units.{Meeting, Met, Checked, Copied, Unchecked, is_crossing}
+use Rattle.btr_scrub.specs.Units.{Meeting, Met, Checked, Unchecked, is_crossing}
 use Rattle.btr_scrub.specs.declared.extent.Extent.{Extent}
 use Rattle.btr_scrub.specs.declared.gathered.Gathered.{Gathered}
 
--- the wants of the checked blocks and of the plain sectors that have copies, among what was met
+-- the wants of the checked blocks and of the plain sectors among what was met
 abbrev pub wants_among : List Met → List Want
 wants_among [] = []
 wants_among (Checked want ∷ met) = want ∷ wants_among met
-wants_among (Copied addr ∷ met) = Plain addr ∷ wants_among met
-wants_among (Unchecked addr ∷ met) = wants_among met
+wants_among (Unchecked addr ∷ met) = Plain addr ∷ wants_among met
 
 -- a count of the sectors without a checksum, after what was met
 abbrev pub count_met : ℕ → Met → ℕ
 count_met n (Checked want) = n
-count_met n (Copied addr) = next_count n
 count_met n (Unchecked addr) = next_count n
 
 -- what was met was listed behind what was listed before
@@ -42,7 +39,6 @@ pub record Lists (old new : Gathered) (done : List Met) : Type 0 where
   pub kind : new.list.kind ≡ old.list.kind
   pub wants : kept_wants new.list ≡ kept_wants old.list ++ wants_among done
   pub unchecked : new.unchecked ≡ fold count_met old.unchecked done
-  pub plain : new.plain ≡ old.plain ++ plain_among done
 
 -- how a stop ends a run: by its fault, or at any place
 abbrev pub stop_halt : Stop → Halt fate.Fault UnreadBlock
@@ -125,13 +121,11 @@ pub record Reaches {A : Type 0} (p q : Meeting A) (x y : Scene) : Type 0 where
   pub lists : Lists x.list y.list done
   pub content : Tells x.vol.store.layout x.rack y.rack (λ B. (before : List (Mark Want Met)) × (exec B p ≡ prepend before (exec B q)) × (done ≡ steps_of before))
 
--- blocks were listed: the wants of those that are mended by themselves, the count of the sectors without a checksum, and
--- the addresses of those of them in chunks with parity
+-- blocks were listed: their wants, and the count of the sectors without a checksum
 pub record AreListed (gathered : Gathered) (done : List Met) : Type 0 where
   pub is_list : IsList gathered.list
   pub wants : kept_wants gathered.list ≡ wants_among done
   pub unchecked : gathered.unchecked ≡ fold count_met 0 done
-  pub plain : gathered.plain ≡ plain_among done
 
 -- what was listed, if the call came to its end
 abbrev pub ListsDone : Result Gathered Stop → List Met → Type 0

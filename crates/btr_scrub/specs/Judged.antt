@@ -1,5 +1,5 @@
--- What a look at all blocks for images in doubt did, and beside which sectors parity is kept then.
-use Rattle.std.specs.Prelude.{◌≡◌, ◌⊎◌, ℕ, ◌≤◌, ◌||◌, Bool, List, [], length, is_none, false, IsOkAnd, Ok, OnOk, IfSome, Result, Some}
+-- What a look at all blocks for images in doubt did.
+use Rattle.std.specs.Prelude.{◌≡◌, ◌⊎◌, ℕ, ◌≤◌, ◌||◌, Bool, List, length, is_none, false, IsOkAnd, Ok, OnOk, IfSome, Result, Some}
 use Rattle.std.specs.List.{list_any}
 use Rattle.std.specs.Option.{option_map_or}
 use Rattle.btr_chunk.specs.Chunk.{mirrors}
@@ -18,13 +18,7 @@ use Rattle.btr_scrub_copies.specs.declared.mended.MendFault.{MendFault}
 use Rattle.btr_scrub.specs.Doubts.{failing}
 use Rattle.btr_scrub.specs.Order.{targets}
 use Rattle.btr_scrub_copies.specs.Fresh.{Failing, flagged, is_behind}
-use Rattle.btr_scrub.specs.Plain.{Doubts, doubts_of}
-use Rattle.btr_scrub.specs.declared.beside.Beside.{Beside}
 use Rattle.btr_scrub.specs.declared.doubts.Probe.{Probe}
-
--- what is doubted beside these
-abbrev pub doubts_beside : Layout → Beside → Doubts
-doubts_beside layout beside = doubts_of layout (flagged beside.failing.items) beside.plain
 
 -- some chunk has parity
 abbrev pub some_parity : List Chunk → Bool
@@ -91,12 +85,10 @@ abbrev pub FlagsAll : Layout → List Want → Seen → List Bool → List Bool
 FlagsAll layout wants rack old new result =
     OnOk result (IfSome rack.held (λ images. Flags old (failing images (targets layout wants)) new))
 
--- it matters neither for parities nor for copies which images fail: there are no plain sectors of the one kind or no
--- chunk with parity, and none of the other or no older image
-pub record IsIdle (layout : Layout) (wants : List Want) (plain : List ℕ) : Type 0 where
-  pub rows : (plain ≡ []) ⊎ (some_parity layout.chunks ≡ false)
-  pub copies : (list_any is_plain wants ≡ false) ⊎ (some_older layout ≡ false)
+-- it doesn't matter which images fail: there is no plain sector, or neither a chunk with parity nor an older image
+abbrev pub IsIdle : Layout → List Want → Type 0
+IsIdle layout wants = (list_any is_plain wants ≡ false) ⊎ ((some_parity layout.chunks ≡ false) × (some_older layout ≡ false))
 
 -- so far as it matters, the flags are the images on which some of the blocks doesn't pass
-abbrev pub Suffices : Layout → List Want → List ℕ → Seen → List Bool → Type 0
-Suffices layout wants plain rack flags = IsIdle layout wants plain ⊎ AreFailing layout wants rack flags
+abbrev pub Suffices : Layout → List Want → Seen → List Bool → Type 0
+Suffices layout wants rack flags = IsIdle layout wants ⊎ AreFailing layout wants rack flags

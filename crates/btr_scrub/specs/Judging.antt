@@ -1,5 +1,5 @@
 -- What a look at the list of the checked blocks answers.
-use Rattle.std.specs.Prelude.{◌≡◌, ℕ, ◌+◌, ◌≤◌, List, Result, Ok, Err}
+use Rattle.std.specs.Prelude.{◌≡◌, ◌⊎◌, ℕ, ◌+◌, ◌<◌, ◌≤◌, List, [], ◌∷◌, IsOk, Result, Ok, Err}
 use Rattle.btr_read.specs.Fate as fate
 use Rattle.btr_read.specs.Fate.{sought}
 use Rattle.btr_read.specs.Layout.{Layout}
@@ -8,22 +8,31 @@ use Rattle.btr_read.specs.declared.want.Want.{Want}
 use Rattle.btr_walk.specs.declared.fault.TreeFault.{TreeFault}
 use Rattle.btr_walk.specs.declared.fault.TreeFault.TheVariants.{Lost, Unread, Unmapped, Crosses, Malformed}
 use Rattle.btr_scrub.specs.Order.{AreApart}
-use Rattle.std.specs.Prelude.{IsOk}
 
--- a block has no position, and this is why
-abbrev pub IsUnplaced : Layout → TreeFault → Type 0
-IsUnplaced layout (Lost a) = ⊥
-IsUnplaced layout (Unread a slot) = ⊥
-IsUnplaced layout (Unmapped a) = (want : Want) × (sought layout want ≡ Err (fate.Unmapped a))
-IsUnplaced layout (Crosses a) = (want : Want) × (sought layout want ≡ Err (fate.Crosses a))
-IsUnplaced layout (Malformed a) = Unit {0}
+-- a block has a position, and begins at or behind an address
+abbrev pub IsBehind : Layout → ℕ → Want → Type 0
+IsBehind layout from want = (from ≤ addr_of want) × IsOk (sought layout want)
 
--- a block has a position and begins at or behind an address; where it ends comes out
+-- why one doesn't: it has no position, or it has one and begins before that address
+abbrev pub IsRefused : Layout → ℕ → Want → TreeFault → Type 0
+IsRefused layout from want (Lost a) = ⊥
+IsRefused layout from want (Unread a slot) = ⊥
+IsRefused layout from want (Unmapped a) = sought layout want ≡ Err (fate.Unmapped a)
+IsRefused layout from want (Crosses a) = sought layout want ≡ Err (fate.Crosses a)
+IsRefused layout from want (Malformed a) = (a ≡ addr_of want) × IsOk (sought layout want) × (addr_of want < from)
+
+-- where a block ends that is so, or why it isn't
 abbrev pub JudgedOne : Layout → ℕ → Want → Result ℕ TreeFault → Type 0
-JudgedOne layout from want (Ok end) = (from ≤ addr_of want) × IsOk (sought layout want) × (end ≡ addr_of want + len_of layout.setting want)
-JudgedOne layout from want (Err fault) = IsUnplaced layout fault × ((from ≤ addr_of want) → ¬ (IsOk (sought layout want)))
+JudgedOne layout from want (Ok end) = IsBehind layout from want × (end ≡ addr_of want + len_of layout.setting want)
+JudgedOne layout from want (Err fault) = IsRefused layout from want fault
 
--- all blocks of a list have a position and are apart, or not
+-- the first block of a list that isn't behind the one before it, the first one behind an address, and why
+abbrev pub IsFirstRefused : Layout → ℕ → List Want → TreeFault → Type 0
+IsFirstRefused layout end [] fault = ⊥
+IsFirstRefused layout end (want ∷ wants) fault =
+    IsRefused layout end want fault ⊎ (IsBehind layout end want × IsFirstRefused layout (addr_of want + len_of layout.setting want) wants fault)
+
+-- all blocks of a list have a position and are apart, or why the first one doesn't
 abbrev pub Judged : Layout → List Want → Result (Unit {0}) TreeFault → Type 0
 Judged layout wants (Ok _) = AreApart layout 0 wants
-Judged layout wants (Err fault) = IsUnplaced layout fault × ¬ (AreApart layout 0 wants)
+Judged layout wants (Err fault) = IsFirstRefused layout 0 wants fault

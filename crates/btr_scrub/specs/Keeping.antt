@@ -40,14 +40,14 @@ pub record HasWayBeside (images : Images) (layout : Layout) (row : Row) (t : Tar
 abbrev pub Withstands : Images → Layout → Row → Target → Type 0
 Withstands images layout row t = (is_good images t (Slice t.at.index) ≡ true) ⊎ HasWayBeside images layout row t
 
--- a full stripe of a filesystem all of whose devices are given, with those of its checked blocks that lie in it
+-- a full stripe of a filesystem all of whose devices are given, with those of its blocks that lie in it
 pub record IsRowAmong (images : Images) (layout : Layout) (wants : List Want) (row : Row) : Type 0 where
   pub table : IsTable layout.chunks
   pub own_slots : HaveOwnSlots layout.devices
   pub given : first_missing layout ≡ None
   pub lengths : HaveLengths images layout
   pub apart : AreApart layout 0 wants
-  pub is_row : IsRowOf layout (targets layout wants) row
+  pub is_row : IsRowOf layout row.failing (targets layout wants) row
 
 -- Where its blocks are being written, and none of that is known to be stored, each block that withstands it can be had,
 -- whatever stands in the ranges that wait for a sync.

@@ -1,10 +1,10 @@
 pub mod Filesystem
 pub mod Units
-pub mod Plain
 pub mod Doubts
 pub mod Repair
 pub mod Devices
 pub mod Leaves
+pub mod Columns
 pub mod Right
 pub mod Glue
 pub mod Survival

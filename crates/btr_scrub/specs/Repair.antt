@@ -1,17 +1,16 @@
 -- All of it: the writes in order, the images that they make, the ranges, and the counts.
-use Rattle.std.specs.Prelude.{ℕ, ◌+◌, ◌/◌, ◌-◌, ◌^◌, min, Bool, true, false, not, ◌&&◌, ◌==◌, nat_le, nat_lt, List, [], length, map, Option, Some, None, Result, Ok, Err, is_none, is_some, slice_get, slice_index, if◌then◌else◌, count_by}
+use Rattle.std.specs.Prelude.{ℕ, ◌+◌, ◌/◌, ◌-◌, ◌^◌, min, Bool, true, false, ◌&&◌, ◌==◌, nat_le, nat_lt, List, [], length, map, Option, Some, None, Result, Ok, Err, is_none, slice_get, slice_index, if◌then◌else◌, count_by}
 use Rattle.std.specs.List.{filter, filter_map, flat_map, fold, find, range_with_len, sum_by}
 use Rattle.std.specs.Option.{option_map_or}
 use Rattle.btr_chunk.specs.Chunk.{stripe_length, mirrors}
 use Rattle.btr_chunk.specs.declared.chunk.Chunk.{Chunk}
-use Rattle.btr_chunk.specs.declared.place.Part.{Part}
 use Rattle.btr_chunk.specs.declared.stripe.Stripe.{Stripe}
 use Rattle.btr_prog.specs.Prog.{Run, exec, steps_of}
 use Rattle.btr_rack.specs.Rack.{image_of}
 use Rattle.btr_rack.specs.declared.place.Place.{Place as Range}
 use Rattle.btr_read.specs.Candidates.{Target, range_on}
 use Rattle.btr_read.specs.Fate as fate
-use Rattle.btr_read.specs.Fate.{Fault, fate, is_plain, sought}
+use Rattle.btr_read.specs.Fate.{Fault, fate, sought}
 use Rattle.btr_read.specs.Layout.{Layout, device_in}
 use Rattle.btr_read.specs.declared.device.Member.{Member}
 use Rattle.btr_read.specs.declared.want.Want.{Want}
@@ -22,10 +21,11 @@ use Rattle.btr_volume.specs.declared.stop.Stop.TheVariants as stop
 use Rattle.btr_scrub.specs.declared.tally.Tally.{Tally}
 use Rattle.btr_scrub.specs.Filesystem.{Filesystem}
 use Rattle.btr_scrub.specs.Doubts.{failing}
-use Rattle.btr_scrub_copies.specs.Fresh.{Failing, fresh_writes, stale_parts}
-use Rattle.btr_scrub.specs.Plain.{Doubts, doubts_of, plain_among}
-use Rattle.btr_scrub.specs.Units.{Met, Checked, Copied, Unchecked, units}
-use Rattle.btr_scrub_copies.specs.Blocks.{bad_parts, is_lost, block_writes}
+use Rattle.btr_scrub_copies.specs.Fresh.{Failing}
+use Rattle.btr_scrub.specs.Units.{Met, Checked, Unchecked, units}
+use Rattle.btr_scrub_copies.specs.Blocks.{is_lost}
+pub use Rattle.btr_scrub_row.specs.Wanted.{is_checked}
+use Rattle.btr_scrub_row.specs.Wanted.{mending_writes, wrong_parts}
 use Rattle.btr_scrub_row.specs.Rows.{Row, parities, parity_writes, row_writes}
 use Rattle.btr_scrub_copies.specs.Writes.{Write, write_on, writes_if}
 
@@ -50,34 +50,15 @@ abbrev pub ok_or_none : {T E : Type 0} → Result T E → Option T
 ok_or_none (Ok x) = Some x
 ok_or_none (Err e) = None
 
--- where what was met lies, if it is mended by itself: a checked block, or a plain sector that has copies
+-- where what was met lies, if it has a position
 abbrev pub target_met : Layout → Met → Option Target
 target_met layout (Checked want) = ok_or_none (sought layout want)
-target_met layout (Copied addr) = ok_or_none (sought layout (Plain addr))
-target_met layout (Unchecked addr) = None
-
--- it is such a plain sector
-abbrev pub is_loose : Target → Bool
-is_loose t = is_plain t.want && is_some (mirrors t.chunk)
-
--- it is a checked block
-abbrev pub is_checked : Target → Bool
-is_checked t = not (is_loose t)
+target_met layout (Unchecked addr) = ok_or_none (sought layout (Plain addr))
 
 -- what was met is a sector without a checksum
 abbrev pub is_unchecked : Met → Bool
 is_unchecked (Checked want) = false
-is_unchecked (Copied addr) = true
 is_unchecked (Unchecked addr) = true
-
-module _ (images : List (List ℕ)) (fails : Failing) (t : Target) where
-  -- the places of its own at which something is wrong: those where a block is bad, or a plain sector is stale
-  abbrev pub wrong_parts : List Part
-  wrong_parts = if is_loose t then stale_parts images fails t else bad_parts images t
-
-  -- the writes that mend it
-  abbrev pub mending_writes : List Write
-  mending_writes = if is_loose t then fresh_writes images fails t else block_writes images t
 
 -- a block lies in a chunk
 abbrev pub is_in_chunk : Chunk → Target → Bool
@@ -88,12 +69,12 @@ abbrev pub is_in_row : Chunk → ℕ → Target → Bool
 is_in_row chunk number t = is_in_chunk chunk t && (t.at.row == number)
 
 -- the row of a number, with those of the blocks that lie in it
-abbrev pub row_of : Doubts → List Target → Chunk → ℕ → Row
-row_of doubts blocks chunk number = record { chunk = chunk; number = number; blocks = filter (is_in_row chunk number) blocks; kept = doubts.columns chunk number }
+abbrev pub row_of : Failing → List Target → Chunk → ℕ → Row
+row_of fails blocks chunk number = record { chunk = chunk; number = number; blocks = filter (is_in_row chunk number) blocks; failing = fails }
 
 -- the full stripes of a chunk; with copies there are none
-abbrev pub rows_in : Doubts → List Target → Chunk → List Row
-rows_in doubts blocks chunk = if is_none (mirrors chunk) then map (row_of doubts blocks chunk) (range_with_len 0 (stripe_length chunk / 65536)) else []
+abbrev pub rows_in : Failing → List Target → Chunk → List Row
+rows_in fails blocks chunk = if is_none (mirrors chunk) then map (row_of fails blocks chunk) (range_with_len 0 (stripe_length chunk / 65536)) else []
 
 -- the byte at a place of a slot
 abbrev pub byte_at : List (List ℕ) → ℕ → ℕ → ℕ
@@ -116,7 +97,7 @@ module _ (images : List (List ℕ)) (fs : Filesystem) where
   abbrev pub met : List Met
   met = steps_of meeting.marks
 
-  -- the checked blocks and the plain sectors that have copies, in order, each with its position
+  -- the checked blocks and the plain sectors, in order, each with its position
   abbrev pub sites : List Target
   sites = filter_map (target_met fs.layout) met
 
@@ -124,21 +105,21 @@ module _ (images : List (List ℕ)) (fs : Filesystem) where
   abbrev pub blocks : List Target
   blocks = filter is_checked sites
 
-  -- what is doubted as scrub begins
-  abbrev pub doubted : Doubts
-  doubted = doubts_of fs.layout (failing images sites) (plain_among met)
+  -- the images on which some checked block doesn't pass as scrub begins
+  abbrev pub failed : Failing
+  failed = failing images sites
 
   -- the full stripes that scrub looks at, chunk by chunk
   abbrev pub rows : List Row
-  rows = flat_map (rows_in doubted sites) fs.layout.chunks
+  rows = flat_map (rows_in failed sites) fs.layout.chunks
 
   -- the writes in a chunk: one block or plain sector after another where there are copies, and full stripe by full stripe
   -- where there is parity
   abbrev pub chunk_writes : Chunk → List Write
   chunk_writes chunk =
       if is_none (mirrors chunk)
-      then flat_map (row_writes images fs.layout) (rows_in doubted sites chunk)
-      else flat_map (mending_writes images doubted.failing) (filter (is_in_chunk chunk) sites)
+      then flat_map (row_writes images fs.layout) (rows_in failed sites chunk)
+      else flat_map (mending_writes images failed) (filter (is_in_chunk chunk) sites)
 
   -- the writes in their order
   abbrev pub writes : List Write
@@ -156,8 +137,8 @@ module _ (images : List (List ℕ)) (fs : Filesystem) where
   abbrev pub tally : Bool → Tally
   tally write = record {
     blocks = length blocks;
-    bad = sum_by (λ t. length (wrong_parts images doubted.failing t)) sites;
-    repaired = if write then sum_by (λ t. length (mending_writes images doubted.failing t)) sites else 0;
+    bad = sum_by (λ t. length (wrong_parts images failed t)) sites;
+    repaired = if write then sum_by (λ t. length (mending_writes images failed t)) sites else 0;
     lost = count_by (is_lost images) blocks;
     parity = sum_by (λ (row : Row). sum_by (λ part. length (parity_writes images fs.layout row part)) (parities row.chunk.profile)) rows;
     unchecked = count_by is_unchecked met;

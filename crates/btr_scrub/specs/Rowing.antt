@@ -1,9 +1,14 @@
--- The checked blocks of one full stripe.
-use Rattle.std.specs.Prelude.{◌≡◌, ◌≢◌, ℕ, List, [], ◌∷◌, ◌++◌, Option, Some, None, if◌then◌else◌}
+-- The blocks of one full stripe.
+use Rattle.std.specs.List.{All}
+use Rattle.std.specs.Prelude.{◌≡◌, ◌≢◌, ℕ, true, false, List, [], ◌∷◌, ◌++◌, Option, Some, None, if◌then◌else◌}
 use Rattle.btr_chunk.specs.Mapping.{holds, position}
 use Rattle.btr_chunk.specs.declared.chunk.Chunk.{Chunk}
+use Rattle.btr_read.specs.Fate.{is_plain}
+use Rattle.btr_read.specs.Layout.{Layout}
 use Rattle.btr_read.specs.Want.{addr_of}
 use Rattle.btr_read.specs.declared.want.Want.{Want}
+use Rattle.btr_scrub_row.specs.Rows.{Row, has_doubtful}
+use Rattle.btr_scrub_row.specs.declared.mended.MendedRow.{MendedRow}
 use Rattle.btr_scrub.specs.Glue.{In}
 
 -- the row of a chunk in which an address lies, if it lies in the chunk
@@ -31,3 +36,12 @@ pub record Collects (chunk : Chunk) (row : ℕ) (first : Want) (old new wants : 
 -- the same for the row of a chunk in which the first block lies
 abbrev pub CollectsRow : Chunk → Want → List Want → List Want → List Want → ℕ → Type 0
 CollectsRow chunk first old new wants row = (row_in chunk (addr_of first) ≡ Some row) × Collects chunk row first old new wants
+
+-- a row holds nothing but plain sectors, in a chunk no image of which is in doubt
+pub record IsCalm (layout : Layout) (row : Row) : Type 0 where
+  pub plain : All (λ t. is_plain t.want ≡ true) row.blocks
+  pub sure : has_doubtful layout.devices row.failing row.chunk ≡ false
+
+-- what comes of a row of which nothing does
+abbrev pub untouched : MendedRow
+untouched = record { blocks = 0; bad = 0; repaired = 0; lost = 0; parity = 0 }

@@ -1,6 +1,5 @@
 -- What a call of scrub answers, and what stands in the images behind it, whatever failed.
 use Rattle.std.specs.Prelude.{◌≡◌, ◌⊎◌, ℕ, ◌≤◌, Bool, false, List, [], map, None, IfSome, IsSomeAnd, Result, Ok, Err, ⊤}
-use Rattle.std.specs.List.{All}
 use Rattle.btr_scrub_copies.specs.Writes.{Images, IsStopped, Write}
 use Rattle.btr_rack.specs.Rack.{OnlyReads, Rose, Seen, Steady}
 use Rattle.btr_read.specs.Reading.{AgreedOn}
@@ -11,8 +10,8 @@ use Rattle.btr_walk.specs.declared.fault.TreeFault.{TreeFault}
 use Rattle.btr_walk.specs.declared.fault.TreeFault.TheVariants as tree
 use Rattle.btr_scrub.specs.Filesystem.{Filesystem}
 use Rattle.btr_scrub.specs.Leaves.{KeepsOutside, WaitsInOne}
-use Rattle.btr_scrub.specs.Repair.{blocks, effect}
-use Rattle.btr_scrub.specs.Right.{Committed, IsRepairable, RangesLeaveFresh, RangesLieInWrong, RangesMayHoldAnything, StandsFor}
+use Rattle.btr_scrub.specs.Repair.{effect}
+use Rattle.btr_scrub.specs.Right.{Committed, IsCommitted, RangesLeaveFresh, RangesLieInWrong, RangesMayHoldAnything, SparedStand}
 use Rattle.btr_scrub.specs.Scrubbing.{IsOfScrub}
 use Rattle.btr_scrub.specs.declared.tally.Tally.{Tally}
 
@@ -101,10 +100,11 @@ pub record IsScrubbed (c : Called) : Type 0 where
   pub image : (slot : ℕ) → c.result ≡ Err (stop.Image slot) → IsImageFault c slot
   pub waits : c.old.unsynced ≡ [] → WaitsInOne c.fs.layout c.old c.new
 
--- Whatever bytes stand in the ranges that are written, each checked block can be had, plain sectors with copies have their
--- fresh bytes, and nothing right lies there; so each block can be had from what is left, whatever failed.
+-- Whatever bytes stand in the ranges that are written, each checked block that can be spared can be had, plain sectors
+-- with copies have their fresh bytes, and nothing right lies there; so each such block can be had from what is left,
+-- whatever failed.
 pub record IsSafe (c : Called) : Type 0 where
   pub anything : IfSome c.old.held (λ images. RangesMayHoldAnything images c.fs)
   pub fresh : IfSome c.old.held (λ images. RangesLeaveFresh images c.fs)
   pub wrong : IfSome c.old.held (λ images. RangesLieInWrong images c.fs)
-  pub left : IsSure c → OfImages c (λ images left. (C : Committed) → IsRepairable images c.fs C → All (StandsFor left C) (blocks images c.fs))
+  pub left : IsSure c → OfImages c (λ images left. (C : Committed) → IsCommitted images c.fs C → SparedStand images left c.fs C)

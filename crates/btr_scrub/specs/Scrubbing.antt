@@ -26,8 +26,9 @@ use Rattle.btr_scrub.specs.Glue.{In}
 use Rattle.btr_scrub.specs.Leaves.{LiesInStripe, WaitsInOne, alone}
 use Rattle.btr_scrub.specs.Order.{AreApart, targets}
 use Rattle.btr_scrub_copies.specs.Fresh.{Failing, freshened}
-use Rattle.btr_scrub.specs.Plain.{Doubts}
-use Rattle.btr_scrub.specs.Repair.{first_missing, is_in_chunk, is_loose, mending_writes, rows_in, stood}
+use Rattle.btr_scrub_row.specs.Wanted.{mending_writes}
+use Rattle.btr_scrub.specs.Repair.{first_missing, is_in_chunk, rows_in, stood}
+use Rattle.btr_read.specs.Fate.{is_plain}
 use Rattle.btr_scrub.specs.declared.tally.Tally.{Tally}
 
 -- the first of some blocks, if there is one, begins at or behind an address
@@ -65,7 +66,7 @@ counted_plain tally mended = record {
 -- the counts with those of one more block or plain sector
 abbrev pub count_site : Failing → Images → Bool → Tally → Target → Tally
 count_site failing images write tally t =
-    if is_loose t then counted_plain tally (freshened images failing t write) else counted tally (mended_of images t write)
+    if is_plain t.want then counted_plain tally (freshened images failing t write) else counted tally (mended_of images t write)
 
 -- all blocks can be mended: devices are open and given, and where it is to be written each image was opened for writing
 pub record CanMend (write : Bool) (rack : Seen) (store : Blocks) (marks : List Bool) : Type 0 where
@@ -135,10 +136,10 @@ ScrubsChunk layout number write writes count marks marks' old new tally tally' r
 
 -- ---- chunks with parity
 
--- counts with those of a full stripe of so many checked blocks
-abbrev pub counted_row : Tally → ℕ → MendedRow → Tally
-counted_row tally blocks mended = record {
-  blocks = stood (tally.blocks + blocks);
+-- counts with those of a full stripe
+abbrev pub counted_row : Tally → MendedRow → Tally
+counted_row tally mended = record {
+  blocks = stood (tally.blocks + mended.blocks);
   bad = stood (tally.bad + mended.bad);
   repaired = stood (tally.repaired + mended.repaired);
   lost = stood (tally.lost + mended.lost);
@@ -146,10 +147,10 @@ counted_row tally blocks mended = record {
   unchecked = tally.unchecked;
 }
 
--- a full stripe without checked blocks isn't looked at
+-- a full stripe without blocks isn't looked at
 abbrev pub count_row_of : List Target → Tally → MendedRow → Tally
 count_row_of [] tally mended = tally
-count_row_of (t ∷ ts) tally mended = counted_row tally (length (t ∷ ts)) mended
+count_row_of (t ∷ ts) tally mended = counted_row tally mended
 
 -- the counts with those of one more full stripe
 abbrev pub count_row : Images → Layout → Bool → Tally → Row → Tally
@@ -167,26 +168,26 @@ rows_count layout write rs images tally = fold (count_row images layout write) t
 
 -- the writes in a chunk for those of some blocks and plain sectors that lie in it: one after another where there are
 -- copies, and full stripe by full stripe where there is parity
-abbrev pub chunk_writes_for : Doubts → Layout → Chunk → List Want → Images → List Write
-chunk_writes_for doubts layout chunk wants images =
+abbrev pub chunk_writes_for : Failing → Layout → Chunk → List Want → Images → List Write
+chunk_writes_for fails layout chunk wants images =
     if is_none (mirrors chunk)
-    then rows_writes layout (rows_in doubts (targets layout wants) chunk) images
-    else sites_writes doubts.failing (sites_in layout chunk wants) images
+    then rows_writes layout (rows_in fails (targets layout wants) chunk) images
+    else sites_writes fails (sites_in layout chunk wants) images
 
 -- the counts with those of some blocks that lie in a chunk
-abbrev pub chunk_count_for : Doubts → Layout → Bool → Chunk → List Want → Images → Tally → Tally
-chunk_count_for doubts layout write chunk wants images tally =
+abbrev pub chunk_count_for : Failing → Layout → Bool → Chunk → List Want → Images → Tally → Tally
+chunk_count_for fails layout write chunk wants images tally =
     if is_none (mirrors chunk)
-    then rows_count layout write (rows_in doubts (targets layout wants) chunk) images tally
-    else sites_count doubts.failing write (sites_in layout chunk wants) images tally
+    then rows_count layout write (rows_in fails (targets layout wants) chunk) images tally
+    else sites_count fails write (sites_in layout chunk wants) images tally
 
 -- the writes for those of some blocks that lie in some chunks, chunk by chunk
-abbrev pub all_writes_for : Doubts → Layout → List Chunk → List Want → Images → List Write
-all_writes_for doubts layout chunks wants images = flat_map (λ chunk. chunk_writes_for doubts layout chunk wants images) chunks
+abbrev pub all_writes_for : Failing → Layout → List Chunk → List Want → Images → List Write
+all_writes_for fails layout chunks wants images = flat_map (λ chunk. chunk_writes_for fails layout chunk wants images) chunks
 
 -- the counts with those of some blocks that lie in some chunks, chunk by chunk
-abbrev pub all_count_for : Doubts → Layout → Bool → List Chunk → List Want → Images → Tally → Tally
-all_count_for doubts layout write chunks wants images tally = fold (λ tally chunk. chunk_count_for doubts layout write chunk wants images tally) tally chunks
+abbrev pub all_count_for : Failing → Layout → Bool → List Chunk → List Want → Images → Tally → Tally
+all_count_for fails layout write chunks wants images tally = fold (λ tally chunk. chunk_count_for fails layout write chunk wants images tally) tally chunks
 
 -- ---- with syncs
 

@@ -1,8 +1,7 @@
 -- The checked blocks of a filesystem and the sectors without a checksum, as a program over wants whose steps they are.
-use Rattle.std.specs.Prelude.{ℕ, zero, suc, ◌+◌, ◌-◌, ◌/◌, ◌==◌, ◌&&◌, ◌||◌, not, Bool, true, false, is_some, nat_lt, List, [], ◌∷◌, Option, Some, None, Result, Ok, Err, if◌then◌else◌}
+use Rattle.std.specs.Prelude.{ℕ, zero, suc, ◌+◌, ◌-◌, ◌/◌, ◌==◌, ◌&&◌, ◌||◌, not, Bool, is_some, nat_lt, List, [], ◌∷◌, Option, Some, None, Result, Ok, Err, if◌then◌else◌}
 use Rattle.btr_base.specs.declared.key.Key.{Key}
 use Rattle.btr_base.specs.declared.stored.Sum.{Sum}
-use Rattle.btr_chunk.specs.Chunk.{mirrors}
 use Rattle.btr_chunk.specs.Mapping.{crosses}
 use Rattle.btr_chunk.specs.declared.chunk.Chunk.{Chunk}
 use Rattle.btr_prog.specs.Prog.{Return, Stop, Emit, bind}
@@ -24,10 +23,9 @@ use Rattle.btr_files.specs.Sums.{kind_in, sum_at}
 use Rattle.btr_scrub.specs.Filesystem.{Filesystem}
 use Rattle.btr_scrub.specs.declared.extent.Extent.{Extent}
 
--- what scrub meets: a checked block, or a sector of data that has no checksum, in a chunk with copies or in one with parity
+-- what scrub meets: a checked block, or a sector of data that has no checksum
 pub data Met : Type 0 where
   Checked : Want → Met
-  Copied : ℕ → Met
   Unchecked : ℕ → Met
 
 -- a program that meets blocks and sectors, one step for each
@@ -62,30 +60,25 @@ is_malformed s end extent = nat_lt extent.addr end || is_some extent.level && no
 abbrev pub is_crossing : Chunk → Extent → Bool
 is_crossing chunk extent = nat_lt (chunk.start + chunk.length) (extent.addr + extent.len) || is_some extent.level && crosses chunk extent.addr extent.len
 
--- a sector without a checksum, in a chunk with copies or without
-abbrev pub bare_met : Bool → ℕ → Met
-bare_met true addr = Copied addr
-bare_met false addr = Unchecked addr
-
 -- a sector of data, by its checksum, if it has one
-abbrev pub sector_met : Bool → ℕ → Option Sum → Met
-sector_met copied addr None = bare_met copied addr
-sector_met copied addr (Some sum) = Checked (Sector addr sum)
+abbrev pub sector_met : ℕ → Option Sum → Met
+sector_met addr None = Unchecked addr
+sector_met addr (Some sum) = Checked (Sector addr sum)
 
 module _ (s : Super) (sums : Option TreeRoot) where
-  -- the sector at an address, in a chunk with copies or without, with its checksum, if it has one
-  abbrev pub sector : Bool → ℕ → Meeting (Unit {0})
-  sector copied addr = looks (sum_at (kind_in s) sums addr) (λ sum. Emit (sector_met copied addr sum) (Return tt))
+  -- the sector at an address, with its checksum, if it has one
+  abbrev pub sector : ℕ → Meeting (Unit {0})
+  sector addr = looks (sum_at (kind_in s) sums addr) (λ sum. Emit (sector_met addr sum) (Return tt))
 
   -- n sectors from an address on
-  abbrev pub sectors : Bool → ℕ → ℕ → Meeting (Unit {0})
-  sectors copied zero addr = Return tt
-  sectors copied (suc n) addr = bind (sector copied addr) (λ _. sectors copied n (addr + 4096))
+  abbrev pub sectors : ℕ → ℕ → Meeting (Unit {0})
+  sectors zero addr = Return tt
+  sectors (suc n) addr = bind (sector addr) (λ _. sectors n (addr + 4096))
 
   -- the blocks of an extent: a tree block, or the sectors of data
-  abbrev pub blocks_of : Bool → Extent → Option ℕ → Meeting (Unit {0})
-  blocks_of copied extent (Some level) = Emit (Checked (Tree extent.addr extent.generation level)) (Return tt)
-  blocks_of copied extent None = sectors copied (extent.len / 4096) extent.addr
+  abbrev pub blocks_of : Extent → Option ℕ → Meeting (Unit {0})
+  blocks_of extent (Some level) = Emit (Checked (Tree extent.addr extent.generation level)) (Return tt)
+  blocks_of extent None = sectors (extent.len / 4096) extent.addr
 
   module _ (chunk : Chunk) where
     -- an extent, behind one that ends at `end`; where it ends itself comes out
@@ -94,7 +87,7 @@ module _ (s : Super) (sums : Option TreeRoot) where
     extent_met end leaf (Some extent) =
         if is_malformed s end extent then Stop (Malformed leaf)
         else if is_crossing chunk extent then Stop (Crosses extent.addr)
-        else bind (blocks_of (is_some (mirrors chunk)) extent extent.level) (λ _. Return (extent.addr + extent.len))
+        else bind (blocks_of extent extent.level) (λ _. Return (extent.addr + extent.len))
 
     -- an item of the extent tree; those that are no extents are passed over
     abbrev pub item_met : ℕ → TreeItem → Meeting ℕ

@@ -15,14 +15,14 @@ use Rattle.btr_scrub_copies.specs.declared.mended.MendFault.TheVariants.{Image, 
 use Rattle.btr_scrub.specs.Gathering.{StopCause, wants_among, count_met, stop_halt}
 use Rattle.btr_scrub_copies.specs.Writes.{Images, Write}
 use Rattle.btr_scrub.specs.Filesystem.{Filesystem}
-use Rattle.btr_scrub.specs.Judging.{IsUnplaced}
+use Rattle.btr_scrub.specs.Judging.{IsFirstRefused}
 use Rattle.btr_chunk.specs.Table.{IsTable}
 use Rattle.btr_chunk.specs.declared.stripe.Stripe.{Stripe}
 use Rattle.btr_scrub.specs.Devices.{HaveLengths}
 use Rattle.btr_scrub.specs.Leaves.{KeepsOutside}
 use Rattle.btr_scrub.specs.Doubts.{failing}
 use Rattle.btr_scrub.specs.Order.{targets}
-use Rattle.btr_scrub.specs.Plain.{Doubts, doubts_of, plain_among}
+use Rattle.btr_scrub_copies.specs.Fresh.{Failing}
 use Rattle.btr_scrub.specs.Repair.{first_missing, met, stood_tally, tally, writes}
 use Rattle.btr_scrub.specs.Scrubbing.{Works, all_count_for, all_writes_for}
 use Rattle.btr_scrub.specs.Units.{Met, units_in}
@@ -38,28 +38,27 @@ answer_of (Ok u) tally = Ok tally
 answer_of (Err (Image slot)) tally = Err (stop.Image slot)
 answer_of (Err Memory) tally = Err stop.Memory
 
--- what is doubted in the mending of listed blocks, for the sake of listed plain sectors
-abbrev pub listed_doubts : Layout → List Want → List ℕ → Images → Doubts
-listed_doubts layout wants plain images = doubts_of layout (failing images (targets layout wants)) plain
+-- the images on which some listed block doesn't pass
+abbrev pub listed_failing : Layout → List Want → Images → Failing
+listed_failing layout wants images = failing images (targets layout wants)
 
--- the writes for listed blocks beside those sectors
-abbrev pub listed_writes_for : Layout → List Want → List ℕ → Images → List Write
-listed_writes_for layout wants plain images = all_writes_for (listed_doubts layout wants plain images) layout layout.chunks wants images
+-- the writes for listed blocks
+abbrev pub listed_writes_for : Layout → List Want → Images → List Write
+listed_writes_for layout wants images = all_writes_for (listed_failing layout wants images) layout layout.chunks wants images
 
--- the counts of the mending of listed blocks beside those sectors, with writes or without
-abbrev pub listed_count_for : Layout → Bool → List Want → List ℕ → Images → Tally → Tally
-listed_count_for layout write wants plain images tally =
-    all_count_for (listed_doubts layout wants plain images) layout write layout.chunks wants images tally
+-- the counts of the mending of listed blocks, with writes or without
+abbrev pub listed_count_for : Layout → Bool → List Want → Images → Tally → Tally
+listed_count_for layout write wants images tally = all_count_for (listed_failing layout wants images) layout write layout.chunks wants images tally
 
 -- a stripe has no place on a device that is given: its device is the answer, and nothing was done
 abbrev pub Refuses : Seen → Seen → Result Tally Stop → Stripe → Type 0
 Refuses old new result stripe = (result ≡ Err (stop.Missing stripe.devid)) × (new ≡ old)
 
 -- the blocks of a list were mended, chunk by chunk: exactly the writes that follow from what the images held, or those up to a call that failed
-pub record WorksOn (layout : Layout) (write : Bool) (wants : List Want) (plain : List ℕ) (unchecked : ℕ) (old new : Seen) (result : Result Tally Stop) : Type 0 where
+pub record WorksOn (layout : Layout) (write : Bool) (wants : List Want) (unchecked : ℕ) (old new : Seen) (result : Result Tally Stop) : Type 0 where
   pub tally : Tally
   pub ended : Result (Unit {0}) MendFault
-  pub works : Works layout write (listed_writes_for layout wants plain) (listed_count_for layout write wants plain) old new (first_tally unchecked) tally ended
+  pub works : Works layout write (listed_writes_for layout wants) (listed_count_for layout write wants) old new (first_tally unchecked) tally ended
   pub says : result ≡ answer_of ended tally
 
 -- what became of the list of the checked blocks: it came to a stop, it was made, or it was refused
@@ -75,8 +74,8 @@ abbrev pub Goes : Super → Layout → Bool → Seen → Seen → Seen → List 
 Goes s layout write old mid new done result (Stopped why) =
     (result ≡ Err why) × (new ≡ mid) × Tells layout old mid (λ B. Follows (unread_by layout old mid) no_part [] (exec B (units_in s layout.chunks)) done (Err (stop_halt why))) × StopCause {A = Tally} layout old mid (Err why)
 Goes s layout write old mid new done result Listed =
-    Tells layout old mid (λ B. Follows (unread_by layout old mid) no_part [] (exec B (units_in s layout.chunks)) done (Ok tt)) × WorksOn layout write (wants_among done) (plain_among done) (fold count_met 0 done) mid new result
-Goes s layout write old mid new done result (Refused fault) = (result ≡ Err (stop.Tree fault)) × (new ≡ mid) × IsUnplaced layout fault × Tells layout old mid (λ B. ⊥)
+    Tells layout old mid (λ B. Follows (unread_by layout old mid) no_part [] (exec B (units_in s layout.chunks)) done (Ok tt)) × WorksOn layout write (wants_among done) (fold count_met 0 done) mid new result
+Goes s layout write old mid new done result (Refused fault) = (result ≡ Err (stop.Tree fault)) × (new ≡ mid) × IsFirstRefused layout 0 (wants_among done) fault × Tells layout old mid (λ B. ⊥)
 
 -- The checked blocks were listed, and then mended.
 pub record ScrubsAll (s : Super) (layout : Layout) (write : Bool) (old new : Seen) (result : Result Tally Stop) : Type 0 where
@@ -89,20 +88,20 @@ pub record ScrubsAll (s : Super) (layout : Layout) (write : Bool) (old new : See
 -- the writes for a list of all blocks that are met are those that mend the filesystem
 abbrev pub ListedWrites : Type 0
 ListedWrites = (images : Images) (fs : Filesystem)
-    → listed_writes_for fs.layout (wants_among (met images fs)) (plain_among (met images fs)) images ≡ writes images fs
+    → listed_writes_for fs.layout (wants_among (met images fs)) images ≡ writes images fs
 
 -- the counts for a list of all blocks that are met are the tally of the repair,
 -- but that each stands still at its type's end
 abbrev pub ListedCounts : Type 0
 ListedCounts = (images : Images) (fs : Filesystem) (write : Bool) → IsTable fs.layout.chunks
-    → listed_count_for fs.layout write (wants_among (met images fs)) (plain_among (met images fs)) images (first_tally (fold count_met 0 (met images fs)))
+    → listed_count_for fs.layout write (wants_among (met images fs)) images (first_tally (fold count_met 0 (met images fs)))
     ≡ stood_tally (tally images fs write)
 
 -- whatever failed, all that lies outside the ranges of those writes is as before
 abbrev pub WorksKeepTheRest : Type 0
-WorksKeepTheRest = (layout : Layout) (write : Bool) (wants : List Want) (plain : List ℕ) (count : Images → Tally → Tally) (old new : Seen) (t u : Tally)
+WorksKeepTheRest = (layout : Layout) (write : Bool) (wants : List Want) (count : Images → Tally → Tally) (old new : Seen) (t u : Tally)
     (result : Result (Unit {0}) MendFault) (images left : Images)
     → IsTable layout.chunks → HaveOwnSlots layout.devices → first_missing layout ≡ None → HaveLengths images layout
     → old.held ≡ Some images → new.held ≡ Some left
-    → Works layout write (listed_writes_for layout wants plain) count old new t u result
-    → KeepsOutside (map (λ (write : Write). write.range) (listed_writes_for layout wants plain images)) images left
+    → Works layout write (listed_writes_for layout wants) count old new t u result
+    → KeepsOutside (map (λ (write : Write). write.range) (listed_writes_for layout wants images)) images left

@@ -37,10 +37,9 @@ enum NextExtent {
     Found(Extent, u64),
 }
 
-// Lists the blocks of an extent, in a chunk that has copies, or parity.
+// Lists the blocks of an extent.
 fn gather_blocks<R: Rack>(
     sums: Option<&TreeRoot>,
-    copied: bool,
     extent: &Extent,
     rack: &mut R,
     vol: &mut Volume,
@@ -51,19 +50,11 @@ fn gather_blocks<R: Rack>(
     requires is_list { IsList gathered.old.list }
     requires kind { gathered.old.list.kind ≡ kind_in vol.old.sup }
     requires range { extent.now.addr + extent.now.len < 2 ^ 64 }
-    ensures { Gathers (units.blocks_of vol.old.sup (tree_behind sums.entry) copied extent.now extent.now.level)
+    ensures { Gathers (units.blocks_of vol.old.sup (tree_behind sums.entry) extent.now extent.now.level)
         (scene (R.seen rack.old) vol.old gathered.old) (scene (R.seen rack.new) vol.new gathered.new) result }
 {
     let Some(level) = extent.level else {
-        return gather_sectors(
-            sums,
-            copied,
-            extent.addr,
-            extent.len / 4096,
-            rack,
-            vol,
-            gathered,
-        );
+        return gather_sectors(sums, extent.addr, extent.len / 4096, rack, vol, gathered);
     };
     match gathered
         .list
@@ -100,7 +91,7 @@ fn gather_extent<R: Rack>(
     if is_crossing(span, extent) {
         return Err(Stop::Tree(TreeFault::Crosses(extent.addr)));
     }
-    match gather_blocks(sums, span.copied, extent, rack, vol, gathered) {
+    match gather_blocks(sums, extent, rack, vol, gathered) {
         Ok(()) => Ok(extent.addr + extent.len),
         Err(stop) => Err(stop),
     }

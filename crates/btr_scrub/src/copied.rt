@@ -7,19 +7,19 @@ ghost use Rattle.btr_scrub_copies.specs.Blocks.{block_writes};
 ghost use Rattle.btr_scrub_copies.specs.Mending.{IsCopied, mended_of};
 ghost use Rattle.btr_scrub.specs.Leaves.{alone};
 ghost use Rattle.btr_scrub.specs.Listed.{PassesIf};
-ghost use Rattle.btr_scrub_copies.specs.Fresh.{flagged, fresh_writes, freshened, is_behind};
+ghost use Rattle.btr_scrub_copies.specs.Fresh.{flagged, fresh_writes, freshened};
 ghost use Rattle.btr_scrub.specs.Judged.{has_behind};
-ghost use Rattle.btr_scrub.specs.Repair.{mending_writes};
+ghost use Rattle.btr_scrub_row.specs.Wanted.{mending_writes};
 ghost use Rattle.btr_scrub.specs.Scrubbing.{CanMend, CopiesComeNext, GivesBelow, PassesChunk, Scrubs, ScrubsChunk, count_site, counted, counted_plain, sites_count, sites_in, sites_writes};
 
-use crate::judging::is_plain;
 use crate::reader::Reader;
 use crate::tally::Tally;
 use crate::task::ChunkTask;
 use btr_chunk::Chunk;
 use btr_rack::Rack;
 use btr_read::{Store, Want};
-use btr_scrub_copies::{MendFault, Mended, mend_copies, mend_plain};
+use btr_scrub_copies::{MendFault, Mended, is_behind, mend_copies, mend_plain};
+use btr_scrub_row::is_plain;
 
 // The next block, if it lies before an address; else the reader stays where it is.
 pub(crate) fn next_below(blocks: &mut Reader<'_>, end: u64) -> Option<Want>
@@ -141,28 +141,7 @@ fn mend_site<R: Rack>(
     }
 }
 
-// What flags say of a slot.
-fn flagged(flags: &[bool], slot: usize) -> bool
-    ensures { result ≡ flagged flags.now slot }
-{
-    if slot < flags.len() {
-        flags[slot]
-    } else {
-        false
-    }
-}
-
-// Whether the image of a device is behind: it is older, and flagged.
-fn is_behind(devid: u64, failing: &[bool], store: &Store) -> bool
-    ensures { result ≡ is_behind store.now.layout.devices (flagged failing.now) devid }
-{
-    match store.device(devid) {
-        Some(device) => device.older && flagged(failing, device.slot),
-        None => false,
-    }
-}
-
-// Whether some image of a chunk is.
+// Whether some image of a chunk is behind.
 fn has_behind(chunk: &Chunk, failing: &[bool], store: &Store) -> bool
     ensures { result ≡ has_behind store.now.layout.devices (flagged failing.now) chunk.now }
 {

@@ -19,13 +19,14 @@ ghost use Rattle.btr_scrub.specs.Listed.{IsList, kept_wants};
 ghost use Rattle.btr_scrub.specs.Order.{AreApart};
 
 use crate::gathered::Gathered;
-use crate::judging::{is_plain, len_of};
+use crate::judging::len_of;
 use crate::mending::has_parity;
 use crate::reader::{Reader, read_all};
 use btr_chunk::{Chunk, Part, elements, place_of};
 use btr_rack::{Place, Rack, RackError};
 use btr_read::{Store, Want, passes};
 use btr_scrub_copies::MendFault;
+use btr_scrub_row::is_plain;
 use std::alloc::Global;
 
 // Room for a block, and by slot whether one failed on it.
@@ -313,16 +314,16 @@ fn some_plain(blocks: &mut Reader<'_>) -> bool
 // Whether it matters nowhere which images fail.
 fn is_idle(gathered: &Gathered, store: &Store) -> bool
     requires { IsList gathered.now.list }
-    ensures { IsTrue result → IsIdle store.now.layout (kept_wants gathered.now.list) gathered.now.plain }
+    ensures { IsTrue result → IsIdle store.now.layout (kept_wants gathered.now.list) }
 {
-    if !gathered.plain.is_empty() && some_parity(store) {
-        return false;
+    if !some_parity(store) && !some_older(store) {
+        return true;
     }
-    !some_older(store) || !some_plain(&mut read_all(&gathered.list))
+    !some_plain(&mut read_all(&gathered.list))
 }
 
-/// By slot, whether some of the listed blocks doesn't pass at its place on the image. It matters beside
-/// sectors without a checksum alone, in chunks with parity, or on older images: elsewhere nothing is read.
+/// By slot, whether some of the listed blocks doesn't pass at its place on the image. It matters for
+/// sectors without a checksum alone, where some chunk has parity or some image is older: else nothing is read.
 ///
 /// `Image`: a read of an image failed, and nothing was tried behind it.
 /// `Memory`: for want of memory.
@@ -341,7 +342,7 @@ pub(crate) fn failing_images<R: Rack>(
     requires apart { AreApart store.now.layout 0 (kept_wants gathered.now.list) }
     ensures reads { OnlyReads (R.seen rack.old) (R.seen rack.new) }
     ensures flags { IfOk result (λ flags. Suffices store.now.layout (kept_wants gathered.now.list)
-        gathered.now.plain (R.seen rack.old) flags.items) }
+        (R.seen rack.old) flags.items) }
     ensures account { AccountsMend (LiesInStripe store.now.layout)
         (R.seen rack.old) (R.seen rack.new) result }
 {

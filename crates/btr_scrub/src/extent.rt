@@ -26,13 +26,12 @@ pub(crate) struct Extent {
     pub(crate) level: Option<u8>,
 }
 
-/// Where a chunk's addresses lie, whether its bytes lie on its stripes element by element, and whether it has copies.
+/// Where a chunk's addresses lie, and whether its bytes lie on its stripes element by element.
 #[derive(Clone, Copy, Debug, PartialEq, Eq)]
 pub(crate) struct Span {
     pub(crate) start: u64,
     pub(crate) length: u64,
     pub(crate) striped: bool,
-    pub(crate) copied: bool,
 }
 
 // Whether the profile of a chunk puts data on its stripes element by element.
@@ -54,7 +53,6 @@ pub(crate) fn span_of(chunk: &Chunk) -> Span
         start: chunk.start,
         length: chunk.length,
         striped: is_striped(chunk.profile),
-        copied: chunk.mirrors().is_some(),
     }
 }
 

@@ -1,6 +1,5 @@
 // A second look at the list of the checked blocks, before anything is written.
 ghost use Rattle.std.specs.Prelude.{◌≡◌};
-ghost use Rattle.btr_read.specs.Fate.{is_plain};
 ghost use Rattle.btr_read.specs.Want.{len_of};
 ghost use Rattle.btr_read.specs.declared.setting.Setting.{Setting};
 ghost use Rattle.btr_scrub.specs.Judging.{Judged, JudgedOne};
@@ -9,13 +8,6 @@ use crate::reader::Reader;
 use btr_chunk::{MapFault, elements};
 use btr_read::{Store, Want};
 use btr_walk::TreeFault;
-
-/// Whether a want makes no test: that of a sector without a checksum.
-pub(crate) fn is_plain(want: &Want) -> bool
-    ensures { result ≡ is_plain want.now }
-{
-    matches!(want, Want::Plain { .. })
-}
 
 // How many bytes a block has.
 pub(crate) fn len_of(want: &Want, nodesize: u32) -> u64
@@ -51,9 +43,9 @@ fn end_of(want: &Want, from: u64, nodesize: u32, store: &Store) -> Result<u64, T
 }
 
 /// Whether each block of a list has a position, and begins at or behind the end of the one before. Blocks of sound trees do; those that were listed
-/// after a read failed may come from a copy that passes and yet isn't the same.
+/// after a read failed may come from a copy that passes and yet isn't the same. A refusal names the first block for which it doesn't hold.
 ///
-/// `Unmapped` and `Crosses`: a block has no position. `Malformed`: a block begins before the end of the one before.
+/// `Unmapped` and `Crosses`: the block has no position. `Malformed`: it begins before the end of the one before.
 pub(crate) fn judge_blocks(
     blocks: &mut Reader<'_>,
     nodesize: u32,

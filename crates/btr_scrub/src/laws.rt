@@ -1,12 +1,14 @@
 //! Laws of candidates, places and parity (`docs/FORMAT.md`: "Chunks", "Parity", "Reading a block", "Full stripes"). The functions do nothing.
-ghost use Rattle.btr_scrub.specs.Survival.{BadBlockIsWrong, DifferingParityIsWrong, ElementsAreSlices, RowSurvives};
+ghost use Rattle.btr_scrub.specs.Survival.{BadBlockIsWrong, DifferingParityIsWrong};
+ghost use Rattle.btr_scrub.specs.Survival.{ElementsAreSlices, FewAreFewAt, RowSurvives};
 ghost use Rattle.btr_scrub.specs.Places.{ElementsApart};
 ghost use Rattle.btr_scrub.specs.Listed.{FewBytes};
 ghost use Rattle.btr_scrub.specs.Staying.{RightStays, RowOutlivesWrites, RowWritesAreWrong};
 ghost use Rattle.btr_scrub.specs.Keeping.{FirstTurnKeepsBlocks, SecondTurnKeepsBlocks};
 ghost use Rattle.btr_scrub.specs.Leaves.{WritesKeepTheRest};
 ghost use Rattle.btr_scrub.specs.Whole.{ListedCounts, ListedWrites, WorksKeepTheRest};
-ghost use Rattle.btr_scrub.specs.Glue.{SomeCandidateIsRight, BlockOfElement, PartStands, RowGivesBlocks};
+ghost use Rattle.btr_scrub.specs.Glue.{SomeCandidateIsRight, BlockOfElement, PartStands};
+ghost use Rattle.btr_scrub.specs.Glue.{RowGivesBlocks};
 
 /// Where at most as many elements of a full stripe are wrong as there is parity, some candidate of each block reads none of
 /// them, and gives the bytes as they should be (`docs/FORMAT.md`, "Full stripes").
@@ -24,8 +26,9 @@ pub fn part_stands()
     ensures { PartStands }
 {}
 
-/// Where a full stripe is right but for as many elements as there is parity, some candidate of each block in it reads none
-/// of them, and gives the block's bytes as they should be (`docs/FORMAT.md`, "Full stripes").
+/// Where a full stripe is right, where a block lies, but for as many elements as there is parity,
+/// some candidate of the block reads none of them, and gives the block's bytes as they should be
+/// (`docs/FORMAT.md`, "Full stripes").
 pub fn row_gives_blocks()
     ensures { RowGivesBlocks }
 {}
@@ -40,10 +43,17 @@ pub fn elements_are_slices()
     ensures { ElementsAreSlices }
 {}
 
-/// Where a full stripe has as many wrong elements as there is parity, and its right elements stay as they are, each block in
-/// it has a candidate with its committed bytes, whatever stands in the wrong elements (`docs/FORMAT.md`, "Full stripes").
+/// Where the bytes of a full stripe that aren't wrong stay as they are, each checked block in it
+/// that is right at its own place, or lies where no more elements are wrong than there is parity,
+/// has a candidate with its committed bytes (`docs/FORMAT.md`, "Full stripes").
 pub fn row_survives()
     ensures { RowSurvives }
+{}
+
+/// Where no more elements of a full stripe are wrong than there is parity, no more are where a
+/// block lies (`docs/FORMAT.md`, "Full stripes").
+pub fn few_are_few_at()
+    ensures { FewAreFewAt }
 {}
 
 /// Each byte of an image is of one element of one full stripe at most (`docs/FORMAT.md`, "Chunks").
@@ -51,12 +61,14 @@ pub fn elements_apart()
     ensures { ElementsApart }
 {}
 
-/// A bad block lies in an element that is wrong (`docs/FORMAT.md`, "Full stripes").
+/// A bad block, or a sector without a checksum that is stale, lies in an element that is wrong
+/// (`docs/FORMAT.md`, "Full stripes").
 pub fn bad_block_is_wrong()
     ensures { BadBlockIsWrong }
 {}
 
-/// A parity that differs from that of the new data in a decided column is an element that is wrong (`docs/FORMAT.md`, "Full stripes").
+/// A parity that differs from that of the new data in a decided column isn't right there
+/// (`docs/FORMAT.md`, "Full stripes").
 pub fn differing_parity_is_wrong()
     ensures { DifferingParityIsWrong }
 {}
@@ -66,19 +78,22 @@ pub fn few_bytes()
     ensures { FewBytes }
 {}
 
-/// Where each byte of some ranges lies in wrong elements or in chunks with copies, the right elements of full stripes stay,
-/// whatever is written in the ranges (`docs/FORMAT.md`, "Full stripes").
+/// Where each byte of some ranges is a wrong one of a full stripe or lies in a chunk with copies,
+/// all other bytes of full stripes stay, whatever is written in the ranges (`docs/FORMAT.md`, "Full
+/// stripes").
 pub fn right_stays()
     ensures { RightStays }
 {}
 
-/// So each block of a full stripe with as many wrong elements as there is parity has a candidate with its committed bytes,
-/// whatever is written in the ranges (`docs/FORMAT.md`, "Full stripes").
+/// So each checked block of a full stripe that is right at its own place, or lies where no more
+/// elements are wrong than there is parity, has a candidate with its committed bytes, whatever is
+/// written in the ranges (`docs/FORMAT.md`, "Full stripes").
 pub fn row_outlives_writes()
     ensures { RowOutlivesWrites }
 {}
 
-/// Each byte that the writes of a full stripe change lies in a wrong element of it (`docs/FORMAT.md`, "Full stripes").
+/// Each byte that the writes of a full stripe change is a wrong one of it (`docs/FORMAT.md`, "Full
+/// stripes").
 pub fn row_writes_are_wrong()
     ensures { RowWritesAreWrong }
 {}

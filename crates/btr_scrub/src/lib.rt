@@ -1,15 +1,14 @@
 //! Scrub: each copy of each checked block is read, and what is bad is written anew where a right copy or enough parity is left.
-//! A sector without a checksum that has copies gets the bytes of a sure one on images that are behind.
+//! A sector without a checksum gets its newest sure bytes on images that are behind.
 //!
 //! `scrub` first makes the list of the checked blocks (`list_blocks`), which reads the extent tree and the checksum tree and writes nothing, and then goes
 //! over it chunk by chunk. The layer above is promised exactly the blocks that `specs/Units.antt` says, in their order, or the first fault; and then
 //! exactly the writes that follow from what the images held as it began, or those up to a call that failed (`Whole`, `Scrubbing`). For one block with
 //! copies see `btr_scrub_copies`, and for one full stripe `btr_scrub_row`. `Repair` says what all of it comes to, and `Scrubbed` what a call answers and leaves, whatever
-//! failed. `Plain` says beside which sectors without a checksum parity is kept as it is. `Right`, `Survival` and `Staying` say that each block can be had
+//! failed. `Columns`, `Right`, `Survival` and `Staying` say that each block can be had
 //! from what is left, whatever bytes stand in the ranges that are written.
 #![tactic(auto)]
 
-mod beside;
 mod chunks;
 mod collecting;
 mod copied;
@@ -17,13 +16,11 @@ mod doubts;
 mod extent;
 mod gathered;
 mod judging;
-mod kept;
 mod laws;
 mod listed;
 mod mending;
 mod missing;
 mod pages;
-mod plain;
 mod reader;
 mod rowed;
 mod run;
@@ -36,14 +33,13 @@ mod whole;
 pub use gathered::Gathered;
 pub use laws::{
     bad_block_is_wrong, block_of_element, differing_parity_is_wrong, elements_apart,
-    elements_are_slices, few_bytes, first_turn_keeps_blocks, listed_counts, listed_writes,
-    part_stands, right_stays, row_gives_blocks, row_outlives_writes, row_survives,
+    elements_are_slices, few_are_few_at, few_bytes, first_turn_keeps_blocks, listed_counts,
+    listed_writes, part_stands, right_stays, row_gives_blocks, row_outlives_writes, row_survives,
     row_writes_are_wrong, second_turn_keeps_blocks, some_candidate_is_right, works_keep_the_rest,
     writes_keep_the_rest,
 };
 pub use listed::Listed;
 pub use missing::missing_device;
-pub use plain::Plain;
 pub use reader::{Reader, read_all};
 pub use tally::Tally;
 pub use units::list_blocks;

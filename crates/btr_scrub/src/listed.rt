@@ -1,4 +1,4 @@
-// The checked blocks and the sectors without a checksum that have copies, listed in memory.
+// The checked blocks and the sectors without a checksum, listed in memory.
 ghost use Rattle.std.specs.Prelude.{◌≡◌, ◌+◌, ◌*◌, ◌<◌, ◌^◌, ◌++◌, length, take, IsTrue, OnOk};
 ghost use Rattle.btr_base.specs.Sum.{sum_size};
 ghost use Rattle.btr_scrub.specs.Listed.{IsExtended, IsLonger};
@@ -9,7 +9,7 @@ use btr_base::{Memory, Sum, SumKind};
 use std::alloc::Global;
 use std::marker::Model;
 
-/// The checked blocks of a filesystem in their order (`docs/FORMAT.md`, "Checked blocks"), and between them the sectors without a checksum in chunks with copies. Sectors of data that
+/// The checked blocks of a filesystem in their order (`docs/FORMAT.md`, "Checked blocks"), and between them the sectors without a checksum. Sectors of data that
 /// follow each other are one run of 16 bytes, and each has its checksum of 4, 8 or 32 bytes, if it has one; a tree block has 16 bytes beside its run.
 #[derive(Drop)]
 pub struct Listed {

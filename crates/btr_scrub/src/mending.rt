@@ -3,10 +3,9 @@ ghost use Rattle.std.specs.Prelude.{◌≡◌, ◌<◌, is_none, IsSomeAnd, OnOk
 ghost use Rattle.btr_chunk.specs.Chunk.{mirrors};
 ghost use Rattle.btr_read.specs.Store.{SameLoans};
 ghost use Rattle.btr_scrub.specs.Order.{AreApart};
-ghost use Rattle.btr_scrub.specs.Judged.{doubts_beside};
+ghost use Rattle.btr_scrub_copies.specs.Fresh.{flagged};
 ghost use Rattle.btr_scrub.specs.Scrubbing.{CanMend, ComesNext, HasRooms, PassesChunk, ScrubsChunk, Works, WorksChunk, all_count_for, all_writes_for, chunk_count_for, chunk_writes_for};
 
-use crate::beside::Beside;
 use crate::copied::mend_blocks;
 use crate::reader::Reader;
 use crate::rowed::{RowRoom, mend_rows};
@@ -27,7 +26,7 @@ pub(crate) fn has_parity(number: usize, store: &Store) -> bool
 // Mends the blocks of the chunk of a number that a reader has next.
 fn mend_chunk<R: Rack>(
     task: ChunkTask,
-    beside: &Beside,
+    failing: &[bool],
     blocks: &mut Reader<'_>,
     rack: &mut R,
     store: &mut Store,
@@ -44,21 +43,21 @@ fn mend_chunk<R: Rack>(
     ensures rooms { HasRooms store.old.layout room.new.buffer }
     ensures past { OnOk result (PassesChunk store.old.layout task.number blocks.old blocks.new) }
     ensures scrubs { ScrubsChunk store.old.layout task.number task.write
-        (λ chunk. chunk_writes_for (doubts_beside store.old.layout beside.now) store.old.layout chunk blocks.old)
-        (λ chunk. chunk_count_for (doubts_beside store.old.layout beside.now) store.old.layout task.write chunk blocks.old)
+        (λ chunk. chunk_writes_for (flagged failing.now) store.old.layout chunk blocks.old)
+        (λ chunk. chunk_count_for (flagged failing.now) store.old.layout task.write chunk blocks.old)
         marks.old marks.new (R.seen rack.old) (R.seen rack.new) tally.old tally.new result }
 {
     if has_parity(task.number, store) {
-        mend_rows(task, beside, blocks, rack, store, room, marks, tally)
+        mend_rows(task, failing, blocks, rack, store, room, marks, tally)
     } else {
-        mend_blocks(task, &beside.failing, blocks, rack, store, marks, tally)
+        mend_blocks(task, failing, blocks, rack, store, marks, tally)
     }
 }
 
 // The same, and where it writes syncs the images that were written.
 fn mend_and_sync<R: Rack>(
     task: ChunkTask,
-    beside: &Beside,
+    failing: &[bool],
     blocks: &mut Reader<'_>,
     rack: &mut R,
     store: &mut Store,
@@ -75,11 +74,11 @@ fn mend_and_sync<R: Rack>(
     ensures rooms { HasRooms store.old.layout room.new.buffer }
     ensures past { OnOk result (PassesChunk store.old.layout task.number blocks.old blocks.new) }
     ensures works { WorksChunk store.old.layout task.number task.write
-        (λ chunk. chunk_writes_for (doubts_beside store.old.layout beside.now) store.old.layout chunk blocks.old)
-        (λ chunk. chunk_count_for (doubts_beside store.old.layout beside.now) store.old.layout task.write chunk blocks.old)
+        (λ chunk. chunk_writes_for (flagged failing.now) store.old.layout chunk blocks.old)
+        (λ chunk. chunk_count_for (flagged failing.now) store.old.layout task.write chunk blocks.old)
         (R.seen rack.old) (R.seen rack.new) tally.old tally.new result }
 {
-    match mend_chunk(task, beside, blocks, rack, store, room, marks, tally) {
+    match mend_chunk(task, failing, blocks, rack, store, room, marks, tally) {
         Ok(()) => {}
         Err(fault) => return Err(fault),
     }
@@ -95,7 +94,7 @@ fn mend_and_sync<R: Rack>(
 pub(crate) fn mend_all<R: Rack>(
     nodesize: u32,
     write: bool,
-    beside: &Beside,
+    failing: &[bool],
     blocks: &mut Reader<'_>,
     rack: &mut R,
     store: &mut Store,
@@ -110,8 +109,8 @@ pub(crate) fn mend_all<R: Rack>(
     ensures ready { CanMend write (R.seen rack.new) store.new marks.new }
     ensures loans { SameLoans store.old store.new }
     ensures works { Works store.old.layout write
-        (all_writes_for (doubts_beside store.old.layout beside.now) store.old.layout store.old.layout.chunks blocks.old)
-        (all_count_for (doubts_beside store.old.layout beside.now) store.old.layout write store.old.layout.chunks blocks.old)
+        (all_writes_for (flagged failing.now) store.old.layout store.old.layout.chunks blocks.old)
+        (all_count_for (flagged failing.now) store.old.layout write store.old.layout.chunks blocks.old)
         (R.seen rack.old) (R.seen rack.new) tally.old tally.new result }
 {
     for number in 0..store.chunks().count() {
@@ -120,7 +119,7 @@ pub(crate) fn mend_all<R: Rack>(
             nodesize,
             write,
         };
-        match mend_and_sync(task, beside, blocks, rack, store, room, marks, tally) {
+        match mend_and_sync(task, failing, blocks, rack, store, room, marks, tally) {
             Ok(()) => {}
             Err(fault) => return Err(fault),
         }

@@ -1,22 +1,22 @@
 // The full stripes of a chunk with parity.
-ghost use Rattle.std.specs.Prelude.{◌≡◌, ◌∷◌, [], ◌++◌, Some, IsSome, IfOk, OnOk, length};
+ghost use Rattle.std.specs.Prelude.{◌≡◌, ◌∷◌, [], ◌++◌, true, Some, IsSome, IsTrue, IfOk, OnOk};
+ghost use Rattle.std.specs.List.{All};
 ghost use Rattle.btr_chunk.specs.Chunk.{IsChunk};
 ghost use Rattle.btr_chunk.specs.Table.{chunk_at};
 ghost use Rattle.btr_chunk.specs.declared.chunk.Chunk.{Chunk};
+ghost use Rattle.btr_read.specs.Fate.{is_plain};
 ghost use Rattle.btr_read.specs.Store.{SameLoans};
 ghost use Rattle.btr_read.specs.Want.{addr_of};
-ghost use Rattle.btr_scrub_row.specs.Mending.{AreKept, IsRow, IsRowOf, mended_row};
+ghost use Rattle.btr_scrub_copies.specs.Fresh.{flagged};
+ghost use Rattle.btr_scrub_row.specs.Mending.{IsRow, IsRowOf, mended_row};
 ghost use Rattle.btr_scrub_row.specs.Rows.{Row, row_writes};
 ghost use Rattle.btr_scrub.specs.Leaves.{alone};
 ghost use Rattle.btr_scrub.specs.Order.{targets};
-ghost use Rattle.btr_scrub.specs.Judged.{doubts_beside};
 ghost use Rattle.btr_scrub.specs.Repair.{rows_in};
-ghost use Rattle.btr_scrub.specs.Rowing.{Collects, CollectsRow, GivesInRow, row_in};
+ghost use Rattle.btr_scrub.specs.Rowing.{Collects, CollectsRow, GivesInRow, IsCalm, row_in, untouched};
 ghost use Rattle.btr_scrub.specs.Scrubbing.{CanMend, HasRooms, PassesChunk, RowsComeNext, Scrubs, ScrubsChunk, counted_row, rows_count, rows_writes};
 
-use crate::beside::Beside;
 use crate::copied::next_below;
-use crate::kept::kept_columns;
 use crate::reader::Reader;
 use crate::tally::Tally;
 use crate::task::ChunkTask;
@@ -25,7 +25,7 @@ use btr_chunk::{Chunk, elements};
 use btr_rack::Rack;
 use btr_read::{Store, Want};
 use btr_scrub_copies::MendFault;
-use btr_scrub_row::{MendedRow, RowAt, RowBuffer, mend_row};
+use btr_scrub_row::{MendedRow, RowAt, RowBuffer, has_doubtful, is_plain, mend_row};
 
 /// Memory for the full stripes, one after another: the checked blocks of one, and its bytes.
 #[derive(Drop)]
@@ -111,12 +111,12 @@ fn collect_row(
     }
 }
 
-// Counts with those of a row of so many blocks, each of which stands still at its type's end.
-fn counted_row(tally: &Tally, blocks: u64, mended: &MendedRow) -> Tally
-    ensures { result ≡ counted_row tally.now blocks mended.now }
+// Counts with those of a row, each of which stands still at its type's end.
+fn counted_row(tally: &Tally, mended: &MendedRow) -> Tally
+    ensures { result ≡ counted_row tally.now mended.now }
 {
     Tally {
-        blocks: tally.blocks.saturating_add(blocks),
+        blocks: tally.blocks.saturating_add(mended.blocks),
         bad: tally.bad.saturating_add(mended.bad),
         repaired: tally.repaired.saturating_add(mended.repaired),
         lost: tally.lost.saturating_add(mended.lost),
@@ -125,10 +125,48 @@ fn counted_row(tally: &Tally, blocks: u64, mended: &MendedRow) -> Tally
     }
 }
 
-// Mends a row whose blocks were collected, and counts what came of it.
+// Whether some wants are all of sectors without a checksum.
+fn are_plain(wants: &[Want]) -> bool
+    ensures { IsTrue result → All (λ want. is_plain want ≡ true) wants.now }
+{
+    for want in wants {
+        if !is_plain(want) {
+            return false;
+        }
+    }
+    true
+}
+
+// Whether a row holds nothing but sectors without a checksum, in a chunk no image of which is in doubt: nothing comes of it then.
+fn is_calm(at: RowAt, wants: &[Want], failing: &[bool], store: &Store) -> bool
+    requires { IsRow store.now.layout at.chunk at.number wants.now }
+    ensures { IsTrue result → (r : Row) → IsRowOf store.now.layout at.chunk at.number wants.now r
+        → r.failing ≡ flagged failing.now → IsCalm store.now.layout r }
+{
+    let Some(chunk) = store.chunks().find(at.chunk) else {
+        unreachable!();
+    };
+    are_plain(wants) && !has_doubtful(chunk, failing, store)
+}
+
+// What comes of a row of which nothing does.
+fn untouched() -> MendedRow
+    ensures { result ≡ untouched }
+{
+    MendedRow {
+        blocks: 0,
+        bad: 0,
+        repaired: 0,
+        lost: 0,
+        parity: 0,
+    }
+}
+
+// Mends a row whose blocks were collected, and counts what came of it. It is read only where something can come of it.
 fn mend_collected<R: Rack>(
     at: RowAt,
     write: bool,
+    failing: &[bool],
     rack: &mut R,
     store: &mut Store,
     room: &mut RowRoom,
@@ -142,14 +180,27 @@ fn mend_collected<R: Rack>(
     ensures ready { CanMend write (R.seen rack.new) store.new marks.new }
     ensures loans { SameLoans store.old store.new }
     ensures rooms { HasRooms store.old.layout room.new.buffer }
-    ensures scrubs { (r : Row) → IsRowOf store.old.layout at.chunk at.number room.old.wants.items r → AreKept at.kept r
+    ensures scrubs { (r : Row) → IsRowOf store.old.layout at.chunk at.number room.old.wants.items r → r.failing ≡ flagged failing.now
         → Scrubs (alone store.old.layout r.chunk) write (λ images. row_writes images store.old.layout r)
-        (λ images tally. counted_row tally (length r.blocks) (mended_row images store.old.layout r write))
+        (λ images tally. counted_row tally (mended_row images store.old.layout r write))
         marks.old marks.new (R.seen rack.old) (R.seen rack.new) tally.old tally.new result }
 {
-    match mend_row(at, &room.wants, write, rack, store, &mut room.buffer, marks) {
+    if is_calm(at, &room.wants, failing, store) {
+        *tally = counted_row(tally, &untouched());
+        return Ok(());
+    }
+    match mend_row(
+        at,
+        &room.wants,
+        write,
+        failing,
+        rack,
+        store,
+        &mut room.buffer,
+        marks,
+    ) {
         Ok(mended) => {
-            *tally = counted_row(tally, room.wants.len() as u64, &mended);
+            *tally = counted_row(tally, &mended);
             Ok(())
         }
         Err(fault) => Err(fault),
@@ -161,7 +212,7 @@ fn mend_collected<R: Rack>(
 /// `Image`: a read or a write of an image failed, and nothing was tried behind it. `Memory`: a write wanted memory.
 pub(crate) fn mend_rows<R: Rack>(
     task: ChunkTask,
-    beside: &Beside,
+    failing: &[bool],
     blocks: &mut Reader<'_>,
     rack: &mut R,
     store: &mut Store,
@@ -178,8 +229,8 @@ pub(crate) fn mend_rows<R: Rack>(
     ensures rooms { HasRooms store.old.layout room.new.buffer }
     ensures past { OnOk result (PassesChunk store.old.layout task.number blocks.old blocks.new) }
     ensures scrubs { ScrubsChunk store.old.layout task.number task.write
-        (λ chunk. rows_writes store.old.layout (rows_in (doubts_beside store.old.layout beside.now) (targets store.old.layout blocks.old) chunk))
-        (λ chunk. rows_count store.old.layout task.write (rows_in (doubts_beside store.old.layout beside.now) (targets store.old.layout blocks.old) chunk))
+        (λ chunk. rows_writes store.old.layout (rows_in (flagged failing.now) (targets store.old.layout blocks.old) chunk))
+        (λ chunk. rows_count store.old.layout task.write (rows_in (flagged failing.now) (targets store.old.layout blocks.old) chunk))
         marks.old marks.new (R.seen rack.old) (R.seen rack.new) tally.old tally.new result }
 {
     let chunk = store.chunks().at(task.number);
@@ -190,14 +241,12 @@ pub(crate) fn mend_rows<R: Rack>(
             Ok(row) => row,
             Err(_) => return Err(MendFault::Memory),
         };
-        let kept = kept_columns(task.number, row, beside, store);
         let at = RowAt {
             chunk: start,
             number: row,
             nodesize: task.nodesize,
-            kept,
         };
-        match mend_collected(at, task.write, rack, store, room, marks, tally) {
+        match mend_collected(at, task.write, failing, rack, store, room, marks, tally) {
             Ok(()) => {}
             Err(fault) => return Err(fault),
         }

@@ -6,6 +6,7 @@ ghost use Rattle.btr_files.specs.Sums.{kind_in, tree_behind};
 ghost use Rattle.btr_scrub.specs.Gathering.{Gathers, Lists, scene};
 ghost use Rattle.btr_scrub.specs.Listed.{IsList};
 ghost use Rattle.btr_scrub.specs.Units as units;
+ghost use Rattle.btr_scrub.specs.Units.{Unchecked};
 
 use crate::gathered::Gathered;
 use btr_base::Memory;
@@ -13,23 +14,18 @@ use btr_files::sum_of;
 use btr_rack::Rack;
 use btr_volume::{Stop, TreeRoot, Volume};
 
-// Lists a sector that has no checksum, which is counted: in order where it has copies, and else apart from the others.
-fn gather_plain(copied: bool, addr: u64, gathered: &mut Gathered) -> Result<(), Memory>
+// Lists a sector that has no checksum, which is counted.
+fn gather_plain(addr: u64, gathered: &mut Gathered) -> Result<(), Memory>
     requires is_list { IsList gathered.old.list }
-    ensures { OnOk result (Lists gathered.old gathered.new (units.bare_met copied addr ∷ [])) }
+    ensures { OnOk result (Lists gathered.old gathered.new (Unchecked addr ∷ [])) }
 {
     gathered.unchecked = gathered.unchecked.saturating_add(1);
-    if copied {
-        gathered.list.push_plain(addr)
-    } else {
-        gathered.plain.push(addr)
-    }
+    gathered.list.push_plain(addr)
 }
 
-// Lists a sector of data with its checksum, or without one; its chunk has copies, or parity.
+// Lists a sector of data with its checksum, or without one.
 fn gather_sector<R: Rack>(
     sums: Option<&TreeRoot>,
-    copied: bool,
     addr: u64,
     rack: &mut R,
     vol: &mut Volume,
@@ -39,12 +35,12 @@ fn gather_sector<R: Rack>(
     requires room { 4 ≤ free_count vol.old.store }
     requires is_list { IsList gathered.old.list }
     requires kind { gathered.old.list.kind ≡ kind_in vol.old.sup }
-    ensures { Gathers (units.sector vol.old.sup (tree_behind sums.entry) copied addr)
+    ensures { Gathers (units.sector vol.old.sup (tree_behind sums.entry) addr)
         (scene (R.seen rack.old) vol.old gathered.old) (scene (R.seen rack.new) vol.new gathered.new) result }
 {
     match sum_of(sums, addr, rack, vol) {
         Err(fault) => Err(Stop::Tree(fault)),
-        Ok(None) => match gather_plain(copied, addr, gathered) {
+        Ok(None) => match gather_plain(addr, gathered) {
             Ok(()) => Ok(()),
             Err(_) => Err(Stop::Memory),
         },
@@ -55,13 +51,11 @@ fn gather_sector<R: Rack>(
     }
 }
 
-/// Lists so many sectors of data from an address on, in a chunk that has copies, or parity. Those that have no checksum are counted, and listed with the
-/// others only where they have copies. Four slots are free.
+/// Lists so many sectors of data from an address on. Those that have no checksum are counted, and listed with the others. Four slots are free.
 ///
 /// `Tree` where a block of the checksum tree can't be had or is malformed, and `Memory` for want of memory.
 pub(crate) fn gather_sectors<R: Rack>(
     sums: Option<&TreeRoot>,
-    copied: bool,
     addr: u64,
     count: u64,
     rack: &mut R,
@@ -73,11 +67,11 @@ pub(crate) fn gather_sectors<R: Rack>(
     requires is_list { IsList gathered.old.list }
     requires kind { gathered.old.list.kind ≡ kind_in vol.old.sup }
     requires range { addr + count * 4096 < 2 ^ 64 }
-    ensures { Gathers (units.sectors vol.old.sup (tree_behind sums.entry) copied count addr)
+    ensures { Gathers (units.sectors vol.old.sup (tree_behind sums.entry) count addr)
         (scene (R.seen rack.old) vol.old gathered.old) (scene (R.seen rack.new) vol.new gathered.new) result }
 {
     for i in 0..count {
-        match gather_sector(sums, copied, addr + i * 4096, rack, vol, gathered) {
+        match gather_sector(sums, addr + i * 4096, rack, vol, gathered) {
             Ok(()) => {}
             Err(stop) => return Err(stop),
         }

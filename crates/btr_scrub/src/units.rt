@@ -13,7 +13,6 @@ use crate::chunks::gather_chunks;
 use crate::extent::kind_of;
 use crate::gathered::Gathered;
 use crate::listed::Listed;
-use crate::plain::Plain;
 use btr_rack::Rack;
 use btr_volume::{Stop, TreeRoot, Volume};
 use std::alloc::Global;
@@ -60,7 +59,7 @@ fn gather_all<R: Rack>(rack: &mut R, vol: &mut Volume, gathered: &mut Gathered) 
 }
 
 /// Lists the checked blocks of a filesystem (`docs/FORMAT.md`, "Checked blocks"), in the order of chunks and addresses: the tree blocks, and the sectors of data that have a checksum.
-/// The sectors that have none are listed by themselves, and counted. Nothing is written, and five slots are free.
+/// The sectors that have none are listed between them, and counted. Nothing is written, and five slots are free.
 ///
 /// `NoTree` where there is no extent tree. `Tree` where a block of the root tree, the extent tree or the checksum tree can't be had or is malformed,
 /// and where an extent overlaps the one before it, is a tree block that isn't as long as a node, passes its chunk's end, or is a tree block that crosses an
@@ -75,12 +74,7 @@ pub fn list_blocks<R: Rack>(alloc: Global, rack: &mut R, vol: &mut Volume) -> Re
         vol.old.store.layout (R.seen rack.old) (R.seen rack.new) result }
 {
     let list = Listed::new(alloc, kind_of(&vol.sup));
-    let plain = Plain::new(alloc);
-    let mut gathered = Gathered {
-        list,
-        unchecked: 0,
-        plain,
-    };
+    let mut gathered = Gathered { list, unchecked: 0 };
     match gather_all(rack, vol, &mut gathered) {
         Ok(()) => Ok(gathered),
         Err(stop) => Err(stop),

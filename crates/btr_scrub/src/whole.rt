@@ -13,7 +13,6 @@ ghost use Rattle.btr_scrub.specs.Scrubbing.{HasRooms, NoneIsWider};
 ghost use Rattle.btr_scrub.specs.Whole.{Refuses, ScrubsAll, WorksOn, answer_of, first_tally};
 ghost use Rattle.btr_scrub.specs.declared.tally.Tally.{Tally};
 
-use crate::beside::Beside;
 use crate::doubts::failing_images;
 use crate::gathered::Gathered;
 use crate::judging::judge_blocks;
@@ -104,7 +103,7 @@ fn mend_listed<R: Rack>(
     requires apart { AreApart vol.old.store.layout 0 (kept_wants gathered.list) }
     ensures serves { Serves (R.seen rack.new) vol.new.store }
     ensures volume { SameVolume vol.old vol.new }
-    ensures works { WorksOn vol.old.store.layout write (kept_wants gathered.list) gathered.plain gathered.unchecked
+    ensures works { WorksOn vol.old.store.layout write (kept_wants gathered.list) gathered.unchecked
         (R.seen rack.old) (R.seen rack.new) result }
 {
     let Ok(mut room) = make_room(alloc, &vol.store) else {
@@ -117,18 +116,13 @@ fn mend_listed<R: Rack>(
         Ok(failing) => failing,
         Err(fault) => return Err(stop_of(fault)),
     };
-    let Gathered {
-        list,
-        unchecked,
-        plain,
-    } = gathered;
-    let beside = Beside { plain, failing };
+    let Gathered { list, unchecked } = gathered;
     let mut tally = first_tally(unchecked);
     let mut blocks = read_all(&list);
     match mend_all(
         vol.sup.nodesize,
         write,
-        &beside,
+        &failing,
         &mut blocks,
         rack,
         &mut vol.store,
@@ -171,7 +165,7 @@ fn scrub_given<R: Rack>(
 }
 
 /// Reads each copy of each checked block, and writes what is bad anew where a right copy or enough parity is left (`docs/FORMAT.md`, "Checked blocks" and
-/// "Full stripes"); sectors without a checksum that have copies get the bytes of a sure copy on images that are behind. With `write` false it only reads. The images of a chunk that were written are synced behind it. Whatever failed, what stands in the
+/// "Full stripes"); sectors without a checksum get the bytes of their first candidate that reads no image in doubt, on images that are behind. With `write` false it only reads. The images of a chunk that were written are synced behind it. Whatever failed, what stands in the
 /// images is what stands behind a first part of the writes, the next one perhaps in part, so far as the copies that pass agree (`IsScrubbed`); and each
 /// block that could be had can be had then (`IsSafe`). Five slots are free; where it writes, each image was opened for writing.
 ///

@@ -114,7 +114,7 @@ module _ (failing : Failing) (t : Target) where
       by false e rest = rest
 
   -- so the trusted ones come in the order of the profile
-  trusted_ways : filter (is_trusted failing t) (candidates t) ≡ filter (is_trusted failing t) (ways t)
+  pub trusted_ways : filter (is_trusted failing t) (candidates t) ≡ filter (is_trusted failing t) (ways t)
   trusted_ways = filter-append (is_trusted failing t) (among t false) (among t true)
       ∙ ap (λ cs. cs ++ filter (is_trusted failing t) (among t true)) (trusted_newest (ways t))
       ∙ ap (λ cs. filter (is_trusted failing t) (ways t) ++ cs) (trusted_oldest (ways t)) ∙ append-nil (filter (is_trusted failing t) (ways t))

@@ -25,8 +25,8 @@ pub fn is_doubtful(devid: u64, failing: &[bool], store: &Store) -> bool
     }
 }
 
-// Whether it is behind: it is older, and flagged.
-pub(crate) fn is_behind(devid: u64, failing: &[bool], store: &Store) -> bool
+/// Whether it is behind: it is older, and flagged.
+pub fn is_behind(devid: u64, failing: &[bool], store: &Store) -> bool
     ensures { result ≡ is_behind store.now.layout.devices (flagged failing.now) devid }
 {
     match store.device(devid) {

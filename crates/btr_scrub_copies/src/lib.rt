@@ -24,7 +24,7 @@ mod syncing;
 #[cfg(test)]
 mod tests;
 
-pub use doubts::is_doubtful;
+pub use doubts::{is_behind, is_doubtful};
 pub use freshening::mend_plain;
 pub use mended::{MendFault, Mended};
 pub use mending::mend_copies;

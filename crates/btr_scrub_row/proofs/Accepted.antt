@@ -122,7 +122,7 @@ module _ (t : Target) (spot : Spot) (sited : IsSited spot t) (count : ℕ) (is :
   index_below : t.at.index < slice_count t
   index_below = sited.position.index
 
-  length-ways : length (ways t) ≡ count
+  pub length-ways : length (ways t) ≡ count
   length-ways = elim either [
     | inl five ↦ ap length (with_p t five) ∙ sym (is.five (not_six five))
     | inr e ↦
@@ -147,6 +147,30 @@ module _ (t : Target) (spot : Spot) (sited : IsSited spot t) (count : ℕ) (is :
     | inr e ↦ ap (λ cs. slice_get cs 0) (with_p_and_q t e)
   ]
 
+  -- the way of a number
+  module _ (way : ℕ) (below : way < count) (c : Candidate) (at : IsAt spot.index way c) where
+    at' : IsAt t.at.index way c
+    at' = subst (λ i. IsAt i way c) sited.place.index at
+
+    pub way_is : slice_get (ways t) way ≡ Some c
+    way_is = elim either [
+      | inl five ↦ ap (λ cs. slice_get cs way) (with_p t five) ∙ at'.one (length t.chunk.stripes - 1) (omega (arith, below, is.five (not_six five)))
+      | inr e ↦
+          let n : slice_count t ≡ length t.chunk.stripes - 2 = ap (λ p. data_count p (length t.chunk.stripes)) e in
+          ap (λ cs. slice_get cs way) (with_p_and_q t e) ∙ at'.two (length t.chunk.stripes - 2) (slice_below t sited.position e)
+          (omega (arith, below, is.six (six e), sited.place.slices, n))
+    ]
+
+    pub parts_are : IsTwoParities (slice_count t) t.at.index c
+    parts_are = at'.parts (slice_count t) index_below (omega
+        (arith, in_count spot count way is (omega (arith, index_below, sited.place.slices)) below, sited.place.slices))
+
+    pub q_is : ReadsQ c → t.chunk.profile ≡ Raid6
+    q_is reads = sym sited.place.profile ∙ q_there spot count way c is below at reads
+
+    pub way_stands : ((part : Part) → HasPart t.chunk.profile (length t.chunk.stripes) part → IsSome (range_of t part)) → stands t c ≡ true
+    way_stands stand = stands_all t sited.parity stand c index_below parts_are q_is
+
   module _ (k way : ℕ) (lt : k < count) (order : IsWayAt k way t) where
     pub way_below : way < count
     way_below =
@@ -155,29 +179,12 @@ module _ (t : Target) (spot : Spot) (sited : IsSited spot t) (count : ℕ) (is :
         omega (arith, slice_get_within (ways t) way (get_or (candidates t) k own) (order ∙ there), length-ways)
 
     module _ (c : Candidate) (at : IsAt spot.index way c) where
-      at' : IsAt t.at.index way c
-      at' = subst (λ i. IsAt i way c) sited.place.index at
-
-      way_is : slice_get (ways t) way ≡ Some c
-      way_is = elim either [
-        | inl five ↦ ap (λ cs. slice_get cs way) (with_p t five) ∙ at'.one (length t.chunk.stripes - 1) (omega (arith, way_below, is.five (not_six five)))
-        | inr e ↦
-            let n : slice_count t ≡ length t.chunk.stripes - 2 = ap (λ p. data_count p (length t.chunk.stripes)) e in
-            ap (λ cs. slice_get cs way) (with_p_and_q t e) ∙ at'.two (length t.chunk.stripes - 2) (slice_below t sited.position e)
-            (omega (arith, way_below, is.six (six e), sited.place.slices, n))
-      ]
-
       candidate_is : slice_get (candidates t) k ≡ Some c
-      candidate_is = sym order ∙ way_is
-
-      parts_are : IsTwoParities (slice_count t) t.at.index c
-      parts_are = at'.parts (slice_count t) index_below (omega
-          (arith, in_count spot count way is (omega (arith, index_below, sited.place.slices)) way_below, sited.place.slices))
+      candidate_is = sym order ∙ way_is way way_below c at
 
       module _ (stand : (part : Part) → HasPart t.chunk.profile (length t.chunk.stripes) part → IsSome (range_of t part)) where
         candidate_stands : stands t c ≡ true
-        candidate_stands = stands_all t sited.parity stand c index_below parts_are
-            (λ reads. sym sited.place.profile ∙ q_there spot count way c is way_below at reads)
+        candidate_stands = way_stands way way_below c at stand
 
         -- one more that doesn't pass, or the first that does
         module _ (images : Images) (so_far : passing_of images t (take k (candidates t)) ≡ []) where
@@ -189,7 +196,7 @@ module _ (t : Target) (spot : Spot) (sited : IsSited spot t) (count : ℕ) (is :
 
           -- the first way is the block's own place
           pub own_value : way ≡ 0 → value_of images t c ≡ element images t (Slice t.at.index)
-          own_value z = ap (value_of images t) (same_Some c (Read (Slice t.at.index)) (sym way_is ∙ ap (slice_get (ways t)) z ∙ first_way))
+          own_value z = ap (value_of images t) (same_Some c (Read (Slice t.at.index)) (sym (way_is way way_below c at) ∙ ap (slice_get (ways t)) z ∙ first_way))
 
   -- none passes
   pub none_accepted : (images : Images) (k : ℕ) → IsSome (range_of t (Slice t.at.index)) → count ≤ k → passing_of images t (take k (candidates t))

@@ -10,7 +10,7 @@ use Rattle.btr_chunk.specs.declared.profile.Profile.TheVariants.{Raid6}
 use Rattle.btr_chunk.proofs.Rows.{without_copies}
 use Rattle.btr_read.specs.Layout.{Layout}
 use Rattle.btr_read.proofs.Trials.{told}
-use Rattle.btr_scrub_copies.specs.Blocks.{block_writes}
+use Rattle.btr_scrub_row.specs.Wanted.{mending_writes}
 use Rattle.btr_scrub_copies.specs.Writes.{Images, Write}
 use Rattle.btr_scrub_row.specs.Mending.{parity_count}
 use Rattle.btr_scrub_row.specs.Rows.{Row, parities, parities_writes, parity_writes, rebuilt_writes}
@@ -99,9 +99,9 @@ sum_pq images layout row e =
 
 -- where none is to be written, no block is
 pub no_writes : (images : Images) (layout : Layout) (row : Row) (judged : Judged) (buffer : RowBuffer) → IsPrepared images layout row judged buffer
-    → judged.rebuilt ≡ 0 → [] ≡ flat_map (block_writes images) row.blocks
-no_writes images layout row judged buffer is none = by (flat_map (block_writes images) row.blocks)
-    (length-flat_map (block_writes images) row.blocks ∙ sym is.blocks.rebuilt ∙ none)
+    → judged.rebuilt ≡ 0 → [] ≡ flat_map (mending_writes images row.failing) row.blocks
+no_writes images layout row judged buffer is none = by (flat_map (mending_writes images row.failing) row.blocks)
+    (length-flat_map (mending_writes images row.failing) row.blocks ∙ sym is.blocks.rebuilt ∙ none)
   where
     by : (ws : List Write) → length ws ≡ 0 → [] ≡ ws
     by [] e = refl

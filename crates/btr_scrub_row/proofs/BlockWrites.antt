@@ -1,7 +1,6 @@
 -- The write that mends a block, as it is made from the bytes in memory.
-use Rattle.std.proofs.Common.{◌≡◌, ℕ, ◌+◌, ◌^◌, ◌<◌, ◌≤◌, Bool, true, false, not, cond, List, [], ◌∷◌, length, take, Some, None, Ok, IsNone, refl, sym, ap, ◌∙◌}
+use Rattle.std.proofs.Common.{◌≡◌, ℕ, ◌+◌, ◌^◌, ◌<◌, ◌≤◌, ◌||◌, Bool, false, not, List, [], ◌∷◌, length, take, Some, None, Ok, IsNone, refl, sym, ap, ◌∙◌}
 use Rattle.std.proofs.Common.{subst, arith, length-take}
-use Rattle.std.specs.Option.{option_map_or}
 use Rattle.btr_chunk.specs.Chunk.{mirrors}
 use Rattle.btr_chunk.specs.Mapping.{HasPart}
 use Rattle.btr_chunk.specs.declared.place.Part.TheVariants.{Slice}
@@ -13,19 +12,20 @@ use Rattle.btr_read.specs.Layout.{AreOpen, Layout}
 use Rattle.btr_read.specs.declared.want.Want.{Want}
 use Rattle.btr_read.proofs.Fates.{sought_of}
 use Rattle.btr_read.proofs.Keeping.{none_failed}
-use Rattle.btr_scrub_copies.specs.Blocks.{block_writes, is_good}
+use Rattle.btr_scrub_row.specs.Wanted.{mending_writes}
 use Rattle.btr_scrub_copies.specs.Writes.{Does, Images}
 use Rattle.btr_scrub_copies.proofs.Doing.{does_reads}
 use Rattle.btr_scrub_row.specs.Rows.{Row, range_in_element}
 use Rattle.btr_scrub_row.specs.Mending.{IsOfRow, IsOn}
-use Rattle.btr_scrub_row.specs.Memory.{IsAccepted, IsGone, IsStripeOf}
+use Rattle.btr_scrub_row.specs.Memory.{IsSettled, IsStripeOf}
 use Rattle.btr_scrub_row.specs.Judging.{IsPlaced}
 use Rattle.btr_scrub_row.specs.Writing.{write_at}
 use Rattle.btr_scrub_row.specs.declared.spot.Spot.{Spot}
 use Rattle.btr_scrub_row.specs.declared.stripe.FullStripe.{FullStripe}
 use Rattle.btr_scrub_row.proofs.Elements.{Lies, block_lies, is_at, is_of_row, lies, open_at}
 use Rattle.btr_scrub_row.proofs.Held.{good}
-use Rattle.btr_scrub_row.proofs.Judges.{written_at, writes_one}
+use Rattle.btr_scrub_row.specs.declared.settling.Settled.{Settled}
+use Rattle.btr_scrub_row.proofs.Settled.{writes_one, written_at}
 
 -- nothing is done
 pub does_nothing : (P : Range → Type 0) (marks : List Bool) (a : Seen) → Does {A = Unit {0}} P (λ i. []) marks marks a a (Ok tt)
@@ -46,6 +46,14 @@ module _ (layout : Layout) (stripe : FullStripe) (row : Row) (of : IsStripeOf la
     pub open_slot : element.slot < length slots
     pub within : element.off + spot.rest + spot.len ≤ len_of slots element.slot
     pub small : element.off + spot.rest < 2 ^ 64
+
+  -- the block's own place
+  pub own_range : (range : Range) × (range_of t (Slice t.at.index) ≡ Some range)
+  own_range =
+      let devices = sought_of layout want t e in (
+        range_in l.slot (l.off + t.at.rest) (size_of t),
+        block_lies layout stripe.chunk stripe.number row (good layout stripe row of) (Slice t.at.index) has l t on devices.devices_is p.position p.inside,
+      )
 
   module _ (element : Range) (is : range_in_element layout row (Slice spot.index) 0 65536 ≡ Some element) where
     is' : range_in_element layout row (Slice t.at.index) 0 65536 ≡ Some element
@@ -70,10 +78,11 @@ module _ (layout : Layout) (stripe : FullStripe) (row : Row) (of : IsStripeOf la
         (is_of_row layout stripe.chunk stripe.number row (good layout stripe row of) (Slice t.at.index) has l spot.rest n
         (omega (arith, long, p.rest, p.len, p.inside))))
 
-    -- one write, where another candidate than the block's own place is accepted
-    pub writes_it : (images : Images) (block : List ℕ) → size_of t ≤ length block → IsAccepted images t block false
-        → write_at element.slot (element.off + spot.rest) (take spot.len block) ∷ [] ≡ block_writes images t
-    writes_it images block long a =
+    -- one write, where something is wrong and bytes are given
+    pub writes_it : (images : Images) (block : List ℕ) (settled : Settled) → size_of t ≤ length block → IsSettled images row t block settled
+        → (settled.good || not settled.given) ≡ false
+        → write_at element.slot (element.off + spot.rest) (take spot.len block) ∷ [] ≡ mending_writes images row.failing t
+    writes_it images block settled long is some =
         let at = is_at layout stripe.chunk stripe.number row (good layout stripe row of) (Slice t.at.index) has l element is' in
         let devices = sought_of layout want t e in
         let stands : range_of t (Slice t.at.index) ≡ Some (range_in l.slot (l.off + t.at.rest) (size_of t)) = block_lies layout stripe.chunk stripe.number row (good layout stripe row of) (Slice t.at.index) has l t on devices.devices_is p.position p.inside in
@@ -84,26 +93,4 @@ module _ (layout : Layout) (stripe : FullStripe) (row : Row) (of : IsStripeOf la
         ∙ ap (λ o. write_at l.slot (o + spot.rest) bytes ∷ []) at.off
         ∙ ap (λ r. write_at l.slot (l.off + r) bytes ∷ []) p.rest
         ∙ ap (λ n. written_at (range_in l.slot (l.off + t.at.rest) n) bytes ∷ []) size
-        ∙ sym (
-        writes_one images t no_copies (range_in l.slot (l.off + t.at.rest) (size_of t)) stands
-        ∙ ap (λ o. option_map_or (λ bytes. cond (not (is_good images t (Slice t.at.index)))
-        (written_at (range_in l.slot (l.off + t.at.rest) (size_of t)) bytes ∷ []) []) o []) a.bytes
-        ∙ ap (λ b. cond (not b) (written_at (range_in l.slot (l.off + t.at.rest) (size_of t)) bytes ∷ []) []) a.good)
-
-  -- no write
-  module _ (images : Images) where
-    stands' : range_of t (Slice t.at.index) ≡ Some (range_in l.slot (l.off + t.at.rest) (size_of t))
-    stands' = let devices = sought_of layout want t e in block_lies layout stripe.chunk stripe.number row (good layout stripe row of) (Slice t.at.index) has l t on devices.devices_is p.position p.inside
-
-    pub writes_no_good : (block : List ℕ) → IsAccepted images t block true → [] ≡ block_writes images t
-    writes_no_good block a = sym (
-        writes_one images t no_copies (range_in l.slot (l.off + t.at.rest) (size_of t)) stands'
-        ∙ ap (λ o. option_map_or (λ bytes. cond (not (is_good images t (Slice t.at.index)))
-        (written_at (range_in l.slot (l.off + t.at.rest) (size_of t)) bytes ∷ []) []) o []) a.bytes
-        ∙ ap (λ b. cond (not b) (written_at (range_in l.slot (l.off + t.at.rest) (size_of t)) (take (size_of t) block) ∷ []) []) a.good)
-
-    pub writes_no_gone : IsGone images t → [] ≡ block_writes images t
-    writes_no_gone a = sym (
-        writes_one images t no_copies (range_in l.slot (l.off + t.at.rest) (size_of t)) stands'
-        ∙ ap (λ o. option_map_or (λ bytes. cond (not (is_good images t (Slice t.at.index)))
-        (written_at (range_in l.slot (l.off + t.at.rest) (size_of t)) bytes ∷ []) []) o []) a.bytes)
+        ∙ sym (writes_one images row t block settled is (range_in l.slot (l.off + t.at.rest) (size_of t)) stands some)

@@ -1,6 +1,6 @@
 -- The sectors of a parity, column by column.
 use Rattle.std.proofs.Common.{◌≡◌, ℕ, suc, ◌+◌, ◌*◌, ◌^◌, ◌<◌, ◌≤◌, ◌&&◌, ◌||◌, Bool, true, false, not, cond, List, [], ◌∷◌, ◌++◌, length, take, get_or}
-use Rattle.std.proofs.Common.{slice_range, Option, Some, None, IsSome, is_some, is_none, count_by, refl, sym, ap, ◌∙◌, subst, arith}
+use Rattle.std.proofs.Common.{slice_range, Option, Some, None, IsSome, count_by, refl, sym, ap, ◌∙◌, subst, arith}
 use Rattle.std.proofs.lemmas.Bool.{false≢true}
 use Rattle.std.specs.List.{cons_option, filter, filter_map, flat_map, list_all, list_any, range_with_len}
 use Rattle.std.proofs.lemmas.List.Sums.{sum_by-cons}
@@ -13,9 +13,9 @@ use Rattle.btr_rack.specs.Rack.{Slot, len_of, range_in}
 use Rattle.btr_rack.specs.declared.place.Place.{Place as Range}
 use Rattle.btr_read.specs.Candidates.{Target}
 use Rattle.btr_read.specs.Layout.{AreOpen, Layout}
-use Rattle.btr_scrub_copies.specs.Blocks.{accepted, is_lost}
+use Rattle.btr_scrub_row.specs.Wanted.{new_bytes}
 use Rattle.btr_scrub_copies.specs.Writes.{Images, Write}
-use Rattle.btr_scrub_row.specs.Rows.{Row, column_of, differs, element, element_with, is_decided, meets, parity_writes, range_in_element, sector_write}
+use Rattle.btr_scrub_row.specs.Rows.{Row, column_of, differs, element, element_with, is_decided, is_sure, meets, parity_writes, range_in_element, sector_write}
 use Rattle.btr_scrub_row.specs.Mending.{IsOfRow}
 use Rattle.btr_scrub_row.specs.Memory.{IsStripeOf, element_in}
 use Rattle.btr_scrub_row.specs.Writing.{column_writes, write_at}
@@ -30,29 +30,24 @@ made range bytes = record { range = range; bytes = bytes }
 
 -- ---- decided columns
 
--- a column meets no block that is lost
-none_lost : (images : Images) (column : ℕ) (ts : List Target) → not (list_any (λ t. is_lost images t && meets column t) ts)
-    ≡ list_all (λ t. not (meets column t) || is_some (accepted images t)) ts
-none_lost images column [] = refl
-none_lost images column (t ∷ ts) = by (accepted images t) (meets column t) (list_any (λ t. is_lost images t && meets column t) ts)
-    (list_all (λ t. not (meets column t) || is_some (accepted images t)) ts) (none_lost images column ts)
+-- all that meets a column is so
+none_else : (column : ℕ) (sure : Target → Bool) (ts : List Target) → not (list_any (λ t. not (sure t) && meets column t) ts)
+    ≡ list_all (λ t. not (meets column t) || sure t) ts
+none_else column sure [] = refl
+none_else column sure (t ∷ ts) = by (sure t) (meets column t) (list_any (λ t. not (sure t) && meets column t) ts)
+    (list_all (λ t. not (meets column t) || sure t) ts) (none_else column sure ts)
   where
-    by : (o : Option (List ℕ)) (m rest all : Bool) → not rest ≡ all → not ((is_none o && m) || rest) ≡ ((not m || is_some o) && all)
-    by None true rest all e = refl
-    by None false rest all e = e
-    by (Some x) true rest all e = e
-    by (Some x) false rest all e = e
+    by : (s m rest all : Bool) → not rest ≡ all → not ((not s && m) || rest) ≡ ((not m || s) && all)
+    by false true rest all e = refl
+    by false false rest all e = e
+    by true true rest all e = e
+    by true false rest all e = e
 
 pub decided_is : (images : Images) (layout : Layout) (row : Row) (column : ℕ) (met broken : Bool) → met ≡ list_any (meets column) row.blocks → broken
-    ≡ (row.kept column || list_any (λ t. is_lost images t && meets column t) row.blocks) → (met && not broken) ≡ is_decided images layout row column
+    ≡ list_any (λ t. not (is_sure images layout row t) && meets column t) row.blocks → (met && not broken) ≡ is_decided images layout row column
 decided_is images layout row column met broken e h =
     ap (λ b. b && not broken) e ∙ ap (λ b. list_any (meets column) row.blocks && not b) h
-    ∙ ap (λ b. list_any (meets column) row.blocks && b) (neither (row.kept column) (list_any (λ t. is_lost images t && meets column t) row.blocks))
-    ∙ ap (λ b. list_any (meets column) row.blocks && (not (row.kept column) && b)) (none_lost images column row.blocks)
-  where
-    neither : (a b : Bool) → not (a || b) ≡ (not a && not b)
-    neither true b = refl
-    neither false b = refl
+    ∙ ap (λ b. list_any (meets column) row.blocks && b) (none_else column (is_sure images layout row) row.blocks)
 
 -- ---- ranges
 
@@ -64,13 +59,13 @@ front_range xs n a b le most =
 -- whether a column differs, as it is compared in memory
 pub differs_is : (images : Images) (layout : Layout) (row : Row) (part : Part) (column e start : ℕ) (old sums : List ℕ) → column < 16 → start
     ≡ e * 65536 + column * 4096 → element_in old e ≡ element images layout row part
-    → take 65536 sums ≡ element_with images layout (accepted images) row part
+    → take 65536 sums ≡ element_with images layout (new_bytes images row.failing) row part
     → not (bytes_eq (slice_range old start (start + 4096)) (slice_range sums (column * 4096) (column * 4096 + 4096))) ≡ differs images layout row part column
 differs_is images layout row part column e start old sums lt at is new =
     let one : slice_range old start (start + 4096) ≡ column_of column (element images layout row part) =
     ap (λ s. slice_range old s (s + 4096)) at ∙ ap (slice_range old (e * 65536 + column * 4096)) (omega arith)
     ∙ sym (range-range old (e * 65536) 65536 (column * 4096) (column * 4096 + 4096) (omega arith) (omega (arith, lt))) ∙ ap (column_of column) is in
-    let two : slice_range sums (column * 4096) (column * 4096 + 4096) ≡ column_of column (element_with images layout (accepted images) row part) =
+    let two : slice_range sums (column * 4096) (column * 4096 + 4096) ≡ column_of column (element_with images layout (new_bytes images row.failing) row part) =
     sym (front_range sums 65536 (column * 4096) (column * 4096 + 4096) (omega arith) (omega (arith, lt))) ∙ ap (column_of column) new in
     ap (λ x. not (bytes_eq x (slice_range sums (column * 4096) (column * 4096 + 4096)))) one
     ∙ ap (λ y. not (bytes_eq (column_of column (element images layout row part)) y)) two
@@ -117,9 +112,9 @@ module _ (layout : Layout) (stripe : FullStripe) (row : Row) (of : IsStripeOf la
   l = lies layout stripe.chunk stripe.number row (good layout stripe row of) part has
 
   sector_at : (images : Images) (column : ℕ) → column < 16 → sector_write images layout row part column
-      ≡ Some (made (range_in l.slot (l.off + column * 4096) 4096) (column_of column (element_with images layout (accepted images) row part)))
+      ≡ Some (made (range_in l.slot (l.off + column * 4096) 4096) (column_of column (element_with images layout (new_bytes images row.failing) row part)))
   sector_at images column lt = ap (option_map (λ (range : Range). made range
-      (column_of column (element_with images layout (accepted images) row part))))
+      (column_of column (element_with images layout (new_bytes images row.failing) row part))))
       (lies_at layout stripe.chunk stripe.number row (good layout stripe row of) part has l (column * 4096) 4096 (omega (arith, lt)) (omega (arith, lt)))
 
   pub counted_all : (images : Images) → count_by (λ column. is_decided images layout row column && differs images layout row part column)
@@ -155,14 +150,14 @@ module _ (layout : Layout) (stripe : FullStripe) (row : Row) (of : IsStripeOf la
 
     -- one write, where the parity is wrong
     pub writes_sector : (images : Images) (sums : List ℕ) → 65536 ≤ length sums → take 65536 sums
-        ≡ element_with images layout (accepted images) row part → (is_decided images layout row column && differs images layout row part column) ≡ true
+        ≡ element_with images layout (new_bytes images row.failing) row part → (is_decided images layout row column && differs images layout row part column) ≡ true
         → write_at element.slot (element.off + column * 4096) (slice_range sums (column * 4096) (column * 4096 + 4096)) ∷ []
         ≡ column_writes layout row part images column
     writes_sector images sums room new wrong =
         let a = is_at layout stripe.chunk stripe.number row (good layout stripe row of) part has l element is in
         let bytes = slice_range sums (column * 4096) (column * 4096 + 4096) in
         let long : length bytes ≡ 4096 = length-range sums (column * 4096) 4096 (omega (arith, room, lt)) in
-        let same : bytes ≡ column_of column (element_with images layout (accepted images) row part) = sym (front_range sums 65536 (column * 4096) (column * 4096 + 4096) (omega arith) (omega (arith, lt))) ∙ ap (column_of column) new in
+        let same : bytes ≡ column_of column (element_with images layout (new_bytes images row.failing) row part) = sym (front_range sums 65536 (column * 4096) (column * 4096 + 4096) (omega arith) (omega (arith, lt))) ∙ ap (column_of column) new in
         ap (λ s. write_at s (element.off + column * 4096) bytes ∷ []) a.slot
         ∙ ap (λ o. write_at l.slot (o + column * 4096) bytes ∷ []) a.off
         ∙ ap (λ n. made (range_in l.slot (l.off + column * 4096) n) bytes ∷ []) long

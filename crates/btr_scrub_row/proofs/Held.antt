@@ -15,7 +15,7 @@ use Rattle.btr_read.proofs.Fates.{sought_of}
 use Rattle.btr_scrub_copies.specs.Writes.{Images}
 use Rattle.btr_scrub_row.specs.Rows.{Row, element, parities, slice_count}
 use Rattle.btr_scrub_row.specs.Mending.{IsOn}
-use Rattle.btr_scrub_row.specs.Memory.{FitsIn, HoldsRow, IsHeld, IsSited, IsStripeOf, element_count, part_at, piece_in}
+use Rattle.btr_scrub_row.specs.Memory.{FitsIn, HoldsRow, IsHeld, IsSited, IsStripeOf, LiesAt, element_count, part_at, piece_in}
 use Rattle.btr_scrub_row.specs.Judging.{IsIn, IsPlaced}
 use Rattle.btr_scrub_row.specs.declared.spot.Spot.{Spot}
 use Rattle.btr_scrub_row.specs.declared.stripe.FullStripe.{FullStripe}
@@ -86,6 +86,9 @@ module _ (layout : Layout) (stripe : FullStripe) (row : Row) (of : IsStripeOf la
     position = p.position;
     parity = ap mirrors on.chunk ∙ of.is.parity;
   }
+
+  pub lies_at : LiesAt layout row t spot
+  lies_at = record { on = on; devices = devices_are; sited = sited; stand = block_stands }
 
   pub held : (images : Images) (bytes : List ℕ) → HoldsRow images layout row bytes → IsHeld images t spot bytes
   held images bytes holds =

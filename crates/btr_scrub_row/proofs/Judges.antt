@@ -1,26 +1,25 @@
 -- What one more block adds to the new data, the counts and the columns.
 use Rattle.std.proofs.Common.{◌≡◌, ◌≢◌, ℕ, zero, suc, ◌+◌, ◌*◌, ◌<◌, ◌≤◌, ◌==◌, ◌&&◌, ◌||◌, Bool, true, false, not, cond, List, [], ◌∷◌, ◌++◌, length, map}
-use Rattle.std.proofs.Common.{replicate, take, get_or, nat_lt, slice_range, Option, Some, None, is_none, Ok, count_by, refl, sym, ap, ◌∙◌, subst, inl, inr}
+use Rattle.std.proofs.Common.{replicate, take, get_or, nat_lt, slice_range, Option, Some, None, Ok, count_by, refl, sym, ap, ◌∙◌, subst, inl, inr}
 use Rattle.std.proofs.Common.{arith}
-use Rattle.std.specs.List.{cons_option, filter, range_with_len, fold, list_any, sum_by}
-use Rattle.std.specs.Option.{option_map, option_map_or}
+use Rattle.std.specs.List.{filter, fold, list_any, sum_by}
+use Rattle.std.specs.Option.{option_map_or}
 use Rattle.std.proofs.lemmas.Bool.{cases_eq, eq-eqb, ne_eqb}
 use Rattle.std.proofs.lemmas.List.{get_or-replicate, length-map}
 use Rattle.std.proofs.lemmas.Option.{same_Some}
 use Rattle.std.proofs.lemmas.List.Elements.{filter-append}
 use Rattle.std.proofs.lemmas.List.Folds.{list_any-append}
 use Rattle.std.proofs.lemmas.List.Sums.{fold-append, sum_by_push}
-use Rattle.btr_chunk.specs.Chunk.{IsChunk, data_count, mirrors}
-use Rattle.btr_chunk.specs.declared.place.Part.TheVariants.{Mirror, Slice}
+use Rattle.btr_chunk.specs.Chunk.{IsChunk, data_count}
+use Rattle.btr_chunk.specs.declared.place.Part.TheVariants.{Slice}
 use Rattle.btr_rack.specs.Rack.{pasted}
-use Rattle.btr_rack.specs.declared.place.Place.{Place as Range}
-use Rattle.btr_read.specs.Candidates.{Target, range_of, size_of}
+use Rattle.btr_read.specs.Candidates.{Target, size_of}
 use Rattle.btr_read.specs.Fate.{sought}
 use Rattle.btr_read.specs.Layout.{Layout}
 use Rattle.btr_read.specs.declared.want.Want.{Want}
-use Rattle.btr_scrub_copies.specs.Blocks.{accepted, bad_parts, block_writes, copy_writes, is_good, is_lost, is_sound, own_parts, written_over}
-use Rattle.btr_scrub_copies.specs.Writes.{Images, Write}
-use Rattle.btr_scrub_row.specs.Rows.{Row, element, meets, slice_count, with_block}
+use Rattle.btr_scrub_copies.specs.Writes.{Images}
+use Rattle.btr_scrub_row.specs.Wanted.{new_bytes, is_checked, is_lost_block, mending_writes, wrong_parts}
+use Rattle.btr_scrub_row.specs.Rows.{Row, element, is_sure, meets, slice_count, with_block}
 use Rattle.btr_scrub_row.specs.Mending.{IsFullStripe, IsOn, IsRowOf, is_at}
 use Rattle.btr_scrub_row.specs.Memory.{HoldsRow, IsStripeOf, element_count, element_in}
 use Rattle.btr_scrub_row.specs.Judging.{AreJudged, FitsVerdict, IsCounted, IsIn, meets_spot}
@@ -30,49 +29,6 @@ use Rattle.btr_scrub_row.specs.declared.judging.Verdict.{Verdict}
 use Rattle.btr_read.proofs.Pieces.{range-range}
 use Rattle.btr_scrub_row.proofs.Shapes.{part_slice}
 use Rattle.btr_scrub_row.proofs.Pasted.{element_other, range_around}
-
--- ---- the counts of one block
-
-abbrev pub written_at : Range → List ℕ → Write
-written_at range bytes = record { range = range; bytes = bytes }
-
-module _ (images : Images) (t : Target) (none : mirrors t.chunk ≡ None) where
-  own : own_parts t ≡ Slice t.at.index ∷ []
-  own = ap (λ o. option_map_or (λ copies. map Mirror (range_with_len 0 copies)) o (Slice t.at.index ∷ [])) none
-
-  pub bad_are : bad_parts images t ≡ cond (not (is_good images t (Slice t.at.index))) (Slice t.at.index ∷ []) []
-  bad_are = ap (filter (λ part. not (is_sound images t part))) own
-
-  by_cond : (b : Bool) → length (cond b (Slice t.at.index ∷ []) []) ≡ cond b 1 0
-  by_cond true = refl
-  by_cond false = refl
-
-  pub length-bad : length (bad_parts images t) ≡ cond (not (is_good images t (Slice t.at.index))) 1 0
-  length-bad = ap length bad_are ∙ by_cond (not (is_good images t (Slice t.at.index)))
-
-  -- the one write, where the block's own place stands
-  module _ (range : Range) (stands : range_of t (Slice t.at.index) ≡ Some range) where
-    one : (bytes : List ℕ) (b : Bool) → copy_writes t bytes (cond b (Slice t.at.index ∷ []) []) ≡ cond b (written_at range bytes ∷ []) []
-    one bytes true = ap (λ o. cons_option (option_map (λ r. written_at r bytes) o) []) stands
-    one bytes false = refl
-
-    pub writes_one : block_writes images t ≡ option_map_or (λ bytes. cond (not (is_good images t (Slice t.at.index))) (written_at range bytes ∷ [])
-        []) (accepted images t) []
-    writes_one = by (accepted images t)
-      where
-        by : (o : Option (List ℕ)) → option_map_or (written_over images t) o []
-            ≡ option_map_or (λ bytes. cond (not (is_good images t (Slice t.at.index))) (written_at range bytes ∷ []) []) o []
-        by None = refl
-        by (Some bytes) = ap (copy_writes t bytes) bad_are ∙ one bytes (not (is_good images t (Slice t.at.index)))
-
-    pub length-writes : length (block_writes images t) ≡ cond (not (is_good images t (Slice t.at.index)) && not (is_lost images t)) 1 0
-    length-writes = ap length writes_one ∙ by (accepted images t) (not (is_good images t (Slice t.at.index)))
-      where
-        by : (o : Option (List ℕ)) (b : Bool) → length (option_map_or (λ bytes. cond b (written_at range bytes ∷ []) []) o []) ≡ cond (b && not (is_none o)) 1 0
-        by None true = refl
-        by None false = refl
-        by (Some bytes) true = refl
-        by (Some bytes) false = refl
 
 -- ---- one more block
 
@@ -86,44 +42,39 @@ any_one p xs x = list_any-append p xs (x ∷ []) ∙ ap (λ b. list_any p xs || 
     or_false true = refl
     or_false false = refl
 
-either_more : (a b c : Bool) → ((a || b) || c) ≡ (a || (b || c))
-either_more true b c = refl
-either_more false b c = refl
-
 module _ (images : Images) (layout : Layout) (row : Row) (ts : List Target) (t : Target) (old new : List ℕ) (judged judged' : Judged) (verdict : Verdict)
-    (none : mirrors t.chunk ≡ None) (range : Range) (stands : range_of t (Slice t.at.index) ≡ Some range)
     (below : t.at.index < slice_count row) (inside : t.at.rest + size_of t ≤ 65536) (room : slice_count row * 65536 ≤ length old)
-    (so_far : AreJudged images layout row ts old judged) (fits : FitsVerdict images t old new verdict) (counts : IsCounted judged verdict judged') where
+    (so_far : AreJudged images layout row ts old judged) (fits : FitsVerdict images layout row t old new verdict) (counts : IsCounted judged verdict judged') where
   meets_same : (c : ℕ) → meets_spot c verdict.spot ≡ meets c t
   meets_same c = ap (λ r. nat_lt r (c * 4096 + 4096) && nat_lt (c * 4096) (r + verdict.spot.len)) fits.spot.rest
       ∙ ap (λ n. nat_lt t.at.rest (c * 4096 + 4096) && nat_lt (c * 4096) (t.at.rest + n)) fits.spot.len
 
   -- a slice with one more block
-  slice_more : (accepted_long : (bytes : List ℕ) → accepted images t ≡ Some bytes → length bytes ≡ size_of t) (i : ℕ) → i < slice_count row
-      → element_in new i ≡ fold (with_block images layout (accepted images)) (element images layout row (Slice i))
+  slice_more : (accepted_long : (bytes : List ℕ) → new_bytes images row.failing t ≡ Some bytes → length bytes ≡ size_of t) (i : ℕ) → i < slice_count row
+      → element_in new i ≡ fold (with_block images layout (new_bytes images row.failing)) (element images layout row (Slice i))
       (filter (λ t. t.at.index == i) (ts ++ t ∷ []))
   slice_more long i lt =
       let z = element images layout row (Slice i) in
-      let f = with_block images layout (accepted images) in
+      let f = with_block images layout (new_bytes images row.failing) in
       let p = λ (t : Target). t.at.index == i in
       let split : fold f z (filter p (ts ++ t ∷ [])) ≡ fold f (element_in old i) (filter p (t ∷ [])) = ap (fold f z) (filter-append p ts (t ∷ [])) ∙ fold-append f z (filter p ts) (filter p (t ∷ [])) ∙ ap (λ x. fold f x (filter p (t ∷ []))) (sym (so_far.slices i lt)) in
-      ap (λ xs. element_in xs i) fits.pasted_is ∙ by (accepted images t) refl i lt ∙ sym split
+      ap (λ xs. element_in xs i) fits.pasted_is ∙ by (new_bytes images row.failing t) refl i lt ∙ sym split
     where
-      by : (o : Option (List ℕ)) → accepted images t ≡ o → (i : ℕ) → i < slice_count row
+      by : (o : Option (List ℕ)) → new_bytes images row.failing t ≡ o → (i : ℕ) → i < slice_count row
           → element_in (option_map_or (pasted old (t.at.index * 65536 + t.at.rest)) o old) i
-          ≡ fold (with_block images layout (accepted images)) (element_in old i) (filter (λ t. t.at.index == i) (t ∷ []))
+          ≡ fold (with_block images layout (new_bytes images row.failing)) (element_in old i) (filter (λ t. t.at.index == i) (t ∷ []))
       by o e i lt = elim (cases_eq t.at.index i) [
         | inl same ↦
             around o e i lt same
-            ∙ sym (ap (λ b. fold (with_block images layout (accepted images)) (element_in old i) (cond b (t ∷ []) [])) (eq-eqb t.at.index i same))
+            ∙ sym (ap (λ b. fold (with_block images layout (new_bytes images row.failing)) (element_in old i) (cond b (t ∷ []) [])) (eq-eqb t.at.index i same))
         | inr other ↦
             apart o e i lt other
-            ∙ sym (ap (λ b. fold (with_block images layout (accepted images)) (element_in old i) (cond b (t ∷ []) [])) (ne_eqb t.at.index i other))
+            ∙ sym (ap (λ b. fold (with_block images layout (new_bytes images row.failing)) (element_in old i) (cond b (t ∷ []) [])) (ne_eqb t.at.index i other))
       ]
         where
-          around : (o : Option (List ℕ)) → accepted images t ≡ o → (i : ℕ) → i < slice_count row → t.at.index ≡ i
+          around : (o : Option (List ℕ)) → new_bytes images row.failing t ≡ o → (i : ℕ) → i < slice_count row → t.at.index ≡ i
               → element_in (option_map_or (pasted old (t.at.index * 65536 + t.at.rest)) o old) i
-              ≡ with_block images layout (accepted images) (element_in old i) t
+              ≡ with_block images layout (new_bytes images row.failing) (element_in old i) t
           around None e i lt same = sym (ap (λ o. option_map_or (pasted (element_in old i) t.at.rest) o (element_in old i)) e)
           around (Some bytes) e i lt same =
               let n = long bytes e in
@@ -131,34 +82,32 @@ module _ (images : Images) (layout : Layout) (row : Row) (ts : List Target) (t :
               (omega (arith, same)) (omega (arith, n, inside)) (omega (arith, lt, room))
               ∙ sym (ap (λ o. option_map_or (pasted (element_in old i) t.at.rest) o (element_in old i)) e)
 
-          apart : (o : Option (List ℕ)) → accepted images t ≡ o → (i : ℕ) → i < slice_count row → t.at.index ≢ i
+          apart : (o : Option (List ℕ)) → new_bytes images row.failing t ≡ o → (i : ℕ) → i < slice_count row → t.at.index ≢ i
               → element_in (option_map_or (pasted old (t.at.index * 65536 + t.at.rest)) o old) i ≡ element_in old i
           apart None e i lt other = refl
           apart (Some bytes) e i lt other =
               let n = long bytes e in
               element_other old t.at.index t.at.rest i bytes (omega (arith, n, below, inside, room)) (omega (arith, n, inside)) (λ s. other (sym s))
 
-  pub judged_more : ((bytes : List ℕ) → accepted images t ≡ Some bytes → length bytes ≡ size_of t) → AreJudged images layout row (ts ++ t ∷ []) new judged'
+  pub judged_more : ((bytes : List ℕ) → new_bytes images row.failing t ≡ Some bytes → length bytes ≡ size_of t) → AreJudged images layout row (ts ++ t ∷ []) new judged'
   judged_more long = record {
     slices = slice_more long;
+    blocks = counts.blocks ∙ ap (λ n. n + cond verdict.checked 1 0) so_far.blocks ∙ ap (λ b. count_by is_checked ts + cond b 1 0) fits.checked
+        ∙ sym (count_push is_checked ts t);
     bad = counts.bad ∙ ap (λ n. n + cond (not verdict.good) 1 0) so_far.bad
-        ∙ ap (λ b. sum_by (λ t. length (bad_parts images t)) ts + cond (not b) 1 0) fits.good
-        ∙ ap (λ n. sum_by (λ t. length (bad_parts images t)) ts + n) (sym (length-bad images t none))
-        ∙ sym (sum_by_push (λ t. length (bad_parts images t)) ts t);
-    rebuilt = counts.rebuilt ∙ ap (λ n. n + cond (not verdict.good && not verdict.lost) 1 0) so_far.rebuilt
-        ∙ ap (λ b. sum_by (λ t. length (block_writes images t)) ts + cond (not b && not verdict.lost) 1 0) fits.good
-        ∙ ap (λ b. sum_by (λ t. length (block_writes images t)) ts + cond (not (is_good images t (Slice t.at.index)) && not b) 1 0) fits.lost
-        ∙ ap (λ n. sum_by (λ t. length (block_writes images t)) ts + n) (sym (length-writes images t none range stands))
-        ∙ sym (sum_by_push (λ t. length (block_writes images t)) ts t);
-    lost = counts.lost ∙ ap (λ n. n + cond verdict.lost 1 0) so_far.lost ∙ ap (λ b. count_by (is_lost images) ts + cond b 1 0) fits.lost
-        ∙ sym (count_push (is_lost images) ts t);
+        ∙ ap (λ n. sum_by (λ t. length (wrong_parts images row.failing t)) ts + n) (sym fits.wrong)
+        ∙ sym (sum_by_push (λ t. length (wrong_parts images row.failing t)) ts t);
+    rebuilt = counts.rebuilt ∙ ap (λ n. n + cond (not verdict.good && verdict.given) 1 0) so_far.rebuilt
+        ∙ ap (λ n. sum_by (λ t. length (mending_writes images row.failing t)) ts + n) (sym fits.mends)
+        ∙ sym (sum_by_push (λ t. length (mending_writes images row.failing t)) ts t);
+    lost = counts.lost ∙ ap (λ n. n + cond (verdict.checked && not verdict.given) 1 0) so_far.lost
+        ∙ ap (λ b. count_by (is_lost_block images) ts + cond b 1 0) (sym fits.lost) ∙ sym (count_push (is_lost_block images) ts t);
     met = λ c lt. counts.met c lt ∙ ap (λ b. b || meets_spot c verdict.spot) (so_far.met c lt) ∙ ap (λ b. list_any (meets c) ts || b) (meets_same c)
         ∙ sym (any_one (meets c) ts t);
-    broken = λ c lt. counts.broken c lt ∙ ap (λ b. b || (verdict.lost && meets_spot c verdict.spot)) (so_far.broken c lt)
-        ∙ either_more (row.kept c) (list_any (λ t. is_lost images t && meets c t) ts) (verdict.lost && meets_spot c verdict.spot)
-        ∙ ap (λ b. row.kept c || (list_any (λ t. is_lost images t && meets c t) ts || (b && meets_spot c verdict.spot))) fits.lost
-        ∙ ap (λ b. row.kept c || (list_any (λ t. is_lost images t && meets c t) ts || (is_lost images t && b))) (meets_same c)
-        ∙ ap (λ b. row.kept c || b) (sym (any_one (λ t. is_lost images t && meets c t) ts t));
+    broken = λ c lt. counts.broken c lt ∙ ap (λ b. b || (not verdict.sure && meets_spot c verdict.spot)) (so_far.broken c lt)
+        ∙ ap (λ b. list_any (λ t. not (is_sure images layout row t) && meets c t) ts || (not b && meets_spot c verdict.spot)) fits.sure
+        ∙ ap (λ b. list_any (λ t. not (is_sure images layout row t) && meets c t) ts || (not (is_sure images layout row t) && b)) (meets_same c)
+        ∙ sym (any_one (λ t. not (is_sure images layout row t) && meets c t) ts t);
   }
 
 -- ---- wants and blocks
@@ -217,23 +166,20 @@ same_front xs ys n a b e le most =
 
 pub judged_none : (images : Images) (layout : Layout) (row : Row) (old new : List ℕ) → HoldsRow images layout row old
     → slice_count row ≤ element_count row → (n : ℕ) → slice_count row * 65536 ≤ n → take n new ≡ slice_range old 0 (0 + n)
-    → (judged : Judged) → judged.bad ≡ 0 → judged.rebuilt ≡ 0 → judged.lost ≡ 0 → ((c : ℕ) → c < 16 → get_or judged.met c false ≡ false)
-    → ((c : ℕ) → c < 16 → get_or judged.broken c false ≡ row.kept c)
+    → (judged : Judged) → judged.blocks ≡ 0 → judged.bad ≡ 0 → judged.rebuilt ≡ 0 → judged.lost ≡ 0 → ((c : ℕ) → c < 16 → get_or judged.met c false ≡ false)
+    → ((c : ℕ) → c < 16 → get_or judged.broken c false ≡ false)
     → AreJudged images layout row [] new judged
-judged_none images layout row old new holds most n room e judged bad rebuilt lost met broken = record {
+judged_none images layout row old new holds most n room e judged blocks bad rebuilt lost met broken = record {
   slices = λ i lt.
       same_front new old n (i * 65536) (i * 65536 + 65536) e (omega arith) (omega (arith, lt, room))
       ∙ holds.elements i (omega (arith, lt, most)) ∙ ap (element images layout row) (part_slice (slice_count row) i lt);
+  blocks = blocks;
   bad = bad;
   rebuilt = rebuilt;
   lost = lost;
   met = met;
-  broken = λ c lt. broken c lt ∙ sym (or_none (row.kept c));
+  broken = broken;
 }
-  where
-    or_none : (b : Bool) → (b || false) ≡ b
-    or_none true = refl
-    or_none false = refl
 
 -- none of sixteen
 pub none_of_sixteen : (c : ℕ) → c < 16 → get_or (replicate 16 false) c false ≡ false

@@ -13,3 +13,5 @@ pub mod Parts
 pub mod Prepared
 pub mod Applied
 pub mod Outcomes
+pub mod Doubting
+pub mod Settled

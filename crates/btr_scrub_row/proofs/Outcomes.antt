@@ -1,5 +1,5 @@
 -- What mending a row comes to.
-use Rattle.std.proofs.Common.{◌≡◌, ℕ, Bool, true, false, cond, List, [], ◌++◌, length, IfSome, Result, Some, Ok, Err, inr, count_by, sym, ap, ◌∙◌, subst}
+use Rattle.std.proofs.Common.{◌≡◌, ℕ, Bool, true, false, cond, List, [], ◌++◌, length, IfSome, Result, Some, Ok, Err, inr, sym, ap, ◌∙◌, subst}
 use Rattle.std.specs.List.{sum_by}
 use Rattle.std.proofs.lemmas.Bool.{false≢true}
 use Rattle.std.proofs.lemmas.Option.{same_Some}
@@ -9,7 +9,7 @@ use Rattle.btr_read.specs.Layout.{Layout}
 use Rattle.btr_read.specs.declared.want.Want.{Want}
 use Rattle.btr_read.proofs.ReadsOn.{same_held}
 use Rattle.btr_read.proofs.Trials.{told as tell}
-use Rattle.btr_scrub_copies.specs.Blocks.{bad_parts, block_writes, is_lost}
+use Rattle.btr_scrub_row.specs.Wanted.{mending_writes}
 use Rattle.btr_scrub_copies.specs.Syncing.{IsSyncOr, plain}
 use Rattle.btr_scrub_copies.specs.Turns.{TakesTurns, WaitsInTurn}
 use Rattle.btr_scrub_copies.specs.Writes.{AccountsMend, Images, Write, writes_if}
@@ -37,22 +37,17 @@ pub row_of : (layout : Layout) (stripe : FullStripe) (chunk number : ℕ) (wants
     → IsRowOf layout chunk number wants row → IsRowOf layout stripe.chunk stripe.number wants row
 row_of layout stripe chunk number wants row of is = record { stripe = of.is; blocks = is.blocks; lie = is.lie }
 
-abbrev pub made : ℕ → ℕ → ℕ → ℕ → MendedRow
-made bad repaired lost parity = record { bad = bad; repaired = repaired; lost = lost; parity = parity }
-
-same_mended : (b r l p b' r' l' p' : ℕ) → b ≡ b' → r ≡ r' → l ≡ l' → p ≡ p' → made b r l p ≡ made b' r' l' p'
-same_mended b r l p b' r' l' p' eb er el ep = λ i. record { bad = eb i; repaired = er i; lost = el i; parity = ep i }
+abbrev pub made : Judged → ℕ → ℕ → MendedRow
+made judged repaired parity = record { blocks = judged.blocks; bad = judged.bad; repaired = repaired; lost = judged.lost; parity = parity }
 
 -- the counts
 counts_are : (images : Images) (layout : Layout) (row : Row) (write : Bool) (judged : Judged) (buffer : RowBuffer) (repaired parity : ℕ)
     → IsPrepared images layout row judged buffer
-    → repaired ≡ cond write (sum_by (λ t. length (block_writes images t)) row.blocks) 0 → parity
+    → repaired ≡ cond write (sum_by (λ t. length (mending_writes images row.failing t)) row.blocks) 0 → parity
     ≡ sum_by (λ part. length (parity_writes images layout row part)) (parities row.chunk.profile)
-    → made judged.bad repaired judged.lost parity ≡ mended_row images layout row write
-counts_are images layout row write judged buffer repaired parity is r p = same_mended judged.bad repaired judged.lost parity
-    (sum_by (λ t. length (bad_parts images t)) row.blocks) (cond write (sum_by (λ t. length (block_writes images t)) row.blocks) 0)
-    (count_by (is_lost images) row.blocks)
-    (sum_by (λ part. length (parity_writes images layout row part)) (parities row.chunk.profile)) is.blocks.bad r is.blocks.lost p
+    → made judged repaired parity ≡ mended_row images layout row write
+counts_are images layout row write judged buffer repaired parity is r p =
+    λ i. record { blocks = is.blocks.blocks i; bad = is.blocks.bad i; repaired = r i; lost = is.blocks.lost i; parity = p i }
 
 module _ (layout : Layout) (row : Row) (write : Bool) (marks : List Bool) (a b : Seen) (reads : OnlyReads a b) where
   abbrev Call : Range → Type 0
@@ -83,20 +78,20 @@ module _ (layout : Layout) (row : Row) (write : Bool) (marks : List Bool) (a b :
       (prepared : (images : Images) → a.held ≡ Some images → IsPrepared images layout row judged buffer) (parity : ℕ)
       (counted : (images : Images) → a.held ≡ Some images → parity ≡ sum_by (λ part. length (parity_writes images layout row part)) (parities row.chunk.profile)) where
     -- it was only to be read
-    pub mends_read : write ≡ false → MendsRow layout row write marks marks a b (Ok (made judged.bad 0 judged.lost parity))
+    pub mends_read : write ≡ false → MendsRow layout row write marks marks a b (Ok (made judged 0 parity))
     mends_read no_write = record {
       does = does_as Call (λ i. []) (λ images. writes_if write (row_writes images layout row)) [] [] (plain a) (plain b)
-          (made judged.bad 0 judged.lost parity) (made judged.bad 0 judged.lost parity)
+          (made judged 0 parity) (made judged 0 parity)
           (λ images e. ap (λ w. writes_if w (row_writes images layout row)) (sym no_write))
-          (does_reads Call [] (plain a) (plain b) (made judged.bad 0 judged.lost parity) (reads_plain a b reads) none);
+          (does_reads Call [] (plain a) (plain b) (made judged 0 parity) (reads_plain a b reads) none);
       waits = tell a.held (λ images. WaitsInTurn (rebuilt images) (parities' images) images a b)
           (λ images is. read_waits a b reads (rebuilt images) (parities' images) images is);
       lie = read_at a b reads (IsOfRow layout row);
       marked = read_marked a b reads marks;
-      stranded = read_stranded a b reads (Ok (made judged.bad 0 judged.lost parity));
-      counts = tell a.held (λ images. made judged.bad 0 judged.lost parity ≡ mended_row images layout row write)
+      stranded = read_stranded a b reads (Ok (made judged 0 parity));
+      counts = tell a.held (λ images. made judged 0 parity ≡ mended_row images layout row write)
           (λ images e. counts_are images layout row write judged buffer 0 parity (prepared images e)
-          (ap (λ w. cond w (sum_by (λ t. length (block_writes images t)) row.blocks) 0) (sym no_write)) (counted images e));
+          (ap (λ w. cond w (sum_by (λ t. length (mending_writes images row.failing t)) row.blocks) 0) (sym no_write)) (counted images e));
       unwritten = λ w. reads;
     }
 
@@ -133,18 +128,18 @@ module _ (layout : Layout) (row : Row) (write : Bool) (marks : List Bool) (a b :
         (prepared : (images : Images) → a.held ≡ Some images → IsPrepared images layout row judged buffer) (parity : ℕ)
         → ((images : Images) → a.held ≡ Some images → parity ≡ sum_by (λ part. length (parity_writes images layout row part)) (parities row.chunk.profile))
         → TakesTurns {A = Unit {0}} (IsOfRow layout row) told_rebuilt told_parities marks marks' b d (Ok tt)
-        → MendsRow layout row write marks marks' a d (Ok (made judged.bad judged.rebuilt judged.lost parity))
+        → MendsRow layout row write marks marks' a d (Ok (made judged judged.rebuilt parity))
     mends_wrote none judged buffer prepared parity counted turns =
         let h = turns_behind a b reads (IsOfRow layout row) told_rebuilt told_parities marks marks' d (Ok (tt {0})) none turns in
         record {
           does = does_as Call (λ i. told_rebuilt ++ told_parities) (λ images. writes_if write (row_writes images layout row)) [] [] (plain a)
-              (plain d) tt (made judged.bad judged.rebuilt judged.lost parity) all_are h.does;
+              (plain d) tt (made judged judged.rebuilt parity) all_are h.does;
           waits = turns_are (Ok (tt {0})) h;
           lie = h.lie;
           marked = h.marked;
           stranded = h.stranded;
-          counts = tell a.held (λ images. made judged.bad judged.rebuilt judged.lost parity ≡ mended_row images layout row write)
-              (λ images e. let is = prepared images e in counts_are images layout row write judged buffer judged.rebuilt parity is (is.blocks.rebuilt ∙ ap (λ w. cond w (sum_by (λ t. length (block_writes images t)) row.blocks) 0) (sym written)) (counted images e));
+          counts = tell a.held (λ images. made judged judged.rebuilt parity ≡ mended_row images layout row write)
+              (λ images e. let is = prepared images e in counts_are images layout row write judged buffer judged.rebuilt parity is (is.blocks.rebuilt ∙ ap (λ w. cond w (sum_by (λ t. length (mending_writes images row.failing t)) row.blocks) 0) (sym written)) (counted images e));
           unwritten = λ w. absurd (false≢true (sym w ∙ written));
         }
 

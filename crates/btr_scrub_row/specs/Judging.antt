@@ -1,4 +1,4 @@
--- What comes of one block, and of the first blocks of a row.
+-- What comes of one block, and of the first blocks of a row; plain sectors are among them.
 use Rattle.std.specs.Prelude.{◌≡◌, ℕ, ◌+◌, ◌*◌, ◌≤◌, ◌<◌, ◌&&◌, ◌||◌, Bool, false, not, List, length, nat_lt, slice_index_or, Some, None, IsSome, Ok, count_by, ◌==◌, if◌then◌else◌}
 use Rattle.std.specs.List.{filter, fold, list_any, sum_by}
 use Rattle.std.specs.Option.{option_map_or}
@@ -11,13 +11,15 @@ use Rattle.btr_read.specs.Candidates.{Target, range_of, size_of}
 use Rattle.btr_read.specs.Fate.{sought}
 use Rattle.btr_read.specs.Layout.{Layout}
 use Rattle.btr_read.specs.declared.want.Want.{Want}
-use Rattle.btr_scrub_copies.specs.Blocks.{accepted, bad_parts, block_writes, is_good, is_lost}
 use Rattle.btr_scrub_copies.specs.Writes.{Images}
-use Rattle.btr_scrub_row.specs.Rows.{Row, element, meets, slice_count, with_block}
-use Rattle.btr_scrub_row.specs.Mending.{AreKept, IsOn, IsRowOf}
-use Rattle.btr_scrub_row.specs.Memory.{HoldsRow, IsSpot, IsStripeOf, element_in}
+use Rattle.btr_scrub_row.specs.Wanted.{new_bytes, is_checked, is_lost_block, mending_writes, wrong_parts}
+use Rattle.btr_scrub_row.specs.Rows.{Row, element, is_sure, meets, slice_count, with_block}
+use Rattle.btr_scrub_row.specs.Mending.{IsOn, IsRowOf}
+use Rattle.btr_scrub_row.specs.Memory.{HoldsRow, IsSpot, IsStripeOf, KnowsDoubts, element_in}
+use Rattle.btr_scrub_row.specs.declared.doubts.Doubts.{Doubts}
 use Rattle.btr_scrub_row.specs.declared.judged.Judged.{Judged}
 use Rattle.btr_scrub_row.specs.declared.judging.Verdict.{Verdict}
+use Rattle.btr_scrub_row.specs.declared.settling.Settled.{Settled}
 use Rattle.btr_scrub_row.specs.declared.shape.Shape.{Shape}
 use Rattle.btr_scrub_row.specs.declared.spot.Spot.{Spot}
 use Rattle.btr_scrub_row.specs.declared.stripe.FullStripe.{FullStripe}
@@ -40,22 +42,34 @@ pub record IsPlaced (shape : Shape) (t : Target) (spot : Spot) : Type 0 where
   pub position : IsPosition t.chunk t.at
   pub inside : t.at.rest + size_of t ≤ 65536
 
+-- what comes of a block by what it gets, and whether its slice is surer than others
+pub record IsVerdict (checked : Bool) (settled : Settled) (surer : Bool) (spot : Spot) (verdict : Verdict) : Type 0 where
+  pub spot_is : verdict.spot ≡ spot
+  pub checked_is : verdict.checked ≡ checked
+  pub good : verdict.good ≡ settled.good
+  pub given_is : verdict.given ≡ settled.given
+  pub sure : verdict.sure ≡ (settled.given || not checked && surer)
+
 -- what comes of a block, and of the new data
-pub record FitsVerdict (images : Images) (t : Target) (old new : List ℕ) (verdict : Verdict) : Type 0 where
+pub record FitsVerdict (images : Images) (layout : Layout) (row : Row) (t : Target) (old new : List ℕ) (verdict : Verdict) : Type 0 where
   pub parity : mirrors t.chunk ≡ None
   pub index : t.at.index < candidates.slice_count t
   pub inside : t.at.rest + size_of t ≤ 65536
   pub stand : IsSome (range_of t (Slice t.at.index))
-  pub long : (bytes : List ℕ) → accepted images t ≡ Some bytes → length bytes ≡ size_of t
+  pub long : (bytes : List ℕ) → new_bytes images row.failing t ≡ Some bytes → length bytes ≡ size_of t
   pub spot : IsSpot t verdict.spot
-  pub good : verdict.good ≡ is_good images t (Slice t.at.index)
-  pub lost : verdict.lost ≡ is_lost images t
-  pub pasted_is : new ≡ option_map_or (pasted old (t.at.index * 65536 + t.at.rest)) (accepted images t) old
+  pub checked : verdict.checked ≡ is_checked t
+  pub wrong : length (wrong_parts images row.failing t) ≡ (if not verdict.good then 1 else 0)
+  pub mends : length (mending_writes images row.failing t) ≡ (if not verdict.good && verdict.given then 1 else 0)
+  pub lost : is_lost_block images t ≡ (verdict.checked && not verdict.given)
+  pub sure : verdict.sure ≡ is_sure images layout row t
+  pub pasted_is : new ≡ option_map_or (pasted old (t.at.index * 65536 + t.at.rest)) (new_bytes images row.failing t) old
 
 -- what comes of a wanted block of a row in memory
-abbrev pub JudgesBlock : Layout → FullStripe → Want → List ℕ → List ℕ → List ℕ → Verdict → Type 0
-JudgesBlock layout stripe want bytes old new verdict =
-    (images : Images) (row : Row) (t : Target) → IsStripeOf layout stripe row → HoldsRow images layout row bytes → sought layout want ≡ Ok t → FitsVerdict images t old new verdict
+abbrev pub JudgesBlock : Layout → FullStripe → Doubts → Want → List ℕ → List ℕ → List ℕ → Verdict → Type 0
+JudgesBlock layout stripe doubts want bytes old new verdict =
+    (images : Images) (row : Row) (t : Target) → IsStripeOf layout stripe row → KnowsDoubts layout row doubts → HoldsRow images layout row bytes
+    → sought layout want ≡ Ok t → FitsVerdict images layout row t old new verdict
 
 -- a column's flag
 abbrev pub flag : List Bool → ℕ → Bool
@@ -68,22 +82,24 @@ meets_spot column spot = nat_lt spot.rest (column * 4096 + 4096) && nat_lt (colu
 -- one more block was counted
 pub record IsCounted (old : Judged) (verdict : Verdict) (new : Judged) : Type 0 where
   pub bad : new.bad ≡ old.bad + (if not verdict.good then 1 else 0)
-  pub rebuilt : new.rebuilt ≡ old.rebuilt + (if not verdict.good && not verdict.lost then 1 else 0)
-  pub lost : new.lost ≡ old.lost + (if verdict.lost then 1 else 0)
+  pub blocks : new.blocks ≡ old.blocks + (if verdict.checked then 1 else 0)
+  pub rebuilt : new.rebuilt ≡ old.rebuilt + (if not verdict.good && verdict.given then 1 else 0)
+  pub lost : new.lost ≡ old.lost + (if verdict.checked && not verdict.given then 1 else 0)
   pub met : (column : ℕ) → column < 16 → slice_index_or new.met column false ≡ (slice_index_or old.met column false || meets_spot column verdict.spot)
-  pub broken : (column : ℕ) → column < 16 → slice_index_or new.broken column false ≡ (slice_index_or old.broken column false || (verdict.lost && meets_spot column verdict.spot))
+  pub broken : (column : ℕ) → column < 16 → slice_index_or new.broken column false ≡ (slice_index_or old.broken column false || (not verdict.sure && meets_spot column verdict.spot))
 
 -- what some blocks of a row come to: the new data, the counts, and the columns
 pub record AreJudged (images : Images) (layout : Layout) (row : Row) (ts : List Target) (new : List ℕ) (judged : Judged) : Type 0 where
-  pub slices : (i : ℕ) → i < slice_count row → element_in new i ≡ fold (with_block images layout (accepted images)) (element images layout row (Slice i)) (filter (λ t. t.at.index == i) ts)
-  pub bad : judged.bad ≡ sum_by (λ t. length (bad_parts images t)) ts
-  pub rebuilt : judged.rebuilt ≡ sum_by (λ t. length (block_writes images t)) ts
-  pub lost : judged.lost ≡ count_by (is_lost images) ts
+  pub slices : (i : ℕ) → i < slice_count row → element_in new i ≡ fold (with_block images layout (new_bytes images row.failing)) (element images layout row (Slice i)) (filter (λ t. t.at.index == i) ts)
+  pub blocks : judged.blocks ≡ count_by is_checked ts
+  pub bad : judged.bad ≡ sum_by (λ t. length (wrong_parts images row.failing t)) ts
+  pub rebuilt : judged.rebuilt ≡ sum_by (λ t. length (mending_writes images row.failing t)) ts
+  pub lost : judged.lost ≡ count_by (is_lost_block images) ts
   pub met : (column : ℕ) → column < 16 → slice_index_or judged.met column false ≡ list_any (meets column) ts
-  pub broken : (column : ℕ) → column < 16 → slice_index_or judged.broken column false ≡ (row.kept column || list_any (λ t. is_lost images t && meets column t) ts)
+  pub broken : (column : ℕ) → column < 16 → slice_index_or judged.broken column false ≡ list_any (λ t. not (is_sure images layout row t) && meets column t) ts
 
 -- the wanted blocks of a row in memory were judged
-abbrev pub JudgesRow : Layout → FullStripe → List Want → List Bool → List ℕ → List ℕ → Judged → Type 0
-JudgesRow layout stripe wants kept old new judged =
-    (images : Images) (row : Row) → IsStripeOf layout stripe row → IsRowOf layout stripe.chunk stripe.number wants row → AreKept kept row → HoldsRow images layout row old
+abbrev pub JudgesRow : Layout → FullStripe → List Want → Doubts → List ℕ → List ℕ → Judged → Type 0
+JudgesRow layout stripe wants doubts old new judged =
+    (images : Images) (row : Row) → IsStripeOf layout stripe row → IsRowOf layout stripe.chunk stripe.number wants row → KnowsDoubts layout row doubts → HoldsRow images layout row old
     → AreJudged images layout row row.blocks new judged

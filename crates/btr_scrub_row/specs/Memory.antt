@@ -1,8 +1,9 @@
 -- A row's bytes in memory, element by element: the slices, P, and Q; and a block of it.
-use Rattle.std.specs.List.{All, range_with_len}
-use Rattle.std.specs.Prelude.{◌≡◌, ℕ, ◌+◌, ◌*◌, ◌<◌, ◌≤◌, ◌==◌, Bool, false, List, length, map, nat_lt, take, Option, Some, None, IfSome, IsSome, Result, Ok, slice_get, slice_range, if◌then◌else◌}
+use Rattle.std.specs.List.{All, list_any, range_with_len}
+use Rattle.std.specs.Prelude.{◌≡◌, ℕ, ◌+◌, ◌*◌, ◌<◌, ◌≤◌, ◌==◌, ◌&&◌, ◌||◌, Bool, true, false, List, [], ◌∷◌, length, map, nat_lt, take, Option, Some, None, IfSome, IsSome}
+use Rattle.std.specs.Prelude.{Result, Ok, slice_get, slice_index_or, slice_range, if◌then◌else◌}
 use Rattle.btr_chunk.specs.Chunk.{IsChunk, mirrors}
-use Rattle.btr_chunk.specs.Mapping.{HasPart, IsPosition}
+use Rattle.btr_chunk.specs.Mapping.{HasPart, IsPosition, place_at}
 use Rattle.btr_chunk.specs.declared.place.Part.{Part}
 use Rattle.btr_chunk.specs.declared.place.Part.TheVariants.{Slice, P, Q}
 use Rattle.btr_chunk.specs.declared.profile.Profile.{Profile}
@@ -10,7 +11,7 @@ use Rattle.btr_chunk.specs.declared.profile.Profile.TheVariants.{Raid6}
 use Rattle.btr_parity.specs.Field.{power}
 use Rattle.btr_parity.specs.Slices.{IsSlice, plus, scaled, parity_p, parity_q}
 use Rattle.btr_read.specs.Candidates as candidates
-use Rattle.btr_read.specs.Candidates.{Target, rebuilt, size_of, value_of}
+use Rattle.btr_read.specs.Candidates.{Target, range_of, reads_slice, rebuilt, size_of, value_of}
 use Rattle.btr_read.specs.Fate.{sought}
 use Rattle.btr_read.specs.Gathering.{read_slices}
 use Rattle.btr_read.specs.Layout.{Layout}
@@ -19,10 +20,14 @@ use Rattle.btr_read.specs.declared.candidate.Candidate.TheVariants.{Read, ByP, B
 use Rattle.btr_read.specs.declared.want.Want.{Want}
 use Rattle.btr_rack.specs.Rack.{Seen}
 use Rattle.btr_scrub_copies.specs.Blocks.{accepted, is_good}
+use Rattle.btr_scrub_copies.specs.Fresh.{fresh, is_behind, is_doubtful, stale_parts}
 use Rattle.btr_scrub_copies.specs.Writes.{AccountsMend, Images}
 use Rattle.btr_scrub_copies.specs.declared.mended.MendFault.{MendFault}
-use Rattle.btr_scrub_row.specs.Rows.{Row, element, parities, slice_count}
-use Rattle.btr_scrub_row.specs.Mending.{IsFullStripe, IsOfRow}
+use Rattle.btr_scrub_row.specs.Wanted.{new_bytes, wrong_parts}
+use Rattle.btr_scrub_row.specs.Rows.{Row, element, has_doubtful, parities, slice_count}
+use Rattle.btr_scrub_row.specs.Mending.{IsFullStripe, IsOfRow, IsOn}
+use Rattle.btr_scrub_row.specs.declared.doubts.Doubts.{Doubts}
+use Rattle.btr_scrub_row.specs.declared.settling.Settled.{Settled}
 use Rattle.btr_scrub_row.specs.declared.stripe.FullStripe.{FullStripe}
 use Rattle.btr_scrub_row.specs.declared.parity.Parity.{Parity}
 use Rattle.btr_scrub_row.specs.declared.parity.Parity.TheVariants as parity
@@ -209,3 +214,58 @@ Accepts images t block None = IsGone images t
 abbrev pub AcceptsWant : Layout → Want → Spot → List ℕ → List ℕ → Option Bool → Type 0
 AcceptsWant layout want spot bytes block own =
     (images : Images) (t : Target) → sought layout want ≡ Ok t → IsHeld images t spot bytes → Accepts images t block own
+
+-- ---- images in doubt
+
+-- what is flagged by the number of an element
+abbrev pub flag_of : List Bool → ℕ → Bool
+flag_of flags e = slice_index_or flags e false
+
+-- the device on which the element of a part lies
+abbrev pub devid_at : Row → Part → ℕ
+devid_at row part = (place_at row.chunk part (record { row = row.number; index = 0; rest = 0 })).devid
+
+-- what is known of the images of a row: by the number of an element, whether its image is in doubt, and whether it is
+-- behind; and whether some image of the chunk is in doubt
+pub record KnowsDoubts (layout : Layout) (row : Row) (doubts : Doubts) : Type 0 where
+  pub doubtful : (e : ℕ) → e < element_count row → flag_of doubts.doubtful e ≡ is_doubtful layout.devices row.failing (devid_at row (part_at (slice_count row) e))
+  pub behind : (e : ℕ) → e < element_count row → flag_of doubts.behind e ≡ is_behind layout.devices row.failing (devid_at row (part_at (slice_count row) e))
+  pub some : doubts.some ≡ has_doubtful layout.devices row.failing row.chunk
+
+-- a candidate for slice i of k reads a slice that is flagged
+abbrev pub reads_flagged_slice : List Bool → ℕ → ℕ → Candidate → Bool
+reads_flagged_slice flags k i candidate = list_any (λ slice. reads_slice i candidate slice && flag_of flags slice) (range_with_len 0 k)
+
+-- it reads an element that is flagged; only its own slice is read alone
+abbrev pub reads_flagged : List Bool → ℕ → ℕ → Candidate → Bool
+reads_flagged flags k i (Read part) = flag_of flags i
+reads_flagged flags k i ByP = flag_of flags k || reads_flagged_slice flags k i ByP
+reads_flagged flags k i ByQ = flag_of flags (k + 1) || reads_flagged_slice flags k i ByQ
+reads_flagged flags k i (ByBoth j) = flag_of flags k || (flag_of flags (k + 1) || reads_flagged_slice flags k i (ByBoth j))
+
+-- a block of a row, each of whose elements stands, with its place
+pub record LiesAt (layout : Layout) (row : Row) (t : Target) (spot : Spot) : Type 0 where
+  pub on : IsOn row t
+  pub devices : t.devices ≡ layout.devices
+  pub sited : IsSited spot t
+  pub stand : (part : Part) → HasPart t.chunk.profile (length t.chunk.stripes) part → IsSome (range_of t part)
+
+-- this holds of the images, of a row of which the doubts are known, and of a wanted block in it all of whose candidates are in memory
+abbrev pub OfHeld : Layout → Doubts → Want → Spot → List ℕ → (Images → Row → Target → Type 0) → Type 0
+OfHeld layout doubts want spot bytes Fact =
+    (images : Images) (row : Row) (t : Target) → sought layout want ≡ Ok t → LiesAt layout row t spot → KnowsDoubts layout row doubts
+    → IsHeld images t spot bytes → Fact images row t
+
+-- the fresh bytes of a plain sector are in the front of a buffer, if there are any
+abbrev pub HasFresh : Images → Row → Target → List ℕ → Bool → Type 0
+HasFresh images row t block found = fresh images row.failing t ≡ (if found then Some (take (size_of t) block) else None)
+
+-- a plain sector is stale at its place, and its fresh bytes are in the front of a buffer, or it isn't
+pub record IsRenewed (images : Images) (row : Row) (t : Target) (block : List ℕ) (stale : Bool) : Type 0 where
+  pub parts : stale_parts images row.failing t ≡ (if stale then Slice t.at.index ∷ [] else [])
+  pub bytes : stale ≡ true → fresh images row.failing t ≡ Some (take (size_of t) block)
+
+-- whether a block's own place is right, and what it gets, which is in the front of a buffer
+pub record IsSettled (images : Images) (row : Row) (t : Target) (block : List ℕ) (settled : Settled) : Type 0 where
+  pub wrong : wrong_parts images row.failing t ≡ (if settled.good then [] else Slice t.at.index ∷ [])
+  pub gets : new_bytes images row.failing t ≡ (if settled.given then Some (take (size_of t) block) else None)

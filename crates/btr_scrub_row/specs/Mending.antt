@@ -1,5 +1,5 @@
 -- What mending a full stripe did.
-use Rattle.std.specs.Prelude.{◌≡◌, ℕ, ◌+◌, ◌*◌, ◌≤◌, Bool, List, [], false, length, map, Option, None, IfSome, IsSome, IsSomeAnd, Some, Result, Ok, Err, if◌then◌else◌, count_by, slice_index_or, ◌<◌}
+use Rattle.std.specs.Prelude.{◌≡◌, ℕ, ◌+◌, ◌*◌, ◌≤◌, Bool, List, [], false, length, map, Option, None, IfSome, IsSome, IsSomeAnd, Some, Result, Ok, Err, if◌then◌else◌, count_by}
 use Rattle.std.specs.List.{All, sum_by}
 use Rattle.btr_chunk.specs.Chunk.{mirrors, stripe_length}
 use Rattle.btr_chunk.specs.Mapping.{HasPart}
@@ -12,11 +12,11 @@ use Rattle.btr_read.specs.Cause.{LiesIn}
 use Rattle.btr_read.specs.Fate.{Fault, sought}
 use Rattle.btr_read.specs.Layout.{Layout}
 use Rattle.btr_read.specs.declared.want.Want.{Want}
-use Rattle.btr_scrub_copies.specs.Blocks.{bad_parts, block_writes, is_lost}
 use Rattle.btr_scrub_copies.specs.Syncing.{AreMarked, IsSyncOr, Strands, plain}
 use Rattle.btr_scrub_copies.specs.Turns.{WaitsAt, WaitsInTurn}
 use Rattle.btr_scrub_copies.specs.Writes.{Does, Images, writes_if}
 use Rattle.btr_scrub_copies.specs.declared.mended.MendFault.{MendFault}
+use Rattle.btr_scrub_row.specs.Wanted.{is_checked, is_lost_block, mending_writes, wrong_parts}
 use Rattle.btr_scrub_row.specs.Rows.{Row, parities, parities_writes, parity_writes, range_in_element, rebuilt_writes, row_writes}
 use Rattle.btr_scrub_row.specs.declared.buffer.RowBuffer.{RowBuffer}
 use Rattle.btr_scrub_row.specs.declared.mended.MendedRow.{MendedRow}
@@ -44,21 +44,17 @@ pub record IsOn (row : Row) (t : Target) : Type 0 where
 abbrev pub is_at : Target → Result Target Fault
 is_at t = Ok t
 
--- the row of a number in the chunk that starts at an address, whose checked
--- blocks are those of some wants, in their order
+-- the row of a number in the chunk that starts at an address, whose checked blocks
+-- and plain sectors are those of some wants, in their order
 pub record IsRowOf (layout : Layout) (start number : ℕ) (wants : List Want) (row : Row) : Type 0 where
   pub stripe : IsFullStripe layout start number row
   pub blocks : map (sought layout) wants ≡ map is_at row.blocks
   pub lie : All (IsOn row) row.blocks
 
--- there is a row of this number, with these checked blocks
+-- there is a row of this number, with these blocks
 pub record IsRow (layout : Layout) (start number : ℕ) (wants : List Want) : Type 0 where
   pub row : Row
   pub is : IsRowOf layout start number wants row
-
--- the columns of a row whose parities are kept are those that are flagged
-abbrev pub AreKept : List Bool → Row → Type 0
-AreKept flags row = (column : ℕ) → column < 16 → slice_index_or flags column false ≡ row.kept column
 
 -- a buffer has room for the elements of a row
 pub record HasRoom (buffer : RowBuffer) (count : ℕ) : Type 0 where
@@ -86,9 +82,10 @@ parity_count images layout row = sum_by (λ part. length (parity_writes images l
 -- what comes of a row, which is written or only read
 abbrev pub mended_row : Images → Layout → Row → Bool → MendedRow
 mended_row images layout row write = record {
-  bad = sum_by (λ t. length (bad_parts images t)) row.blocks;
-  repaired = if write then sum_by (λ t. length (block_writes images t)) row.blocks else 0;
-  lost = count_by (is_lost images) row.blocks;
+  blocks = count_by is_checked row.blocks;
+  bad = sum_by (λ t. length (wrong_parts images row.failing t)) row.blocks;
+  repaired = if write then sum_by (λ t. length (mending_writes images row.failing t)) row.blocks else 0;
+  lost = count_by (is_lost_block images) row.blocks;
   parity = parity_count images layout row;
 }
 

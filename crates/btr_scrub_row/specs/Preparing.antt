@@ -8,11 +8,12 @@ use Rattle.btr_scrub_copies.specs.Turns.{TakesTurns}
 use Rattle.btr_scrub_copies.specs.Writes.{Does, Images, Write}
 use Rattle.btr_scrub_copies.specs.declared.mended.MendFault.{MendFault}
 use Rattle.btr_scrub_row.specs.Rows.{Row, parities_writes, rebuilt_writes}
-use Rattle.btr_scrub_row.specs.Mending.{AreKept, IsOfRow, IsRowOf}
-use Rattle.btr_scrub_row.specs.Memory.{HoldsRow, IsStripeOf}
+use Rattle.btr_scrub_row.specs.Mending.{IsOfRow, IsRowOf}
+use Rattle.btr_scrub_row.specs.Memory.{HoldsRow, IsStripeOf, KnowsDoubts}
 use Rattle.btr_scrub_row.specs.Judging.{AreJudged}
 use Rattle.btr_scrub_row.specs.Writing.{KnowsParity, told_writes}
 use Rattle.btr_scrub_row.specs.declared.buffer.RowBuffer.{RowBuffer}
+use Rattle.btr_scrub_row.specs.declared.doubts.Doubts.{Doubts}
 use Rattle.btr_scrub_row.specs.declared.judged.Judged.{Judged}
 use Rattle.btr_scrub_row.specs.declared.parity.Parity.TheVariants.{P, Q}
 use Rattle.btr_scrub_row.specs.declared.stripe.FullStripe.{FullStripe}
@@ -30,9 +31,9 @@ pub record TellsRow (layout : Layout) (row : Row) (judged : Judged) (buffer : Ro
   pub untold : told ≡ None → held ≡ None
 
 -- where the wanted blocks' row is told, it was prepared
-abbrev pub Prepares : Layout → FullStripe → List Want → List Bool → Seen → RowBuffer → Judged → Type 0
-Prepares layout stripe wants kept rack buffer judged =
-    (images : Images) (row : Row) → rack.held ≡ Some images → IsStripeOf layout stripe row → IsRowOf layout stripe.chunk stripe.number wants row → AreKept kept row
+abbrev pub Prepares : Layout → FullStripe → List Want → Doubts → Seen → RowBuffer → Judged → Type 0
+Prepares layout stripe wants doubts rack buffer judged =
+    (images : Images) (row : Row) → rack.held ≡ Some images → IsStripeOf layout stripe row → IsRowOf layout stripe.chunk stripe.number wants row → KnowsDoubts layout row doubts
     → IsPrepared images layout row judged buffer
 
 -- what was prepared stands in another buffer too
@@ -50,9 +51,9 @@ WritesPrepared layout stripe judged buffer writes marks marks' old new result =
     → Does (IsOfRow layout row) (λ images. told_writes (λ images. writes images row) told) marks marks' old new result
 
 -- the same for the row of wanted blocks
-abbrev pub WritesWanted : {A : Type 0} → Layout → FullStripe → List Want → Judged → RowBuffer → (Images → Row → List Write) → List Bool → List Bool → Seen → Seen → Result A MendFault → Type 0
-WritesWanted layout stripe wants judged buffer writes marks marks' old new result =
-    (told : Option Images) (row : Row) → IsStripeOf layout stripe row → IsRowOf layout stripe.chunk stripe.number wants row → TellsRow layout row judged buffer told old.held
+abbrev pub WritesWanted : {A : Type 0} → Layout → FullStripe → List Want → Doubts → Judged → RowBuffer → (Images → Row → List Write) → List Bool → List Bool → Seen → Seen → Result A MendFault → Type 0
+WritesWanted layout stripe wants doubts judged buffer writes marks marks' old new result =
+    (told : Option Images) (row : Row) → IsStripeOf layout stripe row → IsRowOf layout stripe.chunk stripe.number wants row → KnowsDoubts layout row doubts → TellsRow layout row judged buffer told old.held
     → Does (IsOfRow layout row) (λ images. told_writes (λ images. writes images row) told) marks marks' old new result
 
 -- no block is to be written, or no parity
@@ -61,8 +62,8 @@ HasOneTurn images layout row = (rebuilt_writes images layout row ≡ []) ⊎ (pa
 
 -- the blocks of the row of wanted blocks were written as it follows from what
 -- was prepared, and behind them its parities
-abbrev pub WritesInTurn : {A : Type 0} → Layout → FullStripe → List Want → Judged → RowBuffer → List Bool → List Bool → Seen → Seen → Result A MendFault → Type 0
-WritesInTurn layout stripe wants judged buffer marks marks' old new result =
-    (told : Option Images) (row : Row) → IsStripeOf layout stripe row → IsRowOf layout stripe.chunk stripe.number wants row → TellsRow layout row judged buffer told old.held
+abbrev pub WritesInTurn : {A : Type 0} → Layout → FullStripe → List Want → Doubts → Judged → RowBuffer → List Bool → List Bool → Seen → Seen → Result A MendFault → Type 0
+WritesInTurn layout stripe wants doubts judged buffer marks marks' old new result =
+    (told : Option Images) (row : Row) → IsStripeOf layout stripe row → IsRowOf layout stripe.chunk stripe.number wants row → KnowsDoubts layout row doubts → TellsRow layout row judged buffer told old.held
     → TakesTurns (IsOfRow layout row) (told_writes (λ images. rebuilt_writes images layout row) told) (told_writes (λ images. parities_writes images layout row) told)
     marks marks' old new result

@@ -16,15 +16,19 @@ use Rattle.btr_rack.specs.Rack.{bytes_of, pasted}
 use Rattle.btr_rack.specs.declared.place.Place.{Place as Range}
 use Rattle.btr_read.specs.Candidates.{Target, size_of, range_on}
 use Rattle.btr_read.specs.Layout.{Layout, device_in}
-use Rattle.btr_scrub_copies.specs.Blocks.{accepted, block_writes}
+use Rattle.btr_read.specs.Fate.{is_plain}
+use Rattle.btr_read.specs.declared.device.Member.{Member}
+use Rattle.btr_scrub_copies.specs.Fresh.{Failing, is_doubtful, is_on_doubtful}
 use Rattle.btr_scrub_copies.specs.Writes.{Write}
+use Rattle.btr_scrub_row.specs.Wanted.{new_bytes, mending_writes}
 
--- a full stripe: a row of a chunk, the checked blocks in it, and the columns whose parities are kept as they are
+-- a full stripe: a row of a chunk, the checked blocks and the plain sectors in it, and by slot the images on which some
+-- checked block doesn't pass
 pub record Row : Type 0 where
   pub chunk : Chunk
   pub number : ℕ
   pub blocks : List Target
-  pub kept : ℕ → Bool
+  pub failing : Failing
 
 -- how many slices a full stripe has
 abbrev pub slice_count : Row → ℕ
@@ -49,6 +53,10 @@ range_in_element layout row part rest len =
 -- a column of some bytes of an element
 abbrev pub column_of : ℕ → List ℕ → List ℕ
 column_of column bytes = slice_range bytes (column * 4096) (column * 4096 + 4096)
+
+-- some image of a chunk is in doubt
+abbrev pub has_doubtful : List Member → Failing → Chunk → Bool
+has_doubtful devices failing chunk = list_any (λ stripe. is_doubtful devices failing stripe.devid) chunk.stripes
 
 -- a block has bytes in a column
 abbrev pub meets : ℕ → Target → Bool
@@ -78,23 +86,30 @@ module _ (images : List (List ℕ)) (layout : Layout) where
   element_with given row Q = parity_q 65536 (slices_with given row)
   element_with given row (Mirror i) = []
 
-  -- a column is decided: it meets a checked block, its parities aren't to be kept, and it meets none that is lost
+  -- a plain sector is surer than what some other image of its chunk holds: an image is in doubt, and its own isn't
+  abbrev pub is_surer : Row → Target → Bool
+  is_surer row t = has_doubtful layout.devices row.failing row.chunk && not (is_on_doubtful row.failing t (Slice t.at.index))
+
+  -- what stands in a block's place in the new data is sure: the block gets bytes, or is a plain sector that is surer
+  abbrev pub is_sure : Row → Target → Bool
+  is_sure row t = is_some (new_bytes images row.failing t) || is_plain t.want && is_surer row t
+
+  -- a column is decided: some block meets it, and what stands in the place of each that does is sure
   abbrev pub is_decided : Row → ℕ → Bool
-  is_decided row column =
-      list_any (meets column) row.blocks && (not (row.kept column) && list_all (λ t. not (meets column t) || is_some (accepted images t)) row.blocks)
+  is_decided row column = list_any (meets column) row.blocks && list_all (λ t. not (meets column t) || is_sure row t) row.blocks
 
   -- a parity of the new data differs from that in the image
   abbrev pub differs : Row → Part → ℕ → Bool
-  differs row part column = not (bytes_eq (column_of column (element row part)) (column_of column (element_with (accepted images) row part)))
+  differs row part column = not (bytes_eq (column_of column (element row part)) (column_of column (element_with (new_bytes images row.failing) row part)))
 
   -- the decided columns where it does
   abbrev pub differing : Row → Part → List ℕ
   differing row part = filter (λ column. is_decided row column && differs row part column) (range_with_len 0 16)
 
-  -- the write of a column of a parity, as the accepted blocks give it, if its element has an image
+  -- the write of a column of a parity, as the new data give it, if its element has an image
   abbrev pub sector_write : Row → Part → ℕ → Option Write
   sector_write row part column =
-      option_map (λ range. record { range = range; bytes = column_of column (element_with (accepted images) row part) }) (range_in_element layout row part (column * 4096) 4096)
+      option_map (λ range. record { range = range; bytes = column_of column (element_with (new_bytes images row.failing) row part) }) (range_in_element layout row part (column * 4096) 4096)
 
   -- the writes that mend a parity, by ascending column
   abbrev pub parity_writes : Row → Part → List Write
@@ -102,7 +117,7 @@ module _ (images : List (List ℕ)) (layout : Layout) where
 
   -- the writes that mend the blocks of the row, ascending
   abbrev pub rebuilt_writes : Row → List Write
-  rebuilt_writes row = flat_map (block_writes images) row.blocks
+  rebuilt_writes row = flat_map (mending_writes images row.failing) row.blocks
 
   -- the writes that mend its parities: P, then Q
   abbrev pub parities_writes : Row → List Write

@@ -9,14 +9,15 @@ use Rattle.btr_read.specs.Fate.{sought}
 use Rattle.btr_read.specs.Layout.{Layout}
 use Rattle.btr_read.specs.declared.want.Want.{Want}
 use Rattle.btr_scrub_copies.specs.Writes.{Does, Images, Write}
-use Rattle.btr_scrub_copies.specs.Blocks.{accepted, block_writes}
+use Rattle.btr_scrub_row.specs.Wanted.{new_bytes, mending_writes}
 use Rattle.btr_scrub_copies.specs.declared.mended.MendFault.{MendFault}
 use Rattle.btr_scrub_row.specs.Mending.{IsOfRow, IsRowOf}
 use Rattle.btr_scrub_row.specs.Rows.{Row, differs, element, element_with, is_decided, sector_write, slice_count}
 use Rattle.btr_scrub_row.specs.declared.judged.Judged.{Judged}
 use Rattle.btr_scrub_row.specs.declared.parity.Parity.{Parity}
 use Rattle.btr_scrub_row.specs.declared.stripe.FullStripe.{FullStripe}
-use Rattle.btr_scrub_row.specs.Memory.{HoldsRow, IsStripeOf, element_in, element_of, part_of}
+use Rattle.btr_scrub_row.specs.Memory.{HoldsRow, IsStripeOf, KnowsDoubts, element_in, element_of, part_of}
+use Rattle.btr_scrub_row.specs.declared.doubts.Doubts.{Doubts}
 
 -- bytes from an offset on in a slot
 abbrev pub write_at : ℕ → ℕ → List ℕ → Write
@@ -35,7 +36,7 @@ pub record Tells (layout : Layout) (row : Row) (bytes : List ℕ) (told held : O
 -- what is known of a parity: its element as it was read, that of the new data, and which columns are decided
 pub record KnowsParity (images : Images) (layout : Layout) (row : Row) (parity : Parity) (judged : Judged) (old sums : List ℕ) : Type 0 where
   pub old_is : element_in old (element_of parity (slice_count row)) ≡ element images layout row (part_of parity)
-  pub new_is : take 65536 sums ≡ element_with images layout (accepted images) row (part_of parity)
+  pub new_is : take 65536 sums ≡ element_with images layout (new_bytes images row.failing) row (part_of parity)
   pub decided : (column : ℕ) → column < 16 → (slice_index_or judged.met column false && not (slice_index_or judged.broken column false)) ≡ is_decided images layout row column
 
 -- the same where the images are told, which are not told now where they weren't
@@ -65,16 +66,16 @@ WritesBytes slot off bytes marks marks' old new result =
     → Does (IsOfRow layout row) (λ images. write_at slot off bytes ∷ []) marks marks' old new result
 
 -- what mends a wanted block of a row, whose bytes as it was read are given
-abbrev pub WritesBlock : {A : Type 0} → Layout → FullStripe → Want → List ℕ → List Bool → List Bool → Seen → Seen → Result A MendFault → Type 0
-WritesBlock layout stripe want bytes marks marks' old new result =
-    (told : Option Images) (row : Row) (t : Target) → IsStripeOf layout stripe row → Tells layout row bytes told old.held → sought layout want ≡ Ok t
-    → Does (IsOfRow layout row) (λ images. told_writes (λ images. block_writes images t) told) marks marks' old new result
+abbrev pub WritesBlock : {A : Type 0} → Layout → FullStripe → Doubts → Want → List ℕ → List Bool → List Bool → Seen → Seen → Result A MendFault → Type 0
+WritesBlock layout stripe doubts want bytes marks marks' old new result =
+    (told : Option Images) (row : Row) (t : Target) → IsStripeOf layout stripe row → KnowsDoubts layout row doubts → Tells layout row bytes told old.held → sought layout want ≡ Ok t
+    → Does (IsOfRow layout row) (λ images. told_writes (λ images. mending_writes images row.failing t) told) marks marks' old new result
 
 -- what mends all wanted blocks of a row, whose bytes as they were read are given
-abbrev pub WritesBlocks : {A : Type 0} → Layout → FullStripe → List Want → List ℕ → List Bool → List Bool → Seen → Seen → Result A MendFault → Type 0
-WritesBlocks layout stripe wants bytes marks marks' old new result =
-    (told : Option Images) (row : Row) → IsStripeOf layout stripe row → IsRowOf layout stripe.chunk stripe.number wants row → Tells layout row bytes told old.held
-    → Does (IsOfRow layout row) (λ images. told_writes (λ images. flat_map (block_writes images) row.blocks) told) marks marks' old new result
+abbrev pub WritesBlocks : {A : Type 0} → Layout → FullStripe → Doubts → List Want → List ℕ → List Bool → List Bool → Seen → Seen → Result A MendFault → Type 0
+WritesBlocks layout stripe doubts wants bytes marks marks' old new result =
+    (told : Option Images) (row : Row) → IsStripeOf layout stripe row → IsRowOf layout stripe.chunk stripe.number wants row → KnowsDoubts layout row doubts → Tells layout row bytes told old.held
+    → Does (IsOfRow layout row) (λ images. told_writes (λ images. flat_map (mending_writes images row.failing) row.blocks) told) marks marks' old new result
 
 -- what follows from a parity as it was read and that of the new data
 abbrev pub WritesParity : {A : Type 0} → Layout → FullStripe → Parity → Judged → List ℕ → List ℕ → (Images → Row → List Write) → List Bool → List Bool → Seen → Seen → Result A MendFault → Type 0

@@ -14,7 +14,7 @@ use btr_chunk::{Part, Profile};
 use btr_read::{Candidate, Store, Want, passes, way_at};
 
 // The way of a number, for slice `index`.
-fn way_of(index: u32, k: u32) -> Candidate
+pub(crate) fn way_of(index: u32, k: u32) -> Candidate
     ensures one { (slices : ℕ) → k < 2 → IsCandidate profile.Raid5 slices index k result }
     ensures two { (slices : ℕ) → index < slices → k < slices + 2 → IsCandidate profile.Raid6 slices index k result }
     ensures parts { (slices : ℕ) → index < slices → k < slices + 2 → IsTwoParities slices index result }
@@ -32,7 +32,7 @@ fn way_of(index: u32, k: u32) -> Candidate
 }
 
 // How many ways there are to get a block of the row.
-fn way_count(spot: &Spot) -> u32
+pub(crate) fn way_count(spot: &Spot) -> u32
     requires { spot.now.shape.slices ≤ 63 }
     ensures six { spot.now.shape.profile ≡ Profile.Raid6 → result ≡ spot.now.shape.slices + 2 }
     ensures five { spot.now.shape.profile ≢ Profile.Raid6 → result ≡ 2 }
@@ -44,7 +44,13 @@ fn way_count(spot: &Spot) -> u32
 }
 
 // Computes what a candidate gives, in the front of a buffer.
-fn compute(bytes: &[u8], spot: &Spot, candidate: Candidate, block: &mut [u8], spare: &mut [u8])
+pub(crate) fn compute(
+    bytes: &[u8],
+    spot: &Spot,
+    candidate: Candidate,
+    block: &mut [u8],
+    spare: &mut [u8],
+)
     requires within { FitsIn bytes.now spot.now }
     requires fits { spot.now.len ≤ length block.old }
     requires spare_fits { spot.now.len ≤ length spare.old }

@@ -2,8 +2,8 @@
 ghost use Rattle.std.specs.Prelude.{◌≡◌, ℕ, ◌≤◌, length, IsFalse};
 ghost use Rattle.std.specs.List.{flat_map};
 ghost use Rattle.btr_read.specs.Layout.{AreOpen};
-ghost use Rattle.btr_scrub_copies.specs.Blocks.{block_writes};
 ghost use Rattle.btr_scrub_copies.specs.Writes.{AreWritable};
+ghost use Rattle.btr_scrub_row.specs.Wanted.{mending_writes};
 ghost use Rattle.btr_scrub_row.specs.Rows.{parities, parity_writes};
 ghost use Rattle.btr_scrub_row.specs.Mending.{HasRoom, IsRow, parity_count};
 ghost use Rattle.btr_scrub_row.specs.Memory.{IsStripe, OfRow};
@@ -11,6 +11,7 @@ ghost use Rattle.btr_scrub_row.specs.Preparing.{HasOneTurn, StaysPrepared, Where
 
 use crate::RowBuffer;
 use crate::blocks::write_blocks;
+use crate::doubts::Doubts;
 use crate::judged::Judged;
 use crate::parity::Parity;
 use crate::sectors::{count_wrong, write_parity};
@@ -88,10 +89,11 @@ fn write_parities<R: Rack>(
     }
 }
 
-// Writes the blocks that are bad, where some can be.
+// Writes the blocks at whose own places something is wrong, where some get bytes.
 fn write_rebuilt<R: Rack>(
     wants: &[Want],
     stripe: &FullStripe,
+    doubts: &Doubts,
     judged: &Judged,
     rack: &mut R,
     store: &Store,
@@ -112,8 +114,8 @@ fn write_rebuilt<R: Rack>(
     ensures q { buffer.new.q ≡ buffer.old.q }
     ensures block { length buffer.new.block.items ≡ length buffer.old.block.items }
     ensures spare { length buffer.new.spare.items ≡ length buffer.old.spare.items }
-    ensures writes { WritesWanted store.now.layout stripe.now wants.now judged.now buffer.old
-        (λ images row. flat_map (block_writes images) row.blocks)
+    ensures writes { WritesWanted store.now.layout stripe.now wants.now doubts.now judged.now buffer.old
+        (λ images row. flat_map (mending_writes images row.failing) row.blocks)
         marks.old marks.new (R.seen rack.old) (R.seen rack.new) result }
 {
     if judged.rebuilt == 0 {
@@ -122,6 +124,7 @@ fn write_rebuilt<R: Rack>(
     write_blocks(
         wants,
         stripe,
+        doubts,
         rack,
         store,
         &buffer.elements,
@@ -146,6 +149,7 @@ fn has_both(stripe: &FullStripe, judged: &Judged, store: &Store, buffer: &RowBuf
 pub(crate) fn write_row<R: Rack>(
     wants: &[Want],
     stripe: &FullStripe,
+    doubts: &Doubts,
     judged: &Judged,
     rack: &mut R,
     store: &Store,
@@ -161,11 +165,11 @@ pub(crate) fn write_row<R: Rack>(
     ensures slots { (R.seen rack.new).slots ≡ (R.seen rack.old).slots }
     ensures room { (elements : ℕ) → HasRoom buffer.old elements → HasRoom buffer.new elements }
     ensures prepared { StaysPrepared store.now.layout judged.now buffer.old buffer.new }
-    ensures writes { WritesInTurn store.now.layout stripe.now wants.now judged.now buffer.old
+    ensures writes { WritesInTurn store.now.layout stripe.now wants.now doubts.now judged.now buffer.old
         marks.old marks.new (R.seen rack.old) (R.seen rack.new) result }
 {
     let both = has_both(stripe, judged, store, buffer);
-    match write_rebuilt(wants, stripe, judged, rack, store, buffer, marks) {
+    match write_rebuilt(wants, stripe, doubts, judged, rack, store, buffer, marks) {
         Ok(()) => {}
         Err(fault) => return Err(fault),
     }

@@ -1,4 +1,4 @@
-// Writing the blocks of a row that are bad.
+// Writing the blocks of a row at whose own places something is wrong.
 ghost use Rattle.std.specs.Prelude.{◌≡◌, ◌*◌, ◌≤◌, length};
 ghost use Rattle.btr_read.specs.Layout.{AreOpen};
 ghost use Rattle.btr_scrub_copies.specs.Writes.{AreWritable};
@@ -7,8 +7,9 @@ ghost use Rattle.btr_scrub_row.specs.Memory.{IsStripe, OfRow};
 ghost use Rattle.btr_scrub_row.specs.Judging.{IsIn};
 ghost use Rattle.btr_scrub_row.specs.Writing.{WritesBlock, WritesBlocks};
 
-use crate::accepting::accept;
+use crate::doubts::Doubts;
 use crate::judging::spot_of;
+use crate::settling::settle;
 use crate::stripe::{FullStripe, place_of_part};
 use crate::writing::write_front;
 use btr_chunk::Part;
@@ -16,10 +17,11 @@ use btr_rack::Rack;
 use btr_read::{Store, Want};
 use btr_scrub_copies::MendFault;
 
-// Writes what is accepted for a block over it, where it is bad and something is.
+// Writes what a block gets over it, where something is wrong there and it gets something.
 fn write_block<R: Rack>(
     want: &Want,
     stripe: &FullStripe,
+    doubts: &Doubts,
     rack: &mut R,
     store: &Store,
     old: &[u8],
@@ -38,26 +40,23 @@ fn write_block<R: Rack>(
     ensures marks { length marks.new ≡ length marks.old }
     ensures block_long { length block.new ≡ length block.old }
     ensures spare_long { length spare.new ≡ length spare.old }
-    ensures writes { WritesBlock store.now.layout stripe.now want.now old.now
+    ensures writes { WritesBlock store.now.layout stripe.now doubts.now want.now old.now
         marks.old marks.new (R.seen rack.old) (R.seen rack.new) result }
 {
     let spot = spot_of(want, stripe, store);
-    match accept(want, &spot, store, old, block, spare) {
-        None => Ok(()),
-        Some(good) => {
-            if good {
-                return Ok(());
-            }
-            let element = place_of_part(stripe, Part::Slice(spot.index), store);
-            write_front(element, spot.rest as u64, block, spot.len, rack, marks)
-        }
+    let settled = settle(want, &spot, doubts, store, old, block, spare);
+    if settled.good || !settled.given {
+        return Ok(());
     }
+    let element = place_of_part(stripe, Part::Slice(spot.index), store);
+    write_front(element, spot.rest as u64, block, spot.len, rack, marks)
 }
 
-// Writes what is accepted for the blocks of a row over those that are bad.
+// Writes what the blocks of a row get over them, where something is wrong there.
 pub(crate) fn write_blocks<R: Rack>(
     wants: &[Want],
     stripe: &FullStripe,
+    doubts: &Doubts,
     rack: &mut R,
     store: &Store,
     old: &[u8],
@@ -77,11 +76,11 @@ pub(crate) fn write_blocks<R: Rack>(
     ensures marks { length marks.new ≡ length marks.old }
     ensures block_long { length block.new ≡ length block.old }
     ensures spare_long { length spare.new ≡ length spare.old }
-    ensures writes { WritesBlocks store.now.layout stripe.now wants.now old.now
+    ensures writes { WritesBlocks store.now.layout stripe.now doubts.now wants.now old.now
         marks.old marks.new (R.seen rack.old) (R.seen rack.new) result }
 {
     for want in wants {
-        match write_block(want, stripe, rack, store, old, block, spare, marks) {
+        match write_block(want, stripe, doubts, rack, store, old, block, spare, marks) {
             Ok(()) => {}
             Err(fault) => return Err(fault),
         }

@@ -66,7 +66,7 @@ pub(crate) fn solve_front(p: &mut [u8], q: &[u8], len: usize, index: u8, other: 
 }
 
 // Whether a candidate for slice `index` reads a slice.
-fn reads(candidate: Candidate, index: u32, slice: u32) -> bool
+pub(crate) fn reads(candidate: Candidate, index: u32, slice: u32) -> bool
     ensures { result ≡ reads_slice index candidate slice }
 {
     match candidate {

@@ -5,24 +5,27 @@ ghost use Rattle.btr_scrub_row.specs.Memory.{IsStripe, OfRow};
 ghost use Rattle.btr_scrub_row.specs.Judging.{IsCounted, JudgesRow, flag, meets_spot};
 
 use crate::buffer::ELEMENT;
+use crate::doubts::Doubts;
 use crate::gathering::copy_front;
 use crate::judging::{Verdict, judge_block};
 use crate::spot::Spot;
 use crate::stripe::FullStripe;
 use btr_read::{Store, Want};
 
-// What the checked blocks of a row come to.
+// What the blocks of a row come to: checked blocks, and plain sectors.
 #[derive(Clone, Copy, Debug, PartialEq, Eq)]
 pub(crate) struct Judged {
-    // How many don't pass at their own place.
+    // How many checked blocks there are.
+    pub(crate) blocks: u64,
+    // How many have something wrong at their own place.
     pub(crate) bad: u64,
-    // How many of those have a candidate that passes.
+    // How many of those get bytes.
     pub(crate) rebuilt: u64,
-    // How many have none.
+    // Of how many checked blocks no candidate passes.
     pub(crate) lost: u64,
     // By column, whether it meets a block.
     pub(crate) met: [bool; 16],
-    // By column, whether its parities are to be kept, or it meets a block that is lost.
+    // By column, whether it meets a block in whose place nothing sure stands in the new data.
     pub(crate) broken: [bool; 16],
 }
 
@@ -56,30 +59,33 @@ fn marked(flags: [bool; 16], spot: &Spot) -> [bool; 16]
 // One more block.
 fn counted(judged: &Judged, verdict: &Verdict) -> Judged
     requires inside { verdict.now.spot.rest + verdict.now.spot.len ≤ 65536 }
+    requires blocks { judged.now.blocks + 1 < 2 ^ 64 }
     requires bad { judged.now.bad + 1 < 2 ^ 64 }
     requires rebuilt { judged.now.rebuilt + 1 < 2 ^ 64 }
     requires lost { judged.now.lost + 1 < 2 ^ 64 }
     ensures { IsCounted judged.now verdict.now result }
 {
-    let is_rebuilt = !verdict.good && !verdict.lost;
+    let is_rebuilt = !verdict.good && verdict.given;
+    let is_lost = verdict.checked && !verdict.given;
     Judged {
+        blocks: judged.blocks + u64::from(verdict.checked),
         bad: judged.bad + u64::from(!verdict.good),
         rebuilt: judged.rebuilt + u64::from(is_rebuilt),
-        lost: judged.lost + u64::from(verdict.lost),
+        lost: judged.lost + u64::from(is_lost),
         met: marked(judged.met, &verdict.spot),
-        broken: if verdict.lost {
-            marked(judged.broken, &verdict.spot)
-        } else {
+        broken: if verdict.sure {
             judged.broken
+        } else {
+            marked(judged.broken, &verdict.spot)
         },
     }
 }
 
-// Judges the blocks of a row as it was read, and makes the new data. The parities of some columns are to be kept.
+// Judges the blocks of a row as it was read, and makes the new data.
 pub(crate) fn judge(
     wants: &[Want],
     stripe: &FullStripe,
-    kept: [bool; 16],
+    doubts: &Doubts,
     store: &Store,
     old: &[u8],
     new: &mut [u8],
@@ -92,21 +98,22 @@ pub(crate) fn judge(
     requires new_room { OfRow store.now.layout stripe.now (λ row. length row.chunk.stripes * 65536 ≤ length new.old) }
     requires block { 65536 ≤ length block.old }
     requires spare { 65536 ≤ length spare.old }
-    ensures judged { JudgesRow store.now.layout stripe.now wants.now kept old.now new.new result }
+    ensures judged { JudgesRow store.now.layout stripe.now wants.now doubts.now old.now new.new result }
     ensures long { length new.new ≡ length new.old }
     ensures block_long { length block.new ≡ length block.old }
     ensures spare_long { length spare.new ≡ length spare.old }
 {
     copy_front(new, old, 0, stripe.shape.slices as usize * ELEMENT);
     let mut judged = Judged {
+        blocks: 0,
         bad: 0,
         rebuilt: 0,
         lost: 0,
         met: [false; 16],
-        broken: kept,
+        broken: [false; 16],
     };
     for want in wants {
-        let verdict = judge_block(want, stripe, store, old, new, block, spare);
+        let verdict = judge_block(want, stripe, doubts, store, old, new, block, spare);
         judged = counted(&judged, &verdict);
     }
     judged

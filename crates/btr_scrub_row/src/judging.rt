@@ -1,13 +1,14 @@
-// What the checked blocks of a row come to.
-ghost use Rattle.std.specs.Prelude.{◌≡◌, ◌+◌, ◌*◌, ◌≤◌, length, take, Ok};
+// What the blocks of a row come to.
+ghost use Rattle.std.specs.Prelude.{◌≡◌, ◌+◌, ◌*◌, ◌≤◌, ◌&&◌, not, length, take, Ok, if◌then◌else◌};
 ghost use Rattle.btr_rack.specs.Rack.{pasted};
 ghost use Rattle.btr_read.specs.Candidates.{Target};
 ghost use Rattle.btr_read.specs.Fate.{sought};
 ghost use Rattle.btr_read.specs.Want.{len_of};
-ghost use Rattle.btr_scrub_row.specs.Judging.{IsIn, IsPlaced, JudgesBlock};
-ghost use Rattle.btr_scrub_row.specs.Memory.{OfRow};
+ghost use Rattle.btr_scrub_row.specs.Judging.{IsIn, IsPlaced, IsVerdict, JudgesBlock};
+ghost use Rattle.btr_scrub_row.specs.Memory.{OfRow, flag_of};
 
-use crate::accepting::accept;
+use crate::doubts::{Doubts, flag_of};
+use crate::settling::{Settled, is_plain, settle};
 use crate::spot::Spot;
 use crate::stripe::FullStripe;
 use btr_chunk::elements;
@@ -17,10 +18,14 @@ use btr_read::{Store, Want};
 #[derive(Clone, Copy, Debug, PartialEq, Eq)]
 pub(crate) struct Verdict {
     pub(crate) spot: Spot,
-    // Whether it passes at its own place.
+    // Whether it is a checked block, and no plain sector.
+    pub(crate) checked: bool,
+    // Whether nothing is wrong at its own place.
     pub(crate) good: bool,
-    // Whether no candidate passes.
-    pub(crate) lost: bool,
+    // Whether it gets bytes in the new data.
+    pub(crate) given: bool,
+    // Whether what stands in its place in the new data is sure.
+    pub(crate) sure: bool,
 }
 
 // How many bytes a want has.
@@ -54,19 +59,43 @@ pub(crate) fn spot_of(want: &Want, stripe: &FullStripe, store: &Store) -> Spot
     }
 }
 
-// Writes the front of a buffer over bytes in memory.
-fn paste(bytes: &mut [u8], start: usize, front: &[u8], len: usize)
+// Writes the front of a buffer over bytes in memory, if they are given.
+fn paste(given: bool, bytes: &mut [u8], start: usize, front: &[u8], len: usize)
     requires fits { len ≤ length front.now }
     requires within { start + len ≤ length bytes.old }
-    ensures { bytes.new ≡ pasted bytes.old start (take len front.now) }
+    ensures pasted { bytes.new ≡ (if given then pasted bytes.old start (take len front.now) else bytes.old) }
+    ensures long { length bytes.new ≡ length bytes.old }
 {
-    bytes[start..start + len].copy_from_slice(&front[..len]);
+    if given {
+        bytes[start..start + len].copy_from_slice(&front[..len]);
+    }
 }
 
-// Judges a block by the row as it was read, and puts what is accepted for it into the new data.
+// Whether the image of a block's slice isn't in doubt, where some other one of the chunk is.
+fn is_surer(spot: &Spot, doubts: &Doubts) -> bool
+    ensures { result ≡ (doubts.now.some && not (flag_of doubts.now.doubtful spot.now.index)) }
+{
+    doubts.some && !flag_of(&doubts.doubtful, spot.index)
+}
+
+// What comes of a block by what it gets.
+fn verdict_of(checked: bool, settled: Settled, surer: bool, spot: Spot) -> Verdict
+    ensures { IsVerdict checked settled surer spot result }
+{
+    Verdict {
+        spot,
+        checked,
+        good: settled.good,
+        given: settled.given,
+        sure: settled.given || !checked && surer,
+    }
+}
+
+// Judges a block by the row as it was read, and puts what it gets into the new data.
 pub(crate) fn judge_block(
     want: &Want,
     stripe: &FullStripe,
+    doubts: &Doubts,
     store: &Store,
     old: &[u8],
     new: &mut [u8],
@@ -78,26 +107,14 @@ pub(crate) fn judge_block(
     requires new_room { OfRow store.now.layout stripe.now (λ row. length row.chunk.stripes * 65536 ≤ length new.old) }
     requires block { 65536 ≤ length block.old }
     requires spare { 65536 ≤ length spare.old }
-    ensures verdict { JudgesBlock store.now.layout stripe.now want.now old.now new.old new.new result }
+    ensures verdict { JudgesBlock store.now.layout stripe.now doubts.now want.now old.now new.old new.new result }
     ensures inside { result.spot.rest + result.spot.len ≤ 65536 }
     ensures long { length new.new ≡ length new.old }
     ensures block_long { length block.new ≡ length block.old }
     ensures spare_long { length spare.new ≡ length spare.old }
 {
     let spot = spot_of(want, stripe, store);
-    match accept(want, &spot, store, old, block, spare) {
-        Some(good) => {
-            paste(new, spot.start(spot.index), block, spot.len);
-            Verdict {
-                spot,
-                good,
-                lost: false,
-            }
-        }
-        None => Verdict {
-            spot,
-            good: false,
-            lost: true,
-        },
-    }
+    let settled = settle(want, &spot, doubts, store, old, block, spare);
+    paste(settled.given, new, spot.start(spot.index), block, spot.len);
+    verdict_of(!is_plain(want), settled, is_surer(&spot, doubts), spot)
 }

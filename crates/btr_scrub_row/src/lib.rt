@@ -1,8 +1,9 @@
 //! Mending one full stripe of a chunk with parity.
 //!
 //! A row of a chunk in RAID5 or RAID6 has an element on each stripe: the slices of data, P, and in RAID6 Q. It is read whole, and every choice is made
-//! from those bytes: which checked blocks are bad and what is accepted for them, and which sectors of P and Q differ from those of the new data.
-//! The layer above is promised exactly the writes that follow from them, one call each, or those up to one that failed. `specs/Rows.antt` says what they
+//! from those bytes: which checked blocks are bad and what is accepted for them, which sectors without a checksum are stale and what their fresh bytes are,
+//! and which sectors of P and Q differ from those of the new data.
+//! The layer above is promised exactly the writes that follow from them, one call each, or those up to one that failed. `specs/Wanted.antt` and `specs/Rows.antt` say what they
 //! are, and `specs/Mending.antt` what a call did.
 #![tactic(auto)]
 
@@ -11,6 +12,8 @@ mod applying;
 mod at;
 mod blocks;
 mod buffer;
+mod doubts;
+mod freshening;
 mod gathering;
 mod judged;
 mod judging;
@@ -21,6 +24,7 @@ mod parity;
 mod preparing;
 mod reading;
 mod sectors;
+mod settling;
 mod shape;
 mod spot;
 mod stripe;
@@ -28,5 +32,7 @@ mod writing;
 
 pub use at::RowAt;
 pub use buffer::RowBuffer;
+pub use doubts::has_doubtful;
 pub use mended::MendedRow;
 pub use mending::mend_row;
+pub use settling::is_plain;

@@ -9,6 +9,7 @@ ghost use Rattle.btr_scrub_row.specs.Memory.{AccountsRow, IsStripe, OfRow, slice
 ghost use Rattle.btr_scrub_row.specs.Preparing.{Prepares};
 
 use crate::RowBuffer;
+use crate::doubts::Doubts;
 use crate::judged::{Judged, judge};
 use crate::parities::{make_p, make_q};
 use crate::reading::read_row;
@@ -43,7 +44,7 @@ fn make_parities(shape: &Shape, new: &[u8], p: &mut [u8], q: &mut [u8])
 pub(crate) fn prepare<R: Rack>(
     wants: &[Want],
     stripe: &FullStripe,
-    kept: [bool; 16],
+    doubts: &Doubts,
     rack: &mut R,
     store: &Store,
     buffer: &mut RowBuffer,
@@ -54,7 +55,7 @@ pub(crate) fn prepare<R: Rack>(
     requires room { OfRow store.now.layout stripe.now (λ row. HasRoom buffer.old (length row.chunk.stripes)) }
     ensures reads { OnlyReads (R.seen rack.old) (R.seen rack.new) }
     ensures room { (elements : ℕ) → HasRoom buffer.old elements → HasRoom buffer.new elements }
-    ensures prepared { IfOk result (Prepares store.now.layout stripe.now wants.now kept (R.seen rack.old) buffer.new) }
+    ensures prepared { IfOk result (Prepares store.now.layout stripe.now wants.now doubts.now (R.seen rack.old) buffer.new) }
     ensures account { AccountsRow store.now.layout stripe.now (R.seen rack.old) (R.seen rack.new) result }
 {
     match read_row(stripe, rack, store, &mut buffer.elements) {
@@ -64,7 +65,7 @@ pub(crate) fn prepare<R: Rack>(
     let judged = judge(
         wants,
         stripe,
-        kept,
+        doubts,
         store,
         &buffer.elements,
         &mut buffer.slices,

@@ -2,7 +2,7 @@
 ghost use Rattle.std.specs.Prelude.{◌≡◌, Some};
 ghost use Rattle.btr_scrub_row.specs.Rows.{Row, range_in_element};
 ghost use Rattle.btr_scrub_row.specs.Mending.{HasStripe, IsFullStripe};
-ghost use Rattle.btr_scrub_row.specs.Memory.{IsPartOf, IsStripe, IsStripeOf, OfRow};
+ghost use Rattle.btr_scrub_row.specs.Memory.{IsPartOf, IsStripe, IsStripeOf, OfRow, devid_at};
 
 use crate::shape::Shape;
 use btr_chunk::{Elements, Part, Profile, place_of};
@@ -41,6 +41,23 @@ pub(crate) fn full_stripe(chunk: u64, number: u64, nodesize: u32, store: &Store)
             slices: found.stripes.len() as u32 - parities,
         },
     }
+}
+
+// The device on which the element of a part lies.
+pub(crate) fn devid_of_part(stripe: &FullStripe, part: Part, store: &Store) -> u64
+    requires stripe { IsStripe store.now.layout stripe.now }
+    requires part { IsPartOf store.now.layout stripe.now part }
+    ensures { OfRow store.now.layout stripe.now (λ row. devid_at row part ≡ result) }
+{
+    let Some(chunk) = store.chunks().find(stripe.chunk) else {
+        unreachable!();
+    };
+    let at = Elements {
+        row: stripe.number,
+        index: 0,
+        rest: 0,
+    };
+    place_of(chunk, part, &at).devid
 }
 
 // Where the element of a part lies.

@@ -41,8 +41,8 @@ pub(super) fn turn(rack: &mut MemRack, places: &[(&str, u64)]) -> Result<(), Fai
     Ok(())
 }
 
-// A damaged volume; where its wrong bytes are made right, only those are wrong that are left.
-fn damaged(alloc: Global, damage: &Damage, mended: bool) -> Result<MemRack, Fail> {
+/// A damaged volume; where its wrong bytes are made right, only those are wrong that are left.
+pub(super) fn damaged(alloc: Global, damage: &Damage, mended: bool) -> Result<MemRack, Fail> {
     let mut rack = build(alloc, damage.volume)?;
     turn(&mut rack, damage.left)?;
     if !mended {
@@ -74,8 +74,8 @@ pub(super) fn open_all(rack: &mut MemRack, names: &[&str]) -> Result<(), Fail>
     Ok(())
 }
 
-// Scrubs images, which are on the shelf before and after. The answer is `None` where there is no tally.
-fn scrub_images(
+/// Scrubs images, which are on the shelf before and after. The answer is `None` where there is no tally.
+pub(super) fn scrub_images(
     rt: &impl Abort,
     alloc: Global,
     write: bool,

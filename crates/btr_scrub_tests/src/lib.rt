@@ -18,4 +18,6 @@ mod opened;
 #[cfg(test)]
 mod shapes;
 #[cfg(test)]
+mod stale_rows;
+#[cfg(test)]
 mod stripes;

@@ -44,7 +44,6 @@ fn row_of_sector(addr: u64, sum: Sum, nodesize: u32, rack: &MemRack, store: &Sto
             chunk: chunk.start,
             number: at.row,
             nodesize,
-            kept: [false; 16],
         }),
         Err(_) => None,
     }
@@ -71,6 +70,7 @@ fn mended(alloc: Global, rack: &mut MemRack) -> Option<MendedRow>
         at,
         &wants,
         true,
+        &[false; 4],
         rack,
         &mut volume.store,
         &mut buffer,
@@ -101,6 +101,7 @@ fn one_full_stripe(rt: HostRuntime) -> Result<(), Fail> {
     assert_eq!(rt; rack.count(), 0);
     open_all(&mut rack, &names)?;
     let expected = MendedRow {
+        blocks: 1,
         bad: 1,
         repaired: 1,
         lost: 0,

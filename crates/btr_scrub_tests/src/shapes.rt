@@ -78,6 +78,10 @@ pub(super) enum Made {
     Unsummed5(&'static str),
     /// The same in `W6`.
     Unsummed6(&'static str),
+    /// `W5`, whose second extent of data goes on without checksums to the end of its full stripe. The images of these names are older.
+    Filled5(&'static [&'static str]),
+    /// The same in `W6`.
+    Filled6(&'static [&'static str]),
     /// `Raid10`, whose second extent of data goes on without checksums, over the end of the first stripe's element. The image of this name, if there is one,
     /// is older.
     UnsummedRaid10(&'static str),
@@ -101,6 +105,7 @@ impl Made {
             | Made::Raid10
             | Made::Raid1c4
             | Made::Unsummed6(_)
+            | Made::Filled6(_)
             | Made::UnsummedRaid10(_)
             | Made::UnsummedRaid1c4(_) => &["a", "b", "c", "d"],
             Made::Row(RowVolume::V1 | RowVolume::V1d) | Made::OverSuper => &["a"],
@@ -198,7 +203,22 @@ const HALF_SUMMED: Shape = Shape {
     pages: &[],
 };
 
-// The length of the second extent of data.
+// Zeros behind the two sectors of data, and in the other slice beside the first of them.
+const BEHIND_DATA: Pages = Pages {
+    from: DATA_PAGE + 2,
+    to: DATA_PAGE + 2,
+    count: 2,
+    images: &["a", "b", "c", "d"],
+};
+
+const OTHER_SLICE: Pages = Pages {
+    from: DATA_PAGE + 2,
+    to: DATA_PAGE,
+    count: 1,
+    images: &["b"],
+};
+
+// The length of the second extent of data. The pages of some sectors behind it are kept.
 const UNSUMMED5: Shape = Shape {
     volume: RowVolume::W5,
     changed: &["a", "b"],
@@ -208,12 +228,36 @@ const UNSUMMED5: Shape = Shape {
         size: 8,
         value: 65536,
     }],
-    pages: &[],
+    pages: &[
+        OTHER_SLICE,
+        Pages {
+            images: &["a", "b", "c"],
+            ..BEHIND_DATA
+        },
+    ],
 };
 
 const UNSUMMED6: Shape = Shape {
     volume: RowVolume::W6,
+    pages: &[OTHER_SLICE, BEHIND_DATA],
     ..UNSUMMED5
+};
+
+// The same over the whole full stripe.
+const TO_THE_END: Field = Field {
+    at: EXTENTS + 360,
+    size: 8,
+    value: 126976,
+};
+
+const FILLED5: Shape = Shape {
+    fields: &[TO_THE_END],
+    ..UNSUMMED5
+};
+
+const FILLED6: Shape = Shape {
+    fields: &[TO_THE_END],
+    ..UNSUMMED6
 };
 
 // The length of the data chunk of `W5`, and where its first stripe begins.
@@ -339,6 +383,15 @@ fn build_with_older(alloc: Global, shape: &Shape, older: &str) -> Result<MemRack
     Ok(rack)
 }
 
+// The same, where some images are.
+fn build_with_some_older(alloc: Global, shape: &Shape, older: &[&str]) -> Result<MemRack, Fail> {
+    let mut rack = build_row(alloc, shape)?;
+    for name in older {
+        make_older(&mut rack, name)?;
+    }
+    Ok(rack)
+}
+
 // A volume made of `W6`, whose second extent of data goes on without checksums too.
 fn build_unsummed(alloc: Global, shape: &Shape, older: &str) -> Result<MemRack, Fail> {
     let mut rack = build_row(alloc, shape)?;
@@ -360,6 +413,8 @@ pub(super) fn build(alloc: Global, which: Made) -> Result<MemRack, Fail> {
         Made::HalfSummed => HALF_SUMMED,
         Made::Unsummed5(older) => return build_with_older(alloc, &UNSUMMED5, older),
         Made::Unsummed6(older) => return build_with_older(alloc, &UNSUMMED6, older),
+        Made::Filled5(older) => return build_with_some_older(alloc, &FILLED5, older),
+        Made::Filled6(older) => return build_with_some_older(alloc, &FILLED6, older),
         Made::UnsummedRaid10(older) => return build_unsummed(alloc, &RAID10, older),
         Made::UnsummedRaid1c4(older) => return build_unsummed(alloc, &RAID1C4, older),
         Made::BesideSuper => BESIDE_SUPER,

@@ -10,11 +10,11 @@ use Rattle.btr_read.specs.Want.{addr_of}
 use Rattle.btr_read.proofs.Serving.{serving}
 use Rattle.btr_scrub_copies.specs.Mending.{IsCopied}
 use Rattle.btr_scrub_copies.proofs.Copied.{same_loans_then}
+use Rattle.btr_scrub_row.specs.Wanted.{mending_writes}
 use Rattle.btr_scrub.specs.Leaves.{alone}
 use Rattle.btr_scrub.specs.Judged.{has_behind}
 use Rattle.btr_scrub.specs.Order.{AreApart, targets}
 use Rattle.btr_scrub_copies.specs.Fresh.{flagged}
-use Rattle.btr_scrub.specs.Repair.{mending_writes}
 use Rattle.btr_scrub.specs.Scrubbing.{BeginsBehind, IsPastChunk, Scrubs, count_site, sites_count, sites_writes}
 use Rattle.btr_scrub.proofs.Blockwise.{chunk_mended, have_lengths, next_block, next_copied, past_chunk, underway_cut, underway_first, underway_more}
 use Rattle.btr_scrub.proofs.InWrong.{not_bad}

@@ -7,7 +7,7 @@ use Rattle.btr_scrub_copies.proofs.Copied.{same_loans_then}
 use Rattle.btr_scrub.specs.Leaves.{alone}
 use Rattle.btr_scrub.specs.Order.{AreApart}
 use Rattle.btr_scrub.specs.Scrubbing.{HasRooms, IsPastChunk, Works, all_count_for, all_writes_for, chunk_count_for, chunk_writes_for}
-use Rattle.btr_scrub.specs.Judged.{doubts_beside}
+use Rattle.btr_scrub_copies.specs.Fresh.{flagged}
 use Rattle.btr_scrub.proofs.Blockwise.{have_lengths}
 use Rattle.btr_scrub.proofs.AcrossChunks.{chunk_unmoved}
 use Rattle.btr_scrub.proofs.Working.{at_number, begins_there, chunks_cut, chunks_more, chunks_none, works_alone}
@@ -18,7 +18,7 @@ loop-number-init g c = record {
   ready = c.requires.ready;
   loans = record { layout = refl; loans = refl };
   rooms = c.requires.rooms;
-  past = chunks_none (doubts_beside c.args.store.now.layout c.args.beside.now) c.args.store.now.layout c.requires.ready.table c.args.blocks.now
+  past = chunks_none (flagged c.args.failing.now) c.args.store.now.layout c.requires.ready.table c.args.blocks.now
       c.args.write (g.R.Rack.seen c.args.rack.now) c.args.tally.now c.requires.apart;
 }
 
@@ -38,7 +38,7 @@ mend_and_sync-requires-clause-chunk g c =
     let table = c.requires.ready.table in
     let h = c.loop-number.invariant.past in
     let at = at_number layout c.loop-number.number (omega (arith, c.loop-number-test.true, c.count-number-end.ensures.count, ap length c.chunks.ensures)) in
-    let begin = begins_there (doubts_beside layout c.args.beside.now) layout table c.args.blocks.now c.loop-number.number at.0 at.1 c.loop-number.blocks h.end h.passed h.apart in
+    let begin = begins_there (flagged c.args.failing.now) layout table c.args.blocks.now c.loop-number.number at.0 at.1 c.loop-number.blocks h.end h.passed h.apart in
     subst (λ (l : Layout). IsSomeAnd (slice_get l.chunks c.loop-number.number) (λ chunk. AreApart l chunk.start c.loop-number.blocks))
     (sym c.loop-number.invariant.loans.layout)
     (subst (λ o. IsSomeAnd o (λ chunk. AreApart layout chunk.start c.loop-number.blocks)) (sym at.1) begin)
@@ -57,11 +57,11 @@ returns-in-Err-clause-works g c =
     let was = serving a c.args.store.now c.requires.ready.serves in
     let at = at_number layout c.loop-number.number (omega (arith, c.loop-number-test.true, c.count-number-end.ensures.count, ap length c.chunks.ensures)) in
     let only = subst (λ (l : Layout). (chunk : Chunk) → slice_get l.chunks c.loop-number.number ≡ Some chunk
-    → Works {A = Unit {0}} (alone l chunk) c.args.write (chunk_writes_for (doubts_beside l c.args.beside.now) l chunk c.loop-number.blocks) (chunk_count_for (doubts_beside l c.args.beside.now) l c.args.write chunk c.loop-number.blocks) b z c.loop-number.tally c.mend_and_sync.new.tally (Err c.in-Err.fault)) c.loop-number.invariant.loans.layout c.in-Err.ensures.works at.0 at.1 in
-    let one = works_alone layout c.args.write {A = Unit {0}} c.loop-number.number at.0 at.1 (chunk_writes_for (doubts_beside layout c.args.beside.now) layout at.0 c.loop-number.blocks) (chunk_count_for (doubts_beside layout c.args.beside.now) layout c.args.write at.0 c.loop-number.blocks) b z c.loop-number.tally c.mend_and_sync.new.tally (Err c.in-Err.fault) only in
-    chunks_cut (doubts_beside layout c.args.beside.now) layout table c.args.blocks.now c.loop-number.number at.0 at.1 c.args.write c.loop-number.blocks
+    → Works {A = Unit {0}} (alone l chunk) c.args.write (chunk_writes_for (flagged c.args.failing.now) l chunk c.loop-number.blocks) (chunk_count_for (flagged c.args.failing.now) l c.args.write chunk c.loop-number.blocks) b z c.loop-number.tally c.mend_and_sync.new.tally (Err c.in-Err.fault)) c.loop-number.invariant.loans.layout c.in-Err.ensures.works at.0 at.1 in
+    let one = works_alone layout c.args.write {A = Unit {0}} c.loop-number.number at.0 at.1 (chunk_writes_for (flagged c.args.failing.now) layout at.0 c.loop-number.blocks) (chunk_count_for (flagged c.args.failing.now) layout c.args.write at.0 c.loop-number.blocks) b z c.loop-number.tally c.mend_and_sync.new.tally (Err c.in-Err.fault) only in
+    chunks_cut (flagged c.args.failing.now) layout table c.args.blocks.now c.loop-number.number at.0 at.1 c.args.write c.loop-number.blocks
     c.mend_and_sync.new.blocks a b z c.args.tally.now c.loop-number.tally c.mend_and_sync.new.tally c.loop-number.invariant.past
-    (chunk_unmoved (doubts_beside layout c.args.beside.now) layout c.args.write c.args.blocks.now a.held c.loop-number.number at.0 table was.own_slots
+    (chunk_unmoved (flagged c.args.failing.now) layout c.args.write c.args.blocks.now a.held c.loop-number.number at.0 table was.own_slots
     c.requires.ready.given at.1 (λ images held. have_lengths a layout images (g.met.R.Rack.sound c.args.rack.now) was.are_open held))
     c.in-Err.fault one
 
@@ -76,16 +76,16 @@ loop-number-preserved g c =
     let was = serving a c.args.store.now c.requires.ready.serves in
     let at = at_number layout c.loop-number.number (omega (arith, c.loop-number-test.true, c.count-number-end.ensures.count, ap length c.chunks.ensures)) in
     let only = subst (λ (l : Layout). (chunk : Chunk) → slice_get l.chunks c.loop-number.number ≡ Some chunk
-    → Works {A = Unit {0}} (alone l chunk) c.args.write (chunk_writes_for (doubts_beside l c.args.beside.now) l chunk c.loop-number.blocks) (chunk_count_for (doubts_beside l c.args.beside.now) l c.args.write chunk c.loop-number.blocks) b z c.loop-number.tally c.mend_and_sync.new.tally (Ok tt)) inv.loans.layout c.in-Ok.ensures.works at.0 at.1 in
-    let one = works_alone layout c.args.write {A = Unit {0}} c.loop-number.number at.0 at.1 (chunk_writes_for (doubts_beside layout c.args.beside.now) layout at.0 c.loop-number.blocks) (chunk_count_for (doubts_beside layout c.args.beside.now) layout c.args.write at.0 c.loop-number.blocks) b z c.loop-number.tally c.mend_and_sync.new.tally (Ok tt) only in
+    → Works {A = Unit {0}} (alone l chunk) c.args.write (chunk_writes_for (flagged c.args.failing.now) l chunk c.loop-number.blocks) (chunk_count_for (flagged c.args.failing.now) l c.args.write chunk c.loop-number.blocks) b z c.loop-number.tally c.mend_and_sync.new.tally (Ok tt)) inv.loans.layout c.in-Ok.ensures.works at.0 at.1 in
+    let one = works_alone layout c.args.write {A = Unit {0}} c.loop-number.number at.0 at.1 (chunk_writes_for (flagged c.args.failing.now) layout at.0 c.loop-number.blocks) (chunk_count_for (flagged c.args.failing.now) layout c.args.write at.0 c.loop-number.blocks) b z c.loop-number.tally c.mend_and_sync.new.tally (Ok tt) only in
     let past = subst (λ (l : Layout). (chunk : Chunk) → slice_get l.chunks c.loop-number.number ≡ Some chunk → IsPastChunk l chunk c.loop-number.blocks c.mend_and_sync.new.blocks) inv.loans.layout c.in-Ok.ensures.past at.0 at.1 in
     record {
       ready = c.in-Ok.ensures.ready;
       loans = same_loans_then c.args.store.now c.loop-number.store c.mend_and_sync.new.store inv.loans c.in-Ok.ensures.loans;
       rooms = subst (λ (l : Layout). HasRooms l c.mend_and_sync.new.room.buffer) inv.loans.layout c.in-Ok.ensures.rooms;
-      past = chunks_more (doubts_beside layout c.args.beside.now) layout table c.args.blocks.now c.loop-number.number at.0 at.1 c.args.write
+      past = chunks_more (flagged c.args.failing.now) layout table c.args.blocks.now c.loop-number.number at.0 at.1 c.args.write
           c.loop-number.blocks c.mend_and_sync.new.blocks a b z c.args.tally.now c.loop-number.tally c.mend_and_sync.new.tally inv.past
-          (chunk_unmoved (doubts_beside layout c.args.beside.now) layout c.args.write c.args.blocks.now a.held c.loop-number.number at.0 table
+          (chunk_unmoved (flagged c.args.failing.now) layout c.args.write c.args.blocks.now a.held c.loop-number.number at.0 table
           was.own_slots c.requires.ready.given at.1 (λ images held. have_lengths a layout images (g.met.R.Rack.sound c.args.rack.now) was.are_open held))
           past one;
     }
@@ -100,7 +100,7 @@ pub returns-clause-works : goal.returns-clause-works
 returns-clause-works g c =
     let layout = c.args.store.now.layout in
     let whole : take c.loop-number.number layout.chunks ≡ layout.chunks = take_all c.loop-number.number layout.chunks (omega (arith, c.loop-number-test.false, c.count-number-end.ensures.count, ap length c.chunks.ensures)) in
-    subst (λ cs. Works {A = Unit {0}} layout c.args.write (all_writes_for (doubts_beside layout c.args.beside.now) layout cs c.args.blocks.now)
-    (all_count_for (doubts_beside layout c.args.beside.now) layout c.args.write cs c.args.blocks.now) (g.R.Rack.seen c.args.rack.now)
+    subst (λ cs. Works {A = Unit {0}} layout c.args.write (all_writes_for (flagged c.args.failing.now) layout cs c.args.blocks.now)
+    (all_count_for (flagged c.args.failing.now) layout c.args.write cs c.args.blocks.now) (g.R.Rack.seen c.args.rack.now)
     (g.R.Rack.seen c.loop-number.rack) c.args.tally.now c.loop-number.tally (Ok tt)) whole
     c.loop-number.invariant.past.done

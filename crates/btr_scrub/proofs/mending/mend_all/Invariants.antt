@@ -1,6 +1,6 @@
 use Rattle.btr_read.specs.Store.{SameLoans}
 use Rattle.btr_scrub.specs.Scrubbing.{CanMend, HasRooms}
-use Rattle.btr_scrub.specs.Judged.{doubts_beside}
+use Rattle.btr_scrub_copies.specs.Fresh.{flagged}
 use Rattle.btr_scrub.proofs.Working.{ChunksPast}
 use Rattle.btr_scrub.proofs.mending.mend_all.Given as goal
 
@@ -9,6 +9,6 @@ invariant-loop-number g l = record {
   ready : CanMend l.write (g.R.Rack.seen l.rack) l.store l.marks;
   loans : SameLoans l.initial.store l.store;
   rooms : HasRooms l.initial.store.layout l.room.buffer;
-  past : ChunksPast (doubts_beside l.initial.store.layout l.beside) l.initial.store.layout l.initial.blocks l.write l.blocks l.number
+  past : ChunksPast (flagged l.failing) l.initial.store.layout l.initial.blocks l.write l.blocks l.number
       (g.R.Rack.seen l.initial.rack) (g.R.Rack.seen l.rack) l.initial.tally l.tally;
 }

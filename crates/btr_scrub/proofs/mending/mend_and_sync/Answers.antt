@@ -1,6 +1,6 @@
 use Rattle.std.proofs.Common.{◌≡◌, true, false, rules}
 use Rattle.btr_scrub.specs.Scrubbing.{chunk_count_for, chunk_writes_for}
-use Rattle.btr_scrub.specs.Judged.{doubts_beside}
+use Rattle.btr_scrub_copies.specs.Fresh.{flagged}
 use Rattle.btr_scrub.proofs.Working.{can_mend_synced, works_halted, works_read, works_synced}
 use Rattle.btr_scrub.proofs.mending.mend_and_sync.Goals as goal
 
@@ -11,8 +11,8 @@ pub returns-then-not-task-clause-works : goal.returns-then-not-task-clause-works
 returns-then-not-task-clause-works g c chunk there =
     let layout = c.args.store.now.layout in
     let unwritten : c.args.task.write ≡ false = search rules in
-    works_read layout chunk c.args.task.write (chunk_writes_for (doubts_beside layout c.args.beside.now) layout chunk c.args.blocks.now)
-    (chunk_count_for (doubts_beside layout c.args.beside.now) layout c.args.task.write chunk c.args.blocks.now) c.args.marks.now c.mend_chunk.new.marks
+    works_read layout chunk c.args.task.write (chunk_writes_for (flagged c.args.failing.now) layout chunk c.args.blocks.now)
+    (chunk_count_for (flagged c.args.failing.now) layout c.args.task.write chunk c.args.blocks.now) c.args.marks.now c.mend_chunk.new.marks
     (g.R.Rack.seen c.args.rack.now) (g.R.Rack.seen c.mend_chunk.new.rack) c.args.tally.now c.mend_chunk.new.tally tt unwritten
     (c.in-Ok.ensures.scrubs chunk there)
 
@@ -25,8 +25,8 @@ pub returns-clause-works : goal.returns-clause-works
 returns-clause-works g c chunk there =
     let layout = c.args.store.now.layout in
     let written : c.args.task.write ≡ true = search rules in
-    works_synced layout chunk c.args.task.write (chunk_writes_for (doubts_beside layout c.args.beside.now) layout chunk c.args.blocks.now)
-    (chunk_count_for (doubts_beside layout c.args.beside.now) layout c.args.task.write chunk c.args.blocks.now) c.args.marks.now
+    works_synced layout chunk c.args.task.write (chunk_writes_for (flagged c.args.failing.now) layout chunk c.args.blocks.now)
+    (chunk_count_for (flagged c.args.failing.now) layout c.args.task.write chunk c.args.blocks.now) c.args.marks.now
     c.mend_chunk.new.marks c.sync_marked.new.marks
     (g.R.Rack.seen c.args.rack.now) (g.R.Rack.seen c.mend_chunk.new.rack) (g.R.Rack.seen c.sync_marked.new.rack) c.args.tally.now
     c.mend_chunk.new.tally tt c.sync_marked.result written (c.in-Ok.ensures.scrubs chunk there) c.sync_marked.ensures
@@ -34,7 +34,7 @@ returns-clause-works g c chunk there =
 pub returns-in-Err-clause-works : goal.returns-in-Err-clause-works
 returns-in-Err-clause-works g c chunk there =
     let layout = c.args.store.now.layout in
-    works_halted layout chunk c.args.task.write (chunk_writes_for (doubts_beside layout c.args.beside.now) layout chunk c.args.blocks.now)
-    (chunk_count_for (doubts_beside layout c.args.beside.now) layout c.args.task.write chunk c.args.blocks.now) c.args.marks.now c.mend_chunk.new.marks
+    works_halted layout chunk c.args.task.write (chunk_writes_for (flagged c.args.failing.now) layout chunk c.args.blocks.now)
+    (chunk_count_for (flagged c.args.failing.now) layout c.args.task.write chunk c.args.blocks.now) c.args.marks.now c.mend_chunk.new.marks
     (g.R.Rack.seen c.args.rack.now) (g.R.Rack.seen c.mend_chunk.new.rack) c.args.tally.now c.mend_chunk.new.tally c.in-Err.fault
     (c.in-Err.ensures.scrubs chunk there)

@@ -1,12 +1,19 @@
-use Rattle.std.proofs.Common.{◌≡◌, length, sym, ap, ◌∙◌, subst}
+use Rattle.std.proofs.Common.{◌≡◌, [], Ok, length, sym, ap, subst, ◌∙◌}
 use Rattle.btr_rack.specs.Rack.{Seen}
-use Rattle.btr_scrub_row.specs.Mending.{IsRowOf}
-use Rattle.btr_scrub.specs.Scrubbing.{counted_row}
-use Rattle.btr_scrub.proofs.OneRow.{as_many, flagged, has_room, row_in_stripe, scrubs_row, scrubs_row_not, still_ready}
+use Rattle.btr_scrub_copies.specs.Writes.{Images}
+use Rattle.btr_scrub_row.specs.Mending.{IsRowOf, mended_row}
+use Rattle.btr_scrub_row.specs.Rows.{row_writes}
+use Rattle.btr_scrub.specs.Leaves.{alone}
+use Rattle.btr_scrub.specs.Rowing.{IsCalm, untouched}
+use Rattle.btr_scrub.specs.Scrubbing.{Scrubs, counted_row}
+use Rattle.btr_scrub.specs.declared.tally.Tally.{Tally}
+use Rattle.btr_scrub.proofs.CalmRows.{calm_counts, calm_writes}
+use Rattle.btr_scrub.proofs.OneRow.{flagged_row, has_room, row_in_stripe, scrubs_row, scrubs_row_not, still_ready}
+use Rattle.btr_scrub.proofs.Scrubbing.{scrubs_as, scrubs_idle}
 use Rattle.btr_scrub.proofs.rowed.mend_collected.Goals as goal
 
 pub mend_row-requires-clause-room : goal.mend_row-requires-clause-room
-mend_row-requires-clause-room g c row is = has_room c.args.store.now.layout c.args.room.now.buffer c.args.at.chunk c.args.at.number c.deref.result.now
+mend_row-requires-clause-room g c row is = has_room c.args.store.now.layout c.args.room.now.buffer c.args.at.chunk c.args.at.number c.deref-2.result.now
     row c.requires.rooms is
 
 pub returns-in-Ok-clause-rooms : goal.returns-in-Ok-clause-rooms
@@ -15,29 +22,50 @@ returns-in-Ok-clause-rooms g c i chunk at none = c.in-Ok.ensures.room (length ch
 pub returns-in-Err-clause-rooms : goal.returns-in-Err-clause-rooms
 returns-in-Err-clause-rooms g c i chunk at none = c.in-Err.ensures.room (length chunk.stripes) (c.requires.rooms i chunk at none)
 
-pub returns-in-Ok-clause-scrubs : goal.returns-in-Ok-clause-scrubs
-returns-in-Ok-clause-scrubs g c r is kept =
+pub returns-then-is_calm-clause-scrubs : goal.returns-then-is_calm-clause-scrubs
+returns-then-is_calm-clause-scrubs g c r is fails =
     let layout = c.args.store.now.layout in
+    let write = c.args.write in
+    let tally = c.args.tally.now in
+    let table = c.requires.ready.table in
+    let a = g.R.Rack.seen c.args.rack.now in
+    let wants = c.args.room.now.wants.items in
     let here = subst (λ ws. IsRowOf layout c.args.at.chunk c.args.at.number ws r) (sym c.deref.ensures.value) is in
-    let number : c.len.result ≡ length r.blocks = c.len.ensures ∙ sym c.deref.ensures.len ∙ ap length c.deref.ensures.value ∙ as_many layout c.args.at.chunk c.args.at.number c.args.room.now.wants.items r is in
+    let calm : IsCalm layout r = c.is_calm.ensures c.if-is_calm.true r here fails in
+    let writes = λ (images : Images). calm_writes layout table c.args.at.chunk c.args.at.number wants r is calm images in
+    let counts = λ (images : Images). calm_counts layout table c.args.at.chunk c.args.at.number wants r is calm images write in
+    let told : c.counted_row.result ≡ counted_row tally untouched = c.counted_row.ensures ∙ ap (counted_row tally) c.untouched.ensures in
+    subst (λ u. Scrubs (alone layout r.chunk) write (λ images. row_writes images layout r)
+    (λ images tally. counted_row tally (mended_row images layout r write)) c.args.marks.now c.args.marks.now a a tally u (Ok tt))
+    (sym told)
+    (scrubs_as (alone layout r.chunk) write (λ (images : Images). []) (λ images. row_writes images layout r)
+    (λ (images : Images) (t : Tally). counted_row t untouched)
+    (λ images t. counted_row t (mended_row images layout r write)) c.args.marks.now c.args.marks.now a a tally (counted_row tally untouched) (Ok tt)
+    (λ images e. (sym (writes images), sym (ap (counted_row tally) (counts images))))
+    (scrubs_idle (alone layout r.chunk) write (λ t. counted_row t untouched) c.args.marks.now a tally tt))
+
+pub returns-in-Ok-clause-scrubs : goal.returns-in-Ok-clause-scrubs
+returns-in-Ok-clause-scrubs g c r is fails =
+    let layout = c.args.store.now.layout in
+    let here = subst (λ ws. IsRowOf layout c.args.at.chunk c.args.at.number ws r) (sym c.deref-2.ensures.value) is in
     scrubs_row layout c.args.write r c.args.marks.now c.mend_row.new.marks (g.R.Rack.seen c.args.rack.now) (g.R.Rack.seen c.mend_row.new.rack)
     (λ range of. row_in_stripe layout c.args.at.chunk c.args.at.number r range c.requires.ready.table is.stripe of) c.args.tally.now
-    c.counted_row.result c.in-Ok.mended (c.in-Ok.ensures.mends r here kept)
-    (c.counted_row.ensures ∙ ap (λ n. counted_row c.args.tally.now n c.in-Ok.mended) number)
+    c.counted_row-in-Ok.result c.in-Ok.mended (c.in-Ok.ensures.mends r here fails)
+    c.counted_row-in-Ok.ensures
 
 pub returns-in-Err-clause-scrubs : goal.returns-in-Err-clause-scrubs
-returns-in-Err-clause-scrubs g c r is kept =
+returns-in-Err-clause-scrubs g c r is fails =
     let layout = c.args.store.now.layout in
-    let here = subst (λ ws. IsRowOf layout c.args.at.chunk c.args.at.number ws r) (sym c.deref.ensures.value) is in
+    let here = subst (λ ws. IsRowOf layout c.args.at.chunk c.args.at.number ws r) (sym c.deref-2.ensures.value) is in
     scrubs_row_not layout c.args.write r c.args.marks.now c.mend_row.new.marks (g.R.Rack.seen c.args.rack.now) (g.R.Rack.seen c.mend_row.new.rack)
     (λ range of. row_in_stripe layout c.args.at.chunk c.args.at.number r range c.requires.ready.table is.stripe of) c.args.tally.now c.in-Err.fault
-    (c.in-Err.ensures.mends r here kept)
+    (c.in-Err.ensures.mends r here fails)
 
 pub returns-in-Ok-clause-ready : goal.returns-in-Ok-clause-ready
 returns-in-Ok-clause-ready g c =
     let layout = c.args.store.now.layout in
-    let w = flagged layout c.args.at.chunk c.args.at.number c.args.room.now.wants.items c.args.at.kept c.requires.row in
-    let here = subst (λ ws. IsRowOf layout c.args.at.chunk c.args.at.number ws w.0) (sym c.deref.ensures.value) w.1 in
+    let w = flagged_row layout c.args.at.chunk c.args.at.number c.args.room.now.wants.items c.args.failing.now c.requires.row in
+    let here = subst (λ ws. IsRowOf layout c.args.at.chunk c.args.at.number ws w.0) (sym c.deref-2.ensures.value) w.1 in
     let m = c.in-Ok.ensures.mends w.0 here w.2 in
     still_ready c.args.write (g.R.Rack.seen c.args.rack.now) (g.R.Rack.seen c.mend_row.new.rack) c.args.store.now c.mend_row.new.store
     c.args.marks.now c.mend_row.new.marks c.requires.ready
@@ -46,8 +74,8 @@ returns-in-Ok-clause-ready g c =
 pub returns-in-Err-clause-ready : goal.returns-in-Err-clause-ready
 returns-in-Err-clause-ready g c =
     let layout = c.args.store.now.layout in
-    let w = flagged layout c.args.at.chunk c.args.at.number c.args.room.now.wants.items c.args.at.kept c.requires.row in
-    let here = subst (λ ws. IsRowOf layout c.args.at.chunk c.args.at.number ws w.0) (sym c.deref.ensures.value) w.1 in
+    let w = flagged_row layout c.args.at.chunk c.args.at.number c.args.room.now.wants.items c.args.failing.now c.requires.row in
+    let here = subst (λ ws. IsRowOf layout c.args.at.chunk c.args.at.number ws w.0) (sym c.deref-2.ensures.value) w.1 in
     let m = c.in-Err.ensures.mends w.0 here w.2 in
     still_ready c.args.write (g.R.Rack.seen c.args.rack.now) (g.R.Rack.seen c.mend_row.new.rack) c.args.store.now c.mend_row.new.store
     c.args.marks.now c.mend_row.new.marks c.requires.ready

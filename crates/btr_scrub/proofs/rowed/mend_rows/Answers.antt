@@ -1,20 +1,20 @@
-use Rattle.std.proofs.Common.{◌≡◌, ℕ, ◌*◌, ◌≤◌, false, get_or, ◌+◌, ◌∷◌, ◌<◌, length, None, Ok, Err, Some, is_some, IsSomeAnd, slice_get, refl, sym, ap, ◌∙◌}
+use Rattle.std.proofs.Common.{◌≡◌, ◌+◌, ◌∷◌, ◌<◌, length, None, Ok, Err, Some, is_some, IsSomeAnd, slice_get, refl, sym, ap, ◌∙◌}
 use Rattle.std.proofs.Common.{subst, arith, length-append}
 use Rattle.std.proofs.lemmas.Option.{same_Some}
-use Rattle.btr_chunk.specs.Chunk.{mirrors, stripe_length}
+use Rattle.btr_chunk.specs.Chunk.{mirrors}
 use Rattle.btr_chunk.specs.Table.{chunk_at}
 use Rattle.btr_chunk.specs.declared.chunk.Chunk.{Chunk}
 use Rattle.btr_read.specs.Layout.{Layout}
 use Rattle.btr_read.specs.Want.{addr_of}
 use Rattle.btr_read.proofs.Serving.{serving}
 use Rattle.btr_scrub_copies.proofs.Copied.{same_loans_then}
-use Rattle.btr_scrub_row.specs.Mending.{AreKept, IsRow, IsRowOf, mended_row}
+use Rattle.btr_scrub_row.specs.Mending.{IsRow, IsRowOf, mended_row}
 use Rattle.btr_scrub_row.specs.Rows.{Row, row_writes}
 use Rattle.btr_scrub.specs.Leaves.{alone}
 use Rattle.btr_scrub.specs.Order.{AreApart, targets}
 use Rattle.btr_scrub.specs.Repair.{row_of}
 use Rattle.btr_scrub.specs.Scrubbing.{BeginsBehind, HasRooms, IsPastChunk, Scrubs, counted_row}
-use Rattle.btr_scrub.specs.Judged.{doubts_beside}
+use Rattle.btr_scrub_copies.specs.Fresh.{flagged}
 use Rattle.btr_scrub.proofs.Blockwise.{have_lengths, next_block}
 use Rattle.btr_scrub.proofs.OneRow.{chunk_of}
 use Rattle.btr_scrub.proofs.NextRow.{is_row_of}
@@ -29,7 +29,7 @@ loop-first-init g c = record {
   underway = λ table own given chunk there parity.
       let layout = c.args.store.now.layout in
       let is = subst (λ o. IsSomeAnd o (λ chunk. (mirrors chunk ≡ None) × AreApart layout chunk.start c.args.blocks.now)) there c.requires.chunk in
-      rows_first (doubts_beside layout c.args.beside.now) layout table own given c.args.task.number chunk there parity c.args.blocks.now
+      rows_first (flagged c.args.failing.now) layout table own given c.args.task.number chunk there parity c.args.blocks.now
       c.args.task.write c.args.marks.now (g.R.Rack.seen c.args.rack.now) c.args.tally.now is.1;
 }
 
@@ -65,32 +65,8 @@ returns-in-Err-clause-scrubs g c chunk there =
     let is = subst (λ o. IsSomeAnd o (λ chunk. (mirrors chunk ≡ None) × AreApart layout chunk.start wants)) there c.requires.chunk in
     let b = g.R.Rack.seen c.loop-first.rack in
     let h = c.loop-first.invariant.underway table own given chunk there is.0 in
-    rows_short (doubts_beside layout c.args.beside.now) layout table own given c.args.task.number chunk there is.0 wants c.args.task.write
+    rows_short (flagged c.args.failing.now) layout table own given c.args.task.number chunk there is.0 wants c.args.task.write
     c.loop-first.blocks c.args.marks.now c.loop-first.marks a b c.args.tally.now c.loop-first.tally h
-
-pub kept_columns-kept-requires : goal.kept_columns-kept-requires
-kept_columns-kept-requires g c =
-    let layout = c.args.store.now.layout in
-    let table = c.requires.ready.table in
-    let a = g.R.Rack.seen c.args.rack.now in
-    let was = serving a c.args.store.now c.requires.ready.serves in
-    let own = was.own_slots in
-    let given = c.requires.ready.given in
-    let wants = c.args.blocks.now in
-    let chunk = c.at-chunk.result.now in
-    let there : slice_get layout.chunks c.args.task.number ≡ Some chunk = ap (λ cs. slice_get cs c.args.task.number) (sym c.chunks.ensures) ∙ c.at-chunk.ensures.chunk in
-    let is = subst (λ o. IsSomeAnd o (λ chunk. (mirrors chunk ≡ None) × AreApart layout chunk.start wants)) there c.requires.chunk in
-    let b = g.R.Rack.seen c.loop-first.rack in
-    let h = c.loop-first.invariant.underway table own given chunk there is.0 in
-    let left : c.loop-first.blocks ≡ c.in-Some.first ∷ c.next_below.new.blocks = c.in-Some.ensures.0 in
-    let below : addr_of c.in-Some.first < chunk.start + chunk.length = c.in-Some.ensures.1 in
-    let next = next_block layout table c.args.task.number chunk there h.end c.in-Some.first c.next_below.new.blocks h.from (subst (AreApart layout h.end) left h.apart) below in
-    let at : chunk_at layout.chunks (addr_of c.in-Some.first) ≡ Some chunk = chunk_of layout c.in-Some.first next.target next.is_sought ∙ ap Some next.mine in
-    let got = c.in-Ok.ensures chunk (ap (λ (l : Layout). chunk_at l.chunks (addr_of c.in-Some.first)) c.loop-first.invariant.loans.layout ∙ at) in
-    let n = next_row (doubts_beside layout c.args.beside.now) layout table own given c.args.task.number chunk there is.0 wants c.args.task.write c.loop-first.blocks c.next_below.new.blocks c.collect_row.new.blocks c.args.marks.now c.loop-first.marks a b c.args.tally.now c.loop-first.tally h c.in-Some.first c.in-Ok.row c.collect_row.new.wants.items left got.0 got.1 in
-    subst (λ (l : Layout). IsSomeAnd (slice_get l.chunks c.args.task.number)
-    (λ k. (mirrors k ≡ None) × (c.in-Ok.row * 65536 + 65536 ≤ stripe_length k))) (sym c.loop-first.invariant.loans.layout)
-    (subst (λ o. IsSomeAnd o (λ k. (mirrors k ≡ None) × (c.in-Ok.row * 65536 + 65536 ≤ stripe_length k))) (sym there) (is.0, n.fits))
 
 pub mend_collected-requires-clause-rooms : goal.mend_collected-requires-clause-rooms
 mend_collected-requires-clause-rooms g c = subst (λ (l : Layout). HasRooms l c.loop-first.room.buffer) (sym c.loop-first.invariant.loans.layout)
@@ -115,10 +91,10 @@ mend_collected-requires-clause-row g c =
     let next = next_block layout table c.args.task.number chunk there h.end c.in-Some.first c.next_below.new.blocks h.from (subst (AreApart layout h.end) left h.apart) below in
     let at : chunk_at layout.chunks (addr_of c.in-Some.first) ≡ Some chunk = chunk_of layout c.in-Some.first next.target next.is_sought ∙ ap Some next.mine in
     let got = c.in-Ok.ensures chunk (ap (λ (l : Layout). chunk_at l.chunks (addr_of c.in-Some.first)) c.loop-first.invariant.loans.layout ∙ at) in
-    let n = next_row (doubts_beside layout c.args.beside.now) layout table own given c.args.task.number chunk there is.0 wants c.args.task.write c.loop-first.blocks c.next_below.new.blocks c.collect_row.new.blocks c.args.marks.now c.loop-first.marks a b c.args.tally.now c.loop-first.tally h c.in-Some.first c.in-Ok.row c.collect_row.new.wants.items left got.0 got.1 in
-    let row = row_of (doubts_beside layout c.args.beside.now) (targets layout wants) chunk c.in-Ok.row in
+    let n = next_row (flagged c.args.failing.now) layout table own given c.args.task.number chunk there is.0 wants c.args.task.write c.loop-first.blocks c.next_below.new.blocks c.collect_row.new.blocks c.args.marks.now c.loop-first.marks a b c.args.tally.now c.loop-first.tally h c.in-Some.first c.in-Ok.row c.collect_row.new.wants.items left got.0 got.1 in
+    let row = row_of (flagged c.args.failing.now) (targets layout wants) chunk c.in-Ok.row in
     subst (λ (l : Layout). IsRow l chunk.start c.in-Ok.row c.collect_row.new.wants.items) (sym c.loop-first.invariant.loans.layout)
-    (record { row = row; is = is_row_of (doubts_beside layout c.args.beside.now) layout table own given c.args.task.number chunk there is.0 wants h.q h.past c.collect_row.new.blocks c.in-Ok.row c.collect_row.new.wants.items n })
+    (record { row = row; is = is_row_of (flagged c.args.failing.now) layout table own given c.args.task.number chunk there is.0 wants h.q h.past c.collect_row.new.blocks c.in-Ok.row c.collect_row.new.wants.items n })
 
 pub loop-first-smaller : goal.loop-first-smaller
 loop-first-smaller g c =
@@ -161,19 +137,17 @@ loop-first-preserved g c = record {
       let next = next_block layout table c.args.task.number chunk there h.end c.in-Some.first c.next_below.new.blocks h.from (subst (AreApart layout h.end) left h.apart) below in
       let at : chunk_at layout.chunks (addr_of c.in-Some.first) ≡ Some chunk = chunk_of layout c.in-Some.first next.target next.is_sought ∙ ap Some next.mine in
       let got = c.in-Ok.ensures chunk (ap (λ (l : Layout). chunk_at l.chunks (addr_of c.in-Some.first)) c.loop-first.invariant.loans.layout ∙ at) in
-      let n = next_row (doubts_beside layout c.args.beside.now) layout table own given c.args.task.number chunk there parity wants c.args.task.write c.loop-first.blocks c.next_below.new.blocks c.collect_row.new.blocks c.args.marks.now c.loop-first.marks a b c.args.tally.now c.loop-first.tally h c.in-Some.first c.in-Ok.row c.collect_row.new.wants.items left got.0 got.1 in
-      let row = row_of (doubts_beside layout c.args.beside.now) (targets layout wants) chunk c.in-Ok.row in
-      let is_row = is_row_of (doubts_beside layout c.args.beside.now) layout table own given c.args.task.number chunk there parity wants h.q h.past c.collect_row.new.blocks c.in-Ok.row c.collect_row.new.wants.items n in
+      let n = next_row (flagged c.args.failing.now) layout table own given c.args.task.number chunk there parity wants c.args.task.write c.loop-first.blocks c.next_below.new.blocks c.collect_row.new.blocks c.args.marks.now c.loop-first.marks a b c.args.tally.now c.loop-first.tally h c.in-Some.first c.in-Ok.row c.collect_row.new.wants.items left got.0 got.1 in
+      let row = row_of (flagged c.args.failing.now) (targets layout wants) chunk c.in-Ok.row in
+      let is_row = is_row_of (flagged c.args.failing.now) layout table own given c.args.task.number chunk there parity wants h.q h.past c.collect_row.new.blocks c.in-Ok.row c.collect_row.new.wants.items n in
       let start : c.at-chunk.result.now.start ≡ chunk.start = ap (λ (k : Chunk). k.start) same in
-      let kept = subst (λ o. IsSomeAnd o (λ k. (column : ℕ) → column < 16 → get_or c.kept_columns-kept.result column false ≡ (doubts_beside layout c.args.beside.now).columns k c.in-Ok.row column)) there
-      (subst (λ (l : Layout). IsSomeAnd (slice_get l.chunks c.args.task.number) (λ k. (column : ℕ) → column < 16 → get_or c.kept_columns-kept.result column false ≡ (doubts_beside l c.args.beside.now).columns k c.in-Ok.row column)) c.loop-first.invariant.loans.layout c.kept_columns-kept.ensures) in
-      let one = subst (λ (l : Layout). (r : Row) → IsRowOf l c.at-chunk.result.now.start c.in-Ok.row c.collect_row.new.wants.items r → AreKept c.kept_columns-kept.result r
+      let one = subst (λ (l : Layout). (r : Row) → IsRowOf l c.at-chunk.result.now.start c.in-Ok.row c.collect_row.new.wants.items r → r.failing ≡ flagged c.args.failing.now
       → Scrubs {A = Unit {0}} (alone l r.chunk) c.args.task.write (λ images. row_writes images l r)
-      (λ images tally. counted_row tally (length r.blocks) (mended_row images l r c.args.task.write)) c.loop-first.marks
+      (λ images tally. counted_row tally (mended_row images l r c.args.task.write)) c.loop-first.marks
       c.mend_collected.new.marks b (g.R.Rack.seen c.mend_collected.new.rack) c.loop-first.tally c.mend_collected.new.tally (Ok tt))
       c.loop-first.invariant.loans.layout c.in-Ok-mend_collected.ensures.scrubs row
-      (subst (λ n. IsRowOf layout n c.in-Ok.row c.collect_row.new.wants.items row) (sym start) is_row) kept in
-      rows_more (doubts_beside layout c.args.beside.now) layout table own given c.args.task.number chunk there parity wants c.args.task.write
+      (subst (λ n. IsRowOf layout n c.in-Ok.row c.collect_row.new.wants.items row) (sym start) is_row) refl in
+      rows_more (flagged c.args.failing.now) layout table own given c.args.task.number chunk there parity wants c.args.task.write
       c.loop-first.blocks c.args.marks.now c.loop-first.marks a b c.args.tally.now c.loop-first.tally h
       (λ images held. have_lengths a layout images (g.met.R.Rack.sound c.args.rack.now) was.are_open held) c.collect_row.new.blocks c.in-Ok.row
       c.collect_row.new.wants.items n c.mend_collected.new.marks (g.R.Rack.seen c.mend_collected.new.rack) c.mend_collected.new.tally one;
@@ -198,19 +172,17 @@ returns-in-Err-mend_collected-clause-scrubs g c chunk there =
     let next = next_block layout table c.args.task.number chunk there h.end c.in-Some.first c.next_below.new.blocks h.from (subst (AreApart layout h.end) left h.apart) below in
     let at : chunk_at layout.chunks (addr_of c.in-Some.first) ≡ Some chunk = chunk_of layout c.in-Some.first next.target next.is_sought ∙ ap Some next.mine in
     let got = c.in-Ok.ensures chunk (ap (λ (l : Layout). chunk_at l.chunks (addr_of c.in-Some.first)) c.loop-first.invariant.loans.layout ∙ at) in
-    let n = next_row (doubts_beside layout c.args.beside.now) layout table own given c.args.task.number chunk there is.0 wants c.args.task.write c.loop-first.blocks c.next_below.new.blocks c.collect_row.new.blocks c.args.marks.now c.loop-first.marks a b c.args.tally.now c.loop-first.tally h c.in-Some.first c.in-Ok.row c.collect_row.new.wants.items left got.0 got.1 in
-    let row = row_of (doubts_beside layout c.args.beside.now) (targets layout wants) chunk c.in-Ok.row in
-    let is_row = is_row_of (doubts_beside layout c.args.beside.now) layout table own given c.args.task.number chunk there is.0 wants h.q h.past c.collect_row.new.blocks c.in-Ok.row c.collect_row.new.wants.items n in
+    let n = next_row (flagged c.args.failing.now) layout table own given c.args.task.number chunk there is.0 wants c.args.task.write c.loop-first.blocks c.next_below.new.blocks c.collect_row.new.blocks c.args.marks.now c.loop-first.marks a b c.args.tally.now c.loop-first.tally h c.in-Some.first c.in-Ok.row c.collect_row.new.wants.items left got.0 got.1 in
+    let row = row_of (flagged c.args.failing.now) (targets layout wants) chunk c.in-Ok.row in
+    let is_row = is_row_of (flagged c.args.failing.now) layout table own given c.args.task.number chunk there is.0 wants h.q h.past c.collect_row.new.blocks c.in-Ok.row c.collect_row.new.wants.items n in
     let start : c.at-chunk.result.now.start ≡ chunk.start = ap (λ (k : Chunk). k.start) same in
-    let kept = subst (λ o. IsSomeAnd o (λ k. (column : ℕ) → column < 16 → get_or c.kept_columns-kept.result column false ≡ (doubts_beside layout c.args.beside.now).columns k c.in-Ok.row column)) there
-    (subst (λ (l : Layout). IsSomeAnd (slice_get l.chunks c.args.task.number) (λ k. (column : ℕ) → column < 16 → get_or c.kept_columns-kept.result column false ≡ (doubts_beside l c.args.beside.now).columns k c.in-Ok.row column)) c.loop-first.invariant.loans.layout c.kept_columns-kept.ensures) in
-    let one = subst (λ (l : Layout). (r : Row) → IsRowOf l c.at-chunk.result.now.start c.in-Ok.row c.collect_row.new.wants.items r → AreKept c.kept_columns-kept.result r
+    let one = subst (λ (l : Layout). (r : Row) → IsRowOf l c.at-chunk.result.now.start c.in-Ok.row c.collect_row.new.wants.items r → r.failing ≡ flagged c.args.failing.now
     → Scrubs {A = Unit {0}} (alone l r.chunk) c.args.task.write (λ images. row_writes images l r)
-    (λ images tally. counted_row tally (length r.blocks) (mended_row images l r c.args.task.write)) c.loop-first.marks c.mend_collected.new.marks
+    (λ images tally. counted_row tally (mended_row images l r c.args.task.write)) c.loop-first.marks c.mend_collected.new.marks
     b (g.R.Rack.seen c.mend_collected.new.rack) c.loop-first.tally c.mend_collected.new.tally (Err c.in-Err-mend_collected.fault))
     c.loop-first.invariant.loans.layout c.in-Err-mend_collected.ensures.scrubs row
-    (subst (λ n. IsRowOf layout n c.in-Ok.row c.collect_row.new.wants.items row) (sym start) is_row) kept in
-    rows_cut (doubts_beside layout c.args.beside.now) layout table own given c.args.task.number chunk there is.0 wants c.args.task.write
+    (subst (λ n. IsRowOf layout n c.in-Ok.row c.collect_row.new.wants.items row) (sym start) is_row) refl in
+    rows_cut (flagged c.args.failing.now) layout table own given c.args.task.number chunk there is.0 wants c.args.task.write
     c.loop-first.blocks c.args.marks.now c.loop-first.marks a b c.args.tally.now c.loop-first.tally h
     (λ images held. have_lengths a layout images (g.met.R.Rack.sound c.args.rack.now) was.are_open held) c.collect_row.new.blocks c.in-Ok.row
     c.collect_row.new.wants.items n c.mend_collected.new.marks (g.R.Rack.seen c.mend_collected.new.rack) c.mend_collected.new.tally
@@ -231,7 +203,7 @@ returns-clause-past g c chunk there =
     let b = g.R.Rack.seen c.loop-first.rack in
     let h = c.loop-first.invariant.underway table own given chunk there is.0 in
     subst (IsPastChunk layout chunk wants) (sym c.in_default.ensures.0)
-    (rows_past (doubts_beside layout c.args.beside.now) layout table own given c.args.task.number chunk there is.0 wants c.args.task.write
+    (rows_past (flagged c.args.failing.now) layout table own given c.args.task.number chunk there is.0 wants c.args.task.write
     c.loop-first.blocks c.args.marks.now c.loop-first.marks a b c.args.tally.now c.loop-first.tally h
     (subst (λ (k : Chunk). BeginsBehind (k.start + k.length) c.loop-first.blocks) same c.in_default.ensures.1))
 
@@ -249,8 +221,8 @@ returns-clause-scrubs g c chunk there =
     let is = subst (λ o. IsSomeAnd o (λ chunk. (mirrors chunk ≡ None) × AreApart layout chunk.start wants)) there c.requires.chunk in
     let b = g.R.Rack.seen c.loop-first.rack in
     let h = c.loop-first.invariant.underway table own given chunk there is.0 in
-    rows_done (doubts_beside layout c.args.beside.now) layout table own given c.args.task.number chunk there is.0 wants c.args.task.write
+    rows_done (flagged c.args.failing.now) layout table own given c.args.task.number chunk there is.0 wants c.args.task.write
     c.loop-first.blocks c.args.marks.now c.loop-first.marks a b c.args.tally.now c.loop-first.tally h
-    (rows_past (doubts_beside layout c.args.beside.now) layout table own given c.args.task.number chunk there is.0 wants c.args.task.write
+    (rows_past (flagged c.args.failing.now) layout table own given c.args.task.number chunk there is.0 wants c.args.task.write
     c.loop-first.blocks c.args.marks.now c.loop-first.marks a b c.args.tally.now c.loop-first.tally h
     (subst (λ (k : Chunk). BeginsBehind (k.start + k.length) c.loop-first.blocks) same c.in_default.ensures.1))

@@ -6,7 +6,7 @@ use Rattle.btr_read.specs.Layout.{HaveOwnSlots}
 use Rattle.btr_read.specs.Store.{SameLoans}
 use Rattle.btr_scrub.specs.Repair.{first_missing}
 use Rattle.btr_scrub.specs.Scrubbing.{CanMend, HasRooms}
-use Rattle.btr_scrub.specs.Judged.{doubts_beside}
+use Rattle.btr_scrub_copies.specs.Fresh.{flagged}
 use Rattle.btr_scrub.proofs.Rowwise.{RowsUnderway}
 use Rattle.btr_scrub.proofs.rowed.mend_rows.Given as goal
 
@@ -18,7 +18,7 @@ invariant-loop-first g l = record {
   underway : (table : IsTable l.fn.store.layout.chunks) (own : HaveOwnSlots l.fn.store.layout.devices)
       (given : first_missing l.fn.store.layout ≡ None) (chunk : Chunk) (there : slice_get l.fn.store.layout.chunks l.task.number ≡ Some chunk)
       (parity : mirrors chunk ≡ None)
-      → RowsUnderway (doubts_beside l.fn.store.layout l.beside) l.fn.store.layout table own given l.task.number chunk there parity l.fn.blocks
+      → RowsUnderway (flagged l.failing) l.fn.store.layout table own given l.task.number chunk there parity l.fn.blocks
       l.task.write l.blocks l.fn.marks l.marks (g.R.Rack.seen l.fn.rack) (g.R.Rack.seen l.rack) l.fn.tally l.tally;
 }
 

@@ -13,8 +13,8 @@ loop-i-init g c =
     let s = c.args.vol.now.sup in
     let sums = tree_behind c.args.sums in
     let x = scene (g.R.Rack.seen c.args.rack.now) c.args.vol.now c.args.gathered.now in
-    subst (λ (q : Meeting (Unit {0})). Reaches (sectors s sums c.args.copied c.args.count c.args.addr) q x x) (sectors_all s sums c.args.copied c.args.count c.args.addr)
-    (reaches_none (sectors s sums c.args.copied c.args.count c.args.addr) x c.requires.is_list c.requires.serves)
+    subst (λ (q : Meeting (Unit {0})). Reaches (sectors s sums c.args.count c.args.addr) q x x) (sectors_all s sums c.args.count c.args.addr)
+    (reaches_none (sectors s sums c.args.count c.args.addr) x c.requires.is_list c.requires.serves)
 
 pub returns-in-Err : goal.returns-in-Err
 returns-in-Err g c =
@@ -24,12 +24,12 @@ returns-in-Err g c =
     let x = scene (g.R.Rack.seen c.args.rack.now) c.args.vol.now c.args.gathered.now in
     let y = scene (g.R.Rack.seen c.loop-i.rack) c.loop-i.vol c.loop-i.gathered in
     let z = scene (g.R.Rack.seen c.gather_sector.new.rack) c.gather_sector.new.vol c.gather_sector.new.gathered in
-    let here = sector s sums c.args.copied (c.args.addr + i * 4096) in
-    let rest = λ (u : Unit {0}). sectors s sums c.args.copied (c.args.count - (i + 1)) (c.args.addr + (i + 1) * 4096) in
-    reaches_ends (sectors s sums c.args.copied c.args.count c.args.addr) (bind here rest) x y z (Err c.in-Err.stop)
-    (subst (λ (q : Meeting (Unit {0})). Reaches (sectors s sums c.args.copied c.args.count c.args.addr) q x y)
-    (sectors_first s sums c.args.copied c.args.count c.args.addr i c.loop-i-test.true) c.loop-i.invariant)
-    (gathers_halt here rest y z c.in-Err.stop (subst (λ (t : Super). Gathers (sector t sums c.args.copied (c.args.addr + i * 4096)) y z (Err c.in-Err.stop))
+    let here = sector s sums (c.args.addr + i * 4096) in
+    let rest = λ (u : Unit {0}). sectors s sums (c.args.count - (i + 1)) (c.args.addr + (i + 1) * 4096) in
+    reaches_ends (sectors s sums c.args.count c.args.addr) (bind here rest) x y z (Err c.in-Err.stop)
+    (subst (λ (q : Meeting (Unit {0})). Reaches (sectors s sums c.args.count c.args.addr) q x y)
+    (sectors_first s sums c.args.count c.args.addr i c.loop-i-test.true) c.loop-i.invariant)
+    (gathers_halt here rest y z c.in-Err.stop (subst (λ (t : Super). Gathers (sector t sums (c.args.addr + i * 4096)) y z (Err c.in-Err.stop))
     c.loop-i.invariant.volume.sup c.in-Err.ensures))
 
 pub loop-i-preserved : goal.loop-i-preserved
@@ -40,9 +40,9 @@ loop-i-preserved g c =
     let x = scene (g.R.Rack.seen c.args.rack.now) c.args.vol.now c.args.gathered.now in
     let y = scene (g.R.Rack.seen c.loop-i.rack) c.loop-i.vol c.loop-i.gathered in
     let z = scene (g.R.Rack.seen c.gather_sector.new.rack) c.gather_sector.new.vol c.gather_sector.new.gathered in
-    let here = sector s sums c.args.copied (c.args.addr + i * 4096) in
-    let rest = λ (u : Unit {0}). sectors s sums c.args.copied (c.args.count - (i + 1)) (c.args.addr + (i + 1) * 4096) in
-    reaches_step (sectors s sums c.args.copied c.args.count c.args.addr) here rest x y
-    (subst (λ (q : Meeting (Unit {0})). Reaches (sectors s sums c.args.copied c.args.count c.args.addr) q x y)
-    (sectors_first s sums c.args.copied c.args.count c.args.addr i c.loop-i-test.true) c.loop-i.invariant)
-    z tt (subst (λ (t : Super). Gathers (sector t sums c.args.copied (c.args.addr + i * 4096)) y z (Ok tt)) c.loop-i.invariant.volume.sup c.in-Ok.ensures)
+    let here = sector s sums (c.args.addr + i * 4096) in
+    let rest = λ (u : Unit {0}). sectors s sums (c.args.count - (i + 1)) (c.args.addr + (i + 1) * 4096) in
+    reaches_step (sectors s sums c.args.count c.args.addr) here rest x y
+    (subst (λ (q : Meeting (Unit {0})). Reaches (sectors s sums c.args.count c.args.addr) q x y)
+    (sectors_first s sums c.args.count c.args.addr i c.loop-i-test.true) c.loop-i.invariant)
+    z tt (subst (λ (t : Super). Gathers (sector t sums (c.args.addr + i * 4096)) y z (Ok tt)) c.loop-i.invariant.volume.sup c.in-Ok.ensures)

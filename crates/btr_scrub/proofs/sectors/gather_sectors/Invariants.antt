@@ -6,6 +6,6 @@ use Rattle.btr_scrub.proofs.sectors.gather_sectors.Given as goal
 
 abbrev pub invariant-loop-i : goal.invariant-loop-i
 invariant-loop-i g l =
-    Reaches (units.sectors l.fn.vol.sup (tree_behind l.sums) l.copied l.count l.addr)
-    (units.sectors l.fn.vol.sup (tree_behind l.sums) l.copied (l.count - l.i) (l.addr + l.i * 4096))
+    Reaches (units.sectors l.fn.vol.sup (tree_behind l.sums) l.count l.addr)
+    (units.sectors l.fn.vol.sup (tree_behind l.sums) (l.count - l.i) (l.addr + l.i * 4096))
     (scene (g.R.Rack.seen l.fn.rack) l.fn.vol l.fn.gathered) (scene (g.R.Rack.seen l.rack) l.vol l.gathered)

@@ -7,7 +7,6 @@ use Rattle.btr_read.proofs.ReadsOn.{same_held, same_slots}
 use Rattle.btr_read.proofs.Serving.{serves_as, serving}
 use Rattle.btr_scrub.specs.Listed.{kept_wants}
 use Rattle.btr_scrub_copies.specs.Fresh.{flagged}
-use Rattle.btr_scrub.specs.Plain.{doubts_of}
 use Rattle.btr_scrub.specs.Scrubbing.{Works, all_count_for, all_writes_for}
 use Rattle.btr_scrub.specs.Whole.{first_tally, listed_count_for, listed_writes_for}
 use Rattle.btr_scrub.proofs.Sufficing.{works_beside, works_missed}
@@ -21,8 +20,8 @@ returns-in_default-clause-works g c =
     record {
       tally = first_tally c.args.gathered.unchecked;
       ended = Err Memory;
-      works = works_nothing layout c.args.write (listed_writes_for layout wants c.args.gathered.plain)
-          (listed_count_for layout c.args.write wants c.args.gathered.plain) (g.R.Rack.seen c.args.rack.now) (first_tally c.args.gathered.unchecked);
+      works = works_nothing layout c.args.write (listed_writes_for layout wants)
+          (listed_count_for layout c.args.write wants) (g.R.Rack.seen c.args.rack.now) (first_tally c.args.gathered.unchecked);
       says = refl;
     }
 
@@ -33,8 +32,8 @@ returns-in_default-vec-clause-works g c =
     record {
       tally = first_tally c.args.gathered.unchecked;
       ended = Err Memory;
-      works = works_nothing layout c.args.write (listed_writes_for layout wants c.args.gathered.plain)
-          (listed_count_for layout c.args.write wants c.args.gathered.plain) (g.R.Rack.seen c.args.rack.now) (first_tally c.args.gathered.unchecked);
+      works = works_nothing layout c.args.write (listed_writes_for layout wants)
+          (listed_count_for layout c.args.write wants) (g.R.Rack.seen c.args.rack.now) (first_tally c.args.gathered.unchecked);
       says = refl;
     }
 
@@ -56,8 +55,8 @@ returns-in-Err-clause-works g c =
     record {
       tally = start;
       ended = Err c.in-Err.fault;
-      works = works_missed layout c.args.write (listed_writes_for layout wants c.args.gathered.plain)
-          (listed_count_for layout c.args.write wants c.args.gathered.plain)
+      works = works_missed layout c.args.write (listed_writes_for layout wants)
+          (listed_count_for layout c.args.write wants)
           (g.R.Rack.seen c.args.rack.now) (g.R.Rack.seen c.failing_images.new.rack) c.in-Err.ensures.reads
           (Vec Bool Global) start c.in-Err.fault c.in-Err.ensures.account;
       says = c.stop_of.ensures start;
@@ -85,19 +84,22 @@ returns-in-Ok-mend_all-clause-works g c =
     let b = g.R.Rack.seen c.failing_images.new.rack in
     let z = g.R.Rack.seen c.mend_all.new.rack in
     let flags = c.in-Ok-failing_images.failing.items in
-    let kept = doubts_of layout (flagged flags) c.args.gathered.plain in
+    let kept = flagged flags in
     let was = serving a c.args.vol.now.store c.requires.serves in
     let start = first_tally c.args.gathered.unchecked in
     let end = c.mend_all.new.tally in
+    let flagged_so = subst (λ fs. Works {A = Unit {0}} layout c.args.write (all_writes_for (flagged fs) layout layout.chunks c.read_all-blocks.result)
+    (all_count_for (flagged fs) layout c.args.write layout.chunks c.read_all-blocks.result) b z c.first_tally-tally.result end (Ok tt))
+    c.deref.ensures.value c.in-Ok-mend_all.ensures.works in
     let listed = subst (λ ws. Works {A = Unit {0}} layout c.args.write (all_writes_for kept layout layout.chunks ws)
     (all_count_for kept layout c.args.write layout.chunks ws) b z c.first_tally-tally.result end (Ok tt))
-    c.read_all-blocks.ensures c.in-Ok-mend_all.ensures.works in
+    c.read_all-blocks.ensures flagged_so in
     let begun = subst (λ t. Works {A = Unit {0}} layout c.args.write (all_writes_for kept layout layout.chunks wants)
     (all_count_for kept layout c.args.write layout.chunks wants) b z t end (Ok tt)) c.first_tally-tally.ensures listed in
     record {
       tally = end;
       ended = Ok tt;
-      works = works_beside layout c.args.write wants c.args.gathered.plain flags a b z start end
+      works = works_beside layout c.args.write wants flags a b z start end
           (Ok tt) c.in-Ok.ensures.table was.own_slots c.requires.given c.in-Ok-failing_images.ensures.reads c.in-Ok-failing_images.ensures.account c.in-Ok-failing_images.ensures.flags begun;
       says = refl;
     }
@@ -110,20 +112,23 @@ returns-clause-works g c =
     let b = g.R.Rack.seen c.failing_images.new.rack in
     let z = g.R.Rack.seen c.mend_all.new.rack in
     let flags = c.in-Ok-failing_images.failing.items in
-    let kept = doubts_of layout (flagged flags) c.args.gathered.plain in
+    let kept = flagged flags in
     let was = serving a c.args.vol.now.store c.requires.serves in
     let start = first_tally c.args.gathered.unchecked in
     let end = c.mend_all.new.tally in
     let fault = c.in-Err-mend_all.fault in
+    let flagged_so = subst (λ fs. Works {A = Unit {0}} layout c.args.write (all_writes_for (flagged fs) layout layout.chunks c.read_all-blocks.result)
+    (all_count_for (flagged fs) layout c.args.write layout.chunks c.read_all-blocks.result) b z c.first_tally-tally.result end (Err fault))
+    c.deref.ensures.value c.in-Err-mend_all.ensures.works in
     let listed = subst (λ ws. Works {A = Unit {0}} layout c.args.write (all_writes_for kept layout layout.chunks ws)
     (all_count_for kept layout c.args.write layout.chunks ws) b z c.first_tally-tally.result end (Err fault))
-    c.read_all-blocks.ensures c.in-Err-mend_all.ensures.works in
+    c.read_all-blocks.ensures flagged_so in
     let begun = subst (λ t. Works {A = Unit {0}} layout c.args.write (all_writes_for kept layout layout.chunks wants)
     (all_count_for kept layout c.args.write layout.chunks wants) b z t end (Err fault)) c.first_tally-tally.ensures listed in
     record {
       tally = end;
       ended = Err fault;
-      works = works_beside layout c.args.write wants c.args.gathered.plain flags a b z start end
+      works = works_beside layout c.args.write wants flags a b z start end
           (Err fault) c.in-Ok.ensures.table was.own_slots c.requires.given c.in-Ok-failing_images.ensures.reads c.in-Ok-failing_images.ensures.account c.in-Ok-failing_images.ensures.flags begun;
       says = c.stop_of-in-Err-mend_all.ensures end;
     }

@@ -1,13 +1,14 @@
-use Rattle.std.proofs.Common.{[], Ok, Err, refl, sym, ap, ◌∙◌, subst, arith}
+use Rattle.std.proofs.Common.{[], Ok, refl, sym, ap, ◌∙◌, subst, arith}
 use Rattle.btr_prog.specs.Answers.{Follows, no_part}
 use Rattle.btr_prog.specs.Prog.{exec}
 use Rattle.btr_read.specs.Layout.{Layout}
 use Rattle.btr_walk.specs.Reading.{unread_by}
 use Rattle.btr_walk.proofs.Joined.{drawn}
 use Rattle.btr_scrub.specs.Gathering.{wants_among}
-use Rattle.btr_scrub.specs.Judging.{Judged}
+use Rattle.btr_scrub.specs.Judging.{IsFirstRefused}
 use Rattle.btr_scrub.specs.Order.{AreApart}
 use Rattle.btr_scrub.specs.Units.{units_in}
+use Rattle.btr_scrub.proofs.Refusing.{not_apart}
 use Rattle.btr_scrub.proofs.Unitwise.{units_apart}
 use Rattle.btr_scrub.specs.Whole.{Refused, Stopped}
 use Rattle.btr_scrub.proofs.whole.scrub_given.Goals as goal
@@ -30,7 +31,8 @@ returns-in-Err-judge_blocks-clause-scrubs g c =
     let lists = c.in-Ok.ensures.lists in
     let listed = lists.lists in
     let fault = c.in-Err-judge_blocks.fault in
-    let judged = subst (λ (l : Layout). Judged l c.read_all-blocks.result (Err fault)) c.in-Ok.ensures.volume.store.layout c.in-Err-judge_blocks.ensures in
+    let judged = subst (λ (l : Layout). IsFirstRefused l 0 c.read_all-blocks.result fault) c.in-Ok.ensures.volume.store.layout c.in-Err-judge_blocks.ensures in
+    let refused = subst (λ wants. IsFirstRefused layout 0 wants fault) (c.read_all-blocks.ensures ∙ listed.wants) judged in
     record {
       mid = mid;
       reads = c.in-Ok.ensures.reads;
@@ -39,10 +41,10 @@ returns-in-Err-judge_blocks-clause-scrubs g c =
       goes = (
         refl,
         refl,
-        judged.0,
+        refused,
         drawn layout (λ B. Follows (unread_by layout old mid) no_part [] (exec B (units_in s layout.chunks)) lists.done (Ok tt)) (λ B. ⊥)
-            (λ B f. judged.1 (subst (AreApart layout 0) (ap wants_among (sym f.0) ∙ sym listed.wants ∙ sym c.read_all-blocks.ensures)
-            (units_apart s layout c.requires.table c.requires.nodesize (omega (arith, c.requires.large)) B tt f.1)))
+            (λ B f. not_apart layout 0 (wants_among lists.done) fault refused (subst (AreApart layout 0) (ap wants_among (sym f.0))
+            (units_apart s layout c.requires.table c.requires.nodesize (omega (arith, c.requires.large)) B)))
             lists.content,
       );
     }

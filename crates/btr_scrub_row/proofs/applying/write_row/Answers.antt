@@ -42,7 +42,7 @@ returns-clause-prepared g c = λ images row is.
     prepared_same images c.args.store.now.layout row c.args.judged.now c.args.buffer.now c.write_rebuilt.new.buffer e.elements e.made e.p e.q is
 
 pub returns-clause-writes : goal.returns-clause-writes
-returns-clause-writes g c told row of rows tells =
+returns-clause-writes g c told row of rows knows tells =
     let layout = c.args.store.now.layout in
     let judged = c.args.judged.now in
     let a = g.R.Rack.seen c.args.rack.now in
@@ -53,7 +53,7 @@ returns-clause-writes g c told row of rows tells =
     let both = c.has_both-both.result in
     let rebuilt = told_writes (λ images. rebuilt_writes images layout row) told in
     let parities = told_writes (λ images. parities_writes images layout row) told in
-    let first = c.in-Ok.ensures.writes told row of rows tells in
+    let first = c.in-Ok.ensures.writes told row of rows knows tells in
     let same = if_held both c.write_rebuilt.new.marks c.sync_if.new.marks b d (Ok tt) c.in-Ok-sync_if.ensures.syncs in
     let still : TellsRow layout row judged c.write_rebuilt.new.buffer told d.held = record {
       known = told_map told (λ images. IsPrepared images layout row judged c.args.buffer.now)
@@ -67,16 +67,16 @@ returns-clause-writes g c told row of rows tells =
     (λ no. one_turn layout row judged c.args.buffer.now told tells.known (λ images is. c.has_both-both.ensures no images row of is))
 
 pub returns-in-Err-clause-writes : goal.returns-in-Err-clause-writes
-returns-in-Err-clause-writes g c told row of rows tells =
+returns-in-Err-clause-writes g c told row of rows knows tells =
     let layout = c.args.store.now.layout in
     turns_first (IsOfRow layout row) (told_writes (λ images. rebuilt_writes images layout row) told)
     (told_writes (λ images. parities_writes images layout row) told)
-    c.args.marks.now c.write_rebuilt.new.marks (g.R.Rack.seen c.args.rack.now) (g.R.Rack.seen c.write_rebuilt.new.rack) (Unit {0}) (Unit {0}) c.in-Err.fault (c.in-Err.ensures.writes told row of rows tells)
+    c.args.marks.now c.write_rebuilt.new.marks (g.R.Rack.seen c.args.rack.now) (g.R.Rack.seen c.write_rebuilt.new.rack) (Unit {0}) (Unit {0}) c.in-Err.fault (c.in-Err.ensures.writes told row of rows knows tells)
 
 pub returns-in-Err-sync_if-clause-writes : goal.returns-in-Err-sync_if-clause-writes
-returns-in-Err-sync_if-clause-writes g c told row of rows tells =
+returns-in-Err-sync_if-clause-writes g c told row of rows knows tells =
     let layout = c.args.store.now.layout in
     turns_failed (IsOfRow layout row) (told_writes (λ images. rebuilt_writes images layout row) told)
     (told_writes (λ images. parities_writes images layout row) told)
-    c.args.marks.now c.write_rebuilt.new.marks (g.R.Rack.seen c.args.rack.now) (g.R.Rack.seen c.write_rebuilt.new.rack) tt (c.in-Ok.ensures.writes told row of rows tells)
+    c.args.marks.now c.write_rebuilt.new.marks (g.R.Rack.seen c.args.rack.now) (g.R.Rack.seen c.write_rebuilt.new.rack) tt (c.in-Ok.ensures.writes told row of rows knows tells)
     c.sync_if.new.marks (g.R.Rack.seen c.sync_if.new.rack) c.has_both-both.result (Unit {0}) c.in-Err-sync_if.fault c.in-Err-sync_if.ensures.syncs

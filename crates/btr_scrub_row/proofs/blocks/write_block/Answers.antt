@@ -1,16 +1,17 @@
-use Rattle.std.proofs.Common.{◌≡◌, ◌+◌, [], ◌∷◌, length, take, Ok, IsOkAnd, subst, sym, arith, length-take}
-use Rattle.btr_scrub_copies.specs.Blocks.{block_writes}
+use Rattle.std.proofs.Common.{◌≡◌, ◌+◌, [], ◌∷◌, length, take, Ok, IsOkAnd, subst, sym, arith, rules, length-take}
+use Rattle.btr_scrub_row.specs.Wanted.{mending_writes}
 use Rattle.btr_read.proofs.Trials.{telling}
 use Rattle.btr_scrub_row.specs.Mending.{IsOfRow}
-use Rattle.btr_scrub_row.specs.Memory.{HoldsRow, IsAccepted, IsSited}
+use Rattle.btr_scrub_row.specs.Memory.{HoldsRow, IsSited}
 use Rattle.btr_scrub_row.specs.Writing.{write_at}
-use Rattle.btr_scrub_row.proofs.BlockWrites.{does_nothing, in_the_row, written, writes_it, writes_no_gone, writes_no_good}
-use Rattle.btr_scrub_row.proofs.Held.{held, on_row, sited}
+use Rattle.btr_scrub_row.proofs.BlockWrites.{does_nothing, in_the_row, written, writes_it}
+use Rattle.btr_scrub_row.proofs.Held.{held, lies_at, on_row, sited}
+use Rattle.btr_scrub_row.proofs.Settled.{writes_not}
 use Rattle.btr_scrub_row.proofs.Wrote.{does_told}
 use Rattle.btr_scrub_row.proofs.blocks.write_block.Goals as goal
 
-pub accept-requires-clause-placed : goal.accept-requires-clause-placed
-accept-requires-clause-placed g c =
+pub settle-settled-requires-clause-placed : goal.settle-settled-requires-clause-placed
+settle-settled-requires-clause-placed g c =
     let w = c.requires.within in
     let spot = c.spot_of-spot.result in
     subst (λ r. IsOkAnd r (IsSited spot)) (sym w.is_sought) (sited c.args.store.now.layout c.args.stripe.now w.row w.of c.args.want.now w.target
@@ -37,44 +38,39 @@ write_front-requires-clause-small g c =
     let r = written c.args.store.now.layout c.args.stripe.now w.row w.of c.args.want.now w.target w.is_sought w.on c.spot_of-spot.result p c.place_of_part-element.result (c.place_of_part-element.ensures w.row w.of) (g.R.Rack.seen c.args.rack.now).slots c.requires.open in
     r.small
 
-pub returns-in-None-clause-writes : goal.returns-in-None-clause-writes
-returns-in-None-clause-writes g c told row t of tells e =
+pub returns-then-settled-clause-writes : goal.returns-then-settled-clause-writes
+returns-then-settled-clause-writes g c told row t of knows tells e =
     let layout = c.args.store.now.layout in
     let stripe = c.args.stripe.now in
     let spot = c.spot_of-spot.result in
     let p = c.spot_of-spot.ensures t e in
     let on = on_row layout stripe c.args.want.now row t c.requires.within of e in
+    let at = lies_at layout stripe row of c.args.want.now t e on spot p in
     let a = g.R.Rack.seen c.args.rack.now in
-    does_told (IsOfRow layout row) [] (λ images. block_writes images t) told c.args.marks.now c.args.marks.now a a (Ok tt)
-    (λ images is. writes_no_gone layout stripe row of c.args.want.now t e on spot p images (c.in-None.ensures.accepts images t e (held layout stripe row of c.args.want.now t e on spot p images c.args.old.now (telling told (λ images. HoldsRow images layout row c.args.old.now) tells.known images is))))
+    does_told (IsOfRow layout row) [] (λ images. mending_writes images row.failing t) told c.args.marks.now c.args.marks.now a a (Ok tt)
+    (λ images is. writes_not images row t c.settle-settled.new.block c.settle-settled.result (c.settle-settled.ensures.settled images row t e at knows
+    (held layout stripe row of c.args.want.now t e on spot p images c.args.old.now (telling told (λ images. HoldsRow images layout row c.args.old.now) tells.known images is)))
+    (search rules))
     tells.untold (does_nothing (IsOfRow layout row) c.args.marks.now a)
 
-pub returns-then-good-clause-writes : goal.returns-then-good-clause-writes
-returns-then-good-clause-writes g c told row t of tells e =
+pub returns-clause-writes : goal.returns-clause-writes
+returns-clause-writes g c told row t of knows tells e =
     let layout = c.args.store.now.layout in
     let stripe = c.args.stripe.now in
     let spot = c.spot_of-spot.result in
     let p = c.spot_of-spot.ensures t e in
     let on = on_row layout stripe c.args.want.now row t c.requires.within of e in
-    let a = g.R.Rack.seen c.args.rack.now in
-    does_told (IsOfRow layout row) [] (λ images. block_writes images t) told c.args.marks.now c.args.marks.now a a (Ok tt)
-    (λ images is. writes_no_good layout stripe row of c.args.want.now t e on spot p images c.accept.new.block (subst (IsAccepted images t c.accept.new.block) c.if-good.true (c.in-Some.ensures.accepts images t e (held layout stripe row of c.args.want.now t e on spot p images c.args.old.now (telling told (λ images. HoldsRow images layout row c.args.old.now) tells.known images is)))))
-    tells.untold (does_nothing (IsOfRow layout row) c.args.marks.now a)
-
-pub returns-else-good-clause-writes : goal.returns-else-good-clause-writes
-returns-else-good-clause-writes g c told row t of tells e =
-    let layout = c.args.store.now.layout in
-    let stripe = c.args.stripe.now in
-    let spot = c.spot_of-spot.result in
-    let p = c.spot_of-spot.ensures t e in
-    let on = on_row layout stripe c.args.want.now row t c.requires.within of e in
+    let at = lies_at layout stripe row of c.args.want.now t e on spot p in
     let element = c.place_of_part-element.result in
-    let block = c.accept.new.block in
+    let block = c.settle-settled.new.block in
     let a = g.R.Rack.seen c.args.rack.now in
     let b = g.R.Rack.seen c.write_front.new.rack in
-    let long : length (take spot.len block) ≡ spot.len = omega (arith, length-take spot.len block, c.accept.ensures.long, c.requires.block, p.len, p.inside) in
-    does_told (IsOfRow layout row) (write_at element.slot (element.off + spot.rest) (take spot.len block) ∷ []) (λ images. block_writes images t) told
+    let long : length (take spot.len block) ≡ spot.len = omega (arith, length-take spot.len block, c.settle-settled.ensures.long, c.requires.block, p.len, p.inside) in
+    does_told (IsOfRow layout row) (write_at element.slot (element.off + spot.rest) (take spot.len block) ∷ []) (λ images. mending_writes images row.failing t) told
     c.args.marks.now c.write_front.new.marks a b c.write_front.result
-    (λ images is. writes_it layout stripe row of c.args.want.now t e on spot p element (c.place_of_part-element.ensures row of) images block (omega (arith, c.accept.ensures.long, c.requires.block, p.inside))
-    (subst (IsAccepted images t block) c.if-good.false (c.in-Some.ensures.accepts images t e (held layout stripe row of c.args.want.now t e on spot p images c.args.old.now (telling told (λ images. HoldsRow images layout row c.args.old.now) tells.known images is)))))
+    (λ images is. writes_it layout stripe row of c.args.want.now t e on spot p element (c.place_of_part-element.ensures row of) images block c.settle-settled.result
+    (omega (arith, c.settle-settled.ensures.long, c.requires.block, p.inside))
+    (c.settle-settled.ensures.settled images row t e at knows
+    (held layout stripe row of c.args.want.now t e on spot p images c.args.old.now (telling told (λ images. HoldsRow images layout row c.args.old.now) tells.known images is)))
+    (search rules))
     tells.untold (c.write_front.ensures.writes layout row (in_the_row layout stripe row of c.args.want.now t e on spot p element (c.place_of_part-element.ensures row of) (length (take spot.len block)) long))

@@ -2,7 +2,7 @@ use Rattle.std.proofs.Common.{take, Ok, refl, sym, ◌∙◌, subst, arith}
 use Rattle.std.specs.List.{flat_map}
 use Rattle.std.proofs.lemmas.List.{take_all}
 use Rattle.btr_read.specs.Layout.{AreOpen}
-use Rattle.btr_scrub_copies.specs.Blocks.{block_writes}
+use Rattle.btr_scrub_row.specs.Wanted.{mending_writes}
 use Rattle.btr_scrub_copies.specs.Writes.{Does}
 use Rattle.btr_scrub_row.specs.Mending.{IsOfRow}
 use Rattle.btr_scrub_row.specs.Writing.{told_writes}
@@ -17,10 +17,10 @@ loop-want-init g c = record {
   marks = refl;
   block_long = refl;
   spare_long = refl;
-  done = λ told row of is tells.
+  done = λ told row of is knows tells.
       let a = g.R.Rack.seen c.args.rack.now in
       subst (λ ws. Does {A = Unit {0}} (IsOfRow c.args.store.now.layout row) (λ i. ws) c.args.marks.now c.args.marks.now a a (Ok tt))
-      (sym (flat_told-none block_writes told)) (does_nothing (IsOfRow c.args.store.now.layout row) c.args.marks.now a);
+      (sym (flat_told-none (λ images. mending_writes images row.failing) told)) (does_nothing (IsOfRow c.args.store.now.layout row) c.args.marks.now a);
 }
 
 pub write_block-requires-clause-open : goal.write_block-requires-clause-open
@@ -40,34 +40,34 @@ loop-want-preserved g c = record {
   marks = c.write_block.ensures.marks ∙ c.loop-want.invariant.marks;
   block_long = c.write_block.ensures.block_long ∙ c.loop-want.invariant.block_long;
   spare_long = c.write_block.ensures.spare_long ∙ c.loop-want.invariant.spare_long;
-  done = λ told row of is tells.
+  done = λ told row of is knows tells.
       let layout = c.args.store.now.layout in
       let i = c.loop-want.want-index in
       let w = want_at layout c.args.wants.now row.blocks i _ is.blocks c.loop-want-test.true in
       let a = g.R.Rack.seen c.args.rack.now in
       let b = g.R.Rack.seen c.loop-want.rack in
       let d = g.R.Rack.seen c.write_block.new.rack in
-      let h = c.loop-want.invariant.done told row of is tells in
-      let still = tells_still (IsOfRow layout row) (λ i'. told_writes (λ images. flat_map (block_writes images) (take i row.blocks)) told) layout row c.args.old.now told c.args.marks.now c.loop-want.marks a b (Ok tt) h tells in
-      flat_next block_writes told (IsOfRow layout row) (Unit {0}) (Unit {0}) row.blocks i w.target w.below (w.at w.target) c.args.marks.now c.loop-want.marks c.write_block.new.marks a b d tt tt h (c.in-Ok.ensures.writes told row w.target of still w.is_sought);
+      let h = c.loop-want.invariant.done told row of is knows tells in
+      let still = tells_still (IsOfRow layout row) (λ i'. told_writes (λ images. flat_map (mending_writes images row.failing) (take i row.blocks)) told) layout row c.args.old.now told c.args.marks.now c.loop-want.marks a b (Ok tt) h tells in
+      flat_next (λ images. mending_writes images row.failing) told (IsOfRow layout row) (Unit {0}) (Unit {0}) row.blocks i w.target w.below (w.at w.target) c.args.marks.now c.loop-want.marks c.write_block.new.marks a b d tt tt h (c.in-Ok.ensures.writes told row w.target of knows still w.is_sought);
 }
 
 pub returns-in-Err-clause-writes : goal.returns-in-Err-clause-writes
-returns-in-Err-clause-writes g c told row of is tells =
+returns-in-Err-clause-writes g c told row of is knows tells =
     let layout = c.args.store.now.layout in
     let i = c.loop-want.want-index in
     let w = want_at layout c.args.wants.now row.blocks i _ is.blocks c.loop-want-test.true in
     let a = g.R.Rack.seen c.args.rack.now in
     let b = g.R.Rack.seen c.loop-want.rack in
     let d = g.R.Rack.seen c.write_block.new.rack in
-    let h = c.loop-want.invariant.done told row of is tells in
-    let still = tells_still (IsOfRow layout row) (λ i'. told_writes (λ images. flat_map (block_writes images) (take i row.blocks)) told) layout row c.args.old.now told c.args.marks.now c.loop-want.marks a b (Ok tt) h tells in
-    flat_cut block_writes told (IsOfRow layout row) (Unit {0}) (Unit {0}) row.blocks i w.target w.below (w.at w.target) c.args.marks.now c.loop-want.marks c.write_block.new.marks a b d tt c.in-Err.fault h (c.in-Err.ensures.writes told row w.target of still w.is_sought)
+    let h = c.loop-want.invariant.done told row of is knows tells in
+    let still = tells_still (IsOfRow layout row) (λ i'. told_writes (λ images. flat_map (mending_writes images row.failing) (take i row.blocks)) told) layout row c.args.old.now told c.args.marks.now c.loop-want.marks a b (Ok tt) h tells in
+    flat_cut (λ images. mending_writes images row.failing) told (IsOfRow layout row) (Unit {0}) (Unit {0}) row.blocks i w.target w.below (w.at w.target) c.args.marks.now c.loop-want.marks c.write_block.new.marks a b d tt c.in-Err.fault h (c.in-Err.ensures.writes told row w.target of knows still w.is_sought)
 
 pub returns-clause-writes : goal.returns-clause-writes
-returns-clause-writes g c told row of is tells =
+returns-clause-writes g c told row of is knows tells =
     let layout = c.args.store.now.layout in
     let long = same_count layout c.args.wants.now row.blocks is.blocks in
-    subst (λ ts. Does {A = Unit {0}} (IsOfRow layout row) (λ i. told_writes (λ images. flat_map (block_writes images) ts) told) c.args.marks.now
+    subst (λ ts. Does {A = Unit {0}} (IsOfRow layout row) (λ i. told_writes (λ images. flat_map (mending_writes images row.failing) ts) told) c.args.marks.now
     c.loop-want.marks (g.R.Rack.seen c.args.rack.now) (g.R.Rack.seen c.loop-want.rack) (Ok tt))
-    (take_all c.loop-want.want-index row.blocks (omega (arith, long, c.loop-want-test.false))) (c.loop-want.invariant.done told row of is tells)
+    (take_all c.loop-want.want-index row.blocks (omega (arith, long, c.loop-want-test.false))) (c.loop-want.invariant.done told row of is knows tells)

@@ -1,21 +1,13 @@
-use Rattle.std.proofs.Common.{◌≡◌, ◌*◌, ◌<◌, ◌≤◌, ◌&&◌, Bool, true, None, not, cond, [], ◌∷◌, ◌++◌, length, take, replicate, false, Some, Option, IsSome, refl}
+use Rattle.std.proofs.Common.{◌*◌, ◌<◌, ◌≤◌, ◌&&◌, Bool, true, not, cond, [], ◌∷◌, ◌++◌, length, take, replicate, false, refl}
 use Rattle.std.proofs.Common.{sym, ap, ◌∙◌, subst, arith}
-use Rattle.std.proofs.lemmas.Bool.{false≢true}
 use Rattle.std.proofs.lemmas.List.{take_all, take_more}
 use Rattle.btr_chunk.specs.Chunk.{data_count}
-use Rattle.btr_chunk.specs.declared.place.Part.TheVariants.{Slice}
-use Rattle.btr_rack.specs.declared.place.Place.{Place as Range}
-use Rattle.btr_read.specs.Candidates.{range_of}
 use Rattle.btr_scrub_row.specs.Rows.{slice_count}
 use Rattle.btr_scrub_row.specs.Mending.{IsOn}
 use Rattle.btr_scrub_row.specs.Judging.{AreJudged}
 use Rattle.btr_scrub_row.proofs.Judges.{in_row, judged_more, judged_none, none_of_sixteen, same_count, stripe_same, want_at}
 use Rattle.btr_scrub_row.proofs.Shapes.{row_counted}
 use Rattle.btr_scrub_row.proofs.judged.judge.Goals as goal
-
-the_one : (o : Option Range) → IsSome o → (r : Range) × (o ≡ Some r)
-the_one None h = absurd (false≢true h)
-the_one (Some r) h = (r, refl)
 
 cond_few : (b : Bool) → cond b 1 0 ≤ 1
 cond_few true = omega arith
@@ -26,13 +18,14 @@ loop-want-init c = record {
   long = c.copy_front.ensures.long;
   block_long = refl;
   spare_long = refl;
+  blocks = omega arith;
   bad = omega arith;
   rebuilt = omega arith;
   lost = omega arith;
-  judged = λ images row of is kept holds.
+  judged = λ images row of is knows holds.
       judged_none images c.args.store.now.layout row c.args.old.now c.copy_front.new.front holds (omega arith)
       (c.args.stripe.now.shape.slices * 65536) (omega (arith, of.shape.slices)) c.copy_front.ensures.front
-      (record { bad = 0; rebuilt = 0; lost = 0; met = replicate 16 false; broken = c.args.kept }) refl refl refl none_of_sixteen kept;
+      (record { blocks = 0; bad = 0; rebuilt = 0; lost = 0; met = replicate 16 false; broken = replicate 16 false }) refl refl refl refl none_of_sixteen none_of_sixteen;
 }
 
 pub judge_block-verdict-requires-clause-within : goal.judge_block-verdict-requires-clause-within
@@ -54,30 +47,30 @@ loop-want-preserved c =
       long = c.judge_block-verdict.ensures.long ∙ c.loop-want.invariant.long;
       block_long = c.judge_block-verdict.ensures.block_long ∙ c.loop-want.invariant.block_long;
       spare_long = c.judge_block-verdict.ensures.spare_long ∙ c.loop-want.invariant.spare_long;
+      blocks = omega (arith, e.blocks, c.loop-want.invariant.blocks, cond_few verdict.checked);
       bad = omega (arith, e.bad, c.loop-want.invariant.bad, cond_few (not verdict.good));
-      rebuilt = omega (arith, e.rebuilt, c.loop-want.invariant.rebuilt, cond_few (not verdict.good && not verdict.lost));
-      lost = omega (arith, e.lost, c.loop-want.invariant.lost, cond_few verdict.lost);
-      judged = λ images row of is kept holds.
+      rebuilt = omega (arith, e.rebuilt, c.loop-want.invariant.rebuilt, cond_few (not verdict.good && verdict.given));
+      lost = omega (arith, e.lost, c.loop-want.invariant.lost, cond_few (verdict.checked && not verdict.given));
+      judged = λ images row of is knows holds.
           let layout = c.args.store.now.layout in
           let i = c.loop-want.want-index in
           let w = want_at layout c.args.wants.now row.blocks i _ is.blocks c.loop-want-test.true in
           let t = w.target in
           let on : IsOn row t = subst (IsOn row) (w.at t) (is.lie i t w.below) in
-          let fits = c.judge_block-verdict.ensures.verdict images row t of holds w.is_sought in
+          let fits = c.judge_block-verdict.ensures.verdict images row t of knows holds w.is_sought in
           let count = row_counted row of.is.parity of.keeps_rule in
-          let range = the_one (range_of t (Slice t.at.index)) fits.stand in
           let below : t.at.index < slice_count row = omega (arith, fits.index, ap (λ c. data_count c.profile (length c.stripes)) on.chunk) in
           let room : slice_count row * 65536 ≤ length c.loop-want.new = omega (arith, c.requires.new_room row of, count.whole, c.loop-want.invariant.long) in
           let more = judged_more images layout row (take i row.blocks) t c.loop-want.new c.judge_block-verdict.new.new c.loop-want.judged c.counted-judged.result verdict
-          fits.parity range.0 range.1 below fits.inside room (c.loop-want.invariant.judged images row of is kept holds) fits
-          (record { bad = e.bad; rebuilt = e.rebuilt; lost = e.lost; met = e.met; broken = e.broken }) fits.long in
+          below fits.inside room (c.loop-want.invariant.judged images row of is knows holds) fits
+          (record { blocks = e.blocks; bad = e.bad; rebuilt = e.rebuilt; lost = e.lost; met = e.met; broken = e.broken }) fits.long in
           subst (λ ts. AreJudged images layout row ts c.judge_block-verdict.new.new c.counted-judged.result)
           (sym (take_more row.blocks i t w.below ∙ ap (λ x. take i row.blocks ++ x ∷ []) (w.at t))) more;
     }
 
 pub returns-clause-judged : goal.returns-clause-judged
-returns-clause-judged c = λ images row of is kept holds.
+returns-clause-judged c = λ images row of is knows holds.
     let long = same_count c.args.store.now.layout c.args.wants.now row.blocks is.blocks in
     subst (λ ts. AreJudged images c.args.store.now.layout row ts c.loop-want.new c.loop-want.judged)
     (take_all c.loop-want.want-index row.blocks (omega (arith, long, c.loop-want-test.false)))
-    (c.loop-want.invariant.judged images row of is kept holds)
+    (c.loop-want.invariant.judged images row of is knows holds)

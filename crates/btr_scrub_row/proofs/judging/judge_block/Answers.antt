@@ -1,89 +1,89 @@
-use Rattle.std.proofs.Common.{◌≡◌, ◌+◌, ◌*◌, length, take, Some, None, IsNone, IsOkAnd, is_none, refl, sym, ap, ◌∙◌, subst, arith, length-take}
-use Rattle.std.proofs.lemmas.Option.{same_Some}
+use Rattle.std.proofs.Common.{◌≡◌, ◌+◌, ◌*◌, ◌&&◌, ◌||◌, not, cond, take, Some, None, List, ℕ, Bool, true, false, IsNone, IsOkAnd, refl, sym, ap, ◌∙◌, subst, arith}
 use Rattle.std.specs.Option.{option_map_or}
 use Rattle.btr_chunk.specs.declared.place.Part.TheVariants.{Slice}
 use Rattle.btr_rack.specs.Rack.{pasted}
 use Rattle.btr_read.specs.Candidates.{size_of}
+use Rattle.btr_read.specs.Fate.{is_plain}
 use Rattle.btr_read.specs.Want.{len_of}
 use Rattle.btr_read.proofs.Fates.{sought_of}
 use Rattle.btr_scrub_row.specs.Memory.{IsSited}
-use Rattle.btr_scrub_row.proofs.Held.{held, on_row, sited}
+use Rattle.btr_scrub_row.specs.Wanted.{is_checked}
+use Rattle.btr_scrub_row.proofs.Held.{held, lies_at, on_row, sited}
+use Rattle.btr_scrub_row.proofs.Settled.{length-writes, length-wrong, long_is, lost_is, sure_is}
+use Rattle.btr_scrub_row.proofs.BlockWrites.{own_range}
 use Rattle.btr_scrub_row.proofs.judging.judge_block.Goals as goal
 
-some_none : {X : Type 0} (x : X) → Some x ≡ None → ⊥
-some_none x e = cc
-
-pub accept-requires-clause-len : goal.accept-requires-clause-len
-accept-requires-clause-len c =
+pub settle-settled-requires-clause-len : goal.settle-settled-requires-clause-len
+settle-settled-requires-clause-len c =
     let w = c.requires.within in
     let p = c.spot_of-spot.ensures w.target w.is_sought in
     let is = sought_of c.args.store.now.layout c.args.want.now w.target w.is_sought in
     p.len ∙ ap (λ s. len_of s w.target.want) is.setting_is ∙ ap (len_of c.args.store.now.layout.setting) is.want_is
 
-pub accept-requires-clause-placed : goal.accept-requires-clause-placed
-accept-requires-clause-placed c =
+pub settle-settled-requires-clause-placed : goal.settle-settled-requires-clause-placed
+settle-settled-requires-clause-placed c =
     let w = c.requires.within in
     let spot = c.spot_of-spot.result in
     subst (λ r. IsOkAnd r (IsSited spot)) (sym w.is_sought) (sited c.args.store.now.layout c.args.stripe.now w.row w.of c.args.want.now w.target
     w.is_sought w.on spot (c.spot_of-spot.ensures w.target w.is_sought))
 
-pub returns-in-Some-clause-verdict : goal.returns-in-Some-clause-verdict
-returns-in-Some-clause-verdict c = λ images row t of holds e.
+-- what is given is pasted
+pasted_as : (bytes block : List ℕ) (at : ℕ) (n : ℕ) (b : Bool) → cond b (pasted bytes at (take n block)) bytes
+    ≡ option_map_or (pasted bytes at) (cond b (Some (take n block)) None) bytes
+pasted_as bytes block at n true = refl
+pasted_as bytes block at n false = refl
+
+pub returns-clause-verdict : goal.returns-clause-verdict
+returns-clause-verdict c = λ images row t of knows holds e.
     let layout = c.args.store.now.layout in
     let stripe = c.args.stripe.now in
     let spot = c.spot_of-spot.result in
+    let settled = c.settle-settled.result in
     let p = c.spot_of-spot.ensures t e in
     let on = on_row layout stripe c.args.want.now row t c.requires.within of e in
     let h = held layout stripe row of c.args.want.now t e on spot p images c.args.old.now holds in
-    let a = c.in-Some.ensures.accepts images t e h in
-    let block = c.accept.new.block in
+    let at = lies_at layout stripe row of c.args.want.now t e on spot p in
+    let block = c.settle-settled.new.block in
+    let is = c.settle-settled.ensures.settled images row t e at knows h in
+    let v = c.verdict_of.ensures in
+    let new = c.args.new.now in
+    let range = own_range layout stripe row of c.args.want.now t e on spot p in
+    let want_is = (sought_of layout c.args.want.now t e).want_is in
+    let checked : c.verdict_of.result.checked ≡ is_checked t = v.checked_is ∙ ap not (c.is_plain.ensures ∙ ap is_plain (sym want_is)) in
     record {
       parity = h.block.parity;
       index = h.block.position.index;
       inside = p.inside;
       stand = h.block.stand (Slice t.at.index) (subst IsNone (sym h.block.parity) refl, h.block.position.index);
-      long = λ bytes is.
-          let same : take (size_of t) block ≡ bytes = same_Some (take (size_of t) block) bytes (sym a.bytes ∙ is) in
-          omega (arith, ap length same, length-take (size_of t) block, c.in-Some.ensures.long, c.requires.block, p.inside);
-      spot = h.place;
-      good = sym a.good;
-      lost = sym (ap is_none a.bytes);
-      pasted_is = c.paste.ensures
-          ∙ ap (λ at. pasted c.args.new.now at (take spot.len block))
+      long = long_is images row t block settled is (omega (arith, c.settle-settled.ensures.long, c.requires.block, p.inside));
+      spot = record {
+        slices = ap (λ s. s.shape.slices) v.spot_is ∙ h.place.slices;
+        profile = ap (λ s. s.shape.profile) v.spot_is ∙ h.place.profile;
+        index = ap (λ s. s.index) v.spot_is ∙ h.place.index;
+        rest = ap (λ s. s.rest) v.spot_is ∙ h.place.rest;
+        len = ap (λ s. s.len) v.spot_is ∙ h.place.len;
+      };
+      checked = checked;
+      wrong = length-wrong images row t block settled is ∙ ap (λ b. cond (not b) 1 0) (sym v.good);
+      mends = length-writes images row t block settled is range.0 range.1
+          ∙ ap (λ b. cond (not b && settled.given) 1 0) (sym v.good)
+          ∙ ap (λ b. cond (not c.verdict_of.result.good && b) 1 0) (sym v.given_is);
+      lost = lost_is images row t block settled is ∙ ap (λ b. b && not settled.given) (sym checked)
+          ∙ ap (λ b. c.verdict_of.result.checked && not b) (sym v.given_is);
+      sure = v.sure ∙ ap (λ b. settled.given || not b && c.is_surer.result) (sym v.checked_is ∙ checked)
+          ∙ ap (λ b. settled.given || not (is_checked t) && b) c.is_surer.ensures
+          ∙ sure_is images row t block settled is layout spot c.args.doubts.now at knows;
+      pasted_is = c.paste.ensures.pasted
+          ∙ ap (λ at. cond settled.given (pasted new at (take spot.len block)) new)
           (c.start.ensures ∙ ap (λ i. i * 65536 + spot.rest) p.index ∙ ap (λ r. t.at.index * 65536 + r) p.rest)
-          ∙ ap (λ n. pasted c.args.new.now (t.at.index * 65536 + t.at.rest) (take n block)) p.len
-          ∙ sym (ap (λ o. option_map_or (pasted c.args.new.now (t.at.index * 65536 + t.at.rest)) o c.args.new.now) a.bytes);
+          ∙ ap (λ n. cond settled.given (pasted new (t.at.index * 65536 + t.at.rest) (take n block)) new) p.len
+          ∙ pasted_as new block (t.at.index * 65536 + t.at.rest) (size_of t) settled.given
+          ∙ ap (λ o. option_map_or (pasted new (t.at.index * 65536 + t.at.rest)) o new) (sym is.gets);
     }
 
-pub returns-in-None-clause-verdict : goal.returns-in-None-clause-verdict
-returns-in-None-clause-verdict c = λ images row t of holds e.
-    let layout = c.args.store.now.layout in
-    let stripe = c.args.stripe.now in
-    let spot = c.spot_of-spot.result in
-    let p = c.spot_of-spot.ensures t e in
-    let on = on_row layout stripe c.args.want.now row t c.requires.within of e in
-    let h = held layout stripe row of c.args.want.now t e on spot p images c.args.old.now holds in
-    let a = c.in-None.ensures.accepts images t e h in
-    record {
-      parity = h.block.parity;
-      index = h.block.position.index;
-      inside = p.inside;
-      stand = h.block.stand (Slice t.at.index) (subst IsNone (sym h.block.parity) refl, h.block.position.index);
-      long = λ bytes is. absurd (some_none bytes (sym is ∙ a.bytes));
-      spot = h.place;
-      good = sym a.good;
-      lost = sym (ap is_none a.bytes);
-      pasted_is = sym (ap (λ o. option_map_or (pasted c.args.new.now (t.at.index * 65536 + t.at.rest)) o c.args.new.now) a.bytes);
-    }
-
-pub returns-in-Some-clause-inside : goal.returns-in-Some-clause-inside
-returns-in-Some-clause-inside c =
+pub returns-clause-inside : goal.returns-clause-inside
+returns-clause-inside c =
     let w = c.requires.within in
     let p = c.spot_of-spot.ensures w.target w.is_sought in
-    omega (arith, p.rest, p.len, p.inside)
-
-pub returns-in-None-clause-inside : goal.returns-in-None-clause-inside
-returns-in-None-clause-inside c =
-    let w = c.requires.within in
-    let p = c.spot_of-spot.ensures w.target w.is_sought in
-    omega (arith, p.rest, p.len, p.inside)
+    let v = c.verdict_of.ensures in
+    omega (arith, ap (λ s. s.rest) v.spot_is, ap (λ s. s.len) v.spot_is, p.rest, p.len, p.inside)

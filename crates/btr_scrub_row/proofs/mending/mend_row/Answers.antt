@@ -24,7 +24,7 @@ returns-then-not-write-clause-serves g c = serves_as (g.R.Rack.seen c.args.rack.
     c.args.store.now (same_slots c.prepare.ensures.reads) (same_held c.prepare.ensures.reads) refl refl c.requires.serves
 
 pub returns-in-Err-clause-mends : goal.returns-in-Err-clause-mends
-returns-in-Err-clause-mends g c row is kept =
+returns-in-Err-clause-mends g c row is fails =
     let layout = c.args.store.now.layout in
     let of = c.full_stripe-stripe.ensures row is.stripe in
     mends_failed layout row c.args.write c.args.marks.now (g.R.Rack.seen c.args.rack.now) (g.R.Rack.seen c.prepare.new.rack) c.prepare.ensures.reads
@@ -38,7 +38,7 @@ count_parities-requires-clause-room g c = λ row of.
     c.prepare.ensures.room (length row.chunk.stripes) (room_all layout c.full_stripe-stripe.result r.row row c.args.buffer.now of0 of (c.requires.room r.row r.is))
 
 pub returns-then-not-write-clause-mends : goal.returns-then-not-write-clause-mends
-returns-then-not-write-clause-mends g c row is kept =
+returns-then-not-write-clause-mends g c row is fails =
     let layout = c.args.store.now.layout in
     let stripe = c.full_stripe-stripe.result in
     let of = c.full_stripe-stripe.ensures row is.stripe in
@@ -47,7 +47,7 @@ returns-then-not-write-clause-mends g c row is kept =
     let b = g.R.Rack.seen c.prepare.new.rack in
     let judged = c.in-Ok.judged in
     let buffer = c.prepare.new.buffer in
-    let prepared = λ (images : Images) (e : a.held ≡ Some images). c.in-Ok.ensures.prepared images row e of rows kept in
+    let prepared = λ (images : Images) (e : a.held ≡ Some images). c.in-Ok.ensures.prepared images row e of rows (c.doubts_of-doubts.ensures row of fails) in
     mends_read layout row c.args.write c.args.marks.now a b c.prepare.ensures.reads (c.in-Ok.ensures.account row of) judged buffer prepared
     c.count_parities.result
     (λ images e. c.count_parities.ensures images row of (prepared images e)) c.if-not-write.true
@@ -95,7 +95,7 @@ pub returns-in-Err-write_row-clause-room : goal.returns-in-Err-write_row-clause-
 returns-in-Err-write_row-clause-room g c = λ n room. c.write_row.ensures.room n (c.prepare.ensures.room n room)
 
 pub returns-in-Ok-write_row-clause-mends : goal.returns-in-Ok-write_row-clause-mends
-returns-in-Ok-write_row-clause-mends g c row is kept =
+returns-in-Ok-write_row-clause-mends g c row is fails =
     let layout = c.args.store.now.layout in
     let stripe = c.full_stripe-stripe.result in
     let same : c.forget_kept.new.self.layout ≡ layout = ap (λ (s : Blocks). s.layout) c.forget_kept.ensures in
@@ -108,8 +108,8 @@ returns-in-Ok-write_row-clause-mends g c row is kept =
     let buffer = c.prepare.new.buffer in
     let m = c.args.marks.now in
     let m' = c.write_row.new.marks in
-    let prepared = λ (images : Images) (e : a.held ≡ Some images). c.in-Ok.ensures.prepared images row e of rows kept in
-    let turns = subst (λ (l : Layout). WritesInTurn {A = Unit {0}} l stripe c.args.wants.now judged buffer m m' b d (Ok tt)) same c.in-Ok-write_row.ensures.writes in
+    let prepared = λ (images : Images) (e : a.held ≡ Some images). c.in-Ok.ensures.prepared images row e of rows (c.doubts_of-doubts.ensures row of fails) in
+    let turns = subst (λ (l : Layout). WritesInTurn {A = Unit {0}} l stripe c.args.wants.now c.doubts_of-doubts.result judged buffer m m' b d (Ok tt)) same c.in-Ok-write_row.ensures.writes in
     let later = subst (λ (l : Layout). (images : Images) (row : Row) → IsPrepared images l row judged buffer → IsPrepared images l row judged c.write_row.new.buffer) same c.in-Ok-write_row.ensures.prepared in
     let of' : IsStripeOf c.forget_kept.new.self.layout stripe row = subst (λ l. IsStripeOf l stripe row) (sym same) of in
     mends_wrote layout row c.args.write m a b c.prepare.ensures.reads c.if-not-write.false m' d (c.in-Ok.ensures.account row of) judged buffer
@@ -118,10 +118,10 @@ returns-in-Ok-write_row-clause-mends g c row is kept =
     ≡ sum_by (λ part. length (parity_writes images l row part)) (parities row.chunk.profile)) same
     (c.count_parities-in-Ok-write_row.ensures images row of'
     (subst (λ (l : Layout). IsPrepared images l row judged c.write_row.new.buffer) (sym same) (later images row (prepared images e)))))
-    (turns a.held row of rows (tells_prepared layout row judged buffer a b c.prepare.ensures.reads prepared))
+    (turns a.held row of rows (c.doubts_of-doubts.ensures row of fails) (tells_prepared layout row judged buffer a b c.prepare.ensures.reads prepared))
 
 pub returns-in-Err-write_row-clause-mends : goal.returns-in-Err-write_row-clause-mends
-returns-in-Err-write_row-clause-mends g c row is kept =
+returns-in-Err-write_row-clause-mends g c row is fails =
     let layout = c.args.store.now.layout in
     let stripe = c.full_stripe-stripe.result in
     let same : c.forget_kept.new.self.layout ≡ layout = ap (λ (s : Blocks). s.layout) c.forget_kept.ensures in
@@ -134,7 +134,7 @@ returns-in-Err-write_row-clause-mends g c row is kept =
     let buffer = c.prepare.new.buffer in
     let m = c.args.marks.now in
     let m' = c.write_row.new.marks in
-    let prepared = λ (images : Images) (e : a.held ≡ Some images). c.in-Ok.ensures.prepared images row e of rows kept in
+    let prepared = λ (images : Images) (e : a.held ≡ Some images). c.in-Ok.ensures.prepared images row e of rows (c.doubts_of-doubts.ensures row of fails) in
     let fault = c.in-Err-write_row.fault in
-    let turns = subst (λ (l : Layout). WritesInTurn {A = Unit {0}} l stripe c.args.wants.now judged buffer m m' b d (Err fault)) same c.in-Err-write_row.ensures.writes in
-    mends_cut layout row c.args.write m a b c.prepare.ensures.reads c.if-not-write.false m' d (c.in-Ok.ensures.account row of) fault (turns a.held row of rows (tells_prepared layout row judged buffer a b c.prepare.ensures.reads prepared))
+    let turns = subst (λ (l : Layout). WritesInTurn {A = Unit {0}} l stripe c.args.wants.now c.doubts_of-doubts.result judged buffer m m' b d (Err fault)) same c.in-Err-write_row.ensures.writes in
+    mends_cut layout row c.args.write m a b c.prepare.ensures.reads c.if-not-write.false m' d (c.in-Ok.ensures.account row of) fault (turns a.held row of rows (c.doubts_of-doubts.ensures row of fails) (tells_prepared layout row judged buffer a b c.prepare.ensures.reads prepared))

@@ -10,7 +10,7 @@ use Rattle.btr_scrub_row.proofs.Prepared.{knows_p, knows_q}
 use Rattle.btr_scrub_row.proofs.preparing.prepare.Goals as goal
 
 pub returns-clause-prepared : goal.returns-clause-prepared
-returns-clause-prepared g c = λ images row is of rows kept.
+returns-clause-prepared g c = λ images row is of rows knows.
     let layout = c.args.store.now.layout in
     let stripe = c.args.stripe.now in
     let held = (g.R.Rack.seen c.args.rack.now).held in
@@ -23,7 +23,7 @@ returns-clause-prepared g c = λ images row is of rows kept.
     let made = c.judge-judged.new.new in
     let new = take buffer.slices.len (made ++ drop (length made) buffer.slices.items) in
     let same_new : new ≡ made = take_at made (drop (length made) buffer.slices.items) buffer.slices.len (c.judge-judged.ensures.long ∙ c.deref_mut-2.ensures.len) in
-    let are : AreJudged images layout row row.blocks new judged = subst (λ n. AreJudged images layout row row.blocks n judged) (sym same_new) (c.judge-judged.ensures.judged images row of rows kept (subst (HoldsRow images layout row) (sym c.deref.ensures.value) holds)) in
+    let are : AreJudged images layout row row.blocks new judged = subst (λ n. AreJudged images layout row row.blocks n judged) (sym same_new) (c.judge-judged.ensures.judged images row of rows knows (subst (HoldsRow images layout row) (sym c.deref.ensures.value) holds)) in
     let p = c.make_parities.new.p in
     let same_p : take buffer.p.len (p ++ drop (length p) buffer.p.items) ≡ p = take_at p (drop (length p) buffer.p.items) buffer.p.len (c.make_parities.ensures.p_long ∙ c.deref_mut-5.ensures.len) in
     let q = c.make_parities.new.q in

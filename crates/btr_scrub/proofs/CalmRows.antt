@@ -1,0 +1,168 @@
+-- A full stripe that holds nothing but plain sectors, in a chunk no image of which is in doubt: nothing is written there, and nothing counted.
+use Rattle.std.proofs.Common.{◌≡◌, ℕ, Bool, true, false, not, cond, ◌&&◌, ◌||◌, List, [], ◌∷◌, ◌++◌, length, map, nat_lt, Option, Some, None}
+use Rattle.std.proofs.Common.{IsNone, is_some, Ok, refl, sym, ap, ◌∙◌, subst, inl, inr}
+use Rattle.std.specs.List.{filter_map, flat_map, list_all, list_any, range_with_len}
+use Rattle.std.specs.Option.{option_map_or}
+use Rattle.std.proofs.lemmas.Bool.{false≢true}
+use Rattle.btr_chunk.specs.Chunk.{mirrors}
+use Rattle.btr_chunk.specs.Mapping.{IsPosition, place_at}
+use Rattle.btr_chunk.specs.Table.{IsTable}
+use Rattle.btr_chunk.specs.declared.place.Part.{Part}
+use Rattle.btr_chunk.specs.declared.place.Part.TheVariants.{Slice}
+use Rattle.btr_chunk.specs.declared.stripe.Stripe.{Stripe}
+use Rattle.btr_chunk.proofs.Bytes.{IsPosition-position}
+use Rattle.btr_read.specs.Candidates.{Target}
+use Rattle.btr_read.specs.Fate.{is_plain, sought}
+use Rattle.btr_read.specs.Layout.{Layout, device_in}
+use Rattle.btr_read.specs.Want.{addr_of}
+use Rattle.btr_read.specs.declared.device.Device.{Device}
+use Rattle.btr_read.specs.declared.device.Member.{Member}
+use Rattle.btr_read.specs.declared.want.Want.{Want}
+use Rattle.btr_scrub_copies.specs.Blocks.{accepted, bad_parts, copy_writes, is_lost}
+use Rattle.btr_scrub_copies.specs.Fresh.{Failing, fresh, is_behind, is_doubtful, is_on_behind, is_on_doubtful, stale_parts}
+use Rattle.btr_scrub_copies.specs.Writes.{Images}
+use Rattle.btr_scrub_copies.proofs.Freshness.{none_stale}
+use Rattle.btr_scrub_row.specs.Mending.{IsOn, IsRowOf, is_at, mended_row}
+use Rattle.btr_scrub_row.specs.Rows.{Row, differs, has_doubtful, is_decided, is_sure, is_surer, meets, parities, parities_writes, parity_writes}
+use Rattle.btr_scrub_row.specs.Rows.{row_writes, sector_write}
+use Rattle.btr_scrub_row.specs.Wanted.{is_checked, is_lost_block, mending_writes, new_bytes, renewed, wrong_parts}
+use Rattle.btr_scrub_row.specs.declared.mended.MendedRow.{MendedRow}
+use Rattle.btr_scrub_row.proofs.Settled.{mending_is, own as own_are}
+use Rattle.btr_scrub.specs.Glue.{In}
+use Rattle.btr_scrub.specs.Order.{IsSought}
+use Rattle.btr_scrub.specs.Rowing.{IsCalm, untouched}
+use Rattle.btr_scrub.proofs.Blockwise.{filter_none}
+use Rattle.btr_scrub.proofs.Calm.{none_of}
+use Rattle.btr_scrub.proofs.Lists.{all_in}
+use Rattle.btr_scrub.proofs.Positions.{is_sought, on_stripe}
+use Rattle.btr_scrub.proofs.Sums.{sum_zero}
+
+-- ---- lists
+
+flat_none : {X Y : Type 0} (f : X → List Y) (xs : List X) → ((x : X) → In x xs → f x ≡ []) → flat_map f xs ≡ []
+flat_none f [] h = refl
+flat_none f (x ∷ xs) h = ap (λ ys. ys ++ flat_map f xs) (h x (inl refl)) ∙ flat_none f xs (λ y i. h y (inr i))
+
+-- a column in which nothing is sure isn't decided
+none_decided : (meets sure : Target → Bool) (ts : List Target) → ((t : Target) → In t ts → sure t ≡ false)
+    → (list_any meets ts && list_all (λ t. not (meets t) || sure t) ts) ≡ false
+none_decided meets sure [] h = refl
+none_decided meets sure (t ∷ ts) h = by (meets t) (sure t) (h t (inl refl)) (none_decided meets sure ts (λ u i. h u (inr i)))
+  where
+    by : (m s : Bool) → s ≡ false → (list_any meets ts && list_all (λ t. not (meets t) || sure t) ts) ≡ false
+        → ((m || list_any meets ts) && ((not m || s) && list_all (λ t. not (meets t) || sure t) ts)) ≡ false
+    by true s e rest = ap (λ s. s && list_all (λ t. not (meets t) || sure t) ts) e
+    by false s e rest = rest
+
+-- an image that isn't in doubt isn't behind
+sure_device : (fails : Failing) (devices : List Member) (devid : ℕ) → is_doubtful devices fails devid ≡ false → is_behind devices fails devid ≡ false
+sure_device fails devices devid e = by (device_in devices devid) e
+  where
+    both : (a b : Bool) → (a || b) ≡ false → (a && b) ≡ false
+    both true b e = absurd (false≢true (sym e))
+    both false b e = refl
+
+    by : (o : Option Device) → option_map_or (λ device. device.older || fails device.slot) o false ≡ false
+        → option_map_or (λ device. device.older && fails device.slot) o false ≡ false
+    by None e = refl
+    by (Some device) e = both device.older (fails device.slot) e
+
+-- each block of a row is one of its wants, and has a position
+pub sought_of_row : (layout : Layout) (wants : List Want) (ts : List Target) → map (sought layout) wants ≡ map is_at ts → (t : Target) → In t ts
+    → (w : Want) × In w wants × (sought layout w ≡ Ok t)
+sought_of_row layout wants [] e t i = absurd i
+sought_of_row layout [] (u ∷ ts) e t i = cc
+sought_of_row layout (w ∷ ws) (u ∷ ts) e t (inl same) =
+    let head : sought layout w ≡ Ok u = cc in
+    (w, inl refl, head ∙ ap is_at same)
+sought_of_row layout (w ∷ ws) (u ∷ ts) e t (inr i) =
+    let tail : map (sought layout) ws ≡ map is_at ts = cc in
+    let r = sought_of_row layout ws ts tail t i in
+    (r.0, inr r.1, r.2)
+
+module _ (layout : Layout) (table : IsTable layout.chunks) (start number : ℕ) (wants : List Want) (row : Row)
+    (of : IsRowOf layout start number wants row) (calm : IsCalm layout row) where
+  -- ---- one sector
+
+  module _ (t : Target) (i : In t row.blocks) where
+    is : IsSought layout t
+    is = let w = sought_of_row layout wants row.blocks of.blocks t i in is_sought layout w.0 t w.2
+
+    plain : is_plain t.want ≡ true
+    plain = all_in (λ t. is_plain t.want ≡ true) row.blocks t calm.plain i
+
+    on : IsOn row t
+    on = all_in (IsOn row) row.blocks t of.lie i
+
+    none : mirrors t.chunk ≡ None
+    none = ap mirrors on.chunk ∙ of.stripe.parity
+
+    not_behind : is_on_behind row.failing t (Slice t.at.index) ≡ false
+    not_behind =
+        let position : IsPosition t.chunk t.at = subst (IsPosition t.chunk) (sym is.at) (IsPosition-position t.chunk (addr_of t.want) (table.sound is.number t.chunk is.there).0 is.held) in
+        let at = on_stripe layout t (Slice t.at.index) table is (subst IsNone (sym none) refl, position.index) in
+        let sure : has_doubtful layout.devices row.failing t.chunk ≡ false = ap (has_doubtful layout.devices row.failing) on.chunk ∙ calm.sure in
+        ap (λ ds. is_behind ds row.failing (place_at t.chunk (Slice t.at.index) t.at).devid) is.devices
+        ∙ ap (is_behind layout.devices row.failing) at.devid
+        ∙ sure_device row.failing layout.devices at.stripe.devid
+        (none_of (λ (stripe : Stripe). is_doubtful layout.devices row.failing stripe.devid) t.chunk.stripes at.number at.stripe sure at.there)
+
+    or_false : (b : Bool) → (b || false) ≡ b
+    or_false true = refl
+    or_false false = refl
+
+    module _ (images : Images) where
+      unstale : stale_parts images row.failing t ≡ []
+      unstale = none_stale images row.failing t
+          (ap (list_any (is_on_behind row.failing t)) (own_are images t none) ∙ or_false (is_on_behind row.failing t (Slice t.at.index)) ∙ not_behind)
+
+      none_wrong : wrong_parts images row.failing t ≡ []
+      none_wrong = ap (λ b. cond b (stale_parts images row.failing t) (bad_parts images t)) plain ∙ unstale
+
+      none_given : new_bytes images row.failing t ≡ None
+      none_given = ap (λ b. cond b (renewed images row.failing t) (accepted images t)) plain
+          ∙ ap (λ ps. cond (nat_lt 0 (length ps)) (fresh images row.failing t) None) unstale
+
+      none_written : mending_writes images row.failing t ≡ []
+      none_written = mending_is images row t
+          ∙ ap (λ o. option_map_or (λ bytes. copy_writes t bytes (wrong_parts images row.failing t)) o []) none_given
+
+      unchecked : is_checked t ≡ false
+      unchecked = ap not plain
+
+      unlost : is_lost_block images t ≡ false
+      unlost = ap (λ b. b && is_lost images t) unchecked
+
+      unsure : is_sure images layout row t ≡ false
+      unsure = ap (λ o. is_some o || is_plain t.want && is_surer images layout row t) none_given
+          ∙ ap (λ b. b && is_surer images layout row t) plain
+          ∙ ap (λ b. b && not (is_on_doubtful row.failing t (Slice t.at.index))) calm.sure
+
+  -- ---- the row
+
+  module _ (images : Images) where
+    undecided : (column : ℕ) → is_decided images layout row column ≡ false
+    undecided column = none_decided (meets column) (is_sure images layout row) row.blocks (λ t i. unsure t i images)
+
+    none_parity : (q : Part) → parity_writes images layout row q ≡ []
+    none_parity q = ap (filter_map (sector_write images layout row q))
+        (filter_none (λ column. is_decided images layout row column && differs images layout row q column) (range_with_len 0 16)
+        (λ column i. ap (λ b. b && differs images layout row q column) (undecided column)))
+
+    pub calm_writes : row_writes images layout row ≡ []
+    calm_writes =
+        ap (λ ws. ws ++ parities_writes images layout row) (flat_none (mending_writes images row.failing) row.blocks (λ t i. none_written t i images))
+        ∙ flat_none (parity_writes images layout row) (parities row.chunk.profile) (λ q i. none_parity q)
+
+    pub calm_counts : (write : Bool) → mended_row images layout row write ≡ untouched
+    calm_counts write =
+        let blocks = sum_zero (λ t. cond (is_checked t) 1 0) row.blocks (λ t i. ap (λ b. cond b 1 0) (unchecked t i images)) in
+        let bad = sum_zero (λ t. length (wrong_parts images row.failing t)) row.blocks (λ t i. ap length (none_wrong t i images)) in
+        let repaired = sum_zero (λ t. length (mending_writes images row.failing t)) row.blocks (λ t i. ap length (none_written t i images)) in
+        let lost = sum_zero (λ t. cond (is_lost_block images t) 1 0) row.blocks (λ t i. ap (λ b. cond b 1 0) (unlost t i images)) in
+        let parity = sum_zero (λ q. length (parity_writes images layout row q)) (parities row.chunk.profile) (λ q i. ap length (none_parity q)) in
+        (λ i. record { blocks = blocks i; bad = bad i; repaired = cond write (repaired i) 0; lost = lost i; parity = parity i }) ∙ by write
+      where
+        by : (b : Bool) → ◌≡◌ {A = MendedRow} (record { blocks = 0; bad = 0; repaired = cond b 0 0; lost = 0; parity = 0 }) untouched
+        by true = refl
+        by false = refl

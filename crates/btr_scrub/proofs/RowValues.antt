@@ -1,0 +1,118 @@
+-- What a candidate of a block in a full stripe gives is as long as the block.
+use Rattle.std.proofs.Common.{◌≡◌, ◌≢◌, ℕ, ◌+◌, ◌-◌, ◌<◌, ◌≤◌, Bool, true, false, cond, List, length, Option, None, IsNone, All, refl, sym, ap, subst, inl, inr, arith}
+use Rattle.std.specs.List.{range_with_len}
+use Rattle.std.specs.Option.{option_map_or}
+use Rattle.btr_chunk.specs.Chunk.{data_count, mirrors}
+use Rattle.btr_chunk.specs.Mapping.{HasPart}
+use Rattle.btr_chunk.specs.declared.place.Part.{Part}
+use Rattle.btr_chunk.specs.declared.place.Part.TheVariants.{Slice, P, Q}
+use Rattle.btr_chunk.specs.declared.profile.Profile.TheVariants.{Raid5, Raid6}
+use Rattle.btr_chunk.proofs.Rows.{without_copies}
+use Rattle.btr_parity.specs.Slices.{IsSlice, zeros, plus, parity_p, parity_q}
+use Rattle.btr_parity.proofs.Folding.{quotient_is_one, pair_is_one}
+use Rattle.btr_parity.proofs.Lost.{plus_slice, zeros_slice, parity_p_slice, weighted_slice}
+use Rattle.btr_read.specs.Candidates.{Target, candidates, copies, element, others, reads_slice, rebuilt, size_of, slice_count, value_of, ways}
+use Rattle.btr_read.specs.Gathering.{read_slices}
+use Rattle.btr_read.specs.declared.candidate.Candidate.{Candidate}
+use Rattle.btr_read.specs.declared.candidate.Candidate.TheVariants.{Read, ByP, ByQ, ByBoth}
+use Rattle.btr_read.proofs.Ones.{in_below}
+use Rattle.btr_read.proofs.Order.{in_ways}
+use Rattle.btr_read.proofs.Rebuilt.{at_slice, length-rs, by_p, by_q, by_both}
+use Rattle.btr_scrub_copies.specs.Writes.{Images}
+use Rattle.btr_scrub.specs.Glue.{In}
+use Rattle.btr_scrub.proofs.Agreeing.{of_mapped}
+use Rattle.btr_scrub.proofs.Blockwise.{in_append}
+use Rattle.btr_scrub.proofs.RowNumbers.{in_range}
+
+-- another slice than the one that is sought is one of the row
+other_below : (k i x : ℕ) → i < k → In x (others k i) → (x < k) × (i ≢ x)
+other_below k i x lt among = elim (in_append x (range_with_len 0 i) (range_with_len (i + 1) (k - (i + 1))) among) [
+  | inl j ↦ let b = in_below i x j in (omega (arith, lt, b), λ e. absurd (omega (arith, e, b)))
+  | inr j ↦ let b = in_range (i + 1) (k - (i + 1)) x j in (omega (arith, lt, b.1), λ e. absurd (omega (arith, e, b.0)))
+]
+
+module _ (images : Images) (t : Target) (none : mirrors t.chunk ≡ None) (index : t.at.index < slice_count t) (few : length t.chunk.stripes ≤ 64)
+    (whole : (part : Part) → HasPart t.chunk.profile (length t.chunk.stripes) part → IsSlice (size_of t) (element images t part)) where
+  slice_whole : (s : ℕ) → s < slice_count t → IsSlice (size_of t) (element images t (Slice s))
+  slice_whole s lt = whole (Slice s) (subst IsNone (sym none) refl, lt)
+
+  rows_whole : (c : Candidate) → All (IsSlice (size_of t)) (read_slices images t c)
+  rows_whole c k d lt =
+      let below : k < slice_count t = omega (arith, lt, length-rs images t c) in
+      subst (IsSlice (size_of t)) (sym (at_slice images t c k d below)) (by (reads_slice t.at.index c k) below)
+    where
+      by : (b : Bool) → k < slice_count t → IsSlice (size_of t) (cond b (element images t (Slice k)) (zeros (size_of t)))
+      by true below = slice_whole k below
+      by false below = zeros_slice (size_of t)
+
+  p_whole : IsSlice (size_of t) (element images t P)
+  p_whole = whole P (subst IsNone (sym none) refl)
+
+  -- what P leaves of the slices that are read
+  abbrev left_p : Candidate → List ℕ
+  left_p c = plus (element images t P) (parity_p (size_of t) (read_slices images t c))
+
+  left_p_whole : (c : Candidate) → IsSlice (size_of t) (left_p c)
+  left_p_whole c = plus_slice (size_of t) (element images t P) (parity_p (size_of t) (read_slices images t c)) p_whole
+      (parity_p_slice (size_of t) (read_slices images t c) (rows_whole c))
+
+  by_p_whole : IsSlice (size_of t) (value_of images t ByP)
+  by_p_whole = subst (IsSlice (size_of t)) (sym (by_p images t (left_p ByP) index (record { slices = rows_whole ByP; whole = p_whole; sum = refl }))) (left_p_whole ByP)
+
+  module _ (six : t.chunk.profile ≡ Raid6) where
+    q_whole : IsSlice (size_of t) (element images t Q)
+    q_whole = whole Q six
+
+    -- what Q leaves of them
+    abbrev left_q : Candidate → List ℕ
+    left_q c = plus (element images t Q) (parity_q (size_of t) (read_slices images t c))
+
+    left_q_whole : (c : Candidate) → IsSlice (size_of t) (left_q c)
+    left_q_whole c = plus_slice (size_of t) (element images t Q) (parity_q (size_of t) (read_slices images t c)) q_whole
+        (weighted_slice (size_of t) 0 (read_slices images t c) (rows_whole c))
+
+    below_62 : (i : ℕ) → i < slice_count t → i ≤ 62
+    below_62 i lt =
+        let below : i < length t.chunk.stripes - 2 = subst (λ p. i < data_count p (length t.chunk.stripes)) six lt in
+        omega (arith, below, few)
+
+    by_q_whole : IsSlice (size_of t) (value_of images t ByQ)
+    by_q_whole =
+        let S = left_q ByQ in
+        let q = quotient_is_one (size_of t) t.at.index S (below_62 t.at.index index) (left_q_whole ByQ) in
+        subst (IsSlice (size_of t)) (sym (by_q images t S q.0 index (record { slices = rows_whole ByQ; whole = q_whole; sum = refl }) q.1)) q.1.slice
+
+    by_both_whole : (j : ℕ) → j < slice_count t → t.at.index ≢ j → IsSlice (size_of t) (value_of images t (ByBoth j))
+    by_both_whole j lt ne =
+        let c = ByBoth j in
+        let S = left_p c in
+        let W = left_q c in
+        let pair = pair_is_one (size_of t) t.at.index j S W (below_62 t.at.index index) (below_62 j lt) ne (left_p_whole c) (left_q_whole c) in
+        subst (IsSlice (size_of t)) (sym (by_both images t j S W pair.0 index lt ne
+        (record { slices = rows_whole c; whole = p_whole; sum = refl }) (record { slices = rows_whole c; whole = q_whole; sum = refl }) pair.1)) pair.1.slice
+
+  own_whole : IsSlice (size_of t) (value_of images t (Read (Slice t.at.index)))
+  own_whole = slice_whole t.at.index index
+
+  all : (o : Option ℕ) → mirrors t.chunk ≡ o → ways t ≡ option_map_or copies o (rebuilt t.chunk.profile (slice_count t) t.at.index)
+  all o e = ap (λ o. option_map_or copies o (rebuilt t.chunk.profile (slice_count t) t.at.index)) e
+
+  with_five : (c : Candidate) → In c (rebuilt Raid5 (slice_count t) t.at.index) → IsSlice (size_of t) (value_of images t c)
+  with_five c (inl e) = subst (λ d. IsSlice (size_of t) (value_of images t d)) e own_whole
+  with_five c (inr (inl e)) = subst (λ d. IsSlice (size_of t) (value_of images t d)) e by_p_whole
+  with_five c (inr (inr i)) = absurd i
+
+  with_six : t.chunk.profile ≡ Raid6 → (c : Candidate) → In c (rebuilt Raid6 (slice_count t) t.at.index) → IsSlice (size_of t) (value_of images t c)
+  with_six six c (inl e) = subst (λ d. IsSlice (size_of t) (value_of images t d)) e own_whole
+  with_six six c (inr (inl e)) = subst (λ d. IsSlice (size_of t) (value_of images t d)) e by_p_whole
+  with_six six c (inr (inr (inl e))) = subst (λ d. IsSlice (size_of t) (value_of images t d)) e (by_q_whole six)
+  with_six six c (inr (inr (inr i))) =
+      let r = of_mapped ByBoth c (others (slice_count t) t.at.index) i in
+      let o = other_below (slice_count t) t.at.index r.0 index r.1 in
+      subst (λ d. IsSlice (size_of t) (value_of images t d)) r.2 (by_both_whole six r.0 o.0 o.1)
+
+  pub value_whole : (c : Candidate) → In c (candidates t) → IsSlice (size_of t) (value_of images t c)
+  value_whole c i = elim (without_copies t.chunk.profile (length t.chunk.stripes) none) [
+    | inl five ↦ with_five c (subst (λ p. In c (rebuilt p (slice_count t) t.at.index)) five (subst (In c) (all None none) (in_ways t c i)))
+    | inr six ↦ with_six six c (subst (λ p. In c (rebuilt p (slice_count t) t.at.index)) six (subst (In c) (all None none) (in_ways t c i)))
+  ]

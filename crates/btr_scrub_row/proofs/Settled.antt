@@ -1,0 +1,220 @@
+-- What a block of a row gets, and what is written and counted for it.
+use Rattle.std.proofs.Common.{◌≡◌, ℕ, suc, ◌≤◌, ◌&&◌, ◌||◌, Bool, true, false, not, cond, List, [], ◌∷◌, length, map, take, nat_lt, Option, Some, None}
+use Rattle.std.proofs.Common.{is_none, is_some, refl, sym, ap, ◌∙◌, arith, length-take}
+use Rattle.std.specs.List.{cons_option, filter, list_any, range_with_len}
+use Rattle.std.specs.Option.{option_map, option_map_or}
+use Rattle.std.specs.Str.{bytes_eq}
+use Rattle.std.proofs.lemmas.Bool.{false≢true, lt-ltb}
+use Rattle.std.proofs.lemmas.Option.{same_Some}
+use Rattle.btr_chunk.specs.Chunk.{mirrors}
+use Rattle.btr_chunk.specs.declared.place.Part.{Part}
+use Rattle.btr_chunk.specs.declared.place.Part.TheVariants.{Mirror, Slice}
+use Rattle.btr_rack.specs.declared.place.Place.{Place as Range}
+use Rattle.btr_read.specs.Candidates.{Target, element, range_of, size_of}
+use Rattle.btr_read.specs.Fate.{is_plain}
+use Rattle.btr_read.specs.Layout.{Layout}
+use Rattle.btr_scrub_copies.specs.Blocks.{accepted, bad_parts, block_writes, copy_writes, is_good, is_lost, is_sound, own_parts}
+use Rattle.btr_scrub_copies.specs.Fresh.{fresh, fresh_writes, is_on_behind, is_stale, stale_beside, stale_parts}
+use Rattle.btr_scrub_copies.specs.Writes.{Images, Write}
+use Rattle.btr_scrub_copies.proofs.Freshness.{none_fresh, none_stale}
+use Rattle.btr_scrub_row.specs.Wanted.{new_bytes, is_checked, is_lost_block, mending_writes, renewed, wrong_parts}
+use Rattle.btr_scrub_row.specs.Rows.{Row, has_doubtful, is_sure}
+use Rattle.btr_scrub_row.specs.Memory.{IsAccepted, IsGone, IsRenewed, IsSettled, KnowsDoubts, LiesAt, flag_of}
+use Rattle.btr_scrub_row.specs.declared.doubts.Doubts.{Doubts}
+use Rattle.btr_scrub_row.specs.declared.settling.Settled.{Settled}
+use Rattle.btr_scrub_row.specs.declared.spot.Spot.{Spot}
+use Rattle.btr_scrub_row.proofs.Doubting.{own_doubtful}
+
+abbrev pub written_at : Range → List ℕ → Write
+written_at range bytes = record { range = range; bytes = bytes }
+
+-- each write of what a block gets is at one of its wrong places
+pub mending_is : (images : Images) (row : Row) (t : Target) → mending_writes images row.failing t
+    ≡ option_map_or (λ bytes. copy_writes t bytes (wrong_parts images row.failing t)) (new_bytes images row.failing t) []
+mending_is images row t = by (is_plain t.want)
+  where
+    none_at : (o : Option (List ℕ)) → option_map_or (λ bytes. copy_writes t bytes []) o [] ≡ []
+    none_at None = refl
+    none_at (Some bytes) = refl
+
+    plain : (parts : List Part) → option_map_or (λ bytes. copy_writes t bytes parts) (fresh images row.failing t) []
+        ≡ option_map_or (λ bytes. copy_writes t bytes parts) (cond (nat_lt 0 (length parts)) (fresh images row.failing t) None) []
+    plain [] = none_at (fresh images row.failing t)
+    plain (part ∷ parts) = sym (ap (λ b. option_map_or (λ bytes. copy_writes t bytes (part ∷ parts)) (cond b (fresh images row.failing t) None) [])
+        (lt-ltb 0 (suc (length parts)) (omega arith)))
+
+    by : (b : Bool) → cond b (fresh_writes images row.failing t) (block_writes images t)
+        ≡ option_map_or (λ bytes. copy_writes t bytes (cond b (stale_parts images row.failing t) (bad_parts images t)))
+        (cond b (renewed images row.failing t) (accepted images t)) []
+    by true = plain (stale_parts images row.failing t)
+    by false = refl
+
+-- ---- of a row
+
+module _ (images : Images) (t : Target) (none : mirrors t.chunk ≡ None) where
+  pub own : own_parts t ≡ Slice t.at.index ∷ []
+  own = ap (λ o. option_map_or (λ copies. map Mirror (range_with_len 0 copies)) o (Slice t.at.index ∷ [])) none
+
+  pub bad_are : bad_parts images t ≡ cond (not (is_good images t (Slice t.at.index))) (Slice t.at.index ∷ []) []
+  bad_are = ap (filter (λ part. not (is_sound images t part))) own
+
+-- ---- a plain sector
+
+module _ (images : Images) (row : Row) (t : Target) (none : mirrors t.chunk ≡ None) where
+  or_none : (b : Bool) → (b || false) ≡ b
+  or_none true = refl
+  or_none false = refl
+
+  -- its image isn't behind
+  pub renewed_not : (block : List ℕ) → is_on_behind row.failing t (Slice t.at.index) ≡ false → IsRenewed images row t block false
+  renewed_not block e = record {
+    parts = none_stale images row.failing t (ap (λ parts. list_any (is_on_behind row.failing t) parts) (own images t none)
+        ∙ or_none (is_on_behind row.failing t (Slice t.at.index)) ∙ e);
+    bytes = λ h. absurd (false≢true h);
+  }
+
+  -- no bytes are fresh
+  pub renewed_none : (block : List ℕ) → fresh images row.failing t ≡ None → IsRenewed images row t block false
+  renewed_none block e = record { parts = none_fresh images row.failing t e; bytes = λ h. absurd (false≢true h) }
+
+  -- some are, and they are compared
+  pub renewed_as : (block bytes : List ℕ) (same : Bool) → is_on_behind row.failing t (Slice t.at.index) ≡ true
+      → fresh images row.failing t ≡ Some (take (size_of t) block) → bytes ≡ element images t (Slice t.at.index)
+      → same ≡ bytes_eq bytes (take (size_of t) block) → IsRenewed images row t block (not same)
+  renewed_as block bytes same behind is at compared = record {
+    parts = ap (λ o. option_map_or (stale_beside images row.failing t) o []) is
+        ∙ ap (filter (is_stale images row.failing t (take (size_of t) block))) (own images t none)
+        ∙ ap (λ b. cond (b && not (bytes_eq (element images t (Slice t.at.index)) (take (size_of t) block))) (Slice t.at.index ∷ []) []) behind
+        ∙ ap (λ b. cond (not b) (Slice t.at.index ∷ []) []) (ap (λ xs. bytes_eq xs (take (size_of t) block)) (sym at) ∙ sym compared);
+    bytes = λ h. is;
+  }
+
+  -- what it gets
+  pub settled_plain : (block : List ℕ) (stale : Bool) → is_plain t.want ≡ true → IsRenewed images row t block stale
+      → IsSettled images row t block (record { good = not stale; given = stale })
+  settled_plain block stale plain is = record {
+    wrong = ap (λ b. cond b (stale_parts images row.failing t) (bad_parts images t)) plain ∙ is.parts ∙ turned stale;
+    gets = ap (λ b. cond b (renewed images row.failing t) (accepted images t)) plain
+        ∙ ap (λ parts. cond (nat_lt 0 (length parts)) (fresh images row.failing t) None) is.parts ∙ by stale is.bytes;
+  }
+    where
+      turned : (b : Bool) → cond b (Slice t.at.index ∷ []) [] ≡ cond (not b) [] (Slice t.at.index ∷ [])
+      turned true = refl
+      turned false = refl
+
+      by : (b : Bool) → (b ≡ true → fresh images row.failing t ≡ Some (take (size_of t) block))
+          → cond (nat_lt 0 (length (cond b (Slice t.at.index ∷ []) []))) (fresh images row.failing t) None ≡ cond b (Some (take (size_of t) block)) None
+      by true bytes = bytes refl
+      by false bytes = refl
+
+  -- ---- a checked block
+
+  not_wrong : (b : Bool) → cond (not b) (Slice t.at.index ∷ []) [] ≡ cond b [] (Slice t.at.index ∷ [])
+  not_wrong true = refl
+  not_wrong false = refl
+
+  pub settled_accepted : (block : List ℕ) (good : Bool) → is_plain t.want ≡ false → IsAccepted images t block good
+      → IsSettled images row t block (record { good = good; given = true })
+  settled_accepted block good checked is = record {
+    wrong = ap (λ b. cond b (stale_parts images row.failing t) (bad_parts images t)) checked ∙ bad_are images t none
+        ∙ ap (λ b. cond (not b) (Slice t.at.index ∷ []) []) is.good ∙ not_wrong good;
+    gets = ap (λ b. cond b (renewed images row.failing t) (accepted images t)) checked ∙ is.bytes;
+  }
+
+  pub settled_gone : (block : List ℕ) → is_plain t.want ≡ false → IsGone images t
+      → IsSettled images row t block (record { good = false; given = false })
+  settled_gone block checked is = record {
+    wrong = ap (λ b. cond b (stale_parts images row.failing t) (bad_parts images t)) checked ∙ bad_are images t none
+        ∙ ap (λ b. cond (not b) (Slice t.at.index ∷ []) []) is.good;
+    gets = ap (λ b. cond b (renewed images row.failing t) (accepted images t)) checked ∙ is.bytes;
+  }
+
+-- ---- what is counted, and written
+
+module _ (images : Images) (row : Row) (t : Target) (block : List ℕ) (settled : Settled) (is : IsSettled images row t block settled) where
+  by_cond : (b : Bool) → length (cond b [] (Slice t.at.index ∷ [])) ≡ cond (not b) 1 0
+  by_cond true = refl
+  by_cond false = refl
+
+  pub length-wrong : length (wrong_parts images row.failing t) ≡ cond (not settled.good) 1 0
+  length-wrong = ap length is.wrong ∙ by_cond settled.good
+
+  writes_as : mending_writes images row.failing t ≡ option_map_or (λ bytes. copy_writes t bytes (cond settled.good [] (Slice t.at.index ∷ [])))
+      (cond settled.given (Some (take (size_of t) block)) None) []
+  writes_as = mending_is images row t
+      ∙ ap (λ parts. option_map_or (λ bytes. copy_writes t bytes parts) (new_bytes images row.failing t) []) is.wrong
+      ∙ ap (λ o. option_map_or (λ bytes. copy_writes t bytes (cond settled.good [] (Slice t.at.index ∷ []))) o []) is.gets
+
+  -- nothing is written where nothing is wrong, or nothing given
+  pub writes_not : (settled.good || not settled.given) ≡ true → [] ≡ mending_writes images row.failing t
+  writes_not h = sym (writes_as ∙ by settled.good settled.given h)
+    where
+      by : (good given : Bool) → (good || not given) ≡ true
+          → option_map_or (λ bytes. copy_writes t bytes (cond good [] (Slice t.at.index ∷ []))) (cond given (Some (take (size_of t) block)) None) [] ≡ []
+      by true true h = refl
+      by true false h = refl
+      by false true h = absurd (false≢true h)
+      by false false h = refl
+
+  -- else one write, where the block's own place stands
+  module _ (range : Range) (stands : range_of t (Slice t.at.index) ≡ Some range) where
+    one : copy_writes t (take (size_of t) block) (Slice t.at.index ∷ []) ≡ written_at range (take (size_of t) block) ∷ []
+    one = ap (λ o. cons_option (option_map (λ r. written_at r (take (size_of t) block)) o) []) stands
+
+    pub writes_one : (settled.good || not settled.given) ≡ false → mending_writes images row.failing t ≡ written_at range (take (size_of t) block) ∷ []
+    writes_one h = writes_as ∙ by settled.good settled.given h
+      where
+        by : (good given : Bool) → (good || not given) ≡ false
+            → option_map_or (λ bytes. copy_writes t bytes (cond good [] (Slice t.at.index ∷ []))) (cond given (Some (take (size_of t) block)) None) []
+            ≡ written_at range (take (size_of t) block) ∷ []
+        by true given h = absurd (false≢true (sym h))
+        by false true h = one
+        by false false h = absurd (false≢true (sym h))
+
+    pub length-writes : length (mending_writes images row.failing t) ≡ cond (not settled.good && settled.given) 1 0
+    length-writes = ap length writes_as ∙ by settled.good settled.given
+      where
+        by : (good given : Bool) → length (option_map_or (λ bytes. copy_writes t bytes (cond good [] (Slice t.at.index ∷ [])))
+            (cond given (Some (take (size_of t) block)) None) []) ≡ cond (not good && given) 1 0
+        by true true = refl
+        by true false = refl
+        by false true = ap length one
+        by false false = refl
+
+  -- it is lost where it is a checked block and gets nothing
+  pub lost_is : is_lost_block images t ≡ (is_checked t && not settled.given)
+  lost_is = by (is_plain t.want) refl
+    where
+      none_is : (b : Bool) → is_none (cond b (Some (take (size_of t) block)) None) ≡ not b
+      none_is true = refl
+      none_is false = refl
+
+      by : (b : Bool) → is_plain t.want ≡ b → (not b && is_lost images t) ≡ (not b && not settled.given)
+      by true e = refl
+      by false e = ap is_none (sym (ap (λ b. cond b (renewed images row.failing t) (accepted images t)) e) ∙ is.gets) ∙ none_is settled.given
+
+  -- what it gets is as long as it is
+  pub long_is : size_of t ≤ length block → (bytes : List ℕ) → new_bytes images row.failing t ≡ Some bytes → length bytes ≡ size_of t
+  long_is room bytes e = by settled.given (sym is.gets ∙ e)
+    where
+      by : (b : Bool) → cond b (Some (take (size_of t) block)) None ≡ Some bytes → length bytes ≡ size_of t
+      by true h = let same : take (size_of t) block ≡ bytes = same_Some (take (size_of t) block) bytes h in omega (arith, ap length same, length-take (size_of t) block, room)
+      by false h = cc
+
+  -- what stands in its place in the new data is sure
+  module _ (layout : Layout) (spot : Spot) (doubts : Doubts) (at : LiesAt layout row t spot) (knows : KnowsDoubts layout row doubts) where
+    some_is : (b : Bool) → is_some (cond b (Some (take (size_of t) block)) None) ≡ b
+    some_is true = refl
+    some_is false = refl
+
+    twice : (b : Bool) → not (not b) ≡ b
+    twice true = refl
+    twice false = refl
+
+    pub sure_is : (settled.given || not (is_checked t) && (doubts.some && not (flag_of doubts.doubtful spot.index))) ≡ is_sure images layout row t
+    sure_is =
+        ap (λ b. b || not (is_checked t) && (doubts.some && not (flag_of doubts.doubtful spot.index))) (sym (ap is_some is.gets ∙ some_is settled.given))
+        ∙ ap (λ b. is_some (new_bytes images row.failing t) || b && (doubts.some && not (flag_of doubts.doubtful spot.index))) (twice (is_plain t.want))
+        ∙ ap (λ b. is_some (new_bytes images row.failing t) || is_plain t.want && (b && not (flag_of doubts.doubtful spot.index))) knows.some
+        ∙ ap (λ b. is_some (new_bytes images row.failing t) || is_plain t.want && (has_doubtful layout.devices row.failing row.chunk && not b))
+        (own_doubtful layout row t spot doubts at knows)

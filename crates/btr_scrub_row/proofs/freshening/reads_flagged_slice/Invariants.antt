@@ -1,0 +1,7 @@
+use Rattle.std.proofs.Common.{◌≡◌, ℕ, ◌<◌, ◌&&◌, false}
+use Rattle.btr_read.specs.Candidates.{reads_slice}
+use Rattle.btr_scrub_row.specs.Memory.{flag_of}
+use Rattle.btr_scrub_row.proofs.freshening.reads_flagged_slice.Given as goal
+
+abbrev pub invariant-loop-slice : goal.invariant-loop-slice
+invariant-loop-slice l = (s : ℕ) → s < l.slice → (reads_slice l.spot.index l.candidate s && flag_of l.flags s) ≡ false
