@@ -109,28 +109,45 @@ diverged() {
     mv "$at/other" "$at/shown" && holds "$name: the others" "$(differing "$at" "${copies[@]:1}")" 0
 }
 
+# How many files a restore without one of the images gave otherwise, where another one is older. Of two images the older one alone shows its own
+# last commit, in which only what was written over in place is new.
+differing_without() {
+    below=. && [ "${#images[@]}" = 2 ] && [ "$1" != "$2" ] && below=plain
+    differing "$at" "${images[@]:0:$1}" "${images[@]:$1+1}"
+    below=.
+}
+
+# How many sectors `btrfs check` finds wrong in some copy, and its status.
+unclean() {
+    attach "$@"
+    btrfs check --check-data-csum "${devices[0]}" >"$at/checked" 2>&1
+    echo "$? $(grep -c '^mirror' "$at/checked")"
+    detach
+}
+
 # One device is missing for a while; each of them in turn. (With parity, Linux 6.18 can fail to write a file anew meanwhile.)
 behind() {
     local name=$1 writes=over
     case $name in *raid5 | *raid6) writes=over_plain ;; esac
+    # (Linux 6.18 leaves some parity that isn't that of its data, also where nothing failed.)
+    clean=$(unclean "${images[@]}")
     for missing in "${!images[@]}"; do
         for i in "${!images[@]}"; do cp --sparse=always "${images[i]}" "$at/before$i"; done
         written "$at" degraded "$writes" "${images[@]:0:missing}" "${images[@]:missing+1}"
         holds "$name: restore by all images, $missing older" "$(differing "$at" "${images[@]}")" 0
         holds "$name: restore without image $missing" "$(differing "$at" "${images[@]:0:missing}" "${images[@]:missing+1}")" 0
         if [ -n "${SCRUB:-}" ]; then
-            "$program" scrub start "${images[@]}" >"$at/said"
+            left=()
+            for i in "${!images[@]}"; do left+=("$(differing_without "$i" "$missing")"); done
+            "$program" scrub start "${images[@]}" >"$at/scrubbed"
             holds "$name: restore after scrub, $missing older" "$(differing "$at" "${images[@]}")" 0
             for i in "${!images[@]}"; do
-                # The older image alone shows its own last commit, in which only what was written over in place is new.
-                below=. && [ "${#images[@]}" = 2 ] && [ "$i" != "$missing" ] && below=plain
-                holds "$name: restore after scrub without image $i, $missing older" "$(differing "$at" "${images[@]:0:i}" "${images[@]:i+1}")" 0
+                # On an older image on which all blocks pass no sector is written, since nothing says that it missed any.
+                now=$(differing_without "$i" "$missing")
+                wanted=0 && grep -q ' bad 0 ' "$at/scrubbed" && [ "$now" -le "${left[i]}" ] && wanted=$now
+                holds "$name: restore after scrub without image $i, $missing older" "$now" "$wanted"
             done
-            below=.
-            attach "${images[@]}"
-            btrfs check --check-data-csum "${devices[0]}" >>"$at/log" 2>&1
-            holds "$name: btrfs check after scrub, $missing older" "$?" 0
-            detach
+            holds "$name: btrfs check after scrub, $missing older" "$(unclean "${images[@]}")" "$clean"
         fi
         for i in "${!images[@]}"; do mv "$at/before$i" "${images[i]}"; done
     done
