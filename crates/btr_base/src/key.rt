@@ -13,6 +13,20 @@ pub struct Key {
     pub offset: u64,
 }
 
+/// The first key that there is.
+pub const FIRST_KEY: Key = Key {
+    objectid: 0,
+    kind: 0,
+    offset: 0,
+};
+
+/// The last one.
+pub const LAST_KEY: Key = Key {
+    objectid: u64::MAX,
+    kind: u8::MAX,
+    offset: u64::MAX,
+};
+
 impl Key {
     ghost use Rattle.std.specs.Prelude.{◌≡◌, ◌+◌, ◌≤◌, ◌↔◌, length, IsNone, IfSome};
     ghost use Rattle.btr_base.specs.Key.{key_at, key_lt, key_number, last_key};

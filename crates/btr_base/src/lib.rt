@@ -27,7 +27,7 @@ pub use checksum::sum;
 pub use crc::{crc_register, name_hash};
 pub use field::{array_at, u16_at, u32_at, u64_at};
 pub use header::Header;
-pub use key::Key;
+pub use key::{FIRST_KEY, Key, LAST_KEY};
 pub use kind::SumKind;
 pub use memory::Memory;
 pub use shown::{Shown, show_byte};
