@@ -16,5 +16,5 @@ pub mod SoFars
 pub mod Cursors
 pub mod Blinds
 pub mod Tries
-pub mod Twins
-pub mod PartTwins
+pub mod Counterexamples
+pub mod PartCounterexamples

@@ -1,6 +1,6 @@
 -- A program without steps, as a part of one with steps.
 use Rattle.std.proofs.Common.{◌≡◌, ℕ, List, [], ◌∷◌, ◌++◌, Option, None, Result, Ok, Err, refl, sym, ap, ◌∙◌, subst, append-nil}
-use Rattle.btr_prog.specs.Prog.{BlockMap, Prog, Return, Stop, Need, Emit, Mark, Wants, Does, Run, first, given, exec, steps_of, wants_of, needs}
+use Rattle.btr_prog.specs.Prog.{BlockMap, Prog, Return, Stop, Need, Emit, Mark, Wants, Does, Run, first, given, exec, steps_of, wants_of}
 use Rattle.btr_prog.specs.Answers.{Halt, Fault, Unread, Broke, Names, Breaks, Follows, no_part}
 use Rattle.btr_prog.specs.Goes.{goes_given, GoesTo, Goes}
 use Rattle.btr_prog.specs.Quiet.{quiet, quiet_marks, quiet_run}
@@ -62,9 +62,6 @@ module _ {W F : Type 0} (S : Type 0) where
   -- how it ends, and what it wants
   pub quiet_ends : {A : Type 0} (B : BlockMap W F) (p : Prog W F ⊥ A) → (exec B (quiet {S = S} p)).ending ≡ (exec B p).ending
   quiet_ends B p = ap (λ (r : Run W F S _). r.ending) (exec-quiet B p)
-
-  pub needs-quiet : {A : Type 0} (B : BlockMap W F) (p : Prog W F ⊥ A) → needs B (quiet {S = S} p) ≡ needs B p
-  needs-quiet B p = ap (λ (r : Run W F S _). wants_of r.marks) (exec-quiet B p) ∙ wants_of-quiet S (exec B p).marks
 
   goes_in : {I A : Type 0} (Bs : I → BlockMap W F) (x : Result (List ℕ) F) (k : List ℕ → Prog W F ⊥ A) (q : Run W F ⊥ A)
       → ((b : List ℕ) (t : Run W F ⊥ A) → GoesTo Bs (k b) t → GoesTo Bs (quiet {S = S} (k b)) (quiet_run t)) → goes_given x (λ b. GoesTo Bs (k b)) q

@@ -30,27 +30,3 @@ module _ {H : Type 0} {Agreed : H → Type 0} where
     content = λ sure s. f sure a.held (one.content sure (tells_first Agreed sure a b c one.later two.later s))
         (subst (Q sure) one.same (two.content sure (tells_last Agreed sure a b c one.same one.later two.later s)));
   }
-
-  -- the first of two calls says that the other may count on more than was agreed of what is held
-  pub calls_then_under : {Other : H → Type 0} {P Q R : Sure → H → Type 0} {a b c : Seen H} → ((h : H) → Agreed h → P Any h → Other h)
-      → ((sure : Sure) (h : H) → P sure h → Q sure h → R sure h) → Calls Agreed a b P → Calls Other b c Q → Calls Agreed a c R
-  calls_then_under {Other = Other} {P = P} {Q = Q} {R = R} {a = a} {b = b} {c = c} agreed f one two = record {
-    same = two.same ∙ one.same;
-    later = omega (arith, one.later, two.later);
-    content = told;
-  }
-    where
-      told : (sure : Sure) → CanTell Agreed sure a c → R sure a.held
-      told First s = f First a.held (one.content First (tells_first Agreed First a b c one.later two.later s))
-          (subst (Q First) one.same (two.content First (tells_last Agreed First a b c one.same one.later two.later s)))
-      told Any s = f Any a.held (one.content Any s) (subst (Q Any) one.same
-          (two.content Any (subst Other (sym one.same) (agreed a.held s (one.content Any s)))))
-
--- a call whose copies agree where less is known to agree
-pub calls_under : {H : Type 0} {Agreed Other : H → Type 0} {P : Sure → H → Type 0} {a b : Seen H} → ((h : H) → Other h → Agreed h)
-    → Calls Agreed a b P → Calls Other a b P
-calls_under {H} {Agreed = Agreed} {Other = Other} {P = P} {a = a} {b = b} agreed one = record { same = one.same; later = one.later; content = told }
-  where
-    told : (sure : Sure) → CanTell Other sure a b → P sure a.held
-    told First s = one.content First s
-    told Any s = one.content Any (agreed a.held s)

@@ -5,4 +5,6 @@ pub mod Tree
 pub mod Maps
 pub mod Opening
 pub mod Looking
+pub mod Readable
+pub mod Stops
 pub mod Refusing

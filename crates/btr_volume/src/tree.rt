@@ -26,19 +26,6 @@ const CHUNK_TREE: u64 = 3;
 
 const ROOT_ITEM: u8 = 132;
 
-// The first and the last key that there are.
-pub(crate) const FIRST_KEY: Key = Key {
-    objectid: 0,
-    kind: 0,
-    offset: 0,
-};
-
-pub(crate) const LAST_KEY: Key = Key {
-    objectid: u64::MAX,
-    kind: u8::MAX,
-    offset: u64::MAX,
-};
-
 /// The root block of the root tree.
 pub fn root_root(s: &Super) -> RootPlace
     ensures { result ≡ root_root s.now }

@@ -6,7 +6,7 @@ use Rattle.btr_prog.specs.Answers.{Fault, no_part, Follows}
 use Rattle.btr_prog.specs.Goes.{GoesTo, Goes}
 use Rattle.btr_prog.specs.Stages.{Staged, both, renamed, renamed_run, staged}
 use Rattle.btr_prog.specs.Quiet.{quiet}
-use Rattle.btr_prog.proofs.Twins.{Map, P, R, Ans, asks, one, two, none, ended, Is, value, value_fault, values, one_two, each_one}
+use Rattle.btr_prog.proofs.Counterexamples.{Map, P, R, Ans, asks, one, two, none, ended, Is, value, value_fault, values, one_two, each_one}
 
 -- two parts under maps that have nothing to do with each other
 abbrev First : Type 0
