@@ -4,7 +4,7 @@ ghost use Rattle.btr_rack.specs.Memory.{seen_of};
 ghost use Rattle.btr_read.specs.Serves.{Serves};
 ghost use Rattle.btr_read.specs.Store.{free_count};
 ghost use Rattle.btr_walk.specs.Lending.{IsLentOnly};
-ghost use Rattle.btr_walk.specs.ScanEnds.{IsReady, without_leaf};
+ghost use Rattle.btr_walk.specs.ScanEnds.{IsScanReady, without_leaf};
 
 use crate::image::{FSID, GENERATION, KIND, START, image_with, store_over};
 use btr_base::Key;
@@ -54,9 +54,9 @@ fn tree_of(alloc: Global, count: u64) -> Result<Tree, AllocError> {
 
 // Whether a scan has one more item, which it takes.
 fn takes_next(store: &mut Store, scan: &mut Scan, rack: &mut MemRack) -> bool
-    requires ready { IsReady (seen_of rack.old) store.old scan.old }
+    requires ready { IsScanReady (seen_of rack.old) store.old scan.old }
     requires free { free_count (without_leaf store.old scan.old) ≡ 24 }
-    ensures ready { IsReady (seen_of rack.new) store.new scan.new }
+    ensures ready { IsScanReady (seen_of rack.new) store.new scan.new }
     ensures free { free_count (without_leaf store.new scan.new) ≡ 24 }
 {
     match next(store, scan, rack) {
@@ -68,9 +68,9 @@ fn takes_next(store: &mut Store, scan: &mut Scan, rack: &mut MemRack) -> bool
 
 // How many items a scan takes, `count` at most.
 fn take_all(store: &mut Store, scan: &mut Scan, rack: &mut MemRack, count: u64) -> u64
-    requires ready { IsReady (seen_of rack.old) store.old scan.old }
+    requires ready { IsScanReady (seen_of rack.old) store.old scan.old }
     requires free { free_count (without_leaf store.old scan.old) ≡ 24 }
-    ensures ready { IsReady (seen_of rack.new) store.new scan.new }
+    ensures ready { IsScanReady (seen_of rack.new) store.new scan.new }
     ensures free { free_count (without_leaf store.new scan.new) ≡ 24 }
     ensures most { result ≤ count }
 {

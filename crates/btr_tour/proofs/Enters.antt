@@ -1,53 +1,83 @@
 -- What a step meets that reads a block.
-use Rattle.std.proofs.Common.{◌≡◌, ◌∙◌, ℕ, zero, suc, ◌+◌, ◌-◌, ◌<◌, List, [], ◌∷◌, ◌++◌, length, get_or, set, map, drop, filter, Option, Some, None, IfSome}
-use Rattle.std.proofs.Common.{IsSomeAnd, Ok, Err, refl, sym, ap, subst, arith}
-use Rattle.std.proofs.lemmas.List.{drop_all}
+use Rattle.std.proofs.Common.{◌≡◌, ◌∙◌, ℕ, zero, suc, ◌+◌, ◌-◌, ◌<◌, ◌≤◌, List, [], ◌∷◌, ◌++◌, length, get_or, set, map, drop, true, Option, Some, None, IfSome}
+use Rattle.std.proofs.Common.{IsSomeAnd, IsTrue, Ok, Err, refl, sym, ap, subst, append-nil, arith}
+use Rattle.std.proofs.lemmas.List.{set-set}
 use Rattle.std.proofs.lemmas.List.Elements.{Contains-append_left}
 use Rattle.btr_base.specs.Header.{header_of}
 use Rattle.btr_base.specs.declared.kind.SumKind.{SumKind}
 use Rattle.btr_base.specs.declared.key.Key.{Key}
-use Rattle.btr_node.specs.Block.{Item as NodeItem, items, pointers}
+use Rattle.btr_node.specs.Block.{Item as NodeItem, KeyPointer, items, pointers, is_leaf}
 use Rattle.btr_node.specs.declared.node.Node.TheVariants.{Leaf, Inner}
 use Rattle.btr_prog.specs.Prog.{Wants, Does, first}
 use Rattle.btr_prog.specs.Trying.{Done, Act, tried, act_all}
 use Rattle.btr_prog.specs.Answers.{Follows, no_part}
 use Rattle.btr_prog.specs.Answers as halt
-use Rattle.btr_prog.proofs.Follow.{want_unread, unread_here}
+use Rattle.btr_prog.proofs.Follow.{want_unread}
 use Rattle.btr_rack.specs.Rack.{Seen}
 use Rattle.btr_read.specs.Fate as fate
 use Rattle.btr_read.specs.Layout.{Layout}
 use Rattle.btr_read.specs.Store.{Blocks, Lent, block_of}
 use Rattle.btr_read.specs.declared.want.Want.{Want}
+use Rattle.btr_walk.specs.Advancing.{hand_items}
+use Rattle.btr_walk.specs.Again.{IsChild, IsNextBelow, Rereads}
+use Rattle.btr_walk.specs.Frames.{frame_or}
+use Rattle.btr_walk.specs.Going.{IsAlong}
+use Rattle.btr_walk.specs.Hand.{behind_next, IsHeld, IsInHand}
+use Rattle.btr_walk.specs.Le.{root_spot, tree_item, want_of}
+use Rattle.btr_walk.specs.Range.{items_within}
+use Rattle.btr_walk.specs.Ranks.{IsShaped}
+use Rattle.btr_walk.specs.Reading.{Map, UnreadBlock, Reads, IsUnreadOf, CauseOf}
+use Rattle.btr_walk.specs.Scans.{part_items, FramesPart, IsChoice, IsPart, IsFrame, IsTodo}
+use Rattle.btr_walk.specs.Spot.{is_below}
+use Rattle.btr_walk.specs.declared.choice.Part.{Part}
 use Rattle.btr_walk.specs.declared.fault.TreeFault.{TreeFault}
 use Rattle.btr_walk.specs.declared.fault.TreeFault.TheVariants.{Lost, Unread, Unmapped, Crosses, Malformed}
-use Rattle.btr_walk.specs.declared.spot.Spot.{Spot}
-use Rattle.btr_walk.specs.Le.{tree_item, want_of}
-use Rattle.btr_walk.specs.Range.{is_within, items_within}
-use Rattle.btr_walk.specs.Reading.{Map, UnreadBlock, Reads, CauseOf}
-use Rattle.btr_walk.proofs.Fetched.{some_block}
-use Rattle.btr_walk.specs.Scans.{pointers_in}
-use Rattle.btr_walk.proofs.Ways.{IsLeafAt, IsInnerAt}
-use Rattle.btr_tour.specs.declared.again.Below.{Below}
+use Rattle.btr_walk.specs.declared.frame.Below.{Below}
 use Rattle.btr_walk.specs.declared.frame.Frame.{Frame}
 use Rattle.btr_walk.specs.declared.frame.Todo.{Todo}
-use Rattle.btr_tour.specs.declared.leaf_at.LeafAt.{LeafAt}
-use Rattle.btr_walk.specs.declared.path.AtLevel.{AtLevel}
 use Rattle.btr_walk.specs.declared.going.Where.{Where}
+use Rattle.btr_walk.specs.declared.leaf_at.LeafAt.{LeafAt}
+use Rattle.btr_walk.specs.declared.path.AtLevel.{AtLevel}
+use Rattle.btr_walk.specs.declared.place.RootPlace.{RootPlace}
+use Rattle.btr_walk.specs.declared.spot.Spot.{Spot}
+use Rattle.btr_walk.proofs.Choosing.{part_is}
+use Rattle.btr_walk.proofs.Fetched.{some_block}
+use Rattle.btr_walk.proofs.Frames.{path_set, path_here, path_bare, path_none, last_read}
+use Rattle.btr_walk.proofs.Halting.{unread_halts}
+use Rattle.btr_walk.proofs.Joined.{block_is}
+use Rattle.btr_walk.proofs.Items.{part_next, part_none}
+use Rattle.btr_walk.proofs.Ranking.{above_fits}
+use Rattle.btr_walk.proofs.Repeated.{again_as}
+use Rattle.btr_walk.proofs.Ways.{IsLeafAt, IsInnerAt}
+use Rattle.btr_tour.specs.declared.scope.Scope.{Scope}
+use Rattle.btr_tour.specs.declared.step.Step.TheVariants.{Item}
 use Rattle.btr_tour.specs.Tour as marks
-use Rattle.btr_tour.specs.Tour.{place_of, child_spots, meets_keys}
-use Rattle.btr_tour.specs.Program.{TourProg, children, tour_from}
-use Rattle.btr_tour.specs.Place.{want_next, next_want, hand_items, leaf_left, children_left, frame_left, frame_or_rest, path_left, todo_left, place_left}
-use Rattle.btr_tour.specs.Place.{IsHeld, IsNode, IsOn}
-use Rattle.btr_tour.specs.Shape.{IsShaped}
-use Rattle.btr_tour.specs.Steps.{IsFirstFrom, IsLowest, FramesFrom, IsNextBelow, Rereads, left_out, passed_leaf, left, MeetsBlock, MeetsItem, Meets, Advances}
+use Rattle.btr_tour.specs.Tour.{place_of, child_spots}
+use Rattle.btr_tour.specs.Program.{TourProg, tour_from, tour_prog}
+use Rattle.btr_tour.specs.Place.{want_next, next_want, leaf_left, children_left, frame_left, path_left, todo_left, place_left}
+use Rattle.btr_tour.specs.Steps.{IsLowest, Arrived, left_out, passed_leaf, left, MeetsBlock, MeetsItem, Meets, StepsBy, Advances, AdvancesIn}
 use Rattle.btr_tour.specs.Steps.{HasStep, StepCause}
-use Rattle.btr_tour.proofs.Seeking.{filter_at, length-spots, some_spot}
 use Rattle.btr_tour.proofs.Programs.{IsOut, wants_first, leaf_from, inner_from, fault_from}
-use Rattle.btr_tour.proofs.Paths.{rest_of, path_set, path_none, path_bare, path_here, path_gone, frame_is, node_is, on_more, on_set, last_read, frame_wanted}
+use Rattle.btr_tour.proofs.Paths.{chosen_left, chosen_frame, next_left, later_left, along_set, along_more, frame_wanted}
 
 -- a loan has one block
 pub same_block : (o : Option (List ℕ)) (a b : List ℕ) → o ≡ Some a → o ≡ Some b → a ≡ b
 same_block o a b e f = let h : Some a ≡ Some b = sym e ∙ f in cc
+
+-- a leaf in hand
+pub leaf_hand : (store : Blocks) (l : LeafAt) (block : List ℕ) (rest : TourProg) → block_of store l.loan ≡ Some block
+    → leaf_left store (Some l) rest ≡ act_all (map marks.Item (part_items l.spot.addr block l.next l.end)) rest
+leaf_hand store l block rest is = ap (λ o. act_all (map marks.Item (hand_items o l)) rest) is
+
+-- a leaf in hand that has no item more
+pub hand_none : (store : Blocks) (l : LeafAt) (block : List ℕ) (rest : TourProg) → block_of store l.loan ≡ Some block → l.end ≤ l.next
+    → leaf_left store (Some l) rest ≡ rest
+hand_none store l block rest is le = leaf_hand store l block rest is ∙ ap (λ xs. act_all (map marks.Item xs) rest) (part_none l.spot.addr block l.next l.end le)
+
+-- the child that a node has
+pub next_child : (ps : List KeyPointer) (level : ℕ) (frame : Frame) (o : Option Frame) (todo : Todo) → IsNextBelow ps level frame o (Some todo) → IsChild ps level frame todo
+next_child ps level frame None todo h = h.0
+next_child ps level frame (Some f) todo h = h.0
 
 module _ (lo hi : Key) (B : Map) where
   todo_is : (place : Where) (t : Option Todo) → place.todo ≡ t → place_left lo hi B place ≡ todo_left lo hi B t (path_left lo hi B 0 place.path)
@@ -55,49 +85,46 @@ module _ (lo hi : Key) (B : Map) where
 
   -- all was met
   pub all_met : (place : Where) → place.todo ≡ None → ((k : ℕ) → get_or place.path k None ≡ None) → place_left lo hi B place ≡ Done tt
-  all_met place none clear = todo_is place None none ∙ path_none lo hi B 0 place.path clear
+  all_met place none clear = todo_is place None none ∙ path_none (frame_left lo hi B) (Done tt) 0 place.path clear
 
-  -- a leaf in hand
-  pub leaf_hand : (store : Blocks) (l : LeafAt) (block : List ℕ) (rest : TourProg) → block_of store l.loan ≡ Some block
-      → leaf_left lo hi store (Some l) rest ≡ act_all (map marks.Item (items_within lo hi l.spot.addr (drop l.next (items block)))) rest
-  leaf_hand store l block rest is = ap (λ o. act_all (map marks.Item (hand_items lo hi o l)) rest) is
+  -- nothing is met yet
+  pub begun : (place : Where) (root : RootPlace) → place.todo ≡ Some (record { level = root.level; spot = root_spot root })
+      → ((k : ℕ) → get_or place.path k None ≡ None) → place_left lo hi B place ≡ tour_prog lo hi root
+  begun place root todo clear = todo_is place (Some (record { level = root.level; spot = root_spot root })) todo
+      ∙ ap (tour_from lo hi root.level (root_spot root)) (path_none (frame_left lo hi B) (Done tt) 0 place.path clear)
 
-  -- a leaf in hand that has no item more
-  pub hand_none : (store : Blocks) (l : LeafAt) (block : List ℕ) (rest : TourProg) → block_of store l.loan ≡ Some block
-      → filter (is_within lo hi) (drop l.next (items block)) ≡ [] → leaf_left lo hi store (Some l) rest ≡ rest
-  hand_none store l block rest is none = leaf_hand store l block rest is ∙ ap (λ xs. act_all (map marks.Item (map (tree_item l.spot.addr) xs)) rest) none
-
-  -- a leaf in hand that has an item more, which is met
-  pub hand_meets : (seen : List Want) (store : Blocks) (place : Where) (l : LeafAt) (block : List ℕ) (at : ℕ) → block_of store l.loan ≡ Some block
-      → IsFirstFrom (is_within lo hi) (items block) l.next at → IsOn lo hi B seen place → IsHeld B seen store l
-      → MeetsItem lo hi B seen (left lo hi B store place (Some l)) store place (Some (record { spot = l.spot; next = at + 1; end = l.end; loan = l.loan })) at
-  hand_meets seen store place l block at is from on held =
-      let then : LeafAt = record { spot = l.spot; next = at + 1; end = l.end; loan = l.loan } in
+  -- the next item of a leaf in hand is met
+  pub hand_meets : (seen : List Want) (store : Blocks) (place : Where) (l : LeafAt) (block : List ℕ) → block_of store l.loan ≡ Some block
+      → l.next < l.end → l.end ≤ length (items block) → IsAlong lo hi B seen place → IsHeld B seen store l
+      → MeetsItem lo hi B seen (left lo hi B store place (Some l)) store place (Some (record { spot = l.spot; next = l.next + 1; end = l.end; loan = l.loan })) l.next
+  hand_meets seen store place l block is lt within on held =
+      let then : LeafAt = record { spot = l.spot; next = l.next + 1; end = l.end; loan = l.loan } in
       let rest : TourProg = place_left lo hi B place in
-      let there = from.there in
       some_block store l.loan block (λ (b : List ℕ). (d : NodeItem)
-      → Meets lo hi B seen (left lo hi B store place (Some l)) store place (Some then) (marks.Item (tree_item l.spot.addr (get_or (items b) at d)))) is
+      → Meets lo hi B seen (left lo hi B store place (Some l)) store place (Some then) (marks.Item (tree_item l.spot.addr (get_or (items b) l.next d)))) is
       (λ d. record {
         past = [];
         met = ap (tried B)
             (leaf_hand store l block rest is
-            ∙ ap (λ xs. act_all (map marks.Item (map (tree_item l.spot.addr) xs)) rest)
-            (from.skipped ∙ filter_at (is_within lo hi) (items block) at d (omega (arith, there)) (from.here d))
-            ∙ ap (Act (marks.Item (tree_item l.spot.addr (get_or (items block) at d)))) (sym (leaf_hand store then block rest is)));
-        on = on_more lo hi B seen [] place place refl on;
+            ∙ ap (λ xs. act_all (map marks.Item xs) rest) (part_next l.spot.addr block l.next l.end d lt within)
+            ∙ ap (Act (marks.Item (tree_item l.spot.addr (get_or (items block) l.next d)))) (sym (leaf_hand store then block rest is)));
+        on = subst (λ (ws : List Want). IsAlong lo hi B ws place) (sym (append-nil seen)) on;
         held = record { block = held.block; lent = held.lent; came = held.came; is = held.is; read = Contains-append_left seen [] (want_of 0 l.spot) held.read };
       })
 
   -- a good leaf
-  pub enter_leaf : (seen : List Want) (sums : SumKind) (place : Where) (level : ℕ) (spot : Spot) (store : Blocks) (loan : Lent) (block : List ℕ) (end : ℕ) → place.todo ≡ Some (record { level = level; spot = spot }) → level ≡ 0 → IsLeafAt level spot block → B (want_of level spot) ≡ Ok block → block_of store loan ≡ Some block → end ≡ length (items block) → IsOn lo hi B seen place
-      → MeetsBlock lo hi B seen sums (place_left lo hi B place) store (record { path = place.path; todo = None }) (Some (record { spot = spot; next = 0; end = end; loan = loan })) (place_of level spot) (header_of sums block)
-  enter_leaf seen sums place (suc n) spot store loan block end todo low leaf came is all on = absurd (omega (arith, low))
-  enter_leaf seen sums place zero spot store loan block end todo low leaf came is all on =
-      let l : LeafAt = record { spot = spot; next = 0; end = end; loan = loan } in
-      let gone : LeafAt = record { spot = spot; next = end; end = end; loan = loan } in
+  pub enter_leaf : (seen : List Want) (sums : SumKind) (place : Where) (level : ℕ) (spot : Spot) (store : Blocks) (loan : Lent) (block : List ℕ) (part : Part) → place.todo ≡ Some (record { level = level; spot = spot }) → level ≡ 0 → IsLeafAt level spot block → B (want_of level spot) ≡ Ok block → block_of store loan ≡ Some block → IsPart lo hi (items block) part → IsAlong lo hi B seen place
+      → MeetsBlock lo hi B seen sums (place_left lo hi B place) store (record { path = place.path; todo = None }) (Some (record { spot = spot; next = part.next; end = part.end; loan = loan })) (place_of level spot) (header_of sums block)
+  enter_leaf seen sums place (suc n) spot store loan block part todo low leaf came is p on = absurd (omega (arith, low))
+  enter_leaf seen sums place zero spot store loan block part todo low leaf came is p on =
+      let l : LeafAt = record { spot = spot; next = part.next; end = part.end; loan = loan } in
+      let gone : LeafAt = record { spot = spot; next = part.end; end = part.end; loan = loan } in
       let rest : TourProg = path_left lo hi B 0 place.path in
-      let hand : leaf_left lo hi store (Some l) rest ≡ act_all (map marks.Item (items_within lo hi spot.addr (items block))) rest = leaf_hand store l block rest is in
-      let none : leaf_left lo hi store (Some gone) rest ≡ rest = hand_none store gone block rest is (ap (filter (is_within lo hi)) (drop_all end (items block) (omega (arith, all)))) in
+      let hand : leaf_left store (Some l) rest ≡ act_all (map marks.Item (items_within lo hi spot.addr (items block))) rest =
+      leaf_hand store l block rest is
+      ∙ ap (λ (xs : List NodeItem). act_all (map marks.Item (map (tree_item spot.addr) xs)) rest)
+      (sym (part_is lo hi (items block) part.next part.end p.before p.behind p.low p.high)) in
+      let none : leaf_left store (Some gone) rest ≡ rest = hand_none store gone block rest is (omega arith) in
       record {
         spot = spot;
         block = block;
@@ -110,15 +137,15 @@ module _ (lo hi : Key) (B : Map) where
             ∙ leaf_from lo hi B 0 spot block rest leaf came
             ∙ ap (λ p. first (Wants (want_of 0 spot)) (first (Does (marks.Block (place_of 0 spot) block)) (tried B p))) (sym hand);
         below = hand ∙ ap (act_all (map marks.Item (items_within lo hi spot.addr (items block)))) (sym none);
-        on = on_more lo hi B seen (want_of 0 spot ∷ []) place (record { path = place.path; todo = None }) refl on;
+        on = along_more lo hi B seen (want_of 0 spot ∷ []) place (record { path = place.path; todo = None }) refl refl on;
         held = record { block = block; lent = is; came = came; is = leaf.is; read = last_read seen (want_of 0 spot) };
       }
 
   -- a good inner node
-  pub enter_node : (seen : List Want) (sums : SumKind) (place : Where) (level : ℕ) (spot : Spot) (store : Blocks) (block : List ℕ) (path' : List (Option Frame)) (o : Option Frame) → place.todo ≡ Some (record { level = level; spot = spot }) → IsInnerAt level spot block → B (want_of level spot) ≡ Ok block → IsShaped place → FramesFrom lo hi (pointers block) spot 0 o → path' ≡ set place.path (level - 1) o → IsOn lo hi B seen place
+  pub enter_node : (seen : List Want) (sums : SumKind) (place : Where) (level : ℕ) (spot : Spot) (store : Blocks) (block : List ℕ) (path' : List (Option Frame)) (part : Part) (o : Option Frame) → place.todo ≡ Some (record { level = level; spot = spot }) → IsInnerAt level spot block → B (want_of level spot) ≡ Ok block → IsShaped place → IsChoice lo hi (pointers block) part → FramesPart spot part o → path' ≡ set place.path (level - 1) o → IsAlong lo hi B seen place
       → MeetsBlock lo hi B seen sums (place_left lo hi B place) store (record { path = path'; todo = None }) None (place_of level spot) (header_of sums block)
-  enter_node seen sums place zero spot store block path' o todo inner came shaped from set_is on = let l = inner.some in absurd (omega (arith, l))
-  enter_node seen sums place (suc n) spot store block path' o todo inner came shaped from set_is on =
+  enter_node seen sums place zero spot store block path' part o todo inner came shaped choice from set_is on = let l = inner.some in absurd (omega (arith, l))
+  enter_node seen sums place (suc n) spot store block path' part o todo inner came shaped choice from set_is on =
       let w : Want = want_of (suc n) spot in
       let down : suc n - 1 ≡ n = omega arith in
       let up : n + 1 ≡ suc n = omega arith in
@@ -127,11 +154,14 @@ module _ (lo hi : Key) (B : Map) where
       let above : (k : ℕ) → k < suc n → get_or place.path k None ≡ None = let P : Option Todo → Type 0 = λ x. IfSome x (λ t. (k : ℕ) → k < t.level → get_or place.path k None ≡ None) in subst P todo shaped.above in
       let clear : (k : ℕ) → k < n → get_or place.path k None ≡ None = λ k lt. above k (omega arith) in
       let path_is : path' ≡ set place.path n o = set_is ∙ ap (λ i. set place.path i o) down in
-      let rest : TourProg = rest_of lo hi B n place.path in
+      let rest : TourProg = path_left lo hi B (n + 1) (drop (suc n) place.path) in
       let spots : List Spot = child_spots (pointers block) spot.up in
+      let below_up : is_below spot.up lo ≡ true = let P : Option Todo → Type 0 = IsTodo lo hi in subst P todo on.up in
       let left_is : path_left lo hi B 0 path' ≡ children_left lo hi (suc n) spot 0 spots rest =
-      ap (path_left lo hi B 0) path_is ∙ path_set lo hi B n place.path o within clear ∙ ap (λ l. frame_or_rest lo hi B l o rest) up ∙ frame_is lo hi B (suc n) spot block 0 o rest came from in
-      let gone : path_left lo hi B 0 (set path' n None) ≡ rest = ap (λ p. path_left lo hi B 0 (set p n None)) path_is ∙ path_gone lo hi B n place.path o within clear in
+      path_set (frame_left lo hi B) (Done tt) n place.path path' o within clear path_is
+      ∙ ap (λ l. frame_or (frame_left lo hi B) l o rest) up ∙ chosen_left lo hi B (suc n) spot block part came choice o rest from in
+      let gone : path_left lo hi B 0 (set path' n None) ≡ rest =
+      path_set (frame_left lo hi B) (Done tt) n place.path (set path' n None) None within clear (ap (λ p. set p n None) path_is ∙ set-set place.path n o None) in
       record {
         spot = spot;
         block = block;
@@ -143,19 +173,26 @@ module _ (lo hi : Key) (B : Map) where
         met = ap (tried B) (todo_is place (Some (record { level = suc n; spot = spot })) todo)
             ∙ inner_from lo hi B (suc n) spot block (path_left lo hi B 0 place.path) inner came
             ∙ ap (λ p. first (Wants w) (first (Does (marks.Block (place_of (suc n) spot) block))
-            (tried B (children_left lo hi (suc n) spot 0 spots p)))) (path_bare lo hi B n place.path within above)
+            (tried B (children_left lo hi (suc n) spot 0 spots p)))) (path_bare (frame_left lo hi B) (Done tt) n place.path within above)
             ∙ ap (λ p. first (Wants w) (first (Does (marks.Block (place_of (suc n) spot) block)) (tried B p))) (sym left_is);
         below = left_is ∙ ap (children_left lo hi (suc n) spot 0 spots) (sym gone);
-        on = record { frames = λ k. subst (λ p. IfSome (get_or p k None) (IsNode lo hi B (seen ++ (w ∷ [])) (k + 1))) (sym path_is) (on_set lo hi B seen (w ∷ []) place.path n o within on.frames (subst (λ l. IfSome o (IsNode lo hi B (seen ++ (w ∷ [])) l)) (sym up) (node_is lo hi B (seen ++ (w ∷ [])) (suc n) spot block 0 o inner.is came (last_read seen w) from)) k) };
+        on = record {
+          frames = λ k. subst (λ p. IfSome (get_or p k None) (IsFrame lo hi B (seen ++ (w ∷ [])) (k + 1))) (sym path_is)
+              (along_set lo hi B seen (w ∷ []) place.path n o within on.frames
+              (subst (λ l. IfSome o (IsFrame lo hi B (seen ++ (w ∷ [])) l)) (sym up)
+              (chosen_frame lo hi B (suc n) spot block part came choice (seen ++ (w ∷ [])) o inner.is below_up (last_read seen w) from)) k);
+          above = tt;
+          up = tt;
+        };
         held = tt;
       }
 
   -- a block that is left out
-  out_of_todo : (seen : List Want) (place : Where) (level : ℕ) (spot : Spot) (store : Blocks) (fault : fate.Fault) → place.todo ≡ Some (record { level = level; spot = spot }) → IsOut lo hi B level spot (path_left lo hi B 0 place.path) fault → IsOn lo hi B seen place → Meets lo hi B seen (place_left lo hi B place) store (record { path = place.path; todo = None }) None (marks.Left fault)
+  out_of_todo : (seen : List Want) (place : Where) (level : ℕ) (spot : Spot) (store : Blocks) (fault : fate.Fault) → place.todo ≡ Some (record { level = level; spot = spot }) → IsOut lo hi B level spot (path_left lo hi B 0 place.path) fault → IsAlong lo hi B seen place → Meets lo hi B seen (place_left lo hi B place) store (record { path = place.path; todo = None }) None (marks.Left fault)
   out_of_todo seen place level spot store fault todo is on = record {
     past = want_of level spot ∷ [];
     met = ap (tried B) (todo_is place (Some (record { level = level; spot = spot })) todo) ∙ is;
-    on = on_more lo hi B seen (want_of level spot ∷ []) place (record { path = place.path; todo = None }) refl on;
+    on = along_more lo hi B seen (want_of level spot ∷ []) place (record { path = place.path; todo = None }) refl refl on;
     held = tt;
   }
 
@@ -181,48 +218,69 @@ module _ (lo hi : Key) (B : Map) where
     within : low.at < length place.path
     within = let w = lowest.within in omega (arith, shaped.long, w)
 
-    pub node : (seen : List Want) → IsOn lo hi B seen place → IsNode lo hi B seen (low.at + 1) low.frame
-    node seen on = subst (λ o. IfSome o (IsNode lo hi B seen (low.at + 1))) lowest.here (on.frames low.at)
+    pub frame_here : (seen : List Want) → IsAlong lo hi B seen place → IsFrame lo hi B seen (low.at + 1) low.frame
+    frame_here seen on = subst (λ o. IfSome o (IsFrame lo hi B seen (low.at + 1))) lowest.here (on.frames low.at)
 
     -- the next child of the lowest node
-    pub meets_child : (seen : List Want) (store : Blocks) (b : Below) (path' : List (Option Frame)) (on : IsOn lo hi B seen place)
-        → IsNextBelow lo hi (pointers (node seen on).block) low.frame b → low.frame.next < low.frame.end → path' ≡ set place.path low.at b.frame
-        → Meets lo hi B seen (place_left lo hi B place) store (record { path = path'; todo = Some (record { level = low.at; spot = b.spot }) }) None (marks.Child low.frame.spot.addr (place_of low.at b.spot))
-    meets_child seen store b path' on h more set_is =
-        let n = node seen on in
+    pub meets_child : (seen : List Want) (store : Blocks) (b : Below) (todo : Todo) (path' : List (Option Frame)) (on : IsAlong lo hi B seen place)
+        → IsNextBelow (pointers (frame_here seen on).node.block) (low.at + 1) low.frame b.frame b.todo → b.todo ≡ Some todo → path' ≡ set place.path low.at b.frame
+        → Meets lo hi B seen (place_left lo hi B place) store (record { path = path'; todo = Some todo }) None (marks.Child low.frame.spot.addr (place_of todo.level todo.spot))
+    meets_child seen store b todo path' on h some set_is =
+        let f = frame_here seen on in
         let frame = low.frame in
-        let down : low.at + 1 - 1 ≡ low.at = omega arith in
-        let spots : List Spot = child_spots (pointers n.block) frame.spot.up in
-        let rest : TourProg = rest_of lo hi B low.at place.path in
-        let later : TourProg = children_left lo hi (low.at + 1) frame.spot (frame.next + 1) spots rest in
-        let there : frame.next < length spots = omega (arith, length-spots (pointers n.block) frame.spot.up, n.all, more) in
-        let next_is : filter (meets_keys lo hi) (drop frame.next spots) ≡ b.spot ∷ filter (meets_keys lo hi) (drop (frame.next + 1) spots) =
-        filter_at (meets_keys lo hi) spots frame.next some_spot there (n.here some_spot) ∙ ap (λ s. s ∷ filter (meets_keys lo hi) (drop (frame.next + 1) spots)) (sym (h.spot_is some_spot)) in
-        let here : frame_left lo hi B (low.at + 1) frame rest ≡ Act (marks.Child frame.spot.addr (place_of (low.at + 1 - 1) b.spot)) (tour_from lo hi (low.at + 1 - 1) b.spot later) =
-        ap (λ x. children_left lo hi (low.at + 1) frame.spot frame.next (child_spots (pointers_in x) frame.spot.up) rest) n.came ∙ ap (λ l. children (tour_from lo hi (low.at + 1 - 1)) frame.spot.addr (low.at + 1 - 1) l rest) next_is in
-        let then : path_left lo hi B 0 path' ≡ later =
-        ap (path_left lo hi B 0) set_is ∙ path_set lo hi B low.at place.path b.frame within lowest.before ∙ frame_is lo hi B (low.at + 1) frame.spot n.block (frame.next + 1) b.frame rest n.came h.more in
+        let next : IsNextBelow (pointers f.node.block) (low.at + 1) frame b.frame (Some todo) = subst (IsNextBelow (pointers f.node.block) (low.at + 1) frame b.frame) some h in
+        let again = again_as lo hi B (low.at + 1) frame seen f b.frame b.todo h in
+        let child = next_child (pointers f.node.block) (low.at + 1) frame b.frame todo next in
+        let rest : TourProg = path_left lo hi B (low.at + 1) (drop (suc low.at) place.path) in
+        let then : path_left lo hi B 0 path' ≡ children_left lo hi (low.at + 1) frame.spot (frame.next + 1) (child_spots (pointers f.node.block) frame.spot.up) rest =
+        path_set (frame_left lo hi B) (Done tt) low.at place.path path' b.frame within lowest.before set_is
+        ∙ later_left lo hi B seen (low.at + 1) frame f b.frame (Some todo) rest next in
+        let level : todo.level ≤ low.at = omega (arith, child.level_is) in
         record {
           past = [];
           met = ap (tried B)
               (todo_is place None none
-              ∙ path_here lo hi B low.at place.path frame within lowest.before lowest.here
-              ∙ here
-              ∙ ap (λ l. Act (marks.Child frame.spot.addr (place_of l b.spot)) (tour_from lo hi l b.spot later)) down
-              ∙ ap (λ p. Act (marks.Child frame.spot.addr (place_of low.at b.spot)) (tour_from lo hi low.at b.spot p)) (sym then));
-          on = record { frames = λ k. subst (λ p. IfSome (get_or p k None) (IsNode lo hi B (seen ++ []) (k + 1))) (sym set_is) (on_set lo hi B seen [] place.path low.at b.frame within on.frames (node_is lo hi B (seen ++ []) (low.at + 1) frame.spot n.block (frame.next + 1) b.frame n.is n.came (Contains-append_left seen [] (want_of (low.at + 1) frame.spot) n.read) h.more) k) };
+              ∙ path_here (frame_left lo hi B) (Done tt) low.at place.path frame within lowest.before lowest.here
+              ∙ next_left lo hi B seen (low.at + 1) frame f todo rest child
+              ∙ ap (λ p. Act (marks.Child frame.spot.addr (place_of todo.level todo.spot)) (tour_from lo hi todo.level todo.spot p)) (sym then));
+          on = record {
+            frames = λ k. subst (λ p. IfSome (get_or p k None) (IsFrame lo hi B (seen ++ []) (k + 1))) (sym set_is)
+                (along_set lo hi B seen [] place.path low.at b.frame within on.frames
+                (subst (λ (ws : List Want). IfSome b.frame (IsFrame lo hi B ws (low.at + 1))) (sym (append-nil seen)) again.frame_is) k);
+            above = λ k lt. ap (λ p. get_or p k None) set_is ∙ above_fits place.path low.at b.frame (Some todo) lowest.before level k lt;
+            up = subst (IsTodo lo hi) some again.up;
+          };
           held = tt;
         }
 
     -- a node that could not be read again
     pub child_fault : (Is : UnreadBlock → Want → Type 0) (sums : SumKind) (after : Where) (store : Blocks) (f : TreeFault)
-        → Rereads lo hi B Is (low.at + 1) low.frame (Err f) → Advances lo hi B Is (λ seen. Unit {0}) sums place (place_left lo hi B place) store
-        (left_out place after f)
-    child_fault Is sums after store (Lost a) h seen on none = absurd (h seen (node seen on))
-    child_fault Is sums after store (Unread a slot) h seen on none = record { refused = unread_here Is no_part seen (record { addr = a; slot = slot }) (tried B (place_left lo hi B place)) (h seen (node seen on)); same = refl; on = on; held = tt }
-    child_fault Is sums after store (Unmapped a) h seen on none = absurd (h seen (node seen on))
-    child_fault Is sums after store (Crosses a) h seen on none = absurd (h seen (node seen on))
-    child_fault Is sums after store (Malformed a) h seen on none = absurd (h seen (node seen on))
+        → Rereads Is B (low.at + 1) low.frame (Err f) → Advances lo hi B Is (λ seen. Unit {0}) sums place (place_left lo hi B place) store (left_out place after f)
+    child_fault Is sums after store f h seen on none = by f (h seen (frame_here seen on).node)
+      where
+        by : (f : TreeFault) → IsUnreadOf Is seen f → let a = left_out place after f in StepsBy lo hi B Is seen sums (place_left lo hi B place) store a.place a.leaf a.step
+        by (Lost a) u = absurd u
+        by (Unread a slot) u = record { refused = unread_halts Is seen (Unread a slot) (tried B (place_left lo hi B place)) u; same = refl; on = on; held = tt }
+        by (Unmapped a) u = absurd u
+        by (Crosses a) u = absurd u
+        by (Malformed a) u = absurd u
+
+pub is_none_of : (leaf : Option LeafAt) → ((l : LeafAt) → leaf ≡ Some l → ⊥) → leaf ≡ None
+is_none_of None h = refl
+is_none_of (Some l) h = absurd (h l refl)
+
+-- a step with a leaf in hand: its next item is met, or it has none, and the step goes on without it
+module _ (scope : Scope) (Is : UnreadBlock → Want → Type 0) (B : Map) (old : Blocks) (place : Where) (l : LeafAt) (hand : IsInHand old l) where
+  pub hand_steps : l.next < l.end → AdvancesIn scope Is B old place (Some l) old (record { place = place; leaf = Some (behind_next l); step = Ok (Item l.next) })
+  hand_steps lt seen on held =
+      hand_meets scope.lo scope.hi B seen old place l held.block held.lent lt
+      (block_is old l.loan held.block (λ (b : List ℕ). IsTrue (is_leaf b) × (l.end ≤ length (items b))) held.lent hand.good).1 on held
+
+  pub hand_over : (given : Blocks) → l.end ≤ l.next → (store : Blocks) (a : Arrived) → AdvancesIn scope Is B given place None store a
+      → AdvancesIn scope Is B old place (Some l) store a
+  hand_over given le store a h seen on held =
+      subst (λ p. StepsBy scope.lo scope.hi B Is seen scope.sums p store a.place a.leaf a.step)
+      (sym (hand_none old l held.block (place_left scope.lo scope.hi B place) held.lent le)) (h seen on tt)
 
 -- a leaf that is passed
 pub held_passed : (B : Map) (seen : List Want) (store : Blocks) (leaf : Option LeafAt) → IfSome leaf (IsHeld B seen store)

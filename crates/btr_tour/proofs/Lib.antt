@@ -1,5 +1,4 @@
 pub mod Seeking
-pub mod Agains
 pub mod Programs
 pub mod Paths
 pub mod Enters

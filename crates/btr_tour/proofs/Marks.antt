@@ -16,7 +16,6 @@ use Rattle.btr_read.specs.Layout.{Layout}
 use Rattle.btr_read.specs.Store.{Blocks}
 use Rattle.btr_read.specs.declared.want.Want.{Want}
 use Rattle.btr_tour.specs.Steps.{reason, left, Meets}
-use Rattle.btr_tour.specs.Place.{IsOn}
 use Rattle.btr_tour.specs.Program.{tour_prog}
 use Rattle.btr_tour.specs.Tour as marks
 use Rattle.btr_tour.specs.Tour.{Mark, first_key}
@@ -35,6 +34,7 @@ use Rattle.btr_walk.specs.declared.folder.FoldFault.TheVariants.{Tree, Own}
 use Rattle.btr_walk.specs.declared.place.RootPlace.{RootPlace}
 use Rattle.btr_tour.specs.Visits.{Shows, IsTaken, Goes, MeetsBy, IsMet, TreatsUpTo, IsRun, Visits}
 use Rattle.btr_tour.proofs.Programs.{marks_law}
+use Rattle.btr_walk.specs.Going.{IsAlong}
 
 -- what a step leaves, behind what came before it
 past_then : {A : Type 0} (old now : Run Want fate.Fault Mark A) (ps qs : List (prog.Mark Want Mark)) (new : Run Want fate.Fault Mark A) → old
@@ -67,8 +67,8 @@ module _ (Is : UnreadBlock → Want → Type 0) (B : Map) (seen : List Want) (ol
   left_is : left tour.scope.lo tour.scope.hi B new tour'.place tour'.leaf ≡ left_of B new tour'
   left_is = ap (λ (s : Scope). left s.lo s.hi B new tour'.place tour'.leaf) (sym same)
 
-  on_is : (then : List Want) → IsOn tour.scope.lo tour.scope.hi B then tour'.place → IsUnderway B then tour'
-  on_is then on = subst (λ (s : Scope). IsOn s.lo s.hi B then tour'.place) (sym same) on
+  on_is : (then : List Want) → IsAlong tour.scope.lo tour.scope.hi B then tour'.place → IsUnderway B then tour'
+  on_is then on = subst (λ (s : Scope). IsAlong s.lo s.hi B then tour'.place) (sym same) on
 
   by_meets : (met : Met) (mark : Mark) → Shows met mark → Meets tour.scope.lo tour.scope.hi B seen (left_of B old tour) new tour'.place tour'.leaf
       mark → Next met

@@ -1,23 +1,21 @@
 -- A tour comes nearer to its end.
-use Rattle.std.proofs.Common.{◌≡◌, ◌∙◌, ℕ, zero, suc, ◌+◌, ◌-◌, ◌*◌, ◌^◌, ◌<◌, ◌≤◌, List, [], ◌∷◌, length, get_or, set, Option, Some, None, IfSome, refl, sym}
+use Rattle.std.proofs.Common.{◌≡◌, ℕ, zero, suc, ◌+◌, ◌-◌, ◌*◌, ◌^◌, ◌<◌, ◌≤◌, List, [], ◌∷◌, length, get_or, set, Option, Some, None, IfSome, sym}
 use Rattle.std.proofs.Common.{ap, subst, arith}
-use Rattle.std.proofs.lemmas.List.{length-set, get_or-set_other}
-use Rattle.btr_node.specs.Block.{KeyPointer}
-use Rattle.btr_base.specs.declared.key.Key.{Key}
+use Rattle.btr_walk.specs.Ranks.{digit, rank_path, rank_todo, rank_at, rank, FrameFits, FitsNext, IsShaped}
+use Rattle.btr_walk.specs.Scans.{FramesPart}
+use Rattle.btr_walk.specs.declared.choice.Part.{Part}
 use Rattle.btr_walk.specs.declared.fault.TreeFault.{TreeFault}
 use Rattle.btr_walk.specs.declared.fault.TreeFault.TheVariants.{Lost, Unread, Unmapped, Crosses, Malformed}
-use Rattle.btr_walk.specs.declared.spot.Spot.{Spot}
-use Rattle.btr_tour.specs.declared.again.Below.{Below}
+use Rattle.btr_walk.specs.declared.frame.Below.{Below}
 use Rattle.btr_walk.specs.declared.frame.Frame.{Frame}
 use Rattle.btr_walk.specs.declared.frame.Todo.{Todo}
-use Rattle.btr_tour.specs.declared.leaf_at.LeafAt.{LeafAt}
-use Rattle.btr_walk.specs.declared.path.AtLevel.{AtLevel}
 use Rattle.btr_walk.specs.declared.going.Where.{Where}
-use Rattle.btr_walk.specs.Ranks.{digit, rank_path, rank_todo, rank_at}
-use Rattle.btr_walk.proofs.Ranking.{one_more, again_less, frames_fit}
-use Rattle.btr_tour.specs.Shape.{rank_on, FrameFits, IsShaped, StepNears}
-use Rattle.btr_tour.specs.Steps.{IsLowest, FramesFrom, FitsBelow, left_out, passed_leaf}
-use Rattle.btr_tour.proofs.Seeking.{length-spots}
+use Rattle.btr_walk.specs.declared.leaf_at.LeafAt.{LeafAt}
+use Rattle.btr_walk.specs.declared.path.AtLevel.{AtLevel}
+use Rattle.btr_walk.specs.declared.spot.Spot.{Spot}
+use Rattle.btr_walk.proofs.Ranking.{one_more, shaped_set, near_again, near_place}
+use Rattle.btr_tour.specs.Shape.{rank_on, StepNears}
+use Rattle.btr_tour.specs.Steps.{IsLowest, left_out, passed_leaf}
 
 -- the children of a node are less than the node
 enter_less : (i : ℕ) (fs : List (Option Frame)) (o : Option Frame) → i < length fs → digit o < 2 ^ 64
@@ -59,18 +57,6 @@ pub pass_leaf : (place : Where) (leaf : Option LeafAt) → rank_on place (passed
 pass_leaf place None = omega arith
 pass_leaf place (Some l) = omega arith
 
--- shapes
-shaped_set : (path : List (Option Frame)) (i : ℕ) (o : Option Frame) (todo : Option Todo) → length path ≡ 7 → i < 7 → ((k : ℕ) → IfSome (get_or path k None) FrameFits) → IfSome o FrameFits → ((k : ℕ) → k < i → get_or path k None ≡ None) → IfSome todo (λ t. t.level ≡ i) → IsShaped (record { path = set path i o; todo = todo })
-shaped_set path i o todo long lt frames fits clear low = record {
-  long = length-set path i o ∙ long;
-  frames = frames_fit FrameFits path i o (omega (arith, long, lt)) frames fits;
-  above = above_of todo low;
-}
-  where
-    above_of : (todo : Option Todo) → IfSome todo (λ t. t.level ≡ i) → IfSome todo (λ t. (k : ℕ) → k < t.level → get_or (set path i o) k None ≡ None)
-    above_of None l = tt
-    above_of (Some t) l = λ k lt'. get_or-set_other path i k o None (λ e. absurd (omega (arith, e, lt', l))) ∙ clear k (omega (arith, lt', l))
-
 -- a place with a block that is to be read
 todo_rank : (place : Where) (level : ℕ) (spot : Spot) → place.todo ≡ Some (record { level = level; spot = spot }) → rank_at place.todo place.path ≡ 2 * rank_todo level place.path
 todo_rank place level spot e = ap (λ t. rank_at t place.path) e
@@ -88,10 +74,10 @@ out_nears place level spot (Unmapped a) e = behind_nears place level spot e
 out_nears place level spot (Crosses a) e = behind_nears place level spot e
 out_nears place level spot (Malformed a) e = behind_nears place level spot e
 
--- a node from a child on
-pub fits_frame : (lo hi : Key) (ps : List KeyPointer) (spot : Spot) (from : ℕ) (o : Option Frame) → FramesFrom lo hi ps spot from o → IfSome o FrameFits
-fits_frame lo hi ps spot from None h = tt
-fits_frame lo hi ps spot from (Some f) h = let there = h.next.there in (omega (arith, there, length-spots ps spot.up, h.all), h.small)
+-- a node whose children were chosen
+pub fits_part : (spot : Spot) (part : Part) (o : Option Frame) → part.end < 2 ^ 64 → FramesPart spot part o → IfSome o FrameFits
+fits_part spot part None small h = tt
+fits_part spot part (Some f) small h = subst FrameFits (sym h.1) (h.0, small)
 
 fits_digit : (o : Option Frame) → IfSome o FrameFits → digit o < 2 ^ 64
 fits_digit None h = omega arith
@@ -117,36 +103,24 @@ module _ (place : Where) (low : AtLevel) (none : place.todo ≡ None) (lowest : 
   within : low.at < length place.path
   within = let w = lowest.within in omega (arith, shaped.long, w)
 
-  pub fits : FrameFits low.frame
+  fits : FrameFits low.frame
   fits = subst (λ o. IfSome o FrameFits) lowest.here (shaped.frames low.at)
 
-  digit_is : digit (get_or place.path low.at None) ≡ low.frame.end - low.frame.next
-  digit_is = ap digit lowest.here
-
-  path_rank : rank_on place None ≡ 2 ^ 64 * (2 * rank_path place.path + 1) + 0
-  path_rank = ap (λ t. 2 ^ 64 * rank_at t place.path + 0) none
-
-  below_fits : (b : Below) → FitsBelow low.frame b → IfSome b.frame FrameFits × (digit b.frame + 1 ≤ low.frame.end - low.frame.next)
-  below_fits b h = at b.frame h
-    where
-      at : (o : Option Frame) → IfSome o (λ f. (low.frame.next < f.next) × (f.next < f.end) × (f.end ≡ low.frame.end)) → IfSome o FrameFits
-          × (digit o + 1 ≤ low.frame.end - low.frame.next)
-      at None h = (tt, omega (arith, fits.0))
-      at (Some f) h = ((h.1, omega (arith, h.2, fits.1)), omega (arith, h.0, h.1, h.2))
-
   -- a child was met
-  pub child_nears : (b : Below) (path' : List (Option Frame)) → FitsBelow low.frame b → path' ≡ set place.path low.at b.frame → IsShaped (record { path = path'; todo = Some (record { level = low.at; spot = b.spot }) }) × (rank_on (record { path = path'; todo = Some (record { level = low.at; spot = b.spot }) }) None < rank_on place None)
-  child_nears b path' h set_is =
-      let f = below_fits b h in
-      let less : rank_todo low.at (set place.path low.at b.frame) ≤ rank_path place.path = again_less low.at place.path b.frame within (omega (arith, digit_is, f.1)) in
-      subst (λ p. IsShaped (record { path = p; todo = Some (record { level = low.at; spot = b.spot }) }) × (rank_on (record { path = p; todo = Some (record { level = low.at; spot = b.spot }) }) None < rank_on place None)) (sym set_is) (
-        shaped_set place.path low.at b.frame (Some (record { level = low.at; spot = b.spot })) shaped.long lowest.within shaped.frames f.0 lowest.before refl,
-        omega (arith, path_rank, less),
-      )
+  pub child_nears : (b : Below) (todo : Todo) (path' : List (Option Frame)) → FitsNext (low.at + 1) low.frame b.frame b.todo → b.todo ≡ Some todo → path' ≡ set place.path low.at b.frame → IsShaped (record { path = path'; todo = Some todo }) × (rank_on (record { path = path'; todo = Some todo }) None < rank_on place None)
+  child_nears b todo path' fits some set_is =
+      let near : IsShaped (record { path = path'; todo = b.todo }) × (rank (record { path = path'; todo = b.todo }) < rank place) =
+      near_place place None (record { path = path'; todo = b.todo }) none shaped
+      (near_again place.path path' low.at (low.at + 1) low.frame b (omega arith) lowest.within fits set_is lowest.here lowest.before) in
+      let there : IsShaped (record { path = path'; todo = Some todo }) × (rank (record { path = path'; todo = Some todo }) < rank place) =
+      subst (λ t. IsShaped (record { path = path'; todo = t }) × (rank (record { path = path'; todo = t }) < rank place)) some near in
+      (there.0, omega (arith, there.1))
 
   gone_nears : (path' : List (Option Frame)) → path' ≡ set place.path low.at None → rank_on (record { path = path'; todo = None }) None < rank_on place None
   gone_nears path' set_is =
       let less = gone_less low.at place.path None within (omega arith) in
+      let digit_is : digit (get_or place.path low.at None) ≡ low.frame.end - low.frame.next = ap digit lowest.here in
+      let path_rank : rank_on place None ≡ 2 ^ 64 * (2 * rank_path place.path + 1) + 0 = ap (λ t. 2 ^ 64 * rank_at t place.path + 0) none in
       subst (λ p. rank_on (record { path = p; todo = None }) None < rank_on place None) (sym set_is) (omega (arith, path_rank, less, digit_is, fits.0))
 
   pub gone_shaped : (path' : List (Option Frame)) → path' ≡ set place.path low.at None → IsShaped (record { path = path'; todo = None })

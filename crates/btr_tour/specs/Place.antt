@@ -1,22 +1,19 @@
 -- What a tour has still to meet.
-use Rattle.std.specs.Prelude.{◌≡◌, ℕ, ◌+◌, ◌-◌, true, List, [], ◌∷◌, length, map, filter, drop, slice_index_or, Option, Some, None, IfSome, Ok}
-use Rattle.std.specs.List.{HoldsAt, Contains}
+use Rattle.std.specs.Prelude.{ℕ, ◌+◌, ◌-◌, List, [], ◌∷◌, map, filter, drop, Option, Some, None}
 use Rattle.btr_base.specs.declared.key.Key.{Key}
-use Rattle.btr_node.specs.Block.{items, pointers}
-use Rattle.btr_node.specs.declared.node.Node.TheVariants.{Leaf, Inner}
 use Rattle.btr_prog.specs.Trying.{Done, act_all}
 use Rattle.btr_read.specs.Store.{Blocks, block_of}
 use Rattle.btr_read.specs.declared.want.Want.{Want}
-use Rattle.btr_walk.specs.declared.spot.Spot.{Spot}
-use Rattle.btr_walk.specs.Spot.{judged}
-use Rattle.btr_walk.specs.Le.{TreeItem, want_of}
-use Rattle.btr_walk.specs.Range.{items_within}
+use Rattle.btr_walk.specs.Advancing.{hand_items}
+use Rattle.btr_walk.specs.Frames.{path_of}
+use Rattle.btr_walk.specs.Le.{want_of}
 use Rattle.btr_walk.specs.Reading.{Map}
 use Rattle.btr_walk.specs.Scans.{pointers_in}
 use Rattle.btr_walk.specs.declared.frame.Frame.{Frame}
 use Rattle.btr_walk.specs.declared.frame.Todo.{Todo}
-use Rattle.btr_tour.specs.declared.leaf_at.LeafAt.{LeafAt}
 use Rattle.btr_walk.specs.declared.going.Where.{Where}
+use Rattle.btr_walk.specs.declared.leaf_at.LeafAt.{LeafAt}
+use Rattle.btr_walk.specs.declared.spot.Spot.{Spot}
 use Rattle.btr_tour.specs.Tour.{Item, child_spots, meets_keys}
 use Rattle.btr_tour.specs.Program.{TourProg, children, tour_from}
 
@@ -35,25 +32,12 @@ want_next (Some todo) path = Some (want_of todo.level todo.spot)
 abbrev pub next_want : Where → Option Want
 next_want place = want_next place.todo place.path
 
--- a leaf in hand is the block that its want came to, which was read
-pub record IsHeld (B : Map) (seen : List Want) (store : Blocks) (l : LeafAt) : Type 0 where
-  pub block : List ℕ
-  pub lent : block_of store l.loan ≡ Some block
-  pub came : B (want_of 0 l.spot) ≡ Ok block
-  pub is : judged 0 l.spot block ≡ Some (Leaf (items block))
-  pub read : Contains seen (want_of 0 l.spot)
+-- the items of a leaf in hand that are still to come, and then the rest
+abbrev pub leaf_left : Blocks → Option LeafAt → TourProg → TourProg
+leaf_left store None rest = rest
+leaf_left store (Some l) rest = act_all (map Item (hand_items (block_of store l.loan) l)) rest
 
 module _ (lo hi : Key) where
-  -- the items of a leaf in hand that are still to come
-  abbrev pub hand_items : Option (List ℕ) → LeafAt → List TreeItem
-  hand_items None l = []
-  hand_items (Some block) l = items_within lo hi l.spot.addr (drop l.next (items block))
-
-  -- the items of a leaf in hand that are still to come, and then the rest
-  abbrev pub leaf_left : Blocks → Option LeafAt → TourProg → TourProg
-  leaf_left store None rest = rest
-  leaf_left store (Some l) rest = act_all (map Item (hand_items (block_of store l.loan) l)) rest
-
   -- the children of a node of a level, those from child `from` on, and then the rest
   abbrev pub children_left : ℕ → Spot → ℕ → List Spot → TourProg → TourProg
   children_left level spot from spots rest = children (tour_from lo hi (level - 1)) spot.addr (level - 1) (filter (meets_keys lo hi) (drop from spots)) rest
@@ -63,15 +47,9 @@ module _ (lo hi : Key) where
     abbrev pub frame_left : ℕ → Frame → TourProg → TourProg
     frame_left level frame rest = children_left level frame.spot frame.next (child_spots (pointers_in (B (want_of level frame.spot))) frame.spot.up) rest
 
-    -- the children of a frame that are still to come, and then the rest, where there is a frame
-    abbrev pub frame_or_rest : ℕ → Option Frame → TourProg → TourProg
-    frame_or_rest level None rest = rest
-    frame_or_rest level (Some frame) rest = frame_left level frame rest
-
     -- the children of the frames of a path, those of the lowest level first
     abbrev pub path_left : ℕ → List (Option Frame) → TourProg
-    path_left n [] = Done tt
-    path_left n (frame ∷ frames) = frame_or_rest (n + 1) frame (path_left (n + 1) frames)
+    path_left = path_of frame_left (Done tt)
 
     -- the block that is to be read, with all that is below it, and then the rest
     abbrev pub todo_left : Option Todo → TourProg → TourProg
@@ -81,16 +59,3 @@ module _ (lo hi : Key) where
     -- all that a place has still to meet
     abbrev pub place_left : Where → TourProg
     place_left place = todo_left place.todo (path_left 0 place.path)
-
-    -- a frame's node was read, and is a good one; its next child meets the keys
-    pub record IsNode (seen : List Want) (level : ℕ) (frame : Frame) : Type 0 where
-      pub block : List ℕ
-      pub came : B (want_of level frame.spot) ≡ Ok block
-      pub is : judged level frame.spot block ≡ Some (Inner (pointers block))
-      pub read : Contains seen (want_of level frame.spot)
-      pub all : frame.end ≡ length (pointers block)
-      pub here : HoldsAt (λ spot. meets_keys lo hi spot ≡ true) (child_spots (pointers block) frame.spot.up) frame.next
-
-    -- each frame of the path is one of the tree
-    pub record IsOn (seen : List Want) (place : Where) : Type 0 where
-      pub frames : (k : ℕ) → IfSome (slice_index_or place.path k None) (IsNode seen (k + 1))

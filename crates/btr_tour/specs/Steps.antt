@@ -1,12 +1,12 @@
 -- What a step of a tour does.
-use Rattle.std.specs.Prelude.{◌≡◌, ℕ, zero, suc, ◌+◌, ◌-◌, ◌^◌, ◌<◌, ◌≤◌, Bool, true, List, [], ◌∷◌, ◌++◌, length, filter, drop, slice_set, slice_index_or, Option, Some, None, IfSome, IsSome, IsSomeAnd, IsTrue, Result, Ok, Err}
+use Rattle.std.specs.Prelude.{◌≡◌, ℕ, zero, suc, ◌+◌, ◌-◌, ◌<◌, ◌≤◌, List, [], ◌∷◌, ◌++◌, slice_set, slice_index_or, Option, Some, None, IfSome, IsSome, IsSomeAnd, Result, Ok, Err}
 use Rattle.std.specs.Option.{option_map}
 use Rattle.std.specs.List.{HoldsAt}
 use Rattle.btr_base.specs.Header.{header_of}
 use Rattle.btr_base.specs.declared.header.Header.{Header}
 use Rattle.btr_base.specs.declared.kind.SumKind.{SumKind}
 use Rattle.btr_base.specs.declared.key.Key.{Key}
-use Rattle.btr_node.specs.Block.{Item as NodeItem, KeyPointer, items, pointers, is_leaf}
+use Rattle.btr_node.specs.Block.{Item as NodeItem, items}
 use Rattle.btr_node.specs.declared.node.Node.{Node}
 use Rattle.btr_prog.specs.Prog.{Wants, Does, first, prepend, want_marks}
 use Rattle.btr_prog.specs.Trying.{Done, tried}
@@ -14,19 +14,18 @@ use Rattle.btr_prog.specs.Answers.{Follows, no_part}
 use Rattle.btr_rack.specs.Rack.{Seen}
 use Rattle.btr_read.specs.Fate as fate
 use Rattle.btr_read.specs.Layout.{Layout}
-use Rattle.btr_read.specs.Store.{Blocks, Lent, block_of, IsLiveIn}
+use Rattle.btr_read.specs.Store.{Blocks, block_of}
 use Rattle.btr_read.specs.declared.want.Want.{Want}
 use Rattle.btr_walk.specs.declared.fault.TreeFault.{TreeFault}
 use Rattle.btr_walk.specs.declared.fault.TreeFault.TheVariants.{Lost, Unread, Unmapped, Crosses, Malformed}
 use Rattle.btr_walk.specs.declared.place.RootPlace.{RootPlace}
 use Rattle.btr_walk.specs.declared.spot.Spot.{Spot}
 use Rattle.btr_walk.specs.Spot.{judged}
+use Rattle.btr_walk.specs.Going.{IsAlong}
+use Rattle.btr_walk.specs.Hand.{IsHeld}
 use Rattle.btr_walk.specs.Le.{tree_item, want_of}
 use Rattle.btr_walk.specs.Reading.{Map, UnreadBlock, CauseOf, halt_of}
-use Rattle.btr_walk.specs.Rests.{IsUnreadOf}
-use Rattle.btr_tour.specs.declared.again.Below.{Below}
-use Rattle.btr_walk.specs.declared.frame.Frame.{Frame}
-use Rattle.btr_tour.specs.declared.leaf_at.LeafAt.{LeafAt}
+use Rattle.btr_walk.specs.declared.leaf_at.LeafAt.{LeafAt}
 use Rattle.btr_walk.specs.declared.path.AtLevel.{AtLevel}
 use Rattle.btr_walk.specs.declared.going.Where.{Where}
 use Rattle.btr_tour.specs.declared.scope.Scope.{Scope}
@@ -34,33 +33,9 @@ use Rattle.btr_tour.specs.declared.step.Advanced.{Advanced}
 use Rattle.btr_tour.specs.declared.step.Step.{Step}
 use Rattle.btr_tour.specs.declared.step.Step.TheVariants.{Block, Child, Item, Fault, End}
 use Rattle.btr_tour.specs.Tour as tour
-use Rattle.btr_tour.specs.Tour.{Mark, place_of, child_spots, meets_keys}
+use Rattle.btr_tour.specs.Tour.{Mark, place_of}
 use Rattle.btr_tour.specs.Program.{TourProg, below_block, tour_from}
-use Rattle.btr_tour.specs.Place.{next_want, leaf_left, place_left, IsHeld, IsNode, IsOn}
-
--- the first entry from one on that passes a test
-pub record IsFirstFrom {X : Type 0} (test : X → Bool) (xs : List X) (from at : ℕ) : Type 0 where
-  pub there : at < length xs
-  pub behind : from ≤ at
-  pub skipped : filter test (drop from xs) ≡ filter test (drop at xs)
-  pub here : HoldsAt (λ x. test x ≡ true) xs at
-
--- no entry from one on passes a test
-abbrev pub NoneFrom : {X : Type 0} → (X → Bool) → List X → ℕ → Type 0
-NoneFrom test xs from = filter test (drop from xs) ≡ []
-
--- a leaf in hand: its loan is live, and its block is a good leaf
-pub record IsInHand (store : Blocks) (l : LeafAt) : Type 0 where
-  pub live : IsLiveIn store l.loan
-  pub large : 4096 ≤ l.loan.len
-  pub small : l.end < 2 ^ 64
-  pub within : l.next ≤ l.end
-  pub good : IsSomeAnd (block_of store l.loan) (λ block. IsTrue (is_leaf block) × (l.end ≡ length (items block)))
-
--- the loan of a leaf in hand, if there is one
-abbrev pub loan_of : Option LeafAt → Option Lent
-loan_of None = None
-loan_of (Some l) = Some l.loan
+use Rattle.btr_tour.specs.Place.{next_want, leaf_left, place_left}
 
 -- the lowest frame of a path
 pub record IsLowest (place : Where) (low : AtLevel) : Type 0 where
@@ -108,42 +83,11 @@ abbrev pub passed_leaf : ℕ → Option LeafAt → Option LeafAt
 passed_leaf zero leaf = option_map at_end leaf
 passed_leaf (suc n) leaf = leaf
 
--- a node has as many children as it had, and fewer are still to come
-abbrev pub FitsBelow : Frame → Below → Type 0
-FitsBelow frame b = IfSome b.frame (λ f. (frame.next < f.next) × (f.next < f.end) × (f.end ≡ frame.end))
-
 module _ (lo hi : Key) where
-  -- a node with these pointers at a spot, where children from child `from` on are to come
-  pub record IsFrameFrom (ps : List KeyPointer) (spot : Spot) (from : ℕ) (frame : Frame) : Type 0 where
-    pub spot_is : frame.spot ≡ spot
-    pub all : frame.end ≡ length ps
-    pub small : frame.end < 2 ^ 64
-    pub next : IsFirstFrom (meets_keys lo hi) (child_spots ps spot.up) from frame.next
-
-  -- the frame of the children that are to come, from child `from` on, or none where none of them meets the keys
-  abbrev pub FramesFrom : List KeyPointer → Spot → ℕ → Option Frame → Type 0
-  FramesFrom ps spot from None = NoneFrom (meets_keys lo hi) (child_spots ps spot.up) from
-  FramesFrom ps spot from (Some frame) = IsFrameFrom ps spot from frame
-
-  -- the next child of a frame
-  pub record IsNextBelow (ps : List KeyPointer) (frame : Frame) (b : Below) : Type 0 where
-    pub spot_is : HoldsAt (λ spot. b.spot ≡ spot) (child_spots ps frame.spot.up) frame.next
-    pub more : FramesFrom ps frame.spot (frame.next + 1) b.frame
-
-  -- what comes of a node that was read again: its next child, or nothing where the node has another number of children
-  abbrev pub IsNext : List KeyPointer → Frame → Option Below → Type 0
-  IsNext ps frame None = frame.end ≡ length ps → ⊥
-  IsNext ps frame (Some b) = (frame.end ≡ length ps) × IsNextBelow ps frame b × FitsBelow frame b
-
   module _ (B : Map) where
-    -- a node was read again: its next child, or it could not be read
-    abbrev pub Rereads : (UnreadBlock → Want → Type 0) → ℕ → Frame → Result Below TreeFault → Type 0
-    Rereads Is level frame (Ok b) = (seen : List Want) (node : IsNode lo hi B seen level frame) → IsNextBelow (pointers node.block) frame b
-    Rereads Is level frame (Err f) = (seen : List Want) → IsNode lo hi B seen level frame → IsUnreadOf Is seen f
-
     -- what is left at a place, with a leaf in hand
     abbrev pub left : Blocks → Where → Option LeafAt → TourProg
-    left store place leaf = leaf_left lo hi store leaf (place_left lo hi B place)
+    left store place leaf = leaf_left store leaf (place_left lo hi B place)
 
     -- a good block was wanted and met; what is below it comes next, and can be passed
     pub record MeetsBlock (seen : List Want) (sums : SumKind) (before : TourProg) (store : Blocks) (place : Where) (leaf : Option LeafAt)
@@ -159,14 +103,14 @@ module _ (lo hi : Key) where
       pub below :
           left store place leaf
           ≡ below_block lo hi (tour_from lo hi (at.level - 1)) at.level spot node (left store (passed_place at.level place) (passed_leaf at.level leaf))
-      pub on : IsOn lo hi B (seen ++ (want_of at.level spot ∷ [])) place
+      pub on : IsAlong lo hi B (seen ++ (want_of at.level spot ∷ [])) place
       pub held : IfSome leaf (IsHeld B (seen ++ (want_of at.level spot ∷ [])) store)
 
     -- some wants, and then a mark was met; what is left comes behind
     pub record Meets (seen : List Want) (before : TourProg) (store : Blocks) (place : Where) (leaf : Option LeafAt) (mark : Mark) : Type 0 where
       pub past : List Want
       pub met : tried B before ≡ prepend (want_marks past) (first (Does mark) (tried B (left store place leaf)))
-      pub on : IsOn lo hi B (seen ++ past) place
+      pub on : IsAlong lo hi B (seen ++ past) place
       pub held : IfSome leaf (IsHeld B (seen ++ past) store)
 
     -- nothing was met, since a block could not be read: one that was wanted before, or is the first to be wanted now
@@ -174,7 +118,7 @@ module _ (lo hi : Key) where
         (leaf : Option LeafAt) (f : TreeFault) : Type 0 where
       pub refused : Follows Is no_part seen (tried B before) [] (Err (halt_of f))
       pub same : before ≡ left store place leaf
-      pub on : IsOn lo hi B seen place
+      pub on : IsAlong lo hi B seen place
       pub held : IfSome leaf (IsHeld B seen store)
 
     -- the item at a place of the leaf in hand was met
@@ -196,7 +140,7 @@ module _ (lo hi : Key) where
 
       -- what a step does from a place, where its leaf is what its want came to
       abbrev pub Advances : (List Want → Type 0) → SumKind → Where → TourProg → Blocks → Arrived → Type 0
-      Advances Holds sums old before store a = (seen : List Want) → IsOn lo hi B seen old → Holds seen → StepsBy seen sums before store a.place a.leaf a.step
+      Advances Holds sums old before store a = (seen : List Want) → IsAlong lo hi B seen old → Holds seen → StepsBy seen sums before store a.place a.leaf a.step
 
 -- what a step does within a scope, from a place with a leaf in hand or with none
 abbrev pub AdvancesIn : Scope → (UnreadBlock → Want → Type 0) → Map → Blocks → Where → Option LeafAt → Blocks → Arrived → Type 0

@@ -1,5 +1,5 @@
 -- What a tour and its store are after a step.
-use Rattle.std.specs.Prelude.{◌≡◌, ℕ, ◌<◌, ◌≤◌, List, [], Option, Some, None, IfSome, IsSome, IsSomeAnd, Result, Ok, Err, ⊤}
+use Rattle.std.specs.Prelude.{◌≡◌, ℕ, ◌<◌, ◌≤◌, List, Option, Some, None, IfSome, IsSome, IsSomeAnd, Result, Ok, Err, ⊤}
 use Rattle.std.specs.Borrow.{follows_so, MutBor, Fml}
 use mathlib.Core.Option.{none}
 use Rattle.btr_prog.specs.Trying.{Done}
@@ -10,18 +10,22 @@ use Rattle.btr_read.specs.Store.{Blocks, SameLoans}
 use Rattle.btr_read.specs.contracts.store.Store.{the_row}
 use Rattle.btr_read.specs.declared.want.Want.{Want}
 use Rattle.btr_walk.specs.declared.fault.TreeFault.{TreeFault}
+use Rattle.btr_walk.specs.Going.{IsAlong}
+use Rattle.btr_walk.specs.Hand.{IsHeld, IsInHand, loan_of}
 use Rattle.btr_walk.specs.Lending.{base}
+use Rattle.btr_walk.specs.Ranks.{IsShaped}
 use Rattle.btr_walk.specs.Reading.{Map, UnreadBlock, TellsOf, CauseOf}
 use Rattle.btr_walk.specs.Showing.{item_of}
-use Rattle.btr_tour.specs.declared.leaf_at.LeafAt.{LeafAt}
+use Rattle.btr_walk.specs.declared.leaf_at.LeafAt.{LeafAt}
 use Rattle.btr_tour.specs.declared.met.Met.{Met}
 use Rattle.btr_tour.specs.declared.met.Met.TheVariants.{Block, Child, Item, Fault}
+use Rattle.btr_tour.specs.declared.step.Step.{Step}
 use Rattle.btr_tour.specs.declared.tour.Tour.{Tour}
 use Rattle.btr_tour.specs.Tour as marks
 use Rattle.btr_tour.specs.Program.{TourProg}
-use Rattle.btr_tour.specs.Place.{next_want, IsHeld, IsOn}
-use Rattle.btr_tour.specs.Shape.{IsShaped, rank_on}
-use Rattle.btr_tour.specs.Steps.{IsInHand, loan_of, reason, passed_place, passed_leaf, left, MeetsBlock, Meets, Stays}
+use Rattle.btr_tour.specs.Place.{next_want}
+use Rattle.btr_tour.specs.Shape.{rank_on}
+use Rattle.btr_tour.specs.Steps.{reason, passed_place, passed_leaf, left, MeetsBlock, Meets, Stays, StepsBy}
 
 -- what a tour has still to meet
 abbrev pub left_of : Map → Blocks → Tour → TourProg
@@ -29,7 +33,7 @@ left_of B store tour = left tour.scope.lo tour.scope.hi B store tour.place tour.
 
 -- a tour is on its way through the tree, where these wants came before
 abbrev pub IsUnderway : Map → List Want → Tour → Type 0
-IsUnderway B seen tour = IsOn tour.scope.lo tour.scope.hi B seen tour.place
+IsUnderway B seen tour = IsAlong tour.scope.lo tour.scope.hi B seen tour.place
 
 -- the leaf in hand, if there is one, is the block that its want came to, which was read
 abbrev pub HoldsLeaf : Map → List Want → Blocks → Tour → Type 0
@@ -45,7 +49,7 @@ abbrev pub passed : Tour → Tour
 passed tour = passed_at tour.level tour
 
 -- a rack and a store can go on with a tour: the loan of its leaf, if it has one, is live
-pub record IsReady (rack : Seen) (store : Blocks) (tour : Tour) : Type 0 where
+pub record IsTourReady (rack : Seen) (store : Blocks) (tour : Tour) : Type 0 where
   pub serves : Serves rack store
   pub hand : IfSome tour.leaf (IsInHand store)
   pub shaped : IsShaped tour.place
@@ -54,6 +58,12 @@ pub record IsReady (rack : Seen) (store : Blocks) (tour : Tour) : Type 0 where
 -- the store without the loan of a tour's leaf
 abbrev pub without_leaf : Blocks → Tour → Blocks
 without_leaf store tour = base store (loan_of tour.leaf)
+
+-- what a step of a tour met, whatever was read before
+abbrev pub IsNextStep : (UnreadBlock → Want → Type 0) → Map → Blocks → Blocks → Tour → Tour → Result Step TreeFault → Type 0
+IsNextStep Is B old new tour tour' result =
+    (seen : List Want) → IsUnderway B seen tour → HoldsLeaf B seen old tour
+    → StepsBy tour.scope.lo tour.scope.hi B Is seen tour.scope.sums (left_of B old tour) new tour'.place tour'.leaf result
 
 -- Some wants, and then one mark is met; what is left comes behind. Behind a good block comes what is below it, which
 -- can be passed. A block that could not be read is met again.
@@ -77,7 +87,7 @@ IsNextMark Is B old new tour tour' result =
 -- a tour can go on, and no other loan changed; and what the step says of the block map
 pub record Toured (old new : Blocks) (tour tour' : Tour) (before now : Seen) (result : Result (Option Met) TreeFault) : Type 0 where
   pub others : SameLoans (without_leaf old tour) (without_leaf new tour')
-  pub ready : IsReady now new tour'
+  pub ready : IsTourReady now new tour'
   pub content : TellsOf old before now (λ Is B. IsNextMark Is B old new tour tour' result)
 
 -- the tour and its store end as the step's answer says, and no other loan changed

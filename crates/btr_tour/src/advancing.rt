@@ -3,20 +3,19 @@ ghost use Rattle.std.specs.Prelude.{◌≤◌, Some, None, IfSome};
 ghost use Rattle.btr_rack.specs.Rack.{OnlyReads};
 ghost use Rattle.btr_read.specs.Serves.{Serves};
 ghost use Rattle.btr_read.specs.Store.{SameLoans, free_count};
+ghost use Rattle.btr_walk.specs.Hand.{IsInHand, loan_of};
 ghost use Rattle.btr_walk.specs.Lending.{base};
+ghost use Rattle.btr_walk.specs.Ranks.{IsShaped};
 ghost use Rattle.btr_walk.specs.Reading.{TellsOf};
-ghost use Rattle.btr_tour.specs.Shape.{IsShaped, rank_on, StepNears};
-ghost use Rattle.btr_tour.specs.Steps.{IsInHand, loan_of, arrived, HasStep, StepCause, AdvancesIn};
+ghost use Rattle.btr_tour.specs.Shape.{rank_on, StepNears};
+ghost use Rattle.btr_tour.specs.Steps.{arrived, HasStep, StepCause, AdvancesIn};
 
 use crate::entering::{enter, meet_child};
-use crate::leaf_at::LeafAt;
-use crate::meeting::seek_item;
 use crate::scope::Scope;
 use crate::step::{Advanced, Step};
-use btr_node::Leaf;
 use btr_rack::Rack;
 use btr_read::Store;
-use btr_walk::{Where, lowest};
+use btr_walk::{LeafAt, Where, behind_next, give_leaf, lowest};
 
 // One step further with no leaf in hand.
 fn from_place<R: Rack>(
@@ -77,25 +76,13 @@ pub(crate) fn advance<R: Rack>(
     let Some(hand) = leaf else {
         return from_place(place, scope, rack, store);
     };
-    let LeafAt {
-        spot,
-        next,
-        end,
-        loan,
-    } = hand;
-    match seek_item(&Leaf::of(store.bytes(&loan)), next, scope) {
-        Some(at) => Advanced {
-            leaf: Some(LeafAt {
-                spot,
-                next: at + 1,
-                end,
-                loan,
-            }),
+    if hand.next < hand.end {
+        let at = hand.next;
+        return Advanced {
+            leaf: Some(behind_next(hand)),
             step: Ok(Step::Item(at)),
-        },
-        None => {
-            store.give(loan);
-            from_place(place, scope, rack, store)
-        }
+        };
     }
+    give_leaf(Some(hand), store);
+    from_place(place, scope, rack, store)
 }

@@ -3,30 +3,32 @@ ghost use Rattle.std.specs.Prelude.{◌≡◌, ◌<◌, ◌≤◌, IfSome, None,
 ghost use Rattle.btr_rack.specs.Rack.{OnlyReads};
 ghost use Rattle.btr_read.specs.Serves.{Serves};
 ghost use Rattle.btr_read.specs.Store.{SameLoans, free_count};
+ghost use Rattle.btr_walk.specs.Hand.{IsInHand, loan_of};
 ghost use Rattle.btr_walk.specs.Lending.{base};
+ghost use Rattle.btr_walk.specs.Ranks.{IsShaped};
 ghost use Rattle.btr_walk.specs.Reading.{TellsOf};
-ghost use Rattle.btr_tour.specs.Shape.{IsShaped, rank_on, StepNears};
-ghost use Rattle.btr_tour.specs.Steps.{IsInHand, loan_of, arrived, left_out, IsLowest, HasStep, StepCause, AdvancesIn};
+ghost use Rattle.btr_tour.specs.Tour.{place_of};
+ghost use Rattle.btr_tour.specs.Shape.{rank_on, StepNears};
+ghost use Rattle.btr_tour.specs.Steps.{arrived, left_out, IsLowest, HasStep, StepCause, AdvancesIn};
 
-use crate::again::read_again;
-use crate::leaf_at::LeafAt;
-use crate::meeting::frame_from;
 use crate::scope::Scope;
 use crate::step::{Advanced, Step};
 use btr_base::Header;
-use btr_node::{Inner, Leaf};
 use btr_rack::Rack;
 use btr_read::Store;
-use btr_walk::{AtLevel, RootPlace, Spot, Todo, TreeFault, Where, read_block, set_frame};
+use btr_walk::{
+    AtLevel, LeafAt, RootPlace, Todo, TreeFault, Where, choose, frame_of, part_of, read_again,
+    read_block, set_frame,
+};
 
-// Where the block of a level at a spot stands.
-fn place_of(level: u8, spot: &Spot) -> RootPlace
-    ensures { result ≡ record { addr = spot.now.addr; generation = spot.now.generation; level = level } }
+// Where a block that is to be read stands.
+fn place_of(todo: &Todo) -> RootPlace
+    ensures { result ≡ place_of todo.now.level todo.now.spot }
 {
     RootPlace {
-        addr: spot.addr,
-        generation: spot.generation,
-        level,
+        addr: todo.spot.addr,
+        generation: todo.spot.generation,
+        level: todo.level,
     }
 }
 
@@ -85,15 +87,16 @@ pub(crate) fn enter<R: Rack>(
         }
         Ok(loan) => {
             let step = Ok(Step::Block {
-                place: place_of(todo.level, &todo.spot),
+                place: place_of(todo),
                 header: Header::read(scope.sums, store.bytes(&loan)),
             });
             place.todo = None;
             if todo.level == 0 {
+                let part = part_of(store.bytes(&loan), scope.lo, scope.hi);
                 let leaf = LeafAt {
                     spot: todo.spot,
-                    next: 0,
-                    end: Leaf::of(store.bytes(&loan)).count(),
+                    next: part.next,
+                    end: part.end,
                     loan,
                 };
                 return Advanced {
@@ -101,8 +104,9 @@ pub(crate) fn enter<R: Rack>(
                     step,
                 };
             }
-            let frame = frame_from(&Inner::of(store.bytes(&loan)), &todo.spot, 0, scope);
+            let part = choose(store.bytes(&loan), scope.lo, scope.hi);
             store.give(loan);
+            let frame = frame_of(&todo.spot, part);
             set_frame(&mut place.path, todo.level as usize - 1, frame);
             Advanced { leaf: None, step }
         }
@@ -133,9 +137,8 @@ pub(crate) fn meet_child<R: Rack>(
     ensures content { TellsOf store.old (R.seen rack.old) (R.seen rack.new)
         (λ Is B. AdvancesIn scope.now Is B store.old place.old None store.new (arrived place.new result)) }
 {
-    let level = low.at as u8;
     let frame = &low.frame;
-    match read_again(level + 1, frame, scope, rack, store) {
+    match read_again(low.at as u8 + 1, frame, rack, store) {
         Err(fault) => {
             let mut after = Where {
                 path: place.path,
@@ -145,16 +148,16 @@ pub(crate) fn meet_child<R: Rack>(
             left_out(place, after, fault)
         }
         Ok(below) => {
+            let Some(todo) = below.todo else {
+                unreachable!();
+            };
             set_frame(&mut place.path, low.at, below.frame);
-            place.todo = Some(Todo {
-                level,
-                spot: below.spot,
-            });
+            place.todo = Some(todo);
             Advanced {
                 leaf: None,
                 step: Ok(Step::Child {
                     block: frame.spot.addr,
-                    place: place_of(level, &below.spot),
+                    place: place_of(&todo),
                 }),
             }
         }

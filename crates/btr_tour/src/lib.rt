@@ -9,11 +9,8 @@
 #![tactic(auto)]
 
 mod advancing;
-mod again;
 mod entering;
 mod laws;
-mod leaf_at;
-mod meeting;
 mod met;
 mod rest;
 mod scope;

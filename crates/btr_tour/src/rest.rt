@@ -1,25 +1,20 @@
 // A tour that keeps no loan.
-ghost use Rattle.std.specs.Prelude.{◌≡◌, ◌≤◌, [], Some, IfSome, IfOk};
+ghost use Rattle.std.specs.Prelude.{◌≡◌, ◌≤◌, [], IfSome};
 ghost use Rattle.btr_rack.specs.Rack.{Seen, OnlyReads};
 ghost use Rattle.btr_read.specs.Serves.{Serves};
 ghost use Rattle.btr_read.specs.Store.{SameLoans, free_count};
-ghost use Rattle.btr_walk.specs.Le.{want_of};
-ghost use Rattle.btr_walk.specs.Lending.{base};
-ghost use Rattle.btr_walk.specs.Reading.{Map, TellsOf, HasCauseOf};
+ghost use Rattle.btr_walk.specs.Hand.{IsInHand};
+ghost use Rattle.btr_walk.specs.Reading.{Map, TellsOf};
 ghost use Rattle.btr_tour.specs.Program.{tour_prog};
-ghost use Rattle.btr_tour.specs.Rests.{rest_left, Fits, IsRestOn, KeepsFrom, Rests, LendsKept, IsLeafOf, IsLeafAgain, TakenUp, TakesUp, RestCause};
-ghost use Rattle.btr_tour.specs.Shape.{FrameFits};
-ghost use Rattle.btr_tour.specs.Steps.{IsInHand};
+ghost use Rattle.btr_tour.specs.Rests.{rest_left, Fits, KeepsFrom, IsRestOn, Rests, TakenUp, TakesUp, RestCause};
 ghost use Rattle.btr_tour.specs.TourEnds.{without_leaf};
 
 use crate::Tour;
-use crate::leaf_at::LeafAt;
 use crate::scope::Scope;
 use btr_base::{Key, SumKind};
-use btr_node::Leaf;
 use btr_rack::Rack;
 use btr_read::Store;
-use btr_walk::{Frame, HEIGHT, RootPlace, Spot, Todo, TreeFault, Where, read_block};
+use btr_walk::{Frame, RootPlace, TreeFault, Where, begin, give_leaf, read_leaf};
 
 /// A tour that keeps no loan: where it goes on. It can be copied, and let go.
 #[derive(Clone, Copy)]
@@ -30,55 +25,14 @@ pub struct Rest {
     pub(crate) leaf: Option<Frame>,
 }
 
-// Gives the loan of a leaf back, and answers where its items go on, if some are still to come.
-fn give_leaf(hand: LeafAt, store: &mut Store) -> Option<Frame>
-    requires { IsInHand store.old hand }
-    ensures kept { KeepsFrom hand result }
-    ensures back { SameLoans (base store.old (Some hand.loan)) store.new }
-    ensures serves { (rack : Seen) → Serves rack store.old → Serves rack store.new }
+// A leaf that was given back, where items of it are still to come.
+fn kept_of(frame: Frame) -> Option<Frame>
+    ensures { KeepsFrom frame result }
 {
-    let LeafAt {
-        spot,
-        next,
-        end,
-        loan,
-    } = hand;
-    store.give(loan);
-    if next < end {
-        Some(Frame { spot, next, end })
+    if frame.next < frame.end {
+        Some(frame)
     } else {
         None
-    }
-}
-
-// Reads a leaf again that was given back.
-fn read_kept<R: Rack>(frame: &Frame, rack: &mut R, store: &mut Store) -> Result<LeafAt, TreeFault>
-    requires fits { FrameFits frame.now }
-    requires serves { Serves (R.seen rack.old) store.old }
-    requires room { 4 ≤ free_count store.old }
-    ensures serves { Serves (R.seen rack.new) store.new }
-    ensures reads { OnlyReads (R.seen rack.old) (R.seen rack.new) }
-    ensures lent { LendsKept store.old store.new result }
-    ensures same { IfOk result (IsLeafOf frame.now) }
-    ensures cause { HasCauseOf store.old.layout (want_of 0 frame.now.spot) (R.seen rack.old) (R.seen rack.new) result }
-    ensures content { TellsOf store.old (R.seen rack.old) (R.seen rack.new)
-        (λ Is B. IsLeafAgain Is B frame.now store.new result) }
-{
-    match read_block(0, &frame.spot, rack, store) {
-        Err(fault) => Err(fault),
-        Ok(loan) => {
-            let count = Leaf::of(store.bytes(&loan)).count();
-            if count != frame.end {
-                store.give(loan);
-                return Err(TreeFault::Malformed(frame.spot.addr));
-            }
-            Ok(LeafAt {
-                spot: frame.spot,
-                next: frame.next,
-                end: frame.end,
-                loan,
-            })
-        }
     }
 }
 
@@ -96,17 +50,11 @@ impl Tour {
             leaf,
             level: _,
         } = self;
-        match leaf {
-            None => Rest {
-                scope,
-                place,
-                leaf: None,
-            },
-            Some(hand) => {
-                let leaf = give_leaf(hand, store);
-                Rest { scope, place, leaf }
-            }
-        }
+        let leaf = match give_leaf(leaf, store) {
+            None => None,
+            Some(frame) => kept_of(frame),
+        };
+        Rest { scope, place, leaf }
     }
 }
 
@@ -118,21 +66,9 @@ impl Rest {
         ensures left { (B : Map) → rest_left B result ≡ tour_prog lo hi root.now }
         ensures on { (B : Map) → IsRestOn B [] result }
     {
-        let spot = Spot {
-            addr: root.addr,
-            generation: root.generation,
-            first: None,
-            up: None,
-        };
         Rest {
             scope: Scope { lo, hi, sums },
-            place: Where {
-                path: [None; HEIGHT],
-                todo: Some(Todo {
-                    level: root.level,
-                    spot,
-                }),
-            },
+            place: begin(root),
             leaf: None,
         }
     }
@@ -160,7 +96,7 @@ impl Rest {
                 leaf: None,
                 level: None,
             }),
-            Some(frame) => match read_kept(frame, rack, store) {
+            Some(frame) => match read_leaf(frame, rack, store) {
                 Err(fault) => Err(fault),
                 Ok(hand) => Ok(Tour {
                     scope: self.scope,

@@ -1,6 +1,5 @@
-use crate::leaf_at::LeafAt;
 use btr_base::Header;
-use btr_walk::{RootPlace, TreeFault};
+use btr_walk::{LeafAt, RootPlace, TreeFault};
 
 /// What a step met.
 #[derive(Clone, Copy)]

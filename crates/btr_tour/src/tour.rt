@@ -5,20 +5,21 @@ ghost use Rattle.btr_rack.specs.Rack.{OnlyReads, Seen};
 ghost use Rattle.btr_read.specs.Serves.{Serves};
 ghost use Rattle.btr_read.specs.Store.{Blocks, SameLoans, free_count};
 ghost use Rattle.btr_read.specs.declared.want.Want.{Want};
-ghost use Rattle.btr_walk.specs.Reading.{Map};
+ghost use Rattle.btr_walk.specs.Hand.{IsInHand};
+ghost use Rattle.btr_walk.specs.Reading.{Map, TellsOf};
 ghost use Rattle.btr_tour.specs.Program.{tour_prog};
-ghost use Rattle.btr_tour.specs.Steps.{IsInHand, passed_leaf};
-ghost use Rattle.btr_tour.specs.TourEnds.{left_of, passed, without_leaf, rank_of, level_met, IsReady, IsUnderway, HoldsLeaf, KeepsLeaf, NextNears, NextCause, TourEnds};
+ghost use Rattle.btr_tour.specs.Steps.{passed_leaf, HasStep, StepCause};
+ghost use Rattle.btr_tour.specs.Shape.{StepNears};
+ghost use Rattle.btr_tour.specs.TourEnds.{left_of, passed, without_leaf, rank_of, level_met, IsTourReady, IsUnderway, HoldsLeaf, KeepsLeaf, NextNears, NextCause, IsNextStep, TourEnds};
 
 use crate::Met;
 use crate::advancing::advance;
-use crate::leaf_at::LeafAt;
 use crate::scope::Scope;
 use crate::step::{Advanced, Step};
 use btr_base::{Key, SumKind};
 use btr_rack::Rack;
 use btr_read::Store;
-use btr_walk::{HEIGHT, RootPlace, Spot, Todo, TreeFault, Where, found_at};
+use btr_walk::{LeafAt, RootPlace, TreeFault, Where, begin, found_at, give_leaf, put_leaf};
 
 /// A tour through a tree, from one key to another, both included. It keeps at most one loan: that of its leaf. It is not let
 /// go but by `finish`.
@@ -28,20 +29,6 @@ pub struct Tour {
     pub(crate) leaf: Option<LeafAt>,
     // The level of the block that was met last, if nothing was met behind it.
     pub(crate) level: Option<u8>,
-}
-
-// Puts a leaf into an empty place.
-fn put(place: &mut Option<LeafAt>, leaf: Option<LeafAt>)
-    requires { place.old ≡ None }
-    ensures { place.new ≡ leaf }
-{
-    match leaf {
-        None => {}
-        Some(leaf) => match place.replace(leaf) {
-            None => {}
-            Some(_) => unreachable!(),
-        },
-    }
 }
 
 // The leaf behind all its items.
@@ -74,25 +61,13 @@ impl Tour {
         ensures scope { result.scope ≡ record { lo = lo; hi = hi; sums = sums } }
         ensures leaf { result.leaf ≡ None }
         ensures level { result.level ≡ None }
-        ensures ready { (rack : Seen) (store : Blocks) → Serves rack store → IsReady rack store result }
+        ensures ready { (rack : Seen) (store : Blocks) → Serves rack store → IsTourReady rack store result }
         ensures left { (B : Map) (store : Blocks) → left_of B store result ≡ tour_prog lo hi root.now }
         ensures on { (B : Map) → IsUnderway B [] result }
     {
-        let spot = Spot {
-            addr: root.addr,
-            generation: root.generation,
-            first: None,
-            up: None,
-        };
         Tour {
             scope: Scope { lo, hi, sums },
-            place: Where {
-                path: [None; HEIGHT],
-                todo: Some(Todo {
-                    level: root.level,
-                    spot,
-                }),
-            },
+            place: begin(root),
             leaf: None,
             level: None,
         }
@@ -103,7 +78,7 @@ impl Tour {
         requires block { IsSome self.old.level }
         requires low { IfSome self.old.level (λ level. level ≤ 7) }
         ensures passed { self.new ≡ passed self.old }
-        ensures ready { (rack : Seen) (store : Blocks) → IsReady rack store self.old → IsReady rack store self.new }
+        ensures ready { (rack : Seen) (store : Blocks) → IsTourReady rack store self.old → IsTourReady rack store self.new }
         ensures on { (B : Map) (seen : List Want) → IsUnderway B seen self.old → IsUnderway B seen self.new }
         ensures held { (B : Map) (seen : List Want) (store : Blocks) → HoldsLeaf B seen store self.old → HoldsLeaf B seen store self.new }
         ensures nears { rank_of self.new ≤ rank_of self.old }
@@ -113,7 +88,7 @@ impl Tour {
         };
         if level == 0 {
             let leaf = behind_all(self.leaf.take());
-            put(&mut self.leaf, leaf);
+            put_leaf(&mut self.leaf, leaf);
         } else {
             self.place.path[level as usize - 1] = None;
         }
@@ -132,19 +107,31 @@ impl Tour {
             leaf,
             level: _,
         } = self;
-        match leaf {
-            None => {}
-            Some(hand) => {
-                let LeafAt {
-                    spot: _,
-                    next: _,
-                    end: _,
-                    loan,
-                } = hand;
-                store.give(loan);
-            }
-        }
+        give_leaf(leaf, store);
     }
+}
+
+// One step further. The leaf in hand behind it is put into its place.
+fn step<R: Rack>(tour: &mut Tour, rack: &mut R, store: &mut Store) -> Result<Step, TreeFault>
+    requires ready { IsTourReady (R.seen rack.old) store.old tour.old }
+    requires room { 4 ≤ free_count (without_leaf store.old tour.old) }
+    ensures ready { IsTourReady (R.seen rack.new) store.new tour.new }
+    ensures reads { OnlyReads (R.seen rack.old) (R.seen rack.new) }
+    ensures others { SameLoans (without_leaf store.old tour.old) (without_leaf store.new tour.new) }
+    ensures scope { tour.new.scope ≡ tour.old.scope }
+    ensures level { tour.new.level ≡ None }
+    ensures nears { StepNears (rank_of tour.old) (rank_of tour.new) result }
+    ensures step { HasStep tour.old.place tour.new.place tour.new.leaf result }
+    ensures cause { StepCause store.old.layout (R.seen rack.old) (R.seen rack.new) tour.old.place result }
+    ensures content { TellsOf store.old (R.seen rack.old) (R.seen rack.new)
+        (λ Is B. IsNextStep Is B store.old store.new tour.old tour.new result) }
+{
+    let leaf = tour.leaf.take();
+    let scope = tour.scope;
+    let Advanced { leaf, step } = advance(&mut tour.place, leaf, &scope, rack, store);
+    put_leaf(&mut tour.leaf, leaf);
+    tour.level = None;
+    step
 }
 
 /// Answers what is met next; `None` exactly after the last. It takes no memory. Four slots are free besides the leaf's, which the
@@ -157,7 +144,7 @@ pub fn next<'e, R: Rack>(
     tour: &mut Tour,
     rack: &mut R,
 ) -> Result<Option<Met<'e>>, TreeFault>
-    requires ready { IsReady (R.seen rack.old) store.old tour.old }
+    requires ready { IsTourReady (R.seen rack.old) store.old tour.old }
     requires room { 4 ≤ free_count (without_leaf store.old tour.old) }
     ensures* after { sem 𝓛 (TourEnds store.entry tour.old tour.new (R.seen rack.old) (R.seen rack.new) result) }
     ensures reads { OnlyReads (R.seen rack.old) (R.seen rack.new) }
@@ -167,12 +154,7 @@ pub fn next<'e, R: Rack>(
     ensures nears { NextNears tour.old tour.new result }
     ensures cause { NextCause store.old.layout (R.seen rack.old) (R.seen rack.new) tour.old tour.new result }
 {
-    let leaf = tour.leaf.take();
-    let scope = tour.scope;
-    let Advanced { leaf, step } = advance(&mut tour.place, leaf, &scope, rack, store);
-    put(&mut tour.leaf, leaf);
-    tour.level = None;
-    match step {
+    match step(tour, rack, store) {
         Err(fault) => Err(fault),
         Ok(Step::End) => Ok(None),
         Ok(Step::Fault(fault)) => Ok(Some(Met::Fault(fault))),

@@ -3,30 +3,17 @@ ghost use Rattle.std.specs.Prelude.{◌≡◌, ◌≤◌};
 ghost use Rattle.btr_rack.specs.Rack.{OnlyReads};
 ghost use Rattle.btr_read.specs.Serves.{Serves};
 ghost use Rattle.btr_read.specs.Store.{SameLoans, free_count};
-ghost use Rattle.btr_tour.specs.TourEnds.{IsReady, without_leaf};
+ghost use Rattle.btr_tour.specs.TourEnds.{IsTourReady, without_leaf};
 ghost use Rattle.btr_walk.specs.Folding.{FoldCause};
 ghost use Rattle.btr_walk.specs.Reading.{TellsOf};
 ghost use Rattle.btr_tour.specs.Visits.{IsTaken, IsMet, MetNears, OnlyUnread, IsRun, Visits};
 
 use crate::visitor::Visitor;
 use crate::{Met, Tour, next};
-use btr_base::{Key, SumKind};
+use btr_base::{FIRST_KEY, LAST_KEY, SumKind};
 use btr_rack::Rack;
 use btr_read::Store;
 use btr_walk::{FoldFault, RootPlace};
-
-// The first and the last key that there are.
-const FIRST_KEY: Key = Key {
-    objectid: 0,
-    kind: 0,
-    offset: 0,
-};
-
-const LAST_KEY: Key = Key {
-    objectid: u64::MAX,
-    kind: u8::MAX,
-    offset: u64::MAX,
-};
 
 // Treats what was met. There may be more.
 fn take_met<E, V: Visitor<E>>(visitor: &mut V, met: &Met<'_>) -> Result<bool, FoldFault<E>>
@@ -45,9 +32,9 @@ fn meet_next<R: Rack, E, V: Visitor<E>>(
     store: &mut Store,
     visitor: &mut V,
 ) -> Result<bool, FoldFault<E>>
-    requires ready { IsReady (R.seen rack.old) store.old tour.old }
+    requires ready { IsTourReady (R.seen rack.old) store.old tour.old }
     requires room { 4 ≤ free_count (without_leaf store.old tour.old) }
-    ensures ready { IsReady (R.seen rack.new) store.new tour.new }
+    ensures ready { IsTourReady (R.seen rack.new) store.new tour.new }
     ensures reads { OnlyReads (R.seen rack.old) (R.seen rack.new) }
     ensures others { SameLoans (without_leaf store.old tour.old) (without_leaf store.new tour.new) }
     ensures scope { tour.new.scope ≡ tour.old.scope }
@@ -71,9 +58,9 @@ fn run<R: Rack, E, V: Visitor<E>>(
     store: &mut Store,
     visitor: &mut V,
 ) -> Result<(), FoldFault<E>>
-    requires ready { IsReady (R.seen rack.old) store.old tour.old }
+    requires ready { IsTourReady (R.seen rack.old) store.old tour.old }
     requires room { 4 ≤ free_count (without_leaf store.old tour.old) }
-    ensures ready { IsReady (R.seen rack.new) store.new tour.new }
+    ensures ready { IsTourReady (R.seen rack.new) store.new tour.new }
     ensures reads { OnlyReads (R.seen rack.old) (R.seen rack.new) }
     ensures others { SameLoans (without_leaf store.old tour.old) (without_leaf store.new tour.new) }
     ensures unread { OnlyUnread result }

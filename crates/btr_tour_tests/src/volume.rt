@@ -3,7 +3,7 @@ ghost use Rattle.std.specs.Prelude.{◌≡◌, ◌<◌, IfOk, length};
 ghost use Rattle.btr_rack.specs.Memory.{seen_of, slots_of};
 ghost use Rattle.btr_read.specs.Serves.{Serves};
 ghost use Rattle.btr_read.specs.Store.{free_count};
-ghost use Rattle.btr_tour.specs.TourEnds.{IsReady, without_leaf};
+ghost use Rattle.btr_tour.specs.TourEnds.{IsTourReady, without_leaf};
 
 use btr_base::Key;
 use btr_chunk::{Chunk, ChunkTable, Stripe};
@@ -132,9 +132,9 @@ pub(crate) fn step(
     rack: &mut MemRack,
     passed: u64,
 ) -> Result<Option<Mark>, TreeFault>
-    requires ready { IsReady (seen_of rack.old) store.old tour.old }
+    requires ready { IsTourReady (seen_of rack.old) store.old tour.old }
     requires free { free_count (without_leaf store.old tour.old) ≡ 24 }
-    ensures ready { IsReady (seen_of rack.new) store.new tour.new }
+    ensures ready { IsTourReady (seen_of rack.new) store.new tour.new }
     ensures free { free_count (without_leaf store.new tour.new) ≡ 24 }
 {
     match next(store, tour, rack) {
@@ -158,9 +158,9 @@ fn collect(
     passed: u64,
     marks: &mut Vec<Mark>,
 ) -> Result<(), AllocError>
-    requires ready { IsReady (seen_of rack.old) store.old tour.old }
+    requires ready { IsTourReady (seen_of rack.old) store.old tour.old }
     requires free { free_count (without_leaf store.old tour.old) ≡ 24 }
-    ensures ready { IsReady (seen_of rack.new) store.new tour.new }
+    ensures ready { IsTourReady (seen_of rack.new) store.new tour.new }
     ensures free { free_count (without_leaf store.new tour.new) ≡ 24 }
 {
     for _ in 0..1000 {

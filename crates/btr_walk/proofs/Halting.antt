@@ -1,8 +1,10 @@
 -- A block that could not be had ends what wanted it.
-use Rattle.std.proofs.Common.{◌≡◌, inl, inr, ℕ, zero, suc, List, [], ◌∷◌, ◌++◌, None, Ok, Err, refl, sym, subst, arith}
+use Rattle.std.proofs.Common.{◌≡◌, inl, inr, ℕ, zero, suc, List, [], ◌∷◌, ◌++◌, Some, None, Ok, Err, refl, sym, ap, ◌∙◌, subst, arith}
 use Rattle.std.specs.List.{Contains}
-use Rattle.btr_prog.specs.Prog.{Prog, Need, Wants, run, first, given, exec}
+use Rattle.btr_prog.specs.Prog.{Prog, Need, Wants, Run, run, first, given, exec}
 use Rattle.btr_prog.specs.Answers.{Fault, Unread, Names, Follows, no_part}
+use Rattle.btr_prog.proofs.Follow.{unread_here}
+use Rattle.btr_node.specs.declared.node.Node.{Node}
 use Rattle.btr_read.specs.Fate as fate
 use Rattle.btr_read.specs.Store.{Blocks}
 use Rattle.btr_read.specs.declared.want.Want.{Want}
@@ -11,7 +13,7 @@ use Rattle.btr_walk.specs.declared.fault.TreeFault.TheVariants as tree
 use Rattle.btr_walk.specs.declared.spot.Spot.{Spot}
 use Rattle.btr_walk.specs.Spot.{judged}
 use Rattle.btr_walk.specs.Le.{want_of}
-use Rattle.btr_walk.specs.Reading.{Map, UnreadBlock, Reads, halt_of}
+use Rattle.btr_walk.specs.Reading.{Map, UnreadBlock, Reads, IsUnreadOf, halt_of}
 
 pub names_last : (Is : UnreadBlock → Want → Type 0) (u : UnreadBlock) (seen : List Want) (w : Want) → Is u w → Names Is u (seen ++ (w ∷ []))
 names_last Is u [] w e = inl e
@@ -47,3 +49,28 @@ module _ {S A : Type 0} (Is : UnreadBlock → Want → Type 0) (B : Map) where
   need_halts level spot store (tree.Malformed a) k seen stops h =
       subst (λ (x : ℕ). Follows Is no_part seen (exec B (Need (want_of level spot) k)) [] (Err (Fault (fate.Malformed x)))) (sym h.0)
       (bad (want_of level spot) (fate.Malformed spot.addr) h.1.0 k seen h.1.1 (stops h.1.0 h.1.2))
+
+-- a block that was read before and now could not be read may end anything
+pub unread_halts : {S A : Type 0} (Is : UnreadBlock → Want → Type 0) (seen : List Want) (f : TreeFault) (r : Run Want fate.Fault S A)
+    → IsUnreadOf Is seen f → Follows Is no_part seen r [] (Err (halt_of f))
+unread_halts Is seen (tree.Lost a) r h = absurd h
+unread_halts Is seen (tree.Unread a slot) r h = unread_here Is no_part seen (record { addr = a; slot = slot }) r h
+unread_halts Is seen (tree.Unmapped a) r h = absurd h
+unread_halts Is seen (tree.Crosses a) r h = absurd h
+unread_halts Is seen (tree.Malformed a) r h = absurd h
+
+-- what a want came to is one block
+pub same_block : (B : Map) (w : Want) (a b : List ℕ) → B w ≡ Ok a → B w ≡ Ok b → a ≡ b
+same_block B w a b e f = let g : Ok a ≡ Ok b = sym e ∙ f in cc
+
+-- a good block that was read before is there again, or could not be read
+pub read_still : (Is : UnreadBlock → Want → Type 0) (B : Map) (seen : List Want) (level : ℕ) (spot : Spot) (store : Blocks) (f : TreeFault) (block : List ℕ)
+    (node : Node) → B (want_of level spot) ≡ Ok block → judged level spot block ≡ Some node → Contains seen (want_of level spot)
+    → Reads Is B level spot store (Err f) → IsUnreadOf Is seen f
+read_still Is B seen level spot store (tree.Lost a) block node came is read h = let g : Ok block ≡ Err (fate.Lost a) = sym came ∙ h in cc
+read_still Is B seen level spot store (tree.Unread a slot) block node came is read h = named Is (record { addr = a; slot = slot }) seen (want_of level spot) h read
+read_still Is B seen level spot store (tree.Unmapped a) block node came is read h = let g : Ok block ≡ Err (fate.Unmapped a) = sym came ∙ h in cc
+read_still Is B seen level spot store (tree.Crosses a) block node came is read h = let g : Ok block ≡ Err (fate.Crosses a) = sym came ∙ h in cc
+read_still Is B seen level spot store (tree.Malformed a) block node came is read h =
+    let same : h.1.0 ≡ block = same_block B (want_of level spot) h.1.0 block h.1.1 came in
+    let x : None ≡ Some node = sym h.1.2 ∙ ap (λ (b : List ℕ). judged level spot b) same ∙ is in cc

@@ -11,36 +11,29 @@ use Rattle.btr_read.specs.Layout.{Layout}
 use Rattle.btr_read.specs.Store.{Blocks, Lent, block_of}
 use Rattle.btr_read.specs.declared.want.Want.{Want}
 use Rattle.btr_walk.specs.declared.advancing.Advanced.{Advanced}
-use Rattle.btr_walk.specs.declared.entering.LeafAt.{LeafAt}
 use Rattle.btr_walk.specs.declared.fault.TreeFault.{TreeFault}
 use Rattle.btr_walk.specs.declared.fault.TreeFault.TheVariants as tree
 use Rattle.btr_walk.specs.declared.frame.Frame.{Frame}
 use Rattle.btr_walk.specs.declared.scan_place.ScanPlace.{ScanPlace}
 use Rattle.btr_walk.specs.declared.spot.Spot.{Spot}
-use Rattle.btr_walk.specs.Spot.{judged}
 use Rattle.btr_node.specs.declared.node.Node.TheVariants.{Leaf}
-use Rattle.btr_read.specs.Fate as fate
 use Rattle.btr_walk.specs.declared.going.Where.{Where}
 use Rattle.btr_walk.specs.Le.{tree_item, want_of}
 use Rattle.btr_walk.specs.Range.{RangeProg, emit_all}
 use Rattle.btr_walk.specs.Reading.{Map, UnreadBlock, Tells, unread_by, Reads, HasCause, halt_of}
-use Rattle.btr_walk.specs.Scans.{wants, part_items, IsHeld, IsKept, items_in, kept_items}
-use Rattle.btr_walk.specs.Entering.{LendsLeafAt}
+use Rattle.btr_walk.specs.Scans.{wants, part_items, items_in, kept_items}
 use Rattle.btr_walk.specs.Going.{place_prog, IsAlong, ComesTo, IsOn}
 use Rattle.btr_walk.specs.Leaving.{IsReached, LendsReached, NearsReached}
 use Rattle.btr_walk.specs.Ranks.{IsShaped, rank, StepNears}
-use Rattle.btr_walk.specs.Advancing.{arrived, behind_next, HasItem, IsInHand, Lends, hand_items, hand_prog, leaf_prog, IsLeafOf, IsLeafAgain, left, Meets}
-use Rattle.btr_walk.specs.Advancing.{AdvancesBy, FromPlace, FromHand, IsAdvanced}
-use Rattle.btr_prog.proofs.Follow.{follows_as, unread_here}
-use Rattle.btr_walk.proofs.Halting.{named}
+use Rattle.btr_walk.specs.Advancing.{arrived, HasItem, Lends, hand_items, hand_prog, leaf_prog, left, Meets, AdvancesBy, FromPlace, FromHand, IsAdvanced}
+use Rattle.btr_prog.proofs.Follow.{follows_as}
+use Rattle.btr_walk.proofs.Halting.{read_still, same_block, unread_halts}
 use Rattle.btr_walk.proofs.Items.{leaf_next, leaf_none}
-use Rattle.btr_walk.proofs.Leads.{leaf_back}
-
-pub hand_of : (old new : Blocks) (l : LeafAt) → LendsLeafAt old new l → IsInHand new l
-hand_of old new l t = record { live = t.live; large = t.large; good = t.good }
+use Rattle.btr_walk.specs.declared.leaf_at.LeafAt.{LeafAt}
+use Rattle.btr_walk.specs.Hand.{IsHeld, IsKept, behind_next, IsInHand, IsLeafOf, IsLeafAgain}
 
 pub hand_step : (store : Blocks) (l : LeafAt) → IsInHand store l → IsInHand store (behind_next l)
-hand_step store l h = record { live = h.live; large = h.large; good = h.good }
+hand_step store l h = record { live = h.live; large = h.large; small = h.small; good = h.good }
 
 held_step : (B : Map) (seen : List Want) (store : Blocks) (l : LeafAt) → IsHeld B seen store l → IsHeld B seen store (behind_next l)
 held_step B seen store l h = record { block = h.block; lent = h.lent; came = h.came; is = h.is; read = h.read }
@@ -165,40 +158,27 @@ module _ (lo hi : Key) (B : Map) where
         (kept_prog old ∙ ap (λ x. exec B (emit_all x (place_prog lo hi B place.rest))) (again_items seen mid l frame same held)) (h seen on.rest)
 
     pub kept_halts : (Is : UnreadBlock → Want → Type 0) (old new : Blocks) (f : TreeFault) → IsLeafAgain Is B frame new (Err f) → IsAdvanced lo hi Is B place place.rest leaf old new (record { leaf = None; met = Err f })
-    kept_halts Is old new f h seen on = h seen (kept_is seen on) (left lo hi B old leaf place)
+    kept_halts Is old new f h seen on = unread_halts Is seen f (exec B (left lo hi B old leaf place)) (h seen (kept_is seen on))
 
 -- a leaf that is read again
 module _ (Is : UnreadBlock → Want → Type 0) (B : Map) (frame : Frame) (store : Blocks) where
-  never_fault : (seen : List Want) → IsKept B seen frame → (x : fate.Fault) → B (want_of 0 frame.spot) ≡ Err x → ⊥
-  never_fault seen k x e = let g : Ok k.block ≡ Err x = sym k.came ∙ e in cc
-
-  never_bad : (seen : List Want) → IsKept B seen frame → (block : List ℕ) → B (want_of 0 frame.spot) ≡ Ok block → judged 0 frame.spot block ≡ None → ⊥
-  never_bad seen k block e bad =
-      let g : Ok block ≡ Ok k.block = sym e ∙ k.came in
-      let same : block ≡ k.block = cc in
-      let x : None ≡ Some (Leaf (items k.block)) = sym bad ∙ ap (λ (b : List ℕ). judged 0 frame.spot b) same ∙ k.is in cc
-
   pub again_halts : (f : TreeFault) → Reads Is B 0 frame.spot store (Err f) → IsLeafAgain Is B frame store (Err f)
-  again_halts (tree.Lost a) h seen k p = absurd (never_fault seen k (fate.Lost a) h)
-  again_halts (tree.Unread a slot) h seen k p = unread_here Is no_part seen (record { addr = a; slot = slot }) (exec B p) (named Is (record { addr = a; slot = slot }) seen (want_of 0 frame.spot) h k.read)
-  again_halts (tree.Unmapped a) h seen k p = absurd (never_fault seen k (fate.Unmapped a) h)
-  again_halts (tree.Crosses a) h seen k p = absurd (never_fault seen k (fate.Crosses a) h)
-  again_halts (tree.Malformed a) h seen k p = absurd (never_bad seen k h.1.0 h.1.1 h.1.2)
+  again_halts f h seen k = read_still Is B seen 0 frame.spot store f k.block (Leaf (items k.block)) k.came k.is k.read h
 
   module _ (loan : Lent) (block : List ℕ) (is : block_of store loan ≡ Some block) (came : B (want_of 0 frame.spot) ≡ Ok block) where
-    same_block : (seen : List Want) (k : IsKept B seen frame) → block ≡ k.block
-    same_block seen k = let g : Ok block ≡ Ok k.block = sym came ∙ k.came in cc
+    same : (seen : List Want) (k : IsKept B seen frame) → block ≡ k.block
+    same seen k = same_block B (want_of 0 frame.spot) block k.block came k.came
 
     pub again_short : (after : Blocks) (a : ℕ) → length (items block) < frame.end → IsLeafAgain Is B frame after (Err (tree.Malformed a))
-    again_short after a lt seen k p =
-        let l : length (items block) ≡ length (items k.block) = ap (λ (b : List ℕ). length (items b)) (same_block seen k) in
+    again_short after a lt seen k =
+        let l : length (items block) ≡ length (items k.block) = ap (λ (b : List ℕ). length (items b)) (same seen k) in
         let w = k.within in
         absurd (omega (arith, lt, l, w))
 
     pub again_held : IsLeafAgain Is B frame store (Ok (record { spot = frame.spot; next = frame.next; end = frame.end; loan = loan }))
     again_held seen k = record {
       block = k.block;
-      lent = is ∙ ap Some (same_block seen k);
+      lent = is ∙ ap Some (same seen k);
       came = k.came;
       is = k.is;
       read = k.read;
@@ -208,7 +188,7 @@ module _ (Is : UnreadBlock → Want → Type 0) (B : Map) (frame : Frame) (store
 module _ (old new : Blocks) where
   pub lends_arrived : (o : Option LeafAt) → LendsReached old new (Ok o) → Lends old new (arrived o)
   lends_arrived None same = record { others = same; hand = tt }
-  lends_arrived (Some l) t = record { others = leaf_back old new l t.0; hand = hand_step new l (hand_of old new l t.0) }
+  lends_arrived (Some l) t = record { others = t.0.others; hand = hand_step new l t.0.hand }
 
   pub items_arrived : (o : Option LeafAt) → LendsReached old new (Ok o) → IfSome o (λ l. l.next < l.end)
   items_arrived None same = tt
@@ -218,15 +198,15 @@ module _ (old new : Blocks) where
   item_arrived None same = refl
   item_arrived (Some l) t = (omega arith, omega (arith, t.1))
 
-  pub nears_arrived : (place after : Where) (o : Option LeafAt) → NearsReached place after (Ok o) → IfSome (arrived o).leaf (λ l. l.end < 2 ^ 64)
+  pub nears_arrived : (place after : Where) (o : Option LeafAt) → LendsReached old new (Ok o) → NearsReached place after (Ok o)
       → StepNears (2 ^ 64 * rank place) after (arrived o).leaf (arrived o).met
-  nears_arrived place after None n fits = tt
-  nears_arrived place after (Some l) n fits = omega (arith, n.1, fits)
+  nears_arrived place after None t n = tt
+  nears_arrived place after (Some l) t n = let small = t.0.hand.small in omega (arith, n.1, small)
 
   pub from_arrived : (lo hi : Key) (B : Map) (Is : UnreadBlock → Want → Type 0) (place after : Where) (o : Option LeafAt)
       → LendsReached old new (Ok o) → IsReached lo hi Is B place after new (Ok o) → FromPlace lo hi Is B place after new (arrived o)
   from_arrived lo hi B Is place after None same h seen on = h seen on
-  from_arrived lo hi B Is place after (Some l) t h seen on = meets_reached lo hi B Is place after new l (hand_of old new l t.0) t.1 h seen on
+  from_arrived lo hi B Is place after (Some l) t h seen on = meets_reached lo hi B Is place after new l t.0.hand t.1 h seen on
 
 pub no_fault_arrived : (o : Option LeafAt) (P : Type 0) → OnErr (arrived o).met P
 no_fault_arrived None P = tt

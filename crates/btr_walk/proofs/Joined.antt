@@ -1,5 +1,5 @@
 -- What a lookup has come to, block by block.
-use Rattle.std.proofs.Common.{◌≡◌, ℕ, ◌+◌, ◌-◌, ◌<◌, List, [], length, get_or, set, drop, Option, Some, None, IsSome, IsSomeAnd, IsTrue, Result, Ok, Err, refl}
+use Rattle.std.proofs.Common.{◌≡◌, ℕ, ◌+◌, ◌-◌, ◌<◌, List, [], length, get_or, drop, Option, Some, None, IsSome, IsSomeAnd, IsTrue, Result, Ok, Err, refl}
 use Rattle.std.proofs.Common.{sym, ap, ◌∙◌, subst}
 use Rattle.btr_base.specs.declared.key.Key.{Key}
 use Rattle.btr_node.specs.Block.{Item, items, pointers, is_leaf}
@@ -18,12 +18,14 @@ use Rattle.btr_walk.specs.declared.fault.TreeFault.{TreeFault}
 use Rattle.btr_walk.specs.declared.place.RootPlace.{RootPlace}
 use Rattle.btr_walk.specs.declared.spot.Spot.{Spot}
 use Rattle.btr_walk.specs.Spot.{judged}
-use Rattle.btr_walk.specs.Le.{tree_item, root_spot, le, want_of, le_item, le_child}
+use Rattle.btr_walk.specs.Le.{tree_item, root_spot, le, want_of, le_item, le_child, up_of}
 use Rattle.btr_walk.specs.Reading.{Map, UnreadBlock, Tells, halt_of, answer_of, Reads, IsGoodFor}
-use Rattle.btr_walk.specs.Finding.{LendsLeaf}
+use Rattle.btr_walk.specs.Finding.{LendsItemAt}
+use Rattle.btr_walk.specs.Lending.{base}
+use Rattle.btr_walk.proofs.Lending.{given_back, same_then}
 use Rattle.btr_walk.specs.Reach.{next_key, FindsAndReaches, SameUpTo}
 use Rattle.btr_walk.proofs.Fetched.{some_block}
-use Rattle.btr_walk.proofs.Reaching.{Carries, carries_down, carries_end}
+use Rattle.btr_walk.proofs.Reaching.{Carries, carries_down, carries_end, carries_none, carries_nothing}
 use Rattle.btr_walk.proofs.Ways.{IsLeafAt, IsInnerAt, leaf_at, inner_at, Way, way_ends, way_down, halts_at, leaf_ends, inner_ends}
 
 on_both : (layout : Layout) (P Q R : Map → Type 0) → ((B : Map) → P B → Q B → R B) → (sure : Sure) (h : Option (List (List ℕ)))
@@ -70,22 +72,23 @@ module _ (key : Key) (root : RootPlace) (level : ℕ) (spot : Spot) where
     came : (Is : UnreadBlock → Want → Type 0) (B : Map) → Reads Is B level spot store (Ok loan) → B (want_of level spot) ≡ Ok block
     came Is B reads = block_is store loan block (λ b. B (want_of level spot) ≡ Ok b) is reads
 
-    pub finds_none : (Is : UnreadBlock → Want → Type 0) (after : Blocks) → IsLeafAt level spot block → le_item key (items block) ≡ None → (B : Map)
-        → WayOn B → Reads Is B level spot store (Ok loan) → FindsAndReaches Is B root key after (Ok None)
-    finds_none Is after leaf none B way reads = (
+    pub finds_none : (Is : UnreadBlock → Want → Type 0) (after : Blocks) (until : Option Key) → IsLeafAt level spot block → le_item key (items block) ≡ None
+        → until ≡ next_key (items block) spot.up → (B : Map) → WayOn B → Reads Is B level spot store (Ok loan)
+        → FindsAndReaches Is B root key after (Ok (record { spotted = None; until = until }))
+    finds_none Is after until leaf none until_is B way reads = (
       (
         Ok None,
         tt,
         way_ends B key Is root.level level (root_spot root) spot (Ok None) way.0
             (leaf_ends B key Is level spot block None leaf none (came Is B reads)),
       ),
-      tt,
+      subst (SameUpTo B root key) (sym until_is) (carries_none B key root level spot block way.1 leaf none (came Is B reads)),
     )
 
     same_some : (x y : Item) → Some x ≡ Some y → x ≡ y
     same_some x y e = cc
 
-    pub finds_some : (Is : UnreadBlock → Want → Type 0) (at : ℕ) (until : Option Key) → IsLeafAt level spot block → at < length (items block) → until ≡ next_key (drop (at + 1) (items block)) spot.up → ((d : Item) → le_item key (items block) ≡ Some (get_or (items block) at d)) → (B : Map) → WayOn B → Reads Is B level spot store (Ok loan) → FindsAndReaches Is B root key store (Ok (Some (record { leaf = spot.addr; at = at; loan = loan; until = until })))
+    pub finds_some : (Is : UnreadBlock → Want → Type 0) (at : ℕ) (until : Option Key) → IsLeafAt level spot block → at < length (items block) → until ≡ next_key (drop (at + 1) (items block)) spot.up → ((d : Item) → le_item key (items block) ≡ Some (get_or (items block) at d)) → (B : Map) → WayOn B → Reads Is B level spot store (Ok loan) → FindsAndReaches Is B root key store (Ok (record { spotted = Some (record { leaf = spot.addr; at = at; loan = loan }); until = until }))
     finds_some Is at until leaf lt until_is some B way reads =
         let d : Item = record { key = key; offset = 0; size = 0; body = [] } in
         let item : Item = get_or (items block) at d in (
@@ -99,16 +102,17 @@ module _ (key : Key) (root : RootPlace) (level : ℕ) (spot : Spot) where
           subst (SameUpTo B root key) (sym until_is) (carries_end B key root level spot block at way.1 leaf lt some (came Is B reads)),
         )
 
-    pub finds_nothing : (Is : UnreadBlock → Want → Type 0) (after : Blocks) → IsInnerAt level spot block → le_child key (pointers block) spot.up
-        ≡ None → (B : Map) → WayOn B → Reads Is B level spot store (Ok loan) → FindsAndReaches Is B root key after (Ok None)
-    finds_nothing Is after inner none B way reads = (
+    pub finds_nothing : (Is : UnreadBlock → Want → Type 0) (after : Blocks) (until : Option Key) → IsInnerAt level spot block
+        → le_child key (pointers block) spot.up ≡ None → until ≡ up_of (pointers block) spot.up → (B : Map) → WayOn B
+        → Reads Is B level spot store (Ok loan) → FindsAndReaches Is B root key after (Ok (record { spotted = None; until = until }))
+    finds_nothing Is after until inner none until_is B way reads = (
       (
         Ok None,
         tt,
         way_ends B key Is root.level level (root_spot root) spot (Ok None) way.0
             (inner_ends B key Is level spot block inner none (came Is B reads)),
       ),
-      tt,
+      subst (SameUpTo B root key) (sym until_is) (carries_nothing B key root level spot block way.1 inner none (came Is B reads)),
     )
 
     pub goes_down : (Is : UnreadBlock → Want → Type 0) (child : Spot) → IsInnerAt level spot block → le_child key (pointers block) spot.up
@@ -119,12 +123,9 @@ module _ (key : Key) (root : RootPlace) (level : ℕ) (spot : Spot) where
       carries_down B key root level spot child block way.1 inner some (came Is B reads),
     )
 
-    pub lends_leaf : (old old' : Blocks) (want : Want) (at : ℕ) (until : Option Key) → SameLoans old old' → IsLentBy old' store want loan → IsLeafAt level spot block → at < length (items block) → LendsLeaf old store (record { leaf = spot.addr; at = at; loan = loan; until = until })
-    lends_leaf old old' want at until e t leaf lt = record {
-      there = subst (λ (l : List (Option (List ℕ))). loan.slot < length l) e.loans t.there;
-      free = ap (λ (l : List (Option (List ℕ))). get_or l loan.slot None) (sym e.loans) ∙ t.free;
-      layout = t.layout ∙ e.layout;
-      after = (t.after.0, t.after.1 ∙ ap (λ (l : List (Option (List ℕ))). set l loan.slot (Some t.after.0)) e.loans);
+    pub lends_leaf : (old old' : Blocks) (want : Want) (at : ℕ) → SameLoans old old' → IsLentBy old' store want loan → IsLeafAt level spot block → at < length (items block) → LendsItemAt old store loan at
+    lends_leaf old old' want at e t leaf lt = record {
+      others = same_then e (given_back old' store (base store (Some loan)) want loan t refl);
       large = t.large;
       live = t.live;
       good = some_block store loan block (λ b. IsTrue (is_leaf b) × (at < length (items b))) is (leaf.good, lt);

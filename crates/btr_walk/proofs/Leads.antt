@@ -1,39 +1,27 @@
 -- How far a scan has come on its way to the next leaf.
-use Rattle.std.proofs.Common.{◌≡◌, ℕ, ◌<◌, ◌≤◌, List, [], ◌∷◌, ◌++◌, Option, Some, None, IsSomeAnd, Result, Ok, Err, refl, sym, ap, ◌∙◌, subst, append-nil}
+use Rattle.std.proofs.Common.{◌≡◌, ℕ, ◌<◌, ◌≤◌, List, [], ◌++◌, Option, Some, None, IsSomeAnd, Result, Ok, Err, sym, ap, ◌∙◌, subst, append-nil}
 use Rattle.std.proofs.Common.{append_assoc}
 use Rattle.btr_base.specs.declared.key.Key.{Key}
-use Rattle.btr_prog.specs.Prog.{Wants, run, prepend, exec, steps_of, wants_of}
+use Rattle.btr_prog.specs.Prog.{run, prepend, exec, steps_of}
 use Rattle.btr_prog.specs.Answers.{Halt, Follows, no_part}
 use Rattle.btr_prog.proofs.Follow.{follows_as, follows_behind}
 use Rattle.btr_read.specs.Fate as fate
-use Rattle.btr_read.specs.Store.{Blocks, SameLoans, block_of, with_loan}
-use Rattle.btr_walk.specs.Entering.{LendsLeafAt}
+use Rattle.btr_read.specs.Store.{Blocks, SameLoans, block_of}
 use Rattle.btr_walk.specs.Ranks.{IsShaped, Nears, rank}
 use Rattle.btr_read.specs.declared.want.Want.{Want}
-use Rattle.btr_walk.specs.declared.entering.LeafAt.{LeafAt}
 use Rattle.btr_walk.specs.declared.fault.TreeFault.{TreeFault}
 use Rattle.btr_walk.specs.declared.going.Gone.TheVariants as gone
 use Rattle.btr_walk.specs.declared.going.Where.{Where}
 use Rattle.btr_walk.specs.Le.{TreeItem}
 use Rattle.btr_walk.specs.Range.{RangeProg, emit_all}
 use Rattle.btr_walk.specs.Reading.{Map, UnreadBlock, halt_of}
-use Rattle.btr_walk.specs.Scans.{wants, part_items, IsHeld}
+use Rattle.btr_walk.specs.Scans.{wants, part_items}
 use Rattle.btr_walk.specs.Going.{place_prog, IsAlong, Comes, ComesTo, IsGone, LendsGone}
 use Rattle.btr_walk.specs.Leaving.{IsReached}
 use Rattle.btr_walk.proofs.Items.{part_none}
-use Rattle.btr_walk.proofs.Lending.{freed}
-
-wants_back : (ws : List Want) → wants_of (wants ws) ≡ ws
-wants_back [] = refl
-wants_back (w ∷ ws) = ap (λ x. w ∷ x) (wants_back ws)
-
-steps_back : (ws : List Want) → steps_of (wants ws) ≡ []
-steps_back [] = refl
-steps_back (w ∷ ws) = steps_back ws
-
-pub wants-append : (xs ys : List Want) → wants (xs ++ ys) ≡ wants xs ++ wants ys
-wants-append [] ys = refl
-wants-append (w ∷ xs) ys = ap (λ x. Wants w ∷ x) (wants-append xs ys)
+use Rattle.btr_walk.proofs.Marks.{marks-append, steps_back, wants_back}
+use Rattle.btr_walk.specs.declared.leaf_at.LeafAt.{LeafAt}
+use Rattle.btr_walk.specs.Hand.{IsHeld, LendsHand}
 
 module _ (lo hi : Key) (B : Map) where
   -- from whatever was seen before
@@ -47,7 +35,7 @@ module _ (lo hi : Key) (B : Map) where
     past = x.past ++ y.past;
     is = x.is ∙ ap (prepend (wants x.past)) y.is
         ∙ ap (λ ms. run ms (exec B c).ending) (sym (append_assoc (wants x.past) (wants y.past) (exec B c).marks)
-        ∙ ap (λ ms. ms ++ (exec B c).marks) (sym (wants-append x.past y.past)));
+        ∙ ap (λ ms. ms ++ (exec B c).marks) (sym (marks-append x.past y.past)));
     on = subst (λ (z : List Want). IsAlong lo hi B z after) (append_assoc seen x.past y.past) y.on;
   }
 
@@ -102,7 +90,7 @@ module _ (lo hi : Key) (B : Map) where
       (subst (λ (done : List TreeItem). Follows Is no_part seen (prepend (wants x.past) (exec B b)) done ans)
       (append-nil (steps_of (wants x.past)) ∙ steps_back x.past)
       (follows_behind Is no_part seen (wants x.past) (exec B b) [] ans
-      (subst (λ (ws : List Want). Follows Is no_part (seen ++ ws) (exec B b) [] ans) (sym (wants_back x.past)) h)))
+      (subst (λ (ws : List Want). Follows Is no_part (seen ++ ws) (exec B b) [] ans) (sym (wants_back TreeItem x.past)) h)))
 
   pub leads_end : (Is : UnreadBlock → Want → Type 0) (from at after : Where) (store store' : Blocks) → Leads from at
       → IsGone lo hi Is B at after store (Ok gone.End) → IsReached lo hi Is B from after store' (Ok None)
@@ -112,7 +100,7 @@ module _ (lo hi : Key) (B : Map) where
       → IsGone lo hi Is B at after store (Err f) → IsReached lo hi Is B from after store' (Err f)
   leads_err Is from at after store store' f lead g seen on = let x = lead seen on in follows_from Is seen from at (Err (halt_of f)) x (g (seen ++ x.past) x.on)
 
-pub gone_lent : (old new : Blocks) (x : _) (l : LeafAt) → x ≡ gone.Leaf l → LendsGone old new (Ok x) → LendsLeafAt old new l
+pub gone_lent : (old new : Blocks) (x : _) (l : LeafAt) → x ≡ gone.Leaf l → LendsGone old new (Ok x) → LendsHand old new l
 gone_lent old new x l e h = subst (λ y. LendsGone old new (Ok y)) e h
 
 pub gone_same : (old new : Blocks) (x : _) → x ≡ gone.Between → LendsGone old new (Ok x) → SameLoans old new
@@ -127,9 +115,6 @@ gone_near_between place after x e h = subst (λ y. Nears place after (Ok y)) e h
 pub gone_at_end : (place after : Where) (x : _) → x ≡ gone.End → Nears place after (Ok x) → after ≡ place
 gone_at_end place after x e h = subst (λ y. Nears place after (Ok y)) e h
 
-pub leaf_back : (old new : Blocks) (l : LeafAt) → LendsLeafAt old new l → SameLoans old (with_loan new l.loan.slot None)
-leaf_back old new l t = freed old new l.loan.slot t.after.0 t.layout t.after.1 t.free
-
 -- less may be said of a block that could not be read
 pub gone_as : (lo hi : Key) (B : Map) (Is Less : UnreadBlock → Want → Type 0) (place after : Where) (store : Blocks) (result : Result _ TreeFault)
     → ((u : UnreadBlock) (w : Want) → Is u w → Less u w) → IsGone lo hi Is B place after store result → IsGone lo hi Less B place after store result
@@ -138,6 +123,3 @@ gone_as lo hi B Is Less place after store (Ok gone.Between) weaker g = g
 gone_as lo hi B Is Less place after store (Ok gone.End) weaker g = g
 gone_as lo hi B Is Less place after store (Err f) weaker g = λ seen on. follows_as Is Less weaker no_part seen (exec B (place_prog lo hi B place)) []
     (Err (halt_of f)) (g seen on)
-
-pub leaf_given : (old new after : Blocks) (l : LeafAt) → LendsLeafAt old new l → after ≡ with_loan new l.loan.slot None → SameLoans old after
-leaf_given old new after l t given = let f = leaf_back old new l t in record { layout = ap (λ (s : Blocks). s.layout) given ∙ f.layout; loans = ap (λ (s : Blocks). s.loans) given ∙ f.loans }

@@ -3,7 +3,9 @@ pub mod Fetched
 pub mod Les
 pub mod Ways
 pub mod Lending
+pub mod Frames
 pub mod Reaching
+pub mod AtOrBelow
 pub mod Joined
 pub mod Shown
 pub mod Choosing
@@ -12,6 +14,7 @@ pub mod Entered
 pub mod Repeated
 pub mod Staying
 pub mod Paths
+pub mod Marks
 pub mod Items
 pub mod Ranking
 pub mod Leads

@@ -1,6 +1,7 @@
 -- A step of a scan.
 use Rattle.std.proofs.Common.{◌≡◌, ℕ, ◌+◌, ◌-◌, ◌*◌, ◌^◌, ◌<◌, ◌≤◌, true, false, List, [], ◌++◌, length, get_or, Option, Some, None, IfSome, IsSomeAnd, IsTrue}
 use Rattle.std.proofs.Common.{Bool, Result, Ok, Err, OnErr, refl, sym, ap, ◌∙◌, subst, arith}
+use Rattle.std.specs.Option.{option_map}
 use Rattle.btr_node.specs.Block.{Item, items, is_leaf}
 use Rattle.btr_prog.specs.Prog.{Does, first, prepend, exec}
 use Rattle.btr_prog.specs.Answers.{Follows, no_part}
@@ -10,7 +11,6 @@ use Rattle.btr_read.specs.Layout.{Layout}
 use Rattle.btr_read.specs.Store.{Blocks, SameLoans, block_of}
 use Rattle.btr_read.specs.declared.want.Want.{Want}
 use Rattle.btr_walk.specs.declared.advancing.Advanced.{Advanced}
-use Rattle.btr_walk.specs.declared.entering.LeafAt.{LeafAt}
 use Rattle.btr_walk.specs.declared.fault.TreeFault.{TreeFault}
 use Rattle.btr_walk.specs.declared.found.Found.{Found}
 use Rattle.btr_walk.specs.declared.frame.Frame.{Frame}
@@ -19,16 +19,17 @@ use Rattle.btr_walk.specs.declared.scan.Scan.{Scan}
 use Rattle.btr_walk.specs.declared.scan_place.ScanPlace.{ScanPlace}
 use Rattle.btr_walk.specs.Le.{TreeItem, tree_item}
 use Rattle.btr_walk.specs.Range.{RangeProg, emit_all}
-use Rattle.btr_walk.specs.Reading.{UnreadBlock, Tells, unread_by, FaultCause, HasCause, halt_of}
-use Rattle.btr_walk.specs.Reading.{Map}
-use Rattle.btr_walk.specs.Scans.{wants, frame_of, IsHeld, IsKept, items_in, kept_items}
+use Rattle.btr_walk.specs.Reading.{UnreadBlock, Tells, unread_by, FaultCause, HasCause, halt_of, Map}
+use Rattle.btr_walk.specs.Scans.{wants, items_in, kept_items}
 use Rattle.btr_walk.specs.Showing.{item_of}
 use Rattle.btr_walk.specs.Lending.{base}
-use Rattle.btr_walk.specs.Advancing.{IsInHand, loan_of, hand_items, hand_prog, leaf_prog, left, HasItem, Meets, AdvancesBy, IsAdvanced}
+use Rattle.btr_walk.specs.Advancing.{hand_items, hand_prog, leaf_prog, left, HasItem, Meets, AdvancesBy, IsAdvanced}
 use Rattle.btr_walk.specs.Ranks.{IsShaped, rank, rank_leaf, rank_on, StepNears}
 use Rattle.btr_walk.specs.Going.{place_prog}
-use Rattle.btr_walk.specs.ScanEnds.{left_of, HoldsLeaf, WasMet, Gives, IsNextOn, IsReady, Scanned, Paused, rank_of}
+use Rattle.btr_walk.specs.ScanEnds.{left_of, HoldsLeaf, WasMet, Gives, IsNextOn, IsScanReady, Scanned, Paused, rank_of}
 use Rattle.btr_walk.proofs.Joined.{drawn, block_is}
+use Rattle.btr_walk.specs.declared.leaf_at.LeafAt.{LeafAt}
+use Rattle.btr_walk.specs.Hand.{frame_of, IsHeld, IsKept, IsInHand, loan_of}
 
 abbrev pub scan_at : Scan → ScanPlace → Option LeafAt → Scan
 scan_at scan place leaf = record { lo = scan.lo; hi = scan.hi; place = place; leaf = leaf }
@@ -188,7 +189,7 @@ module _ (store after : Blocks) (scan : Scan) (leaf' : Option LeafAt) (l : LeafA
   kept_same : (B : Map) (seen : List Want) (rest : RangeProg) → IsHeld B seen store l → emit_all (kept_items B kept) rest ≡ hand_prog store l rest
   kept_same B seen rest h = ap (λ x. emit_all (items_in x l.spot.addr l.next l.end) rest) h.came ∙ ap (λ x. emit_all (hand_items x l) rest) (sym h.lent)
 
-  pub paused_leaf : Paused store after scan (scan_at scan (record { leaf = Some kept; rest = scan.place.rest }) leaf')
+  paused_leaf : Paused store after scan (scan_at scan (record { leaf = Some kept; rest = scan.place.rest }) leaf')
   paused_leaf = record {
     lo = refl;
     hi = refl;
@@ -204,9 +205,43 @@ module _ (store after : Blocks) (scan : Scan) (leaf' : Option LeafAt) (l : LeafA
     on = λ B seen h on. record { rest = on.rest; kept = kept_as B seen h };
   }
 
+-- the leaf that a frame is left of
+leaf_was : (leaf : Option LeafAt) (frame : Frame) → option_map frame_of leaf ≡ Some frame → (l : LeafAt) × (leaf ≡ Some l) × (frame_of l ≡ frame)
+leaf_was None frame e = cc
+leaf_was (Some l) frame e = (l, refl, cc)
+
+none_was : (leaf : Option LeafAt) → option_map frame_of leaf ≡ None → leaf ≡ None
+none_was None e = refl
+none_was (Some l) e = cc
+
+module _ (store after : Blocks) (scan : Scan) (leaf' : Option LeafAt) (none : leaf' ≡ None) where
+  pub paused_some : (frame : Frame) → option_map frame_of scan.leaf ≡ Some frame → IfSome scan.leaf (IsInHand store) → Paused store after scan (scan_at scan (record { leaf = Some frame; rest = scan.place.rest }) leaf')
+  paused_some frame e hand =
+      let w = leaf_was scan.leaf frame e in
+      subst (λ (f : Frame). Paused store after scan (scan_at scan (record { leaf = Some f; rest = scan.place.rest }) leaf')) w.2 (paused_leaf store after scan leaf' w.0 w.1 hand none)
+
+  pub paused_none : option_map frame_of scan.leaf ≡ None → Paused store after scan (scan_at scan scan.place leaf')
+  paused_none e =
+      let free = none_was scan.leaf e in
+      let same : leaf' ≡ scan.leaf = none ∙ sym free in
+      record {
+        lo = refl;
+        hi = refl;
+        leaf = none;
+        kept = subst (λ x. IfSome x (λ y. scan.place.leaf ≡ Some (frame_of y))) (sym free) tt;
+        rest = refl;
+        rank = ap (rank_on scan.place) same;
+        program = λ B seen h. left_free B scan.place.leaf (place_prog scan.lo scan.hi B scan.place.rest) free;
+        on = λ B seen h on. on;
+      }
+    where
+      left_free : (B : Map) (kept : Option Frame) (rest : RangeProg) → scan.leaf ≡ None → leaf_prog B after leaf' kept rest ≡ leaf_prog B store scan.leaf kept rest
+      left_free B None rest free = ap (λ x. leaf_prog B after x None rest) none ∙ ap (λ x. leaf_prog B store x None rest) (sym free)
+      left_free B (Some f) rest free = ap (λ x. leaf_prog B after x (Some f) rest) none ∙ ap (λ x. leaf_prog B store x (Some f) rest) (sym free)
+
 -- what a rack and a store need to go on with a scan that is paused
 pub ready_paused : (now : Seen) (store after : Blocks) (scan : Scan) (leaf' : Option LeafAt) (place : ScanPlace) → leaf' ≡ None → place.rest
-    ≡ scan.place.rest → (Serves now store → Serves now after) → IsReady now store scan → IsReady now after (scan_at scan place leaf')
+    ≡ scan.place.rest → (Serves now store → Serves now after) → IsScanReady now store scan → IsScanReady now after (scan_at scan place leaf')
 ready_paused now store after scan leaf' place none same serves r = record {
   serves = serves r.serves;
   hand = subst (λ l. IfSome l (IsInHand after)) (sym none) tt;

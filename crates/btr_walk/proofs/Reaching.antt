@@ -20,8 +20,8 @@ use Rattle.btr_walk.specs.Le.{tree_item, below, up_of, or_here, le_item, le_chil
 use Rattle.btr_walk.specs.Reach.{next_key, SameUpTo}
 use Rattle.btr_walk.specs.Reading.{Map}
 use Rattle.btr_walk.specs.Spot.{begins, is_below, fits, fitting, keys_of, judged}
-use Rattle.btr_walk.proofs.Les.{none_child, some_le}
-use Rattle.btr_walk.proofs.Ways.{IsLeafAt, IsInnerAt, at, at_leaf, down_at}
+use Rattle.btr_walk.proofs.Les.{none_child, none_item, some_le}
+use Rattle.btr_walk.proofs.Ways.{IsLeafAt, IsInnerAt, at, at_leaf, down_at, nothing_at}
 
 -- ---- lists of entries whose keys ascend
 
@@ -109,6 +109,13 @@ module _ (key other : Key) (le : key_number key ≤ key_number other) where
           let one : later ≡ child = cc same in
           ap (λ o. or_here o (key_le p.key other) (below p (up_of ps up))) (rest (is ∙ ap Some one))
 
+  -- a key below the first pointer's, or below the bound, is below the node's bound
+  pointers_below : (ps : List KeyPointer) (up : Option Key) → list_all (is_below up) (map pointer_key ps) ≡ true → is_below (up_of ps up) other ≡ true
+      → is_below up other ≡ true
+  pointers_below [] up all less = less
+  pointers_below (p ∷ ps) up all less =
+      below_less up other p.key less (and_parts (is_below up p.key) (list_all (is_below up) (map pointer_key ps)) all).0
+
   -- a key below the child's bound is below the node's
   child_below : (ps : List KeyPointer) (up : Option Key) (child : Spot) → list_all (is_below up) (map pointer_key ps) ≡ true → le_child key ps up
       ≡ Some child → is_below child.up other ≡ true → is_below up other ≡ true
@@ -118,12 +125,8 @@ module _ (key other : Key) (le : key_number key ≤ key_number other) where
       rest : list_all (is_below up) (map pointer_key ps) ≡ true
       rest = (and_parts (is_below up p.key) (list_all (is_below up) (map pointer_key ps)) all).1
 
-      bound : (qs : List KeyPointer) → list_all (is_below up) (map pointer_key qs) ≡ true → is_below (up_of qs up) other ≡ true → is_below up other ≡ true
-      bound [] none h = h
-      bound (q ∷ qs) here h = below_less up other q.key h (and_parts (is_below up q.key) (list_all (is_below up) (map pointer_key qs)) here).0
-
       here : (b : Bool) → or_here None b (below p (up_of ps up)) ≡ Some child → is_below up other ≡ true
-      here true same = let one : below p (up_of ps up) ≡ child = cc same in bound ps rest (ap (λ (s : Spot). is_below s.up other) one ∙ less)
+      here true same = let one : below p (up_of ps up) ≡ child = cc same in pointers_below ps up rest (ap (λ (s : Spot). is_below s.up other) one ∙ less)
       here false same = absurd (cc same)
 
       of : (o : Option Spot) → le_child key ps up ≡ o → or_here o (key_le p.key key) (below p (up_of ps up)) ≡ Some child → (le_child key ps up ≡ Some child → is_below up other ≡ true) → is_below up other ≡ true
@@ -131,7 +134,7 @@ module _ (key other : Key) (le : key_number key ≤ key_number other) where
       of (Some later) is same further = let one : later ≡ child = cc same in further (is ∙ ap Some one)
 
   -- the item that is found is at or below the key
-  found_le : (xs : List Item) (x : Item) → le_item key xs ≡ Some x → key_number x.key ≤ key_number key
+  pub found_le : (xs : List Item) (x : Item) → le_item key xs ≡ Some x → key_number x.key ≤ key_number key
   found_le [] x e = absurd (cc e)
   found_le (y ∷ ys) x e = of (le_item key ys) refl e (found_le ys x)
     where
@@ -202,3 +205,20 @@ module _ (B : Map) (key : Key) (root : RootPlace) where
       let too = same_item key other le (items block) i spot.up lt (ascends-items block leaf.good) some less d in
       carries other le (leaf_below key other le (drop (i + 1) (items block)) spot.up (below_from (λ (x : Item). x.key) spot.up (i + 1) (items block) all) less)
       (leaf_same level spot block other leaf (too ∙ sym (some d)) came)
+
+  -- where no item is at or below the key, none is at or below a greater one, up to the first item
+  pub carries_none : (level : ℕ) (spot : Spot) (block : List ℕ) → Carries level spot → IsLeafAt level spot block → le_item key (items block) ≡ None
+      → B (want_of level spot) ≡ Ok block → SameUpTo B root key (next_key (items block) spot.up)
+  carries_none level spot block carries leaf none came other le less =
+      let all = all_below_up level spot block (Leaf (items block)) leaf.is in
+      let too = none_item other (items block) (behind_all key other le (items block) spot.up (ascends-items block leaf.good) less) in
+      carries other le (leaf_below key other le (items block) spot.up all less) (leaf_same level spot block other leaf (too ∙ sym none) came)
+
+  -- the same where no child is, up to the first child
+  pub carries_nothing : (level : ℕ) (spot : Spot) (block : List ℕ) → Carries level spot → IsInnerAt level spot block
+      → le_child key (pointers block) spot.up ≡ None → B (want_of level spot) ≡ Ok block → SameUpTo B root key (up_of (pointers block) spot.up)
+  carries_nothing level spot block carries inner none came other le less =
+      let all = all_below_up level spot block (Inner (pointers block)) inner.is in
+      let too = none_behind key other le (pointers block) spot.up (ascends-pointers block inner.good) less in
+      carries other le (pointers_below key other le (pointers block) spot.up all less)
+      (nothing_at B other level spot block inner too came ∙ sym (nothing_at B key level spot block inner none came))

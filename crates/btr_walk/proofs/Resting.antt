@@ -1,34 +1,30 @@
 -- A scan whose leaf was given back, by where it goes on.
-use Rattle.std.proofs.Common.{◌≡◌, ℕ, zero, suc, ◌-◌, ◌<◌, ◌≤◌, List, [], ◌∷◌, ◌++◌, length, map, get_or, Option, Some, None, IfSome, IsSomeAnd, IsTrue, Ok}
-use Rattle.std.proofs.Common.{Err, refl, sym, ap, ◌∙◌, subst, append-nil, arith}
+use Rattle.std.proofs.Common.{◌≡◌, ℕ, zero, suc, ◌-◌, ◌<◌, ◌≤◌, List, [], ◌∷◌, length, map, get_or, Option, Some, None, IfSome, IsSomeAnd, IsTrue, Ok}
+use Rattle.std.proofs.Common.{Err, refl, sym, ap, ◌∙◌, subst, arith}
 use Rattle.std.specs.Prelude.{slice_get}
 use Rattle.btr_node.specs.Block.{Item, items, is_leaf}
-use Rattle.btr_prog.specs.Prog.{Return, exec, wants_of}
-use Rattle.btr_prog.specs.Answers.{Names, Follows, no_part}
 use Rattle.btr_read.specs.Layout.{Layout}
 use Rattle.btr_base.specs.declared.key.Key.{Key}
 use Rattle.btr_rack.specs.Rack.{Seen}
 use Rattle.btr_read.specs.Store.{Blocks, block_of}
 use Rattle.btr_read.specs.declared.want.Want.{Want}
-use Rattle.btr_walk.specs.declared.entering.LeafAt.{LeafAt}
 use Rattle.btr_walk.specs.declared.fault.TreeFault.{TreeFault}
-use Rattle.btr_walk.specs.declared.fault.TreeFault.TheVariants.{Lost, Unread, Unmapped, Crosses, Malformed}
 use Rattle.btr_walk.specs.declared.frame.Frame.{Frame}
 use Rattle.btr_walk.specs.declared.rest.Rest.{Rest}
 use Rattle.btr_walk.specs.declared.spot.Spot.{Spot}
 use Rattle.btr_walk.specs.declared.scan.Scan.{Scan}
-use Rattle.btr_walk.specs.Advancing.{leaf_prog, IsLeafOf, IsLeafAgain}
-use Rattle.btr_walk.specs.Entering.{LendsLeafAt}
+use Rattle.btr_walk.specs.Advancing.{leaf_prog}
+use Rattle.btr_walk.specs.Finding.{LendsItemAt}
 use Rattle.btr_walk.specs.Le.{TreeItem, tree_item, want_of}
 use Rattle.btr_walk.specs.Going.{place_prog, IsOn}
 use Rattle.btr_walk.specs.Range.{RangeProg}
 use Rattle.btr_walk.specs.Ranks.{rank_on}
-use Rattle.btr_walk.specs.Reading.{Map, UnreadBlock, Tells, unread_by, halt_of}
-use Rattle.btr_walk.specs.Rests.{kept_prog, Rests, items_of_leaf, item_before, IsLentAgain, IsUnreadOf, IsMetAgain}
-use Rattle.btr_walk.specs.Scans.{frame_of, IsHeld, IsKept}
-use Rattle.btr_walk.specs.ScanEnds.{WasMet, IsReady, Paused}
+use Rattle.btr_walk.specs.Reading.{Map, UnreadBlock, Tells, unread_by}
+use Rattle.btr_walk.specs.Rests.{kept_prog, Rests, items_of_leaf, item_before, IsMetAgain}
+use Rattle.btr_walk.specs.ScanEnds.{WasMet, IsScanReady, Paused}
 use Rattle.btr_walk.proofs.Joined.{block_is, drawn}
-use Rattle.btr_walk.proofs.Leads.{leaf_back}
+use Rattle.btr_walk.specs.declared.leaf_at.LeafAt.{LeafAt}
+use Rattle.btr_walk.specs.Hand.{IsLeafOf, IsLeafAgain, frame_of, IsHeld, IsKept, LendsHand}
 
 kept_none : (B : Map) (store : Blocks) (kept : Option Frame) (p : RangeProg) → kept_prog B kept p ≡ leaf_prog B store None kept p
 kept_none B store None p = refl
@@ -71,7 +67,7 @@ met_kept B seen store item (Some l) kept h held i m =
     ∙ item_at l.spot.addr (items held.block) (l.next - 1) item d (omega (arith, here.0, i.0)) (here.1 d)
 
 pub rests_is : (old new : Blocks) (scan paused : Scan) → Paused old new scan paused
-    → ((rack : Seen) → IsReady rack old scan → IsReady rack new paused) → Rests old scan (rest_of paused)
+    → ((rack : Seen) → IsScanReady rack old scan → IsScanReady rack new paused) → Rests old scan (rest_of paused)
 rests_is old new scan paused p ready = record {
   lo = p.lo;
   hi = p.hi;
@@ -86,12 +82,12 @@ rests_is old new scan paused p ready = record {
 }
 
 -- the leaf of the item that was met last is lent again
-pub again_lent : (old new : Blocks) (frame : Frame) (l : LeafAt) → (0 < frame.next) × (frame.next ≤ frame.end) → IsLeafOf frame l → LendsLeafAt old new l → IsLentAgain old new (record { loan = l.loan; at = l.next - 1 })
+pub again_lent : (old new : Blocks) (frame : Frame) (l : LeafAt) → (0 < frame.next) × (frame.next ≤ frame.end) → IsLeafOf frame l → LendsHand old new l → LendsItemAt old new l.loan (l.next - 1)
 again_lent old new frame l some same t = record {
-  others = leaf_back old new l t;
-  live = t.live;
-  large = t.large;
-  good = good (block_of new l.loan) t.good;
+  others = t.others;
+  live = t.hand.live;
+  large = t.hand.large;
+  good = good (block_of new l.loan) t.hand.good;
 }
   where
     within : (n : ℕ) → l.end ≤ n → l.next - 1 < n
@@ -115,26 +111,9 @@ module _ (B : Map) (rest : Rest) (frame : Frame) (is : rest.place.leaf ≡ Some 
       let g = item_is frame.spot.addr (items held.block) (frame.next - 1) item d f in
       ap (λ k. (get_or (items held.block) (k - 1) d).body) same.1 ∙ ap (λ (i : TreeItem). i.body) g)
 
-  abbrev done : RangeProg
-  done = Return tt
-
-  none_before : {X : Type 0} (xs ys : List X) → [] ≡ xs ++ ys → xs ≡ []
-  none_before [] ys e = refl
-  none_before (x ∷ xs) ys e = cc
-
-  unread_of : (Is : UnreadBlock → Want → Type 0) (seen : List Want) (f : TreeFault) → Follows Is no_part seen (exec B done) [] (Err (halt_of f))
-      → IsUnreadOf Is seen f
-  unread_of Is seen (Lost a) h = cc
-  unread_of Is seen (Unread a slot) h =
-      subst (Names Is (record { addr = a; slot = slot })) (append-nil seen)
-      (subst (λ ms. Names Is (record { addr = a; slot = slot }) (seen ++ wants_of ms)) (none_before h.before h.behind h.place) h.holds)
-  unread_of Is seen (Unmapped a) h = cc
-  unread_of Is seen (Crosses a) h = cc
-  unread_of Is seen (Malformed a) h = cc
-
   pub again_unread : (Is : UnreadBlock → Want → Type 0) (store : Blocks) (f : TreeFault) → IsLeafAgain Is B frame store (Err f)
       → IsMetAgain Is B rest store (Err f)
-  again_unread Is store f again seen on = unread_of Is seen f (again seen (subst (λ k. IfSome k (IsKept B seen)) is on.kept) done)
+  again_unread Is store f again seen on = again seen (subst (λ k. IfSome k (IsKept B seen)) is on.kept)
 
 module _ (layout : Layout) (before now : Seen) (store : Blocks) (rest : Rest) (frame : Frame) (is : rest.place.leaf ≡ Some frame) where
   pub tells_met : (l : LeafAt) → IsLeafOf frame l → Tells layout before now (λ B. IsLeafAgain (unread_by layout before now) B frame store (Ok l)) → Tells layout before now (λ B. IsMetAgain (unread_by layout before now) B rest store (Ok (record { loan = l.loan; at = l.next - 1 })))

@@ -15,11 +15,10 @@ use Rattle.btr_walk.specs.declared.finding.Spotted.{Spotted}
 use Rattle.btr_walk.specs.declared.found.Found.{Found}
 use Rattle.btr_walk.specs.Le.{TreeItem, tree_item, le}
 use Rattle.btr_walk.specs.Reading.{Map, UnreadBlock, Tells, answer_of}
-use Rattle.btr_walk.specs.Finding.{Shows, Finds, LendsLeaf, LendsItem}
+use Rattle.btr_walk.specs.Finding.{Shows, Finds, LendsItem, LendsItemAt}
 use Rattle.btr_walk.specs.Showing.{item_of, FindsItem}
 use Rattle.btr_walk.specs.Lending.{IsLentOnly}
 use Rattle.btr_walk.proofs.Joined.{drawn, block_is}
-use Rattle.btr_walk.proofs.Lending.{freed}
 
 module _ (Is : UnreadBlock → Want → Type 0) (root : RootPlace) (key : Key) (store : Blocks) (spotted : Spotted) (found : Found) (block : List ℕ) (is : block_of store spotted.loan ≡ Some block) (at : (d : Item) → tree_item spotted.leaf (get_or (items block) spotted.at d) ≡ item_of found) where
   shown_as : (B : Map) (shown : Result (Option TreeItem) TreeFault) → Shows store (Ok (Some spotted)) shown
@@ -41,10 +40,10 @@ module _ (Is : UnreadBlock → Want → Type 0) (root : RootPlace) (key : Key) (
       drawn layout (λ B. Finds Is B root key store (Ok (Some spotted))) (λ B. FindsItem Is B root key (Ok (Some found))) shown_is
       (subst (λ x. Tells layout a b (λ B. Finds Is B root key store (Ok x))) e h)
 
-pub lent_only : (rack : Seen) (old new : Blocks) (spotted : Spotted) (o : Option Lent) → Serves rack new → LendsLeaf old new spotted → o
+pub lent_only : (rack : Seen) (old new : Blocks) (spotted : Spotted) (o : Option Lent) → Serves rack new → LendsItemAt old new spotted.loan spotted.at → o
     ≡ Some spotted.loan → IsLentOnly rack old new o
 lent_only rack old new spotted o serves t e = subst (IsLentOnly rack old new) (sym e) (record {
-  same = freed old new spotted.loan.slot t.after.0 t.layout t.after.1 t.free;
+  same = t.others;
   live = t.live;
   serves = serves;
 })
@@ -52,5 +51,5 @@ lent_only rack old new spotted o serves t e = subst (IsLentOnly rack old new) (s
 pub same_lent : (a b : Lent) (o : Option Lent) → o ≡ Some a → o ≡ Some b → a ≡ b
 same_lent a b o e f = let g : Some a ≡ Some b = sym e ∙ f in cc
 
-pub lends_is : (old new : Blocks) (o : Option Spotted) (spotted : Spotted) → o ≡ Some spotted → LendsItem old new (Ok o) → LendsLeaf old new spotted
+pub lends_is : (old new : Blocks) (o : Option Spotted) (spotted : Spotted) → o ≡ Some spotted → LendsItem old new (Ok o) → LendsItemAt old new spotted.loan spotted.at
 lends_is old new o spotted e h = subst (λ x. LendsItem old new (Ok x)) e h

@@ -1,10 +1,9 @@
 -- What stays of a scan while other blocks are read.
-use Rattle.std.proofs.Common.{◌≡◌, ◌≤◌, ◌+◌, ℕ, List, [], ◌∷◌, ◌++◌, Option, Some, None, get_or, set, take, count_by, is_none, length, refl, sym, ap, subst}
+use Rattle.std.proofs.Common.{◌≡◌, ◌≤◌, ◌+◌, ℕ, List, ◌++◌, Option, Some, None, get_or, set, take, count_by, is_none, length, refl, sym, ap, subst}
 use Rattle.std.proofs.Common.{arith}
 use Rattle.std.specs.Option.{IfSome, IsSome, IsSomeAnd, option_map}
 use Rattle.std.specs.Bool.{IsTrue}
-use Rattle.std.specs.List.{Contains}
-use Rattle.std.proofs.lemmas.List.Elements.{Contains-append_left, Contains-append_right}
+use Rattle.std.proofs.lemmas.List.Elements.{Contains-append_left}
 use Rattle.btr_base.specs.declared.key.Key.{Key}
 use Rattle.btr_node.specs.Block.{is_leaf, items}
 use Rattle.btr_rack.specs.Rack.{Seen}
@@ -13,41 +12,33 @@ use Rattle.btr_read.specs.Serves.{Serves}
 use Rattle.btr_read.specs.Store.{Blocks, Lent, SameLoans, free_count}
 use Rattle.btr_read.specs.declared.want.Want.{Want}
 use Rattle.btr_read.proofs.Lent.{one_more_free}
-use Rattle.btr_walk.specs.Advancing.{IsInHand, hand_items, leaf_prog, loan_of}
+use Rattle.btr_walk.proofs.Frames.{node_more}
+use Rattle.btr_walk.specs.Advancing.{hand_items, leaf_prog}
 use Rattle.btr_walk.specs.Going.{IsOn}
 use Rattle.btr_walk.specs.Lending.{base}
 use Rattle.btr_walk.specs.Range.{RangeProg, emit_all}
 use Rattle.btr_walk.specs.Reading.{Map}
-use Rattle.btr_walk.specs.ScanEnds.{IsReady, left_of, without_leaf}
-use Rattle.btr_walk.specs.Scans.{IsFrame, IsKept}
-use Rattle.btr_walk.specs.declared.entering.LeafAt.{LeafAt}
+use Rattle.btr_walk.specs.ScanEnds.{IsScanReady, left_of, without_leaf}
+use Rattle.btr_walk.specs.Scans.{IsFrame}
 use Rattle.btr_walk.specs.declared.frame.Frame.{Frame}
 use Rattle.btr_walk.specs.declared.scan.Scan.{Scan}
 use Rattle.btr_walk.specs.declared.scan_place.ScanPlace.{ScanPlace}
-
--- a block that was read last is among those that were read
-pub last_read : (seen : List Want) (w : Want) → Contains (seen ++ (w ∷ [])) w
-last_read seen w = Contains-append_right seen (w ∷ []) w (0, omega arith, refl)
+use Rattle.btr_walk.specs.Hand.{IsInHand, loan_of, IsKept}
+use Rattle.btr_walk.specs.declared.leaf_at.LeafAt.{LeafAt}
 
 -- a scan's place stays one where more was read
 module _ (lo hi : Key) (B : Map) (seen more : List Want) where
   pub frame_more : (level : ℕ) (frame : Option Frame) → IfSome frame (IsFrame lo hi B seen level) → IfSome frame (IsFrame lo hi B (seen ++ more) level)
   frame_more level None f = tt
   frame_more level (Some frame) f = record {
-    block = f.block;
-    came = f.came;
-    is = f.is;
-    read = Contains-append_left seen more _ f.read;
+    node = node_more B seen more level frame f.node;
     up = f.up;
-    some = f.some;
-    more = f.more;
-    within = f.within;
     behind = f.behind;
     low = f.low;
     high = f.high;
   }
 
-  kept_more : (frame : Option Frame) → IfSome frame (IsKept B seen) → IfSome frame (IsKept B (seen ++ more))
+  pub kept_more : (frame : Option Frame) → IfSome frame (IsKept B seen) → IfSome frame (IsKept B (seen ++ more))
   kept_more None f = tt
   kept_more (Some frame) f = record { block = f.block; came = f.came; is = f.is; read = Contains-append_left seen more _ f.read; within = f.within }
 
@@ -76,12 +67,13 @@ hand_same old new (Some l) same h = record {
     fits = subst (λ (layout : Layout). l.loan.len ≤ layout.setting.nodesize) (sym same.layout) h.live.fits;
   };
   large = h.large;
+  small = h.small;
   good = subst (λ (loans : List (Option (List ℕ))). IsSomeAnd (option_map (take l.loan.len) (get_or loans l.loan.slot None))
       (λ block. IsTrue (is_leaf block) × (l.end ≤ length (items block)))) (sym same.loans) h.good;
 }
 
 -- and it stays ready
-pub ready_same : (before now : Seen) (old new : Blocks) (scan : Scan) → SameLoans old new → Serves now new → IsReady before old scan → IsReady now new scan
+pub ready_same : (before now : Seen) (old new : Blocks) (scan : Scan) → SameLoans old new → Serves now new → IsScanReady before old scan → IsScanReady now new scan
 ready_same before now old new scan same serves ready = record { serves = serves; hand = hand_same old new scan.leaf same ready.hand; shaped = ready.shaped; alone = ready.alone }
 
 -- the loans but for one
@@ -90,7 +82,7 @@ base_same old new None same = same
 base_same old new (Some loan) same = record { layout = same.layout; loans = ap (λ (l : List (Option (List ℕ))). set l loan.slot None) same.loans }
 
 -- room beside the leaf in hand
-pub room_beside : (seen : Seen) (store : Blocks) (scan : Scan) (n : ℕ) → IsReady seen store scan → n + 1 ≤ free_count (without_leaf store scan)
+pub room_beside : (seen : Seen) (store : Blocks) (scan : Scan) (n : ℕ) → IsScanReady seen store scan → n + 1 ≤ free_count (without_leaf store scan)
     → n ≤ free_count store
 room_beside seen store scan n ready = of scan.leaf ready.hand
   where

@@ -1,8 +1,8 @@
 -- A fold turn by turn.
-use Rattle.std.proofs.Common.{◌≡◌, ◌≤◌, count_by, is_none, List, [], ◌∷◌, ◌++◌, Option, Some, None, Result, Ok, Err, refl, sym, ap, ◌∙◌, subst, append-nil}
+use Rattle.std.proofs.Common.{◌≡◌, ◌≤◌, count_by, is_none, List, [], ◌++◌, Option, Some, None, Result, Ok, Err, refl, sym, ap, ◌∙◌, subst, append-nil}
 use Rattle.std.proofs.Common.{append_assoc}
 use Rattle.btr_base.specs.declared.key.Key.{Key}
-use Rattle.btr_prog.specs.Prog.{Wants, Does, Run, run, first, prepend, exec, steps_of, wants_of, want_marks}
+use Rattle.btr_prog.specs.Prog.{Does, Run, run, first, prepend, exec, steps_of, want_marks}
 use Rattle.btr_prog.specs.Answers.{Follows, no_part}
 use Rattle.btr_prog.proofs.Follow.{broke_here, follows_as, follows_behind}
 use Rattle.btr_read.specs.Fate as fate
@@ -25,6 +25,7 @@ use Rattle.btr_walk.specs.Going.{IsOn}
 use Rattle.btr_walk.specs.ScanEnds.{left_of, Gives, IsNextOn}
 use Rattle.btr_walk.specs.Folds.{Next, folded_over, folded}
 use Rattle.btr_walk.specs.Folding.{fold_answer, IsTaken, to_fold, Turns, Ends, TurnsBy, IsTurned, result_of, IsRun, FoldFollows}
+use Rattle.btr_walk.proofs.Marks.{marks-append, steps_back, wants_back}
 use Rattle.btr_walk.proofs.Folds.{fold_run, exec_fold, fold_past, fold_go, fold_end, fold_broken, fold_halts, fold_ends, wants_value, wants_fault}
 
 -- the layout of a store without a loan
@@ -77,18 +78,6 @@ module _ {St R : Type 0} (step : St → TreeItem → Next St R) (answer : St →
       → IsNextOn Is B old new scan scan' (Ok (Some found)) → IsTurned step answer Is B old new scan scan' st st' result
   turned_some st st' found result t h seen on = turned_by st found seen (h seen on) st' result t
 
-wants_back : (ws : List Want) → wants_of {S = ⊥} (want_marks ws) ≡ ws
-wants_back [] = refl
-wants_back (w ∷ ws) = ap (λ x. w ∷ x) (wants_back ws)
-
-steps_back : (ws : List Want) → steps_of {S = ⊥} (want_marks ws) ≡ []
-steps_back [] = refl
-steps_back (w ∷ ws) = steps_back ws
-
-marks-append : (xs ys : List Want) → want_marks {S = ⊥} (xs ++ ys) ≡ want_marks xs ++ want_marks ys
-marks-append [] ys = refl
-marks-append (w ∷ xs) ys = ap (λ x. Wants w ∷ x) (marks-append xs ys)
-
 module _ {St R : Type 0} (step : St → TreeItem → Next St R) (answer : St → R) (B : Map) (first_store : Blocks) (first_scan : Scan) (first_state : St) where
   -- how far a fold has come, from whatever was seen before
   abbrev pub Led : Blocks → Scan → St → Type 0
@@ -128,7 +117,7 @@ module _ {St R : Type 0} (step : St → TreeItem → Next St R) (answer : St →
         (subst (λ (done : List ⊥). Follows Less no_part seen (prepend (want_marks x.past) rest) done (fold_answer result))
         (append-nil (steps_of (want_marks x.past)) ∙ steps_back x.past)
         (follows_behind Less no_part seen (want_marks x.past) rest [] (fold_answer result)
-        (subst (λ (ws : List Want). Follows Less no_part (seen ++ ws) rest [] (fold_answer result)) (sym (wants_back x.past)) f)))
+        (subst (λ (ws : List Want). Follows Less no_part (seen ++ ws) rest [] (fold_answer result)) (sym (wants_back ⊥ x.past)) f)))
 
 -- a fold from the beginning
 pub fold_begun : {St R E : Type 0} (step : St → TreeItem → Next St R) (answer : St → R) (Is : UnreadBlock → Want → Type 0) (B : Map) (store : Blocks)

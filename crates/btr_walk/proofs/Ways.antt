@@ -172,14 +172,18 @@ module _ (B : BlockMap Want fate.Fault) (key : Key) where
   leaf_ends Is (suc n) spot block found leaf f e seen = let l = leaf.zero_level in absurd (omega (arith, l))
 
   -- no child is at or below the key
+  pub nothing_at : (level : ℕ) (spot : Spot) (block : List ℕ) → IsInnerAt level spot block → le_child key (pointers block) spot.up ≡ None
+      → B (want_of level spot) ≡ Ok block → at level spot ≡ run (Wants (want_of level spot) ∷ []) (Ok None)
+  nothing_at zero spot block inner f e = let l = inner.some in absurd (omega (arith, l))
+  nothing_at (suc n) spot block inner f e =
+      at_inner n spot block (Some (Inner (pointers block))) e inner.is
+      ∙ ap (λ o. prepend (Wants (want_of (suc n) spot) ∷ []) (exec B (go_down (le_at n key) o))) f
+
   pub inner_ends : (Is : UnreadBlock → Want → Type 0) (level : ℕ) (spot : Spot) (block : List ℕ) → IsInnerAt level spot block
       → le_child key (pointers block) spot.up ≡ None → B (want_of level spot) ≡ Ok block → (seen : List Want) → Ends Is level spot seen (Ok None)
   inner_ends Is zero spot block inner f e seen = let l = inner.some in absurd (omega (arith, l))
   inner_ends Is (suc n) spot block inner f e seen =
-      ended Is (suc n) spot (run (Wants (want_of (suc n) spot) ∷ []) (Ok None)) seen (Ok None)
-      (at_inner n spot block (Some (Inner (pointers block))) e inner.is
-      ∙ ap (λ o. prepend (Wants (want_of (suc n) spot) ∷ []) (exec B (go_down (le_at n key) o))) f)
-      (refl, refl)
+      ended Is (suc n) spot (run (Wants (want_of (suc n) spot) ∷ []) (Ok None)) seen (Ok None) (nothing_at (suc n) spot block inner f e) (refl, refl)
 
   -- one level down
   pub down_at : (level : ℕ) (spot child : Spot) (block : List ℕ) → IsInnerAt level spot block → le_child key (pointers block) spot.up ≡ Some child

@@ -1,44 +1,30 @@
 -- One item further.
-use Rattle.std.specs.Prelude.{◌≡◌, ℕ, ◌+◌, ◌-◌, ◌<◌, ◌≤◌, Bool, true, false, List, [], ◌++◌, length, slice_index_or, Option, Some, None, IfSome, IsSomeAnd, IsTrue, Result, Ok, Err}
+use Rattle.std.specs.Prelude.{◌≡◌, ℕ, ◌-◌, ◌<◌, ◌≤◌, Bool, true, false, List, [], ◌++◌, length, slice_index_or, Option, Some, None, IfSome, IsSomeAnd, Result, Ok, Err}
 use Rattle.btr_base.specs.declared.key.Key.{Key}
-use Rattle.btr_node.specs.Block.{Item, items, is_leaf}
+use Rattle.btr_node.specs.Block.{Item, items}
 use Rattle.btr_prog.specs.Prog.{Does, first, prepend, exec}
 use Rattle.btr_prog.specs.Answers.{Follows, no_part}
-use Rattle.btr_read.specs.Store.{Blocks, Lent, SameLoans, block_of, IsLiveIn}
+use Rattle.btr_read.specs.Store.{Blocks, SameLoans, block_of}
 use Rattle.btr_read.specs.declared.want.Want.{Want}
 use Rattle.btr_walk.specs.declared.advancing.Advanced.{Advanced}
-use Rattle.btr_walk.specs.declared.entering.LeafAt.{LeafAt}
 use Rattle.btr_walk.specs.declared.fault.TreeFault.{TreeFault}
 use Rattle.btr_walk.specs.declared.frame.Frame.{Frame}
 use Rattle.btr_walk.specs.declared.going.Where.{Where}
 use Rattle.btr_walk.specs.declared.scan_place.ScanPlace.{ScanPlace}
-use Rattle.btr_walk.specs.Entering.{LendsLeafAt}
 use Rattle.btr_walk.specs.Le.{TreeItem, tree_item}
 use Rattle.btr_walk.specs.Range.{RangeProg, emit_all}
 use Rattle.btr_walk.specs.Reading.{Map, UnreadBlock, halt_of}
-use Rattle.btr_walk.specs.Scans.{wants, part_items, IsHeld, IsKept, kept_items}
+use Rattle.btr_walk.specs.Scans.{wants, part_items, kept_items}
 use Rattle.btr_walk.specs.Going.{place_prog, IsAlong, IsOn}
 use Rattle.btr_walk.specs.Lending.{base}
-
--- a leaf behind its next item
-abbrev pub behind_next : LeafAt → LeafAt
-behind_next l = record { spot = l.spot; next = l.next + 1; end = l.end; loan = l.loan }
+use Rattle.btr_walk.specs.declared.leaf_at.LeafAt.{LeafAt}
+use Rattle.btr_walk.specs.Hand.{IsHeld, behind_next, IsInHand}
+pub use Rattle.btr_walk.specs.Hand.{loan_of}
 
 -- what a step comes to that came to a leaf with an item, or to the end
 abbrev pub arrived : Option LeafAt → Advanced
 arrived None = record { leaf = None; met = Ok false }
 arrived (Some l) = record { leaf = Some (behind_next l); met = Ok true }
-
--- a leaf in hand: its loan is live, and its block is a good leaf
-pub record IsInHand (store : Blocks) (l : LeafAt) : Type 0 where
-  pub live : IsLiveIn store l.loan
-  pub large : 4096 ≤ l.loan.len
-  pub good : IsSomeAnd (block_of store l.loan) (λ block. IsTrue (is_leaf block) × (l.end ≤ length (items block)))
-
--- the loan of a leaf in hand, if there is one
-abbrev pub loan_of : Option LeafAt → Option Lent
-loan_of None = None
-loan_of (Some l) = Some l.loan
 
 -- a leaf is lent, or nothing
 pub record Lends (old new : Blocks) (a : Advanced) : Type 0 where
@@ -59,20 +45,6 @@ abbrev pub leaf_prog : Map → Blocks → Option LeafAt → Option Frame → Ran
 leaf_prog B store (Some l) kept rest = hand_prog store l rest
 leaf_prog B store None (Some frame) rest = emit_all (kept_items B frame) rest
 leaf_prog B store None None rest = rest
-
--- the leaf that was given back
-abbrev pub IsLeafOf : Frame → LeafAt → Type 0
-IsLeafOf frame l = (l.spot ≡ frame.spot) × (l.next ≡ frame.next) × (l.end ≡ frame.end)
-
--- the loan of the leaf that was lent again is new and live, or no loan changed
-abbrev pub LendsAgain : Blocks → Blocks → Result LeafAt TreeFault → Type 0
-LendsAgain old new (Ok l) = LendsLeafAt old new l
-LendsAgain old new (Err f) = SameLoans old new
-
--- it is the same again, or it could not be read
-abbrev pub IsLeafAgain : (UnreadBlock → Want → Type 0) → Map → Frame → Blocks → Result LeafAt TreeFault → Type 0
-IsLeafAgain Is B frame store (Ok l) = (seen : List Want) → IsKept B seen frame → IsHeld B seen store l
-IsLeafAgain Is B frame store (Err f) = (seen : List Want) → IsKept B seen frame → (p : RangeProg) → Follows Is no_part seen (exec B p) [] (Err (halt_of f))
 
 module _ (lo hi : Key) where
   -- what a scan has still to give

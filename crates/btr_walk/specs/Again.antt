@@ -1,19 +1,18 @@
 -- What comes of a node that is read again.
-use Rattle.std.specs.Prelude.{◌≡◌, ◌⊎◌, ℕ, ◌+◌, ◌-◌, ◌<◌, ◌≤◌, List, length, drop, slice_index_or, Option, Some, None, IfSome, IsSome, Result, Ok, Err}
+use Rattle.std.specs.Prelude.{◌≡◌, ℕ, ◌+◌, ◌-◌, ◌<◌, ◌≤◌, List, length, drop, slice_index_or, Option, Some, None, IfSome, IsSome, Result, Ok, Err}
 use Rattle.btr_base.specs.declared.key.Key.{Key}
 use Rattle.btr_node.specs.Block.{KeyPointer, pointers}
-use Rattle.btr_read.specs.Fate as fate
 use Rattle.btr_read.specs.declared.want.Want.{Want}
-use Rattle.btr_walk.specs.declared.entering.Below.{Below}
 use Rattle.btr_walk.specs.declared.fault.TreeFault.{TreeFault}
-use Rattle.btr_walk.specs.declared.fault.TreeFault.TheVariants.{Lost, Unread, Unmapped, Crosses, Malformed}
 use Rattle.btr_walk.specs.declared.frame.Frame.{Frame}
 use Rattle.btr_walk.specs.declared.frame.Todo.{Todo}
-use Rattle.btr_walk.specs.Spot.{judged}
-use Rattle.btr_walk.specs.Le.{below, up_of, want_of}
-use Rattle.btr_walk.specs.Reading.{Map, UnreadBlock}
+use Rattle.btr_walk.specs.Le.{below, up_of}
+use Rattle.btr_walk.specs.Reading.{Map, UnreadBlock, IsUnreadOf}
 use Rattle.btr_walk.specs.Range.{RangeProg}
-use Rattle.btr_walk.specs.Scans.{todo_prog, frame_prog, frame_or_rest, IsFrame, IsTodo}
+use Rattle.btr_walk.specs.Scans.{todo_prog, frame_prog, IsFrame, IsTodo}
+use Rattle.btr_walk.specs.declared.frame.Below.{Below}
+use Rattle.btr_walk.specs.Frames.{IsNode, frame_or}
+use Rattle.btr_walk.specs.declared.choice.Part.{Part}
 
 -- the frame behind its next child
 abbrev pub later : Frame → Frame
@@ -37,34 +36,21 @@ abbrev pub IsNext : List KeyPointer → ℕ → Frame → Option Below → Type 
 IsNext ps level frame None = length ps ≤ frame.next
 IsNext ps level frame (Some b) = IsNextBelow ps level frame b.frame b.todo
 
--- the first child of a node with these pointers, and the node where more are to come
-abbrev pub IsFirstBelow : List KeyPointer → Todo → Below → Type 0
-IsFirstBelow ps todo b = IsNextBelow ps todo.level (record { spot = todo.spot; next = 0; end = length ps }) b.frame b.todo
+-- the first child of a part of a node with these pointers, and the node where more are to come; nothing where the part is empty
+pub record IsFirstBelow (ps : List KeyPointer) (todo : Todo) (part : Part) (b : Below) : Type 0 where
+  pub none : part.end ≤ part.next → b ≡ record { frame = None; todo = None }
+  pub some : part.next < part.end → IsNextBelow ps todo.level (record { spot = todo.spot; next = part.next; end = part.end }) b.frame b.todo
 
--- a node was read again under a block map: what comes of it, or why it didn't come
+-- a node that was read before has its next child still, or it could not be read
 abbrev pub Rereads : (UnreadBlock → Want → Type 0) → Map → ℕ → Frame → Result Below TreeFault → Type 0
-Rereads Is B level frame (Ok b) = (block : List ℕ) × (B (want_of level frame.spot) ≡ Ok block) × IsNext (pointers block) level frame (Some b)
-Rereads Is B level frame (Err (Lost a)) = B (want_of level frame.spot) ≡ Err (fate.Lost a)
-Rereads Is B level frame (Err (Unread a slot)) = Is (record { addr = a; slot = slot }) (want_of level frame.spot)
-Rereads Is B level frame (Err (Unmapped a)) = B (want_of level frame.spot) ≡ Err (fate.Unmapped a)
-Rereads Is B level frame (Err (Crosses a)) = B (want_of level frame.spot) ≡ Err (fate.Crosses a)
-Rereads Is B level frame (Err (Malformed a)) =
-    (block : List ℕ) × (B (want_of level frame.spot) ≡ Ok block) × ((judged level frame.spot block ≡ None) ⊎ (length (pointers block) ≤ frame.next))
+Rereads Is B level frame (Ok b) = (seen : List Want) (node : IsNode B seen level frame) → IsNextBelow (pointers node.block) level frame b.frame b.todo
+Rereads Is B level frame (Err f) = (seen : List Want) → IsNode B seen level frame → IsUnreadOf Is seen f
 
 module _ (lo hi : Key) where
   -- what is left of a frame is its next child, and then what is left behind it
   pub record IsAgainBelow (B : Map) (level : ℕ) (frame : Frame) (seen : List Want) (b : Below) : Type 0 where
-    pub program : (rest : RangeProg) → frame_prog lo hi B level frame rest ≡ todo_prog lo hi b.todo (frame_or_rest lo hi B level b.frame rest)
+    pub program : (rest : RangeProg) → frame_prog lo hi B level frame rest ≡ todo_prog lo hi b.todo (frame_or (frame_prog lo hi B) level b.frame rest)
     pub frame_is : IfSome b.frame (IsFrame lo hi B seen level)
     pub up : IsTodo lo hi b.todo
     pub some : IsSome b.todo
     pub level_is : IfSome b.todo (λ t. t.level ≡ level - 1)
-
-  -- where the node was read before, it is the same again, or it could not be read
-  abbrev pub IsAgain : (UnreadBlock → Want → Type 0) → Map → ℕ → Frame → Result Below TreeFault → Type 0
-  IsAgain Is B level frame (Ok b) = (seen : List Want) → IsFrame lo hi B seen level frame → IsAgainBelow B level frame seen b
-  IsAgain Is B level frame (Err (Lost a)) = (seen : List Want) → IsFrame lo hi B seen level frame → ⊥
-  IsAgain Is B level frame (Err (Unread a slot)) = Is (record { addr = a; slot = slot }) (want_of level frame.spot)
-  IsAgain Is B level frame (Err (Unmapped a)) = (seen : List Want) → IsFrame lo hi B seen level frame → ⊥
-  IsAgain Is B level frame (Err (Crosses a)) = (seen : List Want) → IsFrame lo hi B seen level frame → ⊥
-  IsAgain Is B level frame (Err (Malformed a)) = (seen : List Want) → IsFrame lo hi B seen level frame → ⊥

@@ -1,16 +1,17 @@
 -- What a lookup answers.
-use Rattle.std.specs.Prelude.{◌≡◌, ℕ, ◌<◌, ◌≤◌, List, [], Option, Some, None, IsSomeAnd, Result, Ok, Err, length, slice_set, IsTrue}
+use Rattle.std.specs.Prelude.{◌≡◌, ℕ, ◌<◌, ◌≤◌, List, [], Option, Some, None, IsSomeAnd, Result, Ok, Err, length, IsTrue}
 use Rattle.std.specs.List.{HoldsAt}
 use Rattle.btr_base.specs.declared.key.Key.{Key}
 use Rattle.btr_node.specs.Block.{Item, items, is_leaf}
 use Rattle.btr_prog.specs.Prog.{exec}
 use Rattle.btr_prog.specs.Answers.{Follows, no_part}
-use Rattle.btr_read.specs.Store.{Blocks, SameLoans, block_of, loan_in, IsLiveIn}
+use Rattle.btr_read.specs.Store.{Blocks, Lent, SameLoans, block_of, IsLiveIn}
 use Rattle.btr_read.specs.declared.want.Want.{Want}
 use Rattle.btr_walk.specs.declared.place.RootPlace.{RootPlace}
 use Rattle.btr_walk.specs.declared.fault.TreeFault.{TreeFault}
 use Rattle.btr_walk.specs.declared.finding.Spotted.{Spotted}
 use Rattle.btr_walk.specs.Le.{TreeItem, tree_item, le_item, le}
+use Rattle.btr_walk.specs.Lending.{base}
 use Rattle.btr_walk.specs.Reading.{Map, UnreadBlock, answer_of}
 
 -- the item at a place of a leaf's block
@@ -38,18 +39,15 @@ Finds Is B root key store result =
     (shown : Result (Option TreeItem) TreeFault) × Shows store result shown
     × Follows {S = ⊥} Is no_part [] (exec B (le root key)) [] (answer_of shown)
 
--- a leaf is lent where there is an item, and nothing otherwise
-pub record LendsLeaf (old new : Blocks) (spotted : Spotted) : Type 0 where
-  pub there : spotted.loan.slot < length old.loans
-  pub free : loan_in old spotted.loan.slot ≡ None
-  pub layout : new.layout ≡ old.layout
-  pub after : (written : List ℕ) × (new.loans ≡ slice_set old.loans spotted.loan.slot (Some written))
-  pub large : 4096 ≤ spotted.loan.len
-  pub live : IsLiveIn new spotted.loan
-  pub good : IsSomeAnd (block_of new spotted.loan) (λ block. IsTrue (is_leaf block) × (spotted.at < length (items block)))
+-- the loan of a good leaf that has an item at this place is new, and no other changed
+pub record LendsItemAt (old new : Blocks) (loan : Lent) (at : ℕ) : Type 0 where
+  pub others : SameLoans old (base new (Some loan))
+  pub live : IsLiveIn new loan
+  pub large : 4096 ≤ loan.len
+  pub good : IsSomeAnd (block_of new loan) (λ block. IsTrue (is_leaf block) × (at < length (items block)))
 
 -- the loan of the leaf of the item that was found is new and live, or no loan changed
 abbrev pub LendsItem : Blocks → Blocks → Result (Option Spotted) TreeFault → Type 0
-LendsItem old new (Ok (Some spotted)) = LendsLeaf old new spotted
+LendsItem old new (Ok (Some spotted)) = LendsItemAt old new spotted.loan spotted.at
 LendsItem old new (Ok None) = SameLoans old new
 LendsItem old new (Err f) = SameLoans old new

@@ -1,11 +1,10 @@
 -- How a scan goes on.
-use Rattle.std.specs.Prelude.{◌≡◌, ℕ, ◌+◌, ◌<◌, List, [], ◌∷◌, ◌++◌, slice_index_or, Option, None, IfSome, IsSomeAnd, Result, Ok, Err}
+use Rattle.std.specs.Prelude.{◌≡◌, ℕ, ◌+◌, ◌<◌, List, [], ◌++◌, slice_index_or, Option, None, IfSome, IsSomeAnd, Result, Ok, Err}
 use Rattle.btr_base.specs.declared.key.Key.{Key}
 use Rattle.btr_prog.specs.Prog.{Return, prepend, exec}
 use Rattle.btr_prog.specs.Answers.{Follows, no_part}
 use Rattle.btr_read.specs.Store.{Blocks, SameLoans, block_of}
 use Rattle.btr_read.specs.declared.want.Want.{Want}
-use Rattle.btr_walk.specs.declared.entering.LeafAt.{LeafAt}
 use Rattle.btr_walk.specs.declared.fault.TreeFault.{TreeFault}
 use Rattle.btr_walk.specs.declared.frame.Frame.{Frame}
 use Rattle.btr_walk.specs.declared.going.Gone.{Gone}
@@ -14,14 +13,15 @@ use Rattle.btr_walk.specs.declared.going.Where.{Where}
 use Rattle.btr_walk.specs.declared.scan_place.ScanPlace.{ScanPlace}
 use Rattle.btr_walk.specs.Range.{RangeProg, emit_all}
 use Rattle.btr_walk.specs.Reading.{Map, UnreadBlock, halt_of}
-use Rattle.btr_walk.specs.Scans.{wants, part_items, todo_prog, frame_or_rest, IsFrame, IsTodo, IsHeld, IsKept}
-use Rattle.btr_walk.specs.Entering.{LendsLeafAt}
+use Rattle.btr_walk.specs.Scans.{wants, part_items, todo_prog, IsFrame, IsTodo, frame_prog}
+use Rattle.btr_walk.specs.declared.leaf_at.LeafAt.{LeafAt}
+use Rattle.btr_walk.specs.Hand.{IsHeld, IsKept, LendsHand}
+use Rattle.btr_walk.specs.Frames.{path_of}
 
 module _ (lo hi : Key) where
   -- the children of the frames of a path that are still to come, those of the lowest level first
   abbrev pub path_prog : Map → ℕ → List (Option Frame) → RangeProg
-  path_prog B n [] = Return tt
-  path_prog B n (frame ∷ frames) = frame_or_rest lo hi B (n + 1) frame (path_prog B (n + 1) frames)
+  path_prog B = path_of (frame_prog lo hi B) (Return tt)
 
   -- what a scan has still to give that is at this place
   abbrev pub place_prog : Map → Where → RangeProg
@@ -65,7 +65,7 @@ module _ (lo hi : Key) where
 
 -- the loan of the leaf that was come to is new and live, or no loan changed
 abbrev pub LendsGone : Blocks → Blocks → Result Gone TreeFault → Type 0
-LendsGone old new (Ok (Leaf l)) = LendsLeafAt old new l
+LendsGone old new (Ok (Leaf l)) = LendsHand old new l
 LendsGone old new (Ok Between) = SameLoans old new
 LendsGone old new (Ok End) = SameLoans old new
 LendsGone old new (Err f) = SameLoans old new

@@ -6,14 +6,14 @@ use Rattle.btr_prog.specs.Answers.{Follows, no_part}
 use Rattle.btr_read.specs.Store.{Blocks, SameLoans, block_of}
 use Rattle.btr_read.specs.declared.want.Want.{Want}
 use Rattle.btr_walk.specs.declared.fault.TreeFault.{TreeFault}
-use Rattle.btr_walk.specs.declared.entering.LeafAt.{LeafAt}
 use Rattle.btr_walk.specs.declared.going.Where.{Where}
 use Rattle.btr_walk.specs.Range.{emit_all}
 use Rattle.btr_walk.specs.Reading.{Map, UnreadBlock, halt_of}
 use Rattle.btr_walk.specs.Scans.{part_items}
-use Rattle.btr_walk.specs.Entering.{LendsLeafAt}
 use Rattle.btr_walk.specs.Going.{place_prog, IsAlong, ComesTo}
 use Rattle.btr_walk.specs.Ranks.{IsShaped, rank}
+use Rattle.btr_walk.specs.declared.leaf_at.LeafAt.{LeafAt}
+use Rattle.btr_walk.specs.Hand.{LendsHand}
 
 module _ (lo hi : Key) where
   -- the scan came to a leaf with items, to its end or to a fault
@@ -30,7 +30,7 @@ module _ (lo hi : Key) where
 
 -- the loan of the leaf that was come to is new and live and has items, or no loan changed
 abbrev pub LendsReached : Blocks → Blocks → Result (Option LeafAt) TreeFault → Type 0
-LendsReached old new (Ok (Some l)) = LendsLeafAt old new l × (l.next < l.end)
+LendsReached old new (Ok (Some l)) = LendsHand old new l × (l.next < l.end)
 LendsReached old new (Ok None) = SameLoans old new
 LendsReached old new (Err f) = SameLoans old new
 

@@ -5,6 +5,8 @@ pub mod Reading
 pub mod Finding
 pub mod Reach
 pub mod Lending
+pub mod Frames
+pub mod Hand
 pub mod Showing
 pub mod Scans
 pub mod Entering

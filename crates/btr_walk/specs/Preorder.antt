@@ -1,10 +1,8 @@
 -- What a walk over the blocks of a tree has still to give.
 use Rattle.std.specs.Prelude.{◌≡◌, ℕ, ◌+◌, ◌-◌, ◌<◌, ◌≤◌, List, [], ◌∷◌, ◌++◌, length, drop, slice_index_or, Option, Some, None, IfSome, IsSome, IsSomeAnd, Result, Ok, Err, ⊤}
 use Rattle.std.specs.Borrow.{follows_so, MutBor, Fml}
-use Rattle.std.specs.List.{Contains}
 use mathlib.Core.Option.{none}
 use Rattle.btr_node.specs.Block.{pointers}
-use Rattle.btr_node.specs.declared.node.Node.TheVariants.{Inner}
 use Rattle.btr_prog.specs.Prog.{Return, Wants, Does, first, prepend, want_marks, exec}
 use Rattle.btr_prog.specs.Answers.{Follows, no_part}
 use Rattle.btr_rack.specs.Rack.{Seen}
@@ -20,22 +18,17 @@ use Rattle.btr_walk.specs.declared.frame.Frame.{Frame}
 use Rattle.btr_walk.specs.declared.frame.Todo.{Todo}
 use Rattle.btr_walk.specs.declared.going.Where.{Where}
 use Rattle.btr_walk.specs.declared.preorder.Entry.{Entry}
-use Rattle.btr_walk.specs.Spot.{judged}
 use Rattle.btr_walk.specs.Le.{want_of}
 use Rattle.btr_walk.specs.Reading.{Map, UnreadBlock, TellsOf, halt_of}
 use Rattle.btr_walk.specs.Lending.{base}
 use Rattle.btr_walk.specs.Scans.{pointers_in}
 use Rattle.btr_walk.specs.Ranks.{IsShaped, rank}
 use Rattle.btr_walk.specs.Blocks.{TreeBlock, BlocksProg, tree_block, shown_block, each, blocks_at}
+use Rattle.btr_walk.specs.Frames.{IsNode, path_of}
 
 -- the children of a frame that are still to come, and then the rest
 abbrev pub frame_blocks : Map → ℕ → Frame → BlocksProg → BlocksProg
 frame_blocks B level frame rest = each (blocks_at (level - 1)) (drop frame.next (pointers_in (B (want_of level frame.spot)))) frame.spot.up rest
-
--- the blocks below a frame that are still to come, and then the rest, where there is a frame
-abbrev pub blocks_or_rest : Map → ℕ → Option Frame → BlocksProg → BlocksProg
-blocks_or_rest B level None rest = rest
-blocks_or_rest B level (Some frame) rest = frame_blocks B level frame rest
 
 -- the block that is to be read, and then the rest
 abbrev pub todo_blocks : Option Todo → BlocksProg → BlocksProg
@@ -44,25 +37,20 @@ todo_blocks (Some todo) rest = blocks_at todo.level todo.spot rest
 
 -- the children of the frames of a path that are still to come, those of the lowest level first
 abbrev pub path_blocks : Map → ℕ → List (Option Frame) → BlocksProg
-path_blocks B n [] = Return tt
-path_blocks B n (frame ∷ frames) = blocks_or_rest B (n + 1) frame (path_blocks B (n + 1) frames)
+path_blocks B = path_of (frame_blocks B) (Return tt)
 
 -- all blocks that a place has still to give
 abbrev pub place_blocks : Map → Where → BlocksProg
 place_blocks B place = todo_blocks place.todo (path_blocks B 0 place.path)
 
--- a frame's node was read before, and not all its children are past
-pub record IsNode (B : Map) (seen : List Want) (level : ℕ) (frame : Frame) : Type 0 where
-  pub block : List ℕ
-  pub came : B (want_of level frame.spot) ≡ Ok block
-  pub is : judged level frame.spot block ≡ Some (Inner (pointers block))
-  pub read : Contains seen (want_of level frame.spot)
-  pub more : frame.next < frame.end
-  pub all : frame.end ≡ length (pointers block)
+-- a frame's node was read before, and all its children from the next one on are still to come
+pub record IsWhole (B : Map) (seen : List Want) (level : ℕ) (frame : Frame) : Type 0 where
+  pub node : IsNode B seen level frame
+  pub all : frame.end ≡ length (pointers node.block)
 
 -- each frame of the path was read before; the block that is to be read lies below all of them
 pub record IsAmong (B : Map) (seen : List Want) (place : Where) : Type 0 where
-  pub frames : (k : ℕ) → IfSome (slice_index_or place.path k None) (IsNode B seen (k + 1))
+  pub frames : (k : ℕ) → IfSome (slice_index_or place.path k None) (IsWhole B seen (k + 1))
   pub above : IfSome place.todo (λ t. (k : ℕ) → k < t.level → slice_index_or place.path k None ≡ None)
 
 -- the place where a block is to be read

@@ -2,7 +2,7 @@
 use Rattle.std.specs.Prelude.{◌≡◌, ℕ, List, None, IfSome, IsSome, IsSomeAnd, Result, Ok, Err, ⊤}
 use Rattle.btr_rack.specs.Rack.{Seen}
 use Rattle.btr_prog.specs.Prog.{BlockMap}
-use Rattle.btr_prog.specs.Answers.{Halt, Fault, Unread}
+use Rattle.btr_prog.specs.Answers.{Halt, Fault, Unread, Names}
 use Rattle.btr_prog.specs.Calls.{Calls}
 use Rattle.btr_read.specs.Fate as fate
 use Rattle.btr_read.specs.Fate.{fate, sought}
@@ -60,6 +60,14 @@ halt_of (tree.Malformed a) = Fault (fate.Malformed a)
 abbrev pub answer_of : {A : Type 0} → Result A TreeFault → Result A (Halt fate.Fault UnreadBlock)
 answer_of (Ok a) = Ok a
 answer_of (Err f) = Err (halt_of f)
+
+-- a fault that nothing but a block that was read before can have, and now could not be read
+abbrev pub IsUnreadOf : (UnreadBlock → Want → Type 0) → List Want → TreeFault → Type 0
+IsUnreadOf Is seen (tree.Lost a) = ⊥
+IsUnreadOf Is seen (tree.Unread a slot) = Names Is (record { addr = a; slot = slot }) seen
+IsUnreadOf Is seen (tree.Unmapped a) = ⊥
+IsUnreadOf Is seen (tree.Crosses a) = ⊥
+IsUnreadOf Is seen (tree.Malformed a) = ⊥
 
 module _ (Is : UnreadBlock → Want → Type 0) (B : Map) where
   -- a block of a level at a spot was read under a block map: these bytes, or why there are none

@@ -1,25 +1,23 @@
 -- Where a scan goes on that keeps no loan.
-use Rattle.std.specs.Prelude.{◌≡◌, ℕ, ◌-◌, ◌<◌, ◌≤◌, List, [], length, map, slice_get, slice_index_or, Option, Some, None, IfSome, IsSomeAnd, IsTrue, Result, Ok, Err}
-use Rattle.btr_node.specs.Block.{Item, items, is_leaf}
-use Rattle.btr_prog.specs.Answers.{Names}
+use Rattle.std.specs.Prelude.{◌≡◌, ℕ, ◌-◌, ◌<◌, ◌≤◌, List, [], map, slice_get, slice_index_or, Option, Some, None, IfSome, IsSomeAnd, Result, Ok, Err}
+use Rattle.btr_node.specs.Block.{Item, items}
 use Rattle.btr_rack.specs.Rack.{Seen}
 use Rattle.btr_read.specs.Fate.{Fault}
-use Rattle.btr_read.specs.Store.{Blocks, SameLoans, block_of, IsLiveIn}
+use Rattle.btr_read.specs.Store.{Blocks, SameLoans, block_of}
 use Rattle.btr_read.specs.declared.want.Want.{Want}
 use Rattle.btr_walk.specs.declared.fault.TreeFault.{TreeFault}
-use Rattle.btr_walk.specs.declared.fault.TreeFault.TheVariants.{Lost, Unread, Unmapped, Crosses, Malformed}
 use Rattle.btr_walk.specs.declared.frame.Frame.{Frame}
 use Rattle.btr_walk.specs.declared.rest.MetAgain.{MetAgain}
 use Rattle.btr_walk.specs.declared.rest.Rest.{Rest}
 use Rattle.btr_walk.specs.declared.scan.Scan.{Scan}
+use Rattle.btr_walk.specs.Finding.{LendsItemAt}
 use Rattle.btr_walk.specs.Going.{place_prog, IsOn}
 use Rattle.btr_walk.specs.Le.{TreeItem, tree_item, want_of}
-use Rattle.btr_walk.specs.Lending.{base}
 use Rattle.btr_walk.specs.Range.{RangeProg, emit_all}
 use Rattle.btr_walk.specs.Ranks.{IsShaped, rank_on}
-use Rattle.btr_walk.specs.Reading.{Map, UnreadBlock}
+use Rattle.btr_walk.specs.Reading.{Map, UnreadBlock, IsUnreadOf}
 use Rattle.btr_walk.specs.Scans.{kept_items}
-use Rattle.btr_walk.specs.ScanEnds.{left_of, rank_of, HoldsLeaf, WasMet, IsReady}
+use Rattle.btr_walk.specs.ScanEnds.{left_of, rank_of, HoldsLeaf, WasMet, IsScanReady}
 
 -- the items of a leaf that was given back, and then the rest
 abbrev pub kept_prog : Map → Option Frame → RangeProg → RangeProg
@@ -62,7 +60,7 @@ pub record Rests (store : Blocks) (scan : Scan) (rest : Rest) : Type 0 where
   pub hi : rest.hi ≡ scan.hi
   pub path : rest.place.rest ≡ scan.place.rest
   pub rank : rank_left rest ≡ rank_of scan
-  pub shaped : (rack : Seen) → IsReady rack store scan → IsShaped rest.place.rest
+  pub shaped : (rack : Seen) → IsScanReady rack store scan → IsShaped rest.place.rest
   pub program : (B : Map) (seen : List Want) → HoldsLeaf B seen store scan → rest_left B rest ≡ left_of B store scan
   pub on : (B : Map) (seen : List Want) → HoldsLeaf B seen store scan → IsOn scan.lo scan.hi B seen scan.place → IsRestOn B seen rest
   pub some : IsSomeAnd scan.leaf (λ l. (0 < l.next) × (l.next ≤ l.end)) → HasMet rest
@@ -70,25 +68,10 @@ pub record Rests (store : Blocks) (scan : Scan) (rest : Rest) : Type 0 where
       (B : Map) (seen : List Want) (item : TreeItem) → HoldsLeaf B seen store scan
       → IsSomeAnd scan.leaf (λ l. (0 < l.next) × (l.next ≤ l.end)) → IfSome scan.leaf (WasMet store item) → met_last B rest ≡ Some item
 
--- an item whose leaf was read again: the loan of that leaf is live, and its block is a good one that has the item
-pub record IsLentAgain (old new : Blocks) (m : MetAgain) : Type 0 where
-  pub others : SameLoans old (base new (Some m.loan))
-  pub live : IsLiveIn new m.loan
-  pub large : 4096 ≤ m.loan.len
-  pub good : IsSomeAnd (block_of new m.loan) (λ block. IsTrue (is_leaf block) × (m.at < length (items block)))
-
 -- the loan of the leaf of the item that was met again is new and live, or no loan changed
 abbrev pub LendsMet : Blocks → Blocks → Result MetAgain TreeFault → Type 0
-LendsMet old new (Ok m) = IsLentAgain old new m
+LendsMet old new (Ok m) = LendsItemAt old new m.loan m.at
 LendsMet old new (Err f) = SameLoans old new
-
--- a fault that nothing but a block that was read before can have, and now could not be read
-abbrev pub IsUnreadOf : (UnreadBlock → Want → Type 0) → List Want → TreeFault → Type 0
-IsUnreadOf Is seen (Lost a) = ⊥
-IsUnreadOf Is seen (Unread a slot) = Names Is (record { addr = a; slot = slot }) seen
-IsUnreadOf Is seen (Unmapped a) = ⊥
-IsUnreadOf Is seen (Crosses a) = ⊥
-IsUnreadOf Is seen (Malformed a) = ⊥
 
 -- it is the item that was met last, or its leaf could not be read
 abbrev pub IsMetAgain : (UnreadBlock → Want → Type 0) → Map → Rest → Blocks → Result MetAgain TreeFault → Type 0

@@ -10,19 +10,20 @@ use Rattle.btr_read.specs.Serves.{Serves}
 use Rattle.btr_read.specs.Store.{Blocks, SameLoans, block_of}
 use Rattle.btr_read.specs.contracts.store.Store.{the_row}
 use Rattle.btr_read.specs.declared.want.Want.{Want}
-use Rattle.btr_walk.specs.declared.entering.LeafAt.{LeafAt}
 use Rattle.btr_walk.specs.declared.fault.TreeFault.{TreeFault}
 use Rattle.btr_walk.specs.declared.found.Found.{Found}
 use Rattle.btr_walk.specs.declared.scan.Scan.{Scan}
 use Rattle.btr_walk.specs.Le.{TreeItem, tree_item}
 use Rattle.btr_walk.specs.Reading.{Map, UnreadBlock, TellsOf, halt_of}
-use Rattle.btr_walk.specs.Scans.{wants, frame_of, IsHeld}
+use Rattle.btr_walk.specs.Scans.{wants}
 use Rattle.btr_walk.specs.Range.{RangeProg}
 use Rattle.btr_walk.specs.Showing.{item_of}
 use Rattle.btr_walk.specs.Lending.{base}
 use Rattle.btr_walk.specs.Going.{IsOn}
 use Rattle.btr_walk.specs.Ranks.{IsShaped, rank_on}
-use Rattle.btr_walk.specs.Advancing.{IsInHand, loan_of, left}
+use Rattle.btr_walk.specs.Advancing.{left}
+use Rattle.btr_walk.specs.declared.leaf_at.LeafAt.{LeafAt}
+use Rattle.btr_walk.specs.Hand.{frame_of, IsHeld, IsInHand, loan_of}
 
 -- what a scan has still to give
 abbrev pub left_of : Map → Blocks → Scan → RangeProg
@@ -57,7 +58,7 @@ abbrev pub IsNextOn : (UnreadBlock → Want → Type 0) → Map → Blocks → B
 IsNextOn Is B old new scan scan' result = (seen : List Want) → IsOn scan.lo scan.hi B seen scan.place → NextBy Is B seen old new scan scan' result
 
 -- a rack and a store can go on with a scan: the loan of its leaf, if it has one, is live
-pub record IsReady (rack : Seen) (store : Blocks) (scan : Scan) : Type 0 where
+pub record IsScanReady (rack : Seen) (store : Blocks) (scan : Scan) : Type 0 where
   pub serves : Serves rack store
   pub hand : IfSome scan.leaf (IsInHand store)
   pub shaped : IsShaped scan.place.rest
@@ -71,7 +72,7 @@ without_leaf store scan = base store (loan_of scan.leaf)
 -- loan; and what the step says of the block map
 pub record Scanned (old new : Blocks) (scan scan' : Scan) (before now : Seen) (result : Result (Option Found) TreeFault) : Type 0 where
   pub others : SameLoans (without_leaf old scan) (without_leaf new scan')
-  pub ready : IsReady now new scan'
+  pub ready : IsScanReady now new scan'
   pub content : TellsOf old before now (λ Is B. IsNextOn Is B old new scan scan' result)
 
 -- the scan and its store end as the step's answer says, and no other loan changed

@@ -1,22 +1,20 @@
 -- What a scan has still to give.
-use Rattle.std.specs.Prelude.{◌≡◌, ℕ, ◌+◌, ◌-◌, ◌<◌, ◌≤◌, true, List, [], ◌∷◌, length, take, drop, map, All, Option, Some, None, IfSome, Result, Ok, Err}
-use Rattle.std.specs.List.{Contains}
+use Rattle.std.specs.Prelude.{◌≡◌, ℕ, ◌+◌, ◌-◌, ◌<◌, ◌≤◌, true, List, [], length, take, drop, map, All, Option, Some, None, IfSome, Result, Ok, Err}
 use Rattle.btr_base.specs.Key.{key_number}
 use Rattle.btr_base.specs.declared.key.Key.{Key}
 use Rattle.btr_node.specs.Block.{Item, KeyPointer, items, pointers}
-use Rattle.btr_prog.specs.Prog.{Mark, Wants}
+use Rattle.btr_prog.specs.Prog.{Mark, want_marks}
 use Rattle.btr_read.specs.Fate.{Fault}
 use Rattle.btr_read.specs.declared.want.Want.{Want}
-use Rattle.btr_node.specs.declared.node.Node.TheVariants.{Leaf, Inner}
-use Rattle.btr_read.specs.Store.{Blocks, block_of}
 use Rattle.btr_walk.specs.declared.choice.Part.{Part}
-use Rattle.btr_walk.specs.declared.entering.LeafAt.{LeafAt}
 use Rattle.btr_walk.specs.declared.frame.Frame.{Frame}
 use Rattle.btr_walk.specs.declared.frame.Todo.{Todo}
-use Rattle.btr_walk.specs.Spot.{is_below, judged}
-use Rattle.btr_walk.specs.Le.{TreeItem, tree_item, below, want_of}
+use Rattle.btr_walk.specs.declared.spot.Spot.{Spot}
+use Rattle.btr_walk.specs.Spot.{is_below}
+use Rattle.btr_walk.specs.Le.{TreeItem, tree_item, want_of}
 use Rattle.btr_walk.specs.Range.{RangeProg, over, range_at}
 use Rattle.btr_walk.specs.Reading.{Map}
+use Rattle.btr_walk.specs.Frames.{IsNode}
 
 -- the children from `next` up to before `end` are those that meet the keys: the ones before end where the next begins,
 -- at or below lo, the ones behind begin above hi
@@ -27,6 +25,11 @@ pub record IsChoice (lo hi : Key) (ps : List KeyPointer) (part : Part) : Type 0 
   pub behind : All (λ p. key_number lo < key_number p.key) (drop (part.next + 1) ps)
   pub low : All (λ p. key_number p.key ≤ key_number hi) (take part.end ps)
   pub high : All (λ p. key_number hi < key_number p.key) (drop part.end ps)
+
+-- the node at a spot with the children of a part, where it has any
+abbrev pub FramesPart : Spot → Part → Option Frame → Type 0
+FramesPart spot part None = part.end ≤ part.next
+FramesPart spot part (Some frame) = (part.next < part.end) × (frame ≡ record { spot = spot; next = part.next; end = part.end })
 
 -- the items from `next` up to before `end` are those from lo to hi
 pub record IsPart (lo hi : Key) (is : List Item) (part : Part) : Type 0 where
@@ -51,29 +54,18 @@ module _ (lo hi : Key) where
   abbrev pub frame_prog : Map → ℕ → Frame → RangeProg → RangeProg
   frame_prog B level frame rest = over lo hi (range_at lo hi (level - 1)) (drop frame.next (pointers_in (B (want_of level frame.spot)))) frame.spot.up rest
 
-  -- what is left below a frame, and then the rest, where there is a frame
-  abbrev pub frame_or_rest : Map → ℕ → Option Frame → RangeProg → RangeProg
-  frame_or_rest B level None rest = rest
-  frame_or_rest B level (Some frame) rest = frame_prog B level frame rest
-
   -- the block that is to be read, and then the rest
   abbrev pub todo_prog : Option Todo → RangeProg → RangeProg
   todo_prog None rest = rest
   todo_prog (Some todo) rest = range_at lo hi todo.level todo.spot rest
 
-  -- a frame's node was read before, and its next child meets the keys
+  -- a frame's node was read before, and its children that are still to come are those that meet the keys
   pub record IsFrame (B : Map) (seen : List Want) (level : ℕ) (frame : Frame) : Type 0 where
-    pub block : List ℕ
-    pub came : B (want_of level frame.spot) ≡ Ok block
-    pub is : judged level frame.spot block ≡ Some (Inner (pointers block))
-    pub read : Contains seen (want_of level frame.spot)
+    pub node : IsNode B seen level frame
     pub up : is_below frame.spot.up lo ≡ true
-    pub some : 0 < frame.next
-    pub more : frame.next < frame.end
-    pub within : frame.end ≤ length (pointers block)
-    pub behind : All (λ p. key_number lo < key_number p.key) (drop frame.next (pointers block))
-    pub low : All (λ p. key_number p.key ≤ key_number hi) (take frame.end (pointers block))
-    pub high : All (λ p. key_number hi < key_number p.key) (drop frame.end (pointers block))
+    pub behind : All (λ p. key_number lo < key_number p.key) (drop (frame.next + 1) (pointers node.block))
+    pub low : All (λ p. key_number p.key ≤ key_number hi) (take frame.end (pointers node.block))
+    pub high : All (λ p. key_number hi < key_number p.key) (drop frame.end (pointers node.block))
 
   -- a block that is to be read ends behind lo
   abbrev pub IsTodo : Option Todo → Type 0
@@ -81,24 +73,7 @@ module _ (lo hi : Key) where
 
 -- wants as marks
 abbrev pub wants : List Want → List (Mark Want TreeItem)
-wants [] = []
-wants (w ∷ ws) = Wants w ∷ wants ws
-
--- a leaf in hand is the block that its want came to, a good one at its spot
-pub record IsHeld (B : Map) (seen : List Want) (store : Blocks) (l : LeafAt) : Type 0 where
-  pub block : List ℕ
-  pub lent : block_of store l.loan ≡ Some block
-  pub came : B (want_of 0 l.spot) ≡ Ok block
-  pub is : judged 0 l.spot block ≡ Some (Leaf (items block))
-  pub read : Contains seen (want_of 0 l.spot)
-
--- a leaf that was given back is the block that its want came to, a good one at its spot: it was read before
-pub record IsKept (B : Map) (seen : List Want) (frame : Frame) : Type 0 where
-  pub block : List ℕ
-  pub came : B (want_of 0 frame.spot) ≡ Ok block
-  pub is : judged 0 frame.spot block ≡ Some (Leaf (items block))
-  pub read : Contains seen (want_of 0 frame.spot)
-  pub within : frame.end ≤ length (items block)
+wants = want_marks
 
 -- the items of a leaf that could be had, from `next` up to before `end`
 abbrev pub items_in : Result (List ℕ) Fault → ℕ → ℕ → ℕ → List TreeItem
@@ -108,7 +83,3 @@ items_in (Err f) addr next end = []
 -- the items of a leaf that was given back
 abbrev pub kept_items : Map → Frame → List TreeItem
 kept_items B frame = items_in (B (want_of 0 frame.spot)) frame.spot.addr frame.next frame.end
-
--- where a leaf in hand stands, without its loan
-abbrev pub frame_of : LeafAt → Frame
-frame_of l = record { spot = l.spot; next = l.next; end = l.end }

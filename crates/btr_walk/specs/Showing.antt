@@ -33,15 +33,15 @@ LendsWhere (Ok None) loan = loan ≡ None
 LendsWhere (Err f) loan = loan ≡ None
 
 -- the item of an answer, without how far it reaches
-abbrev pub found_of : Result (Option Reach) TreeFault → Result (Option Found) TreeFault
-found_of (Ok (Some reach)) = Ok (Some reach.found)
-found_of (Ok None) = Ok None
+abbrev pub found_of : Result Reach TreeFault → Result (Option Found) TreeFault
+found_of (Ok reach) = Ok reach.found
 found_of (Err f) = Err f
 
 -- what a lookup answers follows the program, whatever its reach
-abbrev pub ReachesItem : (UnreadBlock → Want → Type 0) → Map → RootPlace → Key → Result (Option Reach) TreeFault → Type 0
+abbrev pub ReachesItem : (UnreadBlock → Want → Type 0) → Map → RootPlace → Key
+    → Result Reach TreeFault → Type 0
 ReachesItem Is B root key result = FindsItem Is B root key (found_of result)
 
--- a loan stands where there is an item with its reach, and only there
-abbrev pub LendsReach : Result (Option Reach) TreeFault → Option Lent → Type 0
+-- a loan stands where there is an item, whatever the reach, and only there
+abbrev pub LendsReach : Result Reach TreeFault → Option Lent → Type 0
 LendsReach result loan = LendsWhere (found_of result) loan

@@ -5,14 +5,15 @@ ghost use Rattle.btr_rack.specs.Rack.{OnlyReads};
 ghost use Rattle.btr_read.specs.Store.{SameLoans, free_count};
 ghost use Rattle.btr_walk.specs.Lending.{base};
 ghost use Rattle.btr_walk.specs.Reading.{TellsOf, HasCause};
-ghost use Rattle.btr_walk.specs.Advancing.{arrived, behind_next, IsInHand, loan_of, Lends, HasItem, FromPlace, FromHand, IsAdvanced};
+ghost use Rattle.btr_walk.specs.Advancing.{arrived, Lends, HasItem, FromPlace, FromHand, IsAdvanced};
+ghost use Rattle.btr_walk.specs.Hand.{loan_of, IsInHand};
 ghost use Rattle.btr_walk.specs.Ranks.{IsShaped, rank, rank_leaf, StepNears};
 
 use crate::TreeFault;
-use crate::entering::LeafAt;
 use crate::frame::Frame;
 use crate::going::Where;
 use crate::leaf_again::read_leaf;
+use crate::leaf_at::{LeafAt, behind_next, give_leaf};
 use crate::leaving::to_leaf;
 use btr_base::Key;
 use btr_rack::Rack;
@@ -24,31 +25,10 @@ pub(crate) struct Advanced {
     pub(crate) met: Result<bool, TreeFault>,
 }
 
-// A leaf behind its next item.
-fn behind_next(leaf: LeafAt) -> LeafAt
-    requires { leaf.next < leaf.end }
-    ensures { result ≡ behind_next leaf }
-{
-    let LeafAt {
-        spot,
-        next,
-        end,
-        loan,
-    } = leaf;
-    let next = next + 1;
-    LeafAt {
-        spot,
-        next,
-        end,
-        loan,
-    }
-}
-
 // A step that came to a leaf with an item, or to the end.
 fn arrived(reached: Option<LeafAt>) -> Advanced
     requires { IfSome reached (λ leaf. leaf.next < leaf.end) }
-    ensures value { result ≡ arrived reached }
-    ensures fits { IfSome result.leaf (λ leaf. leaf.end < 2 ^ 64) }
+    ensures { result ≡ arrived reached }
 {
     match reached {
         None => Advanced {
@@ -130,13 +110,7 @@ pub(crate) fn from_hand<R: Rack>(
             met: Ok(true),
         };
     }
-    let LeafAt {
-        spot: _,
-        next: _,
-        end: _,
-        loan,
-    } = hand;
-    store.give(loan);
+    give_leaf(Some(hand), store);
     from_place(place, lo, hi, rack, store)
 }
 

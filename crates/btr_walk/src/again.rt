@@ -4,21 +4,22 @@ ghost use Rattle.btr_node.specs.Block.{pointers, is_inner};
 ghost use Rattle.btr_read.specs.Serves.{Serves};
 ghost use Rattle.btr_rack.specs.Rack.{OnlyReads};
 ghost use Rattle.btr_read.specs.Store.{SameLoans, free_count};
-ghost use Rattle.btr_walk.specs.Reading.{TellsOf, HasCause};
-ghost use Rattle.btr_walk.specs.Again.{IsNext, Rereads};
+ghost use Rattle.btr_walk.specs.Le.{want_of};
+ghost use Rattle.btr_walk.specs.Reading.{TellsOf, HasCause, HasCauseOf};
+ghost use Rattle.btr_walk.specs.Again.{IsFirstBelow, IsNext, Rereads};
 ghost use Rattle.btr_walk.specs.Ranks.{FitsNext};
 
 use crate::TreeFault;
-use crate::entering::Below;
+use crate::choice::{Part, frame_of};
 use crate::finding::child_at;
-use crate::frame::{Frame, Todo};
+use crate::frame::{Below, Frame, Todo};
 use crate::reading::read_block;
 use btr_node::Inner;
 use btr_rack::Rack;
 use btr_read::Store;
 
 // The next child of a frame, and the frame where more are to come; `None` where the node isn't the one that it was.
-pub(crate) fn next_of(block: &[u8], level: u8, frame: &Frame) -> Option<Below>
+fn next_of(block: &[u8], level: u8, frame: &Frame) -> Option<Below>
     requires header { 101 ≤ length block.now }
     requires good { IsTrue (is_inner block.now) }
     requires some { 0 < level }
@@ -52,8 +53,30 @@ pub(crate) fn next_of(block: &[u8], level: u8, frame: &Frame) -> Option<Below>
     })
 }
 
-// Reads a node again, and takes the next child.
-pub(crate) fn read_again<R: Rack>(
+// The first child of a part of a node, and the node where more are to come; nothing where the part is empty.
+pub(crate) fn first_of(block: &[u8], todo: &Todo, part: Part) -> Below
+    requires header { 101 ≤ length block.now }
+    requires good { IsTrue (is_inner block.now) }
+    requires some { 0 < todo.now.level }
+    requires within { part.end ≤ length (pointers block.now) }
+    ensures { IsFirstBelow (pointers block.now) todo.now part result }
+{
+    match frame_of(&todo.spot, part) {
+        None => Below {
+            frame: None,
+            todo: None,
+        },
+        Some(frame) => match next_of(block, todo.level, &frame) {
+            Some(below) => below,
+            None => unreachable!(),
+        },
+    }
+}
+
+/// Reads a node again, and takes its next child. It takes no memory, and four slots are free.
+///
+/// The faults are those of that one block. Where no read failed since it was read, it is there again.
+pub fn read_again<R: Rack>(
     level: u8,
     frame: &Frame,
     rack: &mut R,
@@ -67,14 +90,19 @@ pub(crate) fn read_again<R: Rack>(
     ensures store { SameLoans store.old store.new }
     ensures next { IfOk result (λ b. FitsNext level frame.now b.frame b.todo) }
     ensures cause { HasCause store.old.layout (R.seen rack.old) (R.seen rack.new) result }
+    ensures of_want { HasCauseOf store.old.layout (want_of level frame.now.spot) (R.seen rack.old) (R.seen rack.new) result }
     ensures content { TellsOf store.old (R.seen rack.old) (R.seen rack.new)
         (λ Is B. Rereads Is B level frame.now result) }
 {
-    let loan = read_block(level, &frame.spot, rack, store)?;
-    let below = next_of(store.bytes(&loan), level, frame);
-    store.give(loan);
-    match below {
-        Some(below) => Ok(below),
-        None => Err(TreeFault::Malformed(frame.spot.addr)),
+    match read_block(level, &frame.spot, rack, store) {
+        Err(fault) => Err(fault),
+        Ok(loan) => {
+            let below = next_of(store.bytes(&loan), level, frame);
+            store.give(loan);
+            match below {
+                Some(below) => Ok(below),
+                None => Err(TreeFault::Malformed(frame.spot.addr)),
+            }
+        }
     }
 }

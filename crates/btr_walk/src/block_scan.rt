@@ -9,7 +9,7 @@ ghost use Rattle.btr_walk.specs.Lending.{base};
 ghost use Rattle.btr_walk.specs.Preorder.{IsAmong, IsReadyFor, blocks_left, without_block, BlockScanEnds, KeepsBlock, NextBlockNears};
 ghost use Rattle.btr_walk.specs.Reading.{Map, HasCause};
 
-use crate::begin::begin;
+use crate::beginning::begin;
 use crate::finding::keep;
 use crate::found_block::FoundBlock;
 use crate::going::Where;

@@ -1,79 +1,25 @@
 // A block that is read on the way through a range.
-ghost use Rattle.std.specs.Prelude.{◌<◌, ◌≤◌, length, IsTrue};
-ghost use Rattle.btr_node.specs.Block.{pointers, is_inner};
+ghost use Rattle.std.specs.Prelude.{◌≤◌};
 ghost use Rattle.btr_read.specs.Serves.{Serves};
 ghost use Rattle.btr_rack.specs.Rack.{OnlyReads};
 ghost use Rattle.btr_read.specs.Store.{free_count};
 ghost use Rattle.btr_walk.specs.Reading.{TellsOf, HasCause};
-ghost use Rattle.btr_walk.specs.Entering.{IsBelow, HasLevel, LendsEntered, IsEntered};
+ghost use Rattle.btr_walk.specs.Entering.{HasLevel, LendsEntered, IsEntered};
 
 use crate::TreeFault;
+use crate::again::first_of;
 use crate::choice::{choose, part_of};
-use crate::finding::child_at;
-use crate::frame::{Frame, Todo};
+use crate::frame::{Below, Todo};
+use crate::leaf_at::LeafAt;
 use crate::reading::read_block;
-use crate::spot::Spot;
 use btr_base::Key;
-use btr_node::Inner;
 use btr_rack::Rack;
-use btr_read::{Loan, Store};
-
-/// A leaf in hand, of which some items are still to come: those from `next` up to before `end`.
-pub(crate) struct LeafAt {
-    pub(crate) spot: Spot,
-    pub(crate) next: usize,
-    pub(crate) end: usize,
-    pub(crate) loan: Loan,
-}
-
-/// What comes below an inner node: the first child in the range, and the node where more are to come.
-#[derive(Clone, Copy, Debug, PartialEq, Eq)]
-pub(crate) struct Below {
-    pub(crate) frame: Option<Frame>,
-    pub(crate) todo: Option<Todo>,
-}
+use btr_read::Store;
 
 /// What a block is.
 pub(crate) enum Entered {
     Leaf(LeafAt),
     Inner(Below),
-}
-
-// What comes below an inner node.
-fn below_of(block: &[u8], todo: &Todo, lo: Key, hi: Key) -> Below
-    requires header { 101 ≤ length block.now }
-    requires good { IsTrue (is_inner block.now) }
-    requires some { 0 < todo.now.level }
-    ensures { IsBelow lo hi (pointers block.now) todo.now result }
-{
-    let part = choose(block, lo, hi);
-    if part.next >= part.end {
-        return Below {
-            frame: None,
-            todo: None,
-        };
-    }
-    let child = child_at(&Inner::of(block), part.next, todo.spot.up);
-    let below = Todo {
-        level: todo.level - 1,
-        spot: child,
-    };
-    let next = part.next + 1;
-    if next >= part.end {
-        return Below {
-            frame: None,
-            todo: Some(below),
-        };
-    }
-    let frame = Frame {
-        spot: todo.spot,
-        next,
-        end: part.end,
-    };
-    Below {
-        frame: Some(frame),
-        todo: Some(below),
-    }
 }
 
 // Reads a block that is to be read.
@@ -104,7 +50,8 @@ pub(crate) fn enter<R: Rack>(
             loan,
         }));
     }
-    let below = below_of(store.bytes(&loan), todo, lo, hi);
+    let block = store.bytes(&loan);
+    let below = first_of(block, todo, choose(block, lo, hi));
     store.give(loan);
     Ok(Entered::Inner(below))
 }

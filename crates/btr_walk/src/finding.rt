@@ -6,7 +6,7 @@ ghost use Rattle.btr_read.specs.Serves.{Serves};
 ghost use Rattle.btr_rack.specs.Rack.{OnlyReads};
 ghost use Rattle.btr_read.specs.Store.{free_count};
 ghost use Rattle.btr_walk.specs.Le.{below, up_of, le_item, le_child};
-ghost use Rattle.btr_walk.specs.Reach.{next_key, FindsAndReaches, Reaches};
+ghost use Rattle.btr_walk.specs.Reach.{next_key, spotted_of, FindsAndReaches, Reaches};
 ghost use Rattle.btr_walk.specs.Reading.{Tells, TellsOf, HasCause};
 ghost use Rattle.std.specs.Borrow.{sem};
 ghost use Rattle.std.specs.Prelude.{None, Some};
@@ -68,6 +68,32 @@ fn place_le(block: &[u8], key: Key) -> Option<usize>
     Leaf::of(block).seek_le(key)
 }
 
+// The key of a node's first pointer, or the node's bound.
+fn first_pointer_key(block: &[u8], up: Option<Key>) -> Option<Key>
+    requires header { 101 ≤ length block.now }
+    requires good { IsTrue (is_inner block.now) }
+    ensures { result ≡ up_of (pointers block.now) up }
+{
+    let inner = Inner::of(block);
+    if inner.count() == 0 {
+        return up;
+    }
+    Some(inner.key(0))
+}
+
+// The key of a leaf's first item, or the leaf's bound.
+fn first_item_key(block: &[u8], up: Option<Key>) -> Option<Key>
+    requires header { 101 ≤ length block.now }
+    requires good { IsTrue (is_leaf block.now) }
+    ensures { result ≡ next_key (items block.now) up }
+{
+    let leaf = Leaf::of(block);
+    if leaf.count() == 0 {
+        return up;
+    }
+    Some(leaf.key(0))
+}
+
 // The key of the item behind a place, or the leaf's bound.
 fn key_behind(block: &[u8], at: usize, up: Option<Key>) -> Option<Key>
     requires header { 101 ≤ length block.now }
@@ -85,11 +111,16 @@ fn key_behind(block: &[u8], at: usize, up: Option<Key>) -> Option<Key>
     }
 }
 
-/// Where an item stands: its leaf's address and loan, its place there, and the bound below which lookups find it too.
+/// Where an item stands: its leaf's address and loan, and its place there.
 pub(crate) struct Spotted {
     pub(crate) leaf: u64,
     pub(crate) at: usize,
     pub(crate) loan: Loan,
+}
+
+/// Where a lookup ended, and the bound below which lookups end there too.
+pub(crate) struct Sought {
+    pub(crate) spotted: Option<Spotted>,
     pub(crate) until: Option<Key>,
 }
 
@@ -99,12 +130,12 @@ pub(crate) fn seek_le<R: Rack>(
     key: Key,
     rack: &mut R,
     store: &mut Store,
-) -> Result<Option<Spotted>, TreeFault>
+) -> Result<Sought, TreeFault>
     requires serves { Serves (R.seen rack.old) store.old }
     requires room { 4 ≤ free_count store.old }
     ensures serves { Serves (R.seen rack.new) store.new }
     ensures reads { OnlyReads (R.seen rack.old) (R.seen rack.new) }
-    ensures lent { LendsItem store.old store.new result }
+    ensures lent { LendsItem store.old store.new (spotted_of result) }
     ensures cause { HasCause store.old.layout (R.seen rack.old) (R.seen rack.new) result }
     ensures content { TellsOf store.old (R.seen rack.old) (R.seen rack.new)
         (λ Is B. FindsAndReaches Is B root.now key store.new result) }
@@ -121,23 +152,36 @@ pub(crate) fn seek_le<R: Rack>(
         if level == 0 {
             let block = store.bytes(&loan);
             return match place_le(block, key) {
-                Some(at) => Ok(Some(Spotted {
-                    leaf: spot.addr,
-                    at,
+                Some(at) => Ok(Sought {
                     until: key_behind(block, at, spot.up),
-                    loan,
-                })),
+                    spotted: Some(Spotted {
+                        leaf: spot.addr,
+                        at,
+                        loan,
+                    }),
+                }),
                 None => {
+                    let until = first_item_key(block, spot.up);
                     store.give(loan);
-                    Ok(None)
+                    Ok(Sought {
+                        spotted: None,
+                        until,
+                    })
                 }
             };
         }
-        let child = child_le(store.bytes(&loan), spot.up, key);
-        store.give(loan);
-        match child {
-            None => return Ok(None),
+        let block = store.bytes(&loan);
+        match child_le(block, spot.up, key) {
+            None => {
+                let until = first_pointer_key(block, spot.up);
+                store.give(loan);
+                return Ok(Sought {
+                    spotted: None,
+                    until,
+                });
+            }
             Some(below) => {
+                store.give(loan);
                 spot = below;
                 level -= 1;
             }
@@ -171,8 +215,9 @@ pub(crate) fn keep(place: &mut Option<Loan>, loan: Loan)
     }
 }
 
-/// Finds the greatest item at or below a key, and how far that answer reaches: up to which key the same way leads to the same item. The loan of its
-/// leaf is put into `loan`, which stays `None` where there is no item and after a fault. Four slots are free.
+/// Finds the greatest item at or below a key, and how far that answer reaches: up to which key the
+/// same way leads to the same item, or to none. The loan of the item's leaf is put into `loan`,
+/// which stays `None` where there is no item and after a fault. Four slots are free.
 ///
 /// The faults are those of `find_le`.
 pub fn find_reach<'e, R: Rack>(
@@ -181,7 +226,7 @@ pub fn find_reach<'e, R: Rack>(
     key: Key,
     rack: &mut R,
     loan: &mut Option<Loan>,
-) -> Result<Option<Reach<'e>>, TreeFault>
+) -> Result<Reach<'e>, TreeFault>
     requires serves { Serves (R.seen rack.old) store.old }
     requires room { 4 ≤ free_count store.old }
     requires empty { loan.old ≡ None }
@@ -195,23 +240,24 @@ pub fn find_reach<'e, R: Rack>(
 {
     match seek_le(root, key, rack, store) {
         Err(fault) => Err(fault),
-        Ok(None) => Ok(None),
-        Ok(Some(spotted)) => {
-            let Spotted {
-                leaf,
-                at,
-                loan: taken,
-                until,
-            } = spotted;
-            keep(loan, taken);
-            let Some(held) = &*loan else {
-                unreachable!();
-            };
-            Ok(Some(Reach {
-                found: found_at(store.bytes(held), leaf, at),
-                until,
-            }))
-        }
+        Ok(Sought { spotted, until }) => match spotted {
+            None => Ok(Reach { found: None, until }),
+            Some(spotted) => {
+                let Spotted {
+                    leaf,
+                    at,
+                    loan: taken,
+                } = spotted;
+                keep(loan, taken);
+                let Some(held) = &*loan else {
+                    unreachable!();
+                };
+                Ok(Reach {
+                    found: Some(found_at(store.bytes(held), leaf, at)),
+                    until,
+                })
+            }
+        },
     }
 }
 
@@ -239,7 +285,6 @@ pub fn find_le<'e, R: Rack>(
 {
     match find_reach(store, root, key, rack, loan) {
         Err(fault) => Err(fault),
-        Ok(None) => Ok(None),
-        Ok(Some(reach)) => Ok(Some(reach.found)),
+        Ok(reach) => Ok(reach.found),
     }
 }

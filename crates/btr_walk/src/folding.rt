@@ -5,7 +5,7 @@ ghost use Rattle.btr_read.specs.Serves.{Serves};
 ghost use Rattle.btr_read.specs.Store.{SameLoans, free_count};
 ghost use Rattle.btr_walk.specs.Folding.{FoldCause, IsTaken, IsTurned, IsRun, FoldFollows, TurnNears};
 ghost use Rattle.btr_walk.specs.Reading.{TellsOf};
-ghost use Rattle.btr_walk.specs.ScanEnds.{IsReady, without_leaf};
+ghost use Rattle.btr_walk.specs.ScanEnds.{IsScanReady, without_leaf};
 ghost use Rattle.btr_walk.specs.Showing.{item_of};
 
 use crate::{FoldFault, Folder, Found, RootPlace, Scan, Took, TreeFault, next};
@@ -42,9 +42,9 @@ fn take_next<R: Rack, Out, E, F: Folder<Out, E>>(
     store: &mut Store,
     state: &mut F,
 ) -> Result<Turn<Out>, FoldFault<E>>
-    requires ready { IsReady (R.seen rack.old) store.old scan.old }
+    requires ready { IsScanReady (R.seen rack.old) store.old scan.old }
     requires room { 4 ≤ free_count (without_leaf store.old scan.old) }
-    ensures ready { IsReady (R.seen rack.new) store.new scan.new }
+    ensures ready { IsScanReady (R.seen rack.new) store.new scan.new }
     ensures reads { OnlyReads (R.seen rack.old) (R.seen rack.new) }
     ensures others { SameLoans (without_leaf store.old scan.old) (without_leaf store.new scan.new) }
     ensures lo { scan.new.lo ≡ scan.old.lo }
@@ -68,9 +68,9 @@ fn run<R: Rack, Out, E, F: Folder<Out, E>>(
     store: &mut Store,
     state: &mut F,
 ) -> Result<Option<Out>, FoldFault<E>>
-    requires ready { IsReady (R.seen rack.old) store.old scan.old }
+    requires ready { IsScanReady (R.seen rack.old) store.old scan.old }
     requires room { 4 ≤ free_count (without_leaf store.old scan.old) }
-    ensures ready { IsReady (R.seen rack.new) store.new scan.new }
+    ensures ready { IsScanReady (R.seen rack.new) store.new scan.new }
     ensures reads { OnlyReads (R.seen rack.old) (R.seen rack.new) }
     ensures others { SameLoans (without_leaf store.old scan.old) (without_leaf store.new scan.new) }
     ensures cause { FoldCause store.old.layout (R.seen rack.old) (R.seen rack.new) result }

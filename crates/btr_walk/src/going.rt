@@ -9,8 +9,9 @@ ghost use Rattle.btr_walk.specs.Ranks.{IsShaped, Nears};
 
 use crate::TreeFault;
 use crate::again::read_again;
-use crate::entering::{Entered, LeafAt, enter};
+use crate::entering::{Entered, enter};
 use crate::frame::Todo;
+use crate::leaf_at::LeafAt;
 use crate::path::{Path, lowest, set_frame};
 use btr_base::Key;
 use btr_rack::Rack;

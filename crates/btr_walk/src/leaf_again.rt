@@ -3,19 +3,22 @@ ghost use Rattle.std.specs.Prelude.{◌≤◌, IfOk};
 ghost use Rattle.btr_rack.specs.Rack.{OnlyReads};
 ghost use Rattle.btr_read.specs.Serves.{Serves};
 ghost use Rattle.btr_read.specs.Store.{free_count};
-ghost use Rattle.btr_walk.specs.Advancing.{IsLeafOf, LendsAgain, IsLeafAgain};
-ghost use Rattle.btr_walk.specs.Reading.{TellsOf, HasCause};
+ghost use Rattle.btr_walk.specs.Hand.{IsLeafOf, LendsAgain, IsLeafAgain};
+ghost use Rattle.btr_walk.specs.Le.{want_of};
+ghost use Rattle.btr_walk.specs.Reading.{TellsOf, HasCause, HasCauseOf};
 
 use crate::TreeFault;
-use crate::entering::LeafAt;
 use crate::frame::Frame;
+use crate::leaf_at::LeafAt;
 use crate::reading::read_block;
 use btr_node::Leaf;
 use btr_rack::Rack;
 use btr_read::Store;
 
-// Reads a leaf again that was given back, of which the items of the frame are still to come.
-pub(crate) fn read_leaf<R: Rack>(
+/// Reads a leaf again that was given back, of which the items of the frame are still to come. It takes no memory, and four slots are free.
+///
+/// The faults are those of that one block. Where no read failed since it was read, it is there again.
+pub fn read_leaf<R: Rack>(
     frame: &Frame,
     rack: &mut R,
     store: &mut Store,
@@ -27,6 +30,7 @@ pub(crate) fn read_leaf<R: Rack>(
     ensures lent { LendsAgain store.old store.new result }
     ensures same { IfOk result (IsLeafOf frame.now) }
     ensures cause { HasCause store.old.layout (R.seen rack.old) (R.seen rack.new) result }
+    ensures of_want { HasCauseOf store.old.layout (want_of 0 frame.now.spot) (R.seen rack.old) (R.seen rack.new) result }
     ensures content { TellsOf store.old (R.seen rack.old) (R.seen rack.new)
         (λ Is B. IsLeafAgain Is B frame.now store.new result) }
 {

@@ -8,8 +8,8 @@ ghost use Rattle.btr_walk.specs.Leaving.{LendsReached, IsReached, NearsReached};
 ghost use Rattle.btr_walk.specs.Ranks.{IsShaped};
 
 use crate::TreeFault;
-use crate::entering::LeafAt;
 use crate::going::{Gone, Where, go_on};
+use crate::leaf_at::{LeafAt, give_leaf};
 use btr_base::Key;
 use btr_rack::Rack;
 use btr_read::Store;
@@ -42,13 +42,7 @@ pub(crate) fn to_leaf<R: Rack>(
                 if leaf.next < leaf.end {
                     return Ok(Some(leaf));
                 }
-                let LeafAt {
-                    spot: _,
-                    next: _,
-                    end: _,
-                    loan,
-                } = leaf;
-                store.give(loan);
+                give_leaf(Some(leaf), store);
             }
         }
     }

@@ -1,20 +1,17 @@
 // The next block of a walk over all blocks of a tree.
-ghost use Rattle.std.specs.Prelude.{◌^◌, ◌<◌, ◌≤◌, length, IsSome, IsTrue};
-ghost use Rattle.btr_node.specs.Block.{pointers, is_inner};
+ghost use Rattle.std.specs.Prelude.{◌<◌, ◌≤◌, length, IsSome};
 ghost use Rattle.btr_rack.specs.Rack.{OnlyReads};
 ghost use Rattle.btr_read.specs.Serves.{Serves};
 ghost use Rattle.btr_read.specs.Store.{free_count};
-ghost use Rattle.btr_walk.specs.Again.{IsFirstBelow};
 ghost use Rattle.btr_walk.specs.Preorder.{place_of, IsBehind, IsEntry, NearsEntry, LendsEntry, IsStep, NearsStep, LendsStep};
 ghost use Rattle.btr_walk.specs.Ranks.{IsShaped, rank};
 ghost use Rattle.btr_walk.specs.Spot.{judged};
 ghost use Rattle.btr_walk.specs.Reading.{TellsOf, HasCause};
 
 use crate::TreeFault;
-use crate::again::next_of;
+use crate::again::first_of;
 use crate::ahead::{Ahead, ahead_of};
-use crate::entering::Below;
-use crate::frame::{Frame, Todo};
+use crate::choice::Part;
 use crate::going::Where;
 use crate::path::set_frame;
 use crate::reading::read_block;
@@ -28,26 +25,6 @@ pub(crate) struct Entry {
     pub(crate) level: u8,
     pub(crate) loan: Loan,
     pub(crate) place: Where,
-}
-
-// The first child of an inner node, and the node where more are to come.
-fn children_of(block: &[u8], todo: &Todo) -> Below
-    requires header { 101 ≤ length block.now }
-    requires good { IsTrue (is_inner block.now) }
-    requires some { 0 < todo.now.level }
-    ensures few { length (pointers block.now) < 2 ^ 64 }
-    ensures first { IsFirstBelow (pointers block.now) todo.now result }
-{
-    let end = Inner::of(block).count();
-    let all = Frame {
-        spot: todo.spot,
-        next: 0,
-        end,
-    };
-    match next_of(block, todo.level, &all) {
-        Some(below) => below,
-        None => unreachable!(),
-    }
 }
 
 // Where a walk is behind a block: before its first child, if it has any.
@@ -65,7 +42,11 @@ fn behind(ahead: &Ahead, block: &[u8]) -> Where
             todo: None,
         };
     }
-    let below = children_of(block, &todo);
+    let all = Part {
+        next: 0,
+        end: Inner::of(block).count(),
+    };
+    let below = first_of(block, &todo, all);
     let mut path = ahead.path;
     set_frame(&mut path, todo.level as usize - 1, below.frame);
     Where {

@@ -3,7 +3,7 @@ ghost use Rattle.std.specs.Prelude.{◌≡◌, ◌-◌, ◌<◌, ◌≤◌, None
 ghost use Rattle.btr_rack.specs.Rack.{Seen, OnlyReads};
 ghost use Rattle.btr_read.specs.Serves.{Serves};
 ghost use Rattle.btr_read.specs.Store.{SameLoans, free_count};
-ghost use Rattle.btr_walk.specs.Advancing.{IsInHand};
+ghost use Rattle.btr_walk.specs.Hand.{IsInHand};
 ghost use Rattle.btr_walk.specs.Going.{IsOn};
 ghost use Rattle.btr_walk.specs.Range.{range};
 ghost use Rattle.btr_walk.specs.Ranks.{IsShaped};
@@ -11,9 +11,9 @@ ghost use Rattle.btr_walk.specs.Reading.{Map, TellsOf, HasCause};
 ghost use Rattle.btr_walk.specs.Rests.{Rests, rest_left, HasMet, LendsMet, IsMetAgain};
 ghost use Rattle.btr_walk.specs.ScanEnds.{without_leaf};
 
-use crate::begin::begin;
-use crate::entering::LeafAt;
+use crate::beginning::begin;
 use crate::leaf_again::read_leaf;
+use crate::leaf_at::LeafAt;
 use crate::scan_place::ScanPlace;
 use crate::{RootPlace, Scan, TreeFault};
 use btr_base::Key;

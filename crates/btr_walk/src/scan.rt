@@ -4,7 +4,7 @@ ghost use Rattle.std.specs.Borrow.{sem};
 ghost use Rattle.btr_read.specs.Serves.{Serves};
 ghost use Rattle.btr_rack.specs.Rack.{OnlyReads};
 ghost use Rattle.btr_read.specs.Store.{SameLoans, free_count};
-ghost use Rattle.btr_walk.specs.Advancing.{IsInHand};
+ghost use Rattle.btr_walk.specs.Hand.{IsInHand};
 ghost use Rattle.std.specs.Prelude.{[]};
 ghost use Rattle.btr_read.specs.Store.{Blocks};
 ghost use Rattle.btr_walk.specs.Range.{range};
@@ -14,13 +14,12 @@ ghost use Rattle.btr_walk.specs.Going.{IsOn, place_prog};
 ghost use Rattle.btr_walk.specs.Le.{root_spot};
 ghost use Rattle.btr_walk.specs.Ranks.{IsShaped};
 ghost use Rattle.btr_rack.specs.Rack.{Seen};
-ghost use Rattle.btr_walk.specs.ScanEnds.{left_of, without_leaf, IsReady, KeepsLeaf, NextNears, Paused, ScanEnds};
+ghost use Rattle.btr_walk.specs.ScanEnds.{left_of, without_leaf, IsScanReady, KeepsLeaf, NextNears, Paused, ScanEnds};
 
 use crate::advancing::{Advanced, advance};
-use crate::begin::begin;
-use crate::entering::LeafAt;
+use crate::beginning::begin;
 use crate::finding::found_at;
-use crate::frame::Frame;
+use crate::leaf_at::{LeafAt, give_leaf, put_leaf};
 use crate::scan_place::ScanPlace;
 use crate::{Found, RootPlace, TreeFault};
 use btr_base::Key;
@@ -57,7 +56,7 @@ impl Scan {
         ensures lo { result.lo ≡ lo }
         ensures hi { result.hi ≡ hi }
         ensures leaf { result.leaf ≡ None }
-        ensures ready { (rack : Seen) (store : Blocks) → Serves rack store → IsReady rack store result }
+        ensures ready { (rack : Seen) (store : Blocks) → Serves rack store → IsScanReady rack store result }
         ensures program { (B : Map) (store : Blocks) → left_of B store result ≡ range lo hi root.now }
         ensures on { (B : Map) → IsOn lo hi B [] result.place }
     {
@@ -75,21 +74,11 @@ impl Scan {
         requires { IfSome self.old.leaf (IsInHand store.old) }
         ensures back { SameLoans (without_leaf store.old self.old) store.new }
         ensures serves { (rack : Seen) → Serves rack store.old → Serves rack store.new }
-        ensures ready { (rack : Seen) → IsReady rack store.old self.old → IsReady rack store.new self.new }
+        ensures ready { (rack : Seen) → IsScanReady rack store.old self.old → IsScanReady rack store.new self.new }
         ensures paused { Paused store.old store.new self.old self.new }
     {
-        match self.leaf.take() {
-            None => {}
-            Some(hand) => {
-                let LeafAt {
-                    spot,
-                    next,
-                    end,
-                    loan,
-                } = hand;
-                self.place.leaf = Some(Frame { spot, next, end });
-                store.give(loan);
-            }
+        if let Some(frame) = give_leaf(self.leaf.take(), store) {
+            self.place.leaf = Some(frame);
         }
     }
 
@@ -105,32 +94,7 @@ impl Scan {
             place: _,
             leaf,
         } = self;
-        match leaf {
-            None => {}
-            Some(hand) => {
-                let LeafAt {
-                    spot: _,
-                    next: _,
-                    end: _,
-                    loan,
-                } = hand;
-                store.give(loan);
-            }
-        }
-    }
-}
-
-// Puts a leaf into an empty place.
-fn put(place: &mut Option<LeafAt>, leaf: Option<LeafAt>)
-    requires { place.old ≡ None }
-    ensures { place.new ≡ leaf }
-{
-    match leaf {
-        None => {}
-        Some(leaf) => match place.replace(leaf) {
-            None => {}
-            Some(_) => unreachable!(),
-        },
+        give_leaf(leaf, store);
     }
 }
 
@@ -145,7 +109,7 @@ pub fn next<'e, R: Rack>(
     scan: &mut Scan,
     rack: &mut R,
 ) -> Result<Option<Found<'e>>, TreeFault>
-    requires ready { IsReady (R.seen rack.old) store.old scan.old }
+    requires ready { IsScanReady (R.seen rack.old) store.old scan.old }
     requires room { 4 ≤ free_count (without_leaf store.old scan.old) }
     ensures* after { sem 𝓛 (ScanEnds store.entry scan.old scan.new (R.seen rack.old) (R.seen rack.new) result) }
     ensures reads { OnlyReads (R.seen rack.old) (R.seen rack.new) }
@@ -167,7 +131,7 @@ pub fn next<'e, R: Rack>(
         rack,
         store,
     );
-    put(&mut scan.leaf, leaf);
+    put_leaf(&mut scan.leaf, leaf);
     match met {
         Err(fault) => Err(fault),
         Ok(false) => Ok(None),

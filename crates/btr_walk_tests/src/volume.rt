@@ -4,7 +4,7 @@ ghost use Rattle.btr_rack.specs.Memory.{seen_of, slots_of};
 ghost use Rattle.btr_read.specs.Serves.{Serves};
 ghost use Rattle.btr_read.specs.Store.{free_count};
 ghost use Rattle.btr_walk.specs.Lending.{IsLentOnly};
-ghost use Rattle.btr_walk.specs.ScanEnds.{IsReady, without_leaf};
+ghost use Rattle.btr_walk.specs.ScanEnds.{IsScanReady, without_leaf};
 
 use btr_base::Key;
 use btr_chunk::{Chunk, ChunkTable, Stripe};
@@ -151,9 +151,9 @@ pub(crate) fn step(
     scan: &mut Scan,
     rack: &mut MemRack,
 ) -> Result<Option<u64>, TreeFault>
-    requires ready { IsReady (seen_of rack.old) store.old scan.old }
+    requires ready { IsScanReady (seen_of rack.old) store.old scan.old }
     requires free { free_count (without_leaf store.old scan.old) ≡ 24 }
-    ensures ready { IsReady (seen_of rack.new) store.new scan.new }
+    ensures ready { IsScanReady (seen_of rack.new) store.new scan.new }
     ensures free { free_count (without_leaf store.new scan.new) ≡ 24 }
 {
     match next(store, scan, rack) {
@@ -171,9 +171,9 @@ pub(crate) fn collect(
     is_pausing: bool,
     numbers: &mut Vec<u64>,
 ) -> Result<Option<TreeFault>, AllocError>
-    requires ready { IsReady (seen_of rack.old) store.old scan.old }
+    requires ready { IsScanReady (seen_of rack.old) store.old scan.old }
     requires free { free_count (without_leaf store.old scan.old) ≡ 24 }
-    ensures ready { IsReady (seen_of rack.new) store.new scan.new }
+    ensures ready { IsScanReady (seen_of rack.new) store.new scan.new }
     ensures free { free_count (without_leaf store.new scan.new) ≡ 24 }
 {
     for _ in 0..1000 {

@@ -1,31 +1,35 @@
-use Rattle.std.proofs.Common.{◌≡◌, IfSome, ℕ, List, Ok, Err, None, Some, IsTrue, refl, sym, ap, subst, length, ◌∙◌, arith}
-use Rattle.btr_node.specs.Block.{KeyPointer, items, pointers, is_leaf}
+use Rattle.std.proofs.Common.{◌≡◌, ◌≤◌, IfSome, ℕ, List, Ok, Err, None, Some, IsTrue, refl, sym, ap, subst, length, ◌∙◌, arith}
+use Rattle.btr_node.specs.Block.{items, pointers, is_leaf}
 use Rattle.btr_walk.specs.declared.place.RootPlace.{RootPlace}
 use Rattle.btr_walk.specs.Le.{want_of}
 use Rattle.btr_read.specs.declared.want.Want.{Want}
+use Rattle.btr_walk.specs.Scans.{IsChoice, IsPart}
 use Rattle.btr_walk.specs.Reading.{Reads, CauseOf, unread_by}
 use Rattle.btr_walk.proofs.Fetched.{some_block}
 use Rattle.btr_walk.proofs.Lending.{given_back, served_back}
 use Rattle.btr_walk.proofs.Joined.{drawn, block_is, is_leaf_at, is_inner_at}
 use Rattle.btr_read.specs.Store.{block_of}
-use Rattle.btr_tour.specs.declared.leaf_at.LeafAt.{LeafAt}
+use Rattle.btr_walk.specs.declared.leaf_at.LeafAt.{LeafAt}
 use Rattle.btr_walk.specs.declared.going.Where.{Where}
 use Rattle.btr_tour.specs.Tour.{place_of}
 use Rattle.btr_read.specs.Store.{SameLoans}
 use Rattle.btr_walk.specs.Lending.{base}
-use Rattle.btr_tour.specs.Shape.{IsShaped, rank_on, StepNears}
-use Rattle.btr_tour.specs.Steps.{Arrived, arrived, IsInHand, loan_of, HasStep, Advances, StepCause, FramesFrom, MeetsBlock}
-use Rattle.btr_tour.specs.Place.{place_left, IsOn}
+use Rattle.btr_tour.specs.Shape.{rank_on, StepNears}
+use Rattle.btr_tour.specs.Steps.{Arrived, arrived, HasStep, Advances, StepCause, MeetsBlock}
+use Rattle.btr_tour.specs.Place.{place_left}
 use Rattle.btr_tour.proofs.Enters.{same_block, enter_leaf, enter_node, enter_fault, todo_wanted, out_shaped, out_step, out_leaf, out_cause}
-use Rattle.btr_tour.proofs.Ranking.{leaf_nears, out_nears, node_nears, fits_frame}
+use Rattle.btr_tour.proofs.Ranking.{leaf_nears, out_nears, node_nears, fits_part}
+use Rattle.btr_walk.specs.Going.{IsAlong}
+use Rattle.btr_walk.specs.Hand.{IsInHand, loan_of}
+use Rattle.btr_walk.specs.Ranks.{IsShaped}
 use Rattle.btr_tour.proofs.entering.enter.Goals as goal
 
-pub of-requires-clause-good : goal.of-requires-clause-good
-of-requires-clause-good g c = (is_leaf_at c.args.todo.now.level c.args.todo.now.spot c.read_block.new.store c.in-Ok.loan
+pub part_of-part-requires-clause-good : goal.part_of-part-requires-clause-good
+part_of-part-requires-clause-good g c = (is_leaf_at c.args.todo.now.level c.args.todo.now.spot c.read_block.new.store c.in-Ok.loan
     c.bytes-then-todo-eq0.result.now c.bytes-then-todo-eq0.ensures.value c.in-Ok.ensures.good c.if-todo-eq0.true).good
 
-pub of-requires-in-Ok-clause-good : goal.of-requires-in-Ok-clause-good
-of-requires-in-Ok-clause-good g c = (is_inner_at c.args.todo.now.level c.args.todo.now.spot c.read_block.new.store c.in-Ok.loan
+pub choose-part-requires-clause-good : goal.choose-part-requires-clause-good
+choose-part-requires-clause-good g c = (is_inner_at c.args.todo.now.level c.args.todo.now.spot c.read_block.new.store c.in-Ok.loan
     c.bytes-in-Ok.result.now c.bytes-in-Ok.ensures.value c.in-Ok.ensures.good c.if-todo-eq0.false).good
 
 pub set_frame-requires : goal.set_frame-requires
@@ -93,18 +97,17 @@ pub returns-then-todo-eq0-clause-hand : goal.returns-then-todo-eq0-clause-hand
 returns-then-todo-eq0-clause-hand g c =
     let block = c.bytes-then-todo-eq0.result.now in
     let leaf = is_leaf_at c.args.todo.now.level c.args.todo.now.spot c.read_block.new.store c.in-Ok.loan block c.bytes-then-todo-eq0.ensures.value c.in-Ok.ensures.good c.if-todo-eq0.true in
-    let end : c.count.result ≡ length (items block) = c.count.ensures.all ∙ ap length c.of.ensures in
+    let part = c.part_of-part.result in
     record {
       live = c.in-Ok.ensures.lent.live;
       large = c.in-Ok.ensures.lent.large;
-      small = omega (arith, c.count.ensures.small);
-      within = omega arith;
-      good = some_block c.read_block.new.store c.in-Ok.loan block (λ (b : List ℕ). IsTrue (is_leaf b) × (c.count.result ≡ length (items b)))
-          c.bytes-then-todo-eq0.ensures.value (leaf.good, end);
+      small = c.part_of-part.ensures.fits;
+      good = some_block c.read_block.new.store c.in-Ok.loan block (λ (b : List ℕ). IsTrue (is_leaf b) × (part.end ≤ length (items b)))
+          c.bytes-then-todo-eq0.ensures.value (leaf.good, c.part_of-part.ensures.part.within);
     }
 
 pub returns-then-todo-eq0-clause-nears : goal.returns-then-todo-eq0-clause-nears
-returns-then-todo-eq0-clause-nears g c = leaf_nears c.args.place.now c.args.todo.now.level c.args.todo.now.spot (record { spot = c.args.todo.now.spot; next = 0; end = c.count.result; loan = c.in-Ok.loan }) c.requires.todo (omega (arith, c.count.ensures.small))
+returns-then-todo-eq0-clause-nears g c = leaf_nears c.args.place.now c.args.todo.now.level c.args.todo.now.spot (record { spot = c.args.todo.now.spot; next = c.part_of-part.result.next; end = c.part_of-part.result.end; loan = c.in-Ok.loan }) c.requires.todo c.part_of-part.ensures.fits
 
 pub returns-then-todo-eq0-clause-content : goal.returns-then-todo-eq0-clause-content
 returns-then-todo-eq0-clause-content g c =
@@ -117,18 +120,19 @@ returns-then-todo-eq0-clause-content g c =
     let store = c.read_block.new.store in
     let loan = c.in-Ok.loan in
     let block = c.bytes.result.now in
+    let part = c.part_of-part.result in
     let after : Where = record { path = place.path; todo = None } in
-    let hand : LeafAt = record { spot = todo.spot; next = 0; end = c.count.result; loan = loan } in
+    let hand : LeafAt = record { spot = todo.spot; next = part.next; end = part.end; loan = loan } in
     let leaf = is_leaf_at todo.level todo.spot store loan block c.bytes.ensures.value c.in-Ok.ensures.good c.if-todo-eq0.true in
-    let end : c.count.result ≡ length (items block) = c.count.ensures.all ∙ ap length c.of.ensures ∙ ap (λ (b : List ℕ). length (items b)) (same_block (block_of store loan) c.bytes-then-todo-eq0.result.now block c.bytes-then-todo-eq0.ensures.value c.bytes.ensures.value) in
+    let is_part : IsPart lo hi (items block) part = subst (λ (b : List ℕ). IsPart lo hi (items b) part) (same_block (block_of store loan) c.bytes-then-todo-eq0.result.now block c.bytes-then-todo-eq0.ensures.value c.bytes.ensures.value) c.part_of-part.ensures.part in
     drawn c.args.store.now.layout (λ B. Reads is B todo.level todo.spot store (Ok loan))
-    (λ B. (seen : List Want) → IsOn lo hi B seen place → Unit {0}
+    (λ B. (seen : List Want) → IsAlong lo hi B seen place → Unit {0}
     → MeetsBlock lo hi B seen sums (place_left lo hi B place) store after (Some hand) c.place_of.result c.read.result)
     (λ B reads seen on none. subst (λ (at : RootPlace). MeetsBlock lo hi B seen sums (place_left lo hi B place) store after (Some hand) at
     c.read.result) (sym c.place_of.ensures) (
     subst (MeetsBlock lo hi B seen sums (place_left lo hi B place) store after (Some hand) (place_of todo.level todo.spot)) (sym c.read.ensures) (
-    enter_leaf lo hi B seen sums place todo.level todo.spot store loan block c.count.result c.requires.todo c.if-todo-eq0.true leaf
-    (block_is store loan block (λ (b : List ℕ). B (want_of todo.level todo.spot) ≡ Ok b) c.bytes.ensures.value reads) c.bytes.ensures.value end on)))
+    enter_leaf lo hi B seen sums place todo.level todo.spot store loan block part c.requires.todo c.if-todo-eq0.true leaf
+    (block_is store loan block (λ (b : List ℕ). B (want_of todo.level todo.spot) ≡ Ok b) c.bytes.ensures.value reads) c.bytes.ensures.value is_part on)))
     c.in-Ok.ensures.content
 
 pub returns-else-todo-eq0-clause-serves : goal.returns-else-todo-eq0-clause-serves
@@ -140,16 +144,16 @@ returns-else-todo-eq0-clause-others g c = given_back _ _ _ _ c.in-Ok.loan c.in-O
 pub returns-else-todo-eq0-clause-shaped : goal.returns-else-todo-eq0-clause-shaped
 returns-else-todo-eq0-clause-shaped g c =
     let inner = is_inner_at c.args.todo.now.level c.args.todo.now.spot c.read_block.new.store c.in-Ok.loan c.bytes-in-Ok.result.now c.bytes-in-Ok.ensures.value c.in-Ok.ensures.good c.if-todo-eq0.false in
-    (node_nears c.args.place.now c.args.todo.now.level c.args.todo.now.spot c.set_frame.new.path c.frame_from-frame.result c.requires.todo inner.some
-    inner.few (fits_frame c.args.scope.now.lo c.args.scope.now.hi c.of-in-Ok.result c.args.todo.now.spot 0 c.frame_from-frame.result
-    c.frame_from-frame.ensures) c.set_frame.ensures.set c.requires.shaped).0
+    (node_nears c.args.place.now c.args.todo.now.level c.args.todo.now.spot c.set_frame.new.path c.frame_of-frame.result c.requires.todo inner.some
+    inner.few (fits_part c.args.todo.now.spot c.choose-part.result c.frame_of-frame.result c.choose-part.ensures.fits c.frame_of-frame.ensures)
+    c.set_frame.ensures.set c.requires.shaped).0
 
 pub returns-else-todo-eq0-clause-nears : goal.returns-else-todo-eq0-clause-nears
 returns-else-todo-eq0-clause-nears g c =
     let inner = is_inner_at c.args.todo.now.level c.args.todo.now.spot c.read_block.new.store c.in-Ok.loan c.bytes-in-Ok.result.now c.bytes-in-Ok.ensures.value c.in-Ok.ensures.good c.if-todo-eq0.false in
-    (node_nears c.args.place.now c.args.todo.now.level c.args.todo.now.spot c.set_frame.new.path c.frame_from-frame.result c.requires.todo inner.some
-    inner.few (fits_frame c.args.scope.now.lo c.args.scope.now.hi c.of-in-Ok.result c.args.todo.now.spot 0 c.frame_from-frame.result
-    c.frame_from-frame.ensures) c.set_frame.ensures.set c.requires.shaped).1
+    (node_nears c.args.place.now c.args.todo.now.level c.args.todo.now.spot c.set_frame.new.path c.frame_of-frame.result c.requires.todo inner.some
+    inner.few (fits_part c.args.todo.now.spot c.choose-part.result c.frame_of-frame.result c.choose-part.ensures.fits c.frame_of-frame.ensures)
+    c.set_frame.ensures.set c.requires.shaped).1
 
 pub returns-else-todo-eq0-clause-step : goal.returns-else-todo-eq0-clause-step
 returns-else-todo-eq0-clause-step g c =
@@ -169,18 +173,19 @@ returns-else-todo-eq0-clause-content g c =
     let new = c.give.new.self in
     let loan = c.in-Ok.loan in
     let block = c.bytes.result.now in
-    let o = c.frame_from-frame.result in
+    let part = c.choose-part.result in
+    let o = c.frame_of-frame.result in
     let after : Where = record { path = c.set_frame.new.path; todo = None } in
     let inner = is_inner_at todo.level todo.spot store loan block c.bytes.ensures.value c.in-Ok.ensures.good c.if-todo-eq0.false in
-    let from : FramesFrom lo hi (pointers block) todo.spot 0 o =
-    subst (λ (ps : List KeyPointer). FramesFrom lo hi ps todo.spot 0 o) (c.of-in-Ok.ensures ∙ ap pointers (same_block (block_of store loan) c.bytes-in-Ok.result.now block c.bytes-in-Ok.ensures.value c.bytes.ensures.value)) c.frame_from-frame.ensures in
+    let choice : IsChoice lo hi (pointers block) part =
+    subst (λ (b : List ℕ). IsChoice lo hi (pointers b) part) (same_block (block_of store loan) c.bytes-in-Ok.result.now block c.bytes-in-Ok.ensures.value c.bytes.ensures.value) c.choose-part.ensures.choice in
     drawn c.args.store.now.layout (λ B. Reads is B todo.level todo.spot store (Ok loan))
-    (λ B. (seen : List Want) → IsOn lo hi B seen place → Unit {0}
+    (λ B. (seen : List Want) → IsAlong lo hi B seen place → Unit {0}
     → MeetsBlock lo hi B seen sums (place_left lo hi B place) new after None c.place_of.result c.read.result)
     (λ B reads seen on none. subst (λ (at : RootPlace). MeetsBlock lo hi B seen sums (place_left lo hi B place) new after None at c.read.result)
     (sym c.place_of.ensures) (
     subst (MeetsBlock lo hi B seen sums (place_left lo hi B place) new after None (place_of todo.level todo.spot)) (sym c.read.ensures) (
-    enter_node lo hi B seen sums place todo.level todo.spot new block c.set_frame.new.path o c.requires.todo inner
-    (block_is store loan block (λ (b : List ℕ). B (want_of todo.level todo.spot) ≡ Ok b) c.bytes.ensures.value reads) c.requires.shaped from
+    enter_node lo hi B seen sums place todo.level todo.spot new block c.set_frame.new.path part o c.requires.todo inner
+    (block_is store loan block (λ (b : List ℕ). B (want_of todo.level todo.spot) ≡ Ok b) c.bytes.ensures.value reads) c.requires.shaped choice c.frame_of-frame.ensures
     c.set_frame.ensures.set on)))
     c.in-Ok.ensures.content

@@ -1,9 +1,9 @@
 use Rattle.std.proofs.Common.{[], IfSome, sym, subst}
-use Rattle.btr_tour.specs.Place.{IsHeld}
 use Rattle.btr_walk.specs.Reading.{unread_by}
 use Rattle.btr_walk.proofs.Joined.{drawn}
 use Rattle.btr_tour.specs.Visits.{IsRun, Visits}
 use Rattle.btr_tour.proofs.Marks.{visit_begun}
+use Rattle.btr_walk.specs.Hand.{IsHeld}
 use Rattle.btr_tour.proofs.visiting.visit.Goals as goal
 
 pub returns-clause-content : goal.returns-clause-content

@@ -1,14 +1,15 @@
-use Rattle.std.proofs.Common.{Ok, Err, None, sym, subst}
+use Rattle.std.proofs.Common.{Some, None, Ok, Err, sym, subst}
 use Rattle.btr_read.specs.Store.{SameLoans}
-use Rattle.btr_walk.specs.Advancing.{loan_of, FromPlace, FromHand, IsLeafAgain, IsAdvanced}
+use Rattle.btr_walk.specs.Advancing.{FromPlace, FromHand, IsAdvanced}
 use Rattle.btr_walk.specs.Lending.{base}
 use Rattle.btr_walk.specs.Reading.{unread_by}
 use Rattle.btr_walk.proofs.Fetched.{since}
 use Rattle.btr_walk.proofs.Hands.{with_hand, with_none, with_kept, kept_halts}
 use Rattle.btr_walk.proofs.Joined.{drawn, joined}
-use Rattle.btr_walk.proofs.Leads.{leaf_back}
 use Rattle.btr_walk.proofs.Lending.{same_then}
+use Rattle.btr_walk.proofs.Turns.{same_layout}
 use Rattle.btr_walk.proofs.advancing.advance.Goals as goal
+use Rattle.btr_walk.specs.Hand.{loan_of, IsLeafAgain}
 
 pub returns-in-Some-clause-content : goal.returns-in-Some-clause-content
 returns-in-Some-clause-content g c =
@@ -30,7 +31,7 @@ returns-in-Ok-clause-others g c =
     let a = c.from_hand-in-Ok.result in
     let new = c.from_hand-in-Ok.new.store in
     subst (λ l. SameLoans (base c.args.store.now (loan_of l)) (base new (loan_of a.leaf))) (sym c.in-None.is)
-    (same_then (leaf_back c.args.store.now c.read_leaf.new.store c.in-Ok.hand c.in-Ok.ensures.lent) c.from_hand-in-Ok.ensures.others)
+    (same_then c.in-Ok.ensures.lent.others c.from_hand-in-Ok.ensures.others)
 
 pub returns-in-Ok-clause-content : goal.returns-in-Ok-clause-content
 returns-in-Ok-clause-content g c =
@@ -43,8 +44,8 @@ returns-in-Ok-clause-content g c =
     joined (λ B. IsLeafAgain was B kept mid (Ok c.in-Ok.hand))
     (λ B. FromHand c.args.lo c.args.hi then B c.args.place.now c.from_hand-in-Ok.new.place c.in-Ok.hand mid c.from_hand-in-Ok.new.store
     c.from_hand-in-Ok.result)
-    (λ B. IsAdvanced c.args.lo c.args.hi is B (record { leaf = c.args.kept.now; rest = c.args.place.now }) c.from_hand-in-Ok.new.place c.args.leaf c.args.store.now c.from_hand-in-Ok.new.store c.from_hand-in-Ok.result) lent.layout
-    (λ B x h. with_kept c.args.lo c.args.hi B c.args.leaf (record { leaf = c.args.kept.now; rest = c.args.place.now }) kept c.in-None.is c.in-Some-kept.is was then is c.args.store.now mid c.from_hand-in-Ok.new.store c.in-Ok.hand c.from_hand-in-Ok.new.place c.from_hand-in-Ok.result (since _ _ lent.layout c.in-Ok.ensures.reads) c.in-Ok.ensures.same x h)
+    (λ B. IsAdvanced c.args.lo c.args.hi is B (record { leaf = c.args.kept.now; rest = c.args.place.now }) c.from_hand-in-Ok.new.place c.args.leaf c.args.store.now c.from_hand-in-Ok.new.store c.from_hand-in-Ok.result) (same_layout c.args.store.now mid None (Some c.in-Ok.hand.loan) lent.others)
+    (λ B x h. with_kept c.args.lo c.args.hi B c.args.leaf (record { leaf = c.args.kept.now; rest = c.args.place.now }) kept c.in-None.is c.in-Some-kept.is was then is c.args.store.now mid c.from_hand-in-Ok.new.store c.in-Ok.hand c.from_hand-in-Ok.new.place c.from_hand-in-Ok.result (since _ _ (same_layout c.args.store.now mid None (Some c.in-Ok.hand.loan) lent.others) c.in-Ok.ensures.reads) c.in-Ok.ensures.same x h)
     c.in-Ok.ensures.content c.from_hand-in-Ok.ensures.content
 
 pub returns-in-Err-clause-content : goal.returns-in-Err-clause-content

@@ -1,4 +1,4 @@
-use Rattle.std.proofs.Common.{◌≡◌, ◌^◌, ◌*◌, ◌<◌, Ok, IfSome, OnErr, sym, subst}
+use Rattle.std.proofs.Common.{◌≡◌, ◌^◌, ◌*◌, Ok, OnErr, sym, subst}
 use Rattle.btr_walk.specs.Reading.{HasCause, unread_by}
 use Rattle.btr_walk.specs.Leaving.{IsReached}
 use Rattle.btr_walk.specs.Ranks.{rank, StepNears}
@@ -22,8 +22,7 @@ returns-in-Ok g c =
     let seen = g.R.Rack.seen c.args.rack.now in
     let now = g.R.Rack.seen c.to_leaf.new.rack in
     let is = unread_by old.layout seen now in
-    let same = sym c.arrived.ensures.value in
-    let fits = subst (λ a. IfSome a.leaf (λ l. l.end < 2 ^ 64)) c.arrived.ensures.value c.arrived.ensures.fits in
+    let same = sym c.arrived.ensures in
     record {
       serves = c.in-Ok.ensures.serves;
       reads = c.in-Ok.ensures.reads;
@@ -31,7 +30,7 @@ returns-in-Ok g c =
       stays = subst (λ a. OnErr a.met (after ≡ place)) same (no_fault_arrived o (after ≡ place));
       shaped = (shaped_arrived place after o nears).0;
       on = (shaped_arrived place after o nears).1;
-      nears = subst (λ a. StepNears (2 ^ 64 * rank place) after a.leaf a.met) same (nears_arrived old new place after o nears fits);
+      nears = subst (λ a. StepNears (2 ^ 64 * rank place) after a.leaf a.met) same (nears_arrived old new place after o lent nears);
       item = subst (λ a. HasItem a.leaf a.met) same (item_arrived old new o lent);
       cause = subst (λ a. HasCause old.layout seen now a.met) same (no_cause_arrived old.layout seen now o);
       content = drawn old.layout (λ B. IsReached c.args.lo c.args.hi is B place after new (Ok o))

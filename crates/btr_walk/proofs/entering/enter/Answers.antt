@@ -1,5 +1,5 @@
-use Rattle.std.proofs.Common.{◌≡◌, ◌≤◌, ℕ, List, Ok, IsTrue, length}
-use Rattle.btr_node.specs.Block.{items, is_leaf}
+use Rattle.std.proofs.Common.{◌≡◌, ◌≤◌, ℕ, List, Ok, IsTrue, length, refl}
+use Rattle.btr_node.specs.Block.{items, pointers, is_leaf}
 use Rattle.btr_prog.specs.Prog.{Wants, first, exec}
 use Rattle.btr_walk.specs.declared.entering.Entered.TheVariants.{Leaf, Inner}
 use Rattle.btr_walk.specs.Le.{want_of}
@@ -10,7 +10,8 @@ use Rattle.btr_walk.specs.Entering.{IsEntered}
 use Rattle.btr_walk.proofs.Fetched.{some_block}
 use Rattle.btr_walk.proofs.Lending.{given_back, served_back}
 use Rattle.btr_walk.proofs.Joined.{drawn, block_is, is_leaf_at, is_inner_at}
-use Rattle.btr_walk.proofs.Entered.{enter_leaf, held_leaf, enter_inner, enter_frame}
+use Rattle.btr_walk.proofs.Entered.{enter_leaf, held_leaf, enter_inner, enter_frame, enter_todo}
+use Rattle.btr_walk.proofs.Ranking.{fits_first}
 use Rattle.btr_walk.proofs.entering.enter.Goals as goal
 
 pub part_of-part-requires-clause-good : goal.part_of-part-requires-clause-good
@@ -21,15 +22,15 @@ pub returns-then-todo-eq0-clause-lent : goal.returns-then-todo-eq0-clause-lent
 returns-then-todo-eq0-clause-lent g c =
     let leaf = is_leaf_at c.args.todo.now.level c.args.todo.now.spot c.read_block.new.store c.in_ok-loan.loan c.bytes.result.now c.bytes.ensures.value c.in_ok-loan.ensures.good c.if-todo-eq0.true in
     record {
-      there = c.in_ok-loan.ensures.lent.there;
-      free = c.in_ok-loan.ensures.lent.free;
-      layout = c.in_ok-loan.ensures.lent.layout;
-      after = c.in_ok-loan.ensures.lent.after;
-      large = c.in_ok-loan.ensures.lent.large;
-      live = c.in_ok-loan.ensures.lent.live;
-      good = some_block c.read_block.new.store c.in_ok-loan.loan c.bytes.result.now
-          (λ (block : List ℕ). IsTrue (is_leaf block) × (c.part_of-part.result.end ≤ length (items block))) c.bytes.ensures.value
-          (leaf.good, c.part_of-part.ensures.within);
+      others = given_back _ _ _ _ c.in_ok-loan.loan c.in_ok-loan.ensures.lent refl;
+      hand = record {
+        live = c.in_ok-loan.ensures.lent.live;
+        large = c.in_ok-loan.ensures.lent.large;
+        small = c.part_of-part.ensures.fits;
+        good = some_block c.read_block.new.store c.in_ok-loan.loan c.bytes.result.now
+            (λ (block : List ℕ). IsTrue (is_leaf block) × (c.part_of-part.result.end ≤ length (items block))) c.bytes.ensures.value
+            (leaf.good, c.part_of-part.ensures.part.within);
+      };
     }
 
 pub returns-then-todo-eq0-clause-content : goal.returns-then-todo-eq0-clause-content
@@ -44,15 +45,19 @@ returns-then-todo-eq0-clause-content g c =
       some_block store c.in_ok-loan.loan block (λ (b : List ℕ). (rest : RangeProg) → exec B (range_at c.args.lo c.args.hi todo.level todo.spot rest)
           ≡ first (Wants (want_of todo.level todo.spot)) (exec B
           (emit_all (part_items todo.spot.addr b c.part_of-part.result.next c.part_of-part.result.end) rest))) c.bytes.ensures.value
-          (enter_leaf c.args.lo c.args.hi B todo.level todo.spot block c.part_of-part.result leaf c.part_of-part.ensures e),
+          (enter_leaf c.args.lo c.args.hi B todo.level todo.spot block c.part_of-part.result leaf c.part_of-part.ensures.part e),
       λ seen read. held_leaf c.args.lo c.args.hi B todo.level todo.spot block store c.part_of-part.result.next c.part_of-part.result.end
           c.in_ok-loan.loan seen leaf c.bytes.ensures.value e read,
     ))
     c.in_ok-loan.ensures.content
 
-pub below_of-below-requires-clause-good : goal.below_of-below-requires-clause-good
-below_of-below-requires-clause-good g c = (is_inner_at c.args.todo.now.level c.args.todo.now.spot c.read_block.new.store c.in_ok-loan.loan
-    c.bytes-2.result.now c.bytes-2.ensures.value c.in_ok-loan.ensures.good c.if-todo-eq0.false).good
+pub choose-requires-clause-good : goal.choose-requires-clause-good
+choose-requires-clause-good g c = (is_inner_at c.args.todo.now.level c.args.todo.now.spot c.read_block.new.store c.in_ok-loan.loan
+    c.bytes-block.result.now c.bytes-block.ensures.value c.in_ok-loan.ensures.good c.if-todo-eq0.false).good
+
+pub first_of-below-requires-clause-good : goal.first_of-below-requires-clause-good
+first_of-below-requires-clause-good g c = (is_inner_at c.args.todo.now.level c.args.todo.now.spot c.read_block.new.store c.in_ok-loan.loan
+    c.bytes-block.result.now c.bytes-block.ensures.value c.in_ok-loan.ensures.good c.if-todo-eq0.false).good
 
 pub returns-clause-lent : goal.returns-clause-lent
 returns-clause-lent g c = given_back _ _ _ _ c.in_ok-loan.loan c.in_ok-loan.ensures.lent c.give.ensures
@@ -65,20 +70,22 @@ returns-clause-content g c =
     let is = unread_by c.args.store.now.layout (g.R.Rack.seen c.args.rack.now) (g.R.Rack.seen c.read_block.new.rack) in
     let todo = c.args.todo.now in
     let store = c.read_block.new.store in
-    let block = c.bytes-2.result.now in
-    let inner = is_inner_at todo.level todo.spot store c.in_ok-loan.loan block c.bytes-2.ensures.value c.in_ok-loan.ensures.good c.if-todo-eq0.false in
+    let block = c.bytes-block.result.now in
+    let inner = is_inner_at todo.level todo.spot store c.in_ok-loan.loan block c.bytes-block.ensures.value c.in_ok-loan.ensures.good c.if-todo-eq0.false in
     drawn c.args.store.now.layout (λ B. Reads is B todo.level todo.spot store (Ok c.in_ok-loan.loan))
-    (λ B. IsEntered c.args.lo c.args.hi is B todo c.give.new.self (Ok (Inner c.below_of-below.result)))
+    (λ B. IsEntered c.args.lo c.args.hi is B todo c.give.new.self (Ok (Inner c.first_of-below.result)))
     (λ B reads up.
-    let e = block_is store c.in_ok-loan.loan block (λ (b : List ℕ). B (want_of todo.level todo.spot) ≡ Ok b) c.bytes-2.ensures.value reads in (
-      enter_inner c.args.lo c.args.hi B todo block c.below_of-below.result inner c.below_of-below.ensures e up,
-      enter_frame c.args.lo c.args.hi B todo block c.below_of-below.result inner c.below_of-below.ensures e up,
-      c.below_of-below.ensures.up up,
-      c.below_of-below.ensures.level,
+    let e = block_is store c.in_ok-loan.loan block (λ (b : List ℕ). B (want_of todo.level todo.spot) ≡ Ok b) c.bytes-block.ensures.value reads in
+    let choice = c.choose.ensures.choice in
+    let b = c.first_of-below.result in (
+      enter_inner c.args.lo c.args.hi B todo block c.choose.result b inner choice c.first_of-below.ensures e up,
+      enter_frame c.args.lo c.args.hi B todo block c.choose.result b inner choice c.first_of-below.ensures e up,
+      enter_todo c.args.lo c.args.hi B todo block c.choose.result b inner choice c.first_of-below.ensures e up,
+      (fits_first (pointers block) todo c.choose.result b inner.some inner.few c.choose.ensures.fits c.first_of-below.ensures).todo,
     ))
     c.in_ok-loan.ensures.content
 
 pub returns-clause-level : goal.returns-clause-level
 returns-clause-level g c =
-    let inner = is_inner_at c.args.todo.now.level c.args.todo.now.spot c.read_block.new.store c.in_ok-loan.loan c.bytes-2.result.now c.bytes-2.ensures.value c.in_ok-loan.ensures.good c.if-todo-eq0.false in
-    (inner.some, inner.few, c.below_of-below.ensures.fits, c.below_of-below.ensures.none, c.below_of-below.ensures.level)
+    let inner = is_inner_at c.args.todo.now.level c.args.todo.now.spot c.read_block.new.store c.in_ok-loan.loan c.bytes-block.result.now c.bytes-block.ensures.value c.in_ok-loan.ensures.good c.if-todo-eq0.false in
+    fits_first _ c.args.todo.now c.choose.result c.first_of-below.result inner.some inner.few c.choose.ensures.fits c.first_of-below.ensures

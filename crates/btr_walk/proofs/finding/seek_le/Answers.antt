@@ -11,6 +11,10 @@ pub place_le-requires-clause-good : goal.place_le-requires-clause-good
 place_le-requires-clause-good g c = (is_leaf_at c.loop-loan.level c.loop-loan.spot c.read_block.new.store c.in_ok-loan.loan c.bytes-block.result.now
     c.bytes-block.ensures.value c.in_ok-loan.ensures.good c.if-level-eq0.true).good
 
+pub first_item_key-until-requires-clause-good : goal.first_item_key-until-requires-clause-good
+first_item_key-until-requires-clause-good g c = (is_leaf_at c.loop-loan.level c.loop-loan.spot c.read_block.new.store c.in_ok-loan.loan
+    c.bytes-block.result.now c.bytes-block.ensures.value c.in_ok-loan.ensures.good c.if-level-eq0.true).good
+
 pub key_behind-requires-clause-good : goal.key_behind-requires-clause-good
 key_behind-requires-clause-good g c = (is_leaf_at c.loop-loan.level c.loop-loan.spot c.read_block.new.store c.in_ok-loan.loan c.bytes-block.result.now
     c.bytes-block.ensures.value c.in_ok-loan.ensures.good c.if-level-eq0.true).good
@@ -19,7 +23,7 @@ pub returns-in-Some-clause-lent : goal.returns-in-Some-clause-lent
 returns-in-Some-clause-lent g c =
     let leaf = is_leaf_at c.loop-loan.level c.loop-loan.spot c.read_block.new.store c.in_ok-loan.loan c.bytes-block.result.now c.bytes-block.ensures.value c.in_ok-loan.ensures.good c.if-level-eq0.true in
     lends_leaf c.args.key c.args.root.now c.loop-loan.level c.loop-loan.spot c.read_block.new.store c.in_ok-loan.loan c.bytes-block.result.now
-    c.bytes-block.ensures.value c.args.store.now c.loop-loan.store _ c.in-Some.at c.key_behind.result c.loop-loan.invariant.same
+    c.bytes-block.ensures.value c.args.store.now c.loop-loan.store _ c.in-Some.at c.loop-loan.invariant.same
     c.in_ok-loan.ensures.lent leaf c.in-Some.ensures.within
 
 pub returns-in-Some-clause-content : goal.returns-in-Some-clause-content
@@ -27,7 +31,7 @@ returns-in-Some-clause-content g c =
     let is = unread_by c.args.store.now.layout (g.R.Rack.seen c.args.rack.now) (g.R.Rack.seen c.read_block.new.rack) in
     let was = unread_by c.loop-loan.store.layout (g.R.Rack.seen c.loop-loan.rack) (g.R.Rack.seen c.read_block.new.rack) in
     let leaf = is_leaf_at c.loop-loan.level c.loop-loan.spot c.read_block.new.store c.in_ok-loan.loan c.bytes-block.result.now c.bytes-block.ensures.value c.in_ok-loan.ensures.good c.if-level-eq0.true in
-    joined (WayOn c.args.key c.args.root.now c.loop-loan.level c.loop-loan.spot) (λ B. Reads was B c.loop-loan.level c.loop-loan.spot c.read_block.new.store (Ok c.in_ok-loan.loan)) (λ B. FindsAndReaches is B c.args.root.now c.args.key c.read_block.new.store (Ok (Some (record { leaf = c.loop-loan.spot.addr; at = c.in-Some.at; loan = c.in_ok-loan.loan; until = c.key_behind.result })))) c.loop-loan.invariant.same.layout
+    joined (WayOn c.args.key c.args.root.now c.loop-loan.level c.loop-loan.spot) (λ B. Reads was B c.loop-loan.level c.loop-loan.spot c.read_block.new.store (Ok c.in_ok-loan.loan)) (λ B. FindsAndReaches is B c.args.root.now c.args.key c.read_block.new.store (Ok (record { spotted = Some (record { leaf = c.loop-loan.spot.addr; at = c.in-Some.at; loan = c.in_ok-loan.loan }); until = c.key_behind.result }))) c.loop-loan.invariant.same.layout
     (finds_some c.args.key c.args.root.now c.loop-loan.level c.loop-loan.spot c.read_block.new.store c.in_ok-loan.loan c.bytes-block.result.now
     c.bytes-block.ensures.value is c.in-Some.at c.key_behind.result leaf c.in-Some.ensures.within c.key_behind.ensures c.in-Some.ensures.some)
     c.loop-loan.invariant.tells c.in_ok-loan.ensures.content
@@ -42,42 +46,46 @@ returns-in-None-clause-content g c =
     let leaf = is_leaf_at c.loop-loan.level c.loop-loan.spot c.read_block.new.store c.in_ok-loan.loan c.bytes-block.result.now c.bytes-block.ensures.value c.in_ok-loan.ensures.good c.if-level-eq0.true in
     joined (WayOn c.args.key c.args.root.now c.loop-loan.level c.loop-loan.spot)
     (λ B. Reads was B c.loop-loan.level c.loop-loan.spot c.read_block.new.store (Ok c.in_ok-loan.loan))
-    (λ B. FindsAndReaches is B c.args.root.now c.args.key c.give.new.self (Ok None)) c.loop-loan.invariant.same.layout
+    (λ B. FindsAndReaches is B c.args.root.now c.args.key c.give.new.self (Ok (record { spotted = None; until = c.first_item_key-until.result }))) c.loop-loan.invariant.same.layout
     (finds_none c.args.key c.args.root.now c.loop-loan.level c.loop-loan.spot c.read_block.new.store c.in_ok-loan.loan c.bytes-block.result.now
-    c.bytes-block.ensures.value is c.give.new.self leaf c.in-None.ensures.none) c.loop-loan.invariant.tells c.in_ok-loan.ensures.content
+    c.bytes-block.ensures.value is c.give.new.self c.first_item_key-until.result leaf c.in-None.ensures.none c.first_item_key-until.ensures) c.loop-loan.invariant.tells c.in_ok-loan.ensures.content
 
-pub child_le-child-requires-clause-good : goal.child_le-child-requires-clause-good
-child_le-child-requires-clause-good g c = (is_inner_at c.loop-loan.level c.loop-loan.spot c.read_block.new.store c.in_ok-loan.loan c.bytes.result.now
-    c.bytes.ensures.value c.in_ok-loan.ensures.good c.if-level-eq0.false).good
+pub child_le-requires-clause-good : goal.child_le-requires-clause-good
+child_le-requires-clause-good g c = (is_inner_at c.loop-loan.level c.loop-loan.spot c.read_block.new.store c.in_ok-loan.loan c.bytes-block-in-loop-loan.result.now
+    c.bytes-block-in-loop-loan.ensures.value c.in_ok-loan.ensures.good c.if-level-eq0.false).good
 
-pub returns-in-None-child-clause-lent : goal.returns-in-None-child-clause-lent
-returns-in-None-child-clause-lent g c = same_then c.loop-loan.invariant.same
-    (given_back _ _ _ _ c.in_ok-loan.loan c.in_ok-loan.ensures.lent c.give-in-loop-loan.ensures)
+pub first_pointer_key-until-requires-clause-good : goal.first_pointer_key-until-requires-clause-good
+first_pointer_key-until-requires-clause-good g c = (is_inner_at c.loop-loan.level c.loop-loan.spot c.read_block.new.store c.in_ok-loan.loan
+    c.bytes-block-in-loop-loan.result.now c.bytes-block-in-loop-loan.ensures.value c.in_ok-loan.ensures.good c.if-level-eq0.false).good
 
-pub returns-in-None-child-clause-content : goal.returns-in-None-child-clause-content
-returns-in-None-child-clause-content g c =
+pub returns-in-None-child_le-clause-lent : goal.returns-in-None-child_le-clause-lent
+returns-in-None-child_le-clause-lent g c = same_then c.loop-loan.invariant.same
+    (given_back _ _ _ _ c.in_ok-loan.loan c.in_ok-loan.ensures.lent c.give-in-None-child_le.ensures)
+
+pub returns-in-None-child_le-clause-content : goal.returns-in-None-child_le-clause-content
+returns-in-None-child_le-clause-content g c =
     let is = unread_by c.args.store.now.layout (g.R.Rack.seen c.args.rack.now) (g.R.Rack.seen c.read_block.new.rack) in
     let was = unread_by c.loop-loan.store.layout (g.R.Rack.seen c.loop-loan.rack) (g.R.Rack.seen c.read_block.new.rack) in
-    let inner = is_inner_at c.loop-loan.level c.loop-loan.spot c.read_block.new.store c.in_ok-loan.loan c.bytes.result.now c.bytes.ensures.value c.in_ok-loan.ensures.good c.if-level-eq0.false in
+    let inner = is_inner_at c.loop-loan.level c.loop-loan.spot c.read_block.new.store c.in_ok-loan.loan c.bytes-block-in-loop-loan.result.now c.bytes-block-in-loop-loan.ensures.value c.in_ok-loan.ensures.good c.if-level-eq0.false in
     joined (WayOn c.args.key c.args.root.now c.loop-loan.level c.loop-loan.spot)
     (λ B. Reads was B c.loop-loan.level c.loop-loan.spot c.read_block.new.store (Ok c.in_ok-loan.loan))
-    (λ B. FindsAndReaches is B c.args.root.now c.args.key c.give-in-loop-loan.new.self (Ok None)) c.loop-loan.invariant.same.layout
-    (finds_nothing c.args.key c.args.root.now c.loop-loan.level c.loop-loan.spot c.read_block.new.store c.in_ok-loan.loan c.bytes.result.now
-    c.bytes.ensures.value is c.give-in-loop-loan.new.self inner (sym c.in-None-child.ensures)) c.loop-loan.invariant.tells c.in_ok-loan.ensures.content
+    (λ B. FindsAndReaches is B c.args.root.now c.args.key c.give-in-None-child_le.new.self (Ok (record { spotted = None; until = c.first_pointer_key-until.result }))) c.loop-loan.invariant.same.layout
+    (finds_nothing c.args.key c.args.root.now c.loop-loan.level c.loop-loan.spot c.read_block.new.store c.in_ok-loan.loan c.bytes-block-in-loop-loan.result.now
+    c.bytes-block-in-loop-loan.ensures.value is c.give-in-None-child_le.new.self c.first_pointer_key-until.result inner (sym c.in-None-child_le.ensures) c.first_pointer_key-until.ensures) c.loop-loan.invariant.tells c.in_ok-loan.ensures.content
 
 pub loop-loan-preserved : goal.loop-loan-preserved
 loop-loan-preserved g c =
-    let inner = is_inner_at c.loop-loan.level c.loop-loan.spot c.read_block.new.store c.in_ok-loan.loan c.bytes.result.now c.bytes.ensures.value c.in_ok-loan.ensures.good c.if-level-eq0.false in
+    let inner = is_inner_at c.loop-loan.level c.loop-loan.spot c.read_block.new.store c.in_ok-loan.loan c.bytes-block-in-loop-loan.result.now c.bytes-block-in-loop-loan.ensures.value c.in_ok-loan.ensures.good c.if-level-eq0.false in
     let was = unread_by c.loop-loan.store.layout (g.R.Rack.seen c.loop-loan.rack) (g.R.Rack.seen c.read_block.new.rack) in
     record {
       reads = reads_more c.loop-loan.invariant.reads c.in_ok-loan.ensures.reads;
-      serves = served_back _ c.read_block.new.store c.give-in-loop-loan.new.self c.in_ok-loan.loan c.in_ok-loan.ensures.serves c.give-in-loop-loan.ensures;
-      same = same_then c.loop-loan.invariant.same (given_back _ _ _ _ c.in_ok-loan.loan c.in_ok-loan.ensures.lent c.give-in-loop-loan.ensures);
+      serves = served_back _ c.read_block.new.store c.give-in-Some-child_le.new.self c.in_ok-loan.loan c.in_ok-loan.ensures.serves c.give-in-Some-child_le.ensures;
+      same = same_then c.loop-loan.invariant.same (given_back _ _ _ _ c.in_ok-loan.loan c.in_ok-loan.ensures.lent c.give-in-Some-child_le.ensures);
       tells = joined (WayOn c.args.key c.args.root.now c.loop-loan.level c.loop-loan.spot)
           (λ B. Reads was B c.loop-loan.level c.loop-loan.spot c.read_block.new.store (Ok c.in_ok-loan.loan))
-          (WayOn c.args.key c.args.root.now _ c.in-Some-child.below) c.loop-loan.invariant.same.layout
-          (goes_down c.args.key c.args.root.now c.loop-loan.level c.loop-loan.spot c.read_block.new.store c.in_ok-loan.loan c.bytes.result.now
-          c.bytes.ensures.value was c.in-Some-child.below inner (sym c.in-Some-child.ensures)) c.loop-loan.invariant.tells c.in_ok-loan.ensures.content;
+          (WayOn c.args.key c.args.root.now _ c.in-Some-child_le.below) c.loop-loan.invariant.same.layout
+          (goes_down c.args.key c.args.root.now c.loop-loan.level c.loop-loan.spot c.read_block.new.store c.in_ok-loan.loan c.bytes-block-in-loop-loan.result.now
+          c.bytes-block-in-loop-loan.ensures.value was c.in-Some-child_le.below inner (sym c.in-Some-child_le.ensures)) c.loop-loan.invariant.tells c.in_ok-loan.ensures.content;
     }
 
 pub returns-in_err-loan-clause-content : goal.returns-in_err-loan-clause-content
@@ -103,6 +111,6 @@ returns-in_err-loan-clause-content g c =
 pub returns-in-None-clause-serves : goal.returns-in-None-clause-serves
 returns-in-None-clause-serves g c = served_back _ c.read_block.new.store c.give.new.self c.in_ok-loan.loan c.in_ok-loan.ensures.serves c.give.ensures
 
-pub returns-in-None-child-clause-serves : goal.returns-in-None-child-clause-serves
-returns-in-None-child-clause-serves g c = served_back _ c.read_block.new.store c.give-in-loop-loan.new.self c.in_ok-loan.loan
-    c.in_ok-loan.ensures.serves c.give-in-loop-loan.ensures
+pub returns-in-None-child_le-clause-serves : goal.returns-in-None-child_le-clause-serves
+returns-in-None-child_le-clause-serves g c = served_back _ c.read_block.new.store c.give-in-None-child_le.new.self c.in_ok-loan.loan
+    c.in_ok-loan.ensures.serves c.give-in-None-child_le.ensures

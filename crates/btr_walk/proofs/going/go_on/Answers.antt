@@ -5,8 +5,7 @@ use Rattle.btr_walk.specs.Again.{Rereads}
 use Rattle.btr_walk.specs.Going.{IsGone}
 use Rattle.btr_walk.specs.Reading.{unread_by}
 use Rattle.btr_walk.proofs.Joined.{drawn, unread_on}
-use Rattle.btr_walk.proofs.Paths.{gone_leaf, gone_inner, gone_end, gone_again, gone_err, again_halts, at_place, level_is}
-use Rattle.btr_walk.proofs.Repeated.{again_from}
+use Rattle.btr_walk.proofs.Paths.{gone_leaf, gone_inner, gone_end, gone_again, gone_err, again_halts, at_place}
 use Rattle.btr_walk.proofs.Ranking.{near_leaf, near_inner, near_again, near_place, fits_below}
 use Rattle.btr_walk.proofs.going.go_on.Goals as goal
 
@@ -34,10 +33,10 @@ returns-in-Ok-Inner-clause-content g c =
     let is = unread_by c.args.store.now.layout (g.R.Rack.seen c.args.rack.now) (g.R.Rack.seen c.enter.new.rack) in
     let place = c.args.place.now in
     let b = c.in-Ok-Inner.below in
-    let level = level_is c.in-Some.todo c.in-Ok-Inner.field-0 b c.in-Ok-Inner.field-0-is c.in-Ok-Inner.ensures.level in
+    let fits = fits_below c.in-Some.todo c.in-Ok-Inner.field-0 b c.in-Ok-Inner.field-0-is c.in-Ok-Inner.ensures.level in
     drawn c.args.store.now.layout (λ B. IsEntered c.args.lo c.args.hi is B c.in-Some.todo c.enter.new.store (Ok c.in-Ok-Inner.field-0)) (λ B. IsGone c.args.lo c.args.hi is B place (record { path = c.set_frame.new.path; todo = b.todo }) c.enter.new.store (Ok gone.Between))
     (λ B h. at_place c.args.lo c.args.hi is B place (record { path = c.set_frame.new.path; todo = b.todo }) (Some c.in-Some.todo) c.enter.new.store (Ok gone.Between) c.in-Some.is
-    (gone_inner c.args.lo c.args.hi B is place.path c.in-Some.todo c.enter.new.store b c.set_frame.new.path c.set_frame.ensures.long level.0 level.1
+    (gone_inner c.args.lo c.args.hi B is place.path c.in-Some.todo c.enter.new.store b c.set_frame.new.path c.set_frame.ensures.long fits.some fits.few
     c.set_frame.ensures.set (subst (λ x. IsEntered c.args.lo c.args.hi is B c.in-Some.todo c.enter.new.store (Ok x)) c.in-Ok-Inner.field-0-is h)))
     c.in-Ok-Inner.ensures.content
 
@@ -59,7 +58,7 @@ returns-in-Err-read_again-clause-content g c =
     (λ B. IsGone c.args.lo c.args.hi is B place place c.read_again.new.store (Err fault))
     (λ B h. at_place c.args.lo c.args.hi is B place place None c.read_again.new.store (Err fault) c.in-None.is
     (again_halts c.args.lo c.args.hi B is place.path place low.at (low.at + 1) low.frame c.read_again.new.store fault refl
-    c.in-Some-lowest.ensures.here (again_from c.args.lo c.args.hi is B (low.at + 1) low.frame (Err fault) h))) c.in-Err-read_again.ensures.content
+    c.in-Some-lowest.ensures.here h)) c.in-Err-read_again.ensures.content
 
 pub returns-in-Ok-clause-content : goal.returns-in-Ok-clause-content
 returns-in-Ok-clause-content g c =
@@ -71,7 +70,7 @@ returns-in-Ok-clause-content g c =
     (λ B h. at_place c.args.lo c.args.hi is B place (record { path = c.set_frame-in-Ok.new.path; todo = b.todo }) None c.read_again.new.store (Ok gone.Between) c.in-None.is
     (gone_again c.args.lo c.args.hi B is place.path low.at (low.at + 1) low.frame c.read_again.new.store b c.set_frame-in-Ok.new.path
     c.set_frame-in-Ok.ensures.long c.in-Some-lowest.ensures.within refl c.in-Some-lowest.ensures.before c.in-Some-lowest.ensures.here
-    c.set_frame-in-Ok.ensures.set (again_from c.args.lo c.args.hi is B (low.at + 1) low.frame (Ok b) h))) c.in-Ok.ensures.content
+    c.set_frame-in-Ok.ensures.set h)) c.in-Ok.ensures.content
 
 pub returns-in-Ok-Leaf-clause-nears : goal.returns-in-Ok-Leaf-clause-nears
 returns-in-Ok-Leaf-clause-nears g c =

@@ -1,7 +1,6 @@
 use Rattle.std.proofs.Common.{◌≡◌, ◌≤◌, ℕ, List, Ok, Err, IsTrue, length, refl, ap, arith}
 use Rattle.btr_node.specs.Block.{items, is_leaf}
 use Rattle.btr_walk.specs.declared.fault.TreeFault.TheVariants as tree
-use Rattle.btr_walk.specs.Advancing.{IsLeafAgain}
 use Rattle.btr_walk.specs.Le.{want_of}
 use Rattle.btr_walk.specs.Reading.{Reads, unread_by}
 use Rattle.btr_walk.proofs.Fetched.{some_block}
@@ -9,6 +8,7 @@ use Rattle.btr_walk.proofs.Hands.{again_halts, again_short, again_held}
 use Rattle.btr_walk.proofs.Joined.{drawn, block_is, is_leaf_at}
 use Rattle.btr_walk.proofs.Lending.{given_back, served_back}
 use Rattle.btr_walk.proofs.leaf_again.read_leaf.Goals as goal
+use Rattle.btr_walk.specs.Hand.{IsLeafAgain}
 
 pub returns-in-Err-clause-content : goal.returns-in-Err-clause-content
 returns-in-Err-clause-content g c =
@@ -47,14 +47,14 @@ returns-else-count-frame-clause-lent g c =
     let leaf = is_leaf_at 0 c.args.frame.now.spot c.read_block.new.store c.in-Ok.loan block c.bytes.ensures.value c.in-Ok.ensures.good refl in
     let same : length c.of.result ≡ length (items block) = ap length c.of.ensures in
     record {
-      there = c.in-Ok.ensures.lent.there;
-      free = c.in-Ok.ensures.lent.free;
-      layout = c.in-Ok.ensures.lent.layout;
-      after = c.in-Ok.ensures.lent.after;
-      large = c.in-Ok.ensures.lent.large;
-      live = c.in-Ok.ensures.lent.live;
-      good = some_block c.read_block.new.store c.in-Ok.loan block (λ (b : List ℕ). IsTrue (is_leaf b) × (c.args.frame.now.end ≤ length (items b)))
-          c.bytes.ensures.value (leaf.good, omega (arith, same, c.count-count.ensures.all, c.if-count-frame.false));
+      others = given_back _ _ _ _ c.in-Ok.loan c.in-Ok.ensures.lent refl;
+      hand = record {
+        live = c.in-Ok.ensures.lent.live;
+        large = c.in-Ok.ensures.lent.large;
+        small = omega (arith, c.count-count.ensures.small, c.if-count-frame.false);
+        good = some_block c.read_block.new.store c.in-Ok.loan block (λ (b : List ℕ). IsTrue (is_leaf b) × (c.args.frame.now.end ≤ length (items b)))
+            c.bytes.ensures.value (leaf.good, omega (arith, same, c.count-count.ensures.all, c.if-count-frame.false));
+      };
     }
 
 pub returns-else-count-frame-clause-content : goal.returns-else-count-frame-clause-content

@@ -6,9 +6,9 @@ use Rattle.btr_walk.specs.Ranks.{IsShaped, rank}
 use Rattle.btr_walk.specs.Leaving.{IsReached}
 use Rattle.btr_walk.proofs.Joined.{joined}
 use Rattle.btr_walk.proofs.Fetched.{since, cause_since}
-use Rattle.btr_walk.proofs.Lending.{same_then, served_back}
+use Rattle.btr_walk.proofs.Lending.{same_then}
 use Rattle.btr_walk.proofs.Leads.{Leads, leads_between, leads_leaf, leads_empty, leads_end, leads_err, gone_as, gone_lent, gone_same, gone_near}
-use Rattle.btr_walk.proofs.Leads.{gone_near_between, gone_at_end, leaf_given}
+use Rattle.btr_walk.proofs.Leads.{gone_near_between, gone_at_end}
 use Rattle.btr_walk.proofs.leaving.to_leaf.Goals as goal
 
 pub returns-in-Err-clause-content : goal.returns-in-Err-clause-content
@@ -73,10 +73,9 @@ loop-fault-preserved g c =
     let was = unread_by c.loop-fault.store.layout (g.R.Rack.seen c.loop-fault.rack) (g.R.Rack.seen c.go_on.new.rack) in
     record {
       reads = reads_more c.loop-fault.invariant.reads c.in-Ok-Leaf.ensures.reads;
-      serves = served_back _ c.go_on.new.store c.give.new.self c.in-Ok-Leaf.leaf.loan c.in-Ok-Leaf.ensures.serves c.give.ensures;
-      same = same_then c.loop-fault.invariant.same (leaf_given c.loop-fault.store c.go_on.new.store c.give.new.self c.in-Ok-Leaf.leaf
-          (gone_lent c.loop-fault.store c.go_on.new.store c.in-Ok-Leaf.field-0 c.in-Ok-Leaf.leaf c.in-Ok-Leaf.field-0-is c.in-Ok-Leaf.ensures.lent)
-          c.give.ensures);
+      serves = c.give_leaf.ensures.serves _ c.in-Ok-Leaf.ensures.serves;
+      same = same_then c.loop-fault.invariant.same (same_then (gone_lent c.loop-fault.store c.go_on.new.store c.in-Ok-Leaf.field-0 c.in-Ok-Leaf.leaf
+          c.in-Ok-Leaf.field-0-is c.in-Ok-Leaf.ensures.lent).others c.give_leaf.ensures.back);
       shaped = (gone_near c.loop-fault.place c.go_on.new.place c.in-Ok-Leaf.field-0 c.in-Ok-Leaf.leaf c.in-Ok-Leaf.field-0-is c.in-Ok-Leaf.ensures.nears).0;
       near = omega (
         arith,
@@ -105,3 +104,7 @@ pub returns-in-Ok-End-clause-nears : goal.returns-in-Ok-End-clause-nears
 returns-in-Ok-End-clause-nears g c =
     let same = gone_at_end c.loop-fault.place c.go_on.new.place c.in-Ok-End.field-0 c.in-Ok-End.field-0-is c.in-Ok-End.ensures.nears in
     subst (λ x. IsShaped x × (rank x ≤ rank c.args.place.now)) (sym same) (c.loop-fault.invariant.shaped, c.loop-fault.invariant.near)
+
+pub give_leaf-requires : goal.give_leaf-requires
+give_leaf-requires g c = (gone_lent c.loop-fault.store c.go_on.new.store c.in-Ok-Leaf.field-0 c.in-Ok-Leaf.leaf c.in-Ok-Leaf.field-0-is
+    c.in-Ok-Leaf.ensures.lent).hand

@@ -1,6 +1,8 @@
-use Rattle.std.proofs.Common.{arith}
-use Rattle.btr_walk.proofs.Preorders.{fits_children, enters_leaf, enters_node}
-use Rattle.btr_walk.proofs.Ranking.{near_leaf, near_inner}
+use Rattle.std.proofs.Common.{◌≡◌, ℕ, ◌<◌, length, ap, ◌∙◌, subst, arith}
+use Rattle.btr_node.specs.Block.{pointers}
+use Rattle.btr_walk.specs.Again.{IsNextBelow}
+use Rattle.btr_walk.proofs.Preorders.{enters_leaf, enters_node}
+use Rattle.btr_walk.proofs.Ranking.{fits_first, near_leaf, near_inner}
 use Rattle.btr_walk.proofs.Ways.{leaf_at, inner_at}
 use Rattle.btr_walk.proofs.preorder.behind.Goals as goal
 
@@ -12,8 +14,13 @@ returns-then-todo-eq0-clause-behind c = λ B seen e on.
     let ahead = c.args.ahead.now in
     enters_leaf B ahead c.args.block.now seen (leaf_at ahead.todo.level ahead.todo.spot c.args.block.now c.requires.good c.if-todo-eq0.true) e on
 
-pub children_of-below-requires-clause-good : goal.children_of-below-requires-clause-good
-children_of-below-requires-clause-good c =
+pub of-requires-clause-good : goal.of-requires-clause-good
+of-requires-clause-good c =
+    let ahead = c.args.ahead.now in
+    (inner_at ahead.todo.level ahead.todo.spot c.args.block.now c.requires.good c.if-todo-eq0.false).good
+
+pub first_of-below-requires-clause-good : goal.first_of-below-requires-clause-good
+first_of-below-requires-clause-good c =
     let ahead = c.args.ahead.now in
     (inner_at ahead.todo.level ahead.todo.spot c.args.block.now c.requires.good c.if-todo-eq0.false).good
 
@@ -28,14 +35,18 @@ set_frame-requires c =
 pub returns-clause-nears : goal.returns-clause-nears
 returns-clause-nears c =
     let ahead = c.args.ahead.now in
-    let b = c.children_of-below.result in
+    let b = c.first_of-below.result in
     let inner = inner_at ahead.todo.level ahead.todo.spot c.args.block.now c.requires.good c.if-todo-eq0.false in
-    near_inner ahead.path c.set_frame.new.path ahead.todo b (fits_children ahead.todo.level ahead.todo.spot c.args.block.now b.frame b.todo inner.some
-    inner.few c.children_of-below.ensures.few c.children_of-below.ensures.first) c.set_frame.ensures.set c.requires.shaped
+    near_inner ahead.path c.set_frame.new.path ahead.todo b
+    (fits_first _ ahead.todo _ b inner.some inner.few (omega (arith, c.count.ensures.small)) c.first_of-below.ensures) c.set_frame.ensures.set c.requires.shaped
 
 pub returns-clause-behind : goal.returns-clause-behind
 returns-clause-behind c = λ B seen e on.
     let ahead = c.args.ahead.now in
     let inner = inner_at ahead.todo.level ahead.todo.spot c.args.block.now c.requires.good c.if-todo-eq0.false in
-    enters_node B ahead c.args.block.now seen c.children_of-below.result c.set_frame.new.path c.requires.shaped.long inner c.set_frame.ensures.set
-    c.children_of-below.ensures.first e on
+    let count : c.count.result ≡ length (pointers c.args.block.now) = c.count.ensures.all ∙ ap length c.of.ensures in
+    let b = c.first_of-below.result in
+    let more : 0 < length (pointers c.args.block.now) = omega (arith, count, c.count.ensures.some) in
+    enters_node B ahead c.args.block.now seen b c.set_frame.new.path c.requires.shaped.long inner more c.set_frame.ensures.set
+    (subst (λ (n : ℕ). IsNextBelow (pointers c.args.block.now) ahead.todo.level (record { spot = ahead.todo.spot; next = 0; end = n }) b.frame b.todo)
+    count (c.first_of-below.ensures.some c.count.ensures.some)) e on

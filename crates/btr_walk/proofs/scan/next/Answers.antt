@@ -5,12 +5,12 @@ use Rattle.btr_walk.proofs.scan.next.Goals as goal
 pub returns-in-Err : goal.returns-in-Err
 returns-in-Err g c =
     let a = c.advance-leaf.result in
-    let free = keeps_err a.leaf c.put.new.place a.met c.in-Err.fault c.put.ensures c.in-Err.is c.advance-leaf.ensures.item in (
+    let free = keeps_err a.leaf c.put_leaf.new.place a.met c.in-Err.fault c.put_leaf.ensures c.in-Err.is c.advance-leaf.ensures.item in (
       (
         refl,
         λ x. tt,
         next_err c.args.store.now c.advance-leaf.new.store c.args.scan.now c.take-leaf.result c.take-leaf.ensures.value
-            c.advance-leaf.new.place a c.put.new.place c.put.ensures _ _ c.advance-leaf.ensures.serves c.in-Err.fault c.in-Err.is free
+            c.advance-leaf.new.place a c.put_leaf.new.place c.put_leaf.ensures _ _ c.advance-leaf.ensures.serves c.in-Err.fault c.in-Err.is free
             c.advance-leaf.ensures.shaped c.advance-leaf.ensures.others c.advance-leaf.ensures.hand c.advance-leaf.ensures.content,
       ),
       record {
@@ -19,7 +19,7 @@ returns-in-Err g c =
         lo = refl;
         hi = refl;
         kept = free;
-        nears = near_none c.args.scan.now c.put.new.place c.advance-leaf.new.place free c.advance-leaf.ensures.on c.requires.ready.alone;
+        nears = near_none c.args.scan.now c.put_leaf.new.place c.advance-leaf.new.place free c.advance-leaf.ensures.on c.requires.ready.alone;
         place = moved_none c.args.scan.now c.advance-leaf.new.place
             (stays_put c.args.scan.now.place.rest c.advance-leaf.new.place a.met c.in-Err.fault c.in-Err.is c.advance-leaf.ensures.stays);
         cause = cause_as c.args.store.now.layout _ _ a.met c.in-Err.fault c.in-Err.is c.advance-leaf.ensures.cause;
@@ -34,7 +34,7 @@ returns-in-Some g c =
         refl,
         λ x. tt,
         next_item c.args.store.now c.advance-leaf.new.store c.args.scan.now c.take-leaf.result c.take-leaf.ensures.value
-            c.advance-leaf.new.place a c.put.new.place c.put.ensures _ _ c.advance-leaf.ensures.serves c.in-Some.hand c.in-Some.is c.found_at.result
+            c.advance-leaf.new.place a c.put_leaf.new.place c.put_leaf.ensures _ _ c.advance-leaf.ensures.serves c.in-Some.hand c.in-Some.is c.found_at.result
             c.bytes.result.now c.bytes.ensures.value c.found_at.ensures met c.advance-leaf.ensures.shaped c.advance-leaf.ensures.others
             c.advance-leaf.ensures.hand c.advance-leaf.ensures.content,
       ),
@@ -43,8 +43,8 @@ returns-in-Some g c =
         reads = c.advance-leaf.ensures.reads;
         lo = refl;
         hi = refl;
-        kept = keeps_item a.leaf c.put.new.place c.in-Some.hand a.met c.put.ensures c.in-Some.is met c.advance-leaf.ensures.item;
-        nears = near_some c.args.scan.now c.take-leaf.result c.put.new.place c.advance-leaf.new.place a c.take-leaf.ensures.value c.put.ensures
+        kept = keeps_item a.leaf c.put_leaf.new.place c.in-Some.hand a.met c.put_leaf.ensures c.in-Some.is met c.advance-leaf.ensures.item;
+        nears = near_some c.args.scan.now c.take-leaf.result c.put_leaf.new.place c.advance-leaf.new.place a c.take-leaf.ensures.value c.put_leaf.ensures
             c.advance-leaf.ensures.nears met;
         place = tt;
         cause = tt;
@@ -55,12 +55,12 @@ pub returns-in-Ok-false : goal.returns-in-Ok-false
 returns-in-Ok-false g c =
     let a = c.advance-leaf.result in
     let met = c.in-Ok-false.is ∙ ap Ok c.in-Ok-false.field-0-test in
-    let free = keeps_end a.leaf c.put.new.place a.met c.put.ensures met c.advance-leaf.ensures.item in (
+    let free = keeps_end a.leaf c.put_leaf.new.place a.met c.put_leaf.ensures met c.advance-leaf.ensures.item in (
       (
         refl,
         λ x. tt,
         next_end c.args.store.now c.advance-leaf.new.store c.args.scan.now c.take-leaf.result c.take-leaf.ensures.value
-            c.advance-leaf.new.place a c.put.new.place c.put.ensures _ _ c.advance-leaf.ensures.serves met free c.advance-leaf.ensures.shaped
+            c.advance-leaf.new.place a c.put_leaf.new.place c.put_leaf.ensures _ _ c.advance-leaf.ensures.serves met free c.advance-leaf.ensures.shaped
             c.advance-leaf.ensures.others c.advance-leaf.ensures.hand c.advance-leaf.ensures.content,
       ),
       record {
@@ -69,7 +69,7 @@ returns-in-Ok-false g c =
         lo = refl;
         hi = refl;
         kept = free;
-        nears = near_none c.args.scan.now c.put.new.place c.advance-leaf.new.place free c.advance-leaf.ensures.on c.requires.ready.alone;
+        nears = near_none c.args.scan.now c.put_leaf.new.place c.advance-leaf.new.place free c.advance-leaf.ensures.on c.requires.ready.alone;
         place = tt;
         cause = tt;
       },

@@ -1,8 +1,9 @@
 use Rattle.std.proofs.Common.{Ok, Err, None, Some}
+use Rattle.btr_walk.specs.Hand.{IsLeafAgain}
 use Rattle.btr_walk.specs.Reading.{unread_by}
 use Rattle.btr_walk.proofs.Joined.{drawn, unread_on}
-use Rattle.btr_tour.specs.Rests.{IsLeafAgain, TakesUp}
-use Rattle.btr_tour.proofs.Resting.{taken, taken_none, goes_on_none, frame_fits, taken_some, goes_on_some, refused_some}
+use Rattle.btr_tour.specs.Rests.{TakesUp}
+use Rattle.btr_tour.proofs.Resting.{taken, taken_none, goes_on_none, taken_some, goes_on_some, refused_some}
 use Rattle.btr_tour.proofs.rest.Rest.tour.Goals as goal
 
 pub returns-in-None-clause-taken : goal.returns-in-None-clause-taken
@@ -16,27 +17,24 @@ returns-in-None-clause-content g c =
     unread_on store.layout (λ B. TakesUp is B rest store (Ok (taken rest c.requires.fits None)))
     (λ B seen on. goes_on_none rest c.requires.fits B seen store c.in-None.is on)
 
-pub read_kept-requires-clause-fits : goal.read_kept-requires-clause-fits
-read_kept-requires-clause-fits g c = frame_fits c.args.self.now c.requires.fits c.in-Some.frame c.in-Some.is
-
 pub returns-in-Err-clause-content : goal.returns-in-Err-clause-content
 returns-in-Err-clause-content g c =
     let rest = c.args.self.now in
-    let store = c.read_kept.new.store in
-    let is = unread_by c.args.store.now.layout (g.R.Rack.seen c.args.rack.now) (g.R.Rack.seen c.read_kept.new.rack) in
+    let store = c.read_leaf.new.store in
+    let is = unread_by c.args.store.now.layout (g.R.Rack.seen c.args.rack.now) (g.R.Rack.seen c.read_leaf.new.rack) in
     drawn c.args.store.now.layout (λ B. IsLeafAgain is B c.in-Some.frame store (Err c.in-Err.fault)) (λ B. TakesUp is B rest store (Err c.in-Err.fault))
     (λ B h. refused_some rest c.requires.fits c.in-Some.frame c.in-Some.is is B store c.in-Err.fault h) c.in-Err.ensures.content
 
 pub returns-in-Ok-clause-taken : goal.returns-in-Ok-clause-taken
 returns-in-Ok-clause-taken g c =
-    taken_some c.args.self.now c.requires.fits c.in-Some.frame c.in-Some.is (g.R.Rack.seen c.read_kept.new.rack) c.args.store.now
-    c.read_kept.new.store c.in-Ok.hand c.in-Ok.ensures.same c.in-Ok.ensures.lent c.in-Ok.ensures.serves
+    taken_some c.args.self.now c.requires.fits c.in-Some.frame c.in-Some.is (g.R.Rack.seen c.read_leaf.new.rack) c.args.store.now
+    c.read_leaf.new.store c.in-Ok.hand c.in-Ok.ensures.same c.in-Ok.ensures.lent c.in-Ok.ensures.serves
 
 pub returns-in-Ok-clause-content : goal.returns-in-Ok-clause-content
 returns-in-Ok-clause-content g c =
     let rest = c.args.self.now in
-    let store = c.read_kept.new.store in
-    let is = unread_by c.args.store.now.layout (g.R.Rack.seen c.args.rack.now) (g.R.Rack.seen c.read_kept.new.rack) in
+    let store = c.read_leaf.new.store in
+    let is = unread_by c.args.store.now.layout (g.R.Rack.seen c.args.rack.now) (g.R.Rack.seen c.read_leaf.new.rack) in
     drawn c.args.store.now.layout (λ B. IsLeafAgain is B c.in-Some.frame store (Ok c.in-Ok.hand))
     (λ B. TakesUp is B rest store (Ok (taken rest c.requires.fits (Some c.in-Ok.hand))))
     (λ B h. goes_on_some rest c.requires.fits c.in-Some.frame c.in-Some.is is B store c.in-Ok.hand c.in-Ok.ensures.same h) c.in-Ok.ensures.content

@@ -1,7 +1,8 @@
 use Rattle.std.proofs.Common.{Ok, sym, subst}
 use Rattle.btr_walk.specs.declared.rest.MetAgain.{MetAgain}
 use Rattle.btr_walk.specs.Reading.{Tells, unread_by}
-use Rattle.btr_walk.specs.Rests.{IsLentAgain, IsMetAgain}
+use Rattle.btr_walk.specs.Finding.{LendsItemAt}
+use Rattle.btr_walk.specs.Rests.{IsMetAgain}
 use Rattle.btr_walk.proofs.Resting.{again_lent, some_in, tells_met, tells_unread}
 use Rattle.btr_walk.proofs.rest.Rest.met_again.Goals as goal
 
@@ -11,7 +12,7 @@ returns-in-Err-clause-content g c = tells_unread c.args.store.now.layout (g.R.Ra
 
 pub returns-in-Ok-clause-lent : goal.returns-in-Ok-clause-lent
 returns-in-Ok-clause-lent g c =
-    subst (λ (m : MetAgain). IsLentAgain c.args.store.now c.read_leaf.new.store m) (sym c.met_in.ensures)
+    subst (λ (m : MetAgain). LendsItemAt c.args.store.now c.read_leaf.new.store m.loan m.at) (sym c.met_in.ensures)
     (again_lent _ _ c.in-Some.frame c.in-Ok.hand (some_in _ _ c.in-Some.is c.requires.met) c.in-Ok.ensures.same c.in-Ok.ensures.lent)
 
 pub returns-in-Ok-clause-content : goal.returns-in-Ok-clause-content

@@ -1,4 +1,4 @@
-// Where a scan begins.
+// Where a cursor begins.
 ghost use Rattle.std.specs.Prelude.{◌≡◌, ℕ, List, None, Some, slice_index_or};
 ghost use Rattle.btr_base.specs.declared.key.Key.{Key};
 ghost use Rattle.btr_walk.specs.Le.{root_spot};
@@ -14,8 +14,8 @@ use crate::going::Where;
 use crate::path::HEIGHT;
 use crate::spot::Spot;
 
-// The place at which a scan begins: the root is to be read.
-pub(crate) fn begin(root: &RootPlace) -> Where
+/// The place at which a cursor begins: the root is to be read.
+pub fn begin(root: &RootPlace) -> Where
     ensures program { (lo hi : Key) (B : Map) → place_prog lo hi B result ≡ range lo hi root.now }
     ensures todo { result.todo ≡ Some (record { level = root.now.level; spot = root_spot root.now }) }
     ensures path { (k : ℕ) → slice_index_or result.path k None ≡ None }
