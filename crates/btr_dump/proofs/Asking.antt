@@ -17,7 +17,7 @@ use Rattle.btr_volume.specs.declared.root.TreeRoot.{TreeRoot}
 use Rattle.btr_volume.specs.declared.stop.Stop.{Stop}
 use Rattle.btr_volume.specs.declared.stop.Stop.TheVariants.{NoTree, Tree, Deletion, Balance, Missing, Image, Sink, Out, Memory}
 use Rattle.btr_dump.specs.Pieces.{Text, Asked, tree_shown, found_tree}
-use Rattle.btr_dump.specs.Showing.{part, TextRun, AskedFollows, StopFollows, Puts, PutsAsked}
+use Rattle.btr_dump.specs.Showing.{part, TextRun, AskedFollows, StopFollows, PutsText, PutsAsked}
 
 module _ (Is : UnreadBlock → Want → Type 0) (B : Map) (kind : SumKind) (id : ℕ) (lookup : Lookup (Option TreeRoot)) where
   abbrev asked : Asked
@@ -55,7 +55,7 @@ module _ (Is : UnreadBlock → Want → Type 0) (B : Map) (kind : SumKind) (id :
   -- the tree was put
   pub asked_some : (root : TreeRoot) (Later : UnreadBlock → Want → Type 0) → ((u : UnreadBlock) (w : Want) → Later u w → Is u w)
       → (old new : Option Text) (result : Result (Unit {0}) Stop) → Follows {S = ⊥} Is no_part [] (exec B lookup) [] (Ok (Some root))
-      → Puts Later (exec B (tree_shown kind root)) old new result → PutsAsked Is (exec B asked) old new result
+      → PutsText Later (exec B (tree_shown kind root)) old new result → PutsAsked Is (exec B asked) old new result
   asked_some root Later weaker old new result h p = record { done = p.done; adds = p.adds; follows = by result p.follows }
     where
       shown : TextRun (Unit {0})

@@ -1,5 +1,5 @@
 -- The items of a cursor, each shown before the next is wanted.
-use Rattle.std.proofs.Common.{◌≡◌, List, [], ◌∷◌, ◌++◌, Option, Result, Ok, Err, refl, sym, ap, ◌∙◌, subst}
+use Rattle.std.proofs.Common.{◌≡◌, Bool, true, false, List, [], ◌∷◌, ◌++◌, Option, Result, Ok, Err, refl, sym, ap, ◌∙◌, subst}
 use Rattle.std.proofs.lemmas.List.{append-nil, append_assoc}
 use Rattle.std.proofs.lemmas.Grind.{flat_map-append}
 use Rattle.btr_prog.specs.Prog.{Prog, Return, Mark, Wants, Does, Run, run, first, prepend, exec, bind, after, and_then, steps_of, wants_of, want_marks}
@@ -12,6 +12,7 @@ use Rattle.btr_prog.proofs.SoFars.{threads_exec}
 use Rattle.btr_prog.proofs.Cursors.{cursor_halts}
 use Rattle.btr_prog.proofs.Follow.{follows_behind, follows_halt, follows_as}
 use Rattle.btr_read.specs.Fate as fate
+use Rattle.btr_read.specs.Store.{Blocks}
 use Rattle.btr_read.specs.declared.want.Want.{Want}
 use Rattle.btr_text.proofs.Writing.{wrote_nothing, wrote_then, wrote_as, cut_then, cut_as}
 use Rattle.btr_walk.specs.declared.fault.TreeFault.{TreeFault}
@@ -20,7 +21,7 @@ use Rattle.btr_volume.specs.Lookup.{Program, each}
 use Rattle.btr_volume.specs.declared.stop.Stop.{Stop}
 use Rattle.btr_volume.specs.declared.stop.Stop.TheVariants.{NoTree, Tree, Deletion, Balance, Missing, Image, Sink, Out, Memory}
 use Rattle.btr_dump.specs.Pieces.{Text, Shown}
-use Rattle.btr_dump.specs.Showing.{part, whole, TextRun, CutIn, WroteAll, Writes, GoesOn}
+use Rattle.btr_dump.specs.Showing.{part, whole, TextRun, CutIn, WroteAll, Writes, GoesOn, Turns}
 
 whole-append : (a b : List Text) → whole (a ++ b) ≡ whole a ++ whole b
 whole-append a b = flat_map-append (λ (piece : Text). piece) a b
@@ -260,3 +261,39 @@ goes_ends On Is Less weaker from mid seen old between new waited waiting waits r
     by (Err (Missing n)) w = absurd w
     by (Err (Image slot)) w = absurd w
     by (Err Sink) w = absurd w
+
+-- a loop over a cursor, wherever it began
+module _ {C : Type 0} (on : Map → List Want → C → Type 0) (left : Map → Blocks → C → Shown) where
+  -- some turns went on
+  abbrev pub Led : Map → Blocks → Blocks → C → C → Option Text → Option Text → Text → Text → Type 0
+  Led B old new c c' text text' waited waits = (seen : List Want) → on B seen c
+      → GoesOn (λ ws. on B ws c') (exec B (left B old c)) (exec B (left B new c')) seen text text' waited waits
+
+  -- one turn more
+  abbrev pub Turned : (UnreadBlock → Want → Type 0) → Map → Blocks → Blocks → C → C → Option Text → Option Text → Text → Text → Result Bool Stop → Type 0
+  Turned Is B old new c c' text text' waited waits result = (seen : List Want) → on B seen c
+      → Turns Is (λ ws. on B ws c') (exec B (left B old c)) (exec B (left B new c')) seen text text' waited waits result
+
+  -- all turns
+  abbrev pub Shows : (UnreadBlock → Want → Type 0) → Map → Blocks → C → Option Text → Option Text → Text → Text → Result (Unit {0}) Stop → Type 0
+  Shows Is B store c text text' waited waits result = (seen : List Want) → on B seen c
+      → Writes Is seen (exec B (left B store c)) text text' waited waits result
+
+  module _ (B : Map) (old mid new : Blocks) (c now after : C) (begun between text : Option Text) (waited waiting waits : Text) where
+    pub led_more : (Is : UnreadBlock → Want → Type 0) → Led B old mid c now begun between waited waiting
+        → Turned Is B mid new now after between text waiting waits (Ok true) → Led B old new c after begun text waited waits
+    led_more Is led turned seen here =
+        goes_more (λ ws. on B ws now) (λ ws. on B ws after) (exec B (left B old c)) (exec B (left B mid now)) (exec B (left B new after)) seen begun
+        between text waited waiting waits (led seen here) turned
+
+    module _ (Was Is : UnreadBlock → Want → Type 0) (weaker : (u : UnreadBlock) (w : Want) → Was u w → Is u w) (led : Led B old mid c now begun between waited waiting) where
+      pub led_ends : Turned Was B mid new now after between text waiting waits (Ok false) → Shows Is B old c begun text waited waits (Ok tt)
+      led_ends turned seen here =
+          goes_ends (λ ws. on B ws now) Was Is weaker (exec B (left B old c)) (exec B (left B mid now)) seen begun between text waited waiting waits
+          (Ok tt) (led seen here) turned
+
+      pub led_stops : (stop : Stop) → Turned Was B mid new now after between text waiting waits (Err stop)
+          → Shows Is B old c begun text waited waits (Err stop)
+      led_stops stop turned seen here =
+          goes_ends (λ ws. on B ws now) Was Is weaker (exec B (left B old c)) (exec B (left B mid now)) seen begun between text waited waiting waits
+          (Err stop) (led seen here) turned

@@ -35,7 +35,7 @@ module _ (Is : UnreadBlock → Want → Type 0) (B : Map) (kind : SumKind) (seen
   show i = tree_if kind (item_root i)
 
   abbrev On : List Want → Type 0
-  On ws = IsOn scan.lo scan.hi B ws scan'.place
+  On ws = IsOn scan'.lo scan'.hi B ws scan'.place
 
   abbrev from : TextRun (Unit {0})
   from = exec B (item_trees kind (left_of B old scan))
@@ -56,7 +56,7 @@ module _ (Is : UnreadBlock → Want → Type 0) (B : Map) (kind : SumKind) (seen
       subst (λ p. GoesOn On from (exec B (item_trees kind p)) seen text text' waited waits) (sym (left_same B mid new scan' same))
       (turn_moves show B (left_of B old scan) (left_of B mid scan') item gives.past gives.is On Is seen (seen ++ gives.past) text text' waited waits
       (subst On (append_assoc seen gives.past (wants_of (exec B (show item)).marks))
-      (on_more scan.lo scan.hi B (seen ++ gives.past) (wants_of (exec B (show item)).marks) scan'.place gives.on))
+      (on_more scan'.lo scan'.hi B (seen ++ gives.past) (wants_of (exec B (show item)).marks) scan'.place gives.on))
       (subst (λ o. WroteAll Is (seen ++ gives.past) (exec B (tree_if kind o)) text text' waited waits (Ok tt)) (sym is) w))
 
   -- or to some place

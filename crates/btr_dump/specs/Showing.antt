@@ -49,7 +49,7 @@ StopFollows Is r done (Err (Image slot)) = ⊥
 StopFollows Is r done (Err Sink) = ⊥
 
 -- what was put on an output
-pub record Puts (Is : UnreadBlock → Want → Type 0) (r : TextRun (Unit {0})) (old new : Option Text) (result : Result (Unit {0}) Stop) : Type 0 where
+pub record PutsText (Is : UnreadBlock → Want → Type 0) (r : TextRun (Unit {0})) (old new : Option Text) (result : Result (Unit {0}) Stop) : Type 0 where
   pub done : List Text
   pub adds : Adds old new (whole done)
   pub follows : StopFollows Is r done result
@@ -114,7 +114,7 @@ WritesShown store before now p old new waited waits result = TellsOf store befor
 
 -- what a call put into a text follows a program, so far as the calls over its store were steady
 abbrev pub PutsShown : Blocks → Seen → Seen → Shown → Option Text → Option Text → Result (Unit {0}) Stop → Type 0
-PutsShown store before now p old new result = TellsOf store before now (λ Is B. Puts Is (exec B p) old new result)
+PutsShown store before now p old new result = TellsOf store before now (λ Is B. PutsText Is (exec B p) old new result)
 
 -- whatever was read, what a call wrote follows a program that wants nothing
 abbrev pub WritesAlways : Shown → Option Text → Option Text → Text → Text → Result (Unit {0}) Stop → Type 0
@@ -125,7 +125,7 @@ WritesAlways p old new waited waits result =
 abbrev pub Finishes : Option Text → Option Text → Text → Result (Unit {0}) Stop → Result (Unit {0}) Stop → Type 0
 Finishes old new waits shown result =
     (layout : Layout) (before now : Seen) (r : TextRun (Unit {0})) (begun : Option Text)
-    → Writes (unread_by layout before now) [] r begun old [] waits shown → Puts (unread_by layout before now) r begun new result
+    → Writes (unread_by layout before now) [] r begun old [] waits shown → PutsText (unread_by layout before now) r begun new result
 
 -- some first marks are past, and their pieces were written behind what waited
 pub record Past (from to : TextRun (Unit {0})) (old new : Option Text) (waited waits : Text) : Type 0 where

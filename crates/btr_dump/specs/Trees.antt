@@ -19,7 +19,7 @@ use Rattle.btr_dump.specs.declared.trees.NextItem.TheVariants.{End, Other, Tree}
 pub record GivesItem (B : Map) (seen : List Want) (old new : Blocks) (scan scan' : Scan) (item : TreeItem) : Type 0 where
   pub past : List Want
   pub is : exec B (left_of B old scan) ≡ prepend (wants past) (first (Does item) (exec B (left_of B new scan')))
-  pub on : IsOn scan.lo scan.hi B (seen ++ past) scan'.place
+  pub on : IsOn scan'.lo scan'.hi B (seen ++ past) scan'.place
 
 -- what the next item of a scan describes
 abbrev pub NextItemBy : (UnreadBlock → Want → Type 0) → Map → List Want → Blocks → Blocks → Scan → Scan → Result NextItem TreeFault → Type 0

@@ -9,7 +9,7 @@ ghost use Rattle.btr_read.specs.declared.want.Want.{Want};
 ghost use Rattle.btr_walk.specs.Reading.{unread_by};
 ghost use Rattle.btr_volume.specs.Looking.{SameVolume};
 ghost use Rattle.btr_dump.specs.Pieces.{kind_in, held_block, held_in, block_shown};
-ghost use Rattle.btr_dump.specs.Showing.{Grows, Writes, WritesAlways, Puts, TellsBlock};
+ghost use Rattle.btr_dump.specs.Showing.{Grows, Writes, WritesAlways, PutsText, TellsBlock};
 ghost use Rattle.btr_dump.specs.Stops.{StopCounts, StopCause};
 
 use crate::ending::{finish, stop_of};
@@ -83,7 +83,7 @@ fn show_block<R: Rack, O: Out>(
     shown
 }
 
-/// Puts the text of the block at a logical address, of whatever tree it is: of the first copy that passes. It takes no memory of its
+/// PutsText the text of the block at a logical address, of whatever tree it is: of the first copy that passes. It takes no memory of its
 /// own. Four slots are free, and after it as many as before.
 ///
 /// `Tree`: the block is `Lost`, `Unread`, `Unmapped` or `Crosses`, or `Malformed` where it breaks a rule of one block; then nothing was
@@ -103,7 +103,7 @@ pub fn dump_block<R: Rack, O: Out>(
     ensures cause { StopCause vol.old.store.layout (R.seen rack.old) (R.seen rack.new) result }
     ensures grows { Grows (O.text out.old) (O.text out.new) }
     ensures content { TellsBlock vol.old.store.layout addr (R.seen rack.old) (R.seen rack.new)
-        (λ B. Puts (unread_by vol.old.store.layout (R.seen rack.old) (R.seen rack.new))
+        (λ B. PutsText (unread_by vol.old.store.layout (R.seen rack.old) (R.seen rack.new))
         (exec B (block_shown (kind_in vol.old.sup) addr))
         (O.text out.old) (O.text out.new) result) }
 {

@@ -6,6 +6,7 @@
 #![tactic(auto)]
 
 mod block;
+mod cursor;
 mod ending;
 mod kind;
 mod lines;

@@ -1,45 +1,28 @@
 // The lines of the roots.
-ghost use Rattle.std.specs.Prelude.{◌≡◌, ◌<◌, ◌≤◌, List, ◌++◌};
-ghost use Rattle.btr_prog.specs.Prog.{exec};
+ghost use Rattle.std.specs.Prelude.{◌≡◌, ◌<◌, ◌≤◌, ◌++◌};
 ghost use Rattle.btr_rack.specs.Out.{Counts};
 ghost use Rattle.btr_rack.specs.Rack.{OnlyReads};
 ghost use Rattle.btr_read.specs.Serves.{Serves};
 ghost use Rattle.btr_read.specs.Store.{SameLoans, free_count};
-ghost use Rattle.btr_read.specs.declared.want.Want.{Want};
 ghost use Rattle.btr_text.specs.Pieces.{text_of};
 ghost use Rattle.btr_text.specs.Text.{Writes as WritesText};
-ghost use Rattle.btr_walk.specs.Going.{IsOn};
-ghost use Rattle.btr_walk.specs.Reading.{Tells, unread_by};
-ghost use Rattle.btr_walk.specs.ScanEnds.{IsReady, without_leaf, left_of, rank_of};
 ghost use Rattle.btr_volume.specs.Looking.{SameVolume};
 ghost use Rattle.btr_volume.specs.Tree.{root_root, named_root};
 ghost use Rattle.btr_volume.specs.Table.{chunk_root};
 ghost use Rattle.btr_dump.specs.Pieces as spec;
-ghost use Rattle.btr_dump.specs.Showing.{Grows, Writes, Turns, TurnNears, WritesShown, PutsShown};
+ghost use Rattle.btr_dump.specs.Showing.{Grows, WritesShown, PutsShown};
 ghost use Rattle.btr_dump.specs.Stops.{StopCounts, StopCause};
 
+use crate::cursor::{Cursor, show_rest};
 use crate::ending::{finish, stop_of};
 use crate::lines::{root_line, write_item};
-use btr_base::Key;
+use btr_base::{FIRST_KEY, LAST_KEY};
 use btr_rack::{Out, Rack, SinkError};
 use btr_read::Store;
 use btr_super::Super;
 use btr_text::{Piece, TextBuffer};
 use btr_volume::{Stop, Volume, chunk_root, root_root};
 use btr_walk::{RootPlace, Scan, next};
-
-// The first and the last key that there are.
-pub(crate) const FIRST_KEY: Key = Key {
-    objectid: 0,
-    kind: 0,
-    offset: 0,
-};
-
-pub(crate) const LAST_KEY: Key = Key {
-    objectid: u64::MAX,
-    kind: u8::MAX,
-    offset: u64::MAX,
-};
 
 fn top_line(id: u64, place: &RootPlace) -> [Piece<'static>; 11]
     ensures { text_of result ≡ spec.root_line (named_root id place.now) }
@@ -57,70 +40,43 @@ fn write_tops<O: Out>(s: &Super, text: &mut TextBuffer, out: &mut O) -> Result<(
     text.push_all(&top_line(3, &chunk_root(s)), out)
 }
 
-// Shows the next item of a scan; `false` where there is none.
-fn show_next<R: Rack, O: Out>(
-    scan: &mut Scan,
-    rack: &mut R,
-    store: &mut Store,
-    text: &mut TextBuffer,
-    out: &mut O,
-) -> Result<bool, Stop>
-    requires ready { IsReady (R.seen rack.old) store.old scan.old }
-    requires room { 4 ≤ free_count (without_leaf store.old scan.old) }
-    ensures ready { IsReady (R.seen rack.new) store.new scan.new }
-    ensures reads { OnlyReads (R.seen rack.old) (R.seen rack.new) }
-    ensures others { SameLoans (without_leaf store.old scan.old) (without_leaf store.new scan.new) }
-    ensures lo { scan.new.lo ≡ scan.old.lo }
-    ensures hi { scan.new.hi ≡ scan.old.hi }
-    ensures nears { TurnNears (rank_of scan.old) (rank_of scan.new) result }
-    ensures account { StopCounts (O.account out.old) (O.account out.new) result }
-    ensures cause { StopCause store.old.layout (R.seen rack.old) (R.seen rack.new) result }
-    ensures grows { Grows (O.text out.old) (O.text out.new) }
-    ensures content { Tells store.old.layout (R.seen rack.old) (R.seen rack.new)
-        (λ B. (seen : List Want) → IsOn scan.old.lo scan.old.hi B seen scan.old.place
-        → Turns (unread_by store.old.layout (R.seen rack.old) (R.seen rack.new))
-        (λ ws. IsOn scan.old.lo scan.old.hi B ws scan.new.place)
-        (exec B (spec.item_lines (left_of B store.old scan.old)))
-        (exec B (spec.item_lines (left_of B store.new scan.new)))
-        seen (O.text out.old) (O.text out.new) text.old text.new result) }
-{
-    match next(store, scan, rack) {
-        Err(fault) => Err(Stop::Tree(fault)),
-        Ok(None) => Ok(false),
-        Ok(Some(found)) => match write_item(&found, text, out) {
-            Err(stop) => Err(stop),
-            Ok(()) => Ok(true),
-        },
-    }
+// The lines of the items of a scan that are still to be shown.
+struct RootLines {
+    scan: Scan,
 }
 
-// Shows the items of a scan.
-fn show_items<R: Rack, O: Out>(
-    scan: &mut Scan,
-    rack: &mut R,
-    store: &mut Store,
-    text: &mut TextBuffer,
-    out: &mut O,
-) -> Result<(), Stop>
-    requires ready { IsReady (R.seen rack.old) store.old scan.old }
-    requires room { 4 ≤ free_count (without_leaf store.old scan.old) }
-    ensures ready { IsReady (R.seen rack.new) store.new scan.new }
-    ensures reads { OnlyReads (R.seen rack.old) (R.seen rack.new) }
-    ensures others { SameLoans (without_leaf store.old scan.old) (without_leaf store.new scan.new) }
-    ensures account { StopCounts (O.account out.old) (O.account out.new) result }
-    ensures cause { StopCause store.old.layout (R.seen rack.old) (R.seen rack.new) result }
-    ensures grows { Grows (O.text out.old) (O.text out.new) }
-    ensures content { Tells store.old.layout (R.seen rack.old) (R.seen rack.new)
-        (λ B. (seen : List Want) → IsOn scan.old.lo scan.old.hi B seen scan.old.place
-        → Writes (unread_by store.old.layout (R.seen rack.old) (R.seen rack.new)) seen
-        (exec B (spec.item_lines (left_of B store.old scan.old)))
-        (O.text out.old) (O.text out.new) text.old text.new result) }
-{
-    loop {
-        match show_next(scan, rack, store, text, out) {
-            Err(stop) => return Err(stop),
-            Ok(false) => return Ok(()),
-            Ok(true) => {}
+impl Cursor for RootLines {
+    ghost use Rattle.btr_walk.specs.Advancing.{loan_of};
+    ghost use Rattle.btr_walk.specs.Going.{IsOn};
+    ghost use Rattle.btr_walk.specs.ScanEnds.{IsScanReady, left_of, rank_of};
+    ghost use Rattle.btr_dump.specs.Pieces.{item_lines};
+
+    ghost ready = { λ rack store lines. IsScanReady rack store lines.scan };
+
+    ghost loan = { λ lines. loan_of lines.scan.leaf };
+
+    ghost room = { 4 };
+
+    ghost rank = { λ lines. rank_of lines.scan };
+
+    ghost on = { λ B seen lines. IsOn lines.scan.lo lines.scan.hi B seen lines.scan.place };
+
+    ghost left = { λ B store lines. item_lines (left_of B store lines.scan) };
+
+    fn show_next<R: Rack, O: Out>(
+        &mut self,
+        rack: &mut R,
+        store: &mut Store,
+        text: &mut TextBuffer,
+        out: &mut O,
+    ) -> Result<bool, Stop> {
+        match next(store, &mut self.scan, rack) {
+            Err(fault) => Err(Stop::Tree(fault)),
+            Ok(None) => Ok(false),
+            Ok(Some(found)) => match write_item(&found, text, out) {
+                Err(stop) => Err(stop),
+                Ok(()) => Ok(true),
+            },
         }
     }
 }
@@ -148,8 +104,11 @@ fn show_roots<R: Rack, O: Out>(
         Ok(()) => {}
         Err(refusal) => return Err(stop_of(refusal)),
     }
-    let mut scan = Scan::new(&root_root(s), FIRST_KEY, LAST_KEY);
-    let shown = show_items(&mut scan, rack, store, text, out);
+    let mut lines = RootLines {
+        scan: Scan::new(&root_root(s), FIRST_KEY, LAST_KEY),
+    };
+    let shown = show_rest(&mut lines, rack, store, text, out);
+    let RootLines { scan } = lines;
     scan.finish(store);
     shown
 }

@@ -1,19 +1,18 @@
 // A tree.
-ghost use Rattle.std.specs.Prelude.{◌≡◌, ◌<◌, ◌≤◌, List};
+ghost use Rattle.std.specs.Prelude.{◌≡◌, ◌<◌, ◌≤◌};
 ghost use Rattle.btr_prog.specs.Prog.{exec};
 ghost use Rattle.btr_rack.specs.Rack.{OnlyReads};
 ghost use Rattle.btr_read.specs.Serves.{Serves};
 ghost use Rattle.btr_read.specs.Store.{SameLoans, free_count};
-ghost use Rattle.btr_read.specs.declared.want.Want.{Want};
 ghost use Rattle.btr_text.specs.Pieces.{text_of};
 ghost use Rattle.btr_volume.specs.Looking.{SameVolume};
-ghost use Rattle.btr_walk.specs.Preorder.{IsAmong, IsReadyFor, blocks_left, without_block, blocks_rank};
-ghost use Rattle.btr_walk.specs.Reading.{Tells, unread_by, TellsOf};
-ghost use Rattle.btr_dump.specs.Pieces.{tree_text, blocks_shown, tree_shown, asked_tree};
-ghost use Rattle.btr_dump.specs.Showing.{Grows, Writes, Turns, TurnNears, PutsAsked, WritesShown, PutsShown};
+ghost use Rattle.btr_walk.specs.Reading.{TellsOf};
+ghost use Rattle.btr_dump.specs.Pieces.{tree_text, tree_shown, asked_tree};
+ghost use Rattle.btr_dump.specs.Showing.{Grows, Writes, PutsAsked, WritesShown, PutsShown};
 ghost use Rattle.btr_dump.specs.Stops.{StopCounts, StopCause};
 
 use crate::block::write_held;
+use crate::cursor::{Cursor, show_rest};
 use crate::ending::{finish, stop_of};
 use crate::kind::kind_in;
 use btr_base::SumKind;
@@ -36,69 +35,42 @@ fn tree_line(id: u64, offset: u64) -> [Piece<'static>; 5]
     ]
 }
 
-// Shows the next block of a walk; `false` where there is none.
-fn show_next<R: Rack, O: Out>(
+// The blocks of a tree that are still to be shown.
+struct TreeBlocks {
     kind: SumKind,
-    scan: &mut BlockScan,
-    rack: &mut R,
-    store: &mut Store,
-    text: &mut TextBuffer,
-    out: &mut O,
-) -> Result<bool, Stop>
-    requires ready { IsReadyFor (R.seen rack.old) store.old scan.old }
-    requires room { 4 ≤ free_count (without_block store.old scan.old) }
-    ensures ready { IsReadyFor (R.seen rack.new) store.new scan.new }
-    ensures reads { OnlyReads (R.seen rack.old) (R.seen rack.new) }
-    ensures others { SameLoans (without_block store.old scan.old) (without_block store.new scan.new) }
-    ensures nears { TurnNears (blocks_rank scan.old) (blocks_rank scan.new) result }
-    ensures account { StopCounts (O.account out.old) (O.account out.new) result }
-    ensures cause { StopCause store.old.layout (R.seen rack.old) (R.seen rack.new) result }
-    ensures grows { Grows (O.text out.old) (O.text out.new) }
-    ensures content { Tells store.old.layout (R.seen rack.old) (R.seen rack.new)
-        (λ B. (seen : List Want) → IsAmong B seen scan.old.place
-        → Turns (unread_by store.old.layout (R.seen rack.old) (R.seen rack.new))
-        (λ ws. IsAmong B ws scan.new.place)
-        (exec B (blocks_shown kind (blocks_left B scan.old))) (exec B (blocks_shown kind (blocks_left B scan.new)))
-        seen (O.text out.old) (O.text out.new) text.old text.new result) }
-{
-    match next_block(store, scan, rack) {
-        Err(fault) => Err(Stop::Tree(fault)),
-        Ok(None) => Ok(false),
-        Ok(Some(found)) => match write_held(kind, found.addr, found.bytes, text, out) {
-            Err(stop) => Err(stop),
-            Ok(()) => Ok(true),
-        },
-    }
+    scan: BlockScan,
 }
 
-// Shows the blocks of a walk.
-fn show_blocks<R: Rack, O: Out>(
-    kind: SumKind,
-    scan: &mut BlockScan,
-    rack: &mut R,
-    store: &mut Store,
-    text: &mut TextBuffer,
-    out: &mut O,
-) -> Result<(), Stop>
-    requires ready { IsReadyFor (R.seen rack.old) store.old scan.old }
-    requires room { 4 ≤ free_count (without_block store.old scan.old) }
-    ensures ready { IsReadyFor (R.seen rack.new) store.new scan.new }
-    ensures reads { OnlyReads (R.seen rack.old) (R.seen rack.new) }
-    ensures others { SameLoans (without_block store.old scan.old) (without_block store.new scan.new) }
-    ensures account { StopCounts (O.account out.old) (O.account out.new) result }
-    ensures cause { StopCause store.old.layout (R.seen rack.old) (R.seen rack.new) result }
-    ensures grows { Grows (O.text out.old) (O.text out.new) }
-    ensures content { Tells store.old.layout (R.seen rack.old) (R.seen rack.new)
-        (λ B. (seen : List Want) → IsAmong B seen scan.old.place
-        → Writes (unread_by store.old.layout (R.seen rack.old) (R.seen rack.new)) seen
-        (exec B (blocks_shown kind (blocks_left B scan.old)))
-        (O.text out.old) (O.text out.new) text.old text.new result) }
-{
-    loop {
-        match show_next(kind, scan, rack, store, text, out) {
-            Err(stop) => return Err(stop),
-            Ok(false) => return Ok(()),
-            Ok(true) => {}
+impl Cursor for TreeBlocks {
+    ghost use Rattle.btr_walk.specs.Preorder.{IsAmong, IsReadyFor, blocks_left, blocks_rank};
+    ghost use Rattle.btr_dump.specs.Pieces.{blocks_shown};
+
+    ghost ready = { λ rack store blocks. IsReadyFor rack store blocks.scan };
+
+    ghost loan = { λ blocks. blocks.scan.loan };
+
+    ghost room = { 4 };
+
+    ghost rank = { λ blocks. blocks_rank blocks.scan };
+
+    ghost on = { λ B seen blocks. IsAmong B seen blocks.scan.place };
+
+    ghost left = { λ B store blocks. blocks_shown blocks.kind (blocks_left B blocks.scan) };
+
+    fn show_next<R: Rack, O: Out>(
+        &mut self,
+        rack: &mut R,
+        store: &mut Store,
+        text: &mut TextBuffer,
+        out: &mut O,
+    ) -> Result<bool, Stop> {
+        match next_block(store, &mut self.scan, rack) {
+            Err(fault) => Err(Stop::Tree(fault)),
+            Ok(None) => Ok(false),
+            Ok(Some(found)) => match write_held(self.kind, found.addr, found.bytes, text, out) {
+                Err(stop) => Err(stop),
+                Ok(()) => Ok(true),
+            },
         }
     }
 }
@@ -127,8 +99,12 @@ pub(crate) fn show_tree<R: Rack, O: Out>(
         Ok(()) => {}
         Err(refusal) => return Err(stop_of(refusal)),
     }
-    let mut scan = BlockScan::new(&root.place);
-    let shown = show_blocks(kind, &mut scan, rack, store, text, out);
+    let mut blocks = TreeBlocks {
+        kind,
+        scan: BlockScan::new(&root.place),
+    };
+    let shown = show_rest(&mut blocks, rack, store, text, out);
+    let TreeBlocks { kind: _, scan } = blocks;
     scan.finish(store);
     shown
 }

@@ -1,25 +1,24 @@
 // All trees.
 ghost use Rattle.std.specs.Prelude.{◌≡◌, ◌≤◌, List};
-ghost use Rattle.btr_prog.specs.Prog.{exec};
 ghost use Rattle.btr_rack.specs.Rack.{OnlyReads};
 ghost use Rattle.btr_read.specs.Serves.{Serves};
 ghost use Rattle.btr_read.specs.Store.{SameLoans, free_count};
 ghost use Rattle.btr_read.specs.declared.want.Want.{Want};
 ghost use Rattle.btr_walk.specs.Going.{IsOn};
 ghost use Rattle.btr_walk.specs.Reading.{HasCause, Tells, unread_by};
-ghost use Rattle.btr_walk.specs.ScanEnds.{IsReady, without_leaf, left_of, rank_of};
+ghost use Rattle.btr_walk.specs.ScanEnds.{IsScanReady, without_leaf, rank_of};
 ghost use Rattle.btr_walk.specs.Showing.{item_of};
 ghost use Rattle.btr_volume.specs.Looking.{SameVolume};
-ghost use Rattle.btr_dump.specs.Pieces.{item_root, item_trees, top_trees, all_trees};
-ghost use Rattle.btr_dump.specs.Showing.{Grows, Writes, Turns, TurnNears, WritesShown, PutsShown};
+ghost use Rattle.btr_dump.specs.Pieces.{item_root, top_trees, all_trees};
+ghost use Rattle.btr_dump.specs.Showing.{Grows, WritesShown, PutsShown};
 ghost use Rattle.btr_dump.specs.Stops.{StopCounts, StopCause};
 ghost use Rattle.btr_dump.specs.Trees.{ItemNears, NextItemBy};
 
+use crate::cursor::{Cursor, show_rest};
 use crate::ending::finish;
 use crate::kind::kind_in;
-use crate::roots::{FIRST_KEY, LAST_KEY};
 use crate::tree::show_tree;
-use btr_base::SumKind;
+use btr_base::{FIRST_KEY, LAST_KEY, SumKind};
 use btr_items::{ItemFault, item};
 use btr_rack::{Out, Rack};
 use btr_read::Store;
@@ -59,13 +58,11 @@ fn next_item<R: Rack>(
     rack: &mut R,
     store: &mut Store,
 ) -> Result<NextItem, TreeFault>
-    requires ready { IsReady (R.seen rack.old) store.old scan.old }
+    requires ready { IsScanReady (R.seen rack.old) store.old scan.old }
     requires room { 4 ≤ free_count (without_leaf store.old scan.old) }
-    ensures ready { IsReady (R.seen rack.new) store.new scan.new }
+    ensures ready { IsScanReady (R.seen rack.new) store.new scan.new }
     ensures reads { OnlyReads (R.seen rack.old) (R.seen rack.new) }
     ensures others { SameLoans (without_leaf store.old scan.old) (without_leaf store.new scan.new) }
-    ensures lo { scan.new.lo ≡ scan.old.lo }
-    ensures hi { scan.new.hi ≡ scan.old.hi }
     ensures nears { ItemNears (rank_of scan.old) (rank_of scan.new) result }
     ensures cause { HasCause store.old.layout (R.seen rack.old) (R.seen rack.new) result }
     ensures content { Tells store.old.layout (R.seen rack.old) (R.seen rack.new)
@@ -83,73 +80,46 @@ fn next_item<R: Rack>(
     }
 }
 
-// Shows the tree that the next item of a scan describes, if it describes one; `false` where there is no item.
-fn show_next<R: Rack, O: Out>(
+// The trees that the items of a scan describe and that are still to be shown.
+struct ItemTrees {
     kind: SumKind,
-    scan: &mut Scan,
-    rack: &mut R,
-    store: &mut Store,
-    text: &mut TextBuffer,
-    out: &mut O,
-) -> Result<bool, Stop>
-    requires ready { IsReady (R.seen rack.old) store.old scan.old }
-    requires room { 5 ≤ free_count (without_leaf store.old scan.old) }
-    ensures ready { IsReady (R.seen rack.new) store.new scan.new }
-    ensures reads { OnlyReads (R.seen rack.old) (R.seen rack.new) }
-    ensures others { SameLoans (without_leaf store.old scan.old) (without_leaf store.new scan.new) }
-    ensures lo { scan.new.lo ≡ scan.old.lo }
-    ensures hi { scan.new.hi ≡ scan.old.hi }
-    ensures nears { TurnNears (rank_of scan.old) (rank_of scan.new) result }
-    ensures account { StopCounts (O.account out.old) (O.account out.new) result }
-    ensures cause { StopCause store.old.layout (R.seen rack.old) (R.seen rack.new) result }
-    ensures grows { Grows (O.text out.old) (O.text out.new) }
-    ensures content { Tells store.old.layout (R.seen rack.old) (R.seen rack.new)
-        (λ B. (seen : List Want) → IsOn scan.old.lo scan.old.hi B seen scan.old.place
-        → Turns (unread_by store.old.layout (R.seen rack.old) (R.seen rack.new))
-        (λ ws. IsOn scan.old.lo scan.old.hi B ws scan.new.place)
-        (exec B (item_trees kind (left_of B store.old scan.old)))
-        (exec B (item_trees kind (left_of B store.new scan.new)))
-        seen (O.text out.old) (O.text out.new) text.old text.new result) }
-{
-    match next_item(scan, rack, store) {
-        Err(fault) => Err(Stop::Tree(fault)),
-        Ok(NextItem::End) => Ok(false),
-        Ok(NextItem::Other) => Ok(true),
-        Ok(NextItem::Tree(root)) => match show_tree(kind, &root, rack, store, text, out) {
-            Err(stop) => Err(stop),
-            Ok(()) => Ok(true),
-        },
-    }
+    scan: Scan,
 }
 
-// Shows the trees that the items of a scan describe.
-fn show_items<R: Rack, O: Out>(
-    kind: SumKind,
-    scan: &mut Scan,
-    rack: &mut R,
-    store: &mut Store,
-    text: &mut TextBuffer,
-    out: &mut O,
-) -> Result<(), Stop>
-    requires ready { IsReady (R.seen rack.old) store.old scan.old }
-    requires room { 5 ≤ free_count (without_leaf store.old scan.old) }
-    ensures ready { IsReady (R.seen rack.new) store.new scan.new }
-    ensures reads { OnlyReads (R.seen rack.old) (R.seen rack.new) }
-    ensures others { SameLoans (without_leaf store.old scan.old) (without_leaf store.new scan.new) }
-    ensures account { StopCounts (O.account out.old) (O.account out.new) result }
-    ensures cause { StopCause store.old.layout (R.seen rack.old) (R.seen rack.new) result }
-    ensures grows { Grows (O.text out.old) (O.text out.new) }
-    ensures content { Tells store.old.layout (R.seen rack.old) (R.seen rack.new)
-        (λ B. (seen : List Want) → IsOn scan.old.lo scan.old.hi B seen scan.old.place
-        → Writes (unread_by store.old.layout (R.seen rack.old) (R.seen rack.new)) seen
-        (exec B (item_trees kind (left_of B store.old scan.old)))
-        (O.text out.old) (O.text out.new) text.old text.new result) }
-{
-    loop {
-        match show_next(kind, scan, rack, store, text, out) {
-            Err(stop) => return Err(stop),
-            Ok(false) => return Ok(()),
-            Ok(true) => {}
+impl Cursor for ItemTrees {
+    ghost use Rattle.btr_walk.specs.Advancing.{loan_of};
+    ghost use Rattle.btr_walk.specs.ScanEnds.{left_of};
+    ghost use Rattle.btr_dump.specs.Pieces.{item_trees};
+
+    ghost ready = { λ rack store trees. IsScanReady rack store trees.scan };
+
+    ghost loan = { λ trees. loan_of trees.scan.leaf };
+
+    ghost room = { 5 };
+
+    ghost rank = { λ trees. rank_of trees.scan };
+
+    ghost on = { λ B seen trees. IsOn trees.scan.lo trees.scan.hi B seen trees.scan.place };
+
+    ghost left = { λ B store trees. item_trees trees.kind (left_of B store trees.scan) };
+
+    fn show_next<R: Rack, O: Out>(
+        &mut self,
+        rack: &mut R,
+        store: &mut Store,
+        text: &mut TextBuffer,
+        out: &mut O,
+    ) -> Result<bool, Stop> {
+        match next_item(&mut self.scan, rack, store) {
+            Err(fault) => Err(Stop::Tree(fault)),
+            Ok(NextItem::End) => Ok(false),
+            Ok(NextItem::Other) => Ok(true),
+            Ok(NextItem::Tree(root)) => {
+                match show_tree(self.kind, &root, rack, store, text, out) {
+                    Err(stop) => Err(stop),
+                    Ok(()) => Ok(true),
+                }
+            }
         }
     }
 }
@@ -203,8 +173,12 @@ fn show_all<R: Rack, O: Out>(
         Ok(()) => {}
         Err(stop) => return Err(stop),
     }
-    let mut scan = Scan::new(&root_root(s), FIRST_KEY, LAST_KEY);
-    let shown = show_items(kind_in(s), &mut scan, rack, store, text, out);
+    let mut trees = ItemTrees {
+        kind: kind_in(s),
+        scan: Scan::new(&root_root(s), FIRST_KEY, LAST_KEY),
+    };
+    let shown = show_rest(&mut trees, rack, store, text, out);
+    let ItemTrees { kind: _, scan } = trees;
     scan.finish(store);
     shown
 }

@@ -1,6 +1,6 @@
 use Rattle.std.proofs.Common.{◌∙◌, Ok, Err, sym, subst}
 use Rattle.btr_walk.specs.Reading.{unread_by}
-use Rattle.btr_dump.specs.Showing.{Puts}
+use Rattle.btr_dump.specs.Showing.{PutsText}
 use Rattle.btr_dump.proofs.Endings.{finish_cut, finish_refused}
 use Rattle.btr_dump.proofs.Growing.{grows_none, puts_grow}
 use Rattle.btr_dump.proofs.ending.finish.Goals as goal
@@ -12,7 +12,7 @@ returns-then-is_cut-clause-text g c = λ layout before now r begun w.
 pub returns-in-Err-clause-text : goal.returns-in-Err-clause-text
 returns-in-Err-clause-text g c = λ layout before now r begun w.
     let t = c.in-Err.ensures.text in
-    subst (λ e. Puts (unread_by layout before now) r begun (g.O.Out.text c.flush.new.out) (Err e)) (sym c.stop_of.ensures)
+    subst (λ e. PutsText (unread_by layout before now) r begun (g.O.Out.text c.flush.new.out) (Err e)) (sym c.stop_of.ensures)
     (finish_refused (unread_by layout before now) r begun (g.O.Out.text c.args.out.now) (g.O.Out.text c.flush.new.out) c.args.text c.args.shown t.0
     c.in-Err.refusal (sym c.is_cut.ensures ∙ c.if-is_cut.false) w t.1)
 

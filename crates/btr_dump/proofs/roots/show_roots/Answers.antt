@@ -34,23 +34,23 @@ pub returns-clause-content : goal.returns-clause-content
 returns-clause-content g c =
     let s = c.args.s.now in
     let layout = c.args.store.now.layout in
-    let is = unread_by layout (g.R.Rack.seen c.args.rack.now) (g.R.Rack.seen c.show_items-shown.new.rack) in
+    let is = unread_by layout (g.R.Rack.seen c.args.rack.now) (g.R.Rack.seen c.show_rest-shown.new.rack) in
     let old = g.O.Out.text c.args.out.now in
     let mid = g.O.Out.text c.write_tops.new.out in
-    let new = g.O.Out.text c.show_items-shown.new.out in
-    let scan = c.new-scan.result in
+    let new = g.O.Out.text c.show_rest-shown.new.out in
+    let scan = c.new.result in
     drawn layout (λ B. (seen : List Want) → IsOn scan.lo scan.hi B seen scan.place
-    → Writes is seen (exec B (item_lines (left_of B c.args.store.now scan))) mid new c.write_tops.new.text c.show_items-shown.new.text
-    c.show_items-shown.result)
-    (λ B. Writes is [] (exec B (roots_shown s)) old new c.args.text.now c.show_items-shown.new.text c.show_items-shown.result)
+    → Writes is seen (exec B (item_lines (left_of B c.args.store.now scan))) mid new c.write_tops.new.text c.show_rest-shown.new.text
+    c.show_rest-shown.result)
+    (λ B. Writes is [] (exec B (roots_shown s)) old new c.args.text.now c.show_rest-shown.new.text c.show_rest-shown.result)
     (λ B h. two_then is B (root_line (named_root 1 (root_root s))) (root_line (named_root 3 (chunk_root s)))
-    (item_lines (range first_key last_key (root_root s))) old mid new c.args.text.now c.write_tops.new.text c.show_items-shown.new.text
-    c.show_items-shown.result
+    (item_lines (range first_key last_key (root_root s))) old mid new c.args.text.now c.write_tops.new.text c.show_rest-shown.new.text
+    c.show_rest-shown.result
     c.in-Ok.ensures.text
-    (subst (λ p. Writes is [] (exec B (item_lines p)) mid new c.write_tops.new.text c.show_items-shown.new.text c.show_items-shown.result)
-    (c.new-scan.ensures.program B c.args.store.now ∙ ap (range first_key last_key) c.root_root.ensures)
-    (h [] (on_as first_key last_key scan.lo scan.hi B [] scan.place (sym c.new-scan.ensures.lo) (sym c.new-scan.ensures.hi) (c.new-scan.ensures.on B)))))
-    c.show_items-shown.ensures.content
+    (subst (λ p. Writes is [] (exec B (item_lines p)) mid new c.write_tops.new.text c.show_rest-shown.new.text c.show_rest-shown.result)
+    (c.new.ensures.program B c.args.store.now ∙ ap (range first_key last_key) c.root_root.ensures)
+    (h [] (on_as first_key last_key scan.lo scan.hi B [] scan.place (sym c.new.ensures.lo) (sym c.new.ensures.hi) (c.new.ensures.on B)))))
+    c.show_rest-shown.ensures.content
 
 pub returns-in-Err-clause-grows : goal.returns-in-Err-clause-grows
 returns-in-Err-clause-grows g c =
@@ -62,4 +62,4 @@ pub returns-clause-grows : goal.returns-clause-grows
 returns-clause-grows g c =
     let s = c.args.s.now in
     grows_twice (text_grows (Unit {0}) (g.O.Out.text c.args.out.now) (g.O.Out.text c.write_tops.new.out) c.args.text.now c.write_tops.new.text
-    (root_line (named_root 1 (root_root s)) ++ root_line (named_root 3 (chunk_root s))) (Ok tt) c.in-Ok.ensures.text) c.show_items-shown.ensures.grows
+    (root_line (named_root 1 (root_root s)) ++ root_line (named_root 3 (chunk_root s))) (Ok tt) c.in-Ok.ensures.text) c.show_rest-shown.ensures.grows

@@ -5,7 +5,7 @@ use Rattle.btr_volume.specs.Tree.{tree_of}
 use Rattle.btr_volume.specs.declared.stop.Stop.TheVariants.{NoTree, Tree}
 use Rattle.btr_walk.specs.Reading.{unread_by, answer_of}
 use Rattle.btr_dump.specs.Pieces.{kind_in, asked_tree, tree_shown}
-use Rattle.btr_dump.specs.Showing.{Puts, PutsAsked}
+use Rattle.btr_dump.specs.Showing.{PutsText, PutsAsked}
 use Rattle.btr_dump.proofs.Asking.{asked_fault, asked_none, asked_some}
 use Rattle.btr_walk.proofs.Fetched.{since}
 use Rattle.btr_walk.proofs.Joined.{drawn, joined}
@@ -48,12 +48,12 @@ returns-in-Ok-Some-clause-content g c =
     let begun = g.O.Out.text c.args.out.now in
     let text = g.O.Out.text c.put_tree.new.out in
     joined (λ B. Follows {S = ⊥} (unread_by layout old mid) no_part [] (exec B (tree_of s c.args.id)) [] (answer_of (Ok c.in-Ok-Some.field-0)))
-    (λ B. Puts later (exec B (tree_shown c.kind_in.result c.in-Ok-Some.root)) begun text c.put_tree.result)
+    (λ B. PutsText later (exec B (tree_shown c.kind_in.result c.in-Ok-Some.root)) begun text c.put_tree.result)
     (λ B. PutsAsked is (exec B (asked_tree s c.args.id)) begun text c.put_tree.result) same.store.layout
     (λ B h p. asked_some is B (kind_in s) c.args.id (tree_of s c.args.id) c.in-Ok-Some.root later
     (since layout later_layout same.store.layout c.in-Ok-Some.ensures.reads) begun text c.put_tree.result
     (subst (λ o. Follows {S = ⊥} is no_part [] (exec B (tree_of s c.args.id)) [] (Ok o)) c.in-Ok-Some.field-0-is h)
-    (subst (λ k. Puts later (exec B (tree_shown k c.in-Ok-Some.root)) begun text c.put_tree.result) kind p))
+    (subst (λ k. PutsText later (exec B (tree_shown k c.in-Ok-Some.root)) begun text c.put_tree.result) kind p))
     c.in-Ok-Some.ensures.content c.put_tree.ensures.content
 
 pub returns-in-Err-clause-grows : goal.returns-in-Err-clause-grows

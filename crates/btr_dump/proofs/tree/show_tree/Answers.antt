@@ -34,20 +34,20 @@ returns-clause-content g c =
     let root = c.args.root.now in
     let kind = c.args.kind in
     let layout = c.args.store.now.layout in
-    let is = unread_by layout (g.R.Rack.seen c.args.rack.now) (g.R.Rack.seen c.show_blocks-shown.new.rack) in
+    let is = unread_by layout (g.R.Rack.seen c.args.rack.now) (g.R.Rack.seen c.show_rest-shown.new.rack) in
     let old = g.O.Out.text c.args.out.now in
     let mid = g.O.Out.text c.push_all.new.out in
-    let new = g.O.Out.text c.show_blocks-shown.new.out in
-    let scan = c.new-scan.result in
+    let new = g.O.Out.text c.show_rest-shown.new.out in
+    let scan = c.new.result in
     let line = tree_text root.id root.offset in
     drawn layout (λ B. (seen : List Want) → IsAmong B seen scan.place
-    → Writes is seen (exec B (blocks_shown kind (blocks_left B scan))) mid new c.push_all.new.self c.show_blocks-shown.new.text c.show_blocks-shown.result)
-    (λ B. Writes is [] (exec B (tree_shown kind root)) old new c.args.text.now c.show_blocks-shown.new.text c.show_blocks-shown.result)
-    (λ B h. one_then is B line (blocks_shown kind (blocks root.place)) old mid new c.args.text.now c.push_all.new.self c.show_blocks-shown.new.text
-    c.show_blocks-shown.result (wrote_as line c.tree_line.ensures c.in-Ok.ensures.text)
-    (subst (λ p. Writes is [] (exec B (blocks_shown kind p)) mid new c.push_all.new.self c.show_blocks-shown.new.text c.show_blocks-shown.result)
-    (c.new-scan.ensures.program B) (h [] (c.new-scan.ensures.on B))))
-    c.show_blocks-shown.ensures.content
+    → Writes is seen (exec B (blocks_shown kind (blocks_left B scan))) mid new c.push_all.new.self c.show_rest-shown.new.text c.show_rest-shown.result)
+    (λ B. Writes is [] (exec B (tree_shown kind root)) old new c.args.text.now c.show_rest-shown.new.text c.show_rest-shown.result)
+    (λ B h. one_then is B line (blocks_shown kind (blocks root.place)) old mid new c.args.text.now c.push_all.new.self c.show_rest-shown.new.text
+    c.show_rest-shown.result (wrote_as line c.tree_line.ensures c.in-Ok.ensures.text)
+    (subst (λ p. Writes is [] (exec B (blocks_shown kind p)) mid new c.push_all.new.self c.show_rest-shown.new.text c.show_rest-shown.result)
+    (c.new.ensures.program B) (h [] (c.new.ensures.on B))))
+    c.show_rest-shown.ensures.content
 
 pub returns-in-Err-clause-grows : goal.returns-in-Err-clause-grows
 returns-in-Err-clause-grows g c =
@@ -57,4 +57,4 @@ returns-in-Err-clause-grows g c =
 pub returns-clause-grows : goal.returns-clause-grows
 returns-clause-grows g c =
     grows_twice (text_grows (Unit {0}) (g.O.Out.text c.args.out.now) (g.O.Out.text c.push_all.new.out) c.args.text.now c.push_all.new.self
-    (text_of c.tree_line.result) (Ok tt) c.in-Ok.ensures.text) c.show_blocks-shown.ensures.grows
+    (text_of c.tree_line.result) (Ok tt) c.in-Ok.ensures.text) c.show_rest-shown.ensures.grows

@@ -7,6 +7,7 @@ use Rattle.btr_walk.specs.Showing.{item_of}
 use Rattle.btr_dump.specs.Trees.{NextItemBy}
 use Rattle.btr_dump.specs.declared.trees.NextItem.TheVariants as item
 use Rattle.btr_walk.proofs.Joined.{drawn}
+use Rattle.btr_dump.proofs.Telling.{on_as}
 use Rattle.btr_dump.proofs.trees.next_item.Goals as goal
 
 pub returns-in-Some-clause-content : goal.returns-in-Some-clause-content
@@ -20,7 +21,7 @@ returns-in-Some-clause-content g c =
     (λ B. (seen : List Want) → IsOn scan.lo scan.hi B seen scan.place → NextItemBy is B seen old new scan next (Ok (item.Tree c.in-Some.root)))
     (λ B h seen on.
     let gives = subst (λ r. IsNextOn is B old new scan next r) (c.in-Ok-Some.is ∙ ap Ok c.in-Ok-Some.field-0-is) h seen on in
-    (item_of c.in-Ok-Some.found, record { past = gives.past; is = gives.is; on = gives.on }, sym c.root_in.ensures ∙ c.in-Some.is))
+    (item_of c.in-Ok-Some.found, record { past = gives.past; is = gives.is; on = on_as scan.lo scan.hi next.lo next.hi B _ next.place (sym c.next.ensures.lo) (sym c.next.ensures.hi) gives.on }, sym c.root_in.ensures ∙ c.in-Some.is))
     c.next.follows.holds-at-none.content
 
 pub returns-in-None-clause-content : goal.returns-in-None-clause-content
@@ -34,5 +35,5 @@ returns-in-None-clause-content g c =
     (λ B. (seen : List Want) → IsOn scan.lo scan.hi B seen scan.place → NextItemBy is B seen old new scan next (Ok item.Other))
     (λ B h seen on.
     let gives = subst (λ r. IsNextOn is B old new scan next r) (c.in-Ok-Some.is ∙ ap Ok c.in-Ok-Some.field-0-is) h seen on in
-    (item_of c.in-Ok-Some.found, record { past = gives.past; is = gives.is; on = gives.on }, sym c.root_in.ensures ∙ c.in-None.is))
+    (item_of c.in-Ok-Some.found, record { past = gives.past; is = gives.is; on = on_as scan.lo scan.hi next.lo next.hi B _ next.place (sym c.next.ensures.lo) (sym c.next.ensures.hi) gives.on }, sym c.root_in.ensures ∙ c.in-None.is))
     c.next.follows.holds-at-none.content

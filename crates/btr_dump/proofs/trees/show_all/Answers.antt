@@ -32,7 +32,7 @@ returns-in-Err-clause-content g c =
     c.in-Err.stop w) c.in-Err.ensures.content
 
 pub returns-clause-grows : goal.returns-clause-grows
-returns-clause-grows g c = grows_twice c.in-Ok.ensures.grows c.show_items-shown.ensures.grows
+returns-clause-grows g c = grows_twice c.in-Ok.ensures.grows c.show_rest-shown.ensures.grows
 
 pub returns-clause-content : goal.returns-clause-content
 returns-clause-content g c =
@@ -42,20 +42,20 @@ returns-clause-content g c =
     let mid = store.layout in
     let before = g.R.Rack.seen c.args.rack.now in
     let between = g.R.Rack.seen c.show_tops.new.rack in
-    let after = g.R.Rack.seen c.show_items-shown.new.rack in
+    let after = g.R.Rack.seen c.show_rest-shown.new.rack in
     let is = unread_by layout before after in
     let early = unread_by layout before between in
     let later = unread_by mid between after in
     let old = g.O.Out.text c.args.out.now in
     let text = g.O.Out.text c.show_tops.new.out in
-    let new = g.O.Out.text c.show_items-shown.new.out in
+    let new = g.O.Out.text c.show_rest-shown.new.out in
     let waited = c.args.text.now in
     let waiting = c.show_tops.new.text in
-    let waits = c.show_items-shown.new.text in
-    let scan = c.new-scan.result in
+    let waits = c.show_rest-shown.new.text in
+    let scan = c.new.result in
     let items = range first_key last_key (root_root s) in
     let kind = c.kind_in.result in
-    let result = c.show_items-shown.result in
+    let result = c.show_rest-shown.result in
     joined (λ B. Writes {A = Unit {0}} early [] (exec B (top_trees s)) old text waited waiting (Ok tt))
     (λ B. (seen : List Want) → IsOn scan.lo scan.hi B seen scan.place
     → Writes later seen (exec B (item_trees kind (left_of B store scan))) text new waiting waits result)
@@ -64,6 +64,6 @@ returns-clause-content g c =
     (since layout mid c.in-Ok.ensures.loans.layout c.in-Ok.ensures.reads) old text new waited waiting waits result one
     (subst (λ k. Writes later [] (exec B (item_trees k items)) text new waiting waits result) c.kind_in.ensures
     (subst (λ p. Writes later [] (exec B (item_trees kind p)) text new waiting waits result)
-    (c.new-scan.ensures.program B store ∙ ap (range first_key last_key) c.root_root.ensures)
-    (two [] (on_as first_key last_key scan.lo scan.hi B [] scan.place (sym c.new-scan.ensures.lo) (sym c.new-scan.ensures.hi) (c.new-scan.ensures.on B))))))
-    c.in-Ok.ensures.content c.show_items-shown.ensures.content
+    (c.new.ensures.program B store ∙ ap (range first_key last_key) c.root_root.ensures)
+    (two [] (on_as first_key last_key scan.lo scan.hi B [] scan.place (sym c.new.ensures.lo) (sym c.new.ensures.hi) (c.new.ensures.on B))))))
+    c.in-Ok.ensures.content c.show_rest-shown.ensures.content

@@ -16,7 +16,7 @@ use Rattle.btr_walk.proofs.Joined.{drawn, joined}
 use Rattle.btr_walk.proofs.Turns.{same_layout}
 use Rattle.btr_dump.proofs.Telling.{stop_cause_since}
 use Rattle.btr_dump.proofs.Turning.{other_goes, tree_goes, tree_stops}
-use Rattle.btr_dump.proofs.trees.show_next.Goals as goal
+use Rattle.btr_dump.proofs.trees.ItemTreesCursor.show_next.Goals as goal
 
 pub show_tree-requires-clause-room : goal.show_tree-requires-clause-room
 show_tree-requires-clause-room g c =
@@ -25,8 +25,8 @@ show_tree-requires-clause-room g c =
 
 pub returns-in-Err-clause-content : goal.returns-in-Err-clause-content
 returns-in-Err-clause-content g c =
-    let kind = c.args.kind in
-    let scan = c.args.scan.now in
+    let kind = c.args.self.now.kind in
+    let scan = c.args.self.now.scan in
     let next = c.next_item.new.scan in
     let old = c.args.store.now in
     let new = c.next_item.new.store in
@@ -35,14 +35,14 @@ returns-in-Err-clause-content g c =
     let waits = c.args.text.now in
     drawn old.layout (λ B. (seen : List Want) → IsOn scan.lo scan.hi B seen scan.place → NextItemBy is B seen old new scan next (Err c.in-Err.fault))
     (λ B. (seen : List Want) → IsOn scan.lo scan.hi B seen scan.place
-    → Turns is (λ ws. IsOn scan.lo scan.hi B ws next.place) (exec B (item_trees kind (left_of B old scan)))
+    → Turns is (λ ws. IsOn next.lo next.hi B ws next.place) (exec B (item_trees kind (left_of B old scan)))
     (exec B (item_trees kind (left_of B new next))) seen text text waits waits (Err (Tree c.in-Err.fault)))
     (λ B h seen on. turn_halts (λ i. tree_if kind (item_root i)) B is seen (left_of B old scan) text waits c.in-Err.fault (h seen on)) c.in-Err.ensures.content
 
 pub returns-in-Ok-End-clause-content : goal.returns-in-Ok-End-clause-content
 returns-in-Ok-End-clause-content g c =
-    let kind = c.args.kind in
-    let scan = c.args.scan.now in
+    let kind = c.args.self.now.kind in
+    let scan = c.args.self.now.scan in
     let next = c.next_item.new.scan in
     let old = c.args.store.now in
     let new = c.next_item.new.store in
@@ -51,15 +51,15 @@ returns-in-Ok-End-clause-content g c =
     let waits = c.args.text.now in
     drawn old.layout (λ B. (seen : List Want) → IsOn scan.lo scan.hi B seen scan.place → NextItemBy is B seen old new scan next (Ok c.in-Ok-End.field-0))
     (λ B. (seen : List Want) → IsOn scan.lo scan.hi B seen scan.place
-    → Turns is (λ ws. IsOn scan.lo scan.hi B ws next.place) (exec B (item_trees kind (left_of B old scan)))
+    → Turns is (λ ws. IsOn next.lo next.hi B ws next.place) (exec B (item_trees kind (left_of B old scan)))
     (exec B (item_trees kind (left_of B new next))) seen text text waits waits (Ok false))
     (λ B h seen on. turn_ends (λ i. tree_if kind (item_root i)) B is seen (left_of B old scan) text waits
     (subst (λ r. NextItemBy is B seen old new scan next (Ok r)) c.in-Ok-End.field-0-is (h seen on))) c.in-Ok-End.ensures.content
 
 pub returns-in-Ok-Other-clause-content : goal.returns-in-Ok-Other-clause-content
 returns-in-Ok-Other-clause-content g c =
-    let kind = c.args.kind in
-    let scan = c.args.scan.now in
+    let kind = c.args.self.now.kind in
+    let scan = c.args.self.now.scan in
     let next = c.next_item.new.scan in
     let old = c.args.store.now in
     let new = c.next_item.new.store in
@@ -68,7 +68,7 @@ returns-in-Ok-Other-clause-content g c =
     let waits = c.args.text.now in
     drawn old.layout (λ B. (seen : List Want) → IsOn scan.lo scan.hi B seen scan.place → NextItemBy is B seen old new scan next (Ok c.in-Ok-Other.field-0))
     (λ B. (seen : List Want) → IsOn scan.lo scan.hi B seen scan.place
-    → Turns is (λ ws. IsOn scan.lo scan.hi B ws next.place) (exec B (item_trees kind (left_of B old scan)))
+    → Turns is (λ ws. IsOn next.lo next.hi B ws next.place) (exec B (item_trees kind (left_of B old scan)))
     (exec B (item_trees kind (left_of B new next))) seen text text waits waits (Ok true))
     (λ B h seen on.
     let given = subst (λ r. NextItemBy is B seen old new scan next (Ok r)) c.in-Ok-Other.field-0-is (h seen on) in
@@ -82,10 +82,10 @@ returns-in-Err-show_tree-clause-cause g c =
 
 pub returns-in-Err-show_tree-clause-content : goal.returns-in-Err-show_tree-clause-content
 returns-in-Err-show_tree-clause-content g c =
-    let kind = c.args.kind in
+    let kind = c.args.self.now.kind in
     let root = c.in-Ok-Tree.root in
     let stop = c.in-Err-show_tree.stop in
-    let scan = c.args.scan.now in
+    let scan = c.args.self.now.scan in
     let next = c.next_item.new.scan in
     let old = c.args.store.now in
     let mid = c.next_item.new.store in
@@ -113,9 +113,9 @@ returns-in-Err-show_tree-clause-content g c =
 
 pub returns-in-Ok-clause-content : goal.returns-in-Ok-clause-content
 returns-in-Ok-clause-content g c =
-    let kind = c.args.kind in
+    let kind = c.args.self.now.kind in
     let root = c.in-Ok-Tree.root in
-    let scan = c.args.scan.now in
+    let scan = c.args.self.now.scan in
     let next = c.next_item.new.scan in
     let old = c.args.store.now in
     let mid = c.next_item.new.store in
@@ -134,7 +134,7 @@ returns-in-Ok-clause-content g c =
     → NextItemBy (unread_by old.layout before between) B seen old mid scan next (Ok c.in-Ok-Tree.field-0))
     (λ B. Writes {A = Unit {0}} later [] (exec B (tree_shown kind root)) text text' waited waits (Ok tt))
     (λ B. (seen : List Want) → IsOn scan.lo scan.hi B seen scan.place
-    → GoesOn (λ ws. IsOn scan.lo scan.hi B ws next.place) (exec B (item_trees kind (left_of B old scan)))
+    → GoesOn (λ ws. IsOn next.lo next.hi B ws next.place) (exec B (item_trees kind (left_of B old scan)))
     (exec B (item_trees kind (left_of B new next))) seen text text' waited waits) same
     (λ B h w seen on.
     let given = subst (λ r. NextItemBy (unread_by old.layout before between) B seen old mid scan next (Ok r)) c.in-Ok-Tree.field-0-is (h seen on) in

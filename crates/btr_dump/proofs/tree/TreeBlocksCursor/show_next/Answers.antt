@@ -11,13 +11,13 @@ use Rattle.btr_dump.proofs.Blocks.{met_wants_none, met_written}
 use Rattle.btr_dump.proofs.Loops.{turn_halts, turn_ends, turn_goes, turn_stops}
 use Rattle.btr_walk.proofs.Joined.{drawn}
 use Rattle.btr_dump.proofs.Growing.{grows_none, run_grows, no_block}
-use Rattle.btr_dump.proofs.tree.show_next.Goals as goal
+use Rattle.btr_dump.proofs.tree.TreeBlocksCursor.show_next.Goals as goal
 
 pub returns-in-Err-clause-content : goal.returns-in-Err-clause-content
 returns-in-Err-clause-content g c =
-    let scan = c.args.scan.now in
+    let scan = c.args.self.now.scan in
     let next = c.next_block.new.scan in
-    let kind = c.args.kind in
+    let kind = c.args.self.now.kind in
     let is = unread_by c.args.store.now.layout (g.R.Rack.seen c.args.rack.now) (g.R.Rack.seen c.next_block.new.rack) in
     let text = g.O.Out.text c.args.out.now in
     let waits = c.args.text.now in
@@ -30,9 +30,9 @@ returns-in-Err-clause-content g c =
 
 pub returns-in-Ok-None-clause-content : goal.returns-in-Ok-None-clause-content
 returns-in-Ok-None-clause-content g c =
-    let scan = c.args.scan.now in
+    let scan = c.args.self.now.scan in
     let next = c.next_block.new.scan in
-    let kind = c.args.kind in
+    let kind = c.args.self.now.kind in
     let is = unread_by c.args.store.now.layout (g.R.Rack.seen c.args.rack.now) (g.R.Rack.seen c.next_block.new.rack) in
     let text = g.O.Out.text c.args.out.now in
     let waits = c.args.text.now in
@@ -49,9 +49,9 @@ returns-in-Err-write_held-clause-cause g c = c.in-Err-write_held.ensures.cause c
 
 pub returns-in-Err-write_held-clause-content : goal.returns-in-Err-write_held-clause-content
 returns-in-Err-write_held-clause-content g c =
-    let scan = c.args.scan.now in
+    let scan = c.args.self.now.scan in
     let next = c.next_block.new.scan in
-    let kind = c.args.kind in
+    let kind = c.args.self.now.kind in
     let layout = c.args.store.now.layout in
     let is = unread_by layout (g.R.Rack.seen c.args.rack.now) (g.R.Rack.seen c.next_block.new.rack) in
     let found = c.in-Ok-Some.found in
@@ -70,9 +70,9 @@ returns-in-Err-write_held-clause-content g c =
 
 pub returns-in-Ok-clause-content : goal.returns-in-Ok-clause-content
 returns-in-Ok-clause-content g c =
-    let scan = c.args.scan.now in
+    let scan = c.args.self.now.scan in
     let next = c.next_block.new.scan in
-    let kind = c.args.kind in
+    let kind = c.args.self.now.kind in
     let layout = c.args.store.now.layout in
     let is = unread_by layout (g.R.Rack.seen c.args.rack.now) (g.R.Rack.seen c.next_block.new.rack) in
     let found = c.in-Ok-Some.found in
@@ -101,7 +101,7 @@ returns-in-Err-write_held-clause-grows g c =
     let old = g.R.Rack.seen c.args.rack.now in
     let new = g.R.Rack.seen c.next_block.new.rack in
     let found = c.in-Ok-Some.found in
-    run_grows (unread_by layout old new) [] (exec no_block (held_block c.args.kind found.addr found.bytes.now (held_in found.bytes.now)))
+    run_grows (unread_by layout old new) [] (exec no_block (held_block c.args.self.now.kind found.addr found.bytes.now (held_in found.bytes.now)))
     (g.O.Out.text c.args.out.now) (g.O.Out.text c.write_held.new.out) c.args.text.now c.write_held.new.text (Err c.in-Err-write_held.stop)
     (c.in-Err-write_held.ensures.text layout old new [] no_block)
 
@@ -111,6 +111,6 @@ returns-in-Ok-clause-grows g c =
     let old = g.R.Rack.seen c.args.rack.now in
     let new = g.R.Rack.seen c.next_block.new.rack in
     let found = c.in-Ok-Some.found in
-    run_grows (unread_by layout old new) [] (exec no_block (held_block c.args.kind found.addr found.bytes.now (held_in found.bytes.now)))
+    run_grows (unread_by layout old new) [] (exec no_block (held_block c.args.self.now.kind found.addr found.bytes.now (held_in found.bytes.now)))
     (g.O.Out.text c.args.out.now) (g.O.Out.text c.write_held.new.out) c.args.text.now c.write_held.new.text (Ok tt)
     (c.in-Ok.ensures.text layout old new [] no_block)
