@@ -1,5 +1,6 @@
 -- Lookups of checksums, and those that are kept behind them.
 use Rattle.std.proofs.Common.{◌≡◌, ℕ, Bool, false, cond, List, [], ◌∷◌, Option, Some, None, IfSome, Result, Ok, refl, sym, subst}
+use Rattle.std.specs.Option.{option_map}
 use Rattle.btr_base.specs.declared.key.Key.{Key}
 use Rattle.btr_base.specs.declared.kind.SumKind.{SumKind}
 use Rattle.btr_base.specs.declared.stored.Sum.{Sum}
@@ -10,21 +11,24 @@ use Rattle.btr_read.specs.Layout.{Layout}
 use Rattle.btr_read.specs.Store.{Blocks}
 use Rattle.btr_read.specs.declared.want.Want.{Want}
 use Rattle.btr_read.specs.declared.want.Want.TheVariants.{Plain, Sector}
-use Rattle.btr_walk.specs.Reach.{Reaches}
+use Rattle.btr_walk.specs.Le.{TreeItem, le}
+use Rattle.btr_walk.specs.Reach.{Reaches, SameUpTo}
 use Rattle.btr_walk.specs.Reading.{Map, UnreadBlock, Tells, unread_by}
-use Rattle.btr_walk.specs.Showing.{ReachesItem}
+use Rattle.btr_walk.specs.Showing.{FindsItem, ReachesItem, found_of, item_of, items_of}
 use Rattle.btr_walk.specs.declared.fault.TreeFault.{TreeFault}
+use Rattle.btr_walk.specs.declared.found.Found.{Found}
 use Rattle.btr_walk.specs.declared.found.Reach.{Reach}
 use Rattle.btr_walk.specs.declared.place.RootPlace.{RootPlace}
 use Rattle.btr_walk.proofs.Joined.{drawn, unread_on}
 use Rattle.btr_volume.specs.Lookup.{Lookup}
-use Rattle.btr_volume.specs.Looking.{Looks}
+use Rattle.btr_volume.specs.Looking.{Judges, Looks}
+use Rattle.btr_volume.proofs.Looked.{JudgesFound}
 use Rattle.btr_volume.specs.declared.root.TreeRoot.{TreeRoot}
 use Rattle.btr_files.specs.declared.progress.Progress.{Progress}
 use Rattle.btr_files.specs.declared.progress.Source.{Source}
 use Rattle.btr_files.specs.declared.streaming.Shown.{Shown}
 use Rattle.btr_files.specs.declared.sums_ahead.SumsAhead.{SumsAhead}
-use Rattle.btr_files.specs.Aheads.{kept_sum, sum_key, ComesOf, IsAheadIn, IsReadAhead, IsSummed}
+use Rattle.btr_files.specs.Aheads.{item_reached, kept_sum, sum_key, ComesOf, IsAheadIn, IsSummed}
 use Rattle.btr_files.specs.Content.{sector_want, want_by}
 use Rattle.btr_files.specs.Giving.{IsGiven}
 use Rattle.btr_files.specs.Sums.{sum_at}
@@ -55,17 +59,38 @@ pub stays : (layout : Layout) {a b : Seen} (P : Map → Type 0) (root : RootPlac
     → Tells layout a b (λ B. IsAheadIn B root ahead → IsAheadIn B root ahead)
 stays layout P root ahead told = drawn layout P (λ B. IsAheadIn B root ahead → IsAheadIn B root ahead) (λ B p kept. kept) told
 
--- what a lookup read ahead are checksums of the tree, and are kept instead of those before
-pub read_in : (layout : Layout) {a b : Seen} (Is : UnreadBlock → Want → Type 0) (root : RootPlace) (kind : SumKind) (addr : ℕ) (key : Key)
-    (reach : Reach) (old new : SumsAhead) → key ≡ sum_key addr → IsReadAhead kind addr reach new
-    → Tells layout a b (λ B. ReachesItem Is B root key (Ok (Some reach))) → Tells layout a b (λ B. Reaches B root key (Ok (Some reach)))
-    → Tells layout a b (λ B. IsAheadIn B root old → IsAheadIn B root new)
-read_in layout {a} {b} Is root kind addr key reach old new is law found reaches =
-    paired layout (λ B. ReachesItem Is B root (sum_key addr) (Ok (Some reach))) (λ B. Reaches B root (sum_key addr) (Ok (Some reach)))
-    (λ B. IsAheadIn B root old → IsAheadIn B root new)
-    (λ B f r kept. law B root f.1 r)
-    (subst (λ (k : Key). Tells layout a b (λ B. ReachesItem Is B root k (Ok (Some reach)))) is found)
-    (subst (λ (k : Key). Tells layout a b (λ B. Reaches B root k (Ok (Some reach)))) is reaches)
+-- how a lookup ended that was answered so
+pub reached_ending : (Is : UnreadBlock → Want → Type 0) (B : Map) (root : RootPlace) (key : Key) (reach : Reach) → ReachesItem Is B root key (Ok reach)
+    → (exec {S = ⊥} B (le root key)).ending ≡ Ok (item_reached reach)
+reached_ending Is B root key reach h = of reach.found h
+  where
+    of : (o : Option Found) → FindsItem Is B root key (Ok o) → (exec {S = ⊥} B (le root key)).ending ≡ Ok (option_map item_of o)
+    of None f = f.1
+    of (Some found) f = f.1
+
+-- what is judged of what a lookup found, if it found something
+pub judges_reached : {A : Type 0} (k : Option TreeItem → Lookup A) (answer judged : Result A TreeFault) (r : Result Reach TreeFault) (reach : Reach)
+    → r ≡ Ok reach → Judges (k (item_reached reach)) judged → answer ≡ judged → JudgesFound k (items_of (found_of r)) answer
+judges_reached k answer judged r reach is j e =
+    subst (λ (x : Result Reach TreeFault). JudgesFound k (items_of (found_of x)) answer) (sym is)
+    (subst (λ a. JudgesFound k (items_of (Ok reach.found)) a) (sym e) (of reach.found j))
+  where
+    of : (o : Option Found) → Judges (k (option_map item_of o)) judged → JudgesFound k (items_of (Ok o)) judged
+    of None h = h
+    of (Some found) h = h
+
+-- what a law makes of a lookup that was answered so, and reaches so far
+pub by_reach : (layout : Layout) {a b : Seen} (Is : UnreadBlock → Want → Type 0) (root : RootPlace) (addr : ℕ) (key : Key) (reach : Reach)
+    (result : Result Reach TreeFault) (P : Map → Type 0) → key ≡ sum_key addr → result ≡ Ok reach
+    → ((B : Map) → (exec B (le {S = ⊥} root (sum_key addr))).ending ≡ Ok (item_reached reach) → SameUpTo B root (sum_key addr) reach.until → P B)
+    → Tells layout a b (λ B. ReachesItem Is B root key result) → Tells layout a b (λ B. Reaches B root key result) → Tells layout a b P
+by_reach layout {a} {b} Is root addr key reach result P is came law found reaches =
+    paired layout (λ B. ReachesItem Is B root (sum_key addr) (Ok reach)) (λ B. Reaches B root (sum_key addr) (Ok reach)) P
+    (λ B f r. law B (reached_ending Is B root (sum_key addr) reach f) r)
+    (subst (λ (r : Result Reach TreeFault). Tells layout a b (λ B. ReachesItem Is B root (sum_key addr) r)) came
+    (subst (λ (k : Key). Tells layout a b (λ B. ReachesItem Is B root k result)) is found))
+    (subst (λ (r : Result Reach TreeFault). Tells layout a b (λ B. Reaches B root (sum_key addr) r)) came
+    (subst (λ (k : Key). Tells layout a b (λ B. Reaches B root k result)) is reaches))
 
 -- ---- the want of a sector
 

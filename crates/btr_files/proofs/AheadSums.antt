@@ -1,6 +1,7 @@
 -- Checksums that are kept are those that lookups give.
 use Rattle.std.proofs.Common.{◌≡◌, ℕ, zero, suc, ◌+◌, ◌-◌, ◌*◌, ◌/◌, ◌%◌, ◌<◌, ◌≤◌, Bool, true, false, cond, ◌&&◌, leb, ltb, List, [], ◌∷◌, take, drop, Some}
 use Rattle.std.proofs.Common.{None, Result, Ok, length, zero-add, refl, sym, ap, ◌∙◌, subst, arith}
+use Rattle.std.specs.Option.{option_map}
 use Rattle.std.proofs.lemmas.Bool.{and_parts, leb-true, ltb-true, le-leb, lt-ltb}
 use Rattle.std.proofs.lemmas.List.{length-take, length-drop}
 use Rattle.std.proofs.lemmas.Nat.{mul-le}
@@ -19,6 +20,7 @@ use Rattle.btr_walk.specs.Le.{TreeItem, le}
 use Rattle.btr_walk.specs.Reading.{Map}
 use Rattle.btr_walk.specs.Showing.{item_of}
 use Rattle.btr_walk.specs.Spot.{is_below}
+use Rattle.btr_walk.specs.declared.found.Found.{Found}
 use Rattle.btr_walk.specs.declared.found.Reach.{Reach}
 use Rattle.btr_files.specs.declared.sums_ahead.SumsAhead.{SumsAhead}
 use Rattle.btr_files.specs.Aheads.{kept_sum, sum_key, IsFrom, IsReadAhead}
@@ -93,7 +95,7 @@ both_true true true e f = refl
 both_true true false e f = absurd (cc f)
 both_true false b e f = absurd (cc e)
 
-sum_of_covered : (kind : SumKind) (addr : ℕ) (body : List ℕ) (run : SumRun) → run.start ≤ addr → addr < run.start + run.count * 4096
+pub sum_of_covered : (kind : SumKind) (addr : ℕ) (body : List ℕ) (run : SumRun) → run.start ≤ addr → addr < run.start + run.count * 4096
     → sum_in kind addr body run ≡ Some (stored_sum kind (drop ((addr - run.start) / 4096 * sum_size kind) body))
 sum_of_covered kind addr body run le lt =
     ap (λ b. cond b (Some (stored_sum kind (drop ((addr - run.start) / 4096 * sum_size kind) body))) None)
@@ -172,17 +174,17 @@ run_found kind addr item run B sum sums is e =
     ∙ ap (λ r. (exec {S = ⊥} B (formed item r (λ x. Return (sum_in kind addr item.body x)))).ending) is
     ∙ ap Ok e
 
-module _ (kind : SumKind) (addr : ℕ) (reach : Reach) (run : SumRun) (ahead : SumsAhead) where
-  pub from_is_ahead : is_sums reach.found.key ≡ true → sum_run_of kind reach.found.key reach.found.body.now ≡ Ok run
-      → IsFrom kind addr reach.found.body.now run reach.until ahead → IsReadAhead kind addr reach ahead
+module _ (kind : SumKind) (addr : ℕ) (reach : Reach) (shown : Found) (run : SumRun) (ahead : SumsAhead) (is_there : reach.found ≡ Some shown) where
+  pub from_is_ahead : is_sums shown.key ≡ true → sum_run_of kind shown.key shown.body.now ≡ Ok run
+      → IsFrom kind addr shown.body.now run reach.until ahead → IsReadAhead kind addr reach ahead
   from_is_ahead sums is from B root found same other sum kept =
       let behind : addr ≤ other = from.behind other sum kept in
       let below : is_below reach.until (sum_key other) ≡ true = from.below other sum kept in
       let less : key_number (sum_key addr) ≤ key_number (sum_key other) = omega (arith, behind) in
-      let there : (exec B (le {S = ⊥} root (sum_key other))).ending ≡ Ok (Some (item_of reach.found)) = ap (λ (r : Run Want Fault ⊥ _). r.ending) (same (sum_key other) less below) ∙ found in
+      let there : (exec B (le {S = ⊥} root (sum_key other))).ending ≡ Ok (Some (item_of shown)) = ap (λ (r : Run Want Fault ⊥ _). r.ending) (same (sum_key other) less below) ∙ found ∙ ap (λ o. Ok (option_map item_of o)) is_there in
       subst (λ k. (exec B (sum_under k root other)).ending ≡ Ok (Some sum)) (sym from.of_kind)
-      (bind_ending B (le root (sum_key other)) (sum_found kind other) (Some (item_of reach.found)) (Ok (Some sum)) there
-      (run_found kind other (item_of reach.found) run B sum sums is (from.same other sum kept)))
+      (bind_ending B (le root (sum_key other)) (sum_found kind other) (Some (item_of shown)) (Ok (Some sum)) there
+      (run_found kind other (item_of shown) run B sum sums is (from.same other sum kept)))
 
 -- where nothing is kept
 pub none_ahead : (kind : SumKind) (addr : ℕ) (reach : Reach) (ahead : SumsAhead) → ((other : ℕ) → kept_sum ahead other ≡ None)

@@ -13,6 +13,7 @@ pub mod Nextward
 pub mod AllMaps
 pub mod AheadSums
 pub mod AheadLooks
+pub mod GapSums
 pub mod Sectors
 pub mod Stepping
 pub mod Sectoring

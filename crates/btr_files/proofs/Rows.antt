@@ -37,7 +37,7 @@ use Rattle.btr_walk.specs.Ranks.{IsShaped}
 use Rattle.btr_walk.specs.Reading.{Map, UnreadBlock, HasCause, halt_of}
 use Rattle.btr_walk.specs.Rests.{kept_prog, rest_left, rank_left, Rests}
 use Rattle.btr_walk.specs.Scans.{wants}
-use Rattle.btr_walk.specs.ScanEnds.{left_of, rank_of, without_leaf, Gives, IsNextOn, IsReady}
+use Rattle.btr_walk.specs.ScanEnds.{left_of, rank_of, without_leaf, Gives, IsNextOn, IsScanReady}
 use Rattle.btr_walk.specs.Showing.{item_of}
 use Rattle.btr_volume.specs.Lookup.{Program, formed}
 use Rattle.btr_files.specs.declared.dir_row.DirRow.{DirRow}
@@ -256,8 +256,8 @@ pub rest_is : (B : Map) (store : Blocks) (rest : Rest) → rest_left B rest ≡ 
 rest_is B store rest = left_is B store rest.place.leaf (place_prog rest.lo rest.hi B rest.place.rest)
 
 pub ready_is : (rack : Seen) (store : Blocks) (scan : Scan) (rest : Rest) → scan ≡ scan_of rest → Serves rack store → IsShaped rest.place.rest
-    → IsReady rack store scan
-ready_is rack store scan rest e serves shaped = subst (IsReady rack store) (sym e) (record { serves = serves; hand = tt; shaped = shaped; alone = tt })
+    → IsScanReady rack store scan
+ready_is rack store scan rest e serves shaped = subst (IsScanReady rack store) (sym e) (record { serves = serves; hand = tt; shaped = shaped; alone = tt })
 
 pub free_is : (store : Blocks) (scan : Scan) (rest : Rest) → scan ≡ scan_of rest → without_leaf store scan ≡ store
 free_is store scan rest e = ap (without_leaf store) e

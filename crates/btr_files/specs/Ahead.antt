@@ -11,7 +11,7 @@ use Rattle.btr_prog.specs.Answers.{Follows, no_part}
 use Rattle.btr_read.specs.Fate.{Fault}
 use Rattle.btr_read.specs.Store.{Blocks}
 use Rattle.btr_read.specs.declared.want.Want.{Want}
-use Rattle.btr_walk.specs.declared.entering.LeafAt.{LeafAt}
+use Rattle.btr_walk.specs.declared.leaf_at.LeafAt.{LeafAt}
 use Rattle.btr_walk.specs.declared.fault.TreeFault.{TreeFault}
 use Rattle.btr_walk.specs.declared.fault.TreeFault.TheVariants.{Malformed}
 use Rattle.btr_walk.specs.declared.scan.Scan.{Scan}

@@ -1,5 +1,6 @@
 -- Checksums that are kept, of sectors that are read one behind another.
 use Rattle.std.specs.Prelude.{◌≡◌, ℕ, ◌≤◌, true, List, [], Option, Some, Result, Ok}
+use Rattle.std.specs.Option.{option_map}
 use Rattle.btr_base.specs.declared.key.Key.{Key}
 use Rattle.btr_base.specs.declared.kind.SumKind.{SumKind}
 use Rattle.btr_base.specs.declared.stored.Sum.{Sum}
@@ -10,7 +11,7 @@ use Rattle.btr_read.specs.declared.want.Want.{Want}
 use Rattle.btr_volume.specs.Lookup.{Lookup}
 use Rattle.btr_volume.specs.Tree.{key}
 use Rattle.btr_volume.specs.declared.root.TreeRoot.{TreeRoot}
-use Rattle.btr_walk.specs.Le.{le}
+use Rattle.btr_walk.specs.Le.{TreeItem, le}
 use Rattle.btr_walk.specs.Reach.{SameUpTo}
 use Rattle.btr_walk.specs.Reading.{Map, UnreadBlock, answer_of}
 use Rattle.btr_walk.specs.declared.fault.TreeFault.{TreeFault}
@@ -42,10 +43,15 @@ abbrev pub IsAheadIn : Map → RootPlace → SumsAhead → Type 0
 IsAheadIn B root ahead =
     (other : ℕ) (sum : Sum) → kept_sum ahead other ≡ Some sum → (exec B (sum_under ahead.kind root other)).ending ≡ Ok (Some sum)
 
+-- the item that a lookup found, if there is one
+abbrev pub item_reached : Reach → Option TreeItem
+item_reached reach = option_map item_of reach.found
+
 -- where a lookup finds this item and reaches so far, the checksums that are kept are what lookups give
 abbrev pub IsReadAhead : SumKind → ℕ → Reach → SumsAhead → Type 0
 IsReadAhead kind addr reach ahead =
-    (B : Map) (root : RootPlace) → (exec B (le {S = ⊥} root (sum_key addr))).ending ≡ Ok (Some (item_of reach.found))
+    (B : Map) (root : RootPlace)
+    → (exec B (le {S = ⊥} root (sum_key addr))).ending ≡ Ok (item_reached reach)
     → SameUpTo B root (sum_key addr) reach.until
     → IsAheadIn B root ahead
 

@@ -3,6 +3,7 @@ pub mod Entries
 pub mod Extents
 pub mod Sums
 pub mod Aheads
+pub mod Gaps
 pub mod Content
 pub mod FileAt
 pub mod Steps

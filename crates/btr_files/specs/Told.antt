@@ -20,11 +20,13 @@ use Rattle.btr_files.specs.declared.name.NameBuf.{NameBuf}
 use Rattle.btr_files.specs.declared.progress.Progress.{Progress}
 use Rattle.btr_files.specs.declared.progress.Source.{Source}
 use Rattle.btr_files.specs.declared.streaming.Shown.{Shown}
+use Rattle.btr_files.specs.declared.summed.Summed.{Summed}
 use Rattle.btr_files.specs.declared.sums_ahead.SumsAhead.{SumsAhead}
 use Rattle.btr_files.specs.Ahead.{IsNextExtent, IsLooked}
 use Rattle.btr_files.specs.Aheads.{ComesOf, IsAheadIn, IsSummed}
 use Rattle.btr_files.specs.Content.{sector_want}
 use Rattle.btr_files.specs.Entries.{name_in}
+use Rattle.btr_files.specs.Gaps.{IsGap}
 use Rattle.btr_files.specs.Giving.{IsGiven, IsNextStep, SectorComes}
 use Rattle.btr_files.specs.Listing.{IsNextRow, IsNextEntry}
 use Rattle.btr_files.specs.Maps.{TellsAll}
@@ -48,6 +50,11 @@ TellsMount vol before now parent dirid index name id result =
 -- the checksum of the sector at an address
 abbrev pub TellsSum : Volume → Seen → Seen → Option TreeRoot → ℕ → Result (Option Sum) TreeFault → Type 0
 TellsSum vol before now sums addr result = LooksIn vol before now (sum_at (kind_in vol.sup) sums addr) result
+
+-- the sectors from an address on that have no checksum, where the first one has none
+abbrev pub TellsGap : Volume → Seen → Seen → Option TreeRoot → ℕ → Result Summed TreeFault → Type 0
+TellsGap vol before now sums addr result =
+    Tells vol.store.layout before now (λ B. IsGap (kind_in vol.sup) B sums addr result)
 
 -- so far as its calls were steady, the checksums that are kept stay those of the tree with a root
 abbrev pub KeepsAhead : Layout → Seen → Seen → RootPlace → SumsAhead → SumsAhead → Type 0

@@ -4,7 +4,7 @@ ghost use Rattle.btr_rack.specs.Rack.{OnlyReads};
 ghost use Rattle.btr_read.specs.Serves.{Serves};
 ghost use Rattle.btr_read.specs.Store.{SameLoans, free_count};
 ghost use Rattle.btr_walk.specs.Reading.{Map, HasCause};
-ghost use Rattle.btr_walk.specs.ScanEnds.{IsReady, without_leaf};
+ghost use Rattle.btr_walk.specs.ScanEnds.{IsScanReady, without_leaf};
 ghost use Rattle.btr_walk.specs.Showing.{item_of};
 ghost use Rattle.btr_volume.specs.Looking.{SameVolume};
 ghost use Rattle.btr_files.specs.Entries.{entries};
@@ -44,9 +44,9 @@ fn read_row<R: Rack>(
     store: &mut Store,
     name: &mut NameBuf,
 ) -> Result<Option<DirRow>, TreeFault>
-    requires ready { IsReady (R.seen rack.old) store.old scan.old }
+    requires ready { IsScanReady (R.seen rack.old) store.old scan.old }
     requires room { 4 ≤ free_count (without_leaf store.old scan.old) }
-    ensures ready { IsReady (R.seen rack.new) store.new scan.new }
+    ensures ready { IsScanReady (R.seen rack.new) store.new scan.new }
     ensures reads { OnlyReads (R.seen rack.old) (R.seen rack.new) }
     ensures others { SameLoans (without_leaf store.old scan.old) (without_leaf store.new scan.new) }
     ensures lo { scan.new.lo ≡ scan.old.lo }

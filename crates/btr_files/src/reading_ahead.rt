@@ -12,7 +12,7 @@ use btr_items::{SumRun, item};
 use btr_walk::Reach;
 
 // How many sectors from an address on have keys of checksums below a bound.
-fn sectors_below(addr: u64, until: Option<Key>) -> u64
+pub(crate) fn sectors_below(addr: u64, until: Option<Key>) -> u64
     ensures { (other : ℕ) → addr ≤ other → other < addr + result * 4096 → is_below until (sum_key other) ≡ true }
 {
     let Some(key) = until else {
@@ -64,10 +64,13 @@ fn from_run(kind: SumKind, addr: u64, body: &[u8], run: &SumRun, until: Option<K
 pub(crate) fn read_ahead(kind: SumKind, addr: u64, reach: &Reach<'_>) -> SumsAhead
     ensures { IsReadAhead kind addr reach.now result }
 {
-    if !is_sums(reach.found.key) {
+    let Some(found) = reach.found else {
+        return SumsAhead::new();
+    };
+    if !is_sums(found.key) {
         return SumsAhead::new();
     }
-    let Ok(run) = SumRun::read(kind, reach.found.key, reach.found.body) else {
+    let Ok(run) = SumRun::read(kind, found.key, found.body) else {
         return SumsAhead::new();
     };
     if addr < run.start || !(addr - run.start).is_multiple_of(4096) {
@@ -76,5 +79,5 @@ pub(crate) fn read_ahead(kind: SumKind, addr: u64, reach: &Reach<'_>) -> SumsAhe
     if (addr - run.start) / 4096 >= run.count {
         return SumsAhead::new();
     }
-    from_run(kind, addr, reach.found.body, &run, reach.until)
+    from_run(kind, addr, found.body, &run, reach.until)
 }

@@ -1,17 +1,20 @@
 // The checksum of a sector.
-ghost use Rattle.std.specs.Prelude.{◌≡◌, ◌≤◌, ◌<◌, ◌-◌, ◌/◌, ◌*◌, length, Some};
+ghost use Rattle.std.specs.Prelude.{◌≡◌, ◌≤◌, ◌<◌, ◌-◌, ◌/◌, ◌*◌, length, IfOk, Some};
 ghost use Rattle.btr_base.specs.Sum.{sum_size};
 ghost use Rattle.btr_rack.specs.Rack.{OnlyReads};
 ghost use Rattle.btr_read.specs.Serves.{Serves};
 ghost use Rattle.btr_read.specs.Store.{SameLoans, free_count};
-ghost use Rattle.btr_walk.specs.Reading.{HasCause};
+ghost use Rattle.btr_walk.specs.Reading.{HasCause, Tells};
 ghost use Rattle.btr_walk.specs.Showing.{item_of};
 ghost use Rattle.btr_volume.specs.Looking.{Judges, Looks, SameVolume};
+ghost use Rattle.btr_files.specs.Aheads.{item_reached};
+ghost use Rattle.btr_files.specs.Gaps.{HasFirst, IsGap, IsReadGap, first_sum};
 ghost use Rattle.btr_files.specs.Sums.{is_sums, kind_in, sum_found, sum_in, sum_under, tree_behind};
-ghost use Rattle.btr_files.specs.Told.{TellsSum, KeepsAhead, KeepsSums};
+ghost use Rattle.btr_files.specs.Told.{TellsGap, TellsSum, KeepsAhead, KeepsSums};
 
 use crate::lookup::{give_back, key_of};
-use crate::reading_ahead::read_ahead;
+use crate::reading_ahead::{read_ahead, sectors_below};
+use crate::summed::Summed;
 use crate::sums_ahead::SumsAhead;
 use btr_base::{Key, Sum, SumKind};
 use btr_items::{SumRun, item};
@@ -19,7 +22,7 @@ use btr_rack::Rack;
 use btr_read::Store;
 use btr_super::Super;
 use btr_volume::{TreeRoot, Volume};
-use btr_walk::{Found, RootPlace, TreeFault, find_le, find_reach};
+use btr_walk::{Found, Reach, RootPlace, TreeFault, find_reach};
 
 /// The objectid of all checksums of data: minus 10.
 pub(crate) const SUMS: u64 = u64::MAX - 9;
@@ -69,35 +72,63 @@ fn sum_found(kind: SumKind, addr: u64, found: &Found<'_>) -> Result<Option<Sum>,
     }
 }
 
-// The checksum of the sector at an address, in the tree with this root.
+// The same where perhaps nothing was found.
+fn sum_reached(kind: SumKind, addr: u64, reach: &Reach<'_>) -> Result<Option<Sum>, TreeFault>
+    ensures { Judges (sum_found kind addr (item_reached reach.now)) result }
+{
+    match &reach.found {
+        None => Ok(None),
+        Some(found) => sum_found(kind, addr, found),
+    }
+}
+
+// The checksum in what was found for an address, or how many sectors from it on have none.
+fn summed(kind: SumKind, addr: u64, reach: &Reach<'_>) -> Result<Summed, TreeFault>
+    ensures sum { Judges (sum_found kind addr (item_reached reach.now)) (first_sum result) }
+    ensures some { IfOk result HasFirst }
+    ensures gap { IsReadGap kind addr reach.now result }
+{
+    match sum_reached(kind, addr, reach) {
+        Err(fault) => Err(fault),
+        Ok(Some(sum)) => Ok(Summed::Sum(sum)),
+        Ok(None) => Ok(Summed::Gap(sectors_below(addr, reach.until).max(1))),
+    }
+}
+
+// The checksum of the sector at an address in the tree with this root, or how many sectors from
+// it on have none.
 #[tactic(auto, using(btr_volume::proofs::Looked::served_base))]
-fn find_sum<R: Rack>(
+fn find_sums<R: Rack>(
     store: &mut Store,
-    root: &RootPlace,
+    sums: &TreeRoot,
     kind: SumKind,
     addr: u64,
     rack: &mut R,
-) -> Result<Option<Sum>, TreeFault>
+) -> Result<Summed, TreeFault>
     requires serves { Serves (R.seen rack.old) store.old }
     requires room { 4 ≤ free_count store.old }
     ensures serves { Serves (R.seen rack.new) store.new }
     ensures reads { OnlyReads (R.seen rack.old) (R.seen rack.new) }
     ensures loans { SameLoans store.old store.new }
     ensures cause { HasCause store.old.layout (R.seen rack.old) (R.seen rack.new) result }
-    ensures content { Looks store.old.layout (R.seen rack.old) (R.seen rack.new) (sum_under kind root.now addr) result }
+    ensures some { IfOk result HasFirst }
+    ensures gap { Tells store.old.layout (R.seen rack.old) (R.seen rack.new)
+        (λ B. IsGap kind B (Some sums.now) addr result) }
+    ensures content { Looks store.old.layout (R.seen rack.old) (R.seen rack.new)
+        (sum_under kind sums.now.place addr) (first_sum result) }
 {
     let mut loan = None;
     let key = key_of(SUMS, item::EXTENT_CSUM, addr);
-    let sum = match find_le(store, root, key, rack, &mut loan) {
+    let found = match find_reach(store, &sums.place, key, rack, &mut loan) {
         Err(fault) => Err(fault),
-        Ok(None) => Ok(None),
-        Ok(Some(found)) => sum_found(kind, addr, &found),
+        Ok(reach) => summed(kind, addr, &reach),
     };
     give_back(store, loan);
-    sum
+    found
 }
 
-// The same, and where a checksum is found those behind it in its item are kept.
+// The checksum of the sector at an address in the tree with this root. Where one is found, those
+// behind it in its item are kept.
 #[tactic(auto, using(btr_volume::proofs::Looked::served_base))]
 fn find_ahead<R: Rack>(
     store: &mut Store,
@@ -120,18 +151,23 @@ fn find_ahead<R: Rack>(
     let key = key_of(SUMS, item::EXTENT_CSUM, addr);
     let sum = match find_reach(store, root, key, rack, &mut loan) {
         Err(fault) => Err(fault),
-        Ok(None) => Ok(None),
-        Ok(Some(reach)) => {
+        Ok(reach) => {
             *ahead = read_ahead(kind, addr, &reach);
-            sum_found(kind, addr, &reach.found)
+            sum_reached(kind, addr, &reach)
         }
     };
     give_back(store, loan);
     sum
 }
 
-/// The same as `sum_of`, where the checksums behind it in its item are kept: where those kept before are what look-ups give, so are these.
-/// The faults are those of `sum_of`.
+/// Answers the checksum of the sector at an address, which is a multiple of 4096; `None` exactly
+/// where no item of the checksum tree covers it, or there is no such tree. The checksums behind it
+/// in its item are kept: where those kept before are what look-ups give, so are these. It takes no
+/// memory, and four slots are free.
+///
+/// The faults are those of the blocks that are read, in their order: `Lost`, `Unread`, `Unmapped`
+/// and `Crosses` of a block, and `Malformed` where one breaks a rule, doesn't fit its place, or has
+/// an item that breaks its form.
 pub fn sum_ahead<R: Rack>(
     sums: Option<&TreeRoot>,
     addr: u64,
@@ -161,27 +197,31 @@ pub fn sum_ahead<R: Rack>(
     }
 }
 
-/// Answers the checksum of the sector at an address, which is a multiple of 4096; `None` exactly where no item of the checksum tree covers it, or there is
-/// no such tree. It takes no memory, and four slots are free.
+/// Answers the checksum of the sector at an address, which is a multiple of 4096, or how many
+/// sectors from it on have none, as far as one look-up tells: at least one. It takes no memory, and
+/// four slots are free.
 ///
-/// The faults are those of the blocks that are read, in their order: `Lost`, `Unread`, `Unmapped` and `Crosses` of a block, and `Malformed` where one
-/// breaks a rule, doesn't fit its place, or has an item that breaks its form.
-pub fn sum_of<R: Rack>(
+/// The faults are those of `sum_ahead`.
+pub fn sums_from<R: Rack>(
     sums: Option<&TreeRoot>,
     addr: u64,
     rack: &mut R,
     vol: &mut Volume,
-) -> Result<Option<Sum>, TreeFault>
+) -> Result<Summed, TreeFault>
     requires serves { Serves (R.seen rack.old) vol.old.store }
     requires room { 4 ≤ free_count vol.old.store }
     ensures serves { Serves (R.seen rack.new) vol.new.store }
     ensures reads { OnlyReads (R.seen rack.old) (R.seen rack.new) }
     ensures volume { SameVolume vol.old vol.new }
     ensures cause { HasCause vol.old.store.layout (R.seen rack.old) (R.seen rack.new) result }
-    ensures content { TellsSum vol.old (R.seen rack.old) (R.seen rack.new) (tree_behind sums.entry) addr result }
+    ensures some { IfOk result HasFirst }
+    ensures gap { TellsGap vol.old (R.seen rack.old) (R.seen rack.new)
+        (tree_behind sums.entry) addr result }
+    ensures content { TellsSum vol.old (R.seen rack.old) (R.seen rack.new)
+        (tree_behind sums.entry) addr (first_sum result) }
 {
     match sums {
-        None => Ok(None),
-        Some(sums) => find_sum(&mut vol.store, &sums.place, kind_of(&vol.sup), addr, rack),
+        None => Ok(Summed::Gap(u64::MAX)),
+        Some(sums) => find_sums(&mut vol.store, sums, kind_of(&vol.sup), addr, rack),
     }
 }

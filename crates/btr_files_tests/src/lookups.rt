@@ -1,9 +1,9 @@
 // Lookups in trees of several leaves. Each is made in a volume of its own.
 use super::volume::{DATA, START, SUMS, form, root_of, scene_by, tree_at, tree_of};
-use btr_base::{Sum, SumKind, sum};
-use btr_files::{NameBuf, Survey, inode, linked, mounted, sum_of, survey};
+use btr_base::{SumKind, sum};
+use btr_files::{NameBuf, Summed, Survey, inode, linked, mounted, sums_from, survey};
 use btr_items::{FileExtent, Inode, Shape, item};
-use btr_make_blocks::{Body, Items, Tree, bodies};
+use btr_make_blocks::{Body, Form, Items, Tree, bodies};
 use btr_walk::TreeFault;
 use std::alloc::{AllocError, Global};
 use std::test::Fail;
@@ -303,18 +303,19 @@ fn surveys_of_files(rt: HostRuntime) -> Result<(), Fail> {
     Ok(())
 }
 
-// The checksum of the sector at an address, in a filesystem whose checksums are of this kind and stand in a tree, or in none.
-fn sum_in(
+// What a look-up tells of the checksums from an address on, in a filesystem whose checksums are of
+// this kind and stand in a tree, or in none.
+fn summed_in(
     alloc: Global,
     kind: SumKind,
     tree: &Tree,
     is_there: bool,
     addr: u64,
-) -> Result<Result<Option<Sum>, TreeFault>, Fail> {
+) -> Result<Result<Summed, TreeFault>, Fail> {
     let root = root_of(tree);
     let mut scene = scene_by(alloc, kind, tree, 0)?;
     let sums = if is_there { Some(&root) } else { None };
-    Ok(sum_of(sums, addr, &mut scene.rack, &mut scene.vol))
+    Ok(sums_from(sums, addr, &mut scene.rack, &mut scene.vol))
 }
 
 // A run of checksums of these sectors, each of one byte.
@@ -326,40 +327,56 @@ fn run(alloc: Global, kind: SumKind, sectors: &[u8]) -> Result<Body, AllocError>
     Ok(body)
 }
 
-// The checksum of a sector of one byte.
-fn sum_by(kind: SumKind, byte: Option<u8>) -> Option<Sum> {
-    match byte {
-        None => None,
-        Some(byte) => Some(sum(kind, &[byte; 4096])),
+// What is told of a sector: the byte that it is made of, or how many from it on have no checksum.
+#[derive(Clone, Copy)]
+enum Wanted {
+    Byte(u8),
+    Gap(u64),
+}
+
+// The same with the checksum of a sector of that byte.
+fn summed_by(kind: SumKind, wanted: Wanted) -> Summed {
+    match wanted {
+        Wanted::Byte(byte) => Summed::Sum(sum(kind, &[byte; 4096])),
+        Wanted::Gap(count) => Summed::Gap(count),
     }
 }
 
-// The tree of the checksums of three sectors.
-fn sums(alloc: Global, kind: SumKind) -> Result<Tree, Fail> {
+// The tree of the checksums of three sectors, with so many items in a leaf.
+fn sums(alloc: Global, kind: SumKind, in_leaf: usize) -> Result<Tree, Fail> {
     let mut items = Items::new(alloc);
     let (sums, csum) = (u64::MAX - 9, item::EXTENT_CSUM);
     items.put(sums, csum, DATA, run(alloc, kind, &[1, 2])?)?;
     items.put(sums, csum, DATA + 16384, run(alloc, kind, &[5])?)?;
-    tree_at(alloc, &form(kind), SUMS, items)
+    let form = Form {
+        items: in_leaf,
+        ..form(kind)
+    };
+    tree_at(alloc, &form, SUMS, items)
 }
 
-const SECTORS: [(u64, bool, Option<u8>); 7] = [
-    (DATA - 4096, true, None),
-    (DATA, true, Some(1)),
-    (DATA + 4096, true, Some(2)),
-    (DATA + 8192, true, None),
-    (DATA + 16384, true, Some(5)),
-    (DATA + 20480, true, None),
-    (DATA, false, None),
+const SECTORS: [(u64, bool, Wanted); 10] = [
+    (DATA - 16384, true, Wanted::Gap(4)),
+    (DATA - 4096, true, Wanted::Gap(1)),
+    (DATA, true, Wanted::Byte(1)),
+    (DATA + 4096, true, Wanted::Byte(2)),
+    (DATA + 8192, true, Wanted::Gap(2)),
+    (DATA + 12288, true, Wanted::Gap(1)),
+    (DATA + 16384, true, Wanted::Byte(5)),
+    (DATA + 20480, true, Wanted::Gap(u64::MAX)),
+    (DATA, false, Wanted::Gap(u64::MAX)),
+    (0, false, Wanted::Gap(u64::MAX)),
 ];
 
 #[test]
 fn checksums_of_sectors(rt: HostRuntime) -> Result<(), Fail> {
     for kind in [SumKind::Crc32c, SumKind::Xxh64, SumKind::Sha256] {
-        let tree = sums(rt.alloc(), kind)?;
-        for (addr, is_there, byte) in &SECTORS {
-            let found = sum_in(rt.alloc(), kind, &tree, *is_there, *addr)?;
-            assert_eq!(rt; found, Ok(sum_by(kind, *byte)), "at {addr}");
+        for in_leaf in [1, 3] {
+            let tree = sums(rt.alloc(), kind, in_leaf)?;
+            for (addr, is_there, wanted) in &SECTORS {
+                let found = summed_in(rt.alloc(), kind, &tree, *is_there, *addr)?;
+                assert_eq!(rt; found, Ok(summed_by(kind, *wanted)), "at {addr}");
+            }
         }
     }
     Ok(())
