@@ -1,5 +1,5 @@
 -- References, one more at a time.
-use Rattle.std.proofs.Common.{◌≡◌, ℕ, ◌+◌, Bool, true, false, cond, ◌||◌, List, [], ◌∷◌, ◌++◌, Some, None, refl, sym, ap, ◌∙◌, subst, append_assoc, append-nil}
+use Rattle.std.proofs.Common.{◌≡◌, ℕ, ◌+◌, Bool, true, false, cond, ◌||◌, List, [], ◌∷◌, ◌++◌, Option, Some, None, refl, sym, ap, ◌∙◌, subst, append_assoc, append-nil}
 use Rattle.std.proofs.Common.{arith}
 use Rattle.std.proofs.lemmas.Bool.{false≢true}
 use Rattle.std.proofs.lemmas.Cmp.{then_total, on_total, nat_cmp_total}
@@ -16,7 +16,8 @@ use Rattle.std.specs.declared.cmp.Ordering.TheVariants.{Less, Equal, Greater}
 use Rattle.btr_findings.proofs.Sets.{both_equal}
 use Rattle.btr_refs.specs.declared.ref_key.RefKey.{RefKey}
 use Rattle.btr_refs.specs.RefKey.{ref_cmp, same_ref}
-use Rattle.btr_refs.specs.Counts.{Counted, CountsLaw, RefCounts, Counts, count_in, sum_of, is_met, counted, counted_all, found_at}
+use Rattle.btr_refs.specs.Counts.{CountsLaw, RefCounts, Counts, count_in, sum_of, is_met, counted, counted_all, found_at}
+use Rattle.btr_refs.specs.declared.counted.Counted.{Counted}
 
 pub ref_total : IsTotalOrder ref_cmp
 ref_total = then_total (on_total (λ key. key.addr) nat_cmp_total)
@@ -49,7 +50,7 @@ pub same_swaps : (a b : RefKey) → same_ref a b ≡ same_ref b a
 same_swaps a b = (eq_by_cmp_equiv ref_total).symm a b
 
 -- what isn't met is met 0 times
-unmet-zero : (refs : List Counted) (one : RefKey) → is_met refs one ≡ false → sum_of refs one ≡ 0
+pub unmet-zero : (refs : List Counted) (one : RefKey) → is_met refs one ≡ false → sum_of refs one ≡ 0
 unmet-zero [] one unmet = refl
 unmet-zero (ref ∷ refs) one unmet = sum_by-cons (λ (other : Counted). cond (same_ref one other.key) other.count 0) ref refs
     ∙ by (same_ref one ref.key) unmet (unmet-zero refs one)
@@ -101,7 +102,7 @@ cond_twice true x y z = refl
 cond_twice false x y z = refl
 
 -- what is at a key once another one has a value
-insert-get : (entries : List (RefKey × ℕ)) (key : RefKey) (count : ℕ) (one : RefKey)
+pub insert-get : (entries : List (RefKey × ℕ)) (key : RefKey) (count : ℕ) (one : RefKey)
     → lookup (is_at (ref_cmp one)) (insert_entry ref_cmp entries key count) ≡ cond (same_ref one key) (Some count) (lookup (is_at (ref_cmp one)) entries)
 insert-get [] key count one = refl
 insert-get (entry ∷ entries) key count one = by (ref_cmp key entry.0) refl (insert-get entries key count one)
@@ -125,6 +126,31 @@ insert-get (entry ∷ entries) key count one = by (ref_cmp key entry.0) refl (in
     by Greater is rest =
         ap (λ o. cond (same_ref one entry.0) (Some entry.1) o) rest
         ∙ apart (same_ref one entry.0) refl is
+
+-- what is found once some more are counted
+one_more : (s t : Bool) (found before : Option ℕ) (k c n : ℕ) → found ≡ cond s (Some (k + c)) before → (s ≡ true → k ≡ unwrap_or before 0) → (t ≡ false → n ≡ 0)
+    → cond t (Some (unwrap_or found 0 + n)) found ≡ cond (s || t) (Some (unwrap_or before 0 + (cond s c 0 + n))) before
+one_more true true found before k c n is same none =
+    let here : k + c + n ≡ unwrap_or before 0 + (c + n) = omega (arith, same refl) in
+    ap (λ o. Some (unwrap_or o 0 + n)) is ∙ ap Some here
+one_more true false found before k c n is same none =
+    let here : k + c ≡ unwrap_or before 0 + (c + n) = omega (arith, same refl, none refl) in
+    is ∙ ap Some here
+one_more false true found before k c n is same none =
+    let here : unwrap_or before 0 + n ≡ unwrap_or before 0 + (0 + n) = omega arith in
+    ap (λ o. Some (unwrap_or o 0 + n)) is ∙ ap Some here
+one_more false false found before k c n is same none = is
+
+pub found-more : (counts : RefCounts) (refs : List Counted) (one : RefKey)
+    → found_at (counted_all counts refs) one ≡ cond (is_met refs one) (Some (count_in counts one + sum_of refs one)) (found_at counts one)
+found-more counts [] one = refl
+found-more counts (ref ∷ refs) one =
+    found-more (counted counts ref) refs one
+    ∙ one_more (same_ref one ref.key) (is_met refs one) (found_at (counted counts ref) one) (found_at counts one) (count_in counts ref.key) ref.count
+    (sum_of refs one) (insert-get counts ref.key (count_in counts ref.key + ref.count) one) (λ is. ap (count_in counts) (sym (same_is one ref.key is)))
+    (unmet-zero refs one)
+    ∙ ap (λ n. cond (same_ref one ref.key || is_met refs one) (Some (count_in counts one + n)) (found_at counts one))
+    (sym (sum_by-cons (λ (other : Counted). cond (same_ref one other.key) other.count 0) ref refs))
 
 -- some more references
 counts_on : (done refs : List Counted) (counts : RefCounts) → Counts done counts → Counts (done ++ refs) (counted_all counts refs)

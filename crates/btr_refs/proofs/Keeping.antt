@@ -16,7 +16,8 @@ use Rattle.btr_walk.specs.declared.place.RootPlace.{RootPlace}
 use Rattle.btr_walk.proofs.Folds.{fold_run, exec_fold, fold_go, fold_broken}
 use Rattle.btr_findings.specs.declared.extent.Extent.{Extent}
 use Rattle.btr_refs.specs.Counts.{Counts, RefCounts, counted, counted_all}
-use Rattle.btr_refs.specs.Extents.{Kept, nothing_kept, kept_with, kept_step, is_formed, refs_in, extent_in, stored_in, extents_in}
+use Rattle.btr_refs.specs.declared.counted.Counted.{Counted}
+use Rattle.btr_refs.specs.Extents.{Kept, KeptRefs, no_refs, ref_kept, refs_kept, nothing_kept, kept_with, kept_step, is_formed, refs_in, extent_in, stored_in, extents_in}
 use Rattle.btr_refs.specs.Collecting.{StoredLaw, stored_of}
 use Rattle.btr_refs.proofs.Counting.{counts_law}
 
@@ -25,9 +26,9 @@ formed_item item = is_formed item.key item.body
 
 -- what some items leave
 abbrev pub all_kept : Kept → List TreeItem → Kept
-all_kept kept items = record { nodesize = kept.nodesize; refs = counted_all kept.refs (stored_in items); extents = kept.extents ++ extents_in kept.nodesize items }
+all_kept kept items = record { nodesize = kept.nodesize; refs = refs_kept kept.refs (stored_in items); extents = kept.extents ++ extents_in kept.nodesize items }
 
-abbrev kept_as : ℕ → RefCounts → List Extent → Kept
+abbrev kept_as : ℕ → KeptRefs → List Extent → Kept
 kept_as nodesize refs extents = record { nodesize = nodesize; refs = refs; extents = extents }
 
 kept_none : (kept : Kept) → all_kept kept [] ≡ kept
@@ -36,8 +37,8 @@ kept_none kept = ap (kept_as kept.nodesize kept.refs) (append-nil kept.extents)
 kept_one : (kept : Kept) (item : TreeItem) (items : List TreeItem) → all_kept (kept_with kept item) items ≡ all_kept kept (item ∷ items)
 kept_one kept item items =
     ap (λ refs. kept_as kept.nodesize refs ((kept.extents ++ extent_in kept.nodesize item.key item.body) ++ extents_in kept.nodesize items))
-    (sym (fold-append counted kept.refs (refs_in item.key item.body) (stored_in items)))
-    ∙ ap (kept_as kept.nodesize (counted_all kept.refs (stored_in (item ∷ items))))
+    (sym (fold-append ref_kept kept.refs (refs_in item.key item.body) (stored_in items)))
+    ∙ ap (kept_as kept.nodesize (refs_kept kept.refs (stored_in (item ∷ items))))
     (append_assoc kept.extents (extent_in kept.nodesize item.key item.body) (extents_in kept.nodesize items))
 
 abbrev id_kept : Kept → Kept
@@ -100,23 +101,41 @@ module _ (B : Map) where
       ∙ keeps marks (kept_with from item) both.1 ∙ ap answered (kept_one from item (steps_of marks))
 
   -- a tree that comes to its end, and whose items have their forms, is collected
-  pub collected_all : (nodesize : ℕ) (root : RootPlace) → (exec B (range first_key last_key root)).ending ≡ Ok tt
+  pub collected_all : (nodesize : ℕ) (wanted : Bool) (root : RootPlace) → (exec B (range first_key last_key root)).ending ≡ Ok tt
       → list_all formed_item (steps_of (exec B (range first_key last_key root)).marks) ≡ true
-      → (exec B (stored_of nodesize root)).ending ≡ Ok (all_kept (nothing_kept nodesize) (steps_of (exec B (range first_key last_key root)).marks))
-  collected_all nodesize root ended all =
+      → (exec B (stored_of nodesize wanted root)).ending ≡ Ok (all_kept (nothing_kept nodesize wanted) (steps_of (exec B (range first_key last_key root)).marks))
+  collected_all nodesize wanted root ended all =
       let items = exec B (range first_key last_key root) in
-      ap (λ (r : Run Want fate.Fault ⊥ Kept). r.ending) (exec_fold kept_step id_kept B (nothing_kept nodesize) (range first_key last_key root))
-      ∙ ap (λ e. (fold_run kept_step id_kept B (nothing_kept nodesize) (run items.marks e)).ending) ended
-      ∙ keeps items.marks (nothing_kept nodesize) all
+      let nothing = nothing_kept nodesize wanted in
+      ap (λ (r : Run Want fate.Fault ⊥ Kept). r.ending) (exec_fold kept_step id_kept B nothing (range first_key last_key root))
+      ∙ ap (λ e. (fold_run kept_step id_kept B nothing (run items.marks e)).ending) ended
+      ∙ keeps items.marks nothing all
+
+-- what is kept of some references
+pub refs_unwanted : (counts : RefCounts) (refs : List Counted) → refs_kept (record { wanted = false; counts = counts }) refs ≡ record { wanted = false; counts = counts }
+refs_unwanted counts [] = refl
+refs_unwanted counts (one ∷ refs) = refs_unwanted counts refs
+
+pub refs_wanted : (counts : RefCounts) (refs : List Counted) → refs_kept (record { wanted = true; counts = counts }) refs
+    ≡ record { wanted = true; counts = counted_all counts refs }
+refs_wanted counts [] = refl
+refs_wanted counts (one ∷ refs) = refs_wanted (counted counts one) refs
+
+refs_law : (wanted : Bool) (refs : List Counted) → Counts (if wanted then refs else []) (refs_kept (no_refs wanted) refs).counts
+refs_law true refs = subst (λ (k : KeptRefs). Counts refs k.counts) (sym (refs_wanted [] refs)) (counts_law refs)
+refs_law false refs = subst (λ (k : KeptRefs). Counts [] k.counts) (sym (refs_unwanted [] refs)) (counts_law [])
 
 pub stored_law : StoredLaw
-stored_law B nodesize root kept is =
+stored_law B nodesize wanted root kept is =
     let items = exec B (range first_key last_key root) in
-    let e = ends B items.marks items.ending (nothing_kept nodesize) kept (subst (λ (r : Run Want fate.Fault ⊥ Kept). r.ending ≡ Ok kept) (exec_fold kept_step id_kept B (nothing_kept nodesize) (range first_key last_key root)) is) in (
+    let nothing = nothing_kept nodesize wanted in
+    let stored = stored_in (steps_of items.marks) in
+    let e = ends B items.marks items.ending nothing kept
+    (subst (λ (r : Run Want fate.Fault ⊥ Kept). r.ending ≡ Ok kept) (exec_fold kept_step id_kept B nothing (range first_key last_key root)) is) in (
       e.ended,
       record {
         formed = e.formed;
-        refs = subst (λ (k : Kept). Counts (stored_in (steps_of items.marks)) k.refs) (sym e.all) (counts_law (stored_in (steps_of items.marks)));
+        refs = subst (λ (k : Kept). Counts (if wanted then stored else []) k.refs.counts) (sym e.all) (refs_law wanted stored);
         extents = ap (λ (k : Kept). k.extents) e.all;
       },
     )

@@ -1,7 +1,9 @@
 mod Counting
+mod Maps
+mod Listing
+mod Extents
+pub mod Tallying
 pub mod Keeping
 mod Rows
 pub mod Used
 mod Using
-pub mod Totals
-pub mod Packed

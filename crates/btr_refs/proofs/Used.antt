@@ -8,7 +8,7 @@ use Rattle.std.specs.declared.cmp.Ordering.{Ordering}
 use Rattle.std.specs.declared.cmp.Ordering.TheVariants.{Less, Equal, Greater}
 use Rattle.btr_findings.proofs.Sets.{both_equal}
 use Rattle.btr_refs.specs.Counts.{counted_all}
-use Rattle.btr_refs.specs.Forward.{Used, TreeBlock, Data, Use, Uses, met, with_use, block_cmp, data_cmp, blocks_with, data_with}
+use Rattle.btr_refs.specs.Forward.{Used, TreeBlock, Data, Use, Uses, Tally, met, tally_with, with_use, block_cmp, data_cmp, blocks_with, data_with}
 use Rattle.btr_refs.specs.declared.uses.BlockUse.{BlockUse}
 use Rattle.btr_refs.specs.declared.uses.DataUse.{DataUse}
 
@@ -16,6 +16,11 @@ use Rattle.btr_refs.specs.declared.uses.DataUse.{DataUse}
 pub refs_all : (uses : List Use) (old : Uses) → (fold with_use old uses).refs ≡ counted_all old.refs (map met uses)
 refs_all [] old = refl
 refs_all (one ∷ uses) old = refs_all uses (with_use old one)
+
+-- what is kept beside the references that are stored
+pub uses_all : (uses : List Use) (old : Tally) → fold tally_with old uses ≡ record { stored = old.stored; uses = fold with_use old.uses uses }
+uses_all [] old = refl
+uses_all (one ∷ uses) old = uses_all uses (tally_with old one)
 
 or_swap : (a b c : Bool) → (a || (b || c)) ≡ (b || (a || c))
 or_swap true true c = refl

@@ -3,13 +3,9 @@ use Rattle.std.specs.Prelude.{◌≡◌, ℕ, ◌+◌, Bool, cond, List, [], fol
 use Rattle.std.specs.BTreeMap.{insert_entry, is_at}
 use Rattle.std.specs.List.{list_any}
 use Rattle.std.specs.Map.{lookup}
+use Rattle.btr_refs.specs.declared.counted.Counted.{Counted}
 use Rattle.btr_refs.specs.declared.ref_key.RefKey.{RefKey}
 use Rattle.btr_refs.specs.RefKey.{ref_cmp, same_ref}
-
--- a reference that is met, and how often it is at that place
-pub record Counted : Type 0 where
-  pub key : RefKey
-  pub count : ℕ
 
 -- how often one is met among some, in all
 abbrev pub sum_of : List Counted → RefKey → ℕ

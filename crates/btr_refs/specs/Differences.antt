@@ -1,10 +1,7 @@
 -- Where the references that are counted and those that are stored differ.
-use Rattle.std.specs.Prelude.{◌≡◌, ℕ, ◌==◌, Bool, cond, List, [], ◌∷◌, ◌++◌, sum_by, Option, Result, OnOk, IfOk, filter_map}
-use Rattle.std.specs.BTreeMap.{BTreeMap}
-use Rattle.std.specs.BTreeSet.{BTreeSet, contains}
+use Rattle.std.specs.Prelude.{ℕ, ◌==◌, Bool, cond, List, [], ◌∷◌, ◌++◌, sum_by, Option, Result, OnOk, filter_map}
 use Rattle.std.specs.List.{list_any}
 use Rattle.std.specs.Map.{keys_of}
-use Rattle.std.specs.Ordering.{nat_cmp}
 use Rattle.btr_base.specs.declared.memory.Memory.{Memory}
 use Rattle.btr_findings.specs.declared.finding.Finding.{Finding}
 use Rattle.btr_findings.specs.declared.kind.Kind.TheVariants as kind
@@ -12,18 +9,20 @@ use Rattle.btr_findings.specs.Findings.{found, unless, shown_sum, in_order, Foun
 use Rattle.btr_findings.specs.declared.extent.Extent.{Extent}
 use Rattle.btr_refs.specs.declared.ref_key.RefKey.{RefKey}
 use Rattle.btr_refs.specs.Counts.{RefCounts, count_in}
-use Rattle.btr_refs.specs.Extents.{Kept}
-use Rattle.btr_refs.specs.Forward.{Uses}
+use Rattle.btr_refs.specs.declared.counted.Counted.{Counted}
+use Rattle.btr_refs.specs.Listed.{entries_of, tallied, AreTallied}
 
 -- a reference as it is printed
 abbrev pub key_numbers : RefKey → List ℕ
 key_numbers key = key.addr ∷ key.kind ∷ key.root ∷ key.objectid ∷ key.offset ∷ []
 
+-- the finding that a reference is counted otherwise than it is stored, if it is
+abbrev pub count_row : RefKey → ℕ → ℕ → Option Finding
+count_row key counted stored = unless (counted == stored) (found kind.RefCount (key_numbers key ++ counted ∷ stored ∷ []))
+
 -- a reference is counted as often as it is stored
 abbrev pub ref_count : RefCounts → RefCounts → RefKey → Option Finding
-ref_count forward stored key =
-    unless (count_in forward key == count_in stored key)
-    (found kind.RefCount (key_numbers key ++ count_in forward key ∷ count_in stored key ∷ []))
+ref_count forward stored key = count_row key (count_in forward key) (count_in stored key)
 
 -- how often the extent at an address is referred to
 abbrev pub total_at : RefCounts → ℕ → ℕ
@@ -57,18 +56,12 @@ total_findings extents stored = filter_map (ref_total stored) extents ++ filter_
 abbrev pub differences : RefCounts → List Extent → RefCounts → List Finding
 differences forward extents stored = in_order (count_findings forward stored ++ total_findings extents stored)
 
--- a set has just what it had, and the findings of a rule on the references of a map
-abbrev pub PutsRefs : (RefKey → Option Finding) → BTreeMap RefKey ℕ → FoundSet → FoundSet → Type 0
-PutsRefs rule refs old new = PutsRows rule (keys_of refs.entries) old new
+-- a set has just what it had, and the findings on references in their order, by how often each is counted beside them
+abbrev pub PutsListed : List Counted → List ℕ → FoundSet → FoundSet → Result (Unit {0}) Memory → Type 0
+PutsListed refs times old new result =
+    (others : RefCounts) → AreTallied refs times others
+    → OnOk result (PutsRows (λ (one : Counted). ref_count (tallied refs times others) (entries_of refs) one.key) refs old new)
 
--- a set has the addresses of extents
-abbrev pub Addresses : List Extent → BTreeSet ℕ → Type 0
-Addresses extents addresses = (addr : ℕ) → contains nat_cmp addresses addr ≡ has_extent extents addr
-
--- by such a set, the findings of references where there is no extent were put
-abbrev pub PutsAlone : BTreeMap RefKey ℕ → BTreeSet ℕ → FoundSet → FoundSet → Result (Unit {0}) Memory → Type 0
-PutsAlone refs addresses old new result = (extents : List Extent) → Addresses extents addresses → OnOk result (PutsRefs (ref_alone extents refs.entries) refs old new)
-
--- what was counted and what is stored differ by just these findings
-abbrev pub ListsDifferences : Uses → Kept → Result (List Finding) Memory → Type 0
-ListsDifferences forward stored result = IfOk result (λ findings. findings ≡ differences forward.refs stored.extents stored.refs)
+-- a set has just what it had, and the findings of references where there is no extent
+abbrev pub PutsAlone : List Counted → List Extent → FoundSet → FoundSet → Type 0
+PutsAlone refs extents old new = PutsRows (λ (one : Counted). ref_alone extents (entries_of refs) one.key) refs old new

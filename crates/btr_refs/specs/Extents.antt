@@ -1,6 +1,5 @@
 -- The extents of the extent tree, and the references to them that it stores.
-use Rattle.std.specs.Prelude.{◌≡◌, ℕ, ◌==◌, ◌||◌, ◌&&◌, Bool, true, false, is_ok, List, [], ◌++◌, map, Some, Result, Ok, Err, filter_map, flat_map, option_map, option_to_list, if◌then◌else◌, ⊤}
-use Rattle.std.specs.BTreeMap.{BTreeMap}
+use Rattle.std.specs.Prelude.{◌≡◌, ℕ, ◌==◌, ◌||◌, ◌&&◌, Bool, true, false, is_ok, List, [], ◌++◌, map, fold, Some, Result, Ok, Err, filter_map, flat_map, option_map, option_to_list, if◌then◌else◌, ⊤}
 use Rattle.std.specs.List.{list_all}
 use Rattle.std.specs.Result.{result_ok}
 use Rattle.std.specs.declared.alloc.Global.{Global}
@@ -20,9 +19,11 @@ use Rattle.btr_items.specs.declared.loose_ref.LooseRef.{LooseRef}
 use Rattle.btr_walk.specs.Folds.{Next, Go, Broken}
 use Rattle.btr_walk.specs.Le.{TreeItem}
 use Rattle.btr_findings.specs.declared.extent.Extent.{Extent}
-use Rattle.btr_refs.specs.Counts.{Counted, RefCounts, counted_all}
+use Rattle.btr_refs.specs.Counts.{RefCounts, counted}
+use Rattle.btr_refs.specs.declared.counted.Counted.{Counted}
 use Rattle.btr_refs.specs.RefKey.{key_of}
-use Rattle.btr_refs.specs.declared.ref_key.RefKey.{RefKey}
+use Rattle.btr_refs.specs.declared.wanted.Wanted.{Wanted}
+use Rattle.btr_refs.specs.declared.wanted.Wanted.TheVariants.{All, Extents}
 
 -- a kind of item is an extent's
 abbrev pub is_extent : ℕ → Bool
@@ -93,21 +94,43 @@ is_formed key body =
     else if is_loose key.kind then is_ok (loose_ref_of key body)
     else true
 
--- what is kept of some items: how long a node is, how often each reference is stored, and the extents
+-- whether references are wanted, and how often each of those is stored that came, where they are
+pub record KeptRefs : Type 0 where
+  pub wanted : Bool
+  pub counts : RefCounts
+
+-- what is kept before the first reference
+abbrev pub no_refs : Bool → KeptRefs
+no_refs wanted = record { wanted = wanted; counts = [] }
+
+-- what is kept with one more reference
+abbrev pub ref_kept : KeptRefs → Counted → KeptRefs
+ref_kept kept one = record { wanted = kept.wanted; counts = if kept.wanted then counted kept.counts one else kept.counts }
+
+-- what is kept with some more references
+abbrev pub refs_kept : KeptRefs → List Counted → KeptRefs
+refs_kept kept refs = fold ref_kept kept refs
+
+-- references are kept, or the extents alone
+abbrev pub wants_refs : Wanted → Bool
+wants_refs All = true
+wants_refs (Extents room) = false
+
+-- what is kept of some items: how long a node is, the references, and the extents
 pub record Kept : Type 0 where
   pub nodesize : ℕ
-  pub refs : RefCounts
+  pub refs : KeptRefs
   pub extents : List Extent
 
 -- what is kept before the first item
-abbrev pub nothing_kept : ℕ → Kept
-nothing_kept nodesize = record { nodesize = nodesize; refs = []; extents = [] }
+abbrev pub nothing_kept : ℕ → Bool → Kept
+nothing_kept nodesize wanted = record { nodesize = nodesize; refs = no_refs wanted; extents = [] }
 
 -- what is kept with one more item
 abbrev pub kept_with : Kept → TreeItem → Kept
 kept_with kept item = record {
   nodesize = kept.nodesize;
-  refs = counted_all kept.refs (refs_in item.key item.body);
+  refs = refs_kept kept.refs (refs_in item.key item.body);
   extents = kept.extents ++ extent_in kept.nodesize item.key item.body;
 }
 
@@ -115,31 +138,31 @@ kept_with kept item = record {
 abbrev pub kept_step : Kept → TreeItem → Next Kept Kept
 kept_step kept item = if is_formed item.key item.body then Go (kept_with kept item) else Broken
 
--- some references are counted, if they are formed
-abbrev pub AddsRefs : Bool → List Counted → RefCounts → RefCounts → Result Bool Memory → Type 0
-AddsRefs formed more old new (Ok true) = (formed ≡ true) × (new ≡ counted_all old more)
+-- some references are kept, if they are formed
+abbrev pub AddsRefs : Bool → List Counted → KeptRefs → KeptRefs → Result Bool Memory → Type 0
+AddsRefs formed more old new (Ok true) = (formed ≡ true) × (new ≡ refs_kept old more)
 AddsRefs formed more old new (Ok false) = formed ≡ false
 AddsRefs formed more old new (Err e) = ⊤
 
--- the references in an extent's item are counted from a place on, if they are formed
-abbrev pub AddsInline : ℕ → ℕ → List ℕ → RefCounts → RefCounts → Result Bool Memory → Type 0
+-- the references in an extent's item are kept from a place on, if they are formed
+abbrev pub AddsInline : ℕ → ℕ → List ℕ → KeptRefs → KeptRefs → Result Bool Memory → Type 0
 AddsInline addr first body old new result = AddsRefs (list_all is_ok (inline_refs_of first body)) (parts_counted addr (inline_refs_of first body)) old new result
 
--- the reference in an item of its own is counted, if it is formed
-abbrev pub AddsLoose : Key → List ℕ → RefCounts → RefCounts → Result Bool Memory → Type 0
+-- the reference in an item of its own is kept, if it is formed
+abbrev pub AddsLoose : Key → List ℕ → KeptRefs → KeptRefs → Result Bool Memory → Type 0
 AddsLoose key body old new result = AddsRefs (is_ok (loose_ref_of key body)) (loose_refs key body) old new result
 
 -- an item is kept, if it is formed
-abbrev pub AddsItem : Bool → List Counted → List Extent → RefCounts → RefCounts → List Extent → List Extent → Result Bool Memory → Type 0
-AddsItem formed refs extents old new listed listed' (Ok true) = (formed ≡ true) × (new ≡ counted_all old refs) × (listed' ≡ listed ++ extents)
+abbrev pub AddsItem : Bool → List Counted → List Extent → KeptRefs → KeptRefs → List Extent → List Extent → Result Bool Memory → Type 0
+AddsItem formed refs extents old new listed listed' (Ok true) = (formed ≡ true) × (new ≡ refs_kept old refs) × (listed' ≡ listed ++ extents)
 AddsItem formed refs extents old new listed listed' (Ok false) = formed ≡ false
 AddsItem formed refs extents old new listed listed' (Err e) = ⊤
 
 -- an extent is kept with the references in its item, if it is formed and its key fits
-abbrev pub AddsExtent : ℕ → Key → List ℕ → BTreeMap RefKey ℕ → BTreeMap RefKey ℕ → Vec Extent Global → Vec Extent Global → Result Bool Memory → Type 0
+abbrev pub AddsExtent : ℕ → Key → List ℕ → KeptRefs → KeptRefs → Vec Extent Global → Vec Extent Global → Result Bool Memory → Type 0
 AddsExtent nodesize key body old new listed listed' result =
-    AddsItem (key_fits key && extent_fits key.kind body) (inline_refs key.objectid body (extent_item_of key.kind body)) (extent_of nodesize key body) old.entries new.entries listed.items listed'.items result
+    AddsItem (key_fits key && extent_fits key.kind body) (inline_refs key.objectid body (extent_item_of key.kind body)) (extent_of nodesize key body) old new listed.items listed'.items result
 
 -- an item of any kind is kept as what it is, if it is formed
-abbrev pub AddsAny : ℕ → Key → List ℕ → BTreeMap RefKey ℕ → BTreeMap RefKey ℕ → Vec Extent Global → Vec Extent Global → Result Bool Memory → Type 0
-AddsAny nodesize key body old new listed listed' result = AddsItem (is_formed key body) (refs_in key body) (extent_in nodesize key body) old.entries new.entries listed.items listed'.items result
+abbrev pub AddsAny : ℕ → Key → List ℕ → KeptRefs → KeptRefs → Vec Extent Global → Vec Extent Global → Result Bool Memory → Type 0
+AddsAny nodesize key body old new listed listed' result = AddsItem (is_formed key body) (refs_in key body) (extent_in nodesize key body) old new listed.items listed'.items result

@@ -22,7 +22,8 @@ use Rattle.btr_refs.specs.declared.forward.Origin.{Origin}
 use Rattle.btr_refs.specs.declared.uses.BlockUse.{BlockUse}
 use Rattle.btr_refs.specs.declared.uses.DataUse.{DataUse}
 use Rattle.btr_refs.specs.declared.uses.UsedExtents.{UsedExtents}
-use Rattle.btr_refs.specs.Counts.{Counted, RefCounts, counted}
+use Rattle.btr_refs.specs.Counts.{RefCounts, counted}
+use Rattle.btr_refs.specs.declared.counted.Counted.{Counted}
 use Rattle.btr_refs.specs.RefKey.{key_of}
 
 -- what is used: a tree block of a level, or data that is an extent of a length
@@ -143,6 +144,19 @@ with_use uses one = record {
   tree_blocks = blocks_with uses.tree_blocks one.addr one.what;
   data_extents = data_with uses.data_extents one.addr one.what;
 }
+
+-- what is kept while uses are counted: how often each reference is stored, and what is kept of the uses
+pub record Tally : Type 0 where
+  pub stored : RefCounts
+  pub uses : Uses
+
+-- what is kept before the first use, where these references are stored
+abbrev pub nothing_counted : RefCounts → Tally
+nothing_counted stored = record { stored = stored; uses = no_uses }
+
+-- what is kept with one more use
+abbrev pub tally_with : Tally → Use → Tally
+tally_with tally one = record { stored = tally.stored; uses = with_use tally.uses one }
 
 -- what is kept of some uses, from nothing on
 abbrev pub used_by : List Use → Uses

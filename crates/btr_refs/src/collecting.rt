@@ -6,34 +6,21 @@ ghost use Rattle.btr_read.specs.Store.{free_count};
 ghost use Rattle.btr_volume.specs.Looking.{SameVolume};
 ghost use Rattle.btr_refs.specs.Collecting.{CollectsStored, CollectCause, StoredLaw};
 
-use crate::{CollectFault, Stored};
-use btr_base::{Key, Memory};
+use crate::{CollectFault, Stored, Wanted};
+use btr_base::{FIRST_KEY, LAST_KEY, Memory};
 use btr_rack::Rack;
 use btr_volume::{TreeRoot, Volume};
 use btr_walk::{FoldFault, fold};
 use std::alloc::Global;
 
-// The first and the last key that there are.
-const FIRST_KEY: Key = Key {
-    objectid: 0,
-    kind: 0,
-    offset: 0,
-};
-
-const LAST_KEY: Key = Key {
-    objectid: u64::MAX,
-    kind: u8::MAX,
-    offset: u64::MAX,
-};
-
 impl Stored {
-    /// Collects what the extent tree with this root says of extents, and makes room for some of them ahead. Four slots are free.
+    /// Collects what is wanted of the extent tree with this root. Four slots are free.
     ///
     /// The faults of the tree are those of its blocks, in their order, and `Malformed` of the leaf of an item that breaks its form,
     /// where the item is an extent or a reference. `Memory`: there is no memory for what is collected.
     pub fn collect<R: Rack>(
         alloc: Global,
-        room: usize,
+        wanted: Wanted,
         extents: &TreeRoot,
         rack: &mut R,
         vol: &mut Volume,
@@ -44,9 +31,9 @@ impl Stored {
         ensures reads { OnlyReads (R.seen rack.old) (R.seen rack.new) }
         ensures same { SameVolume vol.old vol.new }
         ensures cause { CollectCause vol.old.store.layout (R.seen rack.old) (R.seen rack.new) result }
-        ensures content { CollectsStored vol.old extents.now (R.seen rack.old) (R.seen rack.new) result }
+        ensures content { CollectsStored vol.old wanted extents.now (R.seen rack.old) (R.seen rack.new) result }
     {
-        let nothing = Stored::with_room(alloc, u64::from(vol.sup.nodesize), room);
+        let nothing = Stored::new(alloc, u64::from(vol.sup.nodesize), wanted);
         match fold(
             &extents.place,
             FIRST_KEY,

@@ -1,9 +1,12 @@
 // What uses extents: trees use their root blocks, nodes their children, and files their data.
-ghost use Rattle.std.specs.Prelude.{◌≡◌, ◌≤◌, length, fold, map, OnOk};
-ghost use Rattle.btr_refs.specs.Forward.{tree_link, file_link, with_use, root_use, block_use, data_use, range_uses, item_uses, leaf_uses, child_use, block_uses};
+ghost use Rattle.std.specs.Prelude.{◌≡◌, ◌≤◌, ◌+◌, length, fold, map, replicate, IfOk, OnOk, OnErr};
+ghost use Rattle.btr_refs.specs.Counts.{counted};
+ghost use Rattle.btr_refs.specs.Forward.{tree_link, file_link, tally_with, root_use, block_use, data_use, range_uses, item_uses, leaf_uses, child_use, block_uses};
+ghost use Rattle.btr_refs.specs.Listed.{tallied, AreTallied};
 
 use crate::counts::add;
-use crate::{BlockUse, DataUse, RefKey, UsedExtents};
+use crate::ref_list::place;
+use crate::{BlockUse, Counted, DataUse, RefKey, RefList, UsedExtents};
 use btr_base::{Key, Memory, u64_at};
 use btr_items::{FileExtent, Link, Shape, item};
 use btr_node::{Inner, Leaf, Node};
@@ -15,10 +18,13 @@ use std::marker::Model;
 // Where the owner's id stands in a block's header.
 const OWNER: usize = 0x58;
 
-/// The references to extents that are counted: each use of an extent by a tree, a node or a file is one.
+/// The references to extents that are counted: each use of an extent by a tree, a node or a file is one. Most are stored, and
+/// are counted beside the list of those; only the others stand in a map.
 #[derive(Drop)]
 pub struct Forward {
-    refs: BTreeMap<RefKey, u64>,
+    pub(crate) stored: Vec<Counted>,
+    pub(crate) times: Vec<u64>,
+    pub(crate) others: BTreeMap<RefKey, u64>,
     tree_blocks: BTreeSet<BlockUse>,
     data_extents: BTreeSet<DataUse>,
 }
@@ -32,11 +38,63 @@ pub(crate) struct Origin {
 }
 
 impl Model for Forward {
-    ghost use Rattle.btr_refs.specs.Forward.{Uses};
+    ghost use Rattle.btr_refs.specs.Forward.{Tally};
+    ghost use Rattle.btr_refs.specs.Listed.{AreTallied, entries_of, tallied};
 
-    ghost Value = { Uses };
+    ghost Value = { Tally };
 
-    ghost view = { λ forward. record { refs = forward.refs.entries; tree_blocks = forward.tree_blocks.keys; data_extents = forward.data_extents.keys } };
+    ghost view = { λ forward. record {
+      stored = entries_of forward.stored.items;
+      uses = record {
+        refs = tallied forward.stored.items forward.times.items forward.others.entries;
+        tree_blocks = forward.tree_blocks.keys;
+        data_extents = forward.data_extents.keys;
+      };
+    } };
+
+    ghost invariant = { λ forward. AreTallied forward.stored.items forward.times.items forward.others.entries };
+}
+
+// A list of so many zeros. `Memory`: there is no memory for it.
+fn zeros(alloc: Global, count: usize) -> Result<Vec<u64>, Memory>
+    ensures { IfOk result (λ list. list.items ≡ replicate count 0) }
+{
+    let mut list = Vec::new(alloc);
+    match list.resize(count, 0) {
+        Ok(()) => Ok(list),
+        Err(_) => Err(Memory),
+    }
+}
+
+// Counts once more by the number beside a reference that is stored. `Memory`: it is the greatest there is.
+fn count_again(times: &mut u64) -> Result<(), Memory>
+    ensures ok { OnOk result (times.new ≡ times.old + 1) }
+    ensures err { OnErr result (times.new ≡ times.old) }
+{
+    match times.checked_add(1) {
+        Some(more) => {
+            *times = more;
+            Ok(())
+        }
+        None => Err(Memory),
+    }
+}
+
+// Counts a reference once more, beside those that are stored, if it is one of them.
+fn count(
+    stored: &[Counted],
+    times: &mut [u64],
+    others: &mut BTreeMap<RefKey, u64>,
+    key: RefKey,
+) -> Result<(), Memory>
+    requires { AreTallied stored.now times.old others.old.entries }
+    ensures kept { AreTallied stored.now times.new others.new.entries }
+    ensures counted { OnOk result (tallied stored.now times.new others.new.entries ≡ counted (tallied stored.now times.old others.old.entries) (record { key = key; count = 1 })) }
+{
+    match place(stored, &key) {
+        Some(at) => count_again(&mut times[at]),
+        None => add(others, Counted { key, count: 1 }),
+    }
 }
 
 // What refers to a child of a node.
@@ -66,31 +124,28 @@ fn file_link(from: &Origin, objectid: u64, offset: u64) -> Link
 }
 
 impl Forward {
-    ghost use Rattle.std.specs.Prelude.{◌≡◌, ◌≤◌, length, fold, OnOk};
-    ghost use Rattle.btr_refs.specs.Forward.{no_uses, with_use, root_use, block_use, data_use, block_uses};
+    ghost use Rattle.std.specs.Prelude.{◌≡◌, ◌≤◌, length, fold, IfOk, OnOk};
+    ghost use Rattle.btr_refs.specs.Forward.{nothing_counted, tally_with, root_use, block_use, data_use, block_uses};
 
-    /// Nothing is counted yet.
-    pub fn new(alloc: Global) -> Forward
-        ensures { result ≡ no_uses }
+    /// Nothing is counted yet, where these references are stored. `Memory`: there is no memory to count them.
+    pub fn new(alloc: Global, stored: RefList) -> Result<Forward, Memory>
+        ensures { IfOk result (λ forward. forward ≡ nothing_counted stored) }
     {
-        Forward {
-            refs: BTreeMap::new(alloc),
+        let stored = stored.into_refs();
+        let times = zeros(alloc, stored.len())?;
+        Ok(Forward {
+            stored,
+            times,
+            others: BTreeMap::new(alloc),
             tree_blocks: BTreeSet::new(alloc),
             data_extents: BTreeSet::new(alloc),
-        }
-    }
-
-    /// How often each reference is counted.
-    pub fn refs(&self) -> &BTreeMap<RefKey, u64>
-        ensures { result.now.entries ≡ self.now.refs }
-    {
-        &self.refs
+        })
     }
 
     /// The extents that are used, where nothing else is asked of the uses any more.
     pub fn into_extents(self) -> UsedExtents
-        ensures tree_blocks { result.tree_blocks.keys ≡ self.tree_blocks }
-        ensures data_extents { result.data_extents.keys ≡ self.data_extents }
+        ensures tree_blocks { result.tree_blocks.keys ≡ self.uses.tree_blocks }
+        ensures data_extents { result.data_extents.keys ≡ self.uses.data_extents }
     {
         UsedExtents {
             tree_blocks: self.tree_blocks,
@@ -101,9 +156,14 @@ impl Forward {
     /// Counts a use of the extent at an address as a tree block. `Memory`: there is no memory for it; then nothing is said of what
     /// was counted.
     pub fn use_block(&mut self, addr: u64, link: Link, level: u8) -> Result<(), Memory>
-        ensures { OnOk result (self.new ≡ with_use self.old (block_use addr link level)) }
+        ensures { OnOk result (self.new ≡ tally_with self.old (block_use addr link level)) }
     {
-        add(&mut self.refs, RefKey::new(addr, link), 1)?;
+        count(
+            &self.stored,
+            &mut self.times,
+            &mut self.others,
+            RefKey::new(addr, link),
+        )?;
         match self.tree_blocks.insert(BlockUse { addr, level }) {
             Ok(_) => Ok(()),
             Err(_) => Err(Memory),
@@ -113,9 +173,14 @@ impl Forward {
     /// Counts a use of the extent at an address as data, of which a file says that it has so many bytes. `Memory`: there is no
     /// memory for it; then nothing is said of what was counted.
     pub fn use_data(&mut self, addr: u64, link: Link, len: u64) -> Result<(), Memory>
-        ensures { OnOk result (self.new ≡ with_use self.old (data_use addr link len)) }
+        ensures { OnOk result (self.new ≡ tally_with self.old (data_use addr link len)) }
     {
-        add(&mut self.refs, RefKey::new(addr, link), 1)?;
+        count(
+            &self.stored,
+            &mut self.times,
+            &mut self.others,
+            RefKey::new(addr, link),
+        )?;
         match self.data_extents.insert(DataUse { addr, len }) {
             Ok(_) => Ok(()),
             Err(_) => Err(Memory),
@@ -124,7 +189,7 @@ impl Forward {
 
     /// Counts the use of a tree's root block, to which it refers by its id. `Memory`: as in `use_block`.
     pub fn add_root(&mut self, root: &TreeRoot) -> Result<(), Memory>
-        ensures { OnOk result (self.new ≡ with_use self.old (root_use root.now)) }
+        ensures { OnOk result (self.new ≡ tally_with self.old (root_use root.now)) }
     {
         self.use_block(root.place.addr, Link::Tree(root.id), root.place.level)
     }
@@ -139,7 +204,7 @@ impl Forward {
         block: &[u8],
     ) -> Result<(), Memory>
         requires { 101 ≤ length block.now }
-        ensures { OnOk result (self.new ≡ fold with_use self.old (block_uses by_address addr level block.now)) }
+        ensures { OnOk result (self.new ≡ fold tally_with self.old (block_uses by_address addr level block.now)) }
     {
         let from = Origin {
             addr,
@@ -162,7 +227,7 @@ fn add_range(
     place: (u64, u64),
     skip: u64,
 ) -> Result<(), Memory>
-    ensures { OnOk result (forward.new ≡ fold with_use forward.old (range_uses from.now key place.0 place.1 skip)) }
+    ensures { OnOk result (forward.new ≡ fold tally_with forward.old (range_uses from.now key place.0 place.1 skip)) }
 {
     let (addr, disk_len) = place;
     if addr == 0 {
@@ -174,7 +239,7 @@ fn add_range(
 
 // Counts the use by an item of a leaf.
 fn add_item(forward: &mut Forward, from: &Origin, key: Key, body: &[u8]) -> Result<(), Memory>
-    ensures { OnOk result (forward.new ≡ fold with_use forward.old (item_uses from.now key body.now)) }
+    ensures { OnOk result (forward.new ≡ fold tally_with forward.old (item_uses from.now key body.now)) }
 {
     if key.kind != item::EXTENT_DATA {
         return Ok(());
@@ -201,7 +266,7 @@ fn add_item(forward: &mut Forward, from: &Origin, key: Key, body: &[u8]) -> Resu
 
 // Counts what the items of a leaf use.
 fn add_items(forward: &mut Forward, from: &Origin, leaf: &Leaf<'_>) -> Result<(), Memory>
-    ensures { OnOk result (forward.new ≡ fold with_use forward.old (leaf_uses from.now leaf.now)) }
+    ensures { OnOk result (forward.new ≡ fold tally_with forward.old (leaf_uses from.now leaf.now)) }
 {
     for item in leaf.items_from(0) {
         add_item(forward, from, item.key, item.body)?;
@@ -216,7 +281,7 @@ fn add_children(
     level: u8,
     node: &Inner<'_>,
 ) -> Result<(), Memory>
-    ensures { OnOk result (forward.new ≡ fold with_use forward.old (map (child_use from.now level) node.now)) }
+    ensures { OnOk result (forward.new ≡ fold tally_with forward.old (map (child_use from.now level) node.now)) }
 {
     let link = tree_link(from);
     for i in 0..node.count() {

@@ -1,24 +1,23 @@
 // What the extent tree says of extents.
-ghost use Rattle.std.specs.Prelude.{◌≡◌, ◌≤◌, [], length, IfOk, IsTrue};
+ghost use Rattle.std.specs.Prelude.{◌≡◌, ◌≤◌, [], length, IsTrue};
 ghost use Rattle.btr_items.specs.Key as key_rules;
 ghost use Rattle.btr_refs.specs.Extents.{is_extent, extent_with, AddsInline, AddsLoose, AddsExtent, AddsAny};
 
-use crate::RefKey;
-use crate::counts::add;
+use crate::ref_store::RefStore;
+use crate::{Counted, Wanted};
 use btr_base::{Key, Memory};
 use btr_findings::{Extent, push, with_room};
 use btr_items::{ExtentItem, LooseRef, inline_refs, item, key_fits};
 use btr_walk::{Folder, Found, Took};
 use std::alloc::Global;
-use std::collections::BTreeMap;
 use std::marker::Model;
 
-/// The extents of the extent tree, in the order of their items, and how often each reference to an extent is stored: in the
-/// extents' items, and in items of their own.
+/// The extents of the extent tree, in the order of their items, and, where they are wanted, how often each reference to an extent
+/// is stored: in the extents' items, and in items of their own.
 #[derive(Drop)]
 pub struct Stored {
     nodesize: u64,
-    refs: BTreeMap<RefKey, u64>,
+    refs: RefStore,
     extents: Vec<Extent>,
 }
 
@@ -27,42 +26,23 @@ impl Model for Stored {
 
     ghost Value = { Kept };
 
-    ghost view = { λ stored. record { nodesize = stored.nodesize; refs = stored.refs.entries; extents = stored.extents.items } };
+    ghost view = { λ stored. record { nodesize = stored.nodesize; refs = stored.refs; extents = stored.extents.items } };
 }
 
 impl Stored {
-    ghost use Rattle.std.specs.Prelude.{◌≡◌, IfOk};
-    ghost use Rattle.btr_refs.specs.Extents.{nothing_kept};
+    ghost use Rattle.std.specs.Prelude.{◌≡◌, []};
+    ghost use Rattle.btr_refs.specs.Counts.{counted_all};
+    ghost use Rattle.btr_refs.specs.Extents.{nothing_kept, wants_refs};
 
     /// Nothing is stored yet. A node has `nodesize` bytes.
-    pub fn new(alloc: Global, nodesize: u64) -> Stored
-        ensures { result ≡ nothing_kept nodesize }
+    pub fn new(alloc: Global, nodesize: u64, wanted: Wanted) -> Stored
+        ensures { result ≡ nothing_kept nodesize (wants_refs wanted) }
     {
         Stored {
             nodesize,
-            refs: BTreeMap::new(alloc),
-            extents: Vec::new(alloc),
+            refs: RefStore::new(alloc, wanted.refs()),
+            extents: room_for(alloc, wanted.room()),
         }
-    }
-
-    /// The same, with room made ahead for some extents, if there is memory for it.
-    pub fn with_room(alloc: Global, nodesize: u64, room: usize) -> Stored
-        ensures { result ≡ nothing_kept nodesize }
-    {
-        Stored {
-            nodesize,
-            refs: BTreeMap::new(alloc),
-            extents: room_for(alloc, room),
-        }
-    }
-
-    /// How often each reference is stored, where nothing else is asked any more, in as little memory as that takes: a map that grew in the
-    /// order of its keys has nodes that are half full. `Memory`: there is no memory for it.
-    pub fn into_refs(self, alloc: Global) -> Result<BTreeMap<RefKey, u64>, Memory>
-        ensures { IfOk result (λ refs. refs.entries ≡ self.refs) }
-    {
-        drop(self.extents);
-        packed(alloc, self.refs)
     }
 
     /// The extents alone, in the order of their items.
@@ -72,11 +52,12 @@ impl Stored {
         self.extents
     }
 
-    /// How often each reference is stored.
-    pub fn refs(&self) -> &BTreeMap<RefKey, u64>
-        ensures { result.now.entries ≡ self.now.refs }
+    /// The references as they came, and the extents.
+    pub(crate) fn into_parts(self) -> (Vec<Counted>, Vec<Extent>)
+        ensures refs { counted_all [] result.0.items ≡ self.refs.counts }
+        ensures extents { result.1.items ≡ self.extents }
     {
-        &self.refs
+        (self.refs.into_refs(), self.extents)
     }
 
     /// The extents, in the order of their items.
@@ -94,16 +75,6 @@ fn room_for(alloc: Global, room: usize) -> Vec<Extent>
     match with_room(alloc, room) {
         Ok(list) => list,
         Err(Memory) => Vec::new(alloc),
-    }
-}
-
-// The same counts in a map that was made at once.
-fn packed(alloc: Global, refs: BTreeMap<RefKey, u64>) -> Result<BTreeMap<RefKey, u64>, Memory>
-    ensures { IfOk result (λ all. all.entries ≡ refs.entries) }
-{
-    match refs.into_iter().collect(alloc) {
-        Ok(all) => Ok(all),
-        Err(_) => Err(Memory),
     }
 }
 
@@ -127,28 +98,23 @@ fn extent_with(nodesize: u64, key: Key, extent: &ExtentItem) -> Extent
     }
 }
 
-// Counts the inline references from a place of an extent's item on. The answer is whether they have their form.
-fn add_inline(
-    refs: &mut BTreeMap<RefKey, u64>,
-    addr: u64,
-    body: &[u8],
-    first: usize,
-) -> Result<bool, Memory>
+// Keeps the inline references from a place of an extent's item on. The answer is whether they have their form.
+fn add_inline(refs: &mut RefStore, addr: u64, body: &[u8], first: usize) -> Result<bool, Memory>
     requires { first ≤ length body.now }
-    ensures { AddsInline addr first body.now refs.old.entries refs.new.entries result }
+    ensures { AddsInline addr first body.now refs.old refs.new result }
 {
     for part in inline_refs(body, first) {
         let Ok(part) = part else {
             return Ok(false);
         };
-        add(refs, RefKey::new(addr, part.link), part.count)?;
+        refs.keep(addr, part.link, part.count)?;
     }
     Ok(true)
 }
 
 // Keeps an extent and the references in its item. The answer is whether the item has its form.
 fn add_extent(
-    refs: &mut BTreeMap<RefKey, u64>,
+    refs: &mut RefStore,
     extents: &mut Vec<Extent>,
     nodesize: u64,
     key: Key,
@@ -167,20 +133,20 @@ fn add_extent(
     Ok(true)
 }
 
-// Counts the reference in an item of its own. The answer is whether the item has its form.
-fn add_loose(refs: &mut BTreeMap<RefKey, u64>, key: Key, body: &[u8]) -> Result<bool, Memory>
-    ensures { AddsLoose key body.now refs.old.entries refs.new.entries result }
+// Keeps the reference in an item of its own. The answer is whether the item has its form.
+fn add_loose(refs: &mut RefStore, key: Key, body: &[u8]) -> Result<bool, Memory>
+    ensures { AddsLoose key body.now refs.old refs.new result }
 {
     let Ok(part) = LooseRef::read(key, body) else {
         return Ok(false);
     };
-    add(refs, RefKey::new(key.objectid, part.link), part.count)?;
+    refs.keep(key.objectid, part.link, part.count)?;
     Ok(true)
 }
 
 // Keeps what an item says of extents. The answer is whether it has its form.
 fn keep(
-    refs: &mut BTreeMap<RefKey, u64>,
+    refs: &mut RefStore,
     extents: &mut Vec<Extent>,
     nodesize: u64,
     key: Key,

@@ -1,16 +1,16 @@
 // Where counted and stored references differ.
 use super::stores::{DATA, extent, file, loose, shared, take};
 use btr_base::Memory;
-use btr_findings::{Finding, Kind};
+use btr_findings::{Finding, Found, Kind};
 use btr_items::item;
-use btr_refs::{Forward, Stored, differences};
+use btr_refs::{Forward, RefList, Stored, Wanted, put_count_findings, put_total_findings};
 use std::alloc::Global;
 use std::process::Abort;
 use std::test::Fail;
 
-// A use of the data extent by each of these inodes.
-fn used_by(alloc: Global, inodes: &[u64]) -> Result<Forward, Memory> {
-    let mut forward = Forward::new(alloc);
+// A use of the data extent by each of these inodes, where these references are stored.
+fn used_by(alloc: Global, stored: RefList, inodes: &[u64]) -> Result<Forward, Memory> {
+    let mut forward = Forward::new(alloc, stored)?;
     for inode in inodes {
         forward.use_data(DATA, file(*inode), 4096)?;
     }
@@ -38,10 +38,13 @@ fn finds(
     rt: &impl Abort,
     alloc: Global,
     inodes: &[u64],
-    stored: &Stored,
+    stored: Stored,
     wanted: &[Finding],
 ) -> Result<(), Fail> {
-    let found = differences(alloc, &used_by(alloc, inodes)?, stored)?.to_vec(alloc)?;
+    let mut found = Found::new(alloc);
+    let refs = put_total_findings(alloc, &mut found, stored)?;
+    put_count_findings(&mut found, &used_by(alloc, refs, inodes)?)?;
+    let found = found.list(alloc)?.to_vec(alloc)?;
     assert_eq!(rt; found.len(), wanted.len());
     for (one, other) in found.iter().zip(wanted) {
         assert_eq!(rt; one, other);
@@ -52,21 +55,26 @@ fn finds(
 #[test]
 fn an_extent_of_two_files(rt: HostRuntime) -> Result<(), Fail> {
     let alloc = rt.alloc();
-    let sound = shared(alloc, 2)?;
-    finds(&rt, alloc, &[260, 261], &sound, &[])?;
+    finds(&rt, alloc, &[260, 261], shared(alloc, 2)?, &[])?;
     finds(
         &rt,
         alloc,
         &[260, 261],
-        &shared(alloc, 3)?,
+        shared(alloc, 3)?,
         &[ref_total(3, 2)],
     )?;
-    finds(&rt, alloc, &[260], &sound, &[ref_count(261, 0, 1)])?;
+    finds(
+        &rt,
+        alloc,
+        &[260],
+        shared(alloc, 2)?,
+        &[ref_count(261, 0, 1)],
+    )?;
     finds(
         &rt,
         alloc,
         &[262, 261, 261],
-        &sound,
+        shared(alloc, 2)?,
         &[
             ref_count(260, 0, 1),
             ref_count(261, 2, 1),
@@ -75,26 +83,36 @@ fn an_extent_of_two_files(rt: HostRuntime) -> Result<(), Fail> {
     )
 }
 
+// A reference that is stored so often, where there is no extent.
+fn alone(alloc: Global, count: u32) -> Result<Stored, Fail> {
+    let mut stored = Stored::new(alloc, 16384, Wanted::All);
+    take(
+        &mut stored,
+        item::EXTENT_DATA_REF,
+        1,
+        loose(alloc, count)?.as_slice(),
+    )?;
+    Ok(stored)
+}
+
 #[test]
 fn references_without_an_extent(rt: HostRuntime) -> Result<(), Fail> {
     let alloc = rt.alloc();
-    for count in [0, 1] {
-        let mut stored = Stored::new(alloc, 16384);
-        take(
-            &mut stored,
-            item::EXTENT_DATA_REF,
-            1,
-            loose(alloc, count)?.as_slice(),
-        )?;
-        let mut wanted = [ref_count(261, 0, 1), ref_total(0, u64::from(count))];
-        let from = if count == 0 { 1 } else { 0 };
-        finds(&rt, alloc, &[], &stored, &wanted[from..])?;
-        wanted[0] = ref_count(261, 1, 0);
-        if count == 0 {
-            finds(&rt, alloc, &[261], &stored, &wanted)?;
-        }
-    }
-    Ok(())
+    finds(&rt, alloc, &[], alone(alloc, 0)?, &[ref_total(0, 0)])?;
+    finds(
+        &rt,
+        alloc,
+        &[261],
+        alone(alloc, 0)?,
+        &[ref_count(261, 1, 0), ref_total(0, 0)],
+    )?;
+    finds(
+        &rt,
+        alloc,
+        &[],
+        alone(alloc, 1)?,
+        &[ref_count(261, 0, 1), ref_total(0, 1)],
+    )
 }
 
 #[test]
@@ -107,5 +125,5 @@ fn two_extents_at_one_address(rt: HostRuntime) -> Result<(), Fail> {
         8192,
         extent(alloc, 1)?.as_slice(),
     )?;
-    finds(&rt, alloc, &[260, 260, 261], &stored, &[ref_total(1, 3)])
+    finds(&rt, alloc, &[260, 260, 261], stored, &[ref_total(1, 3)])
 }

@@ -2,7 +2,7 @@
 use btr_base::{Key, Memory};
 use btr_items::{ExtentFlags, Link, item};
 use btr_make_blocks::Body;
-use btr_refs::{RefKey, Stored, count_in};
+use btr_refs::{RefKey, RefList, Stored, Wanted, put_total_findings};
 use btr_walk::{Folder, Found, Took};
 use std::alloc::{AllocError, Global};
 use std::test::Fail;
@@ -64,9 +64,27 @@ pub(super) fn take(
     }
 }
 
+/// The references that are stored.
+pub(super) fn refs_of(alloc: Global, stored: Stored) -> Result<RefList, Memory> {
+    let mut found = btr_findings::Found::new(alloc);
+    put_total_findings(alloc, &mut found, stored)
+}
+
+/// How often a reference to the data extent is stored.
+pub(super) fn times(refs: &RefList, link: Link) -> u64 {
+    let key = RefKey::new(DATA, link);
+    let mut times = 0;
+    for one in refs.as_slice() {
+        if one.key == key {
+            times = one.count;
+        }
+    }
+    times
+}
+
 /// The extent with two references, one in its item and one in an item of its own.
 pub(super) fn shared(alloc: Global, refs: u64) -> Result<Stored, Fail> {
-    let mut stored = Stored::new(alloc, 16384);
+    let mut stored = Stored::new(alloc, 16384, Wanted::All);
     take(
         &mut stored,
         item::EXTENT_ITEM,
@@ -84,26 +102,48 @@ pub(super) fn shared(alloc: Global, refs: u64) -> Result<Stored, Fail> {
 
 #[test]
 fn inline_and_loose_references_are_stored(rt: HostRuntime) -> Result<(), Fail> {
-    let stored = shared(rt.alloc(), 2)?;
+    let alloc = rt.alloc();
+    let stored = shared(alloc, 2)?;
     assert_eq!(rt; stored.extents().len(), 1);
     assert_eq!(rt; stored.extents()[0].len, 4096);
     assert_eq!(rt; stored.extents()[0].refs, 2);
+    let refs = refs_of(alloc, stored)?;
     for (objectid, count) in [(259, 0), (260, 1), (261, 1)] {
-        assert_eq!(rt;
-            count_in(stored.refs(), &RefKey::new(DATA, file(objectid))),
-            count
-        );
+        assert_eq!(rt; times(&refs, file(objectid)), count);
     }
     Ok(())
 }
 
 #[test]
 fn other_items_say_nothing_and_broken_ones_are_told(rt: HostRuntime) -> Result<(), Fail> {
-    let mut stored = Stored::new(rt.alloc(), 16384);
+    let alloc = rt.alloc();
+    let mut stored = Stored::new(alloc, 16384, Wanted::All);
     assert!(rt; take(&mut stored, item::BLOCK_GROUP_ITEM, 4096, &[])?);
     assert!(rt; !take(&mut stored, item::EXTENT_ITEM, 4096, &[0; 23])?);
     assert!(rt; !take(&mut stored, item::EXTENT_DATA_REF, 1, &[0; 27])?);
     assert_eq!(rt; stored.extents().len(), 0);
-    assert_eq!(rt; stored.refs().len(), 0);
+    let refs = refs_of(alloc, stored)?;
+    assert_eq!(rt; refs.as_slice().len(), 0);
+    Ok(())
+}
+
+#[test]
+fn references_that_come_again_and_in_any_order_are_summed(rt: HostRuntime) -> Result<(), Fail> {
+    let alloc = rt.alloc();
+    let mut stored = shared(alloc, 4)?;
+    let extent = extent(alloc, 4)?;
+    assert!(rt; take(&mut stored, item::EXTENT_ITEM, 4096, extent.as_slice())?);
+    assert!(rt;
+        take(
+            &mut stored,
+            item::EXTENT_DATA_REF,
+            2,
+            loose(alloc, 3)?.as_slice()
+        )?
+    );
+    let refs = refs_of(alloc, stored)?;
+    assert_eq!(rt; refs.as_slice().len(), 2);
+    assert_eq!(rt; times(&refs, file(260)), 2);
+    assert_eq!(rt; times(&refs, file(261)), 4);
     Ok(())
 }

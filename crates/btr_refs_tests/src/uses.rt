@@ -1,9 +1,11 @@
 // What blocks use.
 use super::stores::{DATA, file};
+use btr_base::Memory;
+use btr_findings::{Finding, Found};
 use btr_items::{Link, item};
 use btr_make_blocks::{Body, Form, Items, Tree};
 use btr_rack::{MemRack, Rack};
-use btr_refs::{BlockUse, DataUse, Forward, RefKey, count_in};
+use btr_refs::{BlockUse, DataUse, Forward, RefKey, RefList, put_count_findings};
 use btr_volume::TreeRoot;
 use btr_walk::RootPlace;
 use std::alloc::{AllocError, Global};
@@ -51,19 +53,43 @@ fn block(alloc: Global, root: bool) -> Result<[u8; NODE], Fail> {
     Ok(block)
 }
 
+// Nothing is counted, and nothing is stored.
+fn none_stored(alloc: Global) -> Result<Forward, Memory> {
+    Forward::new(alloc, RefList::of(alloc, Vec::new(alloc))?)
+}
+
+// A finding for each reference that is counted, and isn't stored.
+fn counted(alloc: Global, forward: &Forward) -> Result<Vec<Finding>, Memory> {
+    let mut found = Found::new(alloc);
+    put_count_findings(&mut found, forward)?;
+    found.list(alloc)?.to_vec(alloc)
+}
+
+// How often a reference is counted, by these findings.
+fn times(found: &[Finding], key: &RefKey) -> u64 {
+    let mut times = 0;
+    for one in found {
+        if one.n[0] == key.addr && one.n[1] == u64::from(key.kind) && one.n[2] == key.root {
+            times = one.n[5];
+        }
+    }
+    times
+}
+
 #[test]
 fn a_leaf_uses_the_data_of_its_files(rt: HostRuntime) -> Result<(), Fail> {
     let block = block(rt.alloc(), false)?;
     for by_address in [false, true] {
-        let mut forward = Forward::new(rt.alloc());
+        let mut forward = none_stored(rt.alloc())?;
         forward.add_block(1048576, 0, by_address, &block)?;
         let link = if by_address {
             Link::SharedFile(1048576)
         } else {
             file(260)
         };
-        assert_eq!(rt; count_in(forward.refs(), &RefKey::new(DATA, link)), 1);
-        assert_eq!(rt; forward.refs().len(), 1);
+        let found = counted(rt.alloc(), &forward)?;
+        assert_eq!(rt; times(&found, &RefKey::new(DATA, link)), 1);
+        assert_eq!(rt; found.len(), 1);
         let used = forward.into_extents();
         assert!(rt;
             used.data_extents.contains(&DataUse {
@@ -79,12 +105,10 @@ fn a_leaf_uses_the_data_of_its_files(rt: HostRuntime) -> Result<(), Fail> {
 #[test]
 fn a_node_uses_its_children_and_a_tree_its_root(rt: HostRuntime) -> Result<(), Fail> {
     let block = block(rt.alloc(), true)?;
-    let mut forward = Forward::new(rt.alloc());
+    let mut forward = none_stored(rt.alloc())?;
     forward.add_block(1064960, 1, false, &block)?;
-    assert_eq!(rt;
-        count_in(forward.refs(), &RefKey::new(1048576, Link::Tree(5))),
-        1
-    );
+    let child = RefKey::new(1048576, Link::Tree(5));
+    assert_eq!(rt; times(&counted(rt.alloc(), &forward)?, &child), 1);
     let root = TreeRoot {
         id: 257,
         offset: 0,
@@ -97,10 +121,8 @@ fn a_node_uses_its_children_and_a_tree_its_root(rt: HostRuntime) -> Result<(), F
         refs: 1,
     };
     forward.add_root(&root)?;
-    assert_eq!(rt;
-        count_in(forward.refs(), &RefKey::new(1048576, Link::Tree(257))),
-        1
-    );
+    let own = RefKey::new(1048576, Link::Tree(257));
+    assert_eq!(rt; times(&counted(rt.alloc(), &forward)?, &own), 1);
     let used = forward.into_extents();
     for level in [0, 2] {
         assert!(rt;

@@ -1,5 +1,4 @@
 pub mod Threads
-pub mod Stopping
 pub mod Rans
 pub mod Owning
 pub mod Listing

@@ -17,13 +17,14 @@ use Rattle.btr_walk.specs.declared.folder.FoldFault.{FoldFault}
 use Rattle.btr_walk.specs.declared.place.RootPlace.{RootPlace}
 use Rattle.btr_walk.proofs.Joined.{drawn}
 use Rattle.btr_volume.specs.Looking.{SameVolume}
+use Rattle.btr_volume.specs.Readable.{CanRead}
 use Rattle.btr_volume.specs.Lookup.{Lookup, each}
 use Rattle.btr_volume.specs.Table.{first_key}
 use Rattle.btr_volume.specs.Tree.{root_root}
 use Rattle.btr_volume.specs.declared.volume.Volume.{Volume}
 use Rattle.btr_files.proofs.Folding.{bind-return, fold_as}
 use Rattle.btr_resolve.specs.Resolving.{subvolumes, with_id}
-use Rattle.btr_resolve.specs.Running.{IsReady, Ran, world}
+use Rattle.btr_resolve.specs.Running.{Ran, world}
 use Rattle.btr_resolve.proofs.Rans.{folded_ran, stop_folded}
 
 -- the ids after an item
@@ -41,7 +42,7 @@ ids_as p =
 
 -- the fold was done
 pub subvolumes_ran : (old new : Seen) (vol after : Volume) (text : Option (List ℕ)) (calls : CallAccount) (empty : List ℕ)
-    (root : RootPlace) (r : Result (List ℕ) (FoldFault Memory)) → empty ≡ [] → root ≡ root_root vol.sup → IsReady old vol
+    (root : RootPlace) (r : Result (List ℕ) (FoldFault Memory)) → empty ≡ [] → root ≡ root_root vol.sup → CanRead 4 old vol
     → Serves new after.store → OnlyReads old new → SameVolume vol after → FoldCause vol.store.layout old new r
     → Tells vol.store.layout old new (λ B. FoldFollows ids_step (λ ids. ids) (unread_by vol.store.layout old new) B empty root first_key last_key r)
     → Ran (quiet (subvolumes vol.sup)) (world old vol text calls) (world new after text calls) (stop_folded r)

@@ -13,7 +13,8 @@ use Rattle.btr_resolve.specs.Climbing.{led}
 use Rattle.btr_resolve.specs.Lines.{path_if}
 use Rattle.btr_resolve.specs.Paths.{Path, name_path}
 use Rattle.btr_resolve.specs.Resolving.{Line, each_told, name_told, names_told, path_told, subvolume_told, subvolumes_told}
-use Rattle.btr_resolve.specs.Running.{World, IsReady, Ran, pathed}
+use Rattle.btr_volume.specs.Readable.{CanRead}
+use Rattle.btr_resolve.specs.Running.{World, Ran, pathed}
 use Rattle.btr_resolve.specs.declared.owner.Owner.{Owner}
 use Rattle.btr_resolve.proofs.Rans.{look_halt, look_then, ran_none}
 use Rattle.btr_resolve.proofs.Upward.{Leads, leads_halt, leads_then, led_name, pathed_is}
@@ -45,7 +46,7 @@ some_name = link 0 0 []
 module _ (owner : Owner) (names : List Link) (at count : ℕ) (whole : Program Line ℕ) (x y z : World)
     (leads : Leads {A = ℕ} whole (each_told owner count (drop at names)) x y) where
   -- all names were told
-  pub names_end : IsReady y.rack y.vol → length names ≤ at → Ran whole x y (Ok count)
+  pub names_end : CanRead 4 y.rack y.vol → length names ≤ at → Ran whole x y (Ok count)
   names_end ready over = leads y (Ok count)
       (subst (λ (ns : List Link). Ran (each_told owner count ns) y y (Ok count)) (sym (drop_of_length-le names over)) (ran_none y ready count))
 
@@ -78,7 +79,7 @@ told_some owner count (name ∷ names) some = refl
 module _ (s : Super) (addr : ℕ) (ids : List ℕ) (at count : ℕ) (whole : Program Line ℕ) (x y z : World)
     (leads : Leads {A = ℕ} whole (subvolumes_told s addr count (drop at ids)) x y) where
   -- all subvolumes were told
-  pub ids_end : IsReady y.rack y.vol → length ids ≤ at → Ran whole x y (Ok count)
+  pub ids_end : CanRead 4 y.rack y.vol → length ids ≤ at → Ran whole x y (Ok count)
   ids_end ready over = leads y (Ok count)
       (subst (λ (xs : List ℕ). Ran (subvolumes_told s addr count xs) y y (Ok count)) (sym (drop_of_length-le ids over)) (ran_none y ready count))
 

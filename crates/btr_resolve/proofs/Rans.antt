@@ -1,5 +1,5 @@
 -- Calls one after another.
-use Rattle.std.proofs.Common.{◌≡◌, ℕ, Bool, true, false, cond, List, [], ◌∷◌, ◌++◌, Option, Some, None, Result, Ok, Err, refl, sym, ap, subst}
+use Rattle.std.proofs.Common.{◌≡◌, ℕ, Bool, true, false, cond, List, [], ◌∷◌, ◌++◌, Option, Some, None, Result, Ok, Err, IsErrAnd, refl, sym, ap, subst}
 use Rattle.std.specs.Prelude.{take}
 use Rattle.std.proofs.lemmas.Grind.{flat_map-append}
 use Rattle.std.proofs.lemmas.List.{append-nil}
@@ -29,13 +29,19 @@ use Rattle.btr_walk.specs.declared.folder.FoldFault.TheVariants as fold
 use Rattle.btr_walk.proofs.Fetched.{since}
 use Rattle.btr_walk.proofs.Joined.{drawn, joined, unread_on}
 use Rattle.btr_volume.specs.Looking.{Looks, SameVolume}
+use Rattle.btr_volume.specs.Readable.{CanRead}
 use Rattle.btr_volume.specs.Lookup.{Lookup, Program, looks}
 use Rattle.btr_volume.specs.declared.stop.Stop.{Stop as TheStop}
 use Rattle.btr_volume.specs.declared.stop.Stop.TheVariants as stop
 use Rattle.btr_volume.specs.declared.volume.Volume.{Volume}
 use Rattle.btr_resolve.specs.Resolving.{Line}
-use Rattle.btr_resolve.specs.Running.{World, world, IsReady, Ran, StopCause, StopCounts, part, whole, ended, stop_halt, stop_of}
-use Rattle.btr_resolve.proofs.Stopping.{cause_kept, counts_kept, counts_then, ready_next, same_self, same_then, stop_cause_since}
+use Rattle.btr_resolve.specs.Running.{IsResolveStop, World, world, Ran, StopCause, StopCounts, counted, part, whole}
+use Rattle.btr_volume.specs.Stops.{ended, stop_halt, stops_out}
+use Rattle.btr_volume.proofs.Onward.{behind_since, reads_on, same_self, same_then, stop_passed}
+
+-- the account after a call and then another
+pub counts_then : {A C : Type 0} (a b c : CallAccount) (v : A) (r : Result C TheStop) → StopCounts a b (Ok v) → StopCounts b c r → StopCounts a c r
+counts_then a b c v r e h = subst (λ (x : CallAccount). StopCounts x c r) e h
 
 pub whole-append : (a b : List Line) → whole (a ++ b) ≡ whole a ++ whole b
 whole-append a b = flat_map-append (λ (line : Line). line) a b
@@ -73,7 +79,7 @@ module _ {A C : Type 0} (p : Program Line A) (k : A → Program Line C) (x y : W
             (follows_as later is (since x.vol.store.layout y.vol.store.layout h.volume.store.layout h.reads) part []
             (exec B (k a)) g.lines (ended r) two))))
             h.content g.content;
-        cause = stop_cause_since z.rack x.vol.store.layout y.vol.store.layout r h.volume.store.layout h.reads g.cause;
+        cause = behind_since IsResolveStop z.rack x.vol.store.layout y.vol.store.layout r h.volume.store.layout h.reads g.cause;
         calls = counts_then x.calls y.calls z.calls a r h.calls g.calls;
       }
 
@@ -90,12 +96,21 @@ module _ {A C : Type 0} (p : Program Line A) (k : A → Program Line C) (x y : W
             (λ B. Follows is part [] (exec B (bind p k)) h.lines (Err (stop_halt s)))
             (λ B one. subst (λ q. Follows is part [] q h.lines (Err (stop_halt s))) (sym (exec-bind B p k))
             (follows_halt is part [] (exec B p) (λ a. exec B (k a)) h.lines (stop_halt s) one)) h.content;
-        cause = cause_kept A C x.vol.store.layout x.rack y.rack s h.cause;
-        calls = counts_kept A C x.calls y.calls s h.calls;
+        cause = h.cause;
+        calls = h.calls;
       }
 
+-- a stop that is passed on
+pub ran_passed : {A : Type 0} {p : Program Line A} {x y : World} {s : TheStop} (r : Result A TheStop) → IsErrAnd r (λ e. e ≡ s)
+    → Ran p x y (Err s) → Ran p x y r
+ran_passed {p = p} {x = x} {y = y} {s = s} r is h = stop_passed (λ q. Ran p x y q) r s is h
+
+pub counted_passed : (count : ℕ) (r : Result (Unit {0}) TheStop) (s : TheStop) → IsErrAnd r (λ e. e ≡ s) → IsErrAnd (counted count r) (λ e. e ≡ s)
+counted_passed count (Ok u) s is = absurd is
+counted_passed count (Err e) s is = is
+
 -- nothing was done: that is the end of a program, or a stop that may come anywhere
-module _ {A : Type 0} (x : World) (ready : IsReady x.rack x.vol) where
+module _ {A : Type 0} (x : World) (ready : CanRead 4 x.rack x.vol) where
   pub ran_none : (a : A) → Ran (Return a) x x (Ok a)
   ran_none a = record {
     reads = reads_none x.rack;
@@ -132,12 +147,12 @@ module _ {A : Type 0} (p : Lookup A) (old new : Seen) (vol after : Volume) (text
       drawn vol.store.layout (λ B. Follows {S = ⊥} is no_part [] (exec B p) [] (answer_of r))
       (λ B. Follows is part [] (exec B (quiet p)) [] (answer_of r)) (λ B h. follows_quiet is part [] B p [] (answer_of r) h) looks
 
-  pub ran_found : (a : A) → IsReady old vol → Serves new after.store → OnlyReads old new → SameVolume vol after
+  pub ran_found : (a : A) → CanRead 4 old vol → Serves new after.store → OnlyReads old new → SameVolume vol after
       → Looks vol.store.layout old new p (Ok a) → Ran (quiet p) (world old vol text calls) (world new after text calls) (Ok a)
   ran_found a ready serves reads same looks = record {
     reads = reads;
     volume = same;
-    ready = ready_next new vol after ready serves same;
+    ready = reads_on new vol after ready serves same;
     lines = [];
     adds = adds_nothing text;
     content = quiet_told (Ok a) looks;
@@ -145,13 +160,13 @@ module _ {A : Type 0} (p : Lookup A) (old new : Seen) (vol after : Volume) (text
     calls = refl;
   }
 
-  pub ran_fault : (f : TreeFault) → IsReady old vol → Serves new after.store → OnlyReads old new → SameVolume vol after
+  pub ran_fault : (f : TreeFault) → CanRead 4 old vol → Serves new after.store → OnlyReads old new → SameVolume vol after
       → HasCause {A = A} vol.store.layout old new (Err f) → Looks vol.store.layout old new p (Err f)
       → Ran (quiet p) (world old vol text calls) (world new after text calls) (Err (stop.Tree f))
   ran_fault f ready serves reads same cause looks = record {
     reads = reads;
     volume = same;
-    ready = ready_next new vol after ready serves same;
+    ready = reads_on new vol after ready serves same;
     lines = [];
     adds = adds_nothing text;
     content = quiet_told (Err f) looks;
@@ -160,14 +175,14 @@ module _ {A : Type 0} (p : Lookup A) (old new : Seen) (vol after : Volume) (text
   }
 
   -- there was no memory for what it found
-  pub ran_unfilled : IsReady old vol → Serves new after.store → OnlyReads old new → SameVolume vol after
+  pub ran_unfilled : CanRead 4 old vol → Serves new after.store → OnlyReads old new → SameVolume vol after
       → Ran (quiet p) (world old vol text calls) (world new after text calls) (Err stop.Memory)
   ran_unfilled ready serves reads same =
       let is = unread_by vol.store.layout old new in
       record {
         reads = reads;
         volume = same;
-        ready = ready_next new vol after ready serves same;
+        ready = reads_on new vol after ready serves same;
         lines = [];
         adds = adds_nothing text;
         content = told_all vol.store.layout old new reads (λ B. Follows is part [] (exec B (quiet p)) [] (Err Broke))
@@ -183,7 +198,7 @@ stop_folded (Err (fold.Tree f)) = Err (stop.Tree f)
 stop_folded (Err (fold.Own memory)) = Err stop.Memory
 
 pub folded_ran : {A : Type 0} (p : Lookup A) (old new : Seen) (vol after : Volume) (text : Option (List ℕ))
-    (calls : CallAccount) (r : Result A (FoldFault Memory)) → IsReady old vol → Serves new after.store → OnlyReads old new
+    (calls : CallAccount) (r : Result A (FoldFault Memory)) → CanRead 4 old vol → Serves new after.store → OnlyReads old new
     → SameVolume vol after → FoldCause vol.store.layout old new r
     → Tells vol.store.layout old new
     (λ B. Follows {S = ⊥} (unread_by vol.store.layout old new) no_part [] (exec B p) [] (fold_answer r))
@@ -204,22 +219,22 @@ module _ {A C : Type 0} (p : Lookup A) (k : A → Program Line C) (x y : World) 
   look_halt s h e = ran_halt (quiet p) k x y s (subst (λ (b : Result A TheStop). Ran (quiet p) x y b) e h)
 
 -- a line that was put, or one that was broken off
-broke_of : (e : SinkError) → stop_halt (stop_of e) ≡ Broke
+broke_of : (e : SinkError) → stop_halt (stops_out e) ≡ Broke
 broke_of sink.Failed = refl
 broke_of sink.Memory = refl
 
-cause_of : (A : Type 0) (layout : Layout) (a b : Seen) (e : SinkError) → StopCause {A = A} layout a b (Err (stop_of e))
+cause_of : (A : Type 0) (layout : Layout) (a b : Seen) (e : SinkError) → StopCause {A = A} layout a b (Err (stops_out e))
 cause_of A layout a b sink.Failed = tt
 cause_of A layout a b sink.Memory = tt
 
-counts_of : (A : Type 0) (a b : CallAccount) (e : SinkError) → Counts {T = Unit {0}} a b (Err e) → StopCounts {A = A} a b (Err (stop_of e))
+counts_of : (A : Type 0) (a b : CallAccount) (e : SinkError) → Counts {T = Unit {0}} a b (Err e) → StopCounts {A = A} a b (Err (stops_out e))
 counts_of A a b sink.Failed h = h
 counts_of A a b sink.Memory h = h.1
 
 adds_line : (old new : Option (List ℕ)) (line : Line) → Adds old new line → Adds old new (whole (line ∷ []))
 adds_line old new line h = subst (Adds old new) (sym (append-nil line)) h
 
-module _ {A : Type 0} (line : Line) (rack : Seen) (vol : Volume) (ready : IsReady rack vol) (old new : Option (List ℕ))
+module _ {A : Type 0} (line : Line) (rack : Seen) (vol : Volume) (ready : CanRead 4 rack vol) (old new : Option (List ℕ))
     (calls calls' : CallAccount) where
   pub ran_line : (v : A) → Adds old new line → calls' ≡ calls
       → Ran (Emit line (Return v)) (world rack vol old calls) (world rack vol new calls') (Ok v)
@@ -238,7 +253,7 @@ module _ {A : Type 0} (line : Line) (rack : Seen) (vol : Volume) (ready : IsRead
       }
 
   pub ran_broken : (p : Program Line A) (e : SinkError) → ((n : ℕ) × Adds old new (take n line))
-      → Counts {T = Unit {0}} calls calls' (Err e) → Ran (Emit line p) (world rack vol old calls) (world rack vol new calls') (Err (stop_of e))
+      → Counts {T = Unit {0}} calls calls' (Err e) → Ran (Emit line p) (world rack vol old calls) (world rack vol new calls') (Err (stops_out e))
   ran_broken p e cut counts =
       let is = unread_by vol.store.layout rack rack in
       record {
@@ -247,7 +262,7 @@ module _ {A : Type 0} (line : Line) (rack : Seen) (vol : Volume) (ready : IsRead
         ready = ready;
         lines = take cut.0 line ∷ [];
         adds = adds_line old new (take cut.0 line) cut.1;
-        content = unread_on vol.store.layout (λ B. Follows is part [] (exec B (Emit line p)) (take cut.0 line ∷ []) (Err (stop_halt (stop_of e))))
+        content = unread_on vol.store.layout (λ B. Follows is part [] (exec B (Emit line p)) (take cut.0 line ∷ []) (Err (stop_halt (stops_out e))))
             (λ B. subst (λ (h : Halt fate.Fault UnreadBlock). Follows is part [] (exec B (Emit line p)) (take cut.0 line ∷ [])
             (Err h)) (sym (broke_of e)) (step_broke is part [] line (take cut.0 line) cut.0 (exec B p) refl));
         cause = cause_of A vol.store.layout rack rack e;

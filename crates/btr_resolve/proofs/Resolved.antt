@@ -19,9 +19,10 @@ use Rattle.btr_volume.specs.declared.stop.Stop.{Stop as TheStop}
 use Rattle.btr_volume.specs.declared.stop.Stop.TheVariants as stop
 use Rattle.btr_resolve.specs.Lines.{total_line}
 use Rattle.btr_resolve.specs.Resolving.{Line, all_told, resolved, resolved_in, subvolumes, subvolumes_told}
-use Rattle.btr_resolve.specs.Running.{World, IsReady, Ran, part}
+use Rattle.btr_volume.specs.Readable.{CanRead}
+use Rattle.btr_resolve.specs.Running.{World, Ran, part}
 use Rattle.btr_resolve.proofs.Rans.{ran_halt, ran_then}
-use Rattle.btr_resolve.proofs.Stopping.{same_self}
+use Rattle.btr_volume.proofs.Onward.{same_self}
 
 -- a chunk that was sought, and the one that holds an address
 none_at : (o : Option (Bor Chunk)) (at : Option Chunk) → option_copied o ≡ at → is_some o ≡ false → at ≡ None
@@ -33,7 +34,7 @@ some_at : (s : Super) (addr : ℕ) (o : Option (Bor Chunk)) (at : Option Chunk) 
 some_at s addr None at e h = cc
 some_at s addr (Some chunk) at e h = ap (resolved_in s addr) (sym e)
 
-module _ (x : World) (ready : IsReady x.rack x.vol) (addr : ℕ) (o : Option (Bor Chunk))
+module _ (x : World) (ready : CanRead 4 x.rack x.vol) (addr : ℕ) (o : Option (Bor Chunk))
     (found : option_copied o ≡ chunk_at x.vol.store.layout.chunks addr) where
   abbrev told : Program Line ℕ
   told = resolved x.vol.sup x.vol.store.layout.chunks addr

@@ -14,6 +14,7 @@ use Rattle.btr_walk.specs.declared.fault.TreeFault.{TreeFault}
 use Rattle.btr_walk.proofs.Fetched.{since}
 use Rattle.btr_walk.proofs.Joined.{drawn, joined}
 use Rattle.btr_volume.specs.Looking.{SameVolume}
+use Rattle.btr_volume.specs.Readable.{CanRead}
 use Rattle.btr_volume.specs.Lookup.{Program, each}
 use Rattle.btr_volume.specs.declared.root.TreeRoot.{TreeRoot}
 use Rattle.btr_volume.specs.declared.stop.Stop.{Stop as TheStop}
@@ -23,11 +24,12 @@ use Rattle.btr_files.proofs.Nextward.{rest_more}
 use Rattle.btr_resolve.specs.Cursor.{owners_left, AreOn, LeadsOn, NextBy, TellsNext}
 use Rattle.btr_resolve.specs.Owning.{owners}
 use Rattle.btr_resolve.specs.Resolving.{Line, owner_told, tree_told}
-use Rattle.btr_resolve.specs.Running.{World, world, IsReady, Ran, StopCause, StopCounts, part, whole, ended, stop_halt}
+use Rattle.btr_resolve.specs.Running.{IsResolveStop, World, world, Ran, StopCause, StopCounts, part, whole}
+use Rattle.btr_volume.specs.Stops.{ended, stop_halt}
+use Rattle.btr_volume.proofs.Onward.{behind_since, same_then}
 use Rattle.btr_resolve.specs.declared.owner.Owner.{Owner}
 use Rattle.btr_resolve.specs.declared.owners.Owners.{Owners}
-use Rattle.btr_resolve.proofs.Rans.{adds_then}
-use Rattle.btr_resolve.proofs.Stopping.{cause_kept, counts_kept, counts_then, same_then, stop_cause_since}
+use Rattle.btr_resolve.proofs.Rans.{adds_then, counts_then}
 use Rattle.btr_resolve.proofs.Threads.{RunOf, behind_wants, body_of, each_turned, last_of, turn_ends, turn_halts}
 
 -- the owners that are still to come, each told wholly
@@ -38,7 +40,7 @@ left_told B count cursor = each owner_told count (owners_left B cursor)
 pub record ToldFrom (count : ℕ) (cursor : Owners) (x y : World) (answer : Result ℕ TheStop) : Type 0 where
   pub reads : OnlyReads x.rack y.rack
   pub volume : SameVolume x.vol y.vol
-  pub ready : IsReady y.rack y.vol
+  pub ready : CanRead 4 y.rack y.vol
   pub lines : List Line
   pub adds : Adds x.text y.text (whole lines)
   pub content :
@@ -74,7 +76,7 @@ leads_first addr tree count cursor x is on z answer t =
     }
 
 module _ (count : ℕ) (cursor cursor' : Owners) (rack rack' : Seen) (vol vol' : Volume) (text : Option (List ℕ))
-    (calls : CallAccount) (reads : OnlyReads rack rack') (same : SameVolume vol vol') (ready : IsReady rack' vol') where
+    (calls : CallAccount) (reads : OnlyReads rack rack') (same : SameVolume vol vol') (ready : CanRead 4 rack' vol') where
   abbrev x : World
   x = world rack vol text calls
 
@@ -151,9 +153,8 @@ module _ (count : ℕ) (cursor cursor' : Owners) (rack rack' : Seen) (vol vol' :
               (follows_alone is part (seen ++ g.past) (told B) h.lines (Err (stop_halt s))
               (follows_as later is (since layout vol'.store.layout same.store.layout reads) part [] (told B) h.lines (Err (stop_halt s)) t))))
               next h.content;
-          cause = cause_kept ℕ ℕ layout rack z.rack s
-              (stop_cause_since {C = ℕ} z.rack layout vol'.store.layout (Err s) same.store.layout reads h.cause);
-          calls = counts_kept ℕ ℕ calls z.calls s h.calls;
+          cause = behind_since IsResolveStop {C = ℕ} z.rack layout vol'.store.layout (Err s) same.store.layout reads h.cause;
+          calls = h.calls;
         }
 
     -- an owner was told, and then the others
@@ -189,6 +190,6 @@ module _ (count : ℕ) (cursor cursor' : Owners) (rack rack' : Seen) (vol vol' :
               (λ B. ((seen : List Want) → AreOn B seen cursor → LeadsOn B seen cursor cursor' owner) × Follows
               (unread_by vol'.store.layout rack' z.rack) part [] (told B) h.lines (Ok count')) same.store.layout (λ B n f. (n, f)) next h.content)
               t.content;
-          cause = stop_cause_since w.rack layout z.vol.store.layout answer volume.store.layout reads' t.cause;
+          cause = behind_since IsResolveStop w.rack layout z.vol.store.layout answer volume.store.layout reads' t.cause;
           calls = counts_then {A = ℕ} calls z.calls w.calls count' answer h.calls t.calls;
         }

@@ -15,7 +15,8 @@ use Rattle.btr_resolve.specs.Climbing.{before, led, step_up, up}
 use Rattle.btr_resolve.specs.Lines.{path_if}
 use Rattle.btr_resolve.specs.Paths.{Path, directory_path, entry_path, name_path, only, path_below}
 use Rattle.btr_resolve.specs.Resolving.{Line}
-use Rattle.btr_resolve.specs.Running.{World, IsReady, Ran, pathed}
+use Rattle.btr_volume.specs.Readable.{CanRead}
+use Rattle.btr_resolve.specs.Running.{World, Ran, pathed}
 use Rattle.btr_resolve.proofs.Rans.{ran_halt, ran_none, ran_then}
 
 -- one lookup and then another, as a part of a program with lines
@@ -110,11 +111,11 @@ module _ {A C : Type 0} (whole : Program Line C) (x y z : World) where
 -- the way up has come to a directory, so many steps below the top directory at most
 module _ (whole : Program Line Path) (tree : TreeRoot) (left dir : ℕ) (path : List ℕ) (x y : World)
     (leads : Leads whole (quiet (led left tree dir path)) x y) where
-  pub climbed_top : IsReady y.rack y.vol → dir ≡ tree.dirid → Ran whole x y (Ok (Some path))
+  pub climbed_top : CanRead 4 y.rack y.vol → dir ≡ tree.dirid → Ran whole x y (Ok (Some path))
   climbed_top ready is = leads y (Ok (Some path))
       (subst (λ (p : Lookup Path). Ran (quiet p) y y (Ok (Some path))) (sym (led_top tree left dir path is)) (ran_none y ready (Some path)))
 
-  pub climbed_far : IsReady y.rack y.vol → (dir ≡ tree.dirid → ⊥) → left ≡ 0 → Ran whole x y (Ok None)
+  pub climbed_far : CanRead 4 y.rack y.vol → (dir ≡ tree.dirid → ⊥) → left ≡ 0 → Ran whole x y (Ok None)
   climbed_far ready other none = leads y (Ok None)
       (subst (λ (p : Lookup Path). Ran (quiet p) y y (Ok None))
       (sym (ap (λ n. led n tree dir path) none ∙ led_far tree dir path other)) (ran_none y ready None))

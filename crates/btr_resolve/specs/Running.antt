@@ -1,23 +1,21 @@
 -- What a call did and how it answered, whatever failed.
-use Rattle.std.specs.Prelude.{◌≡◌, ℕ, ◌≤◌, Bool, true, false, List, [], take, Option, Some, None, Result, Ok, Err}
+use Rattle.std.specs.Prelude.{◌≡◌, ℕ, Bool, true, false, List, [], take, Option, Some, None, Result, Ok, Err}
 use Rattle.std.specs.List.{flat_map}
-use Rattle.btr_prog.specs.Answers.{Halt, Broke, Follows}
+use Rattle.btr_prog.specs.Answers.{Follows}
 use Rattle.btr_prog.specs.Prog.{exec}
 use Rattle.btr_prog.specs.Quiet.{quiet}
 use Rattle.btr_rack.specs.Out.{Adds, CallAccount, Counts}
 use Rattle.btr_rack.specs.Rack.{Seen, OnlyReads}
-use Rattle.btr_rack.specs.declared.error.SinkError.{SinkError}
 use Rattle.btr_rack.specs.declared.error.SinkError.TheVariants as sink
-use Rattle.btr_read.specs.Fate as fate
 use Rattle.btr_read.specs.Layout.{Layout}
-use Rattle.btr_read.specs.Serves.{Serves}
-use Rattle.btr_read.specs.Store.{free_count}
-use Rattle.btr_walk.specs.Reading.{Tells, UnreadBlock, FaultCause, unread_by, halt_of}
+use Rattle.btr_walk.specs.Reading.{Tells, unread_by}
 use Rattle.btr_super.specs.declared.superblock.Super.{Super}
 use Rattle.btr_volume.specs.Looking.{SameVolume}
+use Rattle.btr_volume.specs.Readable.{CanRead}
 use Rattle.btr_volume.specs.Lookup.{Lookup, Program}
+use Rattle.btr_volume.specs.Stops.{IsBehindAnswer, ended}
 use Rattle.btr_volume.specs.declared.stop.Stop.{Stop}
-use Rattle.btr_volume.specs.declared.stop.Stop.TheVariants.{NoTree, Tree, Deletion, Balance, Missing, Image, Sink, Out, Memory}
+use Rattle.btr_volume.specs.declared.stop.Stop.TheVariants.{Tree, Out, Memory}
 use Rattle.btr_volume.specs.declared.volume.Volume.{Volume}
 use Rattle.btr_resolve.specs.Resolving.{Line}
 
@@ -40,66 +38,33 @@ pub record World : Type 0 where
 abbrev pub world : Seen → Volume → Option (List ℕ) → CallAccount → World
 world rack vol text calls = record { rack = rack; vol = vol; text = text; calls = calls }
 
--- a volume can be read: four slots are free for a block
-pub record IsReady (rack : Seen) (vol : Volume) : Type 0 where
-  pub serves : Serves rack vol.store
-  pub room : 4 ≤ free_count vol.store
+-- the stops that may be answered
+abbrev pub IsResolveStop : Stop → Type 0
+IsResolveStop (Tree f) = Unit {0}
+IsResolveStop Out = Unit {0}
+IsResolveStop Memory = Unit {0}
+IsResolveStop stop = ⊥
 
--- how a stop ends a run: by its fault, or at any place
-abbrev pub stop_halt : Stop → Halt fate.Fault UnreadBlock
-stop_halt (Tree f) = halt_of f
-stop_halt (NoTree id) = Broke
-stop_halt (Deletion id) = Broke
-stop_halt Balance = Broke
-stop_halt (Missing id) = Broke
-stop_halt (Image slot) = Broke
-stop_halt Sink = Broke
-stop_halt Out = Broke
-stop_halt Memory = Broke
-
--- an answer as one of a run
-abbrev pub ended : {A : Type 0} → Result A Stop → Result A (Halt fate.Fault UnreadBlock)
-ended (Ok a) = Ok a
-ended (Err stop) = Err (stop_halt stop)
-
--- what lies behind a stop: a tree's fault has its cause; no other stop is answered than these,
--- a refusal of the output, and want of memory
+-- what lies behind an answer
 abbrev pub StopCause : {A : Type 0} → Layout → Seen → Seen → Result A Stop → Type 0
-StopCause layout old new (Ok a) = Unit {0}
-StopCause layout old new (Err (Tree f)) = FaultCause layout old new f
-StopCause layout old new (Err (NoTree id)) = ⊥
-StopCause layout old new (Err (Deletion id)) = ⊥
-StopCause layout old new (Err Balance) = ⊥
-StopCause layout old new (Err (Missing id)) = ⊥
-StopCause layout old new (Err (Image slot)) = ⊥
-StopCause layout old new (Err Sink) = ⊥
-StopCause layout old new (Err Out) = Unit {0}
-StopCause layout old new (Err Memory) = Unit {0}
+StopCause layout old new answer = IsBehindAnswer IsResolveStop layout old new answer
 
--- the account of the output changed only where a call of it failed, and then that is the answer
+-- the account of the output at a stop: it changed only where a call of it failed
+abbrev pub CountsStop : CallAccount → CallAccount → Stop → Type 0
+CountsStop old new Out = Counts {T = Unit {0}} old new (Err sink.Failed)
+CountsStop old new stop = new ≡ old
+
+-- the account of the output after an answer
 abbrev pub StopCounts : {A : Type 0} → CallAccount → CallAccount → Result A Stop → Type 0
 StopCounts old new (Ok a) = new ≡ old
-StopCounts old new (Err (Tree f)) = new ≡ old
-StopCounts old new (Err (NoTree id)) = new ≡ old
-StopCounts old new (Err (Deletion id)) = new ≡ old
-StopCounts old new (Err Balance) = new ≡ old
-StopCounts old new (Err (Missing id)) = new ≡ old
-StopCounts old new (Err (Image slot)) = new ≡ old
-StopCounts old new (Err Sink) = new ≡ old
-StopCounts old new (Err Out) = Counts {T = Unit {0}} old new (Err sink.Failed)
-StopCounts old new (Err Memory) = new ≡ old
-
--- the stop that a refusal of the output is
-abbrev pub stop_of : SinkError → Stop
-stop_of sink.Failed = Out
-stop_of sink.Memory = Memory
+StopCounts old new (Err stop) = CountsStop old new stop
 
 -- A call put the lines of a program: what was put and answered follows its run, so far as the reads were steady,
 -- whatever failed. It only read, its volume can be read on, and its fault has its cause.
 pub record Ran {A : Type 0} (p : Program Line A) (x y : World) (answer : Result A Stop) : Type 0 where
   pub reads : OnlyReads x.rack y.rack
   pub volume : SameVolume x.vol y.vol
-  pub ready : IsReady y.rack y.vol
+  pub ready : CanRead 4 y.rack y.vol
   pub lines : List Line
   pub adds : Adds x.text y.text (whole lines)
   pub content :
@@ -120,7 +85,7 @@ RanBeside p rack vol rack' vol' answer =
 -- a call that reads nothing, beside any volume
 abbrev pub RanAlone : {A : Type 0} → Program Line A → Option (List ℕ) → CallAccount → Option (List ℕ) → CallAccount → Result A Stop → Type 0
 RanAlone p text calls text' calls' answer =
-    (rack : Seen) (vol : Volume) → IsReady rack vol → Ran p (world rack vol text calls) (world rack vol text' calls') answer
+    (rack : Seen) (vol : Volume) → CanRead 4 rack vol → Ran p (world rack vol text calls) (world rack vol text' calls') answer
 
 -- the same answer with a value: what was counted by then
 abbrev pub counted : ℕ → Result (Unit {0}) Stop → Result ℕ Stop

@@ -2,7 +2,8 @@
 ghost use Rattle.std.specs.Prelude.{◌≡◌};
 ghost use Rattle.btr_files.specs.Names.{links};
 ghost use Rattle.btr_resolve.specs.Climbing.{led, step_up};
-ghost use Rattle.btr_resolve.specs.Running.{IsReady, RanBeside, listed, pathed, stepped};
+ghost use Rattle.btr_volume.specs.Readable.{CanRead};
+ghost use Rattle.btr_resolve.specs.Running.{RanBeside, listed, pathed, stepped};
 
 use crate::path::Path;
 use btr_files::{NameList, names};
@@ -21,7 +22,7 @@ pub(crate) fn find_names<R: Rack>(
     rack: &mut R,
     vol: &mut Volume,
 ) -> Result<(), Stop>
-    requires { IsReady (R.seen rack.old) vol.old }
+    requires { CanRead 4 (R.seen rack.old) vol.old }
     ensures { RanBeside (links tree.now ino) (R.seen rack.old) vol.old (R.seen rack.new) vol.new
         (listed list.new result) }
 {
@@ -41,7 +42,7 @@ fn go_up<R: Rack>(
     rack: &mut R,
     vol: &mut Volume,
 ) -> Result<Option<u64>, Stop>
-    requires { IsReady (R.seen rack.old) vol.old }
+    requires { CanRead 4 (R.seen rack.old) vol.old }
     ensures { RanBeside (step_up tree.now dir path.old) (R.seen rack.old) vol.old (R.seen rack.new) vol.new
         (stepped path.new result) }
 {
@@ -68,7 +69,7 @@ pub(crate) fn climb<R: Rack>(
     rack: &mut R,
     vol: &mut Volume,
 ) -> Result<bool, Stop>
-    requires { IsReady (R.seen rack.old) vol.old }
+    requires { CanRead 4 (R.seen rack.old) vol.old }
     ensures { RanBeside (led 512 tree.now dir path.old) (R.seen rack.old) vol.old (R.seen rack.new) vol.new
         (pathed path.new result) }
 {

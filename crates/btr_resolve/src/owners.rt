@@ -4,7 +4,7 @@ ghost use Rattle.btr_rack.specs.Rack.{OnlyReads};
 ghost use Rattle.btr_read.specs.Serves.{Serves};
 ghost use Rattle.btr_read.specs.Store.{SameLoans, free_count};
 ghost use Rattle.btr_walk.specs.Reading.{HasCause, Map};
-ghost use Rattle.btr_walk.specs.ScanEnds.{IsReady, rank_of, without_leaf};
+ghost use Rattle.btr_walk.specs.ScanEnds.{IsScanReady, rank_of, without_leaf};
 ghost use Rattle.btr_walk.specs.Showing.{item_of};
 ghost use Rattle.btr_volume.specs.Looking.{SameVolume};
 ghost use Rattle.btr_resolve.specs.Owning as spec;
@@ -12,25 +12,12 @@ ghost use Rattle.btr_resolve.specs.Cursor.{owners_left, rank_of_owners, AreOn, A
 
 use crate::extent::position_in;
 use crate::owner::{Met, Owner};
-use btr_base::Key;
+use btr_base::{FIRST_KEY, LAST_KEY};
 use btr_items::{FileExtent, item};
 use btr_rack::Rack;
 use btr_read::Store;
 use btr_volume::{TreeRoot, Volume};
 use btr_walk::{Found, Rest, Scan, TreeFault, next};
-
-// The first and the last key that there are.
-pub(crate) const FIRST_KEY: Key = Key {
-    objectid: 0,
-    kind: 0,
-    offset: 0,
-};
-
-pub(crate) const LAST_KEY: Key = Key {
-    objectid: u64::MAX,
-    kind: u8::MAX,
-    offset: u64::MAX,
-};
 
 // What the next item of a scan comes to.
 #[derive(Clone, Copy)]
@@ -93,9 +80,9 @@ fn next_turn<R: Rack>(
     rack: &mut R,
     store: &mut Store,
 ) -> Result<Turn, TreeFault>
-    requires ready { IsReady (R.seen rack.old) store.old scan.old }
+    requires ready { IsScanReady (R.seen rack.old) store.old scan.old }
     requires room { 4 ≤ free_count (without_leaf store.old scan.old) }
-    ensures ready { IsReady (R.seen rack.new) store.new scan.new }
+    ensures ready { IsScanReady (R.seen rack.new) store.new scan.new }
     ensures reads { OnlyReads (R.seen rack.old) (R.seen rack.new) }
     ensures others { SameLoans (without_leaf store.old scan.old) (without_leaf store.new scan.new) }
     ensures lo { scan.new.lo ≡ scan.old.lo }
@@ -125,9 +112,9 @@ fn find_owner<R: Rack>(
     rack: &mut R,
     store: &mut Store,
 ) -> Result<Option<Owner>, TreeFault>
-    requires ready { IsReady (R.seen rack.old) store.old scan.old }
+    requires ready { IsScanReady (R.seen rack.old) store.old scan.old }
     requires room { 4 ≤ free_count (without_leaf store.old scan.old) }
-    ensures ready { IsReady (R.seen rack.new) store.new scan.new }
+    ensures ready { IsScanReady (R.seen rack.new) store.new scan.new }
     ensures reads { OnlyReads (R.seen rack.old) (R.seen rack.new) }
     ensures others { SameLoans (without_leaf store.old scan.old) (without_leaf store.new scan.new) }
     ensures lo { scan.new.lo ≡ scan.old.lo }

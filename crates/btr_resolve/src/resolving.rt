@@ -2,12 +2,13 @@
 ghost use Rattle.btr_prog.specs.Prog.{Emit, Return};
 ghost use Rattle.btr_resolve.specs.Lines.{total_line};
 ghost use Rattle.btr_resolve.specs.Resolving as spec;
-ghost use Rattle.btr_resolve.specs.Running.{IsReady, Ran, RanAlone, RanFor, counted, world};
+ghost use Rattle.btr_volume.specs.Readable.{CanRead};
+ghost use Rattle.btr_resolve.specs.Running.{Ran, RanAlone, RanFor, counted, world};
 
 use crate::lines::put_total;
 use crate::report::Report;
 use crate::subvolumes::subvolumes;
-use crate::telling::{stop_of, tell_owners};
+use crate::telling::{out_stop, tell_owners};
 use btr_rack::{Out, Rack};
 use btr_volume::{Stop, Volume};
 use btr_walk::TreeFault;
@@ -22,7 +23,7 @@ fn tell_subvolume<R: Rack, O: Out>(
     vol: &mut Volume,
     out: &mut O,
 ) -> Result<(), Stop>
-    requires ready { IsReady (R.seen rack.old) vol.old }
+    requires ready { CanRead 4 (R.seen rack.old) vol.old }
     ensures { RanFor (λ s. spec.subvolume_told s addr report.old.count id)
         (world (R.seen rack.old) vol.old (O.text out.old) (O.account out.old))
         (world (R.seen rack.new) vol.new (O.text out.new) (O.account out.new)) (counted report.new.count result) }
@@ -43,16 +44,13 @@ fn tell_subvolumes<R: Rack, O: Out>(
     vol: &mut Volume,
     out: &mut O,
 ) -> Result<(), Stop>
-    requires ready { IsReady (R.seen rack.old) vol.old }
+    requires ready { CanRead 4 (R.seen rack.old) vol.old }
     ensures { RanFor (λ s. spec.subvolumes_told s addr report.old.count ids.now)
         (world (R.seen rack.old) vol.old (O.text out.old) (O.account out.old))
         (world (R.seen rack.new) vol.new (O.text out.new) (O.account out.new)) (counted report.new.count result) }
 {
     for id in ids {
-        match tell_subvolume(addr, *id, report, rack, vol, out) {
-            Ok(()) => {}
-            Err(stop) => return Err(stop),
-        }
+        tell_subvolume(addr, *id, report, rack, vol, out)?;
     }
     Ok(())
 }
@@ -64,7 +62,7 @@ fn tell_total<O: Out>(count: u64, out: &mut O) -> Result<u64, Stop>
 {
     match put_total(count, out) {
         Ok(()) => Ok(count),
-        Err(refusal) => Err(stop_of(refusal)),
+        Err(refusal) => Err(out_stop(refusal)),
     }
 }
 
@@ -77,16 +75,14 @@ fn tell_all<R: Rack, O: Out>(
     vol: &mut Volume,
     out: &mut O,
 ) -> Result<u64, Stop>
-    requires ready { IsReady (R.seen rack.old) vol.old }
+    requires ready { CanRead 4 (R.seen rack.old) vol.old }
     ensures { RanFor (λ s. spec.all_told s addr ids.now)
         (world (R.seen rack.old) vol.old (O.text out.old) (O.account out.old))
         (world (R.seen rack.new) vol.new (O.text out.new) (O.account out.new)) result }
 {
     let mut report = Report::new(alloc);
-    match tell_subvolumes(addr, ids, &mut report, rack, vol, out) {
-        Ok(()) => tell_total(report.count, out),
-        Err(stop) => Err(stop),
-    }
+    tell_subvolumes(addr, ids, &mut report, rack, vol, out)?;
+    tell_total(report.count, out)
 }
 
 /// Puts a line for each file whose byte is at an address of the filesystem, and for each of its names: the id of the subvolume, the inode, the position in
@@ -107,7 +103,7 @@ pub fn resolve<R: Rack, O: Out>(
     vol: &mut Volume,
     out: &mut O,
 ) -> Result<u64, Stop>
-    requires ready { IsReady (R.seen rack.old) vol.old }
+    requires ready { CanRead 4 (R.seen rack.old) vol.old }
     ensures { Ran (spec.resolved vol.old.sup vol.old.store.layout.chunks addr)
         (world (R.seen rack.old) vol.old (O.text out.old) (O.account out.old))
         (world (R.seen rack.new) vol.new (O.text out.new) (O.account out.new)) result }
@@ -115,8 +111,6 @@ pub fn resolve<R: Rack, O: Out>(
     if vol.store.chunks().find(addr).is_none() {
         return Err(Stop::Tree(TreeFault::Unmapped(addr)));
     }
-    match subvolumes(alloc, rack, vol) {
-        Ok(ids) => tell_all(alloc, addr, ids.as_slice(), rack, vol, out),
-        Err(stop) => Err(stop),
-    }
+    let ids = subvolumes(alloc, rack, vol)?;
+    tell_all(alloc, addr, ids.as_slice(), rack, vol, out)
 }

@@ -1,10 +1,10 @@
 // The ids of all subvolumes.
 ghost use Rattle.std.specs.Prelude.{◌≡◌, ◌-◌, [], OnOk, length, slice_get};
 ghost use Rattle.btr_resolve.specs.Resolving as spec;
-ghost use Rattle.btr_resolve.specs.Running.{IsReady, RanBeside, listed};
+ghost use Rattle.btr_volume.specs.Readable.{CanRead};
+ghost use Rattle.btr_resolve.specs.Running.{RanBeside, listed};
 
-use crate::owners::{FIRST_KEY, LAST_KEY};
-use btr_base::{Key, Memory};
+use btr_base::{FIRST_KEY, Key, LAST_KEY, Memory};
 use btr_items::item;
 use btr_rack::Rack;
 use btr_volume::{Stop, Volume, root_root};
@@ -107,7 +107,7 @@ pub(crate) fn subvolumes<R: Rack>(
     rack: &mut R,
     vol: &mut Volume,
 ) -> Result<IdList, Stop>
-    requires { IsReady (R.seen rack.old) vol.old }
+    requires { CanRead 4 (R.seen rack.old) vol.old }
     ensures { RanBeside (spec.subvolumes vol.old.sup) (R.seen rack.old) vol.old (R.seen rack.new) vol.new result }
 {
     let root = root_root(&vol.sup);

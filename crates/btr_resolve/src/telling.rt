@@ -4,7 +4,9 @@ ghost use Rattle.std.specs.List.{HoldsAt};
 ghost use Rattle.btr_files.specs.Names.{links};
 ghost use Rattle.btr_resolve.specs.Lines.{path_if, more};
 ghost use Rattle.btr_resolve.specs.Resolving as spec;
-ghost use Rattle.btr_resolve.specs.Running.{IsReady, Ran, RanAlone, counted, stop_of, world};
+ghost use Rattle.btr_volume.specs.Readable.{CanRead};
+ghost use Rattle.btr_resolve.specs.Running.{Ran, RanAlone, counted, world};
+ghost use Rattle.btr_volume.specs.Stops.{stops_out};
 
 use crate::climbing::{climb, find_names};
 use crate::lines::put_owner;
@@ -15,8 +17,8 @@ use btr_rack::{Out, Rack, SinkError};
 use btr_volume::{Stop, TreeRoot, Volume};
 
 /// The stop that a refusal of the output is.
-pub(crate) fn stop_of(refusal: SinkError) -> Stop
-    ensures { result ≡ stop_of refusal }
+pub(crate) fn out_stop(refusal: SinkError) -> Stop
+    ensures { result ≡ stops_out refusal }
 {
     match refusal {
         SinkError::Failed => Stop::Out,
@@ -47,7 +49,7 @@ fn tell_path<O: Out>(
             report.count = more(report.count);
             Ok(())
         }
-        Err(refusal) => Err(stop_of(refusal)),
+        Err(refusal) => Err(out_stop(refusal)),
     }
 }
 
@@ -60,7 +62,7 @@ fn tell_name<R: Rack, O: Out>(
     vol: &mut Volume,
     out: &mut O,
 ) -> Result<(), Stop>
-    requires ready { IsReady (R.seen rack.old) vol.old }
+    requires ready { CanRead 4 (R.seen rack.old) vol.old }
     requires there { at < length report.old.names }
     ensures ran { HoldsAt (λ name. Ran (spec.name_told owner.now report.old.count name)
         (world (R.seen rack.old) vol.old (O.text out.old) (O.account out.old))
@@ -73,17 +75,15 @@ fn tell_name<R: Rack, O: Out>(
     if report.path.enter(name.name).is_err() {
         return Err(Stop::Memory);
     }
-    match climb(
+    let is_found = climb(
         &owner.tree,
         name.parent,
         &mut report.above,
         &mut report.path,
         rack,
         vol,
-    ) {
-        Ok(is_found) => tell_path(owner, is_found, report, out),
-        Err(stop) => Err(stop),
-    }
+    )?;
+    tell_path(owner, is_found, report, out)
 }
 
 // Tells an owner by each name of the report.
@@ -94,17 +94,15 @@ fn tell_names<R: Rack, O: Out>(
     vol: &mut Volume,
     out: &mut O,
 ) -> Result<(), Stop>
-    requires ready { IsReady (R.seen rack.old) vol.old }
+    requires ready { CanRead 4 (R.seen rack.old) vol.old }
     ensures { Ran (spec.each_told owner.now report.old.count report.old.names)
         (world (R.seen rack.old) vol.old (O.text out.old) (O.account out.old))
         (world (R.seen rack.new) vol.new (O.text out.new) (O.account out.new)) (counted report.new.count result) }
 {
     let mut at = 0;
     while at < report.names.len() {
-        match tell_name(owner, at, report, rack, vol, out) {
-            Ok(()) => at += 1,
-            Err(stop) => return Err(stop),
-        }
+        tell_name(owner, at, report, rack, vol, out)?;
+        at += 1;
     }
     Ok(())
 }
@@ -117,14 +115,12 @@ fn tell_owner<R: Rack, O: Out>(
     vol: &mut Volume,
     out: &mut O,
 ) -> Result<(), Stop>
-    requires ready { IsReady (R.seen rack.old) vol.old }
+    requires ready { CanRead 4 (R.seen rack.old) vol.old }
     ensures { Ran (spec.owner_told report.old.count owner.now)
         (world (R.seen rack.old) vol.old (O.text out.old) (O.account out.old))
         (world (R.seen rack.new) vol.new (O.text out.new) (O.account out.new)) (counted report.new.count result) }
 {
-    if let Err(stop) = find_names(&owner.tree, owner.inode, &mut report.names, rack, vol) {
-        return Err(stop);
-    }
+    find_names(&owner.tree, owner.inode, &mut report.names, rack, vol)?;
     if report.names.len() == 0 {
         return tell_path(owner, false, report, out);
     }
@@ -140,7 +136,7 @@ pub(crate) fn tell_owners<R: Rack, O: Out>(
     vol: &mut Volume,
     out: &mut O,
 ) -> Result<(), Stop>
-    requires ready { IsReady (R.seen rack.old) vol.old }
+    requires ready { CanRead 4 (R.seen rack.old) vol.old }
     ensures { Ran (spec.tree_told addr report.old.count (Some tree.now))
         (world (R.seen rack.old) vol.old (O.text out.old) (O.account out.old))
         (world (R.seen rack.new) vol.new (O.text out.new) (O.account out.new)) (counted report.new.count result) }

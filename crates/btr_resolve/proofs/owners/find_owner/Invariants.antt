@@ -2,13 +2,13 @@ use Rattle.std.proofs.Common.{◌≡◌, ◌≤◌}
 use Rattle.btr_rack.specs.Rack.{OnlyReads}
 use Rattle.btr_read.specs.Store.{SameLoans, free_count}
 use Rattle.btr_walk.specs.Reading.{Tells}
-use Rattle.btr_walk.specs.ScanEnds.{IsReady, without_leaf, rank_of}
+use Rattle.btr_walk.specs.ScanEnds.{IsScanReady, without_leaf, rank_of}
 use Rattle.btr_resolve.proofs.Cursors.{Gone}
 use Rattle.btr_resolve.proofs.owners.find_owner.Given as goal
 
 abbrev pub invariant-loop-fault : goal.invariant-loop-fault
 invariant-loop-fault g l = record {
-  ready : IsReady (g.R.Rack.seen l.rack) l.store l.scan;
+  ready : IsScanReady (g.R.Rack.seen l.rack) l.store l.scan;
   reads : OnlyReads (g.R.Rack.seen l.fn.rack) (g.R.Rack.seen l.rack);
   others : SameLoans (without_leaf l.fn.store l.fn.scan) (without_leaf l.store l.scan);
   room : 4 ≤ free_count (without_leaf l.store l.scan);

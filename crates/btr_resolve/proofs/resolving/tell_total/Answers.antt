@@ -13,6 +13,6 @@ returns-in-Err g c rack vol ready =
     subst
     (λ s. Ran (Emit (total_line c.args.count) (Return c.args.count)) (world rack vol (g.O.Out.text c.args.out.now) (g.O.Out.account c.args.out.now))
     (world rack vol (g.O.Out.text c.put_total.new.out) (g.O.Out.account c.put_total.new.out)) (Err s))
-    (sym c.stop_of.ensures)
+    (sym c.out_stop.ensures)
     (ran_broken (total_line c.args.count) rack vol ready _ _ _ _
     (Return c.args.count) c.in-Err.refusal c.in-Err.ensures.text c.in-Err.ensures.account)

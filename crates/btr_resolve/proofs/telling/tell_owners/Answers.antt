@@ -3,7 +3,7 @@ use Rattle.btr_volume.specs.declared.stop.Stop.TheVariants.{Tree}
 use Rattle.btr_resolve.specs.Cursor.{TellsNext}
 use Rattle.btr_resolve.specs.Running.{world}
 use Rattle.btr_resolve.specs.declared.owner.Owner.{Owner}
-use Rattle.btr_resolve.proofs.Stopping.{ready_next}
+use Rattle.btr_volume.proofs.Onward.{reads_on}
 use Rattle.btr_resolve.proofs.Tellings.{leads_first, told_end, told_fault, told_more, told_stop}
 use Rattle.btr_resolve.proofs.telling.tell_owners.Goals as goal
 
@@ -23,7 +23,7 @@ returns-in-Err g c =
     f.invariant.leads (world (g.R.Rack.seen c.next.new.rack) c.next.new.vol (g.O.Out.text f.out) (g.O.Out.account f.out)) (Err (Tree c.in-Err.fault))
     (told_fault f.report.count f.owners c.next.new.self (g.R.Rack.seen f.rack)
     (g.R.Rack.seen c.next.new.rack) f.vol c.next.new.vol (g.O.Out.text f.out) (g.O.Out.account f.out) e.reads e.volume
-    (ready_next _ f.vol c.next.new.vol f.invariant.ready e.serves e.volume) c.in-Err.fault e.cause e.content)
+    (reads_on _ f.vol c.next.new.vol f.invariant.ready e.serves e.volume) c.in-Err.fault e.cause e.content)
 
 pub returns-in-Ok-None : goal.returns-in-Ok-None
 returns-in-Ok-None g c =
@@ -33,7 +33,7 @@ returns-in-Ok-None g c =
     let new = g.R.Rack.seen c.next.new.rack in
     f.invariant.leads (world new c.next.new.vol (g.O.Out.text f.out) (g.O.Out.account f.out)) (Ok f.report.count)
     (told_end f.report.count f.owners c.next.new.self old new f.vol c.next.new.vol (g.O.Out.text f.out)
-    (g.O.Out.account f.out) e.reads e.volume (ready_next new f.vol c.next.new.vol f.invariant.ready e.serves e.volume)
+    (g.O.Out.account f.out) e.reads e.volume (reads_on new f.vol c.next.new.vol f.invariant.ready e.serves e.volume)
     (subst (λ (o : Option Owner). TellsNext f.vol old new f.owners c.next.new.self (Ok o)) c.in-Ok-None.field-0-is e.content))
 
 pub loop-fault-preserved : goal.loop-fault-preserved
@@ -51,7 +51,7 @@ loop-fault-preserved g c =
       owners = e.owners;
       leads = λ w answer t. f.invariant.leads w answer
           (told_more f.report.count f.owners c.next.new.self old new f.vol c.next.new.vol (g.O.Out.text f.out)
-          (g.O.Out.account f.out) e.reads e.volume (ready_next new f.vol c.next.new.vol f.invariant.ready e.serves e.volume)
+          (g.O.Out.account f.out) e.reads e.volume (reads_on new f.vol c.next.new.vol f.invariant.ready e.serves e.volume)
           c.in-Ok-Some.owner next z c.tell_owner.new.report.count told w answer t);
     }
 
@@ -66,5 +66,5 @@ returns-in-Err-tell_owner g c =
     (g.O.Out.account c.tell_owner.new.out) in
     f.invariant.leads z (Err c.in-Err-tell_owner.stop)
     (told_stop f.report.count f.owners c.next.new.self old new f.vol c.next.new.vol (g.O.Out.text f.out)
-    (g.O.Out.account f.out) e.reads e.volume (ready_next new f.vol c.next.new.vol f.invariant.ready e.serves e.volume)
+    (g.O.Out.account f.out) e.reads e.volume (reads_on new f.vol c.next.new.vol f.invariant.ready e.serves e.volume)
     c.in-Ok-Some.owner next z c.in-Err-tell_owner.stop c.in-Err-tell_owner.ensures)

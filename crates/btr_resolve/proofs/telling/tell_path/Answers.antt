@@ -27,6 +27,6 @@ returns-in-Err-clause-ran g c rack vol ready =
     let line = λ (p : List ℕ). owner_line c.args.owner.now (path_if c.args.is_found p) in
     let x = world rack vol old (g.O.Out.account c.args.out.now) in
     let y = world rack vol new (g.O.Out.account c.put_owner.new.out) in
-    subst (λ s. Ran (path_told c.args.owner.now report.count (path_if c.args.is_found report.path)) x y (Err s)) (sym c.stop_of.ensures)
+    subst (λ s. Ran (path_told c.args.owner.now report.count (path_if c.args.is_found report.path)) x y (Err s)) (sym c.out_stop.ensures)
     (ran_broken (line report.path) rack vol ready old new _ _ (Return (more report.count)) c.in-Err.refusal
     (subst (λ p. (n : ℕ) × Adds old new (take n (line p))) c.turn.ensures c.in-Err.ensures.text) c.in-Err.ensures.account)
