@@ -9,7 +9,7 @@ use Rattle.std.specs.Ordering.{nat_cmp}
 use Rattle.btr_read.specs.Fate.{Fault}
 use Rattle.btr_read.specs.Store.{Blocks, Lent, block_of}
 use Rattle.btr_read.specs.declared.want.Want.{Want}
-use Rattle.btr_refs.specs.Forward.{Uses, with_use, block_uses, no_uses, root_use}
+use Rattle.btr_refs.specs.Forward.{Tally, tally_with, block_uses, root_use}
 use Rattle.btr_tour.specs.Tour.{Reached}
 use Rattle.btr_volume.specs.declared.root.TreeRoot.{TreeRoot}
 use Rattle.btr_volume.specs.declared.stop.Stop.{Stop}
@@ -39,15 +39,15 @@ at one = one.place
 
 module _ (B : Map) where
   -- a block that was read is the one that is there
-  pub block_counted : (want : Want) (place : RootPlace) (store : Blocks) (loan : Lent) (bytes : List ℕ) (by_address : Bool) (old new : Uses)
+  pub block_counted : (want : Want) (place : RootPlace) (store : Blocks) (loan : Lent) (bytes : List ℕ) (by_address : Bool) (old new : Tally)
       → block_of store loan ≡ Some bytes
       → IsSomeAnd (block_of store loan) (λ block. B want ≡ Ok block) → ((block : List ℕ) → IsBlock B place block → B want ≡ Ok block)
-      → new ≡ fold with_use old (block_uses by_address place.addr place.level bytes) → BlockCounts B place by_address old new (Ok tt)
+      → new ≡ fold tally_with old (block_uses by_address place.addr place.level bytes) → BlockCounts B place by_address old new (Ok tt)
   block_counted want place store loan bytes by_address old new held came same counted block there =
-      counted ∙ ap (λ b. fold with_use old (block_uses by_address place.addr place.level b))
+      counted ∙ ap (λ b. fold tally_with old (block_uses by_address place.addr place.level b))
       (same_bytes bytes block (B want) (block_is store loan bytes (λ b. B want ≡ Ok b) held came) (same block there))
 
-module _ (B : Map) (places : List RootPlace) (full : BTreeSet ℕ) (old : Uses) where
+module _ (B : Map) (places : List RootPlace) (full : BTreeSet ℕ) (old : Tally) where
   pub counted_none : CountedTo B 0 places full old old
   counted_none blocks same there extents is = refl
 
@@ -66,41 +66,40 @@ module _ (B : Map) (places : List RootPlace) (full : BTreeSet ℕ) (old : Uses) 
         (all_at (λ (r : Reached). IsBlock B r.place r.block) blocks i (record { place = none; block = [] }) inside there)
 
   -- one block more
-  pub counted_next : (i : ℕ) (none : RootPlace) (by_address : Bool) (now new : Uses) → i < length places → CountedTo B i places full old now
+  pub counted_next : (i : ℕ) (none : RootPlace) (by_address : Bool) (now new : Tally) → i < length places → CountedTo B i places full old now
       → by_address ≡ contains nat_cmp full (get_or places i none).addr → BlockCounts B (get_or places i none) by_address now new (Ok tt)
       → CountedTo B (i + 1) places full old new
   counted_next i none by_address now new below before by counts blocks same there extents is =
       let here = one i none below blocks same in
       let at-place = place_is i none below blocks same in
       counts here.block (is_there i none below blocks same there)
-      ∙ ap (λ (p : RootPlace). fold with_use now (block_uses by_address p.addr p.level here.block)) at-place
-      ∙ ap (λ b. fold with_use now (block_uses b here.place.addr here.place.level here.block))
+      ∙ ap (λ (p : RootPlace). fold tally_with now (block_uses by_address p.addr p.level here.block)) at-place
+      ∙ ap (λ b. fold tally_with now (block_uses b here.place.addr here.place.level here.block))
       (by ∙ is (get_or places i none).addr ∙ ap (λ (p : RootPlace). refers_by_address extents p.addr) at-place)
-      ∙ ap (λ u. fold with_use u (uses_of extents here)) (before blocks same there extents is)
-      ∙ sym (fold-append with_use old (flat_map (uses_of extents) (take i blocks)) (uses_of extents here))
-      ∙ ap (fold with_use old) (sym (flat_more (uses_of extents) (take i blocks) here) ∙ ap (flat_map (uses_of extents))
+      ∙ ap (λ u. fold tally_with u (uses_of extents here)) (before blocks same there extents is)
+      ∙ sym (fold-append tally_with old (flat_map (uses_of extents) (take i blocks)) (uses_of extents here))
+      ∙ ap (fold tally_with old) (sym (flat_more (uses_of extents) (take i blocks) here) ∙ ap (flat_map (uses_of extents))
       (sym (take_more blocks i (record { place = none; block = [] }) (inside i none below blocks same))))
 
   -- the last block
-  pub counted_end : (i : ℕ) (now : Uses) → length places ≤ i → CountedTo B i places full old now → BlocksCount B places full old now (Ok tt)
+  pub counted_end : (i : ℕ) (now : Tally) → length places ≤ i → CountedTo B i places full old now → BlocksCount B places full old now (Ok tt)
   counted_end i now long before blocks same there extents is =
       let e : length places ≡ length blocks = ap length same ∙ length-map blocks at in
-      before blocks same there extents is ∙ ap (λ l. fold with_use old (flat_map (uses_of extents) l)) (take_all blocks i (omega arith))
+      before blocks same there extents is ∙ ap (λ l. fold tally_with old (flat_map (uses_of extents) l)) (take_all blocks i (omega arith))
 
   -- a block could not be read
-  pub counted_stop : (i : ℕ) (none : RootPlace) (by_address : Bool) (now new last : Uses) (stop : Stop) → i < length places
+  pub counted_stop : (i : ℕ) (none : RootPlace) (by_address : Bool) (now new last : Tally) (stop : Stop) → i < length places
       → BlockCounts B (get_or places i none) by_address now new (Err stop) → BlocksCount B places full old last (Err stop)
   counted_stop i none by_address now new last stop below counts blocks same there extents is = counts (one i none below blocks same).block
       (is_there i none below blocks same there)
 
-module _ (B : Map) (trees : List TreeRoot) (places : List RootPlace) (full : BTreeSet ℕ) where
+module _ (B : Map) (begun : Tally) (trees : List TreeRoot) (places : List RootPlace) (full : BTreeSet ℕ) where
   -- the uses by trees and by blocks
-  pub uses_counted : (none roots all : Uses) → none ≡ no_uses → roots ≡ fold with_use none (map root_use trees) → BlocksCount B places full roots all (Ok tt)
-      → UsesCount B trees places full (Ok all)
-  uses_counted none roots all empty begun counts blocks same there extents is =
-      counts blocks same there extents is ∙ ap (λ u. fold with_use u (flat_map (uses_of extents) blocks))
-      (begun ∙ ap (λ u. fold with_use u (map root_use trees)) empty)
-      ∙ sym (fold-append with_use no_uses (map root_use trees) (flat_map (uses_of extents) blocks))
+  pub uses_counted : (roots all : Tally) → roots ≡ fold tally_with begun (map root_use trees) → BlocksCount B places full roots all (Ok tt)
+      → UsesCount B begun trees places full (Ok all)
+  uses_counted roots all by_roots counts blocks same there extents is =
+      counts blocks same there extents is ∙ ap (λ u. fold tally_with u (flat_map (uses_of extents) blocks)) by_roots
+      ∙ sym (fold-append tally_with begun (map root_use trees) (flat_map (uses_of extents) blocks))
 
-  pub uses_stop : (roots all : Uses) (stop : Stop) → BlocksCount B places full roots all (Err stop) → UsesCount B trees places full (Err stop)
+  pub uses_stop : (roots all : Tally) (stop : Stop) → BlocksCount B places full roots all (Err stop) → UsesCount B begun trees places full (Err stop)
   uses_stop roots all stop counts blocks same there extents is = counts blocks same there extents is

@@ -2,7 +2,7 @@
 use Rattle.std.proofs.Common.{◌≡◌, ℕ, zero, suc, ◌+◌, ◌*◌, ◌/◌, ◌%◌, ◌<◌, nat_lt, eqb, ◌≤◌, ◌^◌, Bool, true, false, ◌&&◌, List, [], ◌∷◌, ◌++◌, length, take}
 use Rattle.std.proofs.Common.{get_or, filter_map, flat_map, Option, Some, None, IfSome, IsSomeAnd, Result, Ok, Err, is_ok, refl, sym, ap, ◌∙◌, subst, arith}
 use Rattle.std.proofs.lemmas.Bool.{ltb-true}
-use Rattle.std.proofs.lemmas.List.Elements.{filter_map-append}
+use Rattle.std.proofs.lemmas.List.Elements.{Contains-append_left, Contains-append_right, Contains-get_or, filter_map-append}
 use Rattle.std.specs.List.{AllByRecursion, Contains, cons_option}
 use Rattle.std.specs.Prelude.{slice_get}
 use Rattle.btr_base.specs.declared.kind.SumKind.{SumKind}
@@ -12,10 +12,10 @@ use Rattle.btr_files.specs.Sums.{sum_at}
 use Rattle.btr_files.specs.Aheads.{kept_sum, IsSummed}
 use Rattle.btr_files.specs.declared.sums_ahead.SumsAhead.{SumsAhead}
 use Rattle.btr_items.specs.declared.sum_run.SumRun.{SumRun}
-use Rattle.btr_prog.specs.Answers.{Follows, no_part}
-use Rattle.btr_prog.specs.Prog.{Run, Return, Need, run, given, and_then, exec}
+use Rattle.btr_prog.specs.Answers.{Follows, Names, no_part}
+use Rattle.btr_prog.specs.Prog.{Run, Return, Need, run, given, and_then, exec, needs, wants_of}
 use Rattle.btr_prog.specs.Calls.{Sure}
-use Rattle.btr_prog.proofs.Runs.{exec-bind, after-ok, after-err}
+use Rattle.btr_prog.proofs.Runs.{exec-bind, after-ok, after-err, needs-bind, needs-stop}
 use Rattle.btr_rack.specs.Rack.{Seen, OnlyReads}
 use Rattle.btr_read.specs.Candidates.{Target}
 use Rattle.btr_read.specs.Fate as fate
@@ -32,7 +32,7 @@ use Rattle.btr_read.proofs.ReadsOn.{same_held}
 use Rattle.btr_volume.specs.declared.root.TreeRoot.{TreeRoot}
 use Rattle.btr_volume.specs.declared.stop.Stop.{Stop}
 use Rattle.btr_volume.specs.declared.stop.Stop.TheVariants as stops
-use Rattle.btr_walk.specs.Reading.{Map, UnreadBlock, Tells, FaultCause, tree_fault, answer_of}
+use Rattle.btr_walk.specs.Reading.{Map, UnreadBlock, Tells, tree_fault, answer_of}
 use Rattle.btr_walk.specs.declared.fault.TreeFault.{TreeFault}
 use Rattle.btr_walk.specs.declared.fault.TreeFault.TheVariants.{Lost, Unread, Unmapped, Crosses, Malformed}
 use Rattle.btr_check.specs.Counting.{Unless}
@@ -55,7 +55,21 @@ use Rattle.btr_check_sums.specs.Sums.{run_sectors}
 use Rattle.std.proofs.lemmas.List.{take_all}
 use Rattle.std.specs.Option.{option_to_list}
 use Rattle.btr_check.specs.Filesystem.{Filesystem, kind_of_sums, tree_items}
-use Rattle.btr_check.specs.Running.{StopUnread, OfReading, is_outside}
+use Rattle.btr_check.proofs.Runs.{fault_more}
+use Rattle.btr_check.proofs.Wants.{fault_wanted, first_in, named_in}
+use Rattle.btr_check.specs.Running.{FaultUnread, IsUnreadOf, StopUnread, OfReading, is_outside}
+use Rattle.btr_check.specs.Wanted.{OfSector}
+
+-- the stop of a block that could not be read
+same_stop : (a b : Stop) → Some a ≡ Some b → a ≡ b
+same_stop a b e = cc
+
+pub stop_unread : (P : UnreadBlock → Type 0) (f : TreeFault) (stop : Stop) → unread_stop f ≡ Some stop → FaultUnread P f → StopUnread P stop
+stop_unread P (Lost addr) stop e h = cc
+stop_unread P (Unread addr slot) stop e h = subst (StopUnread P) (same_stop (stops.Tree (Unread addr slot)) stop e) h
+stop_unread P (Unmapped addr) stop e h = cc
+stop_unread P (Crosses addr) stop e h = cc
+stop_unread P (Malformed addr) stop e h = cc
 
 abbrev Bytes : Type 0
 Bytes = Run Want fate.Fault ⊥ (List ℕ)
@@ -75,9 +89,35 @@ module _ (fs : Filesystem) (sums : Option TreeRoot) (sector : ℕ) where
   is_bind : is_readable fs sums sector ≡ is_ok (and_then looked by_sum).ending
   is_bind = ap (λ (r : Bytes). is_ok r.ending) (exec-bind fs.blocks (sum_at (kind_of_sums fs) sums sector) (λ sum. Need (want_by sector sum) Return))
 
-  -- where a look-up came to an answer, the sector is wanted by it
-  read_by : (sum : Option Sum) → looked.ending ≡ Ok sum → ReadsBy fs sums sector (Some (want_by sector sum))
-  read_by sum is = is_bind ∙ ap (λ (r : Bytes). is_ok r.ending) (after-ok looked sum by_sum is) ∙ given_ok (fs.blocks (want_by sector sum))
+  -- where a look-up came to an answer, the sector is readable where its want comes to bytes
+  pub read_by : (want : Want) → ReadsBy fs sums sector (Some want) → is_readable fs sums sector ≡ is_ok (fs.blocks want)
+  read_by want h =
+      is_bind ∙ ap (λ (r : Bytes). is_ok r.ending) (after-ok looked h.0 by_sum h.1) ∙ given_ok (fs.blocks (want_by sector h.0))
+      ∙ sym (ap (λ w. is_ok (fs.blocks w)) h.2)
+
+  -- the want is one of the sector's
+  pub sector_wanted : (want : Want) → ReadsBy fs sums sector (Some want) → OfSector sums sector fs want
+  sector_wanted want h =
+      subst (λ ws. Contains ws want) (sym (needs-bind fs.blocks (sum_at (kind_of_sums fs) sums sector) (λ sum. Need (want_by sector sum) Return) h.0 h.1))
+      (Contains-append_right (needs fs.blocks (sum_at (kind_of_sums fs) sums sector)) (needs fs.blocks (Need (want_by sector h.0) Return)) want
+      (subst (λ w. Contains (want_by sector h.0 ∷ wants_of (given (fs.blocks (want_by sector h.0)) (λ bytes. run {S = ⊥} [] (Ok bytes))).marks) w) (sym h.2)
+      (first_in (want_by sector h.0) _)))
+
+  -- and so are those of the look-up
+  look_wanted : (want : Want) (ending : Result (Option Sum) fate.Fault) → looked.ending ≡ ending → Contains (wants_of looked.marks) want
+      → OfSector sums sector fs want
+  look_wanted want (Ok sum) is h =
+      subst (λ ws. Contains ws want) (sym (needs-bind fs.blocks (sum_at (kind_of_sums fs) sums sector) (λ sum. Need (want_by sector sum) Return) sum is))
+      (Contains-append_left (wants_of looked.marks) (needs fs.blocks (Need (want_by sector sum) Return)) want h)
+  look_wanted want (Err fault) is h =
+      subst (λ ws. Contains ws want) (sym (needs-stop fs.blocks (sum_at (kind_of_sums fs) sums sector) (λ sum. Need (want_by sector sum) Return) fault is)) h
+
+  pub look_unread : (Is : UnreadBlock → Want → Type 0) (f : TreeFault) (stop : Stop) → unread_stop f ≡ Some stop
+      → Follows Is no_part [] looked [] (answer_of (Err f)) → StopUnread (λ u. (want : Want) × OfSector sums sector fs want × Is u want) stop
+  look_unread Is f stop e h = stop_unread (λ u. (want : Want) × OfSector sums sector fs want × Is u want) f stop e
+      (fault_more (λ u. Names Is u (wants_of looked.marks)) (λ u. (want : Want) × OfSector sums sector fs want × Is u want)
+      (λ u named. let one = named_in Is u (wants_of looked.marks) named in (one.0, look_wanted one.0 looked.ending refl one.1, one.2)) f
+      (fault_wanted Is looked [] f h))
 
   not_read : (fault : fate.Fault) → looked.ending ≡ Err fault → ReadsBy fs sums sector None
   not_read fault is = is_bind ∙ ap (λ (r : Bytes). is_ok r.ending) (after-err looked fault by_sum is)
@@ -85,12 +125,15 @@ module _ (fs : Filesystem) (sums : Option TreeRoot) (sector : ℕ) where
   -- and so it is by a checksum that is kept
   pub kept_by : (ahead : SumsAhead) (sum : Sum) → ahead.kind ≡ kind_of_sums fs → kept_sum ahead sector ≡ Some sum → IsSummed fs.blocks sums ahead
       → ReadsBy fs sums sector (Some (want_by sector (Some sum)))
-  kept_by ahead sum same kept summed = read_by (Some sum)
-      (subst (λ (k : SumKind). (exec fs.blocks (sum_at k sums sector)).ending ≡ Ok (Some sum)) same (summed sector sum kept))
+  kept_by ahead sum same kept summed = (
+    Some sum,
+    subst (λ (k : SumKind). (exec fs.blocks (sum_at k sums sector)).ending ≡ Ok (Some sum)) same (summed sector sum kept),
+    refl,
+  )
 
   pub found_by : (Is : UnreadBlock → Want → Type 0) (sum : Option Sum) (want : Want) → want ≡ want_by sector sum
       → Follows Is no_part [] looked [] (answer_of (Ok sum)) → ReadsBy fs sums sector (Some want)
-  found_by Is sum want same h = subst (λ w. ReadsBy fs sums sector (Some w)) (sym same) (read_by sum h.1)
+  found_by Is sum want same h = (sum, h.1, same)
 
   pub fault_by : (Is : UnreadBlock → Want → Type 0) (f : TreeFault) → unread_stop f ≡ None → Follows Is no_part [] looked [] (answer_of (Err f))
       → ReadsBy fs sums sector None
@@ -107,10 +150,6 @@ not_kept sum o P none some = cc
 pub none_kept : (B : Map) (sums : Option TreeRoot) (ahead : SumsAhead) → ((addr : ℕ) → kept_sum ahead addr ≡ None) → IsSummed B sums ahead
 none_kept B sums ahead none = λ other sum kept. not_kept sum (kept_sum ahead other) _ (none other) kept
 
--- the stop of a block that could not be read
-same_stop : (a b : Stop) → Some a ≡ Some b → a ≡ b
-same_stop a b e = cc
-
 pub stop_outside : (f : TreeFault) (stop : Stop) → unread_stop f ≡ Some stop → is_outside stop ≡ true
 stop_outside (Lost addr) stop e = cc
 stop_outside (Unread addr slot) stop e = ap is_outside (sym (same_stop (stops.Tree (Unread addr slot)) stop e))
@@ -124,14 +163,6 @@ stop_reading (Unread addr slot) stop e = subst OfReading (same_stop (stops.Tree 
 stop_reading (Unmapped addr) stop e = cc
 stop_reading (Crosses addr) stop e = cc
 stop_reading (Malformed addr) stop e = cc
-
-pub stop_cause : (layout : Layout) (old new : Seen) (f : TreeFault) (stop : Stop) → unread_stop f ≡ Some stop → FaultCause layout old new f
-    → StopUnread layout old new stop
-stop_cause layout old new (Lost addr) stop e h = cc
-stop_cause layout old new (Unread addr slot) stop e h = subst (StopUnread layout old new) (same_stop (stops.Tree (Unread addr slot)) stop e) h
-stop_cause layout old new (Unmapped addr) stop e h = cc
-stop_cause layout old new (Crosses addr) stop e h = cc
-stop_cause layout old new (Malformed addr) stop e h = cc
 
 -- what holds of the images holds of their map
 tells_images : (layout : Layout) (old new : Seen) (P : Map → Type 0) → OnlyReads old new → ((sure : Sure) → OnMap layout P sure old.held)
@@ -188,23 +219,27 @@ module _ (layout : Layout) (want : Want) (old new : Seen) (store : Blocks) (read
       (λ images. ap (λ r. is_ok (fate_of images (addr_of want) r)) (sym fits)))
 
   -- and its cause
-  pub fetched_cause : (f : ReadFault) (stop : Stop) → unread_stop (tree_fault f) ≡ Some stop → FitsFetch layout want old new store (Err f)
-      → StopUnread layout old new stop
-  fetched_cause (read.Lost addr) stop e fits = cc
-  fetched_cause (read.Unread addr slot) stop e fits = stop_cause layout old new (Unread addr slot) stop e (want, fits)
-  fetched_cause (read.Unmapped addr) stop e fits = cc
-  fetched_cause (read.Crosses addr) stop e fits = cc
+  pub fetched_unread : (f : ReadFault) (stop : Stop) → unread_stop (tree_fault f) ≡ Some stop → FitsFetch layout want old new store (Err f)
+      → StopUnread (IsUnreadOf layout old new (λ w. w ≡ want)) stop
+  fetched_unread (read.Lost addr) stop e fits = cc
+  fetched_unread (read.Unread addr slot) stop e fits =
+      stop_unread (IsUnreadOf layout old new (λ w. w ≡ want)) (Unread addr slot) stop e (want, refl, fits)
+  fetched_unread (read.Unmapped addr) stop e fits = cc
+  fetched_unread (read.Crosses addr) stop e fits = cc
+
+-- what holds whatever the images are
+pub always_told : (layout : Layout) (old new : Seen) (P : Type 0) → OnlyReads old new → P → Tells layout old new (λ B. P)
+always_told layout old new P reads h = tells_images layout old new (λ B. P) reads (λ sure. held_all old.held (λ images. P) (λ images. h))
 
 -- what may be said of a stop that may come at any place
 pub stop_tells : {A : Type 0} (layout : Layout) (old new : Seen) (P : Map → A → Type 0) (stop : Stop) → OnlyReads old new → is_outside stop ≡ true
     → Tells layout old new (λ B. Unless (P B) (Err stop))
-stop_tells layout old new P stop reads outside = tells_images layout old new (λ B. is_outside stop ≡ true) reads
-    (λ sure. held_all old.held (λ images. is_outside stop ≡ true) (λ images. outside))
+stop_tells layout old new P stop reads outside = always_told layout old new (is_outside stop ≡ true) reads outside
 
 -- a sector is read by its want
 pub then_read : (fs : Filesystem) (sums : Option TreeRoot) (sector : ℕ) (want : Want) (r : Result Bool Stop) → ReadsBy fs sums sector (Some want)
     → Unless (λ can. can ≡ is_ok (fs.blocks want)) r → Unless (λ can. can ≡ is_readable fs sums sector) r
-then_read fs sums sector want (Ok can) by is = is ∙ sym by
+then_read fs sums sector want (Ok can) by is = is ∙ sym (read_by fs sums sector want by)
 then_read fs sums sector want (Err stop) by is = is
 
 -- the finding on a sector
@@ -231,6 +266,13 @@ run_more fs sums run i sector a b c below is before here =
     adds_more (data_lost fs sums) (run_sectors run) i 0 a b c (omega (arith, long, below)) before
     (adds_as (option_to_list (data_lost fs sums sector)) (option_to_list (data_lost fs sums (get_or (run_sectors run) i 0))) b c
     (ap (λ s. option_to_list (data_lost fs sums s)) (is ∙ sym at)) here)
+
+-- one of them
+pub sector_in : (run : SumRun) (i sector : ℕ) → i < run.count → sector ≡ run.start + i * 4096 → Contains (run_sectors run) sector
+sector_in run i sector below is =
+    let long : length (run_sectors run) ≡ run.count = sectors_long run.start run.count in
+    let at : get_or (run_sectors run) i 0 ≡ run.start + i * 4096 = sector_at run.start run.count i below in
+    subst (Contains (run_sectors run)) (at ∙ sym is) (Contains-get_or (run_sectors run) i 0 (omega (arith, long, below)))
 
 pub run_all : (fs : Filesystem) (sums : Option TreeRoot) (run : SumRun) (i : ℕ) (a b : FoundSet) → run.count ≤ i
     → Adds (filter_map (data_lost fs sums) (take i (run_sectors run))) a b → Adds (filter_map (data_lost fs sums) (run_sectors run)) a b

@@ -1,12 +1,15 @@
 -- Trees of files, one after another.
-use Rattle.std.proofs.Common.{◌≡◌, ℕ, Bool, true, false, cond, map, filter_map, ◌+◌, ◌<◌, ◌≤◌, List, [], ◌∷◌, ◌++◌, length, take, get_or, filter, flat_map}
+use Rattle.std.proofs.Common.{◌≡◌, ℕ, Bool, true, false, ◌&&◌, cond, map, filter_map, ◌+◌, ◌<◌, ◌≤◌, List, [], ◌∷◌, ◌++◌, length, take, get_or, filter, flat_map}
 use Rattle.std.proofs.Common.{fold, Result, Ok, Err, refl, sym, ap, ◌∙◌, subst, append_assoc, append-nil}
 use Rattle.std.proofs.lemmas.Grind.{flat_map-append}
 use Rattle.std.proofs.lemmas.List.{take_more, take_all}
+use Rattle.std.specs.List.{list_all}
 use Rattle.btr_base.specs.declared.memory.Memory.{Memory}
+use Rattle.btr_check_differences.specs.Law.{is_plain}
 use Rattle.btr_chunk.specs.declared.chunk.Chunk.{Chunk}
 use Rattle.btr_items.specs.declared.sum_run.SumRun.{SumRun}
 use Rattle.btr_check_names.specs.Names.{Names, NamesLaw, no_names, names_step, names_findings}
+use Rattle.btr_check_names.specs.Settled.{AreSettled}
 use Rattle.btr_check_names.specs.Subvolumes.{Subvolumes, leads_to_root, name_at, subvolumes_at, subvolumes_in, subvolume_findings}
 use Rattle.btr_check_names.specs.Unpaired.{UnpairedLaw, are_paired, nothing_unpaired, unpaired_step}
 use Rattle.btr_check_names.specs.declared.unpaired.Unpaired.{Unpaired}
@@ -15,7 +18,7 @@ use Rattle.btr_findings.specs.declared.finding.Finding.{Finding}
 use Rattle.btr_findings.specs.Findings.{Adds, FoundSet}
 use Rattle.btr_check_sums.specs.Items.{UsesMet, KeepsUses, uses_step, loose_in, used_in}
 use Rattle.btr_check_sums.specs.Sums.{tree_missing}
-use Rattle.btr_tour.specs.Tour.{Mark, whole}
+use Rattle.btr_tour.specs.Tour.{Mark, Block, Child, Item, Left, items_met, whole}
 use Rattle.btr_tour.specs.Visits.{Takes, Shows}
 use Rattle.btr_tour.specs.declared.met.Met.{Met}
 use Rattle.btr_volume.specs.declared.root.TreeRoot.{TreeRoot}
@@ -23,23 +26,50 @@ use Rattle.btr_walk.specs.Reading.{Map}
 use Rattle.btr_check.specs.Data.{sum_runs}
 use Rattle.btr_check.specs.Families.{subvolumes, found_on_files}
 use Rattle.btr_check.specs.Filesystem.{Filesystem, file_trees, is_file_tree, root_items}
-use Rattle.btr_check.specs.FileTrees.{nothing_met, file_step, names_of, missing_findings, file_tree_findings, root_entries, with_entries, Treats, TreatsNames}
+use Rattle.btr_check.specs.FileTrees.{nothing_met, file_step, mark_plain, names_of, missing_findings, file_tree_findings, root_entries, with_entries, Treats, TreatsNames}
 use Rattle.btr_check.specs.Passes.{Lists}
 use Rattle.btr_check.specs.Trees.{items_in}
 use Rattle.btr_check.specs.declared.file_tree.FileTree.{FileTree}
 
--- names and uses were kept
-pub both_taken : (old : FileTree) (names : Unpaired) (uses : UsesMet) (met : Met) (result : Result (Unit {0}) Memory)
+-- names, uses and whether nothing is an orphan's were kept
+pub both_taken : (old : FileTree) (names : Unpaired) (uses : UsesMet) (plain : Bool) (met : Met) (result : Result (Unit {0}) Memory)
     → ((mark : Mark) → Shows met mark → names ≡ unpaired_step old.names mark) → Takes uses_step old.uses met uses result
-    → Takes file_step old met (record { names = names; uses = uses }) result
-both_taken old names uses met (Ok u) one two = λ mark shows. λ i. record { names = one mark shows i; uses = two mark shows i }
-both_taken old names uses met (Err e) one two = tt
+    → ((mark : Mark) → Shows met mark → plain ≡ (old.is_plain && mark_plain mark))
+    → Takes file_step old met (record { names = names; uses = uses; is_plain = plain }) result
+both_taken old names uses plain met (Ok u) one two three =
+    λ mark shows. λ i. record { names = one mark shows i; uses = two mark shows i; is_plain = three mark shows i }
+both_taken old names uses plain met (Err e) one two three = tt
+
+and_true : (a : Bool) → (a && true) ≡ a
+and_true true = refl
+and_true false = refl
+
+and_then : (a b c : Bool) → ((a && b) && c) ≡ (a && (b && c))
+and_then true b c = refl
+and_then false b c = refl
+
+-- whether nothing of one more mark is an orphan's
+plain_more : (mark : Mark) (marks : List Mark) (plain : Bool)
+    → ((plain && mark_plain mark) && list_all is_plain (items_met marks)) ≡ (plain && list_all is_plain (items_met (mark ∷ marks)))
+plain_more (Block place block) marks plain = ap (λ b. b && list_all is_plain (items_met marks)) (and_true plain)
+plain_more (Child addr place) marks plain = ap (λ b. b && list_all is_plain (items_met marks)) (and_true plain)
+plain_more (Item item) marks plain = and_then plain (is_plain item) (list_all is_plain (items_met marks))
+plain_more (Left fault) marks plain = ap (λ b. b && list_all is_plain (items_met marks)) (and_true plain)
 
 -- what a visit leaves is what it leaves of names and of uses
-file_folded : (marks : List Mark) (met : FileTree) → fold file_step met marks ≡ record
-    { names = fold unpaired_step met.names marks; uses = fold uses_step met.uses marks }
-file_folded [] met = refl
-file_folded (mark ∷ marks) met = file_folded marks (file_step met mark)
+pub file_folded : (marks : List Mark) (met : FileTree) → fold file_step met marks ≡ record {
+  names = fold unpaired_step met.names marks;
+  uses = fold uses_step met.uses marks;
+  is_plain = met.is_plain && list_all is_plain (items_met marks);
+}
+file_folded [] met = λ i. record { names = met.names; uses = met.uses; is_plain = sym (and_true met.is_plain) i }
+file_folded (mark ∷ marks) met =
+    file_folded marks (file_step met mark)
+    ∙ (λ i. record {
+      names = fold unpaired_step (unpaired_step met.names mark) marks;
+      uses = fold uses_step (uses_step met.uses mark) marks;
+      is_plain = plain_more mark marks met.is_plain i;
+    })
 
 filter_by : {X : Type 0} (p : X → Bool) (x : X) (xs : List X) (b : Bool) → p x ≡ b → filter p (filter p xs) ≡ filter p xs
     → filter p (cond b (x ∷ filter p xs) (filter p xs)) ≡ cond b (x ∷ filter p xs) (filter p xs)
@@ -53,9 +83,11 @@ filter_twice p (x ∷ xs) = filter_by p x xs (p x) refl (filter_twice p xs)
 module _ (B : Map) where
   -- what was met of a tree
   pub record IsMetOf (tree : TreeRoot) (met : FileTree) : Type 0 where
+    pub settled : are_paired met.names ≡ true → AreSettled (names_of B tree)
     pub sound : are_paired met.names ≡ true → names_findings (names_of B tree) ≡ []
     pub subvolumes : met.names.subvolumes ≡ filter leads_to_root (names_of B tree).indexed
     pub uses : met.uses ≡ record { loose = filter_map loose_in (items_in B tree); used = filter_map used_in (items_in B tree) }
+    pub plain : met.is_plain ≡ list_all is_plain (items_in B tree)
 
   pub file_tree_met : UnpairedLaw → KeepsUses → (tree : TreeRoot) (none met : FileTree) → none ≡ nothing_met tree.dirid
       → met ≡ fold file_step none (whole B tree.place) → IsMetOf tree met
@@ -65,13 +97,16 @@ module _ (B : Map) where
         names = fold unpaired_step (nothing_unpaired tree.dirid) marks;
         uses = fold uses_step
             (record { loose = []; used = [] }) marks;
+        is_plain = list_all is_plain (items_met marks);
       } =
       is ∙ ap (λ m. fold file_step m (whole B tree.place)) empty ∙ file_folded (whole B tree.place) (nothing_met tree.dirid) in
       let tells = names tree.id tree.dirid (whole B tree.place) in
       record {
+        settled = λ h. tells.settled (sym (ap (λ (m : FileTree). are_paired m.names) all) ∙ h);
         sound = λ h. tells.sound (sym (ap (λ (m : FileTree). are_paired m.names) all) ∙ h);
         subvolumes = ap (λ (m : FileTree). m.names.subvolumes) all ∙ tells.subvolumes;
         uses = ap (λ (m : FileTree). m.uses) all ∙ uses (whole B tree.place);
+        plain = ap (λ (m : FileTree). m.is_plain) all;
       }
 
   -- the names of a tree, where all were kept

@@ -17,6 +17,7 @@ pub mod Referring
 mod Roots
 pub mod Runs
 pub mod SoundTrees
+pub mod Settles
 pub mod Spaces
 pub mod Summing
 mod Texts
@@ -24,3 +25,5 @@ pub mod There
 mod Treading
 pub mod Wholes
 pub mod Aheads
+pub mod Wants
+pub mod Wanting

@@ -141,15 +141,16 @@ module _ (fs : Filesystem) (level : ℕ) (spot : Spot) (old new : WalkSeen) wher
       (walked_block fs (children_marks fs spot.addr (level - 1) spots) old mid new known' edges place h.0 h.1 (walks spot.addr knows_mid))
 
 -- a subtree that is kept was passed
-pub ran_passed : (x : World) (level : ℕ) (spot : Spot) (old new : WalkSeen) (known : Known) (edges : Option Edges) (r : Result (Option Edges) Stop)
+pub ran_passed : {U : Filesystem → Want → Type 0} (x : World)
+    (level : ℕ) (spot : Spot) (old new : WalkSeen) (known : Known) (edges : Option Edges) (r : Result (Option Edges) Stop)
     → IsReady x → IsKept known level spot edges → Passes old edges new r
-    → Ran (λ fs. Walks fs (subtree_marks fs level spot) old new known known r) x x r
-ran_passed x level spot old new known edges (Ok answer) ready kept h =
+    → Ran U (λ fs. Walks fs (subtree_marks fs level spot) old new known known r) x x r
+ran_passed {U} x level spot old new known edges (Ok answer) ready kept h =
     ran_none (λ fs. Walks fs (subtree_marks fs level spot) old new known known (Ok answer)) x answer ready
     (λ B knows. subst (Walked (filesystem x.vol B) (subtree_marks (filesystem x.vol B) level spot) old new known) (sym h.0)
     (walked_passed (filesystem x.vol B) level spot old new known edges kept h.1 knows))
-ran_passed x level spot old new known edges (Err stop) ready kept h =
-    subst (λ s. Ran {A = Option Edges} (λ fs. ⊤) x x (Err s)) (sym h) (ran_memory {C = Option Edges} (λ fs. ⊤) x ready (λ B. tt))
+ran_passed {U} x level spot old new known edges (Err stop) ready kept h =
+    subst (λ s. Ran {A = Option Edges} U (λ fs. ⊤) x x (Err s)) (sym h) (ran_memory {C = Option Edges} (λ fs. ⊤) x ready (λ B. tt))
 
 pub passed_outside : (old new : WalkSeen) (edges : Option Edges) (r : Result (Option Edges) Stop) → Passes old edges new r → StopsOutside r
 passed_outside old new edges (Ok answer) h = tt
@@ -164,11 +165,11 @@ module _ (asked : Bool) (level : ℕ) (spot : Spot) (old new : WalkSeen) (before
   kept_walked fs true false is one = one
   kept_walked fs false sound is one = one
 
-  pub ran_kept : (x y : World) (r : Result (Option Edges) Stop)
-      → Ran (λ fs. Walks fs (subtree_marks fs level spot) old new before known (Ok edges)) x y (Ok edges)
+  pub ran_kept : {W U : Filesystem → Want → Type 0} (x y : World) (r : Result (Option Edges) Stop)
+      → Ran W (λ fs. Walks fs (subtree_marks fs level spot) old new before known (Ok edges)) x y (Ok edges)
       → Keeps asked level spot edges new known after r
-      → Ran (λ fs. Walks fs (subtree_marks fs level spot) old new before after r) x y r
-  ran_kept x y (Ok answer) one h =
+      → Ran U (λ fs. Walks fs (subtree_marks fs level spot) old new before after r) x y r
+  ran_kept {U = U} x y (Ok answer) one h =
       ran_value (λ fs. Walks fs (subtree_marks fs level spot) old new before known (Ok edges))
       (λ fs. Walks fs (subtree_marks fs level spot) old new before after (Ok answer)) x y edges answer one
       (λ B walks knows.
@@ -176,8 +177,8 @@ module _ (asked : Bool) (level : ℕ) (spot : Spot) (old new : WalkSeen) (before
       subst (Walked fs (subtree_marks fs level spot) old new after) (sym h.0)
       (subst (λ k. Walked fs (subtree_marks fs level spot) old new k edges) (sym h.1)
       (kept_walked fs asked (is_nothing (new.broken ++ new.overlapping)) refl (walks knows))))
-  ran_kept x y (Err stop) one h =
-      subst (λ s. Ran {A = Option Edges} (λ fs. ⊤) x y (Err s)) (sym h)
+  ran_kept {U = U} x y (Err stop) one h =
+      subst (λ s. Ran {A = Option Edges} U (λ fs. ⊤) x y (Err s)) (sym h)
       (ran_no_memory {C = Option Edges} (λ fs. Walks fs (subtree_marks fs level spot) old new before known (Ok edges)) (λ fs. ⊤) x y edges one (λ B. tt))
 
 pub kept_outside : (asked : Bool) (level : ℕ) (spot : Spot) (edges : Option Edges) (seen : WalkSeen) (old new : Known) (r : Result (Option Edges) Stop)

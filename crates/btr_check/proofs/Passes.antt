@@ -3,13 +3,14 @@ use Rattle.std.proofs.Common.{◌≡◌, true, List, [], Option, Some, None, fol
 use Rattle.std.specs.Bool.{⊤}
 use Rattle.btr_base.specs.declared.memory.Memory.{Memory}
 use Rattle.btr_check_space.specs.Items.{with_mark, Collects}
+use Rattle.btr_read.specs.declared.want.Want.{Want}
 use Rattle.btr_tour.specs.Tour.{items_met}
 use Rattle.btr_volume.specs.declared.root.TreeRoot.{TreeRoot}
 use Rattle.btr_volume.specs.declared.stop.Stop.{Stop}
 use Rattle.btr_volume.specs.declared.stop.Stop.TheVariants as stops
 use Rattle.btr_walk.specs.Le.{TreeItem}
 use Rattle.btr_walk.specs.Reading.{Map}
-use Rattle.btr_check.proofs.Runs.{ran_none, ran_value, ran_refused}
+use Rattle.btr_check.proofs.Runs.{nothing, ran_none, ran_value, ran_refused}
 use Rattle.btr_check.specs.Counting.{Unless}
 use Rattle.btr_check.specs.Filesystem.{Filesystem}
 use Rattle.btr_check.specs.Passes.{marks_if, or_memory}
@@ -38,25 +39,27 @@ on_done P Q (Ok u) f h = f h
 on_done P Q (Err e) f h = tt
 
 -- behind calls that read, findings were put, or there was no memory
-pub ran_put : {A : Type 0} (P S : Filesystem → Type 0) (T : Filesystem → Type 0) (x y : World) (a : A) (done : Result (Unit {0}) Memory)
-    (r : Result (Unit {0}) Stop) → Ran P x y (Ok a) → r ≡ or_memory done
-    → ((B : Map) → P (filesystem x.vol B) → S (filesystem x.vol B) → OnOk done (T (filesystem x.vol B))) → Ran (λ fs. S fs → Unless (λ u. T fs) r) x y r
-ran_put {A} P S T x y a done r one is f = subst (λ t. Ran (λ fs. S fs → Unless (λ u. T fs) t) x y t) (sym is) (by done f)
+pub ran_put : {A : Type 0} {W U : Filesystem → Want → Type 0} (P S : Filesystem → Type 0) (T : Filesystem → Type 0) (x y : World) (a : A)
+    (done : Result (Unit {0}) Memory) (r : Result (Unit {0}) Stop) → Ran W P x y (Ok a) → r ≡ or_memory done
+    → ((B : Map) → P (filesystem x.vol B) → S (filesystem x.vol B) → OnOk done (T (filesystem x.vol B)))
+    → Ran U (λ fs. S fs → Unless (λ u. T fs) r) x y r
+ran_put {A} {U = U} P S T x y a done r one is f = subst (λ t. Ran U (λ fs. S fs → Unless (λ u. T fs) t) x y t) (sym is) (by done f)
   where
     by : (done : Result (Unit {0}) Memory) → ((B : Map) → P (filesystem x.vol B) → S (filesystem x.vol B) → OnOk done (T (filesystem x.vol B)))
-        → Ran (λ fs. S fs → Unless (λ u. T fs) (or_memory done)) x y (or_memory done)
+        → Ran U (λ fs. S fs → Unless (λ u. T fs) (or_memory done)) x y (or_memory done)
     by (Ok u) f = ran_value {A = A} {C = Unit {0}} P (λ fs. S fs → T fs) x y a tt one f
-    by (Err e) f = ran_refused {A = A} {C = Unit {0}} P (λ fs. S fs → is_outside stops.Memory ≡ true) x y a stops.Memory one tt tt (λ B p s. refl)
+    by (Err e) f = ran_refused {A = A} {C = Unit {0}} P (λ fs. S fs → is_outside stops.Memory ≡ true) x y a stops.Memory one (λ Q. tt) tt (λ B p s. refl)
 
 -- there was no memory before anything was read
-pub ran_memory : {C : Type 0} (S : Filesystem → Type 0) (x : World) → IsReady x → ((B : Map) → S (filesystem x.vol B)) → Ran {A = C} S x x (Err stops.Memory)
+pub ran_memory : {C : Type 0} {U : Filesystem → Want → Type 0} (S : Filesystem → Type 0) (x : World) → IsReady x → ((B : Map) → S (filesystem x.vol B))
+    → Ran {A = C} U S x x (Err stops.Memory)
 ran_memory {C} S x ready f =
-    ran_refused {A = Unit {0}} {C = C} (λ fs. ⊤) S x x tt stops.Memory (ran_none (λ fs. ⊤) x tt ready (λ B. tt)) tt tt (λ B p. f B)
+    ran_refused {A = Unit {0}} {C = C} (λ fs. ⊤) S x x tt stops.Memory (ran_none {W = nothing} (λ fs. ⊤) x tt ready (λ B. tt)) (λ Q. tt) tt (λ B p. f B)
 
 -- there was no memory behind calls that read
-pub ran_no_memory : {A C : Type 0} (P S : Filesystem → Type 0) (x y : World) (a : A) → Ran P x y (Ok a) → ((B : Map) → S (filesystem x.vol B))
-    → Ran {A = C} S x y (Err stops.Memory)
-ran_no_memory {A} {C} P S x y a one f = ran_refused {A = A} {C = C} P S x y a stops.Memory one tt tt (λ B p. f B)
+pub ran_no_memory : {A C : Type 0} {W U : Filesystem → Want → Type 0} (P S : Filesystem → Type 0) (x y : World) (a : A) → Ran W P x y (Ok a)
+    → ((B : Map) → S (filesystem x.vol B)) → Ran {A = C} U S x y (Err stops.Memory)
+ran_no_memory {A} {C} P S x y a one f = ran_refused {A = A} {C = C} P S x y a stops.Memory one (λ Q. tt) tt (λ B p. f B)
 
 -- what holds on success, of two things that hold then
 pub on_both : {E : Type 0} (P Q S : Type 0) (r : Result (Unit {0}) E) → (P → Q → S) → OnOk r P → OnOk r Q → OnOk r S

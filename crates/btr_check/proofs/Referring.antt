@@ -1,16 +1,18 @@
 -- Extents and uses that were read.
-use Rattle.std.proofs.Common.{◌≡◌, ℕ, Bool, true, false, ◌||◌, List, [], ◌++◌, map, flat_map, fold, None, Result, Ok, Err, OnOk, refl, sym, ap, ◌∙◌}
+use Rattle.std.proofs.Common.{◌≡◌, ℕ, Bool, true, false, ◌||◌, List, [], ◌++◌, map, flat_map, fold, None, Result, Ok, Err, OnOk, if◌then◌else◌, refl, sym, ap, ◌∙◌}
 use Rattle.std.proofs.lemmas.List.Folds.{list_any-append}
 use Rattle.btr_findings.proofs.Adding.{adds_as, adds_then, on_ok}
 use Rattle.btr_findings.proofs.Sets.{any-in_order}
-use Rattle.btr_refs.proofs.Used.{refs_all}
+use Rattle.btr_refs.proofs.Used.{refs_all, uses_all}
 use Rattle.btr_base.specs.declared.memory.Memory.{Memory}
 use Rattle.btr_findings.specs.declared.finding.Finding.{Finding}
 use Rattle.btr_findings.specs.Findings.{Adds, has, in_order, is_one_of, is_same, FoundSet}
 use Rattle.btr_findings.specs.declared.extent.Extent.{Extent}
 use Rattle.btr_refs.specs.Differences.{count_findings, total_findings}
-use Rattle.btr_refs.specs.Extents.{Kept, nothing_kept, extents_in, stored_in}
-use Rattle.btr_refs.specs.Forward.{AreUsedBy, Use, Uses, no_uses, with_use, root_use, used_by}
+use Rattle.btr_refs.specs.Extents.{Kept, nothing_kept, extents_in, stored_in, wants_refs}
+use Rattle.btr_refs.specs.declared.wanted.Wanted.{Wanted}
+use Rattle.btr_refs.specs.declared.wanted.Wanted.TheVariants.{All, Extents}
+use Rattle.btr_refs.specs.Forward.{AreUsedBy, Tally, Use, Uses, no_uses, nothing_counted, tally_with, root_use, used_by}
 use Rattle.btr_refs.specs.declared.uses.UsedExtents.{UsedExtents}
 use Rattle.btr_tour.specs.Tour.{Reached, whole, blocks_met}
 use Rattle.btr_volume.specs.declared.root.TreeRoot.{TreeRoot}
@@ -25,22 +27,26 @@ use Rattle.btr_check.specs.Filesystem.{Filesystem}
 use Rattle.btr_check.specs.Passes.{AreAll, AreUsed, Lists}
 use Rattle.btr_check.specs.Running.{is_outside}
 use Rattle.btr_check.specs.Trees.{refers_by_address, uses_of, last_of, first_met, items_if}
-use Rattle.btr_check.specs.Uses.{all_uses, counted_refs, counts_of, difference_findings, extent_findings, found_on_counts, found_on_totals, reference_findings}
+use Rattle.btr_check.specs.Uses.{all_uses, counted_refs, counts_of, difference_findings, extent_findings, found_on_counts, found_on_totals, reference_findings, stored_refs}
 use Rattle.btr_check.specs.Walking.{ArePlaces}
 
 -- where there is no extent tree, nothing is stored
-pub nothing_stored : (fs : Filesystem) (listed_trees : List TreeRoot) (kept : Kept) (size : ℕ) → Lists listed_trees fs → last_of 2 listed_trees ≡ None
-    → kept ≡ nothing_kept size → IsStoredOf fs kept
-nothing_stored fs listed_trees kept size lists none is =
+pub nothing_stored : (fs : Filesystem) (listed_trees : List TreeRoot) (wanted : Wanted) (kept : Kept) (size : ℕ) → Lists listed_trees fs
+    → last_of 2 listed_trees ≡ None → kept ≡ nothing_kept size (wants_refs wanted) → IsStoredOf fs wanted kept
+nothing_stored fs listed_trees wanted kept size lists none is =
     let items : items_if fs.blocks (last_of 2 listed_trees) ≡ words.tree_items fs 2 = ap (λ l. items_if fs.blocks (last_of 2 l)) lists in
     record {
-      refs = ap (λ (k : Kept). k.refs) is ∙ ap (λ t. counts_of (stored_in (items_if fs.blocks t))) (sym none) ∙ ap (λ l. counts_of (stored_in l)) items;
+      refs = ap (λ (k : Kept). k.refs.counts) is ∙ if_wanted wanted (ap (λ t. counts_of (stored_in (items_if fs.blocks t))) (sym none) ∙ ap (λ l. counts_of (stored_in l)) items);
       extents = ap (λ (k : Kept). k.extents) is ∙ ap (λ t. extents_in fs.sup.nodesize (items_if fs.blocks t)) (sym none)
           ∙ ap (extents_in fs.sup.nodesize) items;
     }
+  where
+    if_wanted : (wanted : Wanted) → [] ≡ stored_refs fs → [] ≡ (if wants_refs wanted then stored_refs fs else [])
+    if_wanted All none = none
+    if_wanted (Extents room) none = refl
 
 -- the references alone are kept of it
-pub refs_of : (fs : Filesystem) (stored : Kept) (kept : StoredRefs) → IsStoredOf fs stored → kept.refs.entries ≡ stored.refs → IsFull stored.extents kept.full
+pub refs_of : (fs : Filesystem) (stored : Kept) (kept : StoredRefs) → IsStoredOf fs All stored → kept.refs ≡ stored.refs.counts → IsFull stored.extents kept.full
     → AreRefsOf fs kept
 refs_of fs stored kept is same full = record {
   refs = same ∙ is.refs;
@@ -48,11 +54,11 @@ refs_of fs stored kept is same full = record {
 }
 
 -- what its extents state differs from what it stores by these findings
-pub totals_put : (fs : Filesystem) (stored : Kept) (a b : FoundSet) → IsStoredOf fs stored → Adds (total_findings stored.extents stored.refs) a b
+pub totals_put : (fs : Filesystem) (stored : Kept) (a b : FoundSet) → IsStoredOf fs All stored → Adds (total_findings stored.extents stored.refs.counts) a b
     → Adds (found_on_totals fs) a b
 totals_put fs stored a b is =
-    adds_as (total_findings stored.extents stored.refs) (found_on_totals fs) a b
-    (ap (λ l. total_findings l stored.refs) is.extents ∙ ap (total_findings (words.extents fs)) is.refs)
+    adds_as (total_findings stored.extents stored.refs.counts) (found_on_totals fs) a b
+    (ap (λ l. total_findings l stored.refs.counts) is.extents ∙ ap (total_findings (words.extents fs)) is.refs)
 
 module _ (fs : Filesystem) (all : List TreeRoot) where
   abbrev blocks : List Reached
@@ -63,16 +69,18 @@ module _ (fs : Filesystem) (all : List TreeRoot) where
 
   -- a block could not be read again
   pub uses_stop_here : (places : List RootPlace) (stored : StoredRefs) (stop : Stop) → ArePlaces fs all places → AreRefsOf fs stored
-      → UsesCount fs.blocks all places stored.full (Err stop) → is_outside stop ≡ true
+      → UsesCount fs.blocks (nothing_counted stored.refs) all places stored.full (Err stop) → is_outside stop ≡ true
   uses_stop_here places stored stop are kept counts = counts blocks are blocks_there (words.extents fs) kept.full
 
   -- all uses were counted
-  pub uses_are : (places : List RootPlace) (stored : StoredRefs) (forward : Uses) → AreAll all fs → ArePlaces fs all places → AreRefsOf fs stored
-      → UsesCount fs.blocks all places stored.full (Ok forward) → forward ≡ used_by (all_uses fs)
+  pub uses_are : (places : List RootPlace) (stored : StoredRefs) (forward : Tally) → AreAll all fs → ArePlaces fs all places → AreRefsOf fs stored
+      → UsesCount fs.blocks (nothing_counted stored.refs) all places stored.full (Ok forward)
+      → forward ≡ record { stored = stored.refs; uses = used_by (all_uses fs) }
   uses_are places stored forward all-are are kept counts =
       counts blocks are blocks_there (words.extents fs) kept.full
-      ∙ ap (λ t. fold with_use no_uses (map root_use t ++ flat_map (uses_of (words.extents fs))
+      ∙ ap (λ t. fold tally_with (nothing_counted stored.refs) (map root_use t ++ flat_map (uses_of (words.extents fs))
       (first_met [] (flat_map (λ (tree : TreeRoot). blocks_met (whole fs.blocks tree.place)) t)))) all-are
+      ∙ uses_all (all_uses fs) (nothing_counted stored.refs)
 
 -- the extents alone are kept of uses
 pub used_extents : (uses : List Use) (forward : Uses) (used : UsedExtents) → forward ≡ used_by uses → used.tree_blocks.keys ≡ forward.tree_blocks
@@ -83,11 +91,11 @@ used_extents uses forward used is blocks_are data_are = record {
 }
 
 -- what was counted differs from what is stored by these findings
-pub counts_put : (fs : Filesystem) (forward : Uses) (stored : StoredRefs) (a b : FoundSet) → forward ≡ used_by (all_uses fs) → AreRefsOf fs stored
-    → Adds (count_findings forward.refs stored.refs.entries) a b → Adds (found_on_counts fs) a b
+pub counts_put : (fs : Filesystem) (forward : Tally) (stored : StoredRefs) (a b : FoundSet)
+    → forward ≡ record { stored = stored.refs; uses = used_by (all_uses fs) } → AreRefsOf fs stored → Adds (count_findings forward.uses.refs forward.stored) a b → Adds (found_on_counts fs) a b
 counts_put fs forward stored a b is kept =
-    adds_as (count_findings forward.refs stored.refs.entries) (found_on_counts fs) a b
-    (ap (λ refs. count_findings refs stored.refs.entries) (ap (λ (u : Uses). u.refs) is ∙ refs_all (all_uses fs) no_uses)
+    adds_as (count_findings forward.uses.refs forward.stored) (found_on_counts fs) a b
+    (ap (λ (t : Tally). count_findings t.uses.refs t.stored) is ∙ ap (λ refs. count_findings refs stored.refs) (refs_all (all_uses fs) no_uses)
     ∙ ap (count_findings (counted_refs fs)) kept.refs)
 
 or_assoc : (a b c : Bool) → (a || (b || c)) ≡ ((a || b) || c)

@@ -1,24 +1,27 @@
 -- Calls that read a volume, one after another.
 use Rattle.std.proofs.Common.{◌≡◌, None, true, Result, Ok, Err, refl, ap, ◌∙◌, subst}
+use Rattle.std.specs.Bool.{⊤}
 use Rattle.btr_rack.specs.Rack.{Seen, OnlyReads}
 use Rattle.btr_rack.proofs.Reading.{reads_none, reads_more}
 use Rattle.btr_read.specs.Layout.{Layout}
+use Rattle.btr_read.specs.declared.want.Want.{Want}
 use Rattle.btr_tour.specs.Steps.{reason}
 use Rattle.btr_volume.specs.Looking.{SameVolume}
 use Rattle.btr_volume.specs.declared.stop.Stop.{Stop}
 use Rattle.btr_volume.specs.declared.stop.Stop.TheVariants.{NoTree, Tree, Deletion, Balance, Missing, Image, Sink, Out, Memory as NoMemory}
 use Rattle.btr_volume.specs.declared.volume.Volume.{Volume}
-use Rattle.btr_walk.proofs.Fetched.{cause_since}
+use Rattle.btr_walk.proofs.Fetched.{since}
 use Rattle.btr_walk.proofs.Joined.{joined, drawn, unread_on}
 use Rattle.btr_walk.proofs.Lending.{same_none, same_then}
-use Rattle.btr_walk.specs.Reading.{Map}
+use Rattle.btr_walk.specs.Reading.{FaultCause, Map, Tells, UnreadBlock}
 use Rattle.btr_walk.specs.declared.fault.TreeFault.{TreeFault}
 use Rattle.btr_walk.specs.declared.fault.TreeFault.TheVariants.{Lost, Unread, Unmapped, Crosses, Malformed}
 use Rattle.btr_check.specs.Before.{OfList, fault_stop}
 use Rattle.btr_check.specs.declared.block_fault.BlockFault.{BlockFault}
 use Rattle.btr_check.specs.declared.block_fault.BlockFault.TheVariants as block
 use Rattle.btr_check.specs.Filesystem.{Filesystem}
-use Rattle.btr_check.specs.Running.{World, IsReady, filesystem, FaultUnread, StopUnread, UnreadCause, OfReading, StopsReading, Ran, is_unread}
+use Rattle.btr_check.specs.Running.{World, IsReady, filesystem, FaultUnread, StopUnread, IfUnread, IsUnreadOf, IsAnyUnread, OfReading, StopsReading, Ran}
+use Rattle.btr_check.specs.Running.{is_unread}
 
 -- a volume is as it was
 pub volume_none : (vol : Volume) → SameVolume vol vol
@@ -30,34 +33,53 @@ volume_then one two = record { sup = two.sup ∙ one.sup; store = same_then one.
 same_filesystem : (a b : Volume) (B : Map) → SameVolume a b → filesystem b B ≡ filesystem a B
 same_filesystem a b B same = λ i. record { sup = same.sup i; chunks = ap (λ (layout : Layout). layout.chunks) same.store.layout i; blocks = B }
 
--- causes of a later call
-fault_since : {a b : Seen} (c : Seen) (layout layout' : Layout) (f : TreeFault) → layout' ≡ layout → OnlyReads a b → FaultUnread layout' b c f
-    → FaultUnread layout a c f
-fault_since c layout layout' (Lost addr) e earlier h = tt
-fault_since c layout layout' (Unread addr slot) e earlier h = cause_since c layout layout' (Unread addr slot) e earlier h
-fault_since c layout layout' (Unmapped addr) e earlier h = tt
-fault_since c layout layout' (Crosses addr) e earlier h = tt
-fault_since c layout layout' (Malformed addr) e earlier h = tt
+-- more may be said of a block that could not be read
+pub fault_more : (P Q : UnreadBlock → Type 0) → ((u : UnreadBlock) → P u → Q u) → (f : TreeFault) → FaultUnread P f → FaultUnread Q f
+fault_more P Q more (Lost addr) h = tt
+fault_more P Q more (Unread addr slot) h = more (record { addr = addr; slot = slot }) h
+fault_more P Q more (Unmapped addr) h = tt
+fault_more P Q more (Crosses addr) h = tt
+fault_more P Q more (Malformed addr) h = tt
 
-stop_since : {a b : Seen} (c : Seen) (layout layout' : Layout) (stop : Stop) → layout' ≡ layout → OnlyReads a b → StopUnread layout' b c stop
-    → StopUnread layout a c stop
-stop_since c layout layout' (NoTree id) e earlier h = tt
-stop_since c layout layout' (Tree f) e earlier h = fault_since c layout layout' f e earlier h
-stop_since c layout layout' (Deletion id) e earlier h = tt
-stop_since c layout layout' Balance e earlier h = tt
-stop_since c layout layout' (Missing id) e earlier h = tt
-stop_since c layout layout' (Image slot) e earlier h = tt
-stop_since c layout layout' Sink e earlier h = tt
-stop_since c layout layout' Out e earlier h = tt
-stop_since c layout layout' NoMemory e earlier h = tt
+pub stop_more : (P Q : UnreadBlock → Type 0) → ((u : UnreadBlock) → P u → Q u) → (stop : Stop) → StopUnread P stop → StopUnread Q stop
+stop_more P Q more (NoTree id) h = tt
+stop_more P Q more (Tree f) h = fault_more P Q more f h
+stop_more P Q more (Deletion id) h = tt
+stop_more P Q more Balance h = tt
+stop_more P Q more (Missing id) h = tt
+stop_more P Q more (Image slot) h = tt
+stop_more P Q more Sink h = tt
+stop_more P Q more Out h = tt
+stop_more P Q more NoMemory h = tt
 
-unread_since : {A : Type 0} {a b : Seen} (c : Seen) (layout layout' : Layout) (r : Result A Stop) → layout' ≡ layout → OnlyReads a b → UnreadCause layout' b c r
-    → UnreadCause layout a c r
-unread_since c layout layout' (Ok a) e earlier h = tt
-unread_since c layout layout' (Err stop) e earlier h = stop_since c layout layout' stop e earlier h
+pub unread_more : {A : Type 0} (P Q : UnreadBlock → Type 0) → ((u : UnreadBlock) → P u → Q u) → (r : Result A Stop) → IfUnread P r → IfUnread Q r
+unread_more P Q more (Ok a) h = tt
+unread_more P Q more (Err stop) h = stop_more P Q more stop h
+
+-- the want of a later call that could not be read
+unread_since : {a b : Seen} (c : Seen) (layout layout' : Layout) → layout' ≡ layout → OnlyReads a b → (V U : Want → Type 0)
+    → ((want : Want) → V want → U want) → (u : UnreadBlock) → IsUnreadOf layout' b c V u → IsUnreadOf layout a c U u
+unread_since c layout layout' e earlier V U more u h = (h.0, more h.0 h.1, since layout layout' e earlier u h.0 h.2)
+
+-- a fault of a tree that has its cause
+pub cause_unread : (layout : Layout) (old new : Seen) (f : TreeFault) → FaultCause layout old new f → FaultUnread (IsAnyUnread layout old new) f
+cause_unread layout old new (Lost addr) h = tt
+cause_unread layout old new (Unread addr slot) h = (h.0, tt, h.1)
+cause_unread layout old new (Unmapped addr) h = tt
+cause_unread layout old new (Crosses addr) h = tt
+cause_unread layout old new (Malformed addr) h = tt
+
+-- nothing may be said, where something is told
+pub less_told : {layout : Layout} {a b : Seen} {P : Map → Type 0} → Tells layout a b P → Tells layout a b (λ B. ⊤)
+less_told {layout} {P = P} one = drawn layout P (λ B. ⊤) (λ B h. tt) one
+
+-- nothing is wanted
+abbrev pub nothing : Filesystem → Want → Type 0
+nothing fs want = ⊥
 
 -- nothing was read
-pub ran_none : {A : Type 0} (P : Filesystem → Type 0) (x : World) (a : A) → IsReady x → ((B : Map) → P (filesystem x.vol B)) → Ran P x x (Ok a)
+pub ran_none : {A : Type 0} {W : Filesystem → Want → Type 0} (P : Filesystem → Type 0) (x : World) (a : A) → IsReady x
+    → ((B : Map) → P (filesystem x.vol B)) → Ran W P x x (Ok a)
 ran_none P x a ready h = record {
   reads = reads_none x.rack;
   volume = volume_none x.vol;
@@ -65,51 +87,89 @@ ran_none P x a ready h = record {
   cause = tt;
   quiet = tt;
   told = unread_on x.vol.store.layout (λ B. P (filesystem x.vol B)) h;
+  named = unread_on x.vol.store.layout (λ B. ⊤) (λ B. tt);
 }
 
 -- one call behind another
-pub ran_then : {A C : Type 0} (P Q S : Filesystem → Type 0) (x y z : World) (a : A) (r : Result C Stop) → Ran P x y (Ok a) → Ran Q y z r
-    → ((B : Map) → P (filesystem x.vol B) → Q (filesystem x.vol B) → S (filesystem x.vol B)) → Ran S x z r
-ran_then P Q S x y z a r one two f = record {
-  reads = reads_more one.reads two.reads;
-  volume = volume_then one.volume two.volume;
-  ready = two.ready;
-  cause = unread_since z.rack x.vol.store.layout y.vol.store.layout r one.volume.store.layout one.reads two.cause;
-  quiet = two.quiet;
-  told = joined (λ B. P (filesystem x.vol B)) (λ B. Q (filesystem y.vol B)) (λ B. S (filesystem x.vol B)) one.volume.store.layout
-      (λ B p q. f B p (subst Q (same_filesystem x.vol y.vol B one.volume) q)) one.told two.told;
-}
+pub ran_then : {A C : Type 0} {W V U : Filesystem → Want → Type 0} (P Q S : Filesystem → Type 0) (x y z : World) (a : A) (r : Result C Stop)
+    → Ran W P x y (Ok a) → Ran V Q y z r
+    → ((B : Map) → P (filesystem x.vol B) → Q (filesystem x.vol B) → S (filesystem x.vol B))
+    → ((B : Map) → P (filesystem x.vol B) → (want : Want) → V (filesystem x.vol B) want → U (filesystem x.vol B) want) → Ran U S x z r
+ran_then {W = W} {V = V} {U = U} P Q S x y z a r one two f g =
+    let same = one.volume.store.layout in
+    let layout = x.vol.store.layout in
+    let layout' = y.vol.store.layout in
+    record {
+      reads = reads_more one.reads two.reads;
+      volume = volume_then one.volume two.volume;
+      ready = two.ready;
+      cause = unread_more (IsAnyUnread layout' y.rack z.rack) (IsAnyUnread layout x.rack z.rack)
+          (unread_since z.rack layout layout' same one.reads (λ want. ⊤) (λ want. ⊤) (λ want any. any)) r two.cause;
+      quiet = two.quiet;
+      told = joined (λ B. P (filesystem x.vol B)) (λ B. Q (filesystem y.vol B)) (λ B. S (filesystem x.vol B)) same
+          (λ B p q. f B p (subst Q (same_filesystem x.vol y.vol B one.volume) q)) one.told two.told;
+      named = joined (λ B. P (filesystem x.vol B)) (λ B. IfUnread (IsUnreadOf layout' y.rack z.rack (V (filesystem y.vol B))) r)
+          (λ B. IfUnread (IsUnreadOf layout x.rack z.rack (U (filesystem x.vol B))) r) same
+          (λ B p q. unread_more (IsUnreadOf layout' y.rack z.rack (V (filesystem y.vol B))) (IsUnreadOf layout x.rack z.rack (U (filesystem x.vol B)))
+          (unread_since z.rack layout layout' same one.reads (V (filesystem y.vol B)) (U (filesystem x.vol B))
+          (λ want v. g B p want (subst (λ fs. V fs want) (same_filesystem x.vol y.vol B one.volume) v))) r q) one.told two.named;
+    }
 
 -- the same call with an answer of the same cause
-pub ran_as : {A C : Type 0} (P S : Filesystem → Type 0) (x y : World) (r : Result A Stop) (t : Result C Stop) → Ran P x y r
-    → (UnreadCause x.vol.store.layout x.rack y.rack r → UnreadCause x.vol.store.layout x.rack y.rack t) → (StopsReading r → StopsReading t)
-    → ((B : Map) → P (filesystem x.vol B) → S (filesystem x.vol B)) → Ran S x y t
-ran_as P S x y r t one cause quiet f = record {
+ran_as : {A C : Type 0} {W U : Filesystem → Want → Type 0} (P S : Filesystem → Type 0) (x y : World) (r : Result A Stop) (t : Result C Stop) → Ran W P x y r
+    → (IfUnread (IsAnyUnread x.vol.store.layout x.rack y.rack) r → IfUnread (IsAnyUnread x.vol.store.layout x.rack y.rack) t)
+    → (StopsReading r → StopsReading t) → ((B : Map) → P (filesystem x.vol B) → S (filesystem x.vol B))
+    → ((B : Map) → IfUnread (IsUnreadOf x.vol.store.layout x.rack y.rack (W (filesystem x.vol B))) r
+    → IfUnread (IsUnreadOf x.vol.store.layout x.rack y.rack (U (filesystem x.vol B))) t) → Ran U S x y t
+ran_as {W = W} {U = U} P S x y r t one cause quiet f g = record {
   reads = one.reads;
   volume = one.volume;
   ready = one.ready;
   cause = cause one.cause;
   quiet = quiet one.quiet;
   told = drawn x.vol.store.layout (λ B. P (filesystem x.vol B)) (λ B. S (filesystem x.vol B)) f one.told;
+  named = drawn x.vol.store.layout (λ B. IfUnread (IsUnreadOf x.vol.store.layout x.rack y.rack (W (filesystem x.vol B))) r)
+      (λ B. IfUnread (IsUnreadOf x.vol.store.layout x.rack y.rack (U (filesystem x.vol B))) t) g one.named;
 }
 
+-- more may be said of it, also of what it wants
+pub ran_within : {A : Type 0} {W U : Filesystem → Want → Type 0} (P S : Filesystem → Type 0) (x y : World) (r : Result A Stop) → Ran W P x y r
+    → ((B : Map) → P (filesystem x.vol B) → S (filesystem x.vol B))
+    → ((B : Map) (want : Want) → W (filesystem x.vol B) want → U (filesystem x.vol B) want) → Ran U S x y r
+ran_within {W = W} {U = U} P S x y r one f g = ran_as P S x y r r one (λ c. c) (λ q. q) f
+    (λ B. unread_more (IsUnreadOf x.vol.store.layout x.rack y.rack (W (filesystem x.vol B)))
+    (IsUnreadOf x.vol.store.layout x.rack y.rack (U (filesystem x.vol B))) (λ u h. (h.0, g B h.0 h.1, h.2)) r)
+
 -- more may be said of it
-pub ran_more : {A : Type 0} (P S : Filesystem → Type 0) (x y : World) (r : Result A Stop) → Ran P x y r
-    → ((B : Map) → P (filesystem x.vol B) → S (filesystem x.vol B)) → Ran S x y r
-ran_more P S x y r one f = ran_as P S x y r r one (λ c. c) (λ q. q) f
+pub ran_more : {A : Type 0} {W : Filesystem → Want → Type 0} (P S : Filesystem → Type 0) (x y : World) (r : Result A Stop) → Ran W P x y r
+    → ((B : Map) → P (filesystem x.vol B) → S (filesystem x.vol B)) → Ran W S x y r
+ran_more P S x y r one f = ran_as P S x y r r one (λ c. c) (λ q. q) f (λ B h. h)
 
 -- another value was made of it
-pub ran_value : {A C : Type 0} (P S : Filesystem → Type 0) (x y : World) (a : A) (c : C) → Ran P x y (Ok a)
-    → ((B : Map) → P (filesystem x.vol B) → S (filesystem x.vol B)) → Ran S x y (Ok c)
-ran_value P S x y a c one f = ran_as P S x y (Ok a) (Ok c) one (λ h. tt) (λ h. tt) f
+pub ran_value : {A C : Type 0} {W U : Filesystem → Want → Type 0} (P S : Filesystem → Type 0) (x y : World) (a : A) (c : C) → Ran W P x y (Ok a)
+    → ((B : Map) → P (filesystem x.vol B) → S (filesystem x.vol B)) → Ran U S x y (Ok c)
+ran_value P S x y a c one f = ran_as P S x y (Ok a) (Ok c) one (λ h. tt) (λ h. tt) f (λ B h. tt)
+
+-- one call behind another, where both answered
+pub ran_both : {A C : Type 0} {W V U : Filesystem → Want → Type 0} (P Q S : Filesystem → Type 0) (x y z : World) (a : A) (c : C) → Ran W P x y (Ok a)
+    → Ran V Q y z (Ok c) → ((B : Map) → P (filesystem x.vol B) → Q (filesystem x.vol B) → S (filesystem x.vol B)) → Ran U S x z (Ok c)
+ran_both {V = V} P Q S x y z a c one two f = ran_value S S x z c c (ran_then {U = V} P Q S x y z a (Ok c) one two f (λ B p want v. v)) (λ B s. s)
 
 -- its stop is the answer
-pub ran_stop : {A C : Type 0} (P S : Filesystem → Type 0) (x y : World) (stop : Stop) → Ran {A = A} P x y (Err stop)
-    → ((B : Map) → P (filesystem x.vol B) → S (filesystem x.vol B)) → Ran {A = C} S x y (Err stop)
+pub ran_stop : {A C : Type 0} {W : Filesystem → Want → Type 0} (P S : Filesystem → Type 0) (x y : World) (stop : Stop) → Ran {A = A} W P x y (Err stop)
+    → ((B : Map) → P (filesystem x.vol B) → S (filesystem x.vol B)) → Ran {A = C} W S x y (Err stop)
 ran_stop {A} {C} P S x y stop one f =
     let r : Result A Stop = Err stop in
     let t : Result C Stop = Err stop in
-    ran_as P S x y r t one (λ h. h) (λ h. h) f
+    ran_as P S x y r t one (λ h. h) (λ h. h) f (λ B h. h)
+
+-- the same, where more is wanted
+pub ran_stop_within : {A C : Type 0} {W U : Filesystem → Want → Type 0} (P S : Filesystem → Type 0) (x y : World) (stop : Stop)
+    → Ran {A = A} W P x y (Err stop) → ((B : Map) → P (filesystem x.vol B) → S (filesystem x.vol B))
+    → ((B : Map) (want : Want) → W (filesystem x.vol B) want → U (filesystem x.vol B) want) → Ran {A = C} U S x y (Err stop)
+ran_stop_within {A} {C} P S x y stop one f g =
+    let r : Result A Stop = Err stop in
+    ran_stop S S x y stop (ran_within P S x y r one f g) (λ B s. s)
 
 -- a block that could not be read
 pub unread_is : (f : TreeFault) → reason f ≡ None → is_unread f ≡ true
@@ -120,16 +180,16 @@ unread_is (Crosses addr) e = cc
 unread_is (Malformed addr) e = cc
 
 -- a stop that says what is wrong with the filesystem
-pub listed_unread : (layout : Layout) (old new : Seen) (stop : Stop) → OfList stop → StopUnread layout old new stop
-listed_unread layout old new (NoTree id) h = tt
-listed_unread layout old new (Tree f) h = absurd h
-listed_unread layout old new (Deletion id) h = tt
-listed_unread layout old new Balance h = tt
-listed_unread layout old new (Missing id) h = tt
-listed_unread layout old new (Image slot) h = tt
-listed_unread layout old new Sink h = tt
-listed_unread layout old new Out h = tt
-listed_unread layout old new NoMemory h = tt
+pub listed_unread : (P : UnreadBlock → Type 0) (stop : Stop) → OfList stop → StopUnread P stop
+listed_unread P (NoTree id) h = tt
+listed_unread P (Tree f) h = absurd h
+listed_unread P (Deletion id) h = tt
+listed_unread P Balance h = tt
+listed_unread P (Missing id) h = tt
+listed_unread P (Image slot) h = tt
+listed_unread P Sink h = tt
+listed_unread P Out h = tt
+listed_unread P NoMemory h = tt
 
 pub listed_quiet : (stop : Stop) → OfList stop → OfReading stop
 listed_quiet (NoTree id) h = tt
@@ -142,11 +202,11 @@ listed_quiet Sink h = absurd h
 listed_quiet Out h = absurd h
 listed_quiet NoMemory h = tt
 
-pub fault_unread : (layout : Layout) (old new : Seen) (fault : BlockFault) → StopUnread layout old new (fault_stop fault)
-fault_unread layout old new (block.Lost addr) = tt
-fault_unread layout old new (block.Malformed addr) = tt
-fault_unread layout old new (block.Unmapped addr) = tt
-fault_unread layout old new (block.Crosses addr) = tt
+pub fault_unread : (P : UnreadBlock → Type 0) (fault : BlockFault) → StopUnread P (fault_stop fault)
+fault_unread P (block.Lost addr) = tt
+fault_unread P (block.Malformed addr) = tt
+fault_unread P (block.Unmapped addr) = tt
+fault_unread P (block.Crosses addr) = tt
 
 pub fault_quiet : (fault : BlockFault) → OfReading (fault_stop fault)
 fault_quiet (block.Lost addr) = tt
@@ -155,9 +215,10 @@ fault_quiet (block.Unmapped addr) = tt
 fault_quiet (block.Crosses addr) = tt
 
 -- what was read refuses the filesystem
-pub ran_refused : {A C : Type 0} (P S : Filesystem → Type 0) (x y : World) (a : A) (stop : Stop) → Ran P x y (Ok a)
-    → StopUnread x.vol.store.layout x.rack y.rack stop → OfReading stop → ((B : Map) → P (filesystem x.vol B) → S (filesystem x.vol B))
-    → Ran {A = C} S x y (Err stop)
-ran_refused {A} {C} P S x y a stop one cause quiet f =
+pub ran_refused : {A C : Type 0} {W U : Filesystem → Want → Type 0} (P S : Filesystem → Type 0) (x y : World) (a : A) (stop : Stop) → Ran W P x y (Ok a)
+    → ((Q : UnreadBlock → Type 0) → StopUnread Q stop) → OfReading stop → ((B : Map) → P (filesystem x.vol B) → S (filesystem x.vol B))
+    → Ran {A = C} U S x y (Err stop)
+ran_refused {A} {C} {U = U} P S x y a stop one bare quiet f =
     let t : Result C Stop = Err stop in
-    ran_as P S x y (Ok a) t one (λ h. cause) (λ h. quiet) f
+    ran_as P S x y (Ok a) t one (λ h. bare (IsAnyUnread x.vol.store.layout x.rack y.rack)) (λ h. quiet) f
+    (λ B h. bare (IsUnreadOf x.vol.store.layout x.rack y.rack (U (filesystem x.vol B))))

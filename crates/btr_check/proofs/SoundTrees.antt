@@ -121,7 +121,7 @@ module _ (chunks : List Chunk) (runs : List SumRun) (ta tb : ℕ) where
       (λ sector. found kind.SumMissing (ta ∷ range.inode ∷ shown_sum sector ∷ []))
       (λ sector. found kind.SumMissing (tb ∷ range.inode ∷ shown_sum sector ∷ [])) (used_sectors chunks range) h
 
-  missing_same : (loose : List ℕ) (used : List UsedRange) → tree_missing chunks runs ta loose used ≡ [] → tree_missing chunks runs tb loose used ≡ []
+  pub missing_same : (loose : List ℕ) (used : List UsedRange) → tree_missing chunks runs ta loose used ≡ [] → tree_missing chunks runs tb loose used ≡ []
   missing_same loose [] h = refl
   missing_same loose (range ∷ used) h =
       let two = both_none (range_missing chunks runs ta loose range) (tree_missing chunks runs ta loose used) h in
@@ -175,7 +175,7 @@ module _ (fs : Filesystem) where
       }
 
   -- a sound tree was treated, where its names of subvolumes were kept
-  treats_sound : (tree : TreeRoot) (names : Unpaired) (set : FoundSet) (old new : Subvolumes) → IsSound fs tree names
+  pub treats_sound : (tree : TreeRoot) (names : Unpaired) (set : FoundSet) (old new : Subvolumes) → IsSound fs tree names
       → new ≡ subvolumes_at old tree.id names.subvolumes → Treats fs.blocks fs.chunks (sum_runs fs) (tree ∷ []) set set old new
   treats_sound tree names set old new is at = record {
     found = adds_as [] (file_tree_findings fs.blocks fs.chunks (sum_runs fs) tree ++ []) set set (sym (ap (λ l. l ++ []) is.nothing)) (adds_none set);
@@ -202,16 +202,26 @@ module _ (fs : Filesystem) where
   -- a tree that was visited is sound where its names are paired and nothing is missing of its checksums
   pub kept_met : (rooted : RootedTree) (met : FileTree) (chunks : List Chunk) → IsMetOf fs.blocks rooted.tree met → chunks ≡ fs.chunks
       → are_paired met.names ≡ true → AreBelow fs rooted.tree rooted.children.items
-      → tree_missing chunks (sum_runs fs) rooted.tree.id met.uses.loose met.uses.used ≡ [] → IsKeptOf fs (record { rooted = rooted; names = met.names })
+      → tree_missing chunks (sum_runs fs) rooted.tree.id met.uses.loose met.uses.used ≡ []
+      → IsKeptOf fs (record { rooted = rooted; names = met.names; is_plain = met.is_plain })
   kept_met rooted met chunks is same paired below none =
       let runs = sum_runs fs in
       let missing : missing_findings fs.blocks fs.chunks runs rooted.tree ≡ [] =
       sym (λ i. tree_missing (same i) runs rooted.tree.id (is.uses i).loose (is.uses i).used) ∙ none in
-      record { sound = record { nothing = λ i. missing i ++ is.sound paired i; entries = is.subvolumes }; below = below }
+      record {
+        sound = record { nothing = λ i. missing i ++ is.sound paired i; entries = is.subvolumes };
+        settled = is.settled paired;
+        below = below;
+        plain = λ yes. sym is.plain ∙ yes;
+      }
 
   pub kept_after : (xs : List SoundTree) (one : SoundTree) → AreKept fs xs → IsKeptOf fs one → AreKept fs (xs ++ one ∷ [])
   kept_after [] one all is = (is, tt)
   kept_after (x ∷ xs) one all is = (all.0, kept_after xs one all.1 is)
+
+  pub kept_before : (xs : List SoundTree) (one : SoundTree) → AreKept fs (xs ++ one ∷ []) → AreKept fs xs × IsKeptOf fs one
+  kept_before [] one all = (tt, all.0)
+  kept_before (x ∷ xs) one all = let more = kept_before xs one all.1 in ((all.0, more.0), more.1)
 
   pub kept_behind : (xs : List SoundTree) → AreKept fs xs → AreKept fs (drop 1 xs)
   kept_behind [] all = tt

@@ -24,7 +24,7 @@ only_walk (finding ∷ found) rules is = refl
 
 module _ (fs : Filesystem) (listed_trees all : List TreeRoot) (lists : Lists listed_trees fs)
     (are : all ≡ chunk_tree fs.sup ∷ root_tree fs.sup ∷ listed_trees) where
-  all_are : all ≡ trees fs.sup fs.blocks
+  pub all_are : all ≡ trees fs.sup fs.blocks
   all_are = are ∙ ap (λ l. chunk_tree fs.sup ∷ root_tree fs.sup ∷ l) lists
 
   walk_is : (walk : WalkSeen) → IsWalkOf fs all walk → walk.broken ++ walk.overlapping ≡ walk_findings fs

@@ -5,7 +5,7 @@ use Rattle.std.specs.List.{AllByRecursion}
 use Rattle.std.specs.Ordering.{nat_cmp}
 use Rattle.btr_read.specs.declared.want.Want.TheVariants.{Tree}
 use Rattle.btr_findings.specs.declared.extent.Extent.{Extent}
-use Rattle.btr_refs.specs.Forward.{Uses, no_uses, with_use, root_use, block_uses}
+use Rattle.btr_refs.specs.Forward.{Tally, tally_with, root_use, block_uses}
 use Rattle.btr_tour.specs.Tour.{Reached}
 use Rattle.btr_volume.specs.declared.root.TreeRoot.{TreeRoot}
 use Rattle.btr_volume.specs.declared.stop.Stop.{Stop}
@@ -29,9 +29,9 @@ Unless P (Err stop) = is_outside stop ≡ true
 
 module _ (B : Map) where
   -- where the block is there, its uses are counted
-  abbrev pub BlockCounts : RootPlace → Bool → Uses → Uses → Result (Unit {0}) Stop → Type 0
+  abbrev pub BlockCounts : RootPlace → Bool → Tally → Tally → Result (Unit {0}) Stop → Type 0
   BlockCounts place by_address old new result =
-      (block : List ℕ) → IsBlock B place block → Unless (λ u. new ≡ fold with_use old (block_uses by_address place.addr place.level block)) result
+      (block : List ℕ) → IsBlock B place block → Unless (λ u. new ≡ fold tally_with old (block_uses by_address place.addr place.level block)) result
 
   -- blocks that were met are there
   abbrev pub AreThere : List Reached → Type 0
@@ -42,20 +42,20 @@ module _ (B : Map) where
   places_of blocks = map (λ (one : Reached). one.place) blocks
 
   -- what the first of some blocks use is counted
-  abbrev pub CountedTo : ℕ → List RootPlace → BTreeSet ℕ → Uses → Uses → Type 0
+  abbrev pub CountedTo : ℕ → List RootPlace → BTreeSet ℕ → Tally → Tally → Type 0
   CountedTo i places full old new =
       (blocks : List Reached) → places ≡ places_of blocks → AreThere blocks
-      → (extents : List Extent) → IsFull extents full → new ≡ fold with_use old (flat_map (uses_of extents) (take i blocks))
+      → (extents : List Extent) → IsFull extents full → new ≡ fold tally_with old (flat_map (uses_of extents) (take i blocks))
 
   -- what all of them use is counted
-  abbrev pub BlocksCount : List RootPlace → BTreeSet ℕ → Uses → Uses → Result (Unit {0}) Stop → Type 0
+  abbrev pub BlocksCount : List RootPlace → BTreeSet ℕ → Tally → Tally → Result (Unit {0}) Stop → Type 0
   BlocksCount places full old new result =
       (blocks : List Reached) → places ≡ places_of blocks → AreThere blocks
-      → (extents : List Extent) → IsFull extents full → Unless (λ u. new ≡ fold with_use old (flat_map (uses_of extents) blocks)) result
+      → (extents : List Extent) → IsFull extents full → Unless (λ u. new ≡ fold tally_with old (flat_map (uses_of extents) blocks)) result
 
   -- what the roots of some trees and all blocks at these places use is counted, or the count stopped
-  abbrev pub UsesCount : List TreeRoot → List RootPlace → BTreeSet ℕ → Result Uses Stop → Type 0
-  UsesCount trees places full result =
+  abbrev pub UsesCount : Tally → List TreeRoot → List RootPlace → BTreeSet ℕ → Result Tally Stop → Type 0
+  UsesCount begun trees places full result =
       (blocks : List Reached) → places ≡ places_of blocks → AreThere blocks
       → (extents : List Extent) → IsFull extents full → Unless
-      (λ forward. forward ≡ fold with_use no_uses (map root_use trees ++ flat_map (uses_of extents) blocks)) result
+      (λ forward. forward ≡ fold tally_with begun (map root_use trees ++ flat_map (uses_of extents) blocks)) result

@@ -1,6 +1,8 @@
 -- Data that has a checksum is readable.
-use Rattle.std.specs.Prelude.{◌≡◌, ℕ, Bool, false, List, [], ◌∷◌, filter_map, is_ok, Option, Some, None}
+use Rattle.std.specs.Prelude.{◌≡◌, ℕ, Bool, false, List, [], ◌∷◌, filter_map, is_ok}
+use Rattle.std.specs.Prelude.{Option, Some, None, Ok}
 use Rattle.btr_base.specs.declared.kind.SumKind.{SumKind}
+use Rattle.btr_base.specs.declared.stored.Sum.{Sum}
 use Rattle.btr_items.specs.declared.sum_run.SumRun.{SumRun}
 use Rattle.btr_prog.specs.Prog.{Return, Need, bind, exec}
 use Rattle.btr_read.specs.declared.want.Want.{Want}
@@ -44,10 +46,13 @@ module _ (fs : Filesystem) where
   abbrev pub data_findings : List Finding
   data_findings = filter_map (data_lost (tree_of fs.sup fs.blocks 7)) (summed sum_runs)
 
-  -- a sector is readable exactly where this want comes to bytes; it isn't, where there is none
+  -- a sector is wanted so, by what the look-up of its checksum comes to; it isn't readable, where
+  -- there is no such want
   abbrev pub ReadsBy : Option TreeRoot → ℕ → Option Want → Type 0
   ReadsBy sums sector None = is_readable sums sector ≡ false
-  ReadsBy sums sector (Some want) = is_readable sums sector ≡ is_ok (fs.blocks want)
+  ReadsBy sums sector (Some want) =
+      (sum : Option Sum) × ((exec fs.blocks (sum_at (kind_of_sums fs) sums sector)).ending ≡ Ok sum)
+      × (want ≡ want_by sector sum)
 
   -- where the checksums that were kept are what look-ups give, those that are kept now are so too, and this holds
   abbrev pub KeepsSums : Option TreeRoot → SumsAhead → SumsAhead → Type 0 → Type 0

@@ -1,20 +1,22 @@
 -- What is met of trees of files.
-use Rattle.std.specs.Prelude.{◌≡◌, ℕ, Bool, true, false, List, [], ◌++◌, map, filter_map, flat_map, Result, IfOk}
+use Rattle.std.specs.Prelude.{◌≡◌, ℕ, Bool, true, false, ◌&&◌, List, [], ◌++◌, map, filter_map, flat_map, Result, IfOk}
 use Rattle.btr_base.specs.declared.memory.Memory.{Memory}
 use Rattle.btr_chunk.specs.declared.chunk.Chunk.{Chunk}
 use Rattle.btr_items.specs.declared.sum_run.SumRun.{SumRun}
+use Rattle.btr_check_differences.specs.Law.{is_plain}
 use Rattle.btr_check_names.specs.Entry.{Entry}
 use Rattle.btr_check_names.specs.Names.{Names, names_in, names_findings}
 use Rattle.btr_check_names.specs.Subvolume.{NamedSubvolume}
 use Rattle.btr_check_names.specs.Subvolumes.{Subvolumes, names_at, subvolumes_at}
-use Rattle.btr_check_names.specs.Unpaired.{nothing_unpaired, unpaired_step}
+use Rattle.btr_check_names.specs.Unpaired.{are_paired, are_whole, nothing_unpaired, unpaired_step}
+use Rattle.btr_check_names.specs.declared.unpaired.Unpaired.{Unpaired}
 use Rattle.btr_findings.specs.declared.finding.Finding.{Finding}
 use Rattle.btr_findings.specs.Findings.{Adds, FoundSet}
 use Rattle.btr_check_space.specs.Cover.{HoldSame}
 use Rattle.btr_check_space.specs.declared.cover.Stretch.{Stretch}
 use Rattle.btr_check_sums.specs.Items.{UsesMet, uses_step, loose_in, used_in}
 use Rattle.btr_check_sums.specs.Sums.{run_stretch, tree_missing}
-use Rattle.btr_tour.specs.Tour.{Mark}
+use Rattle.btr_tour.specs.Tour.{Mark, Block, Child, Item, Left}
 use Rattle.btr_volume.specs.declared.root.TreeRoot.{TreeRoot}
 use Rattle.btr_walk.specs.Reading.{Map}
 use Rattle.btr_check.specs.Trees.{items_in}
@@ -22,11 +24,22 @@ use Rattle.btr_check.specs.declared.file_tree.FileTree.{FileTree}
 
 -- what is kept of a tree of files before its first item
 abbrev pub nothing_met : ℕ → FileTree
-nothing_met dirid = record { names = nothing_unpaired dirid; uses = record { loose = []; used = [] } }
+nothing_met dirid = record { names = nothing_unpaired dirid; uses = record { loose = []; used = [] }; is_plain = true }
 
--- what of a tree's names has not met its counterpart yet, and the sectors that its files use, after one more mark
+-- a mark is of no orphan item
+abbrev pub mark_plain : Mark → Bool
+mark_plain (Block place block) = true
+mark_plain (Child addr place) = true
+mark_plain (Item item) = is_plain item
+mark_plain (Left fault) = true
+
+-- what of a tree's names has not met its counterpart yet, the sectors that its files use, and whether nothing is an orphan's, after one more mark
 abbrev pub file_step : FileTree → Mark → FileTree
-file_step met mark = record { names = unpaired_step met.names mark; uses = uses_step met.uses mark }
+file_step met mark = record {
+  names = unpaired_step met.names mark;
+  uses = uses_step met.uses mark;
+  is_plain = met.is_plain && mark_plain mark;
+}
 
 module _ (B : Map) where
   -- what a tree holds of names
@@ -49,6 +62,23 @@ module _ (B : Map) where
 abbrev pub entries_if : Bool → ℕ → List Entry → Subvolumes → Subvolumes
 entries_if true tree entries names = subvolumes_at names tree entries
 entries_if false tree entries names = names
+
+-- by the ranges of addresses that have checksums, nothing is missing of those of a tree where it is said
+abbrev pub AreSummed : ℕ → UsesMet → List Chunk → List Stretch → Result Bool Memory → Type 0
+AreSummed tree uses chunks sums result =
+    (runs : List SumRun) → HoldSame (map run_stretch runs) sums → IfOk result
+    (λ summed. summed ≡ true → tree_missing chunks runs tree uses.loose uses.used ≡ [])
+
+-- nothing is wrong with what was met of a tree, but for names that wait for their counterparts
+pub record IsSoundAlone (tree : ℕ) (met : FileTree) (chunks : List Chunk) (sums : List Stretch) : Type 0 where
+  pub plain : met.is_plain ≡ true
+  pub whole : are_whole met.names ≡ true
+  pub summed : (runs : List SumRun) → HoldSame (map run_stretch runs) sums → tree_missing chunks runs tree met.uses.loose met.uses.used ≡ []
+
+-- no names wait for their counterparts, and none of them leads to a subvolume
+pub record ArePairedHere (names : Unpaired) : Type 0 where
+  pub paired : are_paired names ≡ true
+  pub subvolumes : names.subvolumes ≡ []
 
 -- by the ranges of addresses that have checksums, what is missing of those of a tree was put; and whether nothing is
 abbrev pub AddsMissing : ℕ → UsesMet → List Chunk → List Stretch → FoundSet → FoundSet → Result Bool Memory → Type 0

@@ -13,6 +13,8 @@ pub mod Misusing
 pub mod Passes
 pub mod FileTrees
 pub mod Data
+pub mod Wanted
 pub mod Families
 pub mod SoundTrees
+pub mod Differing
 pub mod Findings

@@ -4,7 +4,8 @@ use Rattle.btr_rack.specs.Rack.{Seen, OnlyReads}
 use Rattle.btr_read.specs.Layout.{Layout}
 use Rattle.btr_read.specs.Serves.{Serves}
 use Rattle.btr_read.specs.Store.{free_count}
-use Rattle.btr_walk.specs.Reading.{Map, Tells, FaultCause}
+use Rattle.btr_read.specs.declared.want.Want.{Want}
+use Rattle.btr_walk.specs.Reading.{Map, Tells, UnreadBlock, unread_by}
 use Rattle.btr_walk.specs.declared.fault.TreeFault.{TreeFault}
 use Rattle.btr_walk.specs.declared.fault.TreeFault.TheVariants.{Lost, Unread, Unmapped, Crosses, Malformed}
 use Rattle.btr_volume.specs.Looking.{SameVolume}
@@ -32,30 +33,38 @@ pub record IsReady (x : World) : Type 0 where
 abbrev pub filesystem : Volume → Map → Filesystem
 filesystem vol B = record { sup = vol.sup; chunks = vol.store.layout.chunks; blocks = B }
 
--- that a block could not be read has its cause
-abbrev pub FaultUnread : Layout → Seen → Seen → TreeFault → Type 0
-FaultUnread layout old new (Lost addr) = ⊤
-FaultUnread layout old new (Unread addr slot) = FaultCause layout old new (Unread addr slot)
-FaultUnread layout old new (Unmapped addr) = ⊤
-FaultUnread layout old new (Crosses addr) = ⊤
-FaultUnread layout old new (Malformed addr) = ⊤
+-- P holds of the block that a fault of a tree says could not be read, if it says so
+abbrev pub FaultUnread : (UnreadBlock → Type 0) → TreeFault → Type 0
+FaultUnread P (Lost addr) = ⊤
+FaultUnread P (Unread addr slot) = P (record { addr = addr; slot = slot })
+FaultUnread P (Unmapped addr) = ⊤
+FaultUnread P (Crosses addr) = ⊤
+FaultUnread P (Malformed addr) = ⊤
 
--- a stop that says that a block could not be read has its cause
-abbrev pub StopUnread : Layout → Seen → Seen → Stop → Type 0
-StopUnread layout old new (NoTree id) = ⊤
-StopUnread layout old new (Tree f) = FaultUnread layout old new f
-StopUnread layout old new (Deletion id) = ⊤
-StopUnread layout old new Balance = ⊤
-StopUnread layout old new (Missing id) = ⊤
-StopUnread layout old new (Image slot) = ⊤
-StopUnread layout old new Sink = ⊤
-StopUnread layout old new Out = ⊤
-StopUnread layout old new Memory = ⊤
+-- P holds of the block that a stop says could not be read, if it says so
+abbrev pub StopUnread : (UnreadBlock → Type 0) → Stop → Type 0
+StopUnread P (NoTree id) = ⊤
+StopUnread P (Tree f) = FaultUnread P f
+StopUnread P (Deletion id) = ⊤
+StopUnread P Balance = ⊤
+StopUnread P (Missing id) = ⊤
+StopUnread P (Image slot) = ⊤
+StopUnread P Sink = ⊤
+StopUnread P Out = ⊤
+StopUnread P Memory = ⊤
 
--- an answer that says that a block could not be read has its cause
-abbrev pub UnreadCause : {A : Type 0} → Layout → Seen → Seen → Result A Stop → Type 0
-UnreadCause layout old new (Ok a) = ⊤
-UnreadCause layout old new (Err stop) = StopUnread layout old new stop
+-- P holds of the block that an answer says could not be read, if it says so
+abbrev pub IfUnread : {A : Type 0} → (UnreadBlock → Type 0) → Result A Stop → Type 0
+IfUnread P (Ok a) = ⊤
+IfUnread P (Err stop) = StopUnread P stop
+
+-- some want of these is the one that could not be read, with its whole cause
+abbrev pub IsUnreadOf : Layout → Seen → Seen → (Want → Type 0) → UnreadBlock → Type 0
+IsUnreadOf layout old new W u = (want : Want) × W want × unread_by layout old new u want
+
+-- some want, whichever it is, is the one that could not be read, with its whole cause
+abbrev pub IsAnyUnread : Layout → Seen → Seen → UnreadBlock → Type 0
+IsAnyUnread layout old new u = IsUnreadOf layout old new (λ want. ⊤) u
 
 -- a block could not be read, or there is no memory: such a stop may come at any place
 abbrev pub is_unread : TreeFault → Bool
@@ -105,11 +114,14 @@ StopsReading (Ok a) = ⊤
 StopsReading (Err stop) = OfReading stop
 
 -- A call that reads a volume: it only read, the volume can be read on, its fault has its cause, and so far as the
--- calls were steady P holds of the filesystem.
-pub record Ran {A : Type 0} (P : Filesystem → Type 0) (x y : World) (answer : Result A Stop) : Type 0 where
+-- calls were steady P holds of the filesystem, and a block that could not be read is a want of W.
+pub record Ran {A : Type 0} (W : Filesystem → Want → Type 0) (P : Filesystem → Type 0) (x y : World)
+    (answer : Result A Stop) : Type 0 where
   pub reads : OnlyReads x.rack y.rack
   pub volume : SameVolume x.vol y.vol
   pub ready : IsReady y
-  pub cause : UnreadCause x.vol.store.layout x.rack y.rack answer
+  pub cause : IfUnread (IsAnyUnread x.vol.store.layout x.rack y.rack) answer
   pub quiet : StopsReading answer
   pub told : Tells x.vol.store.layout x.rack y.rack (λ B. P (filesystem x.vol B))
+  pub named : Tells x.vol.store.layout x.rack y.rack
+      (λ B. IfUnread (IsUnreadOf x.vol.store.layout x.rack y.rack (W (filesystem x.vol B))) answer)

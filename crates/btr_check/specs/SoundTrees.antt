@@ -1,9 +1,11 @@
 -- Trees of files in which nothing is wrong, by which others are passed that have the same blocks below their roots.
 use Rattle.std.specs.Prelude.{◌≡◌, ℕ, ◌-◌, Bool, true, false, List, [], ◌∷◌, filter, flat_map, Result, IfOk, ⊤}
-use Rattle.std.specs.List.{AllByRecursion}
+use Rattle.std.specs.List.{AllByRecursion, list_all}
 use Rattle.btr_base.specs.declared.memory.Memory.{Memory}
 use Rattle.btr_chunk.specs.declared.chunk.Chunk.{Chunk}
+use Rattle.btr_check_differences.specs.Law.{is_plain}
 use Rattle.btr_check_names.specs.declared.unpaired.Unpaired.{Unpaired}
+use Rattle.btr_check_names.specs.Settled.{AreSettled}
 use Rattle.btr_check_names.specs.Subvolumes.{Subvolumes, leads_to_root}
 use Rattle.btr_check_space.specs.declared.cover.Stretch.{Stretch}
 use Rattle.btr_check_sums.specs.Sums.{tree_missing}
@@ -37,10 +39,12 @@ module _ (fs : Filesystem) where
     pub nothing : file_tree_findings fs.blocks fs.chunks (sum_runs fs) tree ≡ []
     pub entries : names.subvolumes ≡ filter leads_to_root (names_of fs.blocks tree).indexed
 
-  -- a tree is sound, and these are the blocks below its root
+  -- a tree is sound, its names settle by counts, these are the blocks below its root, and where it is said nothing of it is an orphan's
   pub record IsKeptOf (one : SoundTree) : Type 0 where
     pub sound : IsSound one.rooted.tree one.names
+    pub settled : AreSettled (names_of fs.blocks one.rooted.tree)
     pub below : AreBelow one.rooted.tree one.rooted.children.items
+    pub plain : one.is_plain ≡ true → list_all is_plain (items_in fs.blocks one.rooted.tree) ≡ true
 
   -- so are all of these
   abbrev pub AreKept : List SoundTree → Type 0
@@ -64,7 +68,7 @@ abbrev pub KeepsSound : RootedTree → FileTree → List Chunk → List Stretch 
 KeepsSound rooted met chunks sums old new result =
     IfOk result (λ paired. (fs : Filesystem) → IsCoverOf fs sums
     → (paired ≡ true → tree_missing chunks (sum_runs fs) rooted.tree.id met.uses.loose met.uses.used ≡ []
-    → IsKeptOf fs (record { rooted = rooted; names = met.names }))
+    → IsKeptOf fs (record { rooted = rooted; names = met.names; is_plain = met.is_plain }))
     → AreKept fs old → AreKept fs new)
 
 -- trees of files were treated, and those that are kept are sound

@@ -7,7 +7,8 @@ use Rattle.btr_findings.specs.declared.kind.Kind.TheVariants as kind
 use Rattle.btr_findings.specs.Findings.{found, unless}
 use Rattle.btr_findings.specs.declared.extent.Extent.{Extent}
 use Rattle.btr_refs.specs.Extents.{stored_in}
-use Rattle.btr_refs.specs.Counts.{Counted, RefCounts, counted_all}
+use Rattle.btr_refs.specs.Counts.{RefCounts, counted_all}
+use Rattle.btr_refs.specs.declared.counted.Counted.{Counted}
 use Rattle.btr_refs.specs.Forward.{Used, TreeBlock, Data, Use, met}
 use Rattle.btr_check.specs.Trees.{uses}
 use Rattle.btr_refs.specs.Differences.{count_findings, differences, total_findings}

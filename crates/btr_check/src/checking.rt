@@ -7,6 +7,7 @@ ghost use Rattle.btr_check.specs.Families.{IsRunsOf, found_on_extents, found_on_
 ghost use Rattle.btr_check.specs.Findings.{all_findings, data_if, findings, rule_findings};
 ghost use Rattle.btr_check.specs.Passes.{IsWalked, Lists, Puts, PutsAnd};
 ghost use Rattle.btr_check.specs.Running.{world, IsReady, Answers, Ran};
+ghost use Rattle.btr_check.specs.Wanted.{IfKnown, OfAllTrees, OfCheck};
 
 use crate::file_trees::put_files;
 use crate::readable::put_data_findings;
@@ -34,7 +35,8 @@ fn put_extents<R: Rack>(
     vol: &mut Volume,
 ) -> Result<Runs, Stop>
     requires ready { IsReady (world (R.seen rack.old) vol.old) }
-    ensures ran { Ran (PutsAnd
+    ensures ran { Ran (IfKnown (IsWalked listed.now trees.now walk) OfAllTrees)
+        (PutsAnd
         (IsWalked listed.now trees.now walk) IsRunsOf found_on_extents found.old found.new result)
         (world (R.seen rack.old) vol.old) (world (R.seen rack.new) vol.new) result }
 {
@@ -60,7 +62,9 @@ fn put_data_if<R: Rack>(
     vol: &mut Volume,
 ) -> Result<(), Stop>
     requires ready { IsReady (world (R.seen rack.old) vol.old) }
-    ensures ran { Ran (Puts (λ fs. Lists listed.now fs × IsRunsOf fs runs.now)
+    ensures ran { Ran
+        (IfKnown (λ fs. Lists listed.now fs × IsRunsOf fs runs.now) (OfCheck read_data))
+        (Puts (λ fs. Lists listed.now fs × IsRunsOf fs runs.now)
         (data_if read_data) found.old found.new result)
         (world (R.seen rack.old) vol.old) (world (R.seen rack.new) vol.new) result }
 {
@@ -83,7 +87,8 @@ fn put_contents<R: Rack>(
     vol: &mut Volume,
 ) -> Result<(), Stop>
     requires ready { IsReady (world (R.seen rack.old) vol.old) }
-    ensures ran { Ran (Puts (λ fs. Lists listed.now fs × IsRunsOf fs runs)
+    ensures ran { Ran (IfKnown (λ fs. Lists listed.now fs × IsRunsOf fs runs) (OfCheck read_data))
+        (Puts (λ fs. Lists listed.now fs × IsRunsOf fs runs)
         (λ fs. data_if read_data fs ++ found_on_files fs) found.old found.new result)
         (world (R.seen rack.old) vol.old) (world (R.seen rack.new) vol.new) result }
 {
@@ -109,7 +114,9 @@ fn put_rules<R: Rack>(
     vol: &mut Volume,
 ) -> Result<(), Stop>
     requires ready { IsReady (world (R.seen rack.old) vol.old) }
-    ensures ran { Ran (Puts (IsWalked listed.now trees.now walk) (rule_findings read_data) found.old found.new result)
+    ensures ran { Ran (IfKnown (IsWalked listed.now trees.now walk) (OfCheck read_data))
+        (Puts (IsWalked listed.now trees.now walk) (rule_findings read_data)
+        found.old found.new result)
         (world (R.seen rack.old) vol.old) (world (R.seen rack.new) vol.new) result }
 {
     let runs = match put_extents(alloc, found, listed, trees, walk, rack, vol) {
@@ -131,7 +138,8 @@ fn find_all<R: Rack>(
     vol: &mut Volume,
 ) -> Result<Found, Stop>
     requires ready { IsReady (world (R.seen rack.old) vol.old) }
-    ensures ran { Ran (λ fs. Lists listed.now fs → Unless (HasJust (all_findings read_data fs)) result)
+    ensures ran { Ran (IfKnown (Lists listed.now) (OfCheck read_data))
+        (λ fs. Lists listed.now fs → Unless (HasJust (all_findings read_data fs)) result)
         (world (R.seen rack.old) vol.old) (world (R.seen rack.new) vol.new) result }
 {
     let all = match all_trees(alloc, &vol.sup, listed) {
@@ -172,7 +180,8 @@ pub fn check<R: Rack>(
     vol: &mut Volume,
 ) -> Result<Findings, Stop>
     requires ready { IsReady (world (R.seen rack.old) vol.old) }
-    ensures ran { Ran (λ fs. Answers (λ all. (refusal fs ≡ None) × (all ≡ findings read_data fs)) fs result)
+    ensures ran { Ran (OfCheck read_data)
+        (λ fs. Answers (λ all. (refusal fs ≡ None) × (all ≡ findings read_data fs)) fs result)
         (world (R.seen rack.old) vol.old) (world (R.seen rack.new) vol.new) result }
 {
     let trees = match read_trees(alloc, rack, vol) {

@@ -1,9 +1,10 @@
 // What uses extents, counted block by block.
 ghost use Rattle.std.specs.Prelude.{◌≡◌, fold, map, OnOk, IfOk, Ok};
 ghost use Rattle.std.specs.BTreeSet.{contains};
-ghost use Rattle.btr_refs.specs.Forward.{with_use, root_use};
+ghost use Rattle.btr_refs.specs.Forward.{tally_with, root_use};
 ghost use Rattle.btr_check.specs.Running.{world, IsReady, Ran};
 ghost use Rattle.btr_check.specs.Counting.{BlockCounts, BlocksCount, UsesCount, IsFull};
+ghost use Rattle.btr_check.specs.Wanted.{OfPlaces, Only, want_at};
 
 use bitflags::Flags;
 use btr_base::Memory;
@@ -35,7 +36,7 @@ pub fn full_backrefs(alloc: Global, extents: &[Extent]) -> Result<BTreeSet<u64>,
 
 // Counts the uses of the trees' root blocks.
 fn count_roots(forward: &mut Forward, trees: &[TreeRoot]) -> Result<(), Memory>
-    ensures { OnOk result (forward.new ≡ fold with_use forward.old (map root_use trees.now)) }
+    ensures { OnOk result (forward.new ≡ fold tally_with forward.old (map root_use trees.now)) }
 {
     for tree in trees {
         forward.add_root(tree)?;
@@ -52,7 +53,8 @@ fn count_block<R: Rack>(
     vol: &mut Volume,
 ) -> Result<(), Stop>
     requires ready { IsReady (world (R.seen rack.old) vol.old) }
-    ensures ran { Ran (λ fs. BlockCounts fs.blocks place.now by_address forward.old forward.new result)
+    ensures ran { Ran (Only (want_at place.now))
+        (λ fs. BlockCounts fs.blocks place.now by_address forward.old forward.new result)
         (world (R.seen rack.old) vol.old) (world (R.seen rack.new) vol.new) result }
 {
     let want = Want::Tree {
@@ -83,7 +85,8 @@ fn count_blocks<R: Rack>(
     vol: &mut Volume,
 ) -> Result<(), Stop>
     requires ready { IsReady (world (R.seen rack.old) vol.old) }
-    ensures ran { Ran (λ fs. BlocksCount fs.blocks places.now full.now forward.old forward.new result)
+    ensures ran { Ran (OfPlaces places.now)
+        (λ fs. BlocksCount fs.blocks places.now full.now forward.old forward.new result)
         (world (R.seen rack.old) vol.old) (world (R.seen rack.new) vol.new) result }
 {
     for place in places {
@@ -96,12 +99,13 @@ fn count_blocks<R: Rack>(
     Ok(())
 }
 
-/// Counts what uses extents: trees use their root blocks, and the blocks at these places what they point to. A block refers by its
-/// address where that is one of `full`. Each block is read again; four slots are free.
+/// Counts what uses extents, beside what was counted: trees use their root blocks, and the blocks
+/// at these places what they point to. A block refers by its address where that is one of `full`.
+/// Each block is read again; four slots are free.
 ///
 /// `Tree`: a block could not be had any more. `Memory`: there is no memory for what is counted.
 pub fn count_uses<R: Rack>(
-    alloc: Global,
+    mut forward: Forward,
     trees: &[TreeRoot],
     places: &[RootPlace],
     full: &BTreeSet<u64>,
@@ -109,10 +113,10 @@ pub fn count_uses<R: Rack>(
     vol: &mut Volume,
 ) -> Result<Forward, Stop>
     requires ready { IsReady (world (R.seen rack.old) vol.old) }
-    ensures ran { Ran (λ fs. UsesCount fs.blocks trees.now places.now full.now result)
+    ensures ran { Ran (OfPlaces places.now)
+        (λ fs. UsesCount fs.blocks forward trees.now places.now full.now result)
         (world (R.seen rack.old) vol.old) (world (R.seen rack.new) vol.new) result }
 {
-    let mut forward = Forward::new(alloc);
     match count_roots(&mut forward, trees) {
         Ok(()) => {}
         Err(Memory) => return Err(Stop::Memory),

@@ -1,15 +1,23 @@
+ghost use Rattle.btr_check.specs.FileTrees.{mark_plain};
+ghost use Rattle.btr_tour.specs.Tour.{Mark};
+ghost use Rattle.btr_tour.specs.Visits.{Shows};
+ghost use Rattle.std.specs.Prelude.{◌≡◌};
+
 use btr_base::Memory;
 use btr_check_names::Unpaired;
 use btr_check_sums::Uses;
+use btr_items::item;
 use btr_tour::{Met, Visitor};
 use btr_volume::TreeRoot;
 use std::alloc::Global;
 
-/// What a visit of a tree of files meets: what of its names has not met its counterpart yet, and the sectors that its files use.
+/// What a visit of a tree of files meets: what of its names has not met its counterpart yet, the sectors that its files use, and whether none
+/// of its items is an orphan's.
 #[derive(Drop)]
 pub(crate) struct FileTree {
     pub(crate) names: Unpaired,
     pub(crate) uses: Uses,
+    pub(crate) is_plain: bool,
 }
 
 impl FileTree {
@@ -23,7 +31,18 @@ impl FileTree {
         FileTree {
             names: Unpaired::new(alloc, tree.dirid),
             uses: Uses::new(alloc),
+            is_plain: true,
         }
+    }
+}
+
+// Whether what was met is no orphan item.
+fn is_plain(met: &Met<'_>) -> bool
+    ensures { (mark : Mark) → Shows met.now mark → result ≡ mark_plain mark }
+{
+    match met {
+        Met::Item(found) => found.key.kind != item::ORPHAN_ITEM,
+        Met::Block { .. } | Met::Child { .. } | Met::Fault(_) => true,
     }
 }
 
@@ -33,6 +52,7 @@ impl Visitor<Memory> for FileTree {
     ghost step = { file_step };
 
     fn meet(&mut self, met: &Met<'_>) -> Result<(), Memory> {
+        self.is_plain = self.is_plain && is_plain(met);
         self.names.meet(met)?;
         self.uses.meet(met)
     }

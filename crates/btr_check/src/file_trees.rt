@@ -1,5 +1,5 @@
 // What is wrong with trees of files.
-ghost use Rattle.std.specs.Prelude.{◌≡◌, ◌∷◌, [], List, true, OnOk, IfOk, filter};
+ghost use Rattle.std.specs.Prelude.{◌≡◌, ◌∷◌, ◌++◌, [], List, true, OnOk, IfOk, filter};
 ghost use Rattle.btr_check_names.specs.Names.{names_findings};
 ghost use Rattle.btr_check_names.specs.Subvolumes.{subvolumes_in};
 ghost use Rattle.btr_check_names.specs.Subvolumes as names;
@@ -9,12 +9,14 @@ ghost use Rattle.btr_findings.specs.Findings.{Adds, HasJust};
 ghost use Rattle.btr_check.specs.Counting.{Unless};
 ghost use Rattle.btr_check.specs.Filesystem.{is_file_tree, root_items};
 ghost use Rattle.btr_check.specs.Families.{IsCoverOf, found_on_files};
-ghost use Rattle.btr_check.specs.FileTrees.{AddsMissing, KeepsEntries, PutsMissing, TreatsNames};
+ghost use Rattle.btr_check.specs.FileTrees.{AddsMissing, AreSummed, KeepsEntries, PutsMissing, TreatsNames};
 ghost use Rattle.btr_check.specs.Passes.{Lists, Puts};
 ghost use Rattle.btr_check.specs.Running.{world, IsReady, Ran};
 ghost use Rattle.btr_check.specs.SoundTrees.{AreBelow, AreKept, KeepsSound, TreatsAll};
+ghost use Rattle.btr_check.specs.Wanted.{IfKnown, OfAllTrees, OfTree, OfTrees};
 
 use crate::collecting::{collect, or_memory};
+use crate::differing::is_sound_by;
 use crate::file_tree::FileTree;
 use crate::refusing::is_file_tree;
 use crate::sound_tree::{RootedTree, SoundTree, keep_sound, pass_like, read_rooted};
@@ -26,7 +28,7 @@ use btr_check_names::{
 };
 use btr_check_space::Cover;
 use btr_check_sums::{SumPlaces, Uses, keeps_law, put_missing_sums};
-use btr_findings::Found;
+use btr_findings::{Found, push};
 use btr_rack::Rack;
 use btr_volume::{Stop, TreeRoot, Volume, named_root, root_root};
 use std::alloc::Global;
@@ -59,6 +61,20 @@ fn is_nothing(alloc: Global, found: Found) -> Result<bool, Memory>
     Ok(list.next().is_none())
 }
 
+// Whether nothing is missing of the checksums of the sectors that a tree's files use.
+pub(crate) fn are_summed(
+    alloc: Global,
+    tree: u64,
+    uses: &Uses,
+    places: &SumPlaces<'_>,
+) -> Result<bool, Memory>
+    ensures { AreSummed tree uses.now places.now.chunks.now places.now.sums.now result }
+{
+    let mut missing = Found::new(alloc);
+    put_missing_sums(alloc, &mut missing, tree, uses.loose(), uses.used(), places)?;
+    is_nothing(alloc, missing)
+}
+
 // Puts what is missing of the checksums of the sectors that a tree's files use. The answer is whether nothing is.
 fn put_missing(
     alloc: Global,
@@ -69,9 +85,7 @@ fn put_missing(
 ) -> Result<bool, Memory>
     ensures { AddsMissing tree uses.now places.now.chunks.now places.now.sums.now found.old found.new result }
 {
-    let mut missing = Found::new(alloc);
-    put_missing_sums(alloc, &mut missing, tree, uses.loose(), uses.used(), places)?;
-    if is_nothing(alloc, missing)? {
+    if are_summed(alloc, tree, uses, places)? {
         return Ok(true);
     }
     put_missing_sums(alloc, found, tree, uses.loose(), uses.used(), places)?;
@@ -94,14 +108,23 @@ fn put_met(
     ensures sound { KeepsSound rooted met places.now.chunks.now places.now.sums.now kept.old.sound.items kept.new.sound.items result }
 {
     let tree = rooted.tree.id;
-    let FileTree { names, uses } = met;
+    let FileTree {
+        names,
+        uses,
+        is_plain,
+    } = met;
     let summed = put_missing(alloc, found, tree, &uses, places)?;
     if !names.are_paired() {
         return Ok(false);
     }
     kept.subvolumes.take_kept(tree, &names)?;
     if summed {
-        keep_sound(&mut kept.sound, SoundTree { rooted, names })?;
+        let one = SoundTree {
+            rooted,
+            names,
+            is_plain,
+        };
+        keep_sound(&mut kept.sound, one)?;
     }
     Ok(true)
 }
@@ -130,7 +153,8 @@ fn put_names<R: Rack>(
     vol: &mut Volume,
 ) -> Result<(), Stop>
     requires ready { IsReady (world (R.seen rack.old) vol.old) }
-    ensures ran { Ran (λ fs. Unless
+    ensures ran { Ran (OfTree tree.now.place)
+        (λ fs. Unless
         (λ u. TreatsNames fs.blocks tree.now found.old found.new subvolumes.old subvolumes.new) result)
         (world (R.seen rack.old) vol.old) (world (R.seen rack.new) vol.new) result }
 {
@@ -153,7 +177,9 @@ fn put_visited<R: Rack>(
     vol: &mut Volume,
 ) -> Result<(), Stop>
     requires ready { IsReady (world (R.seen rack.old) vol.old) }
-    ensures ran { Ran (λ fs. IsCoverOf fs sums.now → AreKept fs kept.old.sound.items → AreBelow fs rooted.tree rooted.children.items
+    ensures ran { Ran (OfTree rooted.tree.place)
+        (λ fs. IsCoverOf fs sums.now → AreKept fs kept.old.sound.items
+        → AreBelow fs rooted.tree rooted.children.items
         → Unless (λ u. TreatsAll fs (rooted.tree ∷ []) found.old found.new kept.old.subvolumes kept.new.subvolumes kept.new.sound.items) result)
         (world (R.seen rack.old) vol.old) (world (R.seen rack.new) vol.new) result }
 {
@@ -177,6 +203,52 @@ fn put_visited<R: Rack>(
     }
 }
 
+// Keeps a tree that is sound by another one in its place, and its names of subvolumes, which are the same.
+fn keep_passed(kept: &mut KeptTrees, before: SoundTree, rooted: RootedTree) -> Result<(), Memory>
+    ensures entries { OnOk result (kept.new.subvolumes
+        ≡ names.subvolumes_at kept.old.subvolumes rooted.tree.id before.names.subvolumes) }
+    ensures sound { OnOk result (kept.new.sound.items
+        ≡ kept.old.sound.items ++ record { rooted = rooted; names = before.names; is_plain = true } ∷ []) }
+{
+    let names = before.names;
+    kept.subvolumes.take_kept(rooted.tree.id, &names)?;
+    let one = SoundTree {
+        rooted,
+        names,
+        is_plain: true,
+    };
+    push(&mut kept.sound, one)
+}
+
+// Passes a tree of files that is sound by the last sound one, or visits it.
+fn put_unlike<R: Rack>(
+    alloc: Global,
+    found: &mut Found,
+    kept: &mut KeptTrees,
+    rooted: RootedTree,
+    sums: &Cover,
+    rack: &mut R,
+    vol: &mut Volume,
+) -> Result<(), Stop>
+    requires ready { IsReady (world (R.seen rack.old) vol.old) }
+    ensures ran { Ran (OfTree rooted.tree.place)
+        (λ fs. IsCoverOf fs sums.now → AreKept fs kept.old.sound.items
+        → AreBelow fs rooted.tree rooted.children.items
+        → Unless (λ u. TreatsAll fs (rooted.tree ∷ []) found.old found.new kept.old.subvolumes kept.new.subvolumes kept.new.sound.items) result)
+        (world (R.seen rack.old) vol.old) (world (R.seen rack.new) vol.new) result }
+{
+    let Some(before) = kept.sound.pop() else {
+        return put_visited(alloc, found, kept, rooted, sums, rack, vol);
+    };
+    if is_sound_by(alloc, &before, &rooted, sums, rack, vol) {
+        return or_memory(keep_passed(kept, before, rooted));
+    }
+    match push(&mut kept.sound, before) {
+        Ok(()) => put_visited(alloc, found, kept, rooted, sums, rack, vol),
+        Err(Memory) => Err(Stop::Memory),
+    }
+}
+
 // Passes a tree of files that has the same blocks below its root as a sound one, or visits it.
 fn put_file_tree<R: Rack>(
     alloc: Global,
@@ -188,7 +260,8 @@ fn put_file_tree<R: Rack>(
     vol: &mut Volume,
 ) -> Result<(), Stop>
     requires ready { IsReady (world (R.seen rack.old) vol.old) }
-    ensures ran { Ran (λ fs. IsCoverOf fs sums.now → AreKept fs kept.old.sound.items → Unless (λ u. TreatsAll fs
+    ensures ran { Ran (OfTree tree.now.place)
+        (λ fs. IsCoverOf fs sums.now → AreKept fs kept.old.sound.items → Unless (λ u. TreatsAll fs
         (tree.now ∷ []) found.old found.new kept.old.subvolumes kept.new.subvolumes kept.new.sound.items) result)
         (world (R.seen rack.old) vol.old) (world (R.seen rack.new) vol.new) result }
 {
@@ -198,7 +271,7 @@ fn put_file_tree<R: Rack>(
     };
     match pass_like(kept.sound.as_slice(), &rooted, &mut kept.subvolumes) {
         Ok(true) => Ok(()),
-        Ok(false) => put_visited(alloc, found, kept, rooted, sums, rack, vol),
+        Ok(false) => put_unlike(alloc, found, kept, rooted, sums, rack, vol),
         Err(Memory) => Err(Stop::Memory),
     }
 }
@@ -214,7 +287,8 @@ fn put_file_trees<R: Rack>(
     vol: &mut Volume,
 ) -> Result<(), Stop>
     requires ready { IsReady (world (R.seen rack.old) vol.old) }
-    ensures ran { Ran (λ fs. IsCoverOf fs sums.now → AreKept fs kept.old.sound.items → Unless (λ u. TreatsAll fs
+    ensures ran { Ran (OfTrees files.now)
+        (λ fs. IsCoverOf fs sums.now → AreKept fs kept.old.sound.items → Unless (λ u. TreatsAll fs
         files.now found.old found.new kept.old.subvolumes kept.new.subvolumes kept.new.sound.items) result)
         (world (R.seen rack.old) vol.old) (world (R.seen rack.new) vol.new) result }
 {
@@ -234,7 +308,8 @@ fn read_subvolumes<R: Rack>(
     vol: &mut Volume,
 ) -> Result<SubvolumeNames, Stop>
     requires ready { IsReady (world (R.seen rack.old) vol.old) }
-    ensures ran { Ran (λ fs. Unless (λ met. met ≡ subvolumes_in (root_items fs) []) result)
+    ensures ran { Ran OfAllTrees
+        (λ fs. Unless (λ met. met ≡ subvolumes_in (root_items fs) []) result)
         (world (R.seen rack.old) vol.old) (world (R.seen rack.new) vol.new) result }
 {
     subvolumes_law();
@@ -255,7 +330,8 @@ pub(crate) fn put_files<R: Rack>(
     vol: &mut Volume,
 ) -> Result<(), Stop>
     requires ready { IsReady (world (R.seen rack.old) vol.old) }
-    ensures ran { Ran (Puts (λ fs. Lists listed.now fs
+    ensures ran { Ran (IfKnown (Lists listed.now) OfAllTrees)
+        (Puts (λ fs. Lists listed.now fs
         × IsCoverOf fs sums.now) found_on_files found.old found.new result)
         (world (R.seen rack.old) vol.old) (world (R.seen rack.new) vol.new) result }
 {

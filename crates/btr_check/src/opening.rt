@@ -6,13 +6,15 @@ ghost use Rattle.btr_tour.specs.Tour as tour;
 ghost use Rattle.btr_tour.specs.Tour.{first_key, child_spots, meets_keys};
 ghost use Rattle.btr_check.specs.Passing.{IsAbove, Opens, OpensGood, WalksItem, WalksItems};
 ghost use Rattle.btr_check.specs.Passing.{with_if};
+ghost use Rattle.btr_walk.specs.Le.{want_of};
 ghost use Rattle.btr_walk.specs.Showing.{item_of};
 ghost use Rattle.btr_check.specs.Running.{world, IsReady, Ran, StopsOutside};
+ghost use Rattle.btr_check.specs.Wanted.{Only};
 
 use crate::block_fault::BlockFault;
 use crate::subtrees::{Edges, edge_of, join};
 use crate::walk::Walk;
-use btr_base::{Key, Memory};
+use btr_base::{FIRST_KEY, Key, LAST_KEY, Memory};
 use btr_node::{Inner, Leaf};
 use btr_rack::Rack;
 use btr_volume::{Stop, Volume};
@@ -26,19 +28,6 @@ pub(crate) enum Opened {
     Whole(Option<Edges>),
     Children(Vec<Spot>),
 }
-
-// The first and the last key that there are.
-const FIRST_KEY: Key = Key {
-    objectid: 0,
-    kind: 0,
-    offset: 0,
-};
-
-const LAST_KEY: Key = Key {
-    objectid: u64::MAX,
-    kind: u8::MAX,
-    offset: u64::MAX,
-};
 
 // Whether a block at a spot may have keys.
 fn meets_keys(spot: &Spot) -> bool
@@ -162,7 +151,8 @@ pub(crate) fn open_block<R: Rack>(
     requires ready { IsReady (world (R.seen rack.old) vol.old) }
     ensures outside { StopsOutside result }
     ensures above { IfOk result (IsAbove level) }
-    ensures ran { Ran (λ fs. IfOk result (Opens fs level spot.now walk.old walk.new))
+    ensures ran { Ran (Only (want_of level spot.now))
+        (λ fs. IfOk result (Opens fs level spot.now walk.old walk.new))
         (world (R.seen rack.old) vol.old) (world (R.seen rack.new) vol.new) result }
 {
     match read_block(level, spot, rack, &mut vol.store) {

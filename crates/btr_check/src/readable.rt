@@ -13,6 +13,8 @@ ghost use Rattle.btr_check.specs.Counting.{Unless};
 ghost use Rattle.btr_check.specs.Data.{data_findings, data_lost, is_readable, sum_runs, unread_stop, KeepsSums, ReadsBy};
 ghost use Rattle.btr_check.specs.Running.{world, IsReady, Ran};
 ghost use Rattle.btr_check.specs.Trees.{tree_of};
+ghost use Rattle.btr_check.specs.Wanted.{AreSums, IfKnown, OfData, OfSector};
+ghost use Rattle.btr_check.specs.Wanted.{OfSectorBy, OfSectors, Only};
 
 use crate::form::kind_of;
 use btr_ahead::DataAhead;
@@ -65,7 +67,8 @@ fn sector_want<R: Rack>(
     vol: &mut Volume,
 ) -> Result<Option<Want>, Stop>
     requires ready { IsReady (world (R.seen rack.old) vol.old) }
-    ensures ran { Ran (λ fs. KeepsSums fs (tree_behind sums.entry) ahead.old ahead.new (Unless (ReadsBy fs
+    ensures ran { Ran (OfSector (tree_behind sums.entry) sector)
+        (λ fs. KeepsSums fs (tree_behind sums.entry) ahead.old ahead.new (Unless (ReadsBy fs
         (tree_behind sums.entry) sector) result))
         (world (R.seen rack.old) vol.old) (world (R.seen rack.new) vol.new) result }
 {
@@ -84,7 +87,8 @@ fn sector_want<R: Rack>(
 // Whether a want comes to bytes, by all that may be read for it.
 fn can_fetch<R: Rack>(want: &Want, rack: &mut R, vol: &mut Volume) -> Result<bool, Stop>
     requires ready { IsReady (world (R.seen rack.old) vol.old) }
-    ensures ran { Ran (λ fs. Unless (λ can. can ≡ is_ok (fs.blocks want.now)) result)
+    ensures ran { Ran (Only want.now)
+        (λ fs. Unless (λ can. can ≡ is_ok (fs.blocks want.now)) result)
         (world (R.seen rack.old) vol.old) (world (R.seen rack.new) vol.new) result }
 {
     match fetch(want, rack, &mut vol.store) {
@@ -110,7 +114,8 @@ fn is_ahead<R: Rack>(
     requires ready { IsReady (world (R.seen rack.old) vol.now) }
     requires ahead { IsAhead (R.seen rack.old).held copies.old }
     ensures ahead { IsAhead (R.seen rack.new).held copies.new }
-    ensures ran { Ran (λ fs. IsTrue result → is_ok (fs.blocks want.now) ≡ true)
+    ensures ran { Ran (Only want.now)
+        (λ fs. IsTrue result → is_ok (fs.blocks want.now) ≡ true)
         (world (R.seen rack.old) vol.now) (world (R.seen rack.new) vol.now) (Ok result) }
 {
     copies.has(want, left, rack, &vol.store)
@@ -127,7 +132,8 @@ fn can_read<R: Rack>(
     requires ready { IsReady (world (R.seen rack.old) vol.old) }
     requires ahead { IsAhead (R.seen rack.old).held copies.old }
     ensures ahead { IsAhead (R.seen rack.new).held copies.new }
-    ensures ran { Ran (λ fs. Unless (λ can. can ≡ is_ok (fs.blocks want.now)) result)
+    ensures ran { Ran (Only want.now)
+        (λ fs. Unless (λ can. can ≡ is_ok (fs.blocks want.now)) result)
         (world (R.seen rack.old) vol.old) (world (R.seen rack.new) vol.new) result }
 {
     if is_ahead(want, left, copies, rack, vol) {
@@ -148,7 +154,8 @@ fn is_readable<R: Rack>(
     requires ready { IsReady (world (R.seen rack.old) vol.old) }
     requires ahead { IsAhead (R.seen rack.old).held copies.old }
     ensures ahead { IsAhead (R.seen rack.new).held copies.new }
-    ensures ran { Ran (λ fs. KeepsSums fs (tree_behind sums.entry) ahead.old ahead.new (Unless
+    ensures ran { Ran (OfSectorBy (tree_behind sums.entry) ahead.old sector.addr)
+        (λ fs. KeepsSums fs (tree_behind sums.entry) ahead.old ahead.new (Unless
         (λ can. can ≡ is_readable fs (tree_behind sums.entry) sector.addr) result))
         (world (R.seen rack.old) vol.old) (world (R.seen rack.new) vol.new) result }
 {
@@ -182,7 +189,8 @@ fn put_sector<R: Rack>(
     requires ready { IsReady (world (R.seen rack.old) vol.old) }
     requires ahead { IsAhead (R.seen rack.old).held copies.old }
     ensures ahead { IsAhead (R.seen rack.new).held copies.new }
-    ensures ran { Ran (λ fs. KeepsSums fs (tree_behind sums.entry) ahead.old ahead.new (Unless (λ u. Adds
+    ensures ran { Ran (OfSectorBy (tree_behind sums.entry) ahead.old sector.addr)
+        (λ fs. KeepsSums fs (tree_behind sums.entry) ahead.old ahead.new (Unless (λ u. Adds
         (option_to_list (data_lost fs (tree_behind sums.entry) sector.addr)) found.old found.new) result))
         (world (R.seen rack.old) vol.old) (world (R.seen rack.new) vol.new) result }
 {
@@ -217,7 +225,9 @@ fn put_run<R: Rack>(
     requires ready { IsReady (world (R.seen rack.old) vol.old) }
     requires ahead { IsAhead (R.seen rack.old).held copies.old }
     ensures ahead { IsAhead (R.seen rack.new).held copies.new }
-    ensures ran { Ran (λ fs. run_end run.now < 2 ^ 64 → Unless (λ u. Adds (filter_map (data_lost fs
+    ensures ran { Ran (IfKnown (λ fs. run_end run.now < 2 ^ 64)
+        (OfSectors (tree_behind sums.entry) (run_sectors run.now)))
+        (λ fs. run_end run.now < 2 ^ 64 → Unless (λ u. Adds (filter_map (data_lost fs
         (tree_behind sums.entry)) (run_sectors run.now)) found.old found.new) result)
         (world (R.seen rack.old) vol.old) (world (R.seen rack.new) vol.new) result }
 {
@@ -244,7 +254,8 @@ pub(crate) fn put_data_findings<R: Rack>(
     vol: &mut Volume,
 ) -> Result<(), Stop>
     requires ready { IsReady (world (R.seen rack.old) vol.old) }
-    ensures ran { Ran (λ fs. runs.now ≡ sum_runs fs → tree_behind sums.entry ≡ tree_of fs.sup fs.blocks 7
+    ensures ran { Ran (IfKnown (AreSums runs.now (tree_behind sums.entry)) OfData)
+        (λ fs. runs.now ≡ sum_runs fs → tree_behind sums.entry ≡ tree_of fs.sup fs.blocks 7
         → Unless (λ u. Adds (data_findings fs) found.old found.new) result)
         (world (R.seen rack.old) vol.old) (world (R.seen rack.new) vol.new) result }
 {

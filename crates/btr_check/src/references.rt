@@ -8,6 +8,7 @@ ghost use Rattle.btr_check.specs.Passes.{AreExtents, AreUsed, IsCounted, IsWalke
 ghost use Rattle.btr_check.specs.Running.{world, IsReady, Ran};
 ghost use Rattle.btr_check.specs.Uses.{difference_findings, found_on_counts, found_on_totals, reference_findings};
 ghost use Rattle.btr_check.specs.Walks.{walk_findings};
+ghost use Rattle.btr_check.specs.Wanted.{IfKnown, OfAllTrees};
 
 use crate::counting::{count_uses, full_backrefs};
 use crate::extent_tree::read_stored;
@@ -17,47 +18,49 @@ use crate::walk::Walk;
 use btr_base::Memory;
 use btr_findings::{Extent, Finding, Found};
 use btr_rack::Rack;
-use btr_refs::{RefKey, Stored, UsedExtents, put_count_findings, put_total_findings};
+use btr_refs::{
+    Forward, RefList, Stored, UsedExtents, Wanted, put_count_findings, put_total_findings,
+};
 use btr_volume::{Stop, TreeRoot, Volume};
 use btr_walk::RootPlace;
 use std::alloc::Global;
-use std::collections::{BTreeMap, BTreeSet};
+use std::collections::BTreeSet;
 
 // What is kept of the extent tree while uses are counted: how often each reference is stored, and the addresses of the blocks that refer
 // by their own.
 #[derive(Drop)]
 struct StoredRefs {
-    refs: BTreeMap<RefKey, u64>,
+    refs: RefList,
     full: BTreeSet<u64>,
 }
 
-// What the extent tree says of extents, behind a walk of all trees that found nothing. Room is made ahead for some of them.
+// What is wanted of the extent tree, behind a walk of all trees that found nothing.
 fn read_extents<R: Rack>(
     alloc: Global,
-    room: usize,
+    wanted: Wanted,
     listed: &[TreeRoot],
     rack: &mut R,
     vol: &mut Volume,
 ) -> Result<Stored, Stop>
     requires ready { IsReady (world (R.seen rack.old) vol.old) }
-    ensures ran { Ran (λ fs. Lists listed.now fs → walk_findings fs ≡ [] → Unless (IsStoredOf fs) result)
+    ensures ran { Ran (IfKnown (Lists listed.now) OfAllTrees)
+        (λ fs. Lists listed.now fs → walk_findings fs ≡ [] → Unless (IsStoredOf fs wanted) result)
         (world (R.seen rack.old) vol.old) (world (R.seen rack.new) vol.new) result }
 {
     match last_of(listed, EXTENT_TREE) {
-        None => Ok(Stored::new(alloc, u64::from(vol.sup.nodesize))),
-        Some(tree) => read_stored(alloc, room, &tree, rack, vol),
+        None => Ok(Stored::new(alloc, u64::from(vol.sup.nodesize), wanted)),
+        Some(tree) => read_stored(alloc, wanted, &tree, rack, vol),
     }
 }
 
 // Puts what extents state of the references to them, and keeps of what is stored the references alone.
 fn put_totals(alloc: Global, found: &mut Found, stored: Stored) -> Result<StoredRefs, Memory>
-    ensures found { IfOk result (λ kept. Adds (total_findings stored.extents stored.refs) found.old found.new) }
-    ensures refs { IfOk result (λ kept. kept.refs.entries ≡ stored.refs) }
+    ensures found { IfOk result (λ kept. Adds (total_findings stored.extents stored.refs.counts) found.old found.new) }
+    ensures refs { IfOk result (λ kept. kept.refs ≡ stored.refs.counts) }
     ensures full { IfOk result (λ kept. IsFull stored.extents kept.full) }
 {
-    put_total_findings(alloc, found, &stored)?;
     let full = full_backrefs(alloc, stored.extents())?;
-    let refs = stored.into_refs(alloc)?;
+    let refs = put_total_findings(alloc, found, stored)?;
     Ok(StoredRefs { refs, full })
 }
 
@@ -70,10 +73,11 @@ fn put_stored<R: Rack>(
     vol: &mut Volume,
 ) -> Result<StoredRefs, Stop>
     requires ready { IsReady (world (R.seen rack.old) vol.old) }
-    ensures ran { Ran (PutsAnd (ListsSound listed.now) AreRefsOf found_on_totals found.old found.new result)
+    ensures ran { Ran (IfKnown (Lists listed.now) OfAllTrees)
+        (PutsAnd (ListsSound listed.now) AreRefsOf found_on_totals found.old found.new result)
         (world (R.seen rack.old) vol.old) (world (R.seen rack.new) vol.new) result }
 {
-    match read_extents(alloc, 0, listed, rack, vol) {
+    match read_extents(alloc, Wanted::All, listed, rack, vol) {
         Err(stop) => Err(stop),
         Ok(stored) => match put_totals(alloc, found, stored) {
             Ok(kept) => Ok(kept),
@@ -93,15 +97,20 @@ fn put_counted<R: Rack>(
     vol: &mut Volume,
 ) -> Result<UsedExtents, Stop>
     requires ready { IsReady (world (R.seen rack.old) vol.old) }
-    ensures ran { Ran (PutsAnd
+    ensures ran { Ran (IfKnown (IsCounted trees.now places.items stored) OfAllTrees)
+        (PutsAnd
         (IsCounted trees.now places.items stored) AreUsed found_on_counts found.old found.new result)
         (world (R.seen rack.old) vol.old) (world (R.seen rack.new) vol.new) result }
 {
-    let forward = match count_uses(alloc, trees, places.as_slice(), &stored.full, rack, vol) {
+    let begun = match Forward::new(alloc, stored.refs) {
+        Ok(begun) => begun,
+        Err(Memory) => return Err(Stop::Memory),
+    };
+    let forward = match count_uses(begun, trees, places.as_slice(), &stored.full, rack, vol) {
         Ok(forward) => forward,
         Err(stop) => return Err(stop),
     };
-    match put_count_findings(found, &forward, &stored.refs) {
+    match put_count_findings(found, &forward) {
         Ok(()) => Ok(forward.into_extents()),
         Err(Memory) => Err(Stop::Memory),
     }
@@ -118,7 +127,8 @@ fn put_differences<R: Rack>(
     vol: &mut Volume,
 ) -> Result<UsedExtents, Stop>
     requires ready { IsReady (world (R.seen rack.old) vol.old) }
-    ensures ran { Ran (PutsAnd
+    ensures ran { Ran (IfKnown (IsWalked listed.now trees.now walk) OfAllTrees)
+        (PutsAnd
         (IsWalked listed.now trees.now walk) AreUsed difference_findings found.old found.new result)
         (world (R.seen rack.old) vol.old) (world (R.seen rack.new) vol.new) result }
 {
@@ -144,7 +154,8 @@ pub(crate) fn put_references<R: Rack>(
     vol: &mut Volume,
 ) -> Result<Vec<Extent>, Stop>
     requires ready { IsReady (world (R.seen rack.old) vol.old) }
-    ensures ran { Ran (PutsAnd (IsWalked listed.now trees.now walk)
+    ensures ran { Ran (IfKnown (IsWalked listed.now trees.now walk) OfAllTrees)
+        (PutsAnd (IsWalked listed.now trees.now walk)
         (λ fs all. AreExtents all.items fs) reference_findings found.old found.new result)
         (world (R.seen rack.old) vol.old) (world (R.seen rack.new) vol.new) result }
 {
@@ -153,8 +164,8 @@ pub(crate) fn put_references<R: Rack>(
         Ok(used) => used,
         Err(stop) => return Err(stop),
     };
-    let room = used.count();
-    let extents = match read_extents(alloc, room, listed, rack, vol) {
+    let wanted = Wanted::Extents(used.count());
+    let extents = match read_extents(alloc, wanted, listed, rack, vol) {
         Ok(stored) => stored.into_extents(),
         Err(stop) => return Err(stop),
     };

@@ -4,6 +4,7 @@ ghost use Rattle.btr_check.specs.Filesystem.{Filesystem};
 ghost use Rattle.btr_check.specs.Running.{world, IsReady, Ran};
 ghost use Rattle.btr_check.specs.Counting.{Unless};
 ghost use Rattle.btr_check.specs.SoundTrees.{AreBelow, AreKept, IsKeptOf, IsLike, PassesTree};
+ghost use Rattle.btr_check.specs.Wanted.{OfTree};
 
 use crate::form::kind_of;
 use crate::opening::{Opened, open_block};
@@ -24,11 +25,12 @@ pub(crate) struct RootedTree {
     pub(crate) children: Vec<Spot>,
 }
 
-/// A tree of files in which nothing is wrong, and what a visit left of its names: those of subvolumes.
+/// A tree of files in which nothing is wrong, what a visit left of its names: those of subvolumes, and whether none of its items is an orphan's.
 #[derive(Drop)]
 pub(crate) struct SoundTree {
     pub(crate) rooted: RootedTree,
     pub(crate) names: Unpaired,
+    pub(crate) is_plain: bool,
 }
 
 // So many sound trees are kept.
@@ -42,6 +44,26 @@ fn same_spot(one: &Spot, other: &Spot) -> bool
         && one.generation == other.generation
         && same_bound(one.first, other.first)
         && same_bound(one.up, other.up)
+}
+
+// Whether a block is among some.
+fn is_among(spot: &Spot, others: &[Spot]) -> bool {
+    for other in others {
+        if same_spot(spot, other) {
+            return true;
+        }
+    }
+    false
+}
+
+/// Whether two lists of blocks have one in common.
+pub(crate) fn share_one(some: &[Spot], others: &[Spot]) -> bool {
+    for spot in some {
+        if is_among(spot, others) {
+            return true;
+        }
+    }
+    false
 }
 
 // Whether blocks stand at the same spots, in the same order.
@@ -119,7 +141,8 @@ pub(crate) fn read_rooted<R: Rack>(
 ) -> Result<RootedTree, Stop>
     requires ready { IsReady (world (R.seen rack.old) vol.old) }
     ensures tree { IfOk result (λ rooted. rooted.tree ≡ tree.now) }
-    ensures ran { Ran (λ fs. Unless (λ rooted. AreBelow fs tree.now rooted.children.items) result)
+    ensures ran { Ran (OfTree tree.now.place)
+        (λ fs. Unless (λ rooted. AreBelow fs tree.now rooted.children.items) result)
         (world (R.seen rack.old) vol.old) (world (R.seen rack.new) vol.new) result }
 {
     let spot = Spot {

@@ -3,6 +3,7 @@ ghost use Rattle.std.specs.Prelude.{◌≡◌};
 ghost use Rattle.btr_check.specs.Families.{group_tree, found_on_groups, found_on_devices};
 ghost use Rattle.btr_check.specs.Passes.{AreExtents, Lists, Puts};
 ghost use Rattle.btr_check.specs.Running.{world, IsReady, Ran};
+ghost use Rattle.btr_check.specs.Wanted.{IfKnown, OfAllTrees};
 
 use crate::collecting::{collect, or_memory};
 use crate::refusing::{DEVICE_TREE, EXTENT_TREE, last_of};
@@ -40,7 +41,8 @@ pub(crate) fn put_groups<R: Rack>(
     vol: &mut Volume,
 ) -> Result<(), Stop>
     requires ready { IsReady (world (R.seen rack.old) vol.old) }
-    ensures ran { Ran (Puts (λ fs. Lists listed.now fs
+    ensures ran { Ran (IfKnown (Lists listed.now) OfAllTrees)
+        (Puts (λ fs. Lists listed.now fs
         × AreExtents extents.now fs) found_on_groups found.old found.new result)
         (world (R.seen rack.old) vol.old) (world (R.seen rack.new) vol.new) result }
 {
@@ -69,7 +71,8 @@ pub(crate) fn put_devices<R: Rack>(
     vol: &mut Volume,
 ) -> Result<(), Stop>
     requires ready { IsReady (world (R.seen rack.old) vol.old) }
-    ensures ran { Ran (Puts (Lists listed.now) found_on_devices found.old found.new result)
+    ensures ran { Ran (IfKnown (Lists listed.now) OfAllTrees)
+        (Puts (Lists listed.now) found_on_devices found.old found.new result)
         (world (R.seen rack.old) vol.old) (world (R.seen rack.new) vol.new) result }
 {
     collects_law();

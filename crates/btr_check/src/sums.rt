@@ -2,6 +2,7 @@
 ghost use Rattle.btr_check.specs.Families.{IsRunsOf, found_on_sums};
 ghost use Rattle.btr_check.specs.Passes.{AreExtents, Lists, PutsAnd};
 ghost use Rattle.btr_check.specs.Running.{world, IsReady, Ran};
+ghost use Rattle.btr_check.specs.Wanted.{IfKnown, OfAllTrees};
 
 use crate::collecting::collect;
 use crate::form::kind_of;
@@ -27,7 +28,8 @@ pub(crate) fn put_sums<R: Rack>(
     vol: &mut Volume,
 ) -> Result<Runs, Stop>
     requires ready { IsReady (world (R.seen rack.old) vol.old) }
-    ensures ran { Ran (PutsAnd (λ fs. Lists listed.now fs
+    ensures ran { Ran (IfKnown (Lists listed.now) OfAllTrees)
+        (PutsAnd (λ fs. Lists listed.now fs
         × AreExtents extents.now fs) IsRunsOf found_on_sums found.old found.new result)
         (world (R.seen rack.old) vol.old) (world (R.seen rack.new) vol.new) result }
 {

@@ -4,6 +4,7 @@ ghost use Rattle.btr_check.specs.Before.{refusal};
 ghost use Rattle.btr_check.specs.Running.{world, IsReady, Answers, Ran};
 ghost use Rattle.btr_check.specs.Trees.{root_tree, chunk_tree, listed};
 ghost use Rattle.btr_check.specs.Walking.{RootEnds};
+ghost use Rattle.btr_check.specs.Wanted.{OfAllTrees};
 
 use crate::form::kind_of;
 use crate::refusing::refusal_in;
@@ -22,7 +23,8 @@ pub(crate) const CHUNK_TREE: u64 = 3;
 // The trees that the root tree lists, where nothing is wrong with it.
 fn walk_root<R: Rack>(alloc: Global, rack: &mut R, vol: &mut Volume) -> Result<Vec<TreeRoot>, Stop>
     requires ready { IsReady (world (R.seen rack.old) vol.old) }
-    ensures ran { Ran (λ fs. RootEnds fs result)
+    ensures ran { Ran OfAllTrees
+        (λ fs. RootEnds fs result)
         (world (R.seen rack.old) vol.old) (world (R.seen rack.new) vol.new) result }
 {
     let mut walk = RootWalk::new(alloc, kind_of(&vol.sup));
@@ -48,7 +50,9 @@ pub fn read_trees<R: Rack>(
     vol: &mut Volume,
 ) -> Result<Vec<TreeRoot>, Stop>
     requires ready { IsReady (world (R.seen rack.old) vol.old) }
-    ensures ran { Ran (λ fs. Answers (λ trees. (refusal fs ≡ None) × (trees.items ≡ listed fs.sup fs.blocks)) fs result)
+    ensures ran { Ran OfAllTrees
+        (λ fs. Answers
+        (λ trees. (refusal fs ≡ None) × (trees.items ≡ listed fs.sup fs.blocks)) fs result)
         (world (R.seen rack.old) vol.old) (world (R.seen rack.new) vol.new) result }
 {
     match walk_root(alloc, rack, vol) {

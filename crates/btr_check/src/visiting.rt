@@ -2,6 +2,7 @@
 ghost use Rattle.std.specs.Prelude.{◌≡◌, fold, OnOk};
 ghost use Rattle.btr_tour.specs.Tour.{whole};
 ghost use Rattle.btr_check.specs.Running.{world, IsReady, Ran, StopsOutside};
+ghost use Rattle.btr_check.specs.Wanted.{OfTree};
 
 use crate::form::kind_of;
 use btr_base::Memory;
@@ -19,7 +20,8 @@ pub(crate) fn visit_tree<R: Rack, V: Visitor<Memory>>(
 ) -> Result<(), Stop>
     requires ready { IsReady (world (R.seen rack.old) vol.old) }
     ensures outside { StopsOutside result }
-    ensures ran { Ran (λ fs. OnOk result (visitor.new ≡ fold V.step visitor.old (whole fs.blocks place.now)))
+    ensures ran { Ran (OfTree place.now)
+        (λ fs. OnOk result (visitor.new ≡ fold V.step visitor.old (whole fs.blocks place.now)))
         (world (R.seen rack.old) vol.old) (world (R.seen rack.new) vol.new) result }
 {
     let kind = kind_of(&vol.sup);

@@ -5,6 +5,7 @@ ghost use Rattle.btr_check.specs.Passing.{Keeps, Knows, Passes, Walks, children_
 ghost use Rattle.btr_check.specs.Passing.{subtree_marks};
 ghost use Rattle.btr_check.specs.Running.{world, IsReady, Ran, StopsOutside};
 ghost use Rattle.btr_check.specs.Walking.{HasWalked, IsWalkOf};
+ghost use Rattle.btr_check.specs.Wanted.{OfSubtree, OfSubtrees, OfTree, OfTrees};
 
 use crate::form::kind_of;
 use crate::opening::{Opened, open_block};
@@ -57,7 +58,8 @@ fn walk_block<R: Rack>(
 ) -> Result<Option<Edges>, Stop>
     requires ready { IsReady (world (R.seen rack.old) vol.old) }
     ensures outside { StopsOutside result }
-    ensures ran { Ran (λ fs. Walks fs (subtree_marks fs level spot.now) walk.old walk.new
+    ensures ran { Ran (OfSubtree level spot.now)
+        (λ fs. Walks fs (subtree_marks fs level spot.now) walk.old walk.new
         subtrees.old.known.entries subtrees.new.known.entries result)
         (world (R.seen rack.old) vol.old) (world (R.seen rack.new) vol.new) result }
 {
@@ -82,7 +84,8 @@ fn walk_below<R: Rack>(
 ) -> Result<Option<Edges>, Stop>
     requires ready { IsReady (world (R.seen rack.old) vol.old) }
     ensures outside { StopsOutside result }
-    ensures ran { Ran (λ fs. Walks fs (subtree_marks fs level spot.now) walk.old walk.new
+    ensures ran { Ran (OfSubtree level spot.now)
+        (λ fs. Walks fs (subtree_marks fs level spot.now) walk.old walk.new
         subtrees.old.known.entries subtrees.new.known.entries result)
         (world (R.seen rack.old) vol.old) (world (R.seen rack.new) vol.new) result }
 {
@@ -107,7 +110,8 @@ fn walk_children<R: Rack>(
 ) -> Result<Option<Edges>, Stop>
     requires ready { IsReady (world (R.seen rack.old) vol.old) }
     ensures outside { StopsOutside result }
-    ensures ran { Ran (λ fs. (addr : ℕ) → Walks fs (children_marks fs addr level spots.now)
+    ensures ran { Ran (OfSubtrees level spots.now)
+        (λ fs. (addr : ℕ) → Walks fs (children_marks fs addr level spots.now)
         walk.old walk.new subtrees.old.known.entries subtrees.new.known.entries result)
         (world (R.seen rack.old) vol.old) (world (R.seen rack.new) vol.new) result }
 {
@@ -131,7 +135,8 @@ fn walk_tree<R: Rack>(
 ) -> Result<(), Stop>
     requires ready { IsReady (world (R.seen rack.old) vol.old) }
     ensures outside { StopsOutside result }
-    ensures ran { Ran (λ fs. (before : List TreeRoot) → HasWalked fs before walk.old
+    ensures ran { Ran (OfTree tree.now.place)
+        (λ fs. (before : List TreeRoot) → HasWalked fs before walk.old
         → Knows fs walk.old subtrees.old.known.entries
         → OnOk result (HasWalked fs (before ++ tree.now ∷ []) walk.new
         × Knows fs walk.new subtrees.new.known.entries))
@@ -161,7 +166,8 @@ fn walk_more<R: Rack>(
 ) -> Result<(), Stop>
     requires ready { IsReady (world (R.seen rack.old) vol.old) }
     ensures outside { StopsOutside result }
-    ensures ran { Ran (λ fs. HasWalked fs [] walk.old → Knows fs walk.old subtrees.old.known.entries
+    ensures ran { Ran (OfTrees trees.now)
+        (λ fs. HasWalked fs [] walk.old → Knows fs walk.old subtrees.old.known.entries
         → OnOk result (HasWalked fs trees.now walk.new
         × Knows fs walk.new subtrees.new.known.entries))
         (world (R.seen rack.old) vol.old) (world (R.seen rack.new) vol.new) result }
@@ -189,7 +195,8 @@ pub fn walk_trees<R: Rack>(
 ) -> Result<Walk, Stop>
     requires ready { IsReady (world (R.seen rack.old) vol.old) }
     ensures outside { StopsOutside result }
-    ensures ran { Ran (λ fs. IfOk result (IsWalkOf fs trees.now))
+    ensures ran { Ran (OfTrees trees.now)
+        (λ fs. IfOk result (IsWalkOf fs trees.now))
         (world (R.seen rack.old) vol.old) (world (R.seen rack.new) vol.new) result }
 {
     let mut walk = Walk::new(alloc, kind_of(&vol.sup));

@@ -60,7 +60,7 @@ impl<'a> Model for EntryIter<'a> {
 }
 
 impl EntryList {
-    ghost use Rattle.std.specs.Prelude.{◌≡◌, ◌∷◌, ◌++◌, [], OnOk};
+    ghost use Rattle.std.specs.Prelude.{◌≡◌, ◌==◌, ◌∷◌, ◌++◌, [], length, OnOk};
     ghost use Rattle.btr_check_names.specs.Entry.{entry_of};
 
     /// No entries yet.
@@ -78,6 +78,13 @@ impl EntryList {
         ensures { OnOk result (self.new ≡ self.old ++ entry_of entry.now ∷ []) }
     {
         push_row(&mut self.rows, &mut self.names, entry)
+    }
+
+    /// Whether there are none.
+    pub(crate) fn is_empty(&self) -> bool
+        ensures { result ≡ (length self.now == 0) }
+    {
+        self.rows.is_empty()
     }
 
     /// The entries, in the order in which they were put.

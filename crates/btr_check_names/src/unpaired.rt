@@ -36,7 +36,7 @@ pub struct Unpaired {
 }
 
 impl Unpaired {
-    ghost use Rattle.std.specs.Prelude.{◌≡◌, ◌||◌, ◌∷◌, [], fold, OnOk};
+    ghost use Rattle.std.specs.Prelude.{◌≡◌, ◌==◌, ◌||◌, ◌∷◌, [], fold, length, OnOk};
     ghost use Rattle.btr_items.specs.Entry.{entries_of};
     ghost use Rattle.btr_items.specs.ExtRef.{ext_refs_of};
     ghost use Rattle.btr_items.specs.InodeRef.{inode_refs_of};
@@ -84,6 +84,13 @@ impl Unpaired {
         ensures { result ≡ are_paired self.now }
     {
         self.are_whole() && self.links.are_met()
+    }
+
+    /// Whether no entry led to a subvolume.
+    pub fn names_no_subvolume(&self) -> bool
+        ensures { result ≡ (length self.now.subvolumes == 0) }
+    {
+        self.subvolumes.is_empty()
     }
 
     /// The items that come now are those of a tree that this one is compared with: their links count on the other side.

@@ -1,4 +1,4 @@
-use Rattle.std.proofs.Common.{◌≡◌, true, Ok, Err, refl, sym, ◌∙◌}
+use Rattle.std.proofs.Common.{◌≡◌, inl, true, Err, refl, sym, ◌∙◌}
 use Rattle.std.specs.Bool.{⊤}
 use Rattle.btr_findings.specs.Findings.{Adds, HasJust}
 use Rattle.btr_volume.specs.declared.stop.Stop.TheVariants.{Memory as NoMemory}
@@ -7,8 +7,9 @@ use Rattle.btr_check.specs.Passes.{IsWalked, Lists}
 use Rattle.btr_check.specs.Running.{world, filesystem, is_outside}
 use Rattle.btr_check.specs.Walking.{IsWalkOf}
 use Rattle.btr_check.proofs.Passes.{ran_memory, ran_no_memory}
-use Rattle.btr_check.proofs.Runs.{ran_stop, ran_then, ran_value}
-use Rattle.btr_check.proofs.Wholes.{is_walked, rules_just, walk_just}
+use Rattle.btr_check.proofs.Runs.{nothing, ran_both, ran_stop, ran_stop_within, ran_then, ran_value}
+use Rattle.btr_check.proofs.Wanting.{all_wanted}
+use Rattle.btr_check.proofs.Wholes.{all_are, is_walked, rules_just, walk_just}
 use Rattle.btr_check.proofs.checking.find_all.Goals as goal
 
 pub returns-in-Err : goal.returns-in-Err
@@ -24,8 +25,12 @@ returns-in-Err-walk_trees g c =
     let y = world (g.R.Rack.seen c.walk_trees.new.rack) c.walk_trees.new.vol in
     let stop = c.in-Err-walk_trees.stop in
     record {
-      ran = ran_stop (λ fs. ⊤) (λ fs. Lists c.args.listed.now fs → is_outside stop ≡ true) x y stop c.in-Err-walk_trees.ensures.ran
-          (λ B h lists. c.in-Err-walk_trees.ensures.outside);
+      ran = ran_stop_within (λ fs. ⊤) (λ fs. Lists c.args.listed.now fs → is_outside stop ≡ true) x y stop c.in-Err-walk_trees.ensures.ran
+          (λ B h lists. c.in-Err-walk_trees.ensures.outside)
+          (λ B want w lists.
+          let fs = filesystem c.args.vol.now B in
+          inl (all_wanted fs c.as_slice-trees.result.now want
+          (all_are fs c.args.listed.now c.as_slice-trees.result.now lists (c.as_slice-trees.ensures.value ∙ c.in-Ok.ensures)) w));
     }
 
 pub returns-then-is_sound : goal.returns-then-is_sound
@@ -42,6 +47,9 @@ returns-then-is_sound g c =
           (ran_then {C = Unit {0}} (λ fs. IsWalkOf fs trees walk) (λ fs. IsWalked c.args.listed.now trees walk fs → is_outside stop ≡ true)
           (λ fs. Lists c.args.listed.now fs → is_outside stop ≡ true) x y z walk (Err stop) c.in-Ok-walk_trees.ensures.ran c.in-Err-put_rules.ensures.ran
           (λ B p q lists. q (is_walked (filesystem c.args.vol.now B) c.args.listed.now trees lists (c.as_slice-trees.ensures.value ∙ c.in-Ok.ensures) walk p
+          (sym c.is_sound.ensures ∙ c.if-is_sound.true)))
+          (λ B p want w lists. w (is_walked (filesystem c.args.vol.now B) c.args.listed.now trees lists
+          (c.as_slice-trees.ensures.value ∙ c.in-Ok.ensures) walk p
           (sym c.is_sound.ensures ∙ c.if-is_sound.true))))
           (λ B h. h);
     }
@@ -54,10 +62,10 @@ returns-in-Ok-put_rules g c =
     let trees = c.as_slice-trees.result.now in
     let walk = c.in-Ok-walk_trees.walk in
     let found = c.put_rules.new.found in
-    let both = ran_then {C = Unit {0}} (λ fs. IsWalkOf fs trees walk)
+    let both = ran_both {C = Unit {0}} {U = nothing} (λ fs. IsWalkOf fs trees walk)
     (λ fs. IsWalked c.args.listed.now trees walk fs → Adds (rule_findings c.args.read_data fs) c.new-found.result found)
     (λ fs. Lists c.args.listed.now fs → HasJust (all_findings c.args.read_data fs) found) x y z walk
-    (Ok tt) c.in-Ok-walk_trees.ensures.ran c.in-Ok-put_rules.ensures.ran
+    tt c.in-Ok-walk_trees.ensures.ran c.in-Ok-put_rules.ensures.ran
     (λ B p q lists.
     let fs = filesystem c.args.vol.now B in
     let are = c.as_slice-trees.ensures.value ∙ c.in-Ok.ensures in

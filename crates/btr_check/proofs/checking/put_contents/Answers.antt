@@ -1,4 +1,4 @@
-use Rattle.std.proofs.Common.{◌≡◌, true, ◌++◌, map, refl, ◌∙◌, subst}
+use Rattle.std.proofs.Common.{◌≡◌, true, ◌++◌, inl, map, refl, ◌∙◌, subst}
 use Rattle.btr_findings.proofs.Adding.{adds_then}
 use Rattle.btr_findings.specs.Findings.{Adds}
 use Rattle.btr_check_space.specs.Cover.{HoldSame}
@@ -51,5 +51,6 @@ returns-in-Ok-sum_cover g c =
           (λ B p q known. unless_more (λ u. Adds (found_on_files (filesystem c.args.vol.now B)) two three)
           (λ u. Adds (data_if c.args.read_data (filesystem c.args.vol.now B) ++ found_on_files (filesystem c.args.vol.now B)) one three) c.put_files.result
           (λ u h. adds_then (data_if c.args.read_data (filesystem c.args.vol.now B)) (found_on_files (filesystem c.args.vol.now B)) one two three (p known) h)
-          (q (known.0, subst (λ l. HoldSame (map run_stretch l) sums) (c.as_slice.ensures ∙ known.1) c.in-Ok-sum_cover.ensures)));
+          (q (known.0, subst (λ l. HoldSame (map run_stretch l) sums) (c.as_slice.ensures ∙ known.1) c.in-Ok-sum_cover.ensures)))
+          (λ B p want w known. inl (w known.0));
     }

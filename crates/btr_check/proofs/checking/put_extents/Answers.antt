@@ -1,4 +1,4 @@
-use Rattle.std.proofs.Common.{◌≡◌, true, ◌++◌, Ok, Err, ◌∙◌}
+use Rattle.std.proofs.Common.{◌≡◌, true, ◌++◌, Err, ◌∙◌}
 use Rattle.btr_findings.proofs.Adding.{adds_then}
 use Rattle.btr_findings.specs.Findings.{Adds}
 use Rattle.btr_check.specs.Counting.{Unless}
@@ -8,7 +8,7 @@ use Rattle.btr_check.specs.Passes.{AreExtents, IsWalked, Lists}
 use Rattle.btr_check.specs.Running.{world, filesystem, is_outside}
 use Rattle.btr_check.specs.Uses.{reference_findings}
 use Rattle.btr_check.proofs.Passes.{unless_more}
-use Rattle.btr_check.proofs.Runs.{ran_stop, ran_then}
+use Rattle.btr_check.proofs.Runs.{nothing, ran_both, ran_stop, ran_then}
 use Rattle.btr_check.proofs.checking.put_extents.Goals as goal
 
 pub returns-in-Err : goal.returns-in-Err
@@ -32,7 +32,8 @@ returns-in-Err-put_groups g c =
       ran = ran_stop {A = Unit {0}} (λ fs. known fs → is_outside stop ≡ true) (λ fs. known fs → is_outside stop ≡ true) x z stop
           (ran_then {C = Unit {0}} (λ fs. known fs → AreExtents extents.items fs × Adds (reference_findings fs) c.args.found.now c.put_references.new.found)
           (λ fs. Lists c.args.listed.now fs × AreExtents all fs → is_outside stop ≡ true) (λ fs. known fs → is_outside stop ≡ true)
-          x y z extents (Err stop) c.in-Ok.ensures.ran c.in-Err-put_groups.ensures.ran (λ B p q k. q (k.lists, c.as_slice-all.ensures.value ∙ (p k).0)))
+          x y z extents (Err stop) c.in-Ok.ensures.ran c.in-Err-put_groups.ensures.ran (λ B p q k. q (k.lists, c.as_slice-all.ensures.value ∙ (p k).0))
+          (λ B p want w k. w k.lists))
           (λ B h. h);
     }
 
@@ -49,10 +50,10 @@ returns g c =
     let two = c.put_references.new.found in
     let three = c.put_groups.new.found in
     let four = c.put_sums.new.found in
-    let to_three = ran_then {C = Unit {0}} (λ fs. known fs → AreExtents extents.items fs × Adds (reference_findings fs) one two)
+    let to_three = ran_both {C = Unit {0}} {U = nothing} (λ fs. known fs → AreExtents extents.items fs × Adds (reference_findings fs) one two)
     (λ fs. Lists c.args.listed.now fs × AreExtents all fs → Adds (found_on_groups fs) two three)
     (λ fs. known fs → AreExtents all fs × Adds (reference_findings fs ++ found_on_groups fs) one three) x y z extents
-    (Ok tt) c.in-Ok.ensures.ran c.in-Ok-put_groups.ensures.ran
+    tt c.in-Ok.ensures.ran c.in-Ok-put_groups.ensures.ran
     (λ B p q k.
     let are = c.as_slice-all.ensures.value ∙ (p k).0 in (
       are,
@@ -70,5 +71,6 @@ returns g c =
             adds_then (reference_findings (filesystem c.args.vol.now B) ++ found_on_groups (filesystem c.args.vol.now B))
                 (found_on_sums (filesystem c.args.vol.now B)) one three four (p k).1 h.1,
           ))
-          (q (k.lists, (p k).0)));
+          (q (k.lists, (p k).0)))
+          (λ B p want w k. w k.lists);
     }

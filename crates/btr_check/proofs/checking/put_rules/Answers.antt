@@ -1,4 +1,4 @@
-use Rattle.std.proofs.Common.{◌≡◌, true, List, ◌++◌, Ok, Err}
+use Rattle.std.proofs.Common.{◌≡◌, inl, true, List, ◌++◌, Err}
 use Rattle.btr_findings.proofs.Adding.{adds_then}
 use Rattle.btr_findings.specs.declared.finding.Finding.{Finding}
 use Rattle.btr_findings.specs.Findings.{Adds}
@@ -8,7 +8,7 @@ use Rattle.btr_check.specs.Findings.{data_if, rule_findings}
 use Rattle.btr_check.specs.Passes.{IsWalked, Lists, Puts}
 use Rattle.btr_check.specs.Running.{world, filesystem, is_outside}
 use Rattle.btr_check.proofs.Passes.{unless_more}
-use Rattle.btr_check.proofs.Runs.{ran_stop, ran_then}
+use Rattle.btr_check.proofs.Runs.{nothing, ran_both, ran_stop_within, ran_then}
 use Rattle.btr_check.proofs.checking.put_rules.Goals as goal
 
 pub returns-in-Err : goal.returns-in-Err
@@ -17,8 +17,9 @@ returns-in-Err g c =
     let y = world (g.R.Rack.seen c.put_extents.new.rack) c.put_extents.new.vol in
     let known : Filesystem → Type 0 = IsWalked c.args.listed.now c.args.trees.now c.args.walk in
     record {
-      ran = ran_stop (λ fs. known fs → is_outside c.in-Err.stop ≡ true)
-          (λ fs. known fs → is_outside c.in-Err.stop ≡ true) x y c.in-Err.stop c.in-Err.ensures.ran (λ B h. h);
+      ran = ran_stop_within (λ fs. known fs → is_outside c.in-Err.stop ≡ true)
+          (λ fs. known fs → is_outside c.in-Err.stop ≡ true) x y c.in-Err.stop c.in-Err.ensures.ran (λ B h. h)
+          (λ B want w k. inl (w k));
     }
 
 pub returns-in-Err-put_devices : goal.returns-in-Err-put_devices
@@ -32,7 +33,8 @@ returns-in-Err-put_devices g c =
     record {
       ran = ran_then (λ fs. known fs → IsRunsOf fs runs × Adds (found_on_extents fs) c.args.found.now c.put_extents.new.found)
           (λ fs. Lists c.args.listed.now fs → is_outside stop ≡ true) (λ fs. known fs → is_outside stop ≡ true)
-          x y z runs (Err stop) c.in-Ok.ensures.ran c.in-Err-put_devices.ensures.ran (λ B p q k. q k.lists);
+          x y z runs (Err stop) c.in-Ok.ensures.ran c.in-Err-put_devices.ensures.ran (λ B p q k. q k.lists)
+          (λ B p want w k. inl (w k.lists));
     }
 
 pub returns-in-Ok-put_devices : goal.returns-in-Ok-put_devices
@@ -48,10 +50,10 @@ returns-in-Ok-put_devices g c =
     let three = c.put_devices.new.found in
     let four = c.put_contents.new.found in
     let rest : Filesystem → List Finding = λ fs. data_if c.args.read_data fs ++ found_on_files fs in
-    let to_three = ran_then {C = Unit {0}} (λ fs. known fs → IsRunsOf fs runs × Adds (found_on_extents fs) one two)
+    let to_three = ran_both {C = Unit {0}} {U = nothing} (λ fs. known fs → IsRunsOf fs runs × Adds (found_on_extents fs) one two)
     (λ fs. Lists c.args.listed.now fs → Adds (found_on_devices fs) two three)
     (λ fs. known fs → IsRunsOf fs runs × Adds (found_on_extents fs ++ found_on_devices fs) one three) x y z runs
-    (Ok tt) c.in-Ok.ensures.ran c.in-Ok-put_devices.ensures.ran
+    tt c.in-Ok.ensures.ran c.in-Ok-put_devices.ensures.ran
     (λ B p q k. (
       (p k).0,
       adds_then (found_on_extents (filesystem c.args.vol.now B)) (found_on_devices (filesystem c.args.vol.now B)) one two three (p k).1
@@ -65,5 +67,6 @@ returns-in-Ok-put_devices g c =
           (λ u. Adds (rule_findings c.args.read_data (filesystem c.args.vol.now B)) one four) c.put_contents.result
           (λ u h. adds_then (found_on_extents (filesystem c.args.vol.now B) ++ found_on_devices (filesystem c.args.vol.now B))
           (rest (filesystem c.args.vol.now B)) one three four (p k).1 h)
-          (q (k.lists, (p k).0)));
+          (q (k.lists, (p k).0)))
+          (λ B p want w k. w (k.lists, (p k).0));
     }

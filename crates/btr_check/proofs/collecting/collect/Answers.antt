@@ -1,9 +1,12 @@
-use Rattle.std.proofs.Common.{◌≡◌, true, fold, sym, ap, ◌∙◌}
+use Rattle.std.proofs.Common.{◌≡◌, true, fold, [], Option, option_to_list, sym, ap, ◌∙◌, subst}
+use Rattle.std.specs.List.{Contains}
 use Rattle.std.specs.Bool.{⊤}
 use Rattle.btr_tour.specs.Tour.{whole}
+use Rattle.btr_volume.specs.declared.root.TreeRoot.{TreeRoot}
 use Rattle.btr_check.specs.Passes.{marks_if}
 use Rattle.btr_check.specs.Running.{world, is_outside}
-use Rattle.btr_check.proofs.Runs.{ran_none, ran_value, ran_stop}
+use Rattle.btr_check.proofs.Runs.{ran_none, ran_value, ran_stop_within}
+use Rattle.btr_check.proofs.Wants.{first_in}
 use Rattle.btr_check.proofs.collecting.collect.Goals as goal
 
 pub returns-in_default : goal.returns-in_default
@@ -27,8 +30,11 @@ returns-in-Ok g c =
 
 pub returns-in-Err : goal.returns-in-Err
 returns-in-Err g c =
+    let tree = c.in-Some.tree in
     let x = world (g.R.Rack.seen c.args.rack.now) c.args.vol.now in
     let y = world (g.R.Rack.seen c.visit_tree.new.rack) c.visit_tree.new.vol in
     record {
-      ran = ran_stop {A = Unit {0}} (λ fs. ⊤) (λ fs. is_outside c.in-Err.stop ≡ true) x y c.in-Err.stop c.in-Err.ensures.ran (λ B h. c.in-Err.ensures.outside);
+      ran = ran_stop_within {A = Unit {0}} (λ fs. ⊤) (λ fs. is_outside c.in-Err.stop ≡ true) x y c.in-Err.stop
+          c.in-Err.ensures.ran (λ B h. c.in-Err.ensures.outside)
+          (λ B want w. (tree, subst (λ (o : Option TreeRoot). Contains (option_to_list o) tree) (sym c.in-Some.is) (first_in tree []), w));
     }

@@ -8,19 +8,19 @@ use Rattle.btr_check.proofs.counting.count_uses.Goals as goal
 pub returns-in-Ok-count_blocks : goal.returns-in-Ok-count_blocks
 returns-in-Ok-count_blocks g c = record {
   ran = ran_value (λ fs. BlocksCount fs.blocks c.args.places.now c.args.full.now c.count_roots.new.forward c.count_blocks.new.forward (Ok tt))
-      (λ fs. UsesCount fs.blocks c.args.trees.now c.args.places.now c.args.full.now (Ok c.count_blocks.new.forward))
+      (λ fs. UsesCount fs.blocks c.args.forward c.args.trees.now c.args.places.now c.args.full.now (Ok c.count_blocks.new.forward))
       (world (g.R.Rack.seen c.args.rack.now) c.args.vol.now) (world (g.R.Rack.seen c.count_blocks.new.rack) c.count_blocks.new.vol) c.in-Ok-count_blocks.field-0
       c.count_blocks.new.forward c.in-Ok-count_blocks.ensures.ran
-      (λ B h. uses_counted B c.args.trees.now c.args.places.now c.args.full.now c.new-forward.result c.count_roots.new.forward c.count_blocks.new.forward
-      c.new-forward.ensures c.in-Ok.ensures h);
+      (λ B h. uses_counted B c.args.forward c.args.trees.now c.args.places.now c.args.full.now c.count_roots.new.forward c.count_blocks.new.forward
+      c.in-Ok.ensures h);
 }
 
 pub returns-in-Err-count_blocks : goal.returns-in-Err-count_blocks
 returns-in-Err-count_blocks g c = record {
   ran = ran_stop {A = Unit {0}} (λ fs. BlocksCount fs.blocks c.args.places.now c.args.full.now c.count_roots.new.forward c.count_blocks.new.forward
       (Err c.in-Err-count_blocks.stop))
-      (λ fs. UsesCount fs.blocks c.args.trees.now c.args.places.now c.args.full.now (Err c.in-Err-count_blocks.stop))
+      (λ fs. UsesCount fs.blocks c.args.forward c.args.trees.now c.args.places.now c.args.full.now (Err c.in-Err-count_blocks.stop))
       (world (g.R.Rack.seen c.args.rack.now) c.args.vol.now) (world (g.R.Rack.seen c.count_blocks.new.rack) c.count_blocks.new.vol) c.in-Err-count_blocks.stop
       c.in-Err-count_blocks.ensures.ran
-      (λ B h. uses_stop B c.args.trees.now c.args.places.now c.args.full.now c.count_roots.new.forward c.count_blocks.new.forward c.in-Err-count_blocks.stop h);
+      (λ B h. uses_stop B c.args.forward c.args.trees.now c.args.places.now c.args.full.now c.count_roots.new.forward c.count_blocks.new.forward c.in-Err-count_blocks.stop h);
 }

@@ -8,6 +8,7 @@ use Rattle.btr_check.specs.Families.{IsCoverOf}
 use Rattle.btr_check.specs.FileTrees.{Treats}
 use Rattle.btr_check.specs.Running.{world, filesystem, is_outside}
 use Rattle.btr_check.specs.SoundTrees.{AreBelow, AreKept, PassesTree, TreatsAll}
+use Rattle.btr_check.specs.Wanted.{OfTree}
 use Rattle.btr_check.specs.declared.sound_tree.RootedTree.{RootedTree}
 use Rattle.btr_check.proofs.Passes.{ran_no_memory}
 use Rattle.btr_check.proofs.Runs.{ran_stop, ran_then, ran_value}
@@ -61,26 +62,27 @@ pub returns-in-Ok-false : goal.returns-in-Ok-false
 returns-in-Ok-false g c =
     let x = world (g.R.Rack.seen c.args.rack.now) c.args.vol.now in
     let y = world (g.R.Rack.seen c.read_rooted.new.rack) c.read_rooted.new.vol in
-    let z = world (g.R.Rack.seen c.put_visited.new.rack) c.put_visited.new.vol in
+    let z = world (g.R.Rack.seen c.put_unlike.new.rack) c.put_unlike.new.vol in
     let rooted = c.in-Ok.rooted in
     let tree = c.args.tree.now in
     let found = c.args.found.now in
-    let found' = c.put_visited.new.found in
+    let found' = c.put_unlike.new.found in
     let old = c.args.kept.now in
     let mid = c.pass_like.new.subvolumes in
-    let new = c.put_visited.new.kept in
-    let r = c.put_visited.result in
+    let new = c.put_unlike.new.kept in
+    let r = c.put_unlike.result in
     record {
       ran = ran_then {A = RootedTree} {C = Unit {0}} (λ fs. AreBelow fs tree rooted.children.items)
           (λ fs. IsCoverOf fs c.args.sums.now → AreKept fs old.sound.items → AreBelow fs rooted.tree rooted.children.items
           → Unless (λ u. TreatsAll fs (rooted.tree ∷ []) found found' mid new.subvolumes new.sound.items) r)
           (λ fs. IsCoverOf fs c.args.sums.now → AreKept fs old.sound.items
           → Unless (λ u. TreatsAll fs (tree ∷ []) found found' old.subvolumes new.subvolumes new.sound.items) r) x y z rooted r
-          c.in-Ok.ensures.ran c.put_visited.ensures.ran
+          c.in-Ok.ensures.ran c.put_unlike.ensures.ran
           (λ B below h same kept.
           let fs = filesystem c.args.vol.now B in
           subst (λ (t : TreeRoot). Unless (λ u. TreatsAll fs (t ∷ []) found found' old.subvolumes new.subvolumes new.sound.items) r) c.in-Ok.ensures.tree
           (subst (λ (n : Subvolumes). Unless (λ u. TreatsAll fs (rooted.tree ∷ []) found found' n new.subvolumes new.sound.items) r)
           (subst (PassesTree c.as_slice.result.now rooted old.subvolumes mid) c.in-Ok-false.field-0-test c.in-Ok-false.ensures)
-          (h same kept (subst (λ (t : TreeRoot). AreBelow fs t rooted.children.items) (sym c.in-Ok.ensures.tree) below))));
+          (h same kept (subst (λ (t : TreeRoot). AreBelow fs t rooted.children.items) (sym c.in-Ok.ensures.tree) below))))
+          (λ B p want w. subst (λ (t : TreeRoot). OfTree t.place (filesystem c.args.vol.now B) want) c.in-Ok.ensures.tree w);
     }

@@ -1,11 +1,12 @@
-use Rattle.std.proofs.Common.{◌≡◌, ◌+◌, true, [], ◌∷◌, take, get_or, Ok, Err}
+use Rattle.std.proofs.Common.{◌≡◌, ◌+◌, true, [], ◌∷◌, take, get_or, Err}
+use Rattle.std.proofs.lemmas.List.Elements.{Contains-get_or}
 use Rattle.btr_volume.specs.declared.root.TreeRoot.{TreeRoot}
 use Rattle.btr_check.specs.Data.{sum_runs}
 use Rattle.btr_check.specs.Families.{IsCoverOf}
 use Rattle.btr_check.specs.Running.{world, filesystem, is_outside}
 use Rattle.btr_check.specs.SoundTrees.{AreKept, TreatsAll}
 use Rattle.btr_check.proofs.FileTrees.{treats_none, treats_next, treats_all}
-use Rattle.btr_check.proofs.Runs.{ran_none, ran_then, ran_more}
+use Rattle.btr_check.proofs.Runs.{ran_both, ran_none, ran_then, ran_value}
 use Rattle.btr_check.proofs.file_trees.put_file_trees.Goals as goal
 
 pub loop-tree-init : goal.loop-tree-init
@@ -31,7 +32,7 @@ loop-tree-preserved g c =
     let new = c.put_file_tree.new.kept in
     let found' = c.put_file_tree.new.found in
     record {
-      ran = ran_then {A = Unit {0}} {C = Unit {0}}
+      ran = ran_both {A = Unit {0}} {C = Unit {0}}
           (λ fs. IsCoverOf fs c.args.sums.now → AreKept fs first.sound.items → TreatsAll fs
           (take l.tree-index files) c.args.found.now l.found first.subvolumes old.subvolumes old.sound.items)
           (λ fs. IsCoverOf fs c.args.sums.now → AreKept fs old.sound.items → TreatsAll fs
@@ -39,7 +40,7 @@ loop-tree-preserved g c =
           (λ fs. IsCoverOf fs c.args.sums.now → AreKept fs first.sound.items → TreatsAll fs
           (take (l.tree-index + 1) files) c.args.found.now found' first.subvolumes new.subvolumes new.sound.items)
           (world (g.R.Rack.seen c.args.rack.now) c.args.vol.now) (world (g.R.Rack.seen l.rack) l.vol)
-          (world (g.R.Rack.seen c.put_file_tree.new.rack) c.put_file_tree.new.vol) tt (Ok tt) l.invariant.ran c.in-Ok.ensures.ran
+          (world (g.R.Rack.seen c.put_file_tree.new.rack) c.put_file_tree.new.vol) tt tt l.invariant.ran c.in-Ok.ensures.ran
           (λ B p q same all.
           let before = p same all in
           let here = q same before.kept in
@@ -53,6 +54,7 @@ loop-tree-preserved g c =
 pub returns-in-Err : goal.returns-in-Err
 returns-in-Err g c =
     let l = c.loop-tree in
+    let none : TreeRoot = record { id = 0; offset = 0; place = record { addr = 0; generation = 0; level = 0 }; dirid = 0; refs = 0 } in
     let first = c.args.kept.now in
     let old = l.kept in
     record {
@@ -63,7 +65,8 @@ returns-in-Err g c =
           (λ fs. IsCoverOf fs c.args.sums.now → AreKept fs first.sound.items → is_outside c.in-Err.stop ≡ true)
           (world (g.R.Rack.seen c.args.rack.now) c.args.vol.now) (world (g.R.Rack.seen l.rack) l.vol)
           (world (g.R.Rack.seen c.put_file_tree.new.rack) c.put_file_tree.new.vol) tt (Err c.in-Err.stop) l.invariant.ran c.in-Err.ensures.ran
-          (λ B p q same all. q same (p same all).kept);
+          (λ B p q same all. q same (p same all).kept)
+          (λ B p want w. (get_or c.args.files.now l.tree-index none, Contains-get_or c.args.files.now l.tree-index none c.loop-tree-test.true, w));
     }
 
 pub returns : goal.returns
@@ -71,11 +74,11 @@ returns g c =
     let l = c.loop-tree in
     let first = c.args.kept.now in
     record {
-      ran = ran_more {A = Unit {0}} (λ fs. IsCoverOf fs c.args.sums.now → AreKept fs first.sound.items → TreatsAll fs
+      ran = ran_value {A = Unit {0}} {C = Unit {0}} (λ fs. IsCoverOf fs c.args.sums.now → AreKept fs first.sound.items → TreatsAll fs
           (take l.tree-index c.args.files.now) c.args.found.now l.found first.subvolumes l.kept.subvolumes l.kept.sound.items)
           (λ fs. IsCoverOf fs c.args.sums.now → AreKept fs first.sound.items → TreatsAll fs
           c.args.files.now c.args.found.now l.found first.subvolumes l.kept.subvolumes l.kept.sound.items)
-          (world (g.R.Rack.seen c.args.rack.now) c.args.vol.now) (world (g.R.Rack.seen l.rack) l.vol) (Ok tt) l.invariant.ran
+          (world (g.R.Rack.seen c.args.rack.now) c.args.vol.now) (world (g.R.Rack.seen l.rack) l.vol) tt tt l.invariant.ran
           (λ B p same all.
           let before = p same all in
           record {

@@ -1,4 +1,4 @@
-use Rattle.std.proofs.Common.{◌≡◌, true, [], Ok, Err, refl, sym, ◌∙◌, subst}
+use Rattle.std.proofs.Common.{◌≡◌, true, [], Err, refl, sym, ◌∙◌, subst}
 use Rattle.btr_check_names.specs.Subvolumes.{subvolumes_in, subvolume_findings}
 use Rattle.btr_findings.specs.Findings.{Adds}
 use Rattle.btr_volume.specs.declared.stop.Stop.TheVariants.{Memory as NoMemory}
@@ -11,7 +11,8 @@ use Rattle.btr_check.specs.Running.{world, filesystem, is_outside}
 use Rattle.btr_check.specs.SoundTrees.{AreKept, TreatsAll}
 use Rattle.btr_check.proofs.FileTrees.{files_put}
 use Rattle.btr_check.proofs.Passes.{on_done, ran_put, ran_memory}
-use Rattle.btr_check.proofs.Runs.{ran_stop, ran_then}
+use Rattle.btr_check.proofs.Runs.{nothing, ran_both, ran_stop_within, ran_then}
+use Rattle.btr_check.proofs.Wanting.{files_wanted}
 use Rattle.btr_check.proofs.file_trees.put_files.Goals as goal
 
 pub returns-in-Err : goal.returns-in-Err
@@ -27,8 +28,9 @@ returns-in-Err-read_subvolumes g c =
     let y = world (g.R.Rack.seen c.read_subvolumes.new.rack) c.read_subvolumes.new.vol in
     let stop = c.in-Err-read_subvolumes.stop in
     record {
-      ran = ran_stop (λ fs. is_outside stop ≡ true) (λ fs. Lists c.args.listed.now fs × IsCoverOf fs c.args.sums.now
-          → is_outside stop ≡ true) x y stop c.in-Err-read_subvolumes.ensures.ran (λ B h known. h);
+      ran = ran_stop_within (λ fs. is_outside stop ≡ true) (λ fs. Lists c.args.listed.now fs × IsCoverOf fs c.args.sums.now
+          → is_outside stop ≡ true) x y stop c.in-Err-read_subvolumes.ensures.ran (λ B h known. h)
+          (λ B want w lists. w);
     }
 
 pub returns-in-Err-put_file_trees : goal.returns-in-Err-put_file_trees
@@ -43,7 +45,9 @@ returns-in-Err-put_file_trees g c =
           (λ fs. IsCoverOf fs c.args.sums.now → AreKept fs c.new.result.items → is_outside stop ≡ true)
           (λ fs. Lists c.args.listed.now fs × IsCoverOf fs c.args.sums.now → is_outside stop ≡ true)
           x y z names (Err stop) c.in-Ok-read_subvolumes.ensures.ran c.in-Err-put_file_trees.ensures.ran
-          (λ B p q known. q known.1 (subst (AreKept (filesystem c.args.vol.now B)) (sym c.new.ensures.items) tt));
+          (λ B p q known. q known.1 (subst (AreKept (filesystem c.args.vol.now B)) (sym c.new.ensures.items) tt))
+          (λ B p want w lists. files_wanted (filesystem c.args.vol.now B) c.args.listed.now c.deref.result.now want lists
+          (c.deref.ensures.value ∙ c.in-Ok.ensures) w);
     }
 
 pub returns : goal.returns
@@ -57,11 +61,11 @@ returns g c =
     let files = c.deref.result.now in
     let found = c.args.found.now in
     let found' = c.put_file_trees.new.found in
-    let both = ran_then {C = Unit {0}} (λ fs. names ≡ subvolumes_in (root_items fs) [])
+    let both = ran_both {C = Unit {0}} {U = nothing} (λ fs. names ≡ subvolumes_in (root_items fs) [])
     (λ fs. IsCoverOf fs c.args.sums.now → AreKept fs c.new.result.items → TreatsAll fs files found found' names names' kept.sound.items)
     (λ fs. (names ≡ subvolumes_in (root_items fs) [])
     × (IsCoverOf fs c.args.sums.now → Treats fs.blocks fs.chunks (sum_runs fs) files found found' names names'))
-    x y z names (Ok tt) c.in-Ok-read_subvolumes.ensures.ran c.in-Ok-put_file_trees.ensures.ran
+    x y z names tt c.in-Ok-read_subvolumes.ensures.ran c.in-Ok-put_file_trees.ensures.ran
     (λ B p q. (p, λ same. (q same (subst (AreKept (filesystem c.args.vol.now B)) (sym c.new.ensures.items) tt)).treats)) in
     record {
       ran = ran_put {A = Unit {0}} (λ fs. (names ≡ subvolumes_in (root_items fs) [])

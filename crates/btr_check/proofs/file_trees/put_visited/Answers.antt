@@ -14,7 +14,8 @@ use Rattle.btr_check.specs.SoundTrees.{AreBelow, AreKept, TreatsAll}
 use Rattle.btr_check.specs.declared.file_tree.FileTree.{FileTree}
 use Rattle.btr_check.proofs.FileTrees.{file_tree_met, treats_paired, treats_looked}
 use Rattle.btr_check.proofs.Passes.{ran_no_memory, unless_more}
-use Rattle.btr_check.proofs.Runs.{ran_stop, ran_then, ran_value}
+use Rattle.btr_check.proofs.Runs.{ran_stop_within, ran_then, ran_value}
+use Rattle.btr_check.proofs.Wanting.{one_wanted}
 use Rattle.btr_check.proofs.SoundTrees.{kept_met, not_both}
 use Rattle.btr_check.proofs.file_trees.put_visited.Goals as goal
 
@@ -24,9 +25,10 @@ returns-in-Err g c =
     let y = world (g.R.Rack.seen c.collect.new.rack) c.collect.new.vol in
     let rooted = c.args.rooted in
     record {
-      ran = ran_stop (λ fs. is_outside c.in-Err.stop ≡ true)
+      ran = ran_stop_within (λ fs. is_outside c.in-Err.stop ≡ true)
           (λ fs. IsCoverOf fs c.args.sums.now → AreKept fs c.args.kept.now.sound.items → AreBelow fs rooted.tree rooted.children.items
-          → is_outside c.in-Err.stop ≡ true) x y c.in-Err.stop c.in-Err.ensures.ran (λ B h same kept below. h);
+          → is_outside c.in-Err.stop ≡ true) x y c.in-Err.stop c.in-Err.ensures.ran (λ B h same kept below. h)
+          (λ B want w. one_wanted (filesystem c.args.vol.now B) rooted.tree want w);
     }
 
 pub returns-in-Err-put_met : goal.returns-in-Err-put_met
@@ -107,5 +109,6 @@ returns-else-paired g c =
             treats = treats_looked B chunks runs tree met found found' found'' old.subvolumes mid.subvolumes names'' is missing
                 (put.entries ∙ ap (λ b. entries_if b tree.id met.names.subvolumes old.subvolumes) c.if-paired.false) treats;
             kept = put.sound fs same (λ yes none. absurd (not_both c.in-Ok-put_met.paired yes c.if-paired.false)) kept;
-          }) q);
+          }) q)
+          (λ B p want w. w);
     }

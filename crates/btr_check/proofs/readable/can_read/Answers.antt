@@ -13,4 +13,4 @@ returns-clause-ran g c =
     (λ fs. Unless (λ can. can ≡ is_ok (fs.blocks want)) c.can_fetch.result) (λ fs. Unless (λ can. can ≡ is_ok (fs.blocks want)) c.can_fetch.result)
     (world (g.R.Rack.seen c.args.rack.now) vol) (world (g.R.Rack.seen c.is_ahead.new.rack) vol)
     (world (g.R.Rack.seen c.can_fetch.new.rack) c.can_fetch.new.vol) c.is_ahead.result c.can_fetch.result c.is_ahead.ensures.ran c.can_fetch.ensures.ran
-    (λ B p q. q)
+    (λ B p q. q) (λ B p want w. w)

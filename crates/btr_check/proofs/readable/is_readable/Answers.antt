@@ -5,9 +5,10 @@ use Rattle.btr_volume.specs.declared.root.TreeRoot.{TreeRoot}
 use Rattle.btr_check.specs.Counting.{Unless}
 use Rattle.btr_check.specs.Data.{is_readable, KeepsSums, ReadsBy}
 use Rattle.btr_check.specs.Running.{world, filesystem, Ran}
-use Rattle.btr_check.proofs.Datas.{then_read}
+use Rattle.btr_check.specs.Wanted.{OfSector}
+use Rattle.btr_check.proofs.Datas.{sector_wanted, then_read}
 use Rattle.btr_check.proofs.Aheads.{still_ahead}
-use Rattle.btr_check.proofs.Runs.{ran_value, ran_stop, ran_then}
+use Rattle.btr_check.proofs.Runs.{ran_value, ran_stop_within, ran_then}
 use Rattle.btr_check.proofs.readable.is_readable.Goals as goal
 
 pub returns-in-Err : goal.returns-in-Err
@@ -15,12 +16,13 @@ returns-in-Err g c =
     let sums : Option TreeRoot = tree_behind c.args.sums in
     record {
       ahead = still_ahead c.args.copies.now c.in-Err.ensures.ran.reads c.requires.ahead;
-      ran = ran_stop {A = Option Want} {C = Bool}
+      ran = ran_stop_within {A = Option Want} {C = Bool}
           (λ fs. KeepsSums fs sums c.args.ahead.now c.sector_want.new.ahead (Unless {A = Option Want} (ReadsBy fs sums c.args.sector.addr) (Err c.in-Err.stop)))
           (λ fs. KeepsSums fs sums c.args.ahead.now c.sector_want.new.ahead
           (Unless {A = Bool} (λ can. can ≡ is_readable fs sums c.args.sector.addr) (Err c.in-Err.stop)))
           (world (g.R.Rack.seen c.args.rack.now) c.args.vol.now) (world
-          (g.R.Rack.seen c.sector_want.new.rack) c.sector_want.new.vol) c.in-Err.stop c.in-Err.ensures.ran (λ B h. h);
+          (g.R.Rack.seen c.sector_want.new.rack) c.sector_want.new.vol) c.in-Err.stop c.in-Err.ensures.ran (λ B h. h)
+          (λ B want w summed. w);
     }
 
 pub returns-in-Ok-None : goal.returns-in-Ok-None
@@ -32,7 +34,7 @@ returns-in-Ok-None g c =
       ahead = still_ahead c.args.copies.now c.in-Ok-None.ensures.ran.reads c.requires.ahead;
       ran = ran_value (λ fs. KeepsSums fs sums c.args.ahead.now c.sector_want.new.ahead (ReadsBy fs sums c.args.sector.addr None))
           (λ fs. KeepsSums fs sums c.args.ahead.now c.sector_want.new.ahead (false ≡ is_readable fs sums c.args.sector.addr)) x y None false
-          (subst (λ (o : Option Want). Ran {A = Option Want}
+          (subst (λ (o : Option Want). Ran {A = Option Want} (OfSector sums c.args.sector.addr)
           (λ fs. KeepsSums fs sums c.args.ahead.now c.sector_want.new.ahead (ReadsBy fs sums c.args.sector.addr o)) x y
           (Ok o)) c.in-Ok-None.field-0-is c.in-Ok-None.ensures.ran) (λ B h summed. ((h summed).0, sym (h summed).1));
     }
@@ -50,8 +52,11 @@ returns-in-Ok-Some g c =
           (λ fs. KeepsSums fs sums c.args.ahead.now c.sector_want.new.ahead
           (Unless (λ can. can ≡ is_readable fs sums c.args.sector.addr) c.can_read.result))
           x y (world (g.R.Rack.seen c.can_read.new.rack) c.can_read.new.vol) (Some want) c.can_read.result
-          (subst (λ (o : Option Want). Ran {A = Option Want}
+          (subst (λ (o : Option Want). Ran {A = Option Want} (OfSector sums c.args.sector.addr)
           (λ fs. KeepsSums fs sums c.args.ahead.now c.sector_want.new.ahead (ReadsBy fs sums c.args.sector.addr o)) x y
           (Ok o)) c.in-Ok-Some.field-0-is c.in-Ok-Some.ensures.ran) c.can_read.ensures.ran
-          (λ B p q summed. ((p summed).0, then_read (filesystem c.args.vol.now B) sums c.args.sector.addr want c.can_read.result (p summed).1 q));
+          (λ B p q summed. ((p summed).0, then_read (filesystem c.args.vol.now B) sums c.args.sector.addr want c.can_read.result (p summed).1 q))
+          (λ B p other is summed.
+          let fs = filesystem c.args.vol.now B in
+          subst (OfSector sums c.args.sector.addr fs) (sym is) (sector_wanted fs sums c.args.sector.addr want (p summed).1));
     }

@@ -1,4 +1,5 @@
-use Rattle.std.proofs.Common.{◌≡◌, ◌+◌, ◌<◌, ◌^◌, Option, Result, Ok, Err, flat_map, take, get_or}
+use Rattle.std.proofs.Common.{◌≡◌, ◌+◌, ◌<◌, ◌^◌, Option, Result, Err, flat_map, take, get_or}
+use Rattle.std.proofs.lemmas.List.Elements.{Contains-get_or}
 use Rattle.btr_files.specs.Sums.{tree_behind}
 use Rattle.btr_items.specs.declared.sum_run.SumRun.{SumRun}
 use Rattle.btr_findings.specs.Findings.{Adds}
@@ -11,7 +12,8 @@ use Rattle.btr_check.specs.Data.{data_findings, sum_runs}
 use Rattle.btr_check.specs.Running.{world, filesystem}
 use Rattle.btr_check.specs.Trees.{tree_of}
 use Rattle.btr_check.proofs.Datas.{AreLow, run_findings, low_at, are_low, data_all}
-use Rattle.btr_check.proofs.Runs.{ran_more, ran_none, ran_then}
+use Rattle.btr_check.proofs.Wanting.{run_wanted}
+use Rattle.btr_check.proofs.Runs.{ran_both, ran_none, ran_then, ran_value}
 use Rattle.btr_check.proofs.readable.put_data_findings.Goals as goal
 
 pub loop-run-init : goal.loop-run-init
@@ -33,11 +35,11 @@ loop-run-preserved g c =
     let sums : Option TreeRoot = tree_behind c.args.sums in
     record {
       ahead = c.in-Ok.ensures.ahead;
-      ran = ran_then {A = Unit {0}} {C = Unit {0}} (λ fs. AreLow list → Adds (flat_map (run_findings fs sums) (take l.run-index list)) c.args.found.now l.found)
+      ran = ran_both {A = Unit {0}} {C = Unit {0}} (λ fs. AreLow list → Adds (flat_map (run_findings fs sums) (take l.run-index list)) c.args.found.now l.found)
           (λ fs. run_end run < 2 ^ 64 → Adds (run_findings fs sums run) l.found c.put_run.new.found)
           (λ fs. AreLow list → Adds (flat_map (run_findings fs sums) (take (l.run-index + 1) list)) c.args.found.now c.put_run.new.found)
           (world (g.R.Rack.seen c.args.rack.now) c.args.vol.now) (world (g.R.Rack.seen l.rack) l.vol)
-          (world (g.R.Rack.seen c.put_run.new.rack) c.put_run.new.vol) tt (Ok tt) l.invariant.ran c.in-Ok.ensures.ran
+          (world (g.R.Rack.seen c.put_run.new.rack) c.put_run.new.vol) tt tt l.invariant.ran c.in-Ok.ensures.ran
           (λ B p q low. adds_more_of (run_findings (filesystem c.args.vol.now B) sums) list l.run-index none c.args.found.now l.found c.put_run.new.found
           c.loop-run-test.true (p low) (q (low_at list l.run-index none c.loop-run-test.true low)));
     }
@@ -56,7 +58,11 @@ returns-in-Err g c =
           (λ fs. list ≡ sum_runs fs → sums ≡ tree_of fs.sup fs.blocks 7 → Unless (λ u. Adds (data_findings fs) c.args.found.now c.put_run.new.found) stopped)
           (world (g.R.Rack.seen c.args.rack.now) c.args.vol.now) (world (g.R.Rack.seen l.rack) l.vol)
           (world (g.R.Rack.seen c.put_run.new.rack) c.put_run.new.vol) tt stopped l.invariant.ran c.in-Err.ensures.ran
-          (λ B p q is tree. q (low_at list l.run-index none c.loop-run-test.true (are_low (filesystem c.args.vol.now B) list is)));
+          (λ B p q is tree. q (low_at list l.run-index none c.loop-run-test.true (are_low (filesystem c.args.vol.now B) list is)))
+          (λ B p want w known.
+          let fs = filesystem c.args.vol.now B in
+          run_wanted fs list sums run want known (Contains-get_or list l.run-index none c.loop-run-test.true)
+          (w (low_at list l.run-index none c.loop-run-test.true (are_low fs list known.0))));
     }
 
 pub returns : goal.returns
@@ -65,9 +71,10 @@ returns g c =
     let list = c.args.runs.now in
     let sums : Option TreeRoot = tree_behind c.args.sums in
     record {
-      ran = ran_more {A = Unit {0}} (λ fs. AreLow list → Adds (flat_map (run_findings fs sums) (take l.run-index list)) c.args.found.now l.found)
+      ran = ran_value {A = Unit {0}} {C = Unit {0}}
+          (λ fs. AreLow list → Adds (flat_map (run_findings fs sums) (take l.run-index list)) c.args.found.now l.found)
           (λ fs. list ≡ sum_runs fs → sums ≡ tree_of fs.sup fs.blocks 7 → Adds (data_findings fs) c.args.found.now l.found)
-          (world (g.R.Rack.seen c.args.rack.now) c.args.vol.now) (world (g.R.Rack.seen l.rack) l.vol) (Ok tt) l.invariant.ran
+          (world (g.R.Rack.seen c.args.rack.now) c.args.vol.now) (world (g.R.Rack.seen l.rack) l.vol) tt tt l.invariant.ran
           (λ B p is tree. data_all (filesystem c.args.vol.now B) sums list l.run-index c.args.found.now l.found c.loop-run-test.false is tree
           (p (are_low (filesystem c.args.vol.now B) list is)));
     }

@@ -1,4 +1,4 @@
-use Rattle.std.proofs.Common.{◌+◌, ◌<◌, ◌^◌, Option, Result, Ok, Err, filter_map, take}
+use Rattle.std.proofs.Common.{◌+◌, ◌<◌, ◌^◌, Option, Result, Err, filter_map, take}
 use Rattle.std.specs.Option.{option_to_list}
 use Rattle.btr_files.specs.Aheads.{IsSummed}
 use Rattle.btr_files.specs.Sums.{tree_behind}
@@ -11,8 +11,8 @@ use Rattle.btr_volume.specs.declared.stop.Stop.{Stop}
 use Rattle.btr_check.specs.Counting.{Unless}
 use Rattle.btr_check.specs.Data.{data_lost, KeepsSums}
 use Rattle.btr_check.specs.Running.{world, filesystem}
-use Rattle.btr_check.proofs.Datas.{none_kept, run_more, run_all}
-use Rattle.btr_check.proofs.Runs.{ran_more, ran_none, ran_then}
+use Rattle.btr_check.proofs.Datas.{none_kept, run_more, run_all, sector_in}
+use Rattle.btr_check.proofs.Runs.{ran_both, ran_none, ran_then, ran_value}
 use Rattle.btr_check.proofs.readable.put_run.Goals as goal
 
 pub loop-i-init : goal.loop-i-init
@@ -34,14 +34,14 @@ loop-i-preserved g c =
     let sector = c.sector_at-sector.result.addr in
     record {
       ahead = c.in-Ok.ensures.ahead;
-      ran = ran_then {A = Unit {0}} {C = Unit {0}}
+      ran = ran_both {A = Unit {0}} {C = Unit {0}}
           (λ fs. run_end run < 2 ^ 64 → IsSummed fs.blocks sums l.ahead × Adds
           (filter_map (data_lost fs sums) (take l.i (run_sectors run))) c.args.found.now l.found)
           (λ fs. KeepsSums fs sums l.ahead c.put_sector.new.ahead (Adds (option_to_list (data_lost fs sums sector)) l.found c.put_sector.new.found))
           (λ fs. run_end run < 2 ^ 64 → IsSummed fs.blocks sums c.put_sector.new.ahead × Adds
           (filter_map (data_lost fs sums) (take (l.i + 1) (run_sectors run))) c.args.found.now c.put_sector.new.found)
           (world (g.R.Rack.seen c.args.rack.now) c.args.vol.now) (world (g.R.Rack.seen l.rack) l.vol)
-          (world (g.R.Rack.seen c.put_sector.new.rack) c.put_sector.new.vol) tt (Ok tt) l.invariant.ran c.in-Ok.ensures.ran
+          (world (g.R.Rack.seen c.put_sector.new.rack) c.put_sector.new.vol) tt tt l.invariant.ran c.in-Ok.ensures.ran
           (λ B p q low. (
             (q (p low).0).0,
             run_more (filesystem c.args.vol.now B) sums run l.i sector c.args.found.now l.found c.put_sector.new.found
@@ -66,7 +66,12 @@ returns-in-Err g c =
           (λ fs. run_end run < 2 ^ 64 → Unless (λ u. Adds (filter_map (data_lost fs sums) (run_sectors run)) c.args.found.now c.put_sector.new.found) stopped)
           (world (g.R.Rack.seen c.args.rack.now) c.args.vol.now) (world (g.R.Rack.seen l.rack) l.vol)
           (world (g.R.Rack.seen c.put_sector.new.rack) c.put_sector.new.vol) tt stopped l.invariant.ran c.in-Err.ensures.ran
-          (λ B p q low. (q (p low).0).1);
+          (λ B p q low. (q (p low).0).1)
+          (λ B p want w low. (
+            sector,
+            sector_in run l.i sector c.loop-i-test.true (c.sector_at-sector.ensures low c.loop-i-test.true),
+            w (p low).0,
+          ));
     }
 
 pub returns : goal.returns
@@ -76,9 +81,9 @@ returns g c =
     let sums : Option TreeRoot = tree_behind c.args.sums in
     record {
       ahead = l.invariant.ahead;
-      ran = ran_more {A = Unit {0}} (λ fs. run_end run < 2 ^ 64 → IsSummed fs.blocks sums l.ahead
+      ran = ran_value {A = Unit {0}} {C = Unit {0}} (λ fs. run_end run < 2 ^ 64 → IsSummed fs.blocks sums l.ahead
           × Adds (filter_map (data_lost fs sums) (take l.i (run_sectors run))) c.args.found.now l.found)
           (λ fs. run_end run < 2 ^ 64 → Adds (filter_map (data_lost fs sums) (run_sectors run)) c.args.found.now l.found)
-          (world (g.R.Rack.seen c.args.rack.now) c.args.vol.now) (world (g.R.Rack.seen l.rack) l.vol) (Ok tt) l.invariant.ran
+          (world (g.R.Rack.seen c.args.rack.now) c.args.vol.now) (world (g.R.Rack.seen l.rack) l.vol) tt tt l.invariant.ran
           (λ B p low. run_all (filesystem c.args.vol.now B) sums run l.i c.args.found.now l.found c.loop-i-test.false (p low).1);
     }

@@ -52,5 +52,6 @@ returns-in-Err-put_lost g c =
           (λ fs. KeepsSums fs sums c.args.ahead.now c.is_readable.new.ahead (c.in-Ok.readable ≡ is_readable fs sums c.args.sector.addr))
           (λ fs. KeepsSums fs sums c.args.ahead.now c.is_readable.new.ahead (is_outside Memory ≡ true))
           (world (g.R.Rack.seen c.args.rack.now) c.args.vol.now) (world
-          (g.R.Rack.seen c.is_readable.new.rack) c.is_readable.new.vol) c.in-Ok.readable Memory c.in-Ok.ensures.ran tt tt (λ B h summed. ((h summed).0, refl));
+          (g.R.Rack.seen c.is_readable.new.rack) c.is_readable.new.vol) c.in-Ok.readable Memory c.in-Ok.ensures.ran (λ Q. tt) tt
+          (λ B h summed. ((h summed).0, refl));
     }

@@ -8,14 +8,16 @@ use Rattle.btr_prog.specs.Answers.{Follows, no_part}
 use Rattle.btr_prog.specs.Prog.{exec}
 use Rattle.btr_read.specs.declared.want.Want.{Want}
 use Rattle.btr_volume.specs.declared.root.TreeRoot.{TreeRoot}
+use Rattle.btr_walk.proofs.Joined.{drawn}
 use Rattle.btr_walk.proofs.Turns.{same_room}
 use Rattle.btr_walk.specs.Reading.{Map, unread_by, answer_of}
 use Rattle.btr_walk.specs.declared.fault.TreeFault.{TreeFault}
 use Rattle.btr_check.specs.Counting.{Unless}
 use Rattle.btr_check.specs.Data.{KeepsSums, ReadsBy}
-use Rattle.btr_check.specs.Running.{world, filesystem}
-use Rattle.btr_check.proofs.Runs.{ran_none}
-use Rattle.btr_check.proofs.Datas.{kept_by, found_by, fault_by, stop_outside, stop_reading, stop_cause}
+use Rattle.btr_check.specs.Running.{IsAnyUnread, IsUnreadOf, StopUnread, world, filesystem}
+use Rattle.btr_check.specs.Wanted.{OfSector}
+use Rattle.btr_check.proofs.Runs.{cause_unread, less_told, ran_none}
+use Rattle.btr_check.proofs.Datas.{kept_by, found_by, fault_by, look_unread, stop_outside, stop_reading, stop_unread}
 use Rattle.btr_check.proofs.readable.sector_want.Goals as goal
 
 pub returns-in-Some : goal.returns-in-Some
@@ -58,6 +60,7 @@ returns-in-Ok g c =
               found_by (filesystem vol B) sums c.args.sector
                   (unread_by layout before now) c.in-Ok.sum c.want_by.result c.want_by.ensures h,
             )) e.ahead e.content;
+        named = less_told e.content;
       };
     }
 
@@ -85,6 +88,7 @@ returns-in-None g c =
               fault_by (filesystem vol B) sums c.args.sector (unread_by layout before now) c.in-Err.fault
                   (sym c.in-None.ensures) h,
             )) e.ahead e.content;
+        named = less_told e.content;
       };
     }
 
@@ -105,12 +109,16 @@ returns-in-Some-unread_stop g c =
         reads = e.reads;
         volume = e.volume;
         ready = record { serves = e.serves; room = same_room vol.store c.sum_ahead.new.vol.store e.volume.store c.requires.ready.room };
-        cause = stop_cause layout before now fault stop is e.cause;
+        cause = stop_unread (IsAnyUnread layout before now) fault stop is (cause_unread layout before now fault e.cause);
         quiet = stop_reading fault stop is;
         told = paired layout (λ B. IsSummed B sums c.args.ahead.now → IsSummed B sums c.sum_ahead.new.ahead)
             (λ (B : Map). Follows (unread_by layout before now) no_part [] (exec B (sum_at (kind_in vol.sup) sums c.args.sector)) [] (answer_of r))
             (λ B. KeepsSums (filesystem vol B) sums c.args.ahead.now c.sum_ahead.new.ahead
             (Unless {A = Option Want} (ReadsBy (filesystem vol B) sums c.args.sector) (Err stop)))
             (λ B keeps h summed. (keeps summed, stop_outside fault stop is)) e.ahead e.content;
+        named = drawn layout
+            (λ (B : Map). Follows (unread_by layout before now) no_part [] (exec B (sum_at (kind_in vol.sup) sums c.args.sector)) [] (answer_of r))
+            (λ (B : Map). StopUnread (IsUnreadOf layout before now (OfSector sums c.args.sector (filesystem vol B))) stop)
+            (λ B h. look_unread (filesystem vol B) sums c.args.sector (unread_by layout before now) fault stop is h) e.content;
       };
     }

@@ -1,5 +1,6 @@
 use Rattle.std.proofs.Common.{◌≡◌, [], true, Ok, Err, ◌∙◌}
 use Rattle.btr_findings.specs.Findings.{Adds}
+use Rattle.btr_refs.specs.declared.wanted.Wanted.TheVariants.{Extents}
 use Rattle.btr_check.specs.ExtentTree.{IsStoredOf}
 use Rattle.btr_check.specs.Filesystem.{Filesystem}
 use Rattle.btr_check.specs.Passes.{AreExtents, AreUsed, IsWalked, Lists}
@@ -7,7 +8,7 @@ use Rattle.btr_check.specs.Running.{world, filesystem, is_outside}
 use Rattle.btr_check.specs.Uses.{difference_findings, reference_findings}
 use Rattle.btr_check.specs.Walks.{walk_findings}
 use Rattle.btr_check.proofs.Referring.{misused_put}
-use Rattle.btr_check.proofs.Runs.{ran_stop, ran_then, ran_value}
+use Rattle.btr_check.proofs.Runs.{nothing, ran_both, ran_stop, ran_then, ran_value}
 use Rattle.btr_check.proofs.references.put_references.Goals as goal
 
 pub returns-in-Err : goal.returns-in-Err
@@ -30,7 +31,8 @@ returns-in-Err-read_extents g c =
       ran = ran_stop (λ fs. known fs → is_outside stop ≡ true) (λ fs. known fs → is_outside stop ≡ true) x z stop
           (ran_then (λ fs. known fs → AreUsed fs used × Adds (difference_findings fs) c.args.found.now c.put_differences.new.found)
           (λ fs. Lists c.args.listed.now fs → walk_findings fs ≡ [] → is_outside stop ≡ true) (λ fs. known fs → is_outside stop ≡ true)
-          x y z used (Err stop) c.in-Ok.ensures.ran c.in-Err-read_extents.ensures.ran (λ B p q k. q k.lists k.sound))
+          x y z used (Err stop) c.in-Ok.ensures.ran c.in-Err-read_extents.ensures.ran (λ B p q k. q k.lists k.sound)
+          (λ B p want w k. w k.lists))
           (λ B h. h);
     }
 
@@ -47,12 +49,12 @@ returns-in-Ok-put_all_misused g c =
     let two = c.put_differences.new.found in
     let three = c.put_all_misused.new.found in
     record {
-      ran = ran_value (λ fs. known fs → IsStoredOf fs stored × AreUsed fs used × Adds (difference_findings fs) one two)
+      ran = ran_value (λ fs. known fs → IsStoredOf fs (Extents c.count.result) stored × AreUsed fs used × Adds (difference_findings fs) one two)
           (λ fs. known fs → AreExtents extents.items fs × Adds (reference_findings fs) one three) x z stored extents
-          (ran_then (λ fs. known fs → AreUsed fs used × Adds (difference_findings fs) one two)
-          (λ fs. Lists c.args.listed.now fs → walk_findings fs ≡ [] → IsStoredOf fs stored)
-          (λ fs. known fs → IsStoredOf fs stored × AreUsed fs used × Adds (difference_findings fs) one two) x y z used
-          (Ok stored) c.in-Ok.ensures.ran c.in-Ok-read_extents.ensures.ran
+          (ran_both {U = nothing} (λ fs. known fs → AreUsed fs used × Adds (difference_findings fs) one two)
+          (λ fs. Lists c.args.listed.now fs → walk_findings fs ≡ [] → IsStoredOf fs (Extents c.count.result) stored)
+          (λ fs. known fs → IsStoredOf fs (Extents c.count.result) stored × AreUsed fs used × Adds (difference_findings fs) one two) x y z used
+          stored c.in-Ok.ensures.ran c.in-Ok-read_extents.ensures.ran
           (λ B p q k. (q k.lists k.sound, (p k).0, (p k).1)))
           (λ B h k.
           let fs = filesystem c.args.vol.now B in

@@ -1,5 +1,6 @@
 use Rattle.std.proofs.Common.{◌≡◌, [], true, refl}
 use Rattle.btr_findings.specs.Findings.{Adds}
+use Rattle.btr_refs.specs.declared.wanted.Wanted.TheVariants.{All}
 use Rattle.btr_volume.specs.declared.stop.Stop.TheVariants.{Memory as NoMemory}
 use Rattle.btr_check.specs.ExtentTree.{AreRefsOf, IsStoredOf}
 use Rattle.btr_check.specs.Passes.{Lists, ListsSound}
@@ -31,7 +32,7 @@ returns-in-Ok-put_totals g c =
     let a = c.args.found.now in
     let b = c.put_totals.new.found in
     record {
-      ran = ran_value (λ fs. Lists c.args.listed.now fs → walk_findings fs ≡ [] → IsStoredOf fs stored)
+      ran = ran_value (λ fs. Lists c.args.listed.now fs → walk_findings fs ≡ [] → IsStoredOf fs All stored)
           (λ fs. ListsSound c.args.listed.now fs → AreRefsOf fs kept × Adds (found_on_totals fs) a b) x y stored kept c.in-Ok.ensures.ran
           (λ B h known.
           let is = h known.lists known.sound in (
@@ -46,6 +47,6 @@ returns-in-Err-put_totals g c =
     let x = world (g.R.Rack.seen c.args.rack.now) c.args.vol.now in
     let y = world (g.R.Rack.seen c.read_extents.new.rack) c.read_extents.new.vol in
     record {
-      ran = ran_no_memory (λ fs. Lists c.args.listed.now fs → walk_findings fs ≡ [] → IsStoredOf fs c.in-Ok.stored)
+      ran = ran_no_memory (λ fs. Lists c.args.listed.now fs → walk_findings fs ≡ [] → IsStoredOf fs All c.in-Ok.stored)
           (λ fs. ListsSound c.args.listed.now fs → is_outside NoMemory ≡ true) x y c.in-Ok.stored c.in-Ok.ensures.ran (λ B known. refl);
     }

@@ -7,14 +7,16 @@ use Rattle.btr_check.specs.SoundTrees.{AreBelow}
 use Rattle.btr_check.specs.declared.opening.Opened.{Opened}
 use Rattle.btr_check.specs.declared.sound_tree.RootedTree.{RootedTree}
 use Rattle.btr_check.proofs.Openings.{AreChildren}
-use Rattle.btr_check.proofs.Runs.{ran_stop, ran_value}
+use Rattle.btr_check.proofs.Runs.{ran_stop_within, ran_value}
+use Rattle.btr_check.proofs.Wanting.{here_wanted}
 use Rattle.btr_check.proofs.SoundTrees.{opens_below}
 use Rattle.btr_check.proofs.sound_tree.read_rooted.Goals as goal
 
 pub returns-in-Err-clause-ran : goal.returns-in-Err-clause-ran
 returns-in-Err-clause-ran g c =
-    ran_stop {A = Opened} {C = RootedTree} (λ fs. ⊤) (λ fs. is_outside c.in-Err.stop ≡ true) (world (g.R.Rack.seen c.args.rack.now) c.args.vol.now)
+    ran_stop_within {A = Opened} {C = RootedTree} (λ fs. ⊤) (λ fs. is_outside c.in-Err.stop ≡ true) (world (g.R.Rack.seen c.args.rack.now) c.args.vol.now)
     (world (g.R.Rack.seen c.open_block.new.rack) c.open_block.new.vol) c.in-Err.stop c.in-Err.ensures.ran (λ B h. c.in-Err.ensures.outside)
+    (λ B want w. here_wanted (filesystem c.args.vol.now B) c.args.tree.now.place.level (root_spot c.args.tree.now.place) want w)
 
 pub returns-clause-ran : goal.returns-clause-ran
 returns-clause-ran g c =

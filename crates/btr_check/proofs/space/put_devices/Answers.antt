@@ -1,4 +1,4 @@
-use Rattle.std.proofs.Common.{◌≡◌, true, List, Ok, Err, Some, fold, ap, ◌∙◌}
+use Rattle.std.proofs.Common.{◌≡◌, true, List, Err, Some, fold, ap, ◌∙◌}
 use Rattle.btr_read.specs.Layout.{Layout}
 use Rattle.btr_findings.specs.Findings.{Adds}
 use Rattle.btr_check_space.specs.Items.{with_mark, device_extent_in, device_in}
@@ -9,7 +9,8 @@ use Rattle.btr_check.specs.Passes.{Lists, marks_if}
 use Rattle.btr_check.specs.Running.{world, filesystem, is_outside}
 use Rattle.btr_check.specs.Trees.{chunk_tree}
 use Rattle.btr_check.proofs.Passes.{on_done, ran_put}
-use Rattle.btr_check.proofs.Runs.{ran_stop, ran_then, volume_then}
+use Rattle.btr_check.proofs.Runs.{nothing, ran_both, ran_stop, ran_stop_within, ran_then, volume_then}
+use Rattle.btr_check.proofs.Wanting.{chunk_wanted, last_wanted, one_wanted}
 use Rattle.btr_check.proofs.Spaces.{device_extents_are, devices_are, devices_put}
 use Rattle.btr_check.proofs.space.put_devices.Goals as goal
 
@@ -18,8 +19,10 @@ returns-in-Err g c =
     let x = world (g.R.Rack.seen c.args.rack.now) c.args.vol.now in
     let y = world (g.R.Rack.seen c.collect.new.rack) c.collect.new.vol in
     record {
-      ran = ran_stop (λ fs. is_outside c.in-Err.stop ≡ true) (λ fs. Lists c.args.listed.now fs
-          → is_outside c.in-Err.stop ≡ true) x y c.in-Err.stop c.in-Err.ensures.ran (λ B h known. h);
+      ran = ran_stop_within (λ fs. is_outside c.in-Err.stop ≡ true) (λ fs. Lists c.args.listed.now fs
+          → is_outside c.in-Err.stop ≡ true) x y c.in-Err.stop c.in-Err.ensures.ran (λ B h known. h)
+          (λ B want w lists. last_wanted (filesystem c.args.vol.now B) c.args.listed.now 4 c.last_of-device_tree.result want
+          c.last_of-device_tree.ensures lists w);
     }
 
 pub returns-in-Err-collect : goal.returns-in-Err-collect
@@ -33,7 +36,12 @@ returns-in-Err-collect g c =
           (ran_then {C = List StatedDevice} (λ fs. c.in-Ok.extents ≡ fold (with_mark device_extent_in) c.new.result
           (marks_if fs.blocks c.last_of-device_tree.result)) (λ fs. is_outside c.in-Err-collect.stop ≡ true)
           (λ fs. Lists c.args.listed.now fs → is_outside c.in-Err-collect.stop ≡ true) x y z c.in-Ok.extents
-          (Err c.in-Err-collect.stop) c.in-Ok.ensures.ran c.in-Err-collect.ensures.ran (λ B p q known. q))
+          (Err c.in-Err-collect.stop) c.in-Ok.ensures.ran c.in-Err-collect.ensures.ran (λ B p q known. q)
+          (λ B p want w lists.
+          let fs = filesystem c.args.vol.now B in
+          let tree = c.named_root-chunk_tree.result in
+          chunk_wanted fs tree want (c.named_root-chunk_tree.ensures ∙ ap (named_root 3) c.chunk_root.ensures ∙ ap chunk_tree c.in-Ok.ensures.ran.volume.sup)
+          (one_wanted fs tree want w)))
           (λ B h. h);
     }
 
@@ -45,11 +53,11 @@ returns g c =
     let one = c.in-Ok.ensures.ran in
     let two = c.in-Ok-collect.ensures.ran in
     let same = volume_then one.volume two.volume in
-    let both = ran_then (λ fs. c.in-Ok.extents ≡ fold (with_mark device_extent_in) c.new.result (marks_if fs.blocks c.last_of-device_tree.result))
+    let both = ran_both {U = nothing} (λ fs. c.in-Ok.extents ≡ fold (with_mark device_extent_in) c.new.result (marks_if fs.blocks c.last_of-device_tree.result))
     (λ fs. c.in-Ok-collect.devices ≡ fold (with_mark device_in) c.new-2.result (marks_if fs.blocks (Some c.named_root-chunk_tree.result)))
     (λ fs. (c.in-Ok.extents ≡ fold (with_mark device_extent_in) c.new.result (marks_if fs.blocks c.last_of-device_tree.result))
     × (c.in-Ok-collect.devices ≡ fold (with_mark device_in) c.new-2.result (marks_if fs.blocks (Some c.named_root-chunk_tree.result))))
-    x y z c.in-Ok.extents (Ok c.in-Ok-collect.devices) one two (λ B p q. (p, q)) in
+    x y z c.in-Ok.extents c.in-Ok-collect.devices one two (λ B p q. (p, q)) in
     record {
       ran = ran_put (λ fs. (c.in-Ok.extents ≡ fold (with_mark device_extent_in) c.new.result (marks_if fs.blocks c.last_of-device_tree.result))
           × (c.in-Ok-collect.devices ≡ fold (with_mark device_in) c.new-2.result (marks_if fs.blocks (Some c.named_root-chunk_tree.result))))

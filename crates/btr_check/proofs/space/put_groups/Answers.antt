@@ -7,7 +7,8 @@ use Rattle.btr_check.specs.Families.{found_on_groups}
 use Rattle.btr_check.specs.Passes.{AreExtents, Lists, marks_if}
 use Rattle.btr_check.specs.Running.{world, filesystem, is_outside}
 use Rattle.btr_check.proofs.Passes.{on_done, ran_put}
-use Rattle.btr_check.proofs.Runs.{ran_stop}
+use Rattle.btr_check.proofs.Runs.{ran_stop_within}
+use Rattle.btr_check.proofs.Wanting.{group_wanted}
 use Rattle.btr_check.proofs.Spaces.{groups_are, groups_put}
 use Rattle.btr_check.proofs.space.put_groups.Goals as goal
 
@@ -36,7 +37,8 @@ returns-in-Err g c =
     let x = world (g.R.Rack.seen c.args.rack.now) c.args.vol.now in
     let y = world (g.R.Rack.seen c.collect.new.rack) c.collect.new.vol in
     record {
-      ran = ran_stop (λ fs. is_outside c.in-Err.stop ≡ true)
+      ran = ran_stop_within (λ fs. is_outside c.in-Err.stop ≡ true)
           (λ fs. Lists c.args.listed.now fs × AreExtents c.args.extents.now fs → is_outside c.in-Err.stop ≡ true) x y c.in-Err.stop c.in-Err.ensures.ran
-          (λ B h known. h);
+          (λ B h known. h)
+          (λ B want w lists. group_wanted (filesystem c.args.vol.now B) c.args.listed.now c.group_tree.result want c.group_tree.ensures lists w);
     }

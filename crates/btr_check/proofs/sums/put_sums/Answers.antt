@@ -6,7 +6,8 @@ use Rattle.btr_check.specs.Families.{IsRunsOf, found_on_sums}
 use Rattle.btr_check.specs.Passes.{AreExtents, Lists, marks_if}
 use Rattle.btr_check.specs.Running.{world, filesystem, is_outside}
 use Rattle.btr_check.proofs.Passes.{ran_no_memory}
-use Rattle.btr_check.proofs.Runs.{ran_stop, ran_value}
+use Rattle.btr_check.proofs.Runs.{ran_stop_within, ran_value}
+use Rattle.btr_check.proofs.Wanting.{last_wanted}
 use Rattle.btr_check.proofs.Summing.{runs_are, sums_put}
 use Rattle.btr_check.proofs.sums.put_sums.Goals as goal
 
@@ -15,9 +16,10 @@ returns-in-Err g c =
     let x = world (g.R.Rack.seen c.args.rack.now) c.args.vol.now in
     let y = world (g.R.Rack.seen c.collect.new.rack) c.collect.new.vol in
     record {
-      ran = ran_stop (λ fs. is_outside c.in-Err.stop ≡ true)
+      ran = ran_stop_within (λ fs. is_outside c.in-Err.stop ≡ true)
           (λ fs. Lists c.args.listed.now fs × AreExtents c.args.extents.now fs → is_outside c.in-Err.stop ≡ true) x y c.in-Err.stop c.in-Err.ensures.ran
-          (λ B h known. h);
+          (λ B h known. h)
+          (λ B want w lists. last_wanted (filesystem c.args.vol.now B) c.args.listed.now 7 c.last_of-tree.result want c.last_of-tree.ensures lists w);
     }
 
 pub returns-in-Ok-put_sum_findings : goal.returns-in-Ok-put_sum_findings

@@ -13,7 +13,7 @@ returns-in-Some g c =
     record {
       ran = ran_refused (λ fs. RootEnds fs (Ok c.in-Ok.trees)) (λ fs. is_outside c.in-Some.stop ≡ false
           → refusal fs ≡ Some c.in-Some.stop) x y c.in-Ok.trees c.in-Some.stop c.in-Ok.ensures.ran
-          (listed_unread x.vol.store.layout x.rack y.rack c.in-Some.stop c.in-Some.ensures.listed) (listed_quiet c.in-Some.stop c.in-Some.ensures.listed)
+          (λ Q. listed_unread Q c.in-Some.stop c.in-Some.ensures.listed) (listed_quiet c.in-Some.stop c.in-Some.ensures.listed)
           (λ B h outside. ap (λ l. first_of (map fault_stop l ++ list_refusals (listed c.args.vol.now.sup B))) h.0
           ∙ ap (λ l. first_of (list_refusals l)) (sym h.1 ∙ sym c.deref.ensures.value) ∙ sym c.in-Some.ensures.value);
     }

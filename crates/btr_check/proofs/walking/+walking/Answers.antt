@@ -1,4 +1,5 @@
 use Rattle.std.proofs.Common.{◌-◌, ◌+◌, ℕ, [], Result, Ok, Err, Option, None, take, get_or, sym, subst}
+use Rattle.std.proofs.lemmas.List.Elements.{Contains-get_or}
 use Rattle.std.specs.Bool.{⊤}
 use Rattle.btr_volume.specs.declared.stop.Stop.{Stop}
 use Rattle.btr_walk.specs.declared.spot.Spot.{Spot}
@@ -8,7 +9,8 @@ use Rattle.btr_check.specs.Passing.{Opens, Walks, children_marks, subtree_marks}
 use Rattle.btr_check.specs.Running.{world, filesystem}
 use Rattle.btr_check.proofs.Openings.{AreChildren, kept_outside, passed_outside, ran_kept, ran_passed, walks_child, walks_end, walks_node, walks_whole}
 use Rattle.btr_check.proofs.Passing.{walked_nothing}
-use Rattle.btr_check.proofs.Runs.{ran_more, ran_none, ran_stop, ran_then, ran_value}
+use Rattle.btr_check.proofs.Runs.{nothing, ran_both, ran_none, ran_stop_within, ran_then, ran_value}
+use Rattle.btr_check.proofs.Wanting.{below_wanted, here_wanted}
 use Rattle.btr_check.proofs.walking.+walking.Goals as goal
 
 pub walk_block-returns-in-Some-clause-outside : goal.walk_block-returns-in-Some-clause-outside
@@ -34,8 +36,9 @@ walk_block-returns-in-Ok-clause-ran g t c =
 
 pub walk_below-returns-in-Err-clause-ran : goal.walk_below-returns-in-Err-clause-ran
 walk_below-returns-in-Err-clause-ran g t c =
-    ran_stop {A = Opened} {C = Option Edges} (λ fs. ⊤) (λ fs. ⊤) (world (g.R.Rack.seen c.args.rack.now) c.args.vol.now)
+    ran_stop_within {A = Opened} {C = Option Edges} (λ fs. ⊤) (λ fs. ⊤) (world (g.R.Rack.seen c.args.rack.now) c.args.vol.now)
     (world (g.R.Rack.seen c.open_block.new.rack) c.open_block.new.vol) c.in-Err.stop c.in-Err.ensures.ran (λ B h. tt)
+    (λ B want w. here_wanted (filesystem c.args.vol.now B) c.args.level c.args.spot.now want w)
 
 pub walk_below-returns-in-Ok-Whole-clause-ran : goal.walk_below-returns-in-Ok-Whole-clause-ran
 walk_below-returns-in-Ok-Whole-clause-ran g t c =
@@ -71,6 +74,7 @@ walk_below-returns-in-Ok-Children-clause-ran g t c =
     (world (g.R.Rack.seen c.args.rack.now) c.args.vol.now) (world (g.R.Rack.seen c.open_block.new.rack) c.open_block.new.vol)
     (world (g.R.Rack.seen c.walk_children.new.rack) c.walk_children.new.vol) opened r c.in-Ok-Children.ensures.ran c.walk_children.ensures.ran
     (λ B h walks. walks_node (filesystem c.args.vol.now B) level spot old new mid known after opened spots r h are walks)
+    (λ B h want w. below_wanted (filesystem c.args.vol.now B) level spot old mid opened spots want h are w)
 
 pub walk_children-loop-spot-init : goal.walk_children-loop-spot-init
 walk_children-loop-spot-init g t c =
@@ -94,12 +98,12 @@ walk_children-loop-spot-preserved g t c =
     let known = l.subtrees.known.entries in
     let after = c.walk_block.new.subtrees.known.entries in
     record {
-      ran = ran_then (λ fs. (addr : ℕ) → Walks fs (children_marks fs addr level (take l.spot-index spots)) old mid first known (Ok l.edges))
+      ran = ran_both (λ fs. (addr : ℕ) → Walks fs (children_marks fs addr level (take l.spot-index spots)) old mid first known (Ok l.edges))
           (λ fs. Walks fs (subtree_marks fs level (get_or spots l.spot-index none)) mid new known after (Ok c.in-Ok.more))
           (λ fs. (addr : ℕ) → Walks fs (children_marks fs addr level (take (l.spot-index + 1) spots)) old new first after (Ok c.join-edges.result))
           (world (g.R.Rack.seen c.args.rack.now) c.args.vol.now) (world (g.R.Rack.seen l.rack) l.vol)
-          (world (g.R.Rack.seen c.walk_block.new.rack) c.walk_block.new.vol) l.edges (Ok c.join-edges.result) l.invariant.ran
-          (ran_value (λ fs. Walks fs (subtree_marks fs level (get_or spots l.spot-index none)) mid new known after (Ok c.in-Ok.more))
+          (world (g.R.Rack.seen c.walk_block.new.rack) c.walk_block.new.vol) l.edges c.join-edges.result l.invariant.ran
+          (ran_value {U = nothing} (λ fs. Walks fs (subtree_marks fs level (get_or spots l.spot-index none)) mid new known after (Ok c.in-Ok.more))
           (λ fs. Walks fs (subtree_marks fs level (get_or spots l.spot-index none)) mid new known after (Ok c.in-Ok.more))
           (world (g.R.Rack.seen l.rack) l.vol) (world (g.R.Rack.seen c.walk_block.new.rack) c.walk_block.new.vol) c.in-Ok.more c.join-edges.result
           c.in-Ok.ensures.ran
@@ -111,21 +115,23 @@ walk_children-loop-spot-preserved g t c =
 pub walk_children-returns-in-Err-clause-ran : goal.walk_children-returns-in-Err-clause-ran
 walk_children-returns-in-Err-clause-ran g t c =
     let l = c.loop-spot in
+    let none : Spot = record { addr = 0; generation = 0; first = None; up = None } in
     let stopped : Result (Option Edges) Stop = Err c.in-Err.stop in
     ran_then (λ fs. (addr : ℕ) → Walks fs (children_marks fs addr c.args.level (take l.spot-index c.args.spots.now)) c.args.walk.now l.walk
     c.args.subtrees.now.known.entries l.subtrees.known.entries (Ok l.edges))
     (λ fs. ⊤) (λ fs. (addr : ℕ) → ⊤) (world (g.R.Rack.seen c.args.rack.now) c.args.vol.now) (world (g.R.Rack.seen l.rack) l.vol)
     (world (g.R.Rack.seen c.walk_block.new.rack) c.walk_block.new.vol) l.edges stopped l.invariant.ran c.in-Err.ensures.ran (λ B p q addr. tt)
+    (λ B p want w. (get_or c.args.spots.now l.spot-index none, Contains-get_or c.args.spots.now l.spot-index none c.loop-spot-test.true, w))
 
 pub walk_children-returns-clause-ran : goal.walk_children-returns-clause-ran
 walk_children-returns-clause-ran g t c =
     let l = c.loop-spot in
     let old = c.args.walk.now in
     let first = c.args.subtrees.now.known.entries in
-    ran_more {A = Option Edges}
+    ran_value {A = Option Edges} {C = Option Edges}
     (λ fs. (addr : ℕ) → Walks fs (children_marks fs addr c.args.level (take l.spot-index c.args.spots.now)) old l.walk first l.subtrees.known.entries
     (Ok l.edges))
     (λ fs. (addr : ℕ) → Walks fs (children_marks fs addr c.args.level c.args.spots.now) old l.walk first l.subtrees.known.entries (Ok l.edges))
-    (world (g.R.Rack.seen c.args.rack.now) c.args.vol.now) (world (g.R.Rack.seen l.rack) l.vol) (Ok l.edges) l.invariant.ran
+    (world (g.R.Rack.seen c.args.rack.now) c.args.vol.now) (world (g.R.Rack.seen l.rack) l.vol) l.edges l.edges l.invariant.ran
     (λ B p addr. walks_end (filesystem c.args.vol.now B) addr c.args.level c.args.spots.now l.spot-index old l.walk first l.subtrees.known.entries l.edges
     c.loop-spot-test.false (p addr))

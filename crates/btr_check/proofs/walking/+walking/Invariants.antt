@@ -1,5 +1,6 @@
 use Rattle.std.proofs.Common.{◌*◌, ◌+◌, ℕ, Ok, Option, take}
 use Rattle.btr_check.proofs.walking.+walking.Given as goal
+use Rattle.btr_check.proofs.Runs.{nothing}
 use Rattle.btr_check.specs.Passing.{Walks, children_marks}
 use Rattle.btr_check.specs.Running.{world, Ran}
 use Rattle.btr_check.specs.declared.subtrees.Edges.{Edges}
@@ -17,7 +18,7 @@ decreases-walk_children g l = 3 * l.level + 2
 -- the children so far were walked
 abbrev pub invariant-walk_children-loop-spot : goal.invariant-walk_children-loop-spot
 invariant-walk_children-loop-spot g l = record {
-  ran : Ran {A = Option Edges} (λ fs. (addr : ℕ) → Walks fs (children_marks fs addr l.level (take l.spot-index l.spots)) l.fn.walk l.walk
+  ran : Ran {A = Option Edges} nothing (λ fs. (addr : ℕ) → Walks fs (children_marks fs addr l.level (take l.spot-index l.spots)) l.fn.walk l.walk
       l.fn.subtrees.known.entries l.subtrees.known.entries (Ok l.edges)) (world (g.R.Rack.seen l.fn.rack) l.fn.vol)
       (world (g.R.Rack.seen l.rack) l.vol) (Ok l.edges);
 }

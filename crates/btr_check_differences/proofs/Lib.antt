@@ -1,0 +1,9 @@
+pub mod Apart
+pub mod Calls
+pub mod Nodes
+pub mod Differences
+pub mod Chains
+pub mod Within
+pub mod Tours
+pub mod Alike
+pub mod Missing

@@ -1,0 +1,4 @@
+pub mod Ranges
+pub mod Differing
+pub mod Reading
+pub mod Law

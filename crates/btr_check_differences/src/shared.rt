@@ -1,0 +1,67 @@
+// Blocks that two trees share.
+ghost use Rattle.std.specs.Prelude.{◌≡◌, IfSome, IsTrue};
+ghost use Rattle.btr_check_differences.specs.Differing.{IsShared};
+
+use btr_base::Key;
+use btr_walk::Spot;
+
+/// Where two lists of blocks have the same one.
+#[derive(Clone, Copy)]
+pub(crate) struct Shared {
+    pub(crate) before: usize,
+    pub(crate) after: usize,
+}
+
+// Whether two bounds are the same.
+fn same_bound(one: Option<Key>, other: Option<Key>) -> bool
+    ensures { IsTrue result → one ≡ other }
+{
+    match (one, other) {
+        (None, None) => true,
+        (Some(one), Some(other)) => {
+            one.objectid == other.objectid && one.kind == other.kind && one.offset == other.offset
+        }
+        (None, Some(_)) | (Some(_), None) => false,
+    }
+}
+
+// Whether two blocks stand at the same spot.
+fn same_spot(one: &Spot, other: &Spot) -> bool
+    ensures { IsTrue result → one.now ≡ other.now }
+{
+    one.addr == other.addr
+        && one.generation == other.generation
+        && same_bound(one.first, other.first)
+        && same_bound(one.up, other.up)
+}
+
+// Whether a block begins behind another one.
+fn begins_behind(one: &Spot, other: &Spot) -> bool {
+    match (one.first, other.first) {
+        (Some(one), Some(other)) => other.is_before(one),
+        (None, _) | (_, None) => false,
+    }
+}
+
+/// The first block that stands at the same spot in two lists whose keys ascend.
+pub(crate) fn next_shared(before: &[Spot], after: &[Spot]) -> Option<Shared>
+    ensures { IfSome result (IsShared before.now after.now) }
+{
+    let mut at = Shared {
+        before: 0,
+        after: 0,
+    };
+    while at.before < before.len() && at.after < after.len() {
+        let one = &before[at.before];
+        let other = &after[at.after];
+        if same_spot(one, other) {
+            return Some(at);
+        }
+        if begins_behind(one, other) {
+            at.after += 1;
+        } else {
+            at.before += 1;
+        }
+    }
+    None
+}
