@@ -21,7 +21,7 @@ use Rattle.btr_scrub_copies.specs.Mending.{mended_of}
 use Rattle.btr_scrub_copies.specs.Writes.{Images, writes_if}
 use Rattle.btr_scrub_copies.specs.Fresh.{Failing, first_trusted, fresh, fresh_writes, freshened, is_on_behind, is_stale, is_trusted, reads_doubtful, stale_beside, stale_parts}
 use Rattle.btr_scrub_row.specs.Wanted.{mending_writes}
-use Rattle.btr_scrub.specs.Glue.{In}
+use Rattle.btr_scrub.specs.BlocksInRows.{In}
 use Rattle.btr_scrub.specs.Scrubbing.{count_site, counted, counted_plain}
 use Rattle.btr_scrub.specs.declared.tally.Tally.{Tally}
 

@@ -25,13 +25,13 @@ use Rattle.btr_scrub_copies.specs.Mending.{IsCopied}
 use Rattle.btr_scrub_copies.specs.declared.mended.MendFault.{MendFault}
 use Rattle.btr_scrub_copies.specs.Writes.{Images, Write, write_on, writes_if}
 use Rattle.btr_scrub_row.specs.Wanted.{mending_writes}
-use Rattle.btr_scrub.specs.Glue.{In}
+use Rattle.btr_scrub.specs.BlocksInRows.{In}
 use Rattle.btr_scrub.specs.Order.{AreApart, IsSought, targets}
 use Rattle.btr_scrub_copies.specs.Fresh.{Failing}
 use Rattle.btr_scrub.specs.Repair.{first_missing, is_in_chunk, is_missing, missing_stripes, ok_or_none}
 use Rattle.btr_scrub.specs.Scrubbing.{BeginsBehind, IsPastChunk, Scrubs, count_site, sites_count, sites_in, sites_writes}
 use Rattle.btr_scrub.specs.Devices.{HaveLengths}
-use Rattle.btr_scrub.specs.Leaves.{Fits, KeepsOutside, alone}
+use Rattle.btr_scrub.specs.WrittenRanges.{Fits, KeepsOutside, alone}
 use Rattle.btr_scrub.specs.declared.tally.Tally.{Tally}
 use Rattle.btr_scrub.proofs.Scrubbing.{IsUnmoved, scrubs_as, scrubs_cut, scrubs_none, scrubs_then, told}
 use Rattle.btr_chunk.proofs.Rule.{facts}

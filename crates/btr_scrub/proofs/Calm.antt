@@ -23,7 +23,7 @@ use Rattle.btr_scrub_copies.specs.Writes.{Images, writes_if}
 use Rattle.btr_scrub_copies.specs.declared.mended.Mended.{Mended}
 use Rattle.btr_scrub_copies.proofs.Copied.{has_mirror}
 use Rattle.btr_scrub_copies.specs.Fresh.{Failing, fresh, fresh_writes, freshened, is_behind, is_on_behind, is_stale, stale_beside, stale_parts}
-use Rattle.btr_scrub.specs.Glue.{In}
+use Rattle.btr_scrub.specs.BlocksInRows.{In}
 use Rattle.btr_scrub.specs.Judged.{has_behind, has_older, is_older}
 use Rattle.btr_scrub.specs.Order.{IsSought}
 use Rattle.btr_scrub.proofs.Agreeing.{of_mapped}

@@ -28,7 +28,7 @@ use Rattle.btr_scrub_row.specs.Rows.{row_writes, sector_write}
 use Rattle.btr_scrub_row.specs.Wanted.{is_checked, is_lost_block, mending_writes, new_bytes, renewed, wrong_parts}
 use Rattle.btr_scrub_row.specs.declared.mended.MendedRow.{MendedRow}
 use Rattle.btr_scrub_row.proofs.Settled.{mending_is, own as own_are}
-use Rattle.btr_scrub.specs.Glue.{In}
+use Rattle.btr_scrub.specs.BlocksInRows.{In}
 use Rattle.btr_scrub.specs.Order.{IsSought}
 use Rattle.btr_scrub.specs.Rowing.{IsCalm, untouched}
 use Rattle.btr_scrub.proofs.Blockwise.{filter_none}

@@ -26,7 +26,7 @@ use Rattle.btr_scrub_row.specs.Wanted.{wrong_parts}
 use Rattle.btr_scrub_row.specs.Rows as rows
 use Rattle.btr_scrub_row.specs.Rows.{Row, blocks_at, column_of, element, meets, slices_with}
 use Rattle.btr_scrub.specs.Columns.{Committed, HasFewWrongAt, HasRightPlace, IsSoundIn, IsWrongAt, right_element, right_for}
-use Rattle.btr_scrub.specs.Glue.{In, IsNearly}
+use Rattle.btr_scrub.specs.BlocksInRows.{In, IsNearly}
 use Rattle.btr_scrub.specs.Right.{StandsFor}
 use Rattle.btr_scrub.specs.Survival.{AreBehind, FewAreFewAt, IsSoundBlock, IsSoundRow, KeepsRight, RightPasses, RowSurvives}
 use Rattle.btr_scrub.proofs.Elements.{block_of_element, part_stands}

@@ -29,8 +29,8 @@ use Rattle.btr_scrub_copies.specs.Writes.{Images, Write}
 use Rattle.btr_scrub_copies.proofs.Copied.{has_mirror}
 use Rattle.btr_scrub_row.specs.Wanted.{mending_writes}
 use Rattle.btr_scrub.specs.Devices.{HaveLengths}
-use Rattle.btr_scrub.specs.Glue.{In}
-use Rattle.btr_scrub.specs.Leaves.{Fits, KeepsOutside}
+use Rattle.btr_scrub.specs.BlocksInRows.{In}
+use Rattle.btr_scrub.specs.WrittenRanges.{Fits, KeepsOutside}
 use Rattle.btr_scrub.specs.Order.{IsSought}
 use Rattle.btr_scrub.specs.Repair.{covers}
 use Rattle.btr_scrub_copies.specs.Fresh.{Failing, first_trusted, fresh, fresh_writes, stale_parts}

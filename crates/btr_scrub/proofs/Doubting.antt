@@ -1,6 +1,6 @@
 -- Flagging the images on which a block doesn't pass.
 use Rattle.std.proofs.Common.{◌≡◌, ℕ, ◌+◌, ◌<◌, ◌≤◌, Bool, true, false, cond, ◌&&◌, ◌||◌, not, eqb, leb, List, [], ◌∷◌, ◌++◌, length, map, set, get_or, Option}
-use Rattle.std.proofs.Common.{Some, None, IfSome, IsNone, IsOk, IsOkAnd, Result, Ok, Err, refl, sym, ap, ◌∙◌, subst, arith}
+use Rattle.std.proofs.Common.{Some, None, IfSome, IsNone, IsOk, IsOkAnd, inl, inr, Result, Ok, Err, refl, sym, ap, ◌∙◌, subst, arith}
 use Rattle.std.proofs.Math.Bool.{or-false}
 use Rattle.std.proofs.lemmas.Bool.{eq-eqb, eqb-true, false≢true}
 use Rattle.std.proofs.lemmas.List.{append_assoc, append-nil}
@@ -29,12 +29,13 @@ use Rattle.btr_scrub_copies.proofs.Copied.{has_mirror}
 use Rattle.btr_scrub_row.proofs.Accepted.{the_target}
 use Rattle.btr_read.proofs.Fates.{sought_of}
 use Rattle.btr_scrub_copies.specs.Blocks.{is_good, own_parts}
-use Rattle.btr_scrub_copies.specs.Writes.{AccountsMend, Images}
+use Rattle.btr_scrub_copies.specs.Writes.{AccountsMend, Images, In}
 use Rattle.btr_scrub_copies.specs.declared.mended.MendFault.{MendFault}
 use Rattle.btr_scrub_copies.specs.declared.mended.MendFault.TheVariants.{Image, Memory}
 use Rattle.btr_scrub.specs.Doubts.{fails_at, fails_on, failing, is_on}
 use Rattle.btr_scrub.specs.Judged.{Flags, FlagsBlock, HasOwn, IsOfPart}
-use Rattle.btr_scrub.specs.Leaves.{LiesInStripe}
+use Rattle.btr_scrub.specs.WrittenRanges.{LiesInStripe}
+use Rattle.btr_scrub.specs.Listed.{PassesIf}
 use Rattle.btr_scrub.specs.Order.{AreApart, IsSought, targets}
 use Rattle.btr_scrub.proofs.Blockwise.{one_target}
 use Rattle.btr_scrub.proofs.Keepings.{any_none}
@@ -206,7 +207,7 @@ all_of (Some images) P h = h images
 
 -- ---- a sector without a checksum
 
-passes_plain : (setting : Setting) (want : Want) (bytes : List ℕ) → is_plain want ≡ true → passes setting want bytes ≡ true
+pub passes_plain : (setting : Setting) (want : Want) (bytes : List ℕ) → is_plain want ≡ true → passes setting want bytes ≡ true
 passes_plain setting (Tree addr generation level) bytes e = absurd (false≢true e)
 passes_plain setting (Block addr) bytes e = absurd (false≢true e)
 passes_plain setting (Sector addr sum) bytes e = absurd (false≢true e)
@@ -273,16 +274,31 @@ looked_more layout held wants left old mid new want rest t is e h flags = record
       h.flags flags;
 }
 
+-- the next one has a position
+pub looks_next : (layout : Layout) (held : Option Images) (wants left : List Want) (old new : List Bool) (want : Want) (rest : List Want) → left ≡ want ∷ rest
+    → LookedAt layout held wants left old new → IsOk (sought layout want)
+looks_next layout held wants left old new want rest is h = (subst (AreApart layout h.end) is h.apart).1
+
+-- plain sectors are passed, which fail nowhere
+looked_plain : (layout : Layout) (held : Option Images) (wants : List Want) (old new : List Bool) (past left rest : List Want) → left ≡ past ++ rest
+    → ((want : Want) → In want past → is_plain want ≡ true) → LookedAt layout held wants left old new → LookedAt layout held wants rest old new
+looked_plain layout held wants old new [] left rest e plain h = subst (λ ws. LookedAt layout held wants ws old new) e h
+looked_plain layout held wants old new (want ∷ past) left rest e plain h =
+    let t = the_sought (sought layout want) (looks_next layout held wants left old new want (past ++ rest) e h) in
+    looked_plain layout held wants old new past (past ++ rest) rest refl (λ w i. plain w (inr i))
+    (looked_more layout held wants left old new new want (past ++ rest) t.0 e t.1 h (flags_plain layout want t.0 held new (plain want (inl refl)) t.1))
+
+-- the same where some are to be passed
+pub looked_passed : (layout : Layout) (held : Option Images) (wants : List Want) (old new : List Bool) (wanted : Bool) (left : List Want) (end : ℕ)
+    (rest : List Want) → PassesIf wanted left end rest → LookedAt layout held wants left old new → LookedAt layout held wants rest old new
+looked_passed layout held wants old new false left end rest p h = subst (λ ws. LookedAt layout held wants ws old new) (sym p) h
+looked_passed layout held wants old new true left end rest p h = looked_plain layout held wants old new p.past left rest p.split p.plain h
+
 pub looked_done : (layout : Layout) (held : Option Images) (wants left : List Want) (old new : List Bool) → left ≡ [] → LookedAt layout held wants left old new
     → IfSome held (λ images. Flags old (failing images (targets layout wants)) new)
 looked_done layout held wants left old new none h =
     subst (λ ws. IfSome held (λ images. Flags old (failing images (targets layout ws)) new))
     (sym (h.split ∙ ap (λ xs. h.past ++ xs) none ∙ append-nil h.past)) h.flags
-
--- the next one has a position
-pub looks_next : (layout : Layout) (held : Option Images) (wants left : List Want) (old new : List Bool) (want : Want) (rest : List Want) → left ≡ want ∷ rest
-    → LookedAt layout held wants left old new → IsOk (sought layout want)
-looks_next layout held wants left old new want rest is h = (subst (AreApart layout h.end) is h.apart).1
 
 -- a block's slice is a part of its own, where there is parity
 pub own_slice : (layout : Layout) (want : Want) (i : ℕ) → IsOk (sought layout want) → ((t : Target) → sought layout want ≡ Ok t → mirrors t.chunk ≡ None)

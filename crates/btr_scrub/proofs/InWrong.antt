@@ -22,7 +22,7 @@ use Rattle.btr_scrub_row.specs.Rows.{Row, column_of, differing, differs, element
 use Rattle.btr_scrub_row.specs.Rows.{sector_write}
 use Rattle.btr_scrub_row.specs.Wanted.{mending_writes, new_bytes}
 use Rattle.btr_scrub.specs.Devices.{HaveLengths}
-use Rattle.btr_scrub.specs.Glue.{In}
+use Rattle.btr_scrub.specs.BlocksInRows.{In}
 use Rattle.btr_scrub.specs.Order.{AreApart, IsSought, targets}
 use Rattle.btr_scrub_copies.specs.Fresh.{Failing, fresh, fresh_writes, stale_parts}
 use Rattle.btr_scrub.specs.Repair.{first_missing, is_in_chunk, is_in_row, row_of, rows_in}

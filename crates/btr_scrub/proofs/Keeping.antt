@@ -36,9 +36,9 @@ use Rattle.btr_scrub_row.proofs.Settled.{bad_are, mending_is, own as own_are, wr
 use Rattle.btr_scrub.proofs.OwnPlaces.{wrong_own}
 use Rattle.btr_scrub_row.proofs.Pasted.{at_range, length-pasted, pasted-within, range_pasted}
 use Rattle.btr_scrub.specs.Devices.{HaveLengths}
-use Rattle.btr_scrub.specs.Glue.{In, IsInRow, LiesInRow}
+use Rattle.btr_scrub.specs.BlocksInRows.{In, IsInRow, LiesInRow}
 use Rattle.btr_scrub.specs.Keeping.{FillsPlace, FirstTurnKeepsBlocks, HasWayBeside, IsHad, IsRowAmong, SecondTurnKeepsBlocks, Withstands}
-use Rattle.btr_scrub.specs.Leaves.{KeepsOutside}
+use Rattle.btr_scrub.specs.WrittenRanges.{KeepsOutside}
 use Rattle.btr_scrub.specs.Order.{targets}
 use Rattle.btr_scrub.specs.Places.{IsOfElement}
 use Rattle.btr_scrub.specs.Repair.{byte_at, covers, is_in_row}
@@ -54,7 +54,7 @@ use Rattle.btr_scrub.proofs.Places.{covered, covering, elements_apart}
 use Rattle.btr_scrub.proofs.RowAgreeing.{parity_has}
 use Rattle.btr_scrub.proofs.RowWrites.{IsBlockOf, block_byte, has_own, in_one_element, row_short, written_parity}
 use Rattle.btr_scrub.proofs.Shorts.{Short, shorts_keep, site_short}
-use Rattle.btr_scrub.proofs.Some.{in_of}
+use Rattle.btr_scrub.proofs.SomeCandidate.{in_of}
 use Rattle.btr_scrub.proofs.SoundRows.{address_is}
 use Rattle.btr_scrub.proofs.Survival.{of_filter, range_same, some_of}
 use Rattle.btr_scrub.proofs.Writes.{any_filter_map, any_flat, any_map, mapped}

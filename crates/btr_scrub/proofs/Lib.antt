@@ -1,4 +1,4 @@
-pub mod Some
+pub mod SomeCandidate
 pub mod Elements
 pub mod Stripes
 pub mod Pasting
@@ -15,6 +15,8 @@ pub mod Writes
 pub mod Gathering
 pub mod Eachwise
 pub mod OneSector
+pub mod Gaps
+pub mod Placed
 pub mod Extending
 pub mod Scanning
 pub mod Underways
@@ -54,6 +56,10 @@ pub mod Keeping
 pub mod Safe
 pub mod Sums
 pub mod Tallying
+pub mod Sifting
+pub mod Sieving
+pub mod Sieved
+pub mod KeptWorks
 pub mod Scrubbed
 pub mod RowValues
 pub mod CalmRows

@@ -12,7 +12,7 @@ use Rattle.btr_scrub.specs.declared.run.Run.{Run}
 use Rattle.btr_scrub.specs.declared.run.RunKind.{RunKind}
 use Rattle.btr_scrub.specs.declared.run.RunKind.TheVariants.{TreeBlock, Sectors, Unsummed}
 use Rattle.btr_scrub.specs.declared.run.TreeMark.{TreeMark}
-use Rattle.btr_scrub.specs.Listed.{AddsTo, AreRuns, Begins, Extends, FewBytes, IsList, IsRun, Kept, Lengthens, all_plains, all_sectors, all_trees, kept_wants}
+use Rattle.btr_scrub.specs.Listed.{AddsAll, AddsTo, AreRuns, Begins, Extends, FewBytes, IsList, IsRun, Kept, Lengthens, all_plains, all_sectors, all_trees, kept_wants}
 use Rattle.btr_scrub.specs.Listed.{plains_from, plains_of, run_wants, sectors_from, sectors_of, tree_from, trees_of, wants_of}
 
 -- the counts of runs one behind another
@@ -24,12 +24,17 @@ pub trees_both : (runs more : List Run) → all_trees (runs ++ more) ≡ all_tre
 trees_both [] more = omega arith
 trees_both (run ∷ runs) more = let h = trees_both runs more in omega (arith, h)
 
--- sectors without a checksum, one more
-pub plains_more : (n addr : ℕ) → plains_from addr (suc n) ≡ plains_from addr n ++ Plain (addr + n * 4096) ∷ []
-plains_more zero addr = let here : addr ≡ addr + 0 * 4096 = omega arith in ap (λ a. Plain a ∷ []) here
-plains_more (suc n) addr =
+-- sectors without a checksum, and more behind them
+pub plains_both : (n more addr : ℕ) → plains_from addr (n + more) ≡ plains_from addr n ++ plains_from (addr + n * 4096) more
+plains_both zero more addr =
+    let all : 0 + more ≡ more = omega arith in
+    let here : addr ≡ addr + 0 * 4096 = omega arith in
+    ap (plains_from addr) all ∙ ap (λ a. plains_from a more) here
+plains_both (suc n) more addr =
+    let all : suc n + more ≡ suc (n + more) = omega arith in
     let behind : addr + 4096 + n * 4096 ≡ addr + suc n * 4096 = omega arith in
-    ap (λ ws. Plain addr ∷ ws) (plains_more n (addr + 4096)) ∙ ap (λ a. Plain addr ∷ (plains_from (addr + 4096) n ++ Plain a ∷ [])) behind
+    ap (plains_from addr) all
+    ∙ ap (λ ws. Plain addr ∷ ws) (plains_both n more (addr + 4096) ∙ ap (λ a. plains_from (addr + 4096) n ++ plains_from a more) behind)
 
 -- a product of a sum
 pub times_sum : (a b z : ℕ) → (a + b) * z ≡ a * z + b * z
@@ -250,32 +255,35 @@ module _ (old : Kept) (is : IsList old) where
             ∙ ap (λ q. kept_wants old ++ Sector addr (sum_from old.kind q) ∷ []) (take-take size size bytes (omega arith));
       })
 
-  -- a sector without a checksum behind the others, which begins a run
-  pub plain_added : (new : Kept) (addr : ℕ) → addr < 2 ^ 64 → new.kind ≡ old.kind → new.runs ≡ old.runs ++ record { addr = addr; kind = Unsummed 1 } ∷ [] → new.sums ≡ old.sums → new.marks ≡ old.marks → AddsTo old new (Plain addr)
-  plain_added new addr small k r s m =
-      let run : Run = record { addr = addr; kind = Unsummed 1 } in
+  -- sectors without a checksum behind the others, which begin a run
+  pub plain_added : (new : Kept) (addr n : ℕ) → 1 ≤ n → addr + n * 4096 < 2 ^ 64 → new.kind ≡ old.kind
+      → new.runs ≡ old.runs ++ record { addr = addr; kind = Unsummed n } ∷ [] → new.sums ≡ old.sums → new.marks ≡ old.marks
+      → AddsAll old new (plains_from addr n)
+  plain_added new addr n some small k r s m =
+      let run : Run = record { addr = addr; kind = Unsummed n } in
       let e = same_kept new old.kind (old.runs ++ run ∷ []) old.sums old.marks k r s m in
       let count = sectors_both old.runs (run ∷ []) in
       let trees = trees_both old.runs (run ∷ []) in
       let none : all_sectors (old.runs ++ run ∷ []) ≡ all_sectors old.runs = omega (arith, count) in
-      let fits : IsRun addr (Unsummed 1) = (omega arith, omega (arith, small)) in
-      subst (λ x. AddsTo old x (Plain addr)) (sym e) (record {
+      let fits : IsRun addr (Unsummed n) = (some, omega (arith, some, small)) in
+      subst (λ x. AddsAll old x (plains_from addr n)) (sym e) (record {
         is_list = record {
           runs_fit = runs_both old.runs (run ∷ []) is.runs_fit (fits, tt);
-          sums_fit = is.sums_fit ∙ ap (λ n. n * sum_size old.kind) (sym none);
+          sums_fit = is.sums_fit ∙ ap (λ q. q * sum_size old.kind) (sym none);
           marks_fit = omega (arith, trees, is.marks_fit);
         };
         kind = refl;
         wants = ap (λ xs. wants_of old.kind (old.runs ++ run ∷ []) xs old.marks) (sym (append-nil old.sums))
             ∙ ap (λ ms. wants_of old.kind (old.runs ++ run ∷ []) (old.sums ++ []) ms) (sym (append-nil old.marks))
-            ∙ wants_both old.kind old.runs (run ∷ []) old.sums [] old.marks [] is.sums_fit is.marks_fit;
+            ∙ wants_both old.kind old.runs (run ∷ []) old.sums [] old.marks [] is.sums_fit is.marks_fit
+            ∙ ap (λ ws. kept_wants old ++ ws) (append-nil (plains_from addr n));
       })
 
-  -- one behind the others, by which the last run is longer
-  pub plain_grown : (new : Kept) (before : List Run) (run longer : Run) (addr : ℕ) → addr < 2 ^ 64
-      → Extends run addr longer → old.runs ≡ before ++ run ∷ [] → new.kind ≡ old.kind → new.runs ≡ before ++ longer ∷ []
-      → new.sums ≡ old.sums → new.marks ≡ old.marks → AddsTo old new (Plain addr)
-  plain_grown new before run longer addr small l b k r s m =
+  -- some behind the others, by which the last run is longer
+  pub plain_grown : (new : Kept) (before : List Run) (run longer : Run) (addr more : ℕ) → 1 ≤ more → addr + more * 4096 < 2 ^ 64
+      → Extends run addr more longer → old.runs ≡ before ++ run ∷ [] → new.kind ≡ old.kind → new.runs ≡ before ++ longer ∷ []
+      → new.sums ≡ old.sums → new.marks ≡ old.marks → AddsAll old new (plains_from addr more)
+  plain_grown new before run longer addr more some small l b k r s m =
       let n = l.count in
       let size = sum_size old.kind in
       let run_is : all_sectors (run ∷ []) ≡ 0 = ap (λ q. sectors_of q + 0) l.sectors in
@@ -285,14 +293,11 @@ module _ (old : Kept) (is : IsList old) where
       let xlong : length old.sums ≡ all_sectors before * size = is.sums_fit ∙ ap (λ q. q * size) same_count in
       let trees : all_trees old.runs ≡ all_trees before + 0 = ap all_trees b ∙ trees_both before (run ∷ []) ∙ ap (λ q. all_trees before + q) run_trees in
       let mlong : length old.marks ≡ all_trees before = omega (arith, is.marks_fit, trees) in
-      let grown : Run = record { addr = run.addr; kind = Unsummed (suc n) } in
-      let more : n + 1 ≡ suc n = omega arith in
-      let longer_is : longer ≡ grown = l.more ∙ ap (λ q. record { addr = run.addr; kind = Unsummed q }) more in
+      let grown : Run = record { addr = run.addr; kind = Unsummed (n + more) } in
       let run_same : run ≡ record { addr = run.addr; kind = Unsummed n } = ap (λ q. record { addr = run.addr; kind = q }) l.sectors in
-      let e = same_kept new old.kind (before ++ grown ∷ []) old.sums old.marks k (r ∙ ap (λ q. before ++ q ∷ []) longer_is) s m in
+      let e = same_kept new old.kind (before ++ grown ∷ []) old.sums old.marks k (r ∙ ap (λ q. before ++ q ∷ []) l.more) s m in
       let before_fit : AreRuns before = runs_before before (run ∷ []) (subst AreRuns b is.runs_fit) in
-      let last : run.addr + (suc n - 1) * 4096 ≡ addr = omega (arith, l.next) in
-      let fits : IsRun run.addr (Unsummed (suc n)) = (omega arith, omega (arith, small, last)) in
+      let fits : IsRun run.addr (Unsummed (n + more)) = (omega (arith, some), omega (arith, some, small, l.next)) in
       let grown_count : all_sectors (before ++ grown ∷ []) ≡ all_sectors before = sectors_both before (grown ∷ []) ∙ omega arith in
       let grown_trees = trees_both before (grown ∷ []) in
       let with_run : (q : ℕ) → wants_of old.kind (before ++ record { addr = run.addr; kind = Unsummed q } ∷ []) old.sums old.marks ≡ wants_of old.kind before old.sums old.marks ++ plains_from run.addr q =
@@ -302,18 +307,18 @@ module _ (old : Kept) (is : IsList old) where
       ∙ ap (λ ws. wants_of old.kind before old.sums old.marks ++ ws) (append-nil (plains_from run.addr q)) in
       let old_is : kept_wants old ≡ wants_of old.kind before old.sums old.marks ++ plains_from run.addr n =
       ap (λ q. wants_of old.kind q old.sums old.marks) (b ∙ ap (λ q. before ++ q ∷ []) run_same) ∙ with_run n in
-      subst (λ x. AddsTo old x (Plain addr)) (sym e) (record {
+      subst (λ x. AddsAll old x (plains_from addr more)) (sym e) (record {
         is_list = record {
           runs_fit = runs_both before (grown ∷ []) before_fit (fits, tt);
           sums_fit = xlong ∙ ap (λ q. q * size) (sym grown_count);
           marks_fit = omega (arith, mlong, grown_trees);
         };
         kind = refl;
-        wants = with_run (suc n)
-            ∙ ap (λ ws. wants_of old.kind before old.sums old.marks ++ ws) (plains_more n run.addr)
-            ∙ sym (append_assoc (wants_of old.kind before old.sums old.marks) (plains_from run.addr n) (Plain (run.addr + n * 4096) ∷ []))
-            ∙ ap (λ ws. ws ++ Plain (run.addr + n * 4096) ∷ []) (sym old_is)
-            ∙ ap (λ q. kept_wants old ++ Plain q ∷ []) (sym l.next);
+        wants = with_run (n + more)
+            ∙ ap (λ ws. wants_of old.kind before old.sums old.marks ++ ws) (plains_both n more run.addr)
+            ∙ sym (append_assoc (wants_of old.kind before old.sums old.marks) (plains_from run.addr n) (plains_from (run.addr + n * 4096) more))
+            ∙ ap (λ ws. ws ++ plains_from (run.addr + n * 4096) more) (sym old_is)
+            ∙ ap (λ q. kept_wants old ++ plains_from q more) (sym l.next);
       })
 
 -- the calls that put blocks behind the others
@@ -345,16 +350,17 @@ module _ {E : Type 0} (result : Result (Unit {0}) E) (old : Kept) (is : IsList o
       (s ∙ ap (λ q. q ++ take (sum_size kind) bytes) (ap (λ (q : Kept). q.sums) same) ∙ ap (λ q. old.sums ++ take (sum_size q) bytes) k)
       (ap (λ (q : Kept). q.marks) same)) h
 
-  pub plain_begun : (new : Kept) (addr : ℕ) → addr < 2 ^ 64 → OnOk result (Begins old new (record { addr = addr; kind = Unsummed 1 })) → OnOk result (AddsTo old new (Plain addr))
-  plain_begun new addr small h = on_ok result (λ b. plain_added old is new addr small b.kind b.runs b.sums b.marks) h
+  pub plain_begun : (new : Kept) (addr n : ℕ) → 1 ≤ n → addr + n * 4096 < 2 ^ 64
+      → OnOk result (Begins old new (record { addr = addr; kind = Unsummed n })) → OnOk result (AddsAll old new (plains_from addr n))
+  plain_begun new addr n some small h = on_ok result (λ b. plain_added old is new addr n some small b.kind b.runs b.sums b.marks) h
 
--- the last run has one more sector without a checksum
+-- the last run has more sectors without a checksum
 pub plain_lengthened : (old : Kept) → IsList old → (kind : SumKind) (runs : List Run) (last : Option Run) (sums : List ℕ) (marks : List TreeMark)
-    (longer : Run) (addr : ℕ) → addr < 2 ^ 64 → made kind (runs ++ option_to_list last) sums marks ≡ old
-    → IsSomeAnd last (λ run. Extends run addr longer) → AddsTo old (made kind (runs ++ longer ∷ []) sums marks) (Plain addr)
-plain_lengthened old is kind runs None sums marks longer addr small same l = absurd l
-plain_lengthened old is kind runs (Some run) sums marks longer addr small same l =
-    plain_grown old is (made kind (runs ++ longer ∷ []) sums marks) runs run longer addr small l (sym (ap (λ (q : Kept). q.runs) same))
+    (longer : Run) (addr n : ℕ) → 1 ≤ n → addr + n * 4096 < 2 ^ 64 → made kind (runs ++ option_to_list last) sums marks ≡ old
+    → IsSomeAnd last (λ run. Extends run addr n longer) → AddsAll old (made kind (runs ++ longer ∷ []) sums marks) (plains_from addr n)
+plain_lengthened old is kind runs None sums marks longer addr n some small same l = absurd l
+plain_lengthened old is kind runs (Some run) sums marks longer addr n some small same l =
+    plain_grown old is (made kind (runs ++ longer ∷ []) sums marks) runs run longer addr n some small l (sym (ap (λ (q : Kept). q.runs) same))
     (ap (λ (q : Kept). q.kind) same) refl (ap (λ (q : Kept). q.sums) same) (ap (λ (q : Kept). q.marks) same)
 
 -- each run has a sector, or is a tree block

@@ -19,7 +19,7 @@ use Rattle.btr_scrub_copies.specs.Writes.{Images, Write, write_on, writes_if}
 use Rattle.btr_scrub_row.specs.Mending.{IsRowOf, IsOn, is_at, mended_row}
 use Rattle.btr_scrub_row.specs.Rows.{Row, parities, parity_writes, row_writes}
 use Rattle.btr_scrub.specs.Devices.{HaveLengths}
-use Rattle.btr_scrub.specs.Glue.{In}
+use Rattle.btr_scrub.specs.BlocksInRows.{In}
 use Rattle.btr_scrub.specs.Order.{AreApart, IsSought, targets}
 use Rattle.btr_scrub.specs.Repair.{covers, first_missing, is_in_row, ok_or_none, row_of}
 use Rattle.btr_scrub.specs.Scrubbing.{count_row, count_row_of, counted_row, rows_count, rows_writes}

@@ -31,7 +31,7 @@ use Rattle.btr_scrub_row.specs.Mending.{HasRoom, IsFullStripe, IsOfRow, IsOn, Is
 use Rattle.btr_scrub_row.specs.Rows.{Row, range_in_element, row_writes}
 use Rattle.btr_scrub_row.specs.declared.buffer.RowBuffer.{RowBuffer}
 use Rattle.btr_scrub_row.specs.declared.mended.MendedRow.{MendedRow}
-use Rattle.btr_scrub.specs.Leaves.{LiesInChunk, LiesInStripe, alone}
+use Rattle.btr_scrub.specs.WrittenRanges.{LiesInChunk, LiesInStripe, alone}
 use Rattle.btr_scrub.specs.Repair.{first_missing}
 use Rattle.btr_scrub.specs.Scrubbing.{CanMend, HasRooms, IsOfScrub, Scrubs, counted_row}
 use Rattle.btr_scrub.specs.declared.tally.Tally.{Tally}
@@ -40,7 +40,7 @@ use Rattle.btr_scrub_row.proofs.Elements.{range_stands, stands_on}
 use Rattle.btr_scrub.proofs.Positions.{find_at, lies_alone}
 use Rattle.btr_scrub.proofs.Scrubbing.{does_fault, does_value, does_weaker, tell, told, waits_weaker}
 use Rattle.btr_scrub.proofs.Lists.{all_from, all_in}
-use Rattle.btr_scrub.proofs.Some.{any_at}
+use Rattle.btr_scrub.proofs.SomeCandidate.{any_at}
 
 -- the number of its chunk
 pub chunk_number : (layout : Layout) (start number : ℕ) (row : Row) → IsFullStripe layout start number row → (i : ℕ)

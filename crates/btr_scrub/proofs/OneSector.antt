@@ -87,7 +87,7 @@ module _ (B : Map) (kind : SumKind) (addr : ℕ) (sum : Sum) where
       let p = le {S = ⊥} tree.place (key sums_objectid extent_csum addr) in
       behind (exec B p).marks (exec B p).ending (sym (ap (λ (r : Run Want fate.Fault ⊥ (Option Sum)). r.ending) (exec-bind B p (sum_found kind addr))) ∙ h)
 
-abbrev met_of : ℕ → Option Sum → Meeting (Unit {0})
+abbrev pub met_of : ℕ → Option Sum → Meeting (Unit {0})
 met_of addr found = Emit (sector_met addr found) (Return tt)
 
 -- a sector was listed with the checksum that was looked up

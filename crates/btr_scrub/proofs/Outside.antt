@@ -6,7 +6,7 @@ use Rattle.std.specs.List.{fold, list_any}
 use Rattle.btr_rack.specs.declared.place.Place.{Place as Range}
 use Rattle.btr_scrub_copies.specs.Writes.{Images, IsStopped, IsTorn, Leaves, Write, write_on, writes_if}
 use Rattle.btr_scrub_copies.specs.declared.mended.MendFault.{MendFault}
-use Rattle.btr_scrub.specs.Leaves.{KeepsOutside}
+use Rattle.btr_scrub.specs.WrittenRanges.{KeepsOutside}
 use Rattle.btr_scrub.specs.Repair.{covers}
 use Rattle.btr_scrub.specs.Scrubbing.{chunk_writes_for}
 use Rattle.btr_scrub.specs.Whole.{WorksKeepTheRest, listed_failing, listed_writes_for}

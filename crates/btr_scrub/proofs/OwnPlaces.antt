@@ -10,7 +10,7 @@ use Rattle.btr_scrub_copies.specs.Fresh.{Failing, fresh, is_stale, stale_beside,
 use Rattle.btr_scrub_copies.specs.Writes.{Images}
 use Rattle.btr_scrub_copies.proofs.Syncs.{passing_filter}
 use Rattle.btr_scrub_row.specs.Wanted.{wrong_parts}
-use Rattle.btr_scrub.specs.Glue.{In}
+use Rattle.btr_scrub.specs.BlocksInRows.{In}
 
 -- a stale place is one of its own
 pub stale_own : (fails : Failing) (images : Images) (t : Target) (part : Part) → In part (stale_parts images fails t) → In part (own_parts t)

@@ -6,7 +6,7 @@ use Rattle.std.proofs.lemmas.List.{length-set, get_or-set_same, get_or-set_other
 use Rattle.std.specs.List.{fold, list_any}
 use Rattle.btr_rack.specs.Rack.{image_of, pasted, written}
 use Rattle.btr_rack.specs.declared.place.Place.{Place as Range}
-use Rattle.btr_scrub.specs.Leaves.{KeepsOutside, WritesKeepTheRest}
+use Rattle.btr_scrub.specs.WrittenRanges.{KeepsOutside, WritesKeepTheRest}
 use Rattle.btr_scrub.specs.Repair.{covers}
 use Rattle.btr_scrub_copies.specs.Writes.{Images, Write, write_on}
 use Rattle.btr_scrub_row.proofs.Pasted.{length-pasted, pasted-outside}

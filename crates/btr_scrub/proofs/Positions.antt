@@ -31,12 +31,12 @@ use Rattle.btr_read.specs.Want.{addr_of, len_of}
 use Rattle.btr_read.specs.declared.device.Device.{Device}
 use Rattle.btr_read.specs.declared.want.Want.{Want}
 use Rattle.btr_scrub_copies.specs.Mending.{IsOfCopy as IsOfMirror}
-use Rattle.btr_scrub.specs.Leaves.{LiesInChunk, LiesInStripe, alone}
+use Rattle.btr_scrub.specs.WrittenRanges.{LiesInChunk, LiesInStripe, alone}
 use Rattle.btr_scrub.specs.Order.{IsSought}
 use Rattle.btr_scrub.specs.Repair.{covers}
 use Rattle.btr_scrub_row.proofs.Elements.{range_stands, stands_on}
 use Rattle.btr_scrub.proofs.Places.{covering}
-use Rattle.btr_scrub.proofs.Some.{any_at}
+use Rattle.btr_scrub.proofs.SomeCandidate.{any_at}
 
 -- ---- what is sought
 

@@ -2,6 +2,7 @@
 use Rattle.std.proofs.Common.{◌≡◌, ◌≢◌, ℕ, zero, suc, ◌+◌, ◌-◌, ◌*◌, ◌^◌, ◌<◌, ◌≤◌, List, [], ◌∷◌, ◌++◌, length, drop, slice_get, Option, Some, None, true, refl, sym}
 use Rattle.std.proofs.Common.{ap, ◌∙◌, append_assoc, subst, inl, inr, arith}
 use Rattle.std.proofs.Math.Nat.{suc-mul}
+use Rattle.std.proofs.lemmas.Bool.{cases_lt}
 use Rattle.std.proofs.lemmas.List.{drop-drop, length-drop}
 use Rattle.std.proofs.lemmas.Option.{same_Some}
 use Rattle.btr_base.specs.Sum.{sum_size, stored_sum}
@@ -15,8 +16,8 @@ use Rattle.btr_scrub.specs.declared.run.Run.{Run}
 use Rattle.btr_scrub.specs.declared.run.RunKind.{RunKind}
 use Rattle.btr_scrub.specs.declared.run.RunKind.TheVariants.{TreeBlock, Sectors, Unsummed}
 use Rattle.btr_scrub.specs.declared.run.TreeMark.{TreeMark}
-use Rattle.btr_scrub.specs.Glue.{In}
-use Rattle.btr_scrub.specs.Listed.{AreRuns, Gives, IsPast, IsPlace, IsRun, Kept, StandsIn, all_sectors, all_trees, first_past, left_in, plains_from, plains_of}
+use Rattle.btr_scrub.specs.BlocksInRows.{In}
+use Rattle.btr_scrub.specs.Listed.{AreRuns, Gives, IsNextPlain, IsPast, PassesFrom, PassesPlain, IsPlace, IsRun, Kept, StandsIn, all_sectors, all_trees, first_past, left_in, plains_from, plains_of}
 use Rattle.btr_scrub.specs.Listed.{run_left, run_wants, sectors_from, sectors_of, sums_past, trees_of, wants_left, wants_of}
 use Rattle.btr_scrub.proofs.Listing.{times_sum}
 
@@ -221,6 +222,9 @@ module _ (kind : SumKind) (run : Run) (runs : List Run) (past : ℕ) (sums : Lis
   plain_in_range : run.addr + past * 4096 < 2 ^ 64
   plain_in_range = let h = subst (IsRun run.addr) e p.runs_fit.0 in omega (arith, plain_left, h.1)
 
+  plain_ends : run.addr + n * 4096 < 2 ^ 64
+  plain_ends = (subst (IsRun run.addr) e p.runs_fit.0).1
+
   sums_left : length sums ≡ all_sectors runs * sum_size kind
   sums_left =
       let size = sum_size kind in
@@ -298,6 +302,15 @@ pub all_below : (d addr end : ℕ) (want : Want) → ((i : ℕ) → i < d → ad
 all_below zero addr end want h i = absurd i
 all_below (suc d) addr end want h (inl e) = let here = h 0 (omega arith) in subst (λ w. addr_of w < end) e (omega (arith, here))
 all_below (suc d) addr end want h (inr i) = all_below d (addr + 4096) end want (λ k lt. let there = h (suc k) (omega (arith, lt)) in omega (arith, there)) i
+
+-- what is passed from an address on is plain
+pub passes_plain : (old new : List Want) (from bound end : ℕ) → PassesFrom old from bound end new → PassesPlain old bound new
+passes_plain old new from bound end h = record {
+  past = plains_from from h.count;
+  split = h.split;
+  plain = all_plain h.count from;
+  below = λ want i. all_below h.count from bound want h.below i;
+}
 
 size_some : (kind : SumKind) → 4 ≤ sum_size kind
 size_some Crc32c = omega arith
@@ -392,6 +405,9 @@ module _ (kept : Kept) (run past sum mark : ℕ) (stands : StandsIn kept run pas
   pub plain_fits : r.addr + past * 4096 < 2 ^ 64
   plain_fits = plain_in_range kept.kind r behind past bytes n notes e at_place
 
+  pub plain_end_fits : r.addr + n * 4096 < 2 ^ 64
+  plain_end_fits = plain_ends kept.kind r behind past bytes n notes e at_place
+
   pub at_plain_last : (d : ℕ) → past + d ≡ n
       → (left_in kept run past sum mark ≡ plains_from (r.addr + past * 4096) d ++ left_in kept (run + 1) 0 sum mark) × StandsIn kept (run + 1) 0 sum mark
   at_plain_last d h =
@@ -407,6 +423,22 @@ module _ (kept : Kept) (run past sum mark : ℕ) (stands : StandsIn kept run pas
             ∙ ap (λ q. plains_from (r.addr + past * 4096) d ++ wants_left kept.kind q (past + d) bytes notes) (sym is),
         subst (λ q. IsPlace kept.kind q (past + d) bytes notes) (sym is) t.1,
       )
+
+  -- the sector that comes next
+  pub next_plain : (wants : List Want) → left_in kept run past sum mark ≡ wants → (at : ℕ) → at ≡ past → IsNextPlain wants (r.addr + at * 4096)
+  next_plain wants view at is =
+      let one = one_plain in
+      let here : r.addr + past * 4096 ≡ r.addr + at * 4096 = omega (arith, is) in
+      elim (cases_lt (past + 1) n) [
+        | inl lt ↦ record {
+          rest = left_in kept run (past + 1) sum mark;
+          split = sym view ∙ (at_plain_next 1 lt).0 ∙ ap (λ a. Plain a ∷ left_in kept run (past + 1) sum mark) here;
+        }
+        | inr le ↦ record {
+          rest = left_in kept (run + 1) 0 sum mark;
+          split = sym view ∙ (at_plain_last 1 (omega (arith, le, one))).0 ∙ ap (λ a. Plain a ∷ left_in kept (run + 1) 0 sum mark) here;
+        }
+      ]
 
 pub gives_end : (old : List Want) (result : Option Want) → old ≡ [] → result ≡ None → Gives old result old
 gives_end old result e is = subst (λ r. Gives old r old) (sym is) (e, e)

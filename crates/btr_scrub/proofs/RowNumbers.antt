@@ -21,7 +21,7 @@ use Rattle.btr_read.specs.Want.{addr_of, len_of}
 use Rattle.btr_read.specs.declared.want.Want.{Want}
 use Rattle.btr_read.proofs.Fates.{sought_of}
 use Rattle.btr_scrub_row.specs.Rows.{Row}
-use Rattle.btr_scrub.specs.Glue.{In}
+use Rattle.btr_scrub.specs.BlocksInRows.{In}
 use Rattle.btr_scrub.specs.Order.{AreApart, IsSought}
 use Rattle.btr_scrub.specs.Repair.{is_in_chunk, is_in_row, row_of, rows_in}
 use Rattle.btr_scrub.specs.Rowing.{row_in}

@@ -19,7 +19,7 @@ use Rattle.btr_read.proofs.Ones.{in_below}
 use Rattle.btr_read.proofs.Order.{in_ways}
 use Rattle.btr_read.proofs.Rebuilt.{at_slice, length-rs, by_p, by_q, by_both}
 use Rattle.btr_scrub_copies.specs.Writes.{Images}
-use Rattle.btr_scrub.specs.Glue.{In}
+use Rattle.btr_scrub.specs.BlocksInRows.{In}
 use Rattle.btr_scrub.proofs.Agreeing.{of_mapped}
 use Rattle.btr_scrub.proofs.Blockwise.{in_append}
 use Rattle.btr_scrub.proofs.RowNumbers.{in_range}

@@ -31,8 +31,8 @@ use Rattle.btr_scrub_row.specs.Rows as rows
 use Rattle.btr_scrub_row.specs.Rows.{Row, column_of, differing, differs, element_with, is_decided, parities, parity_writes, range_in_element, row_writes}
 use Rattle.btr_scrub_row.specs.Rows.{sector_write}
 use Rattle.btr_scrub.specs.Devices.{HaveLengths}
-use Rattle.btr_scrub.specs.Glue.{In}
-use Rattle.btr_scrub.specs.Leaves.{KeepsOutside}
+use Rattle.btr_scrub.specs.BlocksInRows.{In}
+use Rattle.btr_scrub.specs.WrittenRanges.{KeepsOutside}
 use Rattle.btr_scrub.specs.Order.{IsSought}
 use Rattle.btr_scrub.specs.Places.{IsOfElement}
 use Rattle.btr_scrub.specs.Repair.{covers}

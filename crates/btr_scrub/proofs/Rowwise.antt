@@ -22,8 +22,8 @@ use Rattle.btr_scrub_copies.specs.declared.mended.MendFault.TheVariants.{Memory}
 use Rattle.btr_scrub_row.specs.Mending.{mended_row}
 use Rattle.btr_scrub_row.specs.Rows.{row_writes}
 use Rattle.btr_scrub.specs.Devices.{HaveLengths}
-use Rattle.btr_scrub.specs.Glue.{In}
-use Rattle.btr_scrub.specs.Leaves.{alone}
+use Rattle.btr_scrub.specs.BlocksInRows.{In}
+use Rattle.btr_scrub.specs.WrittenRanges.{alone}
 use Rattle.btr_scrub.specs.Order.{AreApart, IsSought, targets}
 use Rattle.btr_scrub.specs.Repair.{first_missing, is_in_row, ok_or_none, row_of, rows_in}
 use Rattle.btr_scrub.specs.Rowing.{BeginsElse, Collects, row_in}

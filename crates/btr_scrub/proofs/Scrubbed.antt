@@ -29,7 +29,7 @@ use Rattle.btr_scrub_copies.proofs.Doing.{stopped_first}
 use Rattle.btr_scrub_copies.proofs.Turning.{read_at}
 use Rattle.btr_scrub.specs.Devices.{HaveLengths}
 use Rattle.btr_scrub.specs.Gathering.{StopCause, wants_among, count_met, stop_halt}
-use Rattle.btr_scrub.specs.Leaves.{KeepsOutside}
+use Rattle.btr_scrub.specs.WrittenRanges.{KeepsOutside, LiesInStripe}
 use Rattle.btr_scrub.specs.Repair.{Effect, devid_of, effect, effect_of_ending, effect_unless, first_missing, meeting, stood_tally, stop_of, tally}
 use Rattle.btr_scrub.specs.Repair.{writes}
 use Rattle.btr_scrub.specs.Right.{AreBytes, Committed, IsCommitted, RangesLeaveFresh, RangesLieInWrong, RangesMayHoldAnything, SparedStand}
@@ -37,7 +37,7 @@ use Rattle.btr_scrub.specs.Scrubbed.{AnswersAs, Called, HasEffect, IsImageFault,
 use Rattle.btr_scrub_copies.specs.Syncing.{plain}
 use Rattle.btr_scrub.specs.Scrubbing.{IsOfScrub, Works}
 use Rattle.btr_scrub.specs.Units.{Met, units_in}
-use Rattle.btr_scrub.specs.Whole.{Goes, Listed, Listing, Refused, ScrubsAll, Stopped, answer_of, first_tally, listed_count_for, listed_writes_for}
+use Rattle.btr_scrub.specs.Whole.{Failed, Goes, Listed, Listing, Refused, ScrubsAll, Stopped, answer_of, first_tally, listed_count_for, listed_writes_for}
 use Rattle.btr_scrub.specs.declared.tally.Tally.{Tally}
 use Rattle.btr_scrub.proofs.Outside.{works_keep_the_rest}
 use Rattle.btr_scrub.proofs.Pasting.{keeps_none}
@@ -200,6 +200,35 @@ module _ (c : Called) where
         other : (slot : ℕ) → ◌≡◌ {A = Result Tally Stop} (Err (stop.Tree f)) (Err (stop.Image slot)) → ⊥
         other slot e = cc
 
+    -- an image failed as listed blocks were looked at
+    module _ (mid : Seen) (reads : OnlyReads c.old mid) (slot : ℕ) (answer : c.result ≡ Err (stop.Image slot)) (later : OnlyReads mid c.new) (f : FailsAt (LiesInStripe layout) slot mid c.new) where
+      only : OnlyReads c.old c.new
+      only = reads_more reads later
+
+      fault_rose : Rose c.old.account.faults c.new.account.faults
+      fault_rose = rose_behind c.old.account.faults mid.account.faults c.new.account.faults reads.later f.failed.one.faults
+
+      pub image_failed : IsScrubbed c
+      image_failed = record {
+        answers = λ sure. of_images c (λ images left. AnswersAs c images left c.result) (still c.new only refl)
+            (λ images left e g. subst (AnswersAs c images left) (sym answer) fault_rose);
+        left = λ sure. left_by c.new only refl (λ images. (effect c.write images c.fs).writes);
+        reads = subst (ReadsAt c) (sym answer) tt;
+        unwritten = λ w. only;
+        image = λ other e. record {
+          unsure = sym (ap (λ (s : Seen). s.sure) reads.same) ∙ f.failed.unsure;
+          rose = fault_rose;
+          fresh = some_fresh mid.account.fresh c.new.account.fresh f.failed.one.fresh;
+          no_opening = f.failed.read;
+          on_slot = ap (λ (r : Range). r.slot) f.failed.one.last ∙ f.on_slot ∙ the_slot other (sym answer ∙ e);
+          place = subst (IsOfScrub layout) (sym f.failed.one.last) (inr f.lies);
+        };
+        waits = λ none. inl (read_at c.old c.new only (λ range. ⊥));
+      }
+        where
+          the_slot : (other : ℕ) → ◌≡◌ {A = Result Tally Stop} (Err (stop.Image slot)) (Err (stop.Image other)) → slot ≡ other
+          the_slot other e = cc e
+
     -- ---- the blocks were listed, and mended
 
     module _ (table : IsTable layout.chunks) (own : HaveOwnSlots layout.devices)
@@ -344,6 +373,7 @@ module _ (c : Called) where
     goes_on given mid reads done (Stopped why) g = stopped given mid reads g.1 why g.0 done g.2 g.3
     goes_on given mid reads done Listed g = mended given table own lengths mid reads done g.0 g.1.tally g.1.ended g.1.works g.1.says
     goes_on given mid reads done (Refused f) g = list_refused given mid reads g.1 f g.0 g.3
+    goes_on given mid reads done (Failed slot) g = image_failed given mid reads slot g.0 g.1 g.2
 
     pub is_scrubbed : IsScrubbed c
     is_scrubbed = by (first_missing layout) refl missing
@@ -357,6 +387,7 @@ module _ (c : Called) where
         → c.new.slots ≡ c.old.slots
     slots_on mid reads done (Stopped why) g = ap (λ (s : Seen). s.slots) g.1 ∙ ap (λ (s : Seen). s.slots) reads.same
     slots_on mid reads done Listed g = ap (λ (s : Seen). s.slots) g.1.works.does.only.same ∙ ap (λ (s : Seen). s.slots) reads.same
+    slots_on mid reads done (Failed slot) g = ap (λ (s : Seen). s.slots) g.1.same ∙ ap (λ (s : Seen). s.slots) reads.same
     slots_on mid reads done (Refused f) g = ap (λ (s : Seen). s.slots) g.1 ∙ ap (λ (s : Seen). s.slots) reads.same
 
     pub slots_stay : c.new.slots ≡ c.old.slots

@@ -21,7 +21,7 @@ use Rattle.btr_scrub_copies.specs.Syncing.{Strands, plain}
 use Rattle.btr_scrub_copies.specs.Turns.{WaitsAt, waiting}
 use Rattle.btr_scrub_copies.proofs.Doing.{does_as, does_as_halt, does_failed, does_halt, does_reads, does_then}
 use Rattle.btr_scrub_copies.proofs.Turning.{does_plain, marked_after, same_never, strands_none, strands_same, waits_at}
-use Rattle.btr_scrub.specs.Leaves.{LiesInStripe}
+use Rattle.btr_scrub.specs.WrittenRanges.{LiesInStripe}
 use Rattle.btr_scrub.specs.Repair.{first_missing}
 use Rattle.btr_scrub.specs.Scrubbing.{CanMend, IsOfScrub, Scrubs}
 use Rattle.btr_scrub.specs.declared.tally.Tally.{Tally}

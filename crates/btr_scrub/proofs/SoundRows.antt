@@ -28,7 +28,7 @@ use Rattle.btr_scrub_copies.proofs.Firsts.{sound_place}
 use Rattle.btr_scrub_row.specs.Rows as rows
 use Rattle.btr_scrub_row.specs.Rows.{Row, blocks_at}
 use Rattle.btr_scrub.specs.Devices.{HaveLengths}
-use Rattle.btr_scrub.specs.Glue.{In, IsInRow, LiesInRow}
+use Rattle.btr_scrub.specs.BlocksInRows.{In, IsInRow, LiesInRow}
 use Rattle.btr_scrub.specs.Order.{AreApart, IsSought, targets}
 use Rattle.btr_scrub.specs.Repair.{first_missing, is_in_row, ok_or_none, row_of}
 use Rattle.btr_scrub.specs.Columns.{right_for}

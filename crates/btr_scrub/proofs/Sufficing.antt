@@ -27,9 +27,9 @@ use Rattle.btr_scrub_copies.proofs.Turning.{read_at, reads_plain, strands_none}
 use Rattle.btr_scrub_row.specs.Wanted.{mending_writes}
 use Rattle.btr_scrub.specs.Doubts.{failing}
 use Rattle.btr_scrub_copies.specs.Fresh.{Failing, flagged, fresh_writes, freshened}
-use Rattle.btr_scrub.specs.Glue.{In}
+use Rattle.btr_scrub.specs.BlocksInRows.{In}
 use Rattle.btr_scrub.specs.Judged.{AreFailing, IsIdle, Suffices, has_behind, has_older, some_older, some_parity}
-use Rattle.btr_scrub.specs.Leaves.{LiesInStripe}
+use Rattle.btr_scrub.specs.WrittenRanges.{LiesInStripe}
 use Rattle.btr_scrub.specs.Order.{IsSought, targets}
 use Rattle.btr_scrub.specs.Repair.{first_missing, is_in_chunk, is_in_row, row_of, rows_in}
 use Rattle.btr_scrub.specs.Scrubbing.{IsOfScrub, Works, all_count_for, all_writes_for, chunk_count_for, chunk_writes_for, count_site, counted}

@@ -22,7 +22,7 @@ use Rattle.btr_read.specs.Layout.{Layout, device_in}
 use Rattle.btr_read.specs.Fate.{is_plain}
 use Rattle.btr_read.proofs.Pieces.{length-slice_range}
 use Rattle.btr_scrub_row.specs.Wanted.{new_bytes}
-use Rattle.btr_scrub.specs.Glue.{In, right_bytes}
+use Rattle.btr_scrub.specs.BlocksInRows.{In, right_bytes}
 use Rattle.btr_scrub.specs.Columns.{Committed, right_for}
 use Rattle.btr_scrub_row.specs.Rows as rows
 use Rattle.btr_scrub_row.specs.Rows.{Row, blocks_at, element, element_with, slice_with, slices_with, with_block}

@@ -24,11 +24,11 @@ use Rattle.btr_scrub_row.specs.Mending.{mended_row}
 use Rattle.btr_scrub_row.specs.Rows.{Row, parities, parity_writes}
 use Rattle.btr_scrub_row.specs.Wanted.{is_checked, is_lost_block, mending_writes, wrong_parts}
 use Rattle.btr_scrub.specs.Gathering.{wants_among, count_met}
-use Rattle.btr_scrub.specs.Glue.{In}
+use Rattle.btr_scrub.specs.BlocksInRows.{In}
 use Rattle.btr_scrub.specs.Order.{IsSought}
 use Rattle.btr_scrub_copies.specs.Fresh.{Failing, fresh_writes, freshened, stale_parts}
 use Rattle.btr_scrub.specs.Repair.{failed, is_in_chunk, is_in_row, is_unchecked, met, row_of, rows_in, sites, stood}
-use Rattle.btr_scrub.specs.Repair.{stood_tally, tally}
+use Rattle.btr_scrub.specs.Sifting.{begun}
 use Rattle.btr_scrub.specs.Scrubbing.{all_count_for, count_row, count_row_of, count_site, counted, counted_plain, counted_row, rows_count, sites_count}
 use Rattle.btr_scrub.specs.Units.{Checked, Met, Unchecked}
 use Rattle.btr_scrub.specs.Whole.{ListedCounts, first_tally}
@@ -43,7 +43,7 @@ use Rattle.btr_scrub.proofs.Told.{failing_are, targets_met}
 
 -- ---- counts that stand still
 
-stood_add : (n m : ℕ) → stood (stood n + m) ≡ stood (n + m)
+pub stood_add : (n m : ℕ) → stood (stood n + m) ≡ stood (n + m)
 stood_add n m = grind arith
 
 -- steps each of which adds to a count add their sum to it
@@ -54,6 +54,10 @@ rises get step f [] t n h e = e ∙ ap stood (omega arith)
 rises get step f (x ∷ xs) t n h e =
     let whole : n + f x + sum_by f xs ≡ n + sum_by f (x ∷ xs) = omega (arith, sum_by-cons f x xs) in
     rises get step f xs (step t x) (n + f x) (λ y i. h y (inr i)) (h x (inl refl) t n e) ∙ ap stood whole
+
+pub same_tally : (a b : Tally) → a.blocks ≡ b.blocks → a.bad ≡ b.bad → a.repaired ≡ b.repaired → a.lost ≡ b.lost → a.parity ≡ b.parity → a.unchecked
+    ≡ b.unchecked → a ≡ b
+same_tally a b blocks bad repaired lost parity unchecked = λ i. record { blocks = blocks i; bad = bad i; repaired = repaired i; lost = lost i; parity = parity i; unchecked = unchecked i }
 
 module _ (kept : Failing) (images : Images) (layout : Layout) (write : Bool) (ts : List Target) where
   -- a count, and what a block and a full stripe add to it
@@ -172,7 +176,7 @@ module _ (kept : Failing) (images : Images) (layout : Layout) (write : Bool) (ts
     row = row_adds (λ (t : Tally). t.lost) (in_row lost) (λ u m r e. more u.lost m (in_row lost r) (in_row lost r) e refl) (none_in lost);
   }
 
-  abbrev parity_in : Row → ℕ
+  abbrev pub parity_in : Row → ℕ
   parity_in r = sum_by (λ part. length (parity_writes images layout r part)) (parities r.chunk.profile)
 
   parity_none : (r : Row) → r.blocks ≡ [] → parity_in r ≡ 0
@@ -297,7 +301,7 @@ module _ (kept : Failing) (images : Images) (layout : Layout) (write : Bool) (ts
     blocks_sum : sum_by (counts_one kept) ts ≡ length (filter is_checked ts)
     blocks_sum = sym (sum_filter (λ t. 1) is_checked ts) ∙ sum_one (filter is_checked ts)
 
-    lost_sum : sum_by (lost kept) ts ≡ count_by (is_lost images) (filter is_checked ts)
+    pub lost_sum : sum_by (lost kept) ts ≡ count_by (is_lost images) (filter is_checked ts)
     lost_sum = sum_same (lost kept) (λ t. cond (is_checked t) (cond (is_lost images t) 1 0) 0) ts (λ t i. by (is_checked t) (is_lost images t))
         ∙ sym (sum_filter (λ t. cond (is_lost images t) 1 0) is_checked ts)
       where
@@ -326,9 +330,9 @@ module _ (kept : Failing) (images : Images) (layout : Layout) (write : Bool) (ts
 
     -- ---- the tally
 
-    module _ (unchecked : ℕ) where
+    module _ (sound unchecked : ℕ) where
       abbrev start : Tally
-      start = first_tally (stood unchecked)
+      start = begun (stood sound) (stood unchecked)
 
       abbrev all : Tally
       all = fold count_chunk start layout.chunks
@@ -337,31 +341,33 @@ module _ (kept : Failing) (images : Images) (layout : Layout) (write : Bool) (ts
           + sum_by (of_chunk of_block of_row) layout.chunks ≡ total → get all ≡ stood total
       counted_all get of_block of_row n total adds e is = all_add get of_block of_row adds layout.chunks start n e ∙ ap stood is
 
-      blocks_are : all.blocks ≡ stood (length (filter is_checked ts))
-      blocks_are = counted_all (λ (t : Tally). t.blocks) (counts_one kept) (in_row counts_one) 0 (length (filter is_checked ts)) blocks_add refl
-          (omega (arith, all_sum counts_one, blocks_sum))
+      -- the counts of all blocks, begun with some that are sound
+      abbrev pub counts_of : Tally
+      counts_of = record {
+        blocks = stood (sound + length (filter is_checked ts));
+        bad = stood (sum_by (wrong kept) ts);
+        repaired = stood (cond write (sum_by (λ t. length (mending_writes images kept t)) ts) 0);
+        lost = stood (count_by (is_lost images) (filter is_checked ts));
+        parity = stood (sum_by parity_in (flat_map (rows_in kept ts) layout.chunks));
+        unchecked = stood unchecked;
+      }
 
-      bad_are : all.bad ≡ stood (sum_by (wrong kept) ts)
-      bad_are = counted_all (λ (t : Tally). t.bad) (wrong kept) (in_row wrong) 0 (sum_by (wrong kept) ts) bad_add refl (omega (arith, all_sum wrong))
-
-      repaired_are : all.repaired ≡ stood (cond write (sum_by (λ t. length (mending_writes images kept t)) ts) 0)
-      repaired_are = counted_all (λ (t : Tally). t.repaired) (written kept) (in_row written) 0
+      pub counts_are : all ≡ counts_of
+      counts_are = same_tally all counts_of
+          (counted_all (λ (t : Tally). t.blocks) (counts_one kept) (in_row counts_one) sound (sound + length (filter is_checked ts)) blocks_add refl
+          (omega (arith, all_sum counts_one, blocks_sum)))
+          (counted_all (λ (t : Tally). t.bad) (wrong kept) (in_row wrong) 0 (sum_by (wrong kept) ts) bad_add refl (omega (arith, all_sum wrong)))
+          (counted_all (λ (t : Tally). t.repaired) (written kept) (in_row written) 0
           (cond write (sum_by (λ t. length (mending_writes images kept t)) ts) 0) repaired_add refl
-          (omega (arith, all_sum written, written_sum (mending_writes images kept) ts))
-
-      lost_are : all.lost ≡ stood (count_by (is_lost images) (filter is_checked ts))
-      lost_are = counted_all (λ (t : Tally). t.lost) (lost kept) (in_row lost) 0 (count_by (is_lost images) (filter is_checked ts)) lost_add refl
-          (omega (arith, all_sum lost, lost_sum))
-
-      parity_are : all.parity ≡ stood (sum_by parity_in (flat_map (rows_in kept ts) layout.chunks))
-      parity_are = counted_all (λ (t : Tally). t.parity) (λ t. 0) parity_in 0 (sum_by parity_in (flat_map (rows_in kept ts) layout.chunks)) parity_add
-          refl (omega (arith, parity_sum))
-
-      unchecked_are : all.unchecked ≡ stood unchecked
-      unchecked_are = counted_all (λ (t : Tally). t.unchecked) (λ t. 0) (λ r. 0) unchecked unchecked unchecked_add refl (omega (arith, nothing_sum))
+          (omega (arith, all_sum written, written_sum (mending_writes images kept) ts)))
+          (counted_all (λ (t : Tally). t.lost) (lost kept) (in_row lost) 0 (count_by (is_lost images) (filter is_checked ts)) lost_add refl
+          (omega (arith, all_sum lost, lost_sum)))
+          (counted_all (λ (t : Tally). t.parity) (λ t. 0) parity_in 0 (sum_by parity_in (flat_map (rows_in kept ts) layout.chunks)) parity_add
+          refl (omega (arith, parity_sum)))
+          (counted_all (λ (t : Tally). t.unchecked) (λ t. 0) (λ r. 0) unchecked unchecked unchecked_add refl (omega (arith, nothing_sum)))
 
 -- the sectors without a checksum
-unchecked_among : (ms : List Met) (n : ℕ) → fold count_met (stood n) ms ≡ stood (n + count_by is_unchecked ms)
+pub unchecked_among : (ms : List Met) (n : ℕ) → fold count_met (stood n) ms ≡ stood (n + count_by is_unchecked ms)
 unchecked_among [] n = ap stood (omega arith)
 unchecked_among (Checked want ∷ ms) n = unchecked_among ms n
     ∙ ap (λ k. stood (n + k)) (sym (sum_by-cons (λ m. cond (is_unchecked m) 1 0) (Checked want) ms ∙ omega arith))
@@ -369,22 +375,13 @@ unchecked_among (Unchecked addr ∷ ms) n =
     let whole : n + 1 + count_by is_unchecked ms ≡ n + count_by is_unchecked (Unchecked addr ∷ ms) = omega (arith, sum_by-cons (λ m. cond (is_unchecked m) 1 0) (Unchecked addr) ms) in
     ap (λ k. fold count_met k ms) (stood_add n 1) ∙ unchecked_among ms (n + 1) ∙ ap stood whole
 
-same_tally : (a b : Tally) → a.blocks ≡ b.blocks → a.bad ≡ b.bad → a.repaired ≡ b.repaired → a.lost ≡ b.lost → a.parity ≡ b.parity → a.unchecked
-    ≡ b.unchecked → a ≡ b
-same_tally a b blocks bad repaired lost parity unchecked = λ i. record { blocks = blocks i; bad = bad i; repaired = repaired i; lost = lost i; parity = parity i; unchecked = unchecked i }
-
 pub listed_counts : ListedCounts
 listed_counts images fs write table =
     ap (λ k. all_count_for k layout write layout.chunks wants images (first_tally (fold count_met 0 ms))) (failing_are images fs)
     ∙ ap (λ n. all_count_for kept layout write layout.chunks wants images (first_tally n)) (unchecked_among ms 0 ∙ ap stood whole)
     ∙ ap (λ ts. fold (count_chunk kept images layout write ts) (first_tally (stood unchecked)) layout.chunks) (targets_met layout ms)
-    ∙ same_tally (fold (count_chunk kept images layout write us) (first_tally (stood unchecked)) layout.chunks) (stood_tally (tally images fs write))
-    (blocks_are kept images layout write us table placed unchecked)
-    (bad_are kept images layout write us table placed unchecked)
-    (repaired_are kept images layout write us table placed unchecked)
-    (lost_are kept images layout write us table placed unchecked)
-    (parity_are kept images layout write us table placed unchecked)
-    (unchecked_are kept images layout write us table placed unchecked)
+    ∙ counts_are kept images layout write us table placed 0 unchecked
+    ∙ ap (λ n. record { blocks = stood n; bad = stood (sum_by (wrong kept images layout write us kept) us); repaired = stood (cond write (sum_by (λ t. length (mending_writes images kept t)) us) 0); lost = stood (count_by (is_lost images) (filter is_checked us)); parity = stood (sum_by (parity_in kept images layout write us) (flat_map (rows_in kept us) layout.chunks)); unchecked = stood unchecked }) none_more
   where
     kept : Failing
     kept = failed images fs
@@ -403,6 +400,9 @@ listed_counts images fs write table =
 
     unchecked : ℕ
     unchecked = count_by is_unchecked ms
+
+    none_more : 0 + length (filter is_checked us) ≡ length (filter is_checked us)
+    none_more = omega arith
 
     whole : 0 + unchecked ≡ unchecked
     whole = omega arith

@@ -12,7 +12,7 @@ use Rattle.btr_read.specs.declared.want.Want.{Want}
 use Rattle.btr_super.specs.declared.superblock.Super.{Super}
 use Rattle.btr_walk.specs.Going.{IsOn}
 use Rattle.btr_walk.specs.Reading.{HasCause, Map, Tells, UnreadBlock, halt_of, unread_by}
-use Rattle.btr_walk.specs.ScanEnds.{IsReady, left_of, without_leaf}
+use Rattle.btr_walk.specs.ScanEnds.{IsScanReady, left_of, without_leaf}
 use Rattle.btr_walk.specs.declared.fault.TreeFault.{TreeFault}
 use Rattle.btr_walk.specs.declared.fault.TreeFault.TheVariants as tree
 use Rattle.btr_walk.specs.declared.scan.Scan.{Scan}
@@ -26,7 +26,7 @@ use Rattle.btr_volume.specs.declared.stop.Stop.TheVariants as stop
 use Rattle.btr_volume.specs.declared.volume.Volume.{Volume}
 use Rattle.btr_scrub.specs.Gathering.{Gathers, Scene, scene, stop_halt}
 use Rattle.btr_scrub.specs.Listed.{IsList}
-use Rattle.btr_scrub.specs.Scanning.{Between, Comes, ItemNears, NextBy, Scanned, Underway}
+use Rattle.btr_scrub.specs.Scanning.{Between, GivesExtent, ItemNears, NextBy, Scanned, Underway}
 use Rattle.btr_scrub.specs.Units.{Meeting, extent_met, items_met}
 use Rattle.btr_scrub.specs.declared.extent.Extent.{Extent}
 use Rattle.btr_scrub.specs.declared.collecting.NextExtent.{NextExtent}
@@ -36,7 +36,7 @@ use Rattle.btr_scrub.proofs.Scanning.{between_ends, between_extent, between_halt
 
 -- what an item says is what comes next
 pub next_by : (s : Super) (Is : UnreadBlock → Want → Type 0) (B : Map) (seen : List Want) (old new : Blocks) (scan scan' : Scan) (next : NextExtent)
-    → Comes s B seen old new scan scan' next → NextBy s Is B seen old new scan scan' (Ok next)
+    → GivesExtent s B seen old new scan scan' next → NextBy s Is B seen old new scan scan' (Ok next)
 next_by s Is B seen old new scan scan' End c = absurd c.says
 next_by s Is B seen old new scan scan' Other c = c
 next_by s Is B seen old new scan scan' (Broken leaf) c = c
@@ -50,7 +50,7 @@ item_nears old new (Found extent leaf) h = h
 
 module _ (s : Super) (sums : Option TreeRoot) (chunk : Chunk) (x : Scene) (scan : Scan) where
   -- nothing was met yet
-  pub underway_first : IsReady x.rack x.vol.store scan → IsList x.list.list → ((B : Map) → IsOn scan.lo scan.hi B [] scan.place)
+  pub underway_first : IsScanReady x.rack x.vol.store scan → IsList x.list.list → ((B : Map) → IsOn scan.lo scan.hi B [] scan.place)
       → Underway s sums chunk x x scan scan 0
   underway_first ready is on = record {
     reads = reads_none x.rack;
@@ -65,7 +65,7 @@ module _ (s : Super) (sums : Option TreeRoot) (chunk : Chunk) (x : Scene) (scan 
 
   module _ (y : Scene) (at at' : Scan) (end : ℕ) (u : Underway s sums chunk x y scan at end) (rack : Seen) (vol : Volume) (sup : vol.sup ≡ y.vol.sup)
       (reads : OnlyReads y.rack rack)
-      (others : SameLoans (without_leaf y.vol.store at) (without_leaf vol.store at')) (ready : IsReady rack vol.store at') where
+      (others : SameLoans (without_leaf y.vol.store at) (without_leaf vol.store at')) (ready : IsScanReady rack vol.store at') where
     abbrev layout : Layout
     layout = x.vol.store.layout
 
@@ -160,7 +160,7 @@ module _ (s : Super) (sums : Option TreeRoot) (chunk : Chunk) (x : Scene) (scan 
         -- what is known of the item
         abbrev Here : Map → Type 0
         Here B = (b : Between s sums chunk B x.vol.store y.vol.store scan at end u.done)
-            × Comes s B (wants_of b.before) y.vol.store vol.store at at' (Found extent leaf)
+            × GivesExtent s B (wants_of b.before) y.vol.store vol.store at at' (Found extent leaf)
 
         here : Tells layout x.rack rack Here
         here = joined Was (Next (Ok (Found extent leaf))) Here same (λ B b n. (b, n (wants_of b.before) b.on)) u.content t

@@ -2,7 +2,7 @@
 use Rattle.std.proofs.Common.{◌≡◌, ◌⊎◌, ℕ, zero, suc, ◌+◌, ◌-◌, ◌*◌, ◌/◌, ◌%◌, ◌^◌, ◌<◌, ◌≤◌, Bool, true, false, not, cond, ◌&&◌, ◌||◌, eqb, leb, ltb, is_some}
 use Rattle.std.proofs.Common.{List, [], ◌∷◌, ◌++◌, map, drop, slice_get, Option, Some, None, Result, Ok, Err, IsOk, refl, sym, ap, ◌∙◌, subst, inl, inr, arith}
 use Rattle.std.proofs.Common.{append-nil}
-use Rattle.std.proofs.lemmas.Bool.{false≢true, and_from, and_parts, eqb-true, leb-true, ltb-true, le-leb, lt-ltb}
+use Rattle.std.proofs.lemmas.Bool.{false≢true, and_parts, eqb-true, leb-true}
 use Rattle.std.proofs.lemmas.List.{drop-drop}
 use Rattle.std.proofs.lemmas.Option.{same_Some}
 use Rattle.std.specs.List.{filter}
@@ -20,15 +20,12 @@ use Rattle.btr_walk.specs.Spot.{judged}
 use Rattle.btr_walk.specs.declared.place.RootPlace.{RootPlace}
 use Rattle.btr_walk.specs.declared.spot.Spot.{Spot}
 use Rattle.btr_base.specs.declared.stored.Sum.{Sum}
-use Rattle.btr_chunk.specs.Chunk.{is_striped}
-use Rattle.btr_chunk.specs.Mapping.{crosses, holds, position}
-use Rattle.btr_chunk.specs.Table.{IsTable, chunk_at}
+use Rattle.btr_chunk.specs.Mapping.{crosses}
+use Rattle.btr_chunk.specs.Table.{IsTable}
 use Rattle.btr_chunk.specs.declared.chunk.Chunk.{Chunk}
-use Rattle.btr_chunk.specs.declared.mapping.MapFault.TheVariants as map_fault
 use Rattle.btr_chunk.proofs.Rule.{Facts, facts}
-use Rattle.btr_chunk.proofs.Searches.{find-first}
 use Rattle.btr_files.specs.Sums.{kind_in, sum_at}
-use Rattle.btr_read.specs.Fate.{sought, sought_at, sought_in}
+use Rattle.btr_read.specs.Fate.{sought}
 use Rattle.btr_read.specs.Layout.{Layout}
 use Rattle.btr_read.specs.Want.{addr_of, len_of}
 use Rattle.btr_read.specs.declared.want.Want.TheVariants.{Plain, Sector, Tree}
@@ -36,7 +33,7 @@ use Rattle.btr_super.specs.declared.superblock.Super.{Super}
 use Rattle.btr_volume.specs.declared.root.TreeRoot.{TreeRoot}
 use Rattle.btr_walk.specs.Reading.{Map}
 use Rattle.btr_scrub.specs.Gathering.{wants_among}
-use Rattle.btr_scrub.specs.Order.{AreApart}
+use Rattle.btr_scrub.specs.Order.{AreApart, AreBetween}
 use Rattle.btr_scrub.specs.Units.{Checked, Meeting, Met, Unchecked, blocks_of, extent_met, extent_of, if_stated, in_chunk, in_chunks}
 use Rattle.btr_scrub.specs.Units.{units_in, with_extents}
 use Rattle.btr_scrub.specs.Units.{is_crossing, is_extent, is_malformed, item_met, sector, sector_met, sectors, stated_extent}
@@ -48,6 +45,7 @@ use Rattle.btr_items.specs.Types.{extent_item, metadata_item}
 use Rattle.btr_items.specs.declared.extent_item.ExtentItem.{ExtentItem}
 use Rattle.btr_items.specs.declared.fault.ItemFault.{ItemFault}
 use Rattle.btr_volume.specs.Tree.{key, last, tree_of}
+use Rattle.btr_scrub.proofs.Placed.{placed, sector_fits}
 use Rattle.btr_scrub.proofs.Positions.{not_above}
 use Rattle.btr_scrub.proofs.Ends.{Ends, Yields, each_ends, ends_as, ends_bind, ends_looks, holds_of}
 
@@ -96,34 +94,28 @@ module _ (lo hi : Key) where
 
 -- ---- blocks one behind another
 
--- blocks that have a position, from an address on, each behind the one before, and up to another address
-abbrev pub AreBetween : Layout → ℕ → ℕ → List Want → Type 0
-AreBetween layout from to [] = from ≤ to
-AreBetween layout from to (want ∷ wants) = (from ≤ addr_of want) × IsOk (sought layout want)
-    × AreBetween layout (addr_of want + len_of layout.setting want) to wants
-
 module _ (layout : Layout) where
-  between_from : (a b c : ℕ) (ws : List Want) → a ≤ b → AreBetween layout b c ws → AreBetween layout a c ws
+  pub between_from : (a b c : ℕ) (ws : List Want) → a ≤ b → AreBetween layout b c ws → AreBetween layout a c ws
   between_from a b c [] le h = omega (arith, le, h)
   between_from a b c (w ∷ ws) le h = (omega (arith, le, h.0), h.1, h.2)
 
-  between_more : (a b c : ℕ) (xs ys : List Want) → AreBetween layout a b xs → AreBetween layout b c ys → AreBetween layout a c (xs ++ ys)
+  pub between_more : (a b c : ℕ) (xs ys : List Want) → AreBetween layout a b xs → AreBetween layout b c ys → AreBetween layout a c (xs ++ ys)
   between_more a b c [] ys h g = between_from a b c ys h g
   between_more a b c (x ∷ xs) ys h g = (h.0, h.1, between_more (addr_of x + len_of layout.setting x) b c xs ys h.2 g)
 
-  between_to : (a b c : ℕ) (xs : List Want) → AreBetween layout a b xs → b ≤ c → AreBetween layout a c xs
+  pub between_to : (a b c : ℕ) (xs : List Want) → AreBetween layout a b xs → b ≤ c → AreBetween layout a c xs
   between_to a b c [] h le = omega (arith, h, le)
   between_to a b c (x ∷ xs) h le = (h.0, h.1, between_to (addr_of x + len_of layout.setting x) b c xs h.2 le)
 
-  apart_from : (a b : ℕ) (ws : List Want) → a ≤ b → AreApart layout b ws → AreApart layout a ws
+  pub apart_from : (a b : ℕ) (ws : List Want) → a ≤ b → AreApart layout b ws → AreApart layout a ws
   apart_from a b [] le h = tt
   apart_from a b (w ∷ ws) le h = (omega (arith, le, h.0), h.1, h.2)
 
-  apart_more : (a b : ℕ) (xs ys : List Want) → AreBetween layout a b xs → AreApart layout b ys → AreApart layout a (xs ++ ys)
+  pub apart_more : (a b : ℕ) (xs ys : List Want) → AreBetween layout a b xs → AreApart layout b ys → AreApart layout a (xs ++ ys)
   apart_more a b [] ys h g = apart_from a b ys h g
   apart_more a b (x ∷ xs) ys h g = (h.0, h.1, apart_more (addr_of x + len_of layout.setting x) b xs ys h.2 g)
 
-  between_apart : (a b : ℕ) (xs : List Want) → AreBetween layout a b xs → AreApart layout a xs
+  pub between_apart : (a b : ℕ) (xs : List Want) → AreBetween layout a b xs → AreApart layout a xs
   between_apart a b [] h = tt
   between_apart a b (x ∷ xs) h = (h.0, h.1, between_apart (addr_of x + len_of layout.setting x) b xs h.2)
 
@@ -133,21 +125,6 @@ wants_more (Checked w ∷ xs) ys = ap (λ ws. w ∷ ws) (wants_more xs ys)
 wants_more (Unchecked a ∷ xs) ys = ap (λ ws. Plain a ∷ ws) (wants_more xs ys)
 
 -- ---- one chunk
-
-not_below : (a b : ℕ) → a ≤ b → ltb b a ≡ false
-not_below a b le = by (ltb b a) refl
-  where
-    by : (c : Bool) → ltb b a ≡ c → ltb b a ≡ false
-    by false e = e
-    by true e = absurd (omega (arith, ltb-true b a e, le))
-
-both_false : (a b : Bool) → a ≡ false → b ≡ false → (a || b) ≡ false
-both_false true b e f = absurd (false≢true (sym e))
-both_false false b e f = f
-
-and_false : (a b : Bool) → b ≡ false → (a && b) ≡ false
-and_false true b f = f
-and_false false b f = refl
 
 or_parts : (a b : Bool) → (a || b) ≡ false → (a ≡ false) × (b ≡ false)
 or_parts true b e = absurd (false≢true (sym e))
@@ -169,41 +146,6 @@ module _ (s : Super) (layout : Layout) (table : IsTable layout.chunks) (node : s
   f : Facts chunk
   f = facts chunk (table.sound number chunk there).0
 
-  -- an address in the chunk is held by it
-  held_by : (addr : ℕ) → chunk.start ≤ addr → addr < chunk.start + chunk.length → holds chunk addr ≡ true
-  held_by addr from to = and_from (leb chunk.start addr) (ltb addr (chunk.start + chunk.length)) (le-leb chunk.start addr from)
-      (lt-ltb addr (chunk.start + chunk.length) to)
-
-  chunk_there : (addr : ℕ) → chunk.start ≤ addr → addr < chunk.start + chunk.length → chunk_at layout.chunks addr ≡ Some chunk
-  chunk_there addr from to = find-first (λ c. holds c addr) layout.chunks number chunk there (held_by addr from to) (λ j c lt e. before j c lt e)
-    where
-      before : (j : ℕ) (c : Chunk) → j < number → slice_get layout.chunks j ≡ Some c → holds c addr ≡ false
-      before j c lt e = by (holds c addr) refl
-        where
-          by : (b : Bool) → holds c addr ≡ b → holds c addr ≡ false
-          by false h = h
-          by true h =
-              let p = and_parts (leb c.start addr) (ltb addr (c.start + c.length)) h in
-              absurd (omega (arith, ltb-true addr (c.start + c.length) p.1, (table.apart j number c chunk lt e there).0, from))
-
-  -- a block that doesn't cross has a position
-  placed : (want : Want) → chunk.start ≤ addr_of want → addr_of want < chunk.start + chunk.length
-      → crosses chunk (addr_of want) (len_of layout.setting want) ≡ false → IsOk (sought layout want)
-  placed want from to fine =
-      let at : sought layout want ≡ sought_at layout want chunk (cond true (cond false (Err map_fault.Crosses) (Ok (position chunk (addr_of want)))) (Err map_fault.Unmapped)) =
-      ap (sought_in layout want) (chunk_there (addr_of want) from to)
-      ∙ ap (λ b. sought_at layout want chunk (cond b (cond (crosses chunk (addr_of want) (len_of layout.setting want)) (Err map_fault.Crosses)
-      (Ok (position chunk (addr_of want)))) (Err map_fault.Unmapped))) (held_by (addr_of want) from to)
-      ∙ ap (λ b. sought_at layout want chunk (cond true (cond b (Err map_fault.Crosses) (Ok (position chunk (addr_of want)))) (Err map_fault.Unmapped))) fine in
-      subst IsOk (sym at) refl
-
-  sector_fits : (addr : ℕ) → addr % 4096 ≡ 0 → chunk.start ≤ addr → addr + 4096 ≤ chunk.start + chunk.length → crosses chunk addr 4096 ≡ false
-  sector_fits addr aligned from to =
-      both_false (ltb (chunk.start + chunk.length) (addr + 4096)) (is_striped chunk.profile && ltb 65536 ((addr - chunk.start) % 65536 + 4096))
-      (not_below (addr + 4096) (chunk.start + chunk.length) to)
-      (and_false (is_striped chunk.profile) (ltb 65536 ((addr - chunk.start) % 65536 + 4096))
-      (not_below ((addr - chunk.start) % 65536 + 4096) 65536 (omega (arith, aligned, f.aligned, from))))
-
   -- some blocks that are met, from an address on
   abbrev Apart : ℕ → List Met → Type 0
   Apart from ys = AreApart layout from (wants_among ys)
@@ -218,8 +160,18 @@ module _ (s : Super) (layout : Layout) (table : IsTable layout.chunks) (node : s
       (λ ys u. Between addr (addr + 4096) ys) (Apart addr) tt by
     where
       by : (sum : Option Sum) → Between addr (addr + 4096) (sector_met addr sum ∷ [])
-      by None = (omega arith, placed (Plain addr) from (omega (arith, to)) (sector_fits addr aligned from to), omega arith)
-      by (Some sum) = (omega arith, placed (Sector addr sum) from (omega (arith, to)) (sector_fits addr aligned from to), omega arith)
+      by None = (
+        omega arith,
+        placed layout table number chunk there (Plain addr) from (omega (arith, to))
+            (sector_fits layout table number chunk there addr aligned from to),
+        omega arith,
+      )
+      by (Some sum) = (
+        omega arith,
+        placed layout table number chunk there (Sector addr sum) from (omega (arith, to))
+            (sector_fits layout table number chunk there addr aligned from to),
+        omega arith,
+      )
 
   pub all_sectors : (n addr : ℕ) → addr % 4096 ≡ 0 → chunk.start ≤ addr → addr + n * 4096 ≤ chunk.start + chunk.length
       → Ends B (sectors s sums n addr) (λ ys u. Between addr (addr + n * 4096) ys) (Apart addr)
@@ -249,7 +201,7 @@ module _ (s : Super) (layout : Layout) (table : IsTable layout.chunks) (node : s
       let long = is.node_long (ap is_some e) in
       let len : extent.len ≡ layout.setting.nodesize = long ∙ node in (
         omega arith,
-        placed (Tree extent.addr extent.generation level) is.from (omega (arith, is.to, long, some))
+        placed layout table number chunk there (Tree extent.addr extent.generation level) is.from (omega (arith, is.to, long, some))
             (subst (λ n. crosses chunk extent.addr n ≡ false) len (is.uncrossed (ap is_some e))),
         omega (arith, len),
       )

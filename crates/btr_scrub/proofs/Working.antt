@@ -32,8 +32,8 @@ use Rattle.btr_scrub_copies.specs.declared.mended.MendFault.TheVariants.{Image, 
 use Rattle.btr_scrub_copies.proofs.Doing.{does_failed, does_reads}
 use Rattle.btr_scrub_copies.proofs.Syncs.{sync_held, sync_slots}
 use Rattle.btr_scrub_copies.proofs.Turning.{among_synced, does_sync, marked_below}
-use Rattle.btr_scrub.specs.Glue.{In}
-use Rattle.btr_scrub.specs.Leaves.{LiesInChunk, LiesInStripe, WaitsInOne, alone}
+use Rattle.btr_scrub.specs.BlocksInRows.{In}
+use Rattle.btr_scrub.specs.WrittenRanges.{LiesInChunk, LiesInStripe, WaitsInOne, alone}
 use Rattle.btr_scrub.specs.Order.{AreApart, targets}
 use Rattle.btr_scrub.specs.Repair.{is_in_chunk, is_in_row, ok_or_none, row_of, rows_in}
 use Rattle.btr_scrub.specs.Scrubbing.{CanMend, IsOfScrub, IsPastChunk, Scrubs, Works, all_count_for, all_writes_for, sites_count, sites_in, sites_writes}
@@ -44,7 +44,7 @@ use Rattle.btr_scrub.proofs.Firsts.{drop_one}
 use Rattle.btr_scrub.proofs.Positions.{alone_lies, is_sought}
 use Rattle.btr_scrub.proofs.RowAgreeing.{map_same}
 use Rattle.btr_scrub.proofs.Scrubbing.{IsUnmoved, does_cut, does_next, does_weaker, held_after, if_append, recast, tell, told, waits_weaker}
-use Rattle.btr_scrub.proofs.Some.{any_at}
+use Rattle.btr_scrub.proofs.SomeCandidate.{any_at}
 use Rattle.btr_scrub.proofs.Stripes.{any_of}
 use Rattle.btr_scrub_copies.specs.Fresh.{Failing}
 

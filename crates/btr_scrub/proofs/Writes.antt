@@ -26,7 +26,7 @@ use Rattle.btr_scrub_copies.specs.Blocks.{copy_writes}
 use Rattle.btr_scrub_copies.specs.Fresh.{Failing}
 use Rattle.btr_scrub_row.specs.Wanted.{mending_writes, new_bytes, wrong_parts}
 use Rattle.btr_scrub_row.proofs.Settled.{mending_is}
-use Rattle.btr_scrub.specs.Glue.{In}
+use Rattle.btr_scrub.specs.BlocksInRows.{In}
 use Rattle.btr_scrub.specs.Repair.{covers}
 use Rattle.btr_scrub.specs.Columns.{Committed, IsInWrongColumn, IsWrongAt}
 use Rattle.btr_scrub_row.specs.Rows.{Row, column_of, differing, differs, element_with, is_decided, parities, parity_writes, range_in_element, row_writes}

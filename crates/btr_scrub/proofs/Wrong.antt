@@ -24,7 +24,7 @@ use Rattle.btr_scrub_copies.specs.Fresh.{Failing, fresh, is_on_behind, is_stale,
 use Rattle.btr_scrub_copies.proofs.Syncs.{passing_filter}
 use Rattle.btr_scrub_row.specs.Wanted.{new_bytes, renewed}
 use Rattle.btr_parity.specs.Laws.{ranges_of}
-use Rattle.btr_scrub.specs.Glue.{In}
+use Rattle.btr_scrub.specs.BlocksInRows.{In}
 use Rattle.btr_scrub.specs.Columns.{Committed, IsRight, right_for}
 use Rattle.btr_scrub_row.specs.Rows as rows
 use Rattle.btr_scrub_row.specs.Rows.{Row, blocks_at, column_of, element, element_with, is_sure, is_surer, meets, slice_with, slices_with, with_block}

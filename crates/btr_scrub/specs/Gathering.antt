@@ -1,24 +1,26 @@
 -- What calls that list the checked blocks did, and how they answered.
-use Rattle.std.specs.Prelude.{◌≡◌, ◌⊎◌, ℕ, true, Contains, ◌≤◌, List, [], ◌∷◌, ◌++◌, fold, Result, Ok, Err, OnOk}
+use Rattle.std.specs.Prelude.{◌≡◌, ◌⊎◌, ℕ, zero, suc, ◌+◌, true, Contains, ◌≤◌, List, [], ◌∷◌, ◌++◌, fold}
+use Rattle.std.specs.Prelude.{Option, Result, Ok, Err, OnOk}
 use Rattle.btr_prog.specs.Answers.{Halt, Fault as halt_fault, Broke, Follows, no_part}
 use Rattle.btr_prog.specs.Prog.{Mark, exec, prepend, steps_of}
 use Rattle.btr_rack.specs.Rack.{Seen, OnlyReads, next_count}
 use Rattle.btr_read.specs.Fate as fate
 use Rattle.btr_read.specs.Layout.{Layout}
 use Rattle.btr_read.specs.Serves.{Serves}
-use Rattle.btr_read.specs.Store.{free_count}
 use Rattle.btr_read.specs.declared.want.Want.{Want}
 use Rattle.btr_read.specs.declared.want.Want.TheVariants.{Plain}
 use Rattle.btr_walk.specs.Reading.{FaultCause, Tells, UnreadBlock, halt_of, unread_by}
 use Rattle.btr_walk.specs.declared.fault.TreeFault.{TreeFault}
 use Rattle.btr_walk.specs.declared.fault.TreeFault.TheVariants as tree
 use Rattle.btr_chunk.specs.declared.chunk.Chunk.{Chunk}
+use Rattle.btr_super.specs.declared.superblock.Super.{Super}
 use Rattle.btr_volume.specs.Looking.{SameVolume}
+use Rattle.btr_volume.specs.declared.root.TreeRoot.{TreeRoot}
 use Rattle.btr_volume.specs.declared.stop.Stop.{Stop}
 use Rattle.btr_volume.specs.declared.stop.Stop.TheVariants.{NoTree, Tree, Deletion, Balance, Missing, Image, Sink, Out, Memory}
 use Rattle.btr_volume.specs.declared.volume.Volume.{Volume}
 use Rattle.btr_scrub.specs.Listed.{IsList, kept_wants}
-use Rattle.btr_scrub.specs.Units.{Meeting, Met, Checked, Unchecked, is_crossing}
+use Rattle.btr_scrub.specs.Units.{Meeting, Met, Checked, Unchecked, is_crossing, sector, sectors}
 use Rattle.btr_scrub.specs.declared.extent.Extent.{Extent}
 use Rattle.btr_scrub.specs.declared.gathered.Gathered.{Gathered}
 
@@ -32,6 +34,11 @@ wants_among (Unchecked addr ∷ met) = Plain addr ∷ wants_among met
 abbrev pub count_met : ℕ → Met → ℕ
 count_met n (Checked want) = n
 count_met n (Unchecked addr) = next_count n
+
+-- n sectors that have no checksum, from an address on
+abbrev pub gap_met : ℕ → ℕ → List Met
+gap_met zero addr = []
+gap_met (suc n) addr = Unchecked addr ∷ gap_met n (addr + 4096)
 
 -- what was met was listed behind what was listed before
 pub record Lists (old new : Gathered) (done : List Met) : Type 0 where
@@ -96,11 +103,6 @@ pub record Scene : Type 0 where
 abbrev pub scene : Seen → Volume → Gathered → Scene
 scene rack vol list = record { rack = rack; vol = vol; list = list }
 
--- a volume can be read: four slots are free for a block, and one for the leaf of a scan
-pub record IsReady (rack : Seen) (vol : Volume) (n : ℕ) : Type 0 where
-  pub serves : Serves rack vol.store
-  pub room : n ≤ free_count vol.store
-
 -- Calls only read, and the blocks that they met were listed: what they did follows a program, and they answered as it
 -- ends. After a stop nothing is said of the list.
 pub record Gathers {A : Type 0} (p : Meeting A) (x y : Scene) (answer : Result A Stop) : Type 0 where
@@ -111,6 +113,13 @@ pub record Gathers {A : Type 0} (p : Meeting A) (x y : Scene) (answer : Result A
   pub lists : OnOk answer (Lists x.list y.list done)
   pub content : Tells x.vol.store.layout x.rack y.rack (λ B. Follows (unread_by x.vol.store.layout x.rack y.rack) no_part [] (exec B p) done (ended answer))
   pub cause : StopCause x.vol.store.layout x.rack y.rack answer
+
+-- Some of so many sectors were listed, which begin at an address: how many came out. A stop is
+-- that of the first one.
+abbrev pub GathersSome : Super → Option TreeRoot → ℕ → ℕ → Scene → Scene → Result ℕ Stop → Type 0
+GathersSome s sums addr most x y (Ok n) =
+    (1 ≤ n) × (n ≤ most) × Gathers (sectors s sums n addr) x y (Ok tt)
+GathersSome s sums addr most x y (Err stop) = Gathers (sector s sums addr) x y (Err stop)
 
 -- A program has come so far: some marks of it are past, whose steps are listed, and what is left is another program.
 pub record Reaches {A : Type 0} (p q : Meeting A) (x y : Scene) : Type 0 where

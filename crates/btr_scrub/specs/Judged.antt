@@ -46,7 +46,7 @@ HasOwn layout part want =
     IsOkAnd (sought layout want) (λ t. HasPart t.chunk.profile (length t.chunk.stripes) part)
 
 -- there is room for a node and for a sector, and a flag for each slot
-pub record IsReady (nodesize : ℕ) (rack : Seen) (probe : Probe) : Type 0 where
+pub record HasRoom (nodesize : ℕ) (rack : Seen) (probe : Probe) : Type 0 where
   pub node : nodesize ≤ length probe.buffer.items
   pub sector : 4096 ≤ length probe.buffer.items
   pub flags : length probe.failing.items ≡ length rack.slots

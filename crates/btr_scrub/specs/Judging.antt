@@ -1,13 +1,14 @@
 -- What a look at the list of the checked blocks answers.
-use Rattle.std.specs.Prelude.{◌≡◌, ◌⊎◌, ℕ, ◌+◌, ◌<◌, ◌≤◌, List, [], ◌∷◌, IsOk, Result, Ok, Err}
+use Rattle.std.specs.Prelude.{◌≡◌, ◌⊎◌, ℕ, ◌+◌, ◌*◌, ◌<◌, ◌≤◌, List, [], ◌∷◌, IsOk, Result, Ok, Err}
 use Rattle.btr_read.specs.Fate as fate
 use Rattle.btr_read.specs.Fate.{sought}
 use Rattle.btr_read.specs.Layout.{Layout}
 use Rattle.btr_read.specs.Want.{addr_of, len_of}
 use Rattle.btr_read.specs.declared.want.Want.{Want}
+use Rattle.btr_read.specs.declared.want.Want.TheVariants.{Plain}
 use Rattle.btr_walk.specs.declared.fault.TreeFault.{TreeFault}
 use Rattle.btr_walk.specs.declared.fault.TreeFault.TheVariants.{Lost, Unread, Unmapped, Crosses, Malformed}
-use Rattle.btr_scrub.specs.Order.{AreApart}
+use Rattle.btr_scrub.specs.Order.{AreUpTo}
 
 -- a block has a position, and begins at or behind an address
 abbrev pub IsBehind : Layout → ℕ → Want → Type 0
@@ -26,13 +27,18 @@ abbrev pub JudgedOne : Layout → ℕ → Want → Result ℕ TreeFault → Type
 JudgedOne layout from want (Ok end) = IsBehind layout from want × (end ≡ addr_of want + len_of layout.setting want)
 JudgedOne layout from want (Err fault) = IsRefused layout from want fault
 
+-- plain sectors one behind another from an address on, which begin before a bound, have a position
+abbrev pub ArePlaced : Layout → ℕ → ℕ → Type 0
+ArePlaced layout addr bound =
+    (i : ℕ) → addr + i * 4096 < bound → IsOk (sought layout (Plain (addr + i * 4096)))
+
 -- the first block of a list that isn't behind the one before it, the first one behind an address, and why
 abbrev pub IsFirstRefused : Layout → ℕ → List Want → TreeFault → Type 0
 IsFirstRefused layout end [] fault = ⊥
 IsFirstRefused layout end (want ∷ wants) fault =
     IsRefused layout end want fault ⊎ (IsBehind layout end want × IsFirstRefused layout (addr_of want + len_of layout.setting want) wants fault)
 
--- all blocks of a list have a position and are apart, or why the first one doesn't
-abbrev pub Judged : Layout → List Want → Result (Unit {0}) TreeFault → Type 0
-Judged layout wants (Ok _) = AreApart layout 0 wants
-Judged layout wants (Err fault) = IsFirstRefused layout 0 wants fault
+-- all blocks of a list have a position and are apart, from an address on, and where they end; or why one doesn't
+abbrev pub Judged : Layout → ℕ → List Want → Result ℕ TreeFault → Type 0
+Judged layout from wants (Ok end) = AreUpTo layout from end wants
+Judged layout from wants (Err fault) = IsFirstRefused layout from wants fault

@@ -13,8 +13,8 @@ use Rattle.btr_scrub_copies.specs.Blocks.{accepted, is_good}
 use Rattle.btr_scrub_copies.specs.Writes.{AreAmong, Images, IsStopped, ranges_of, write_on}
 use Rattle.btr_scrub_row.specs.Rows.{Row, parities_writes, rebuilt_writes}
 use Rattle.btr_scrub.specs.Devices.{HaveLengths}
-use Rattle.btr_scrub.specs.Glue.{In}
-use Rattle.btr_scrub.specs.Leaves.{KeepsOutside}
+use Rattle.btr_scrub.specs.BlocksInRows.{In}
+use Rattle.btr_scrub.specs.WrittenRanges.{KeepsOutside}
 use Rattle.btr_scrub.specs.Order.{AreApart, targets}
 use Rattle.btr_scrub.specs.Repair.{covers, first_missing}
 use Rattle.btr_scrub.specs.Staying.{IsRowOf}

@@ -3,10 +3,10 @@ pub mod Units
 pub mod Doubts
 pub mod Repair
 pub mod Devices
-pub mod Leaves
+pub mod WrittenRanges
 pub mod Columns
 pub mod Right
-pub mod Glue
+pub mod BlocksInRows
 pub mod Survival
 pub mod Places
 pub mod Pages
@@ -22,4 +22,5 @@ pub mod Rowing
 pub mod Scrubbing
 pub mod Judged
 pub mod Whole
+pub mod Sifting
 pub mod Scrubbed

@@ -6,7 +6,7 @@ use Rattle.btr_base.specs.declared.kind.SumKind.{SumKind}
 use Rattle.btr_read.specs.Fate.{is_plain}
 use Rattle.btr_read.specs.Want.{addr_of}
 use Rattle.btr_read.specs.declared.want.Want.{Want}
-use Rattle.btr_read.specs.declared.want.Want.TheVariants.{Tree, Sector, Plain}
+use Rattle.btr_read.specs.declared.want.Want.TheVariants.{Tree, Block, Sector, Plain}
 use Rattle.btr_scrub_copies.specs.Writes.{In}
 use Rattle.btr_scrub.specs.declared.run.Run.{Run}
 use Rattle.btr_scrub.specs.declared.run.RunKind.{RunKind}
@@ -46,11 +46,12 @@ abbrev pub all_plains : List Run → ℕ
 all_plains [] = 0
 all_plains (run ∷ runs) = plains_of run.kind + all_plains runs
 
--- a run of sectors has one, and their addresses are numbers of 64 bits
+-- a run of sectors has one, and their addresses are numbers of 64 bits; of plain ones also the
+-- address behind them
 abbrev pub IsRun : ℕ → RunKind → Type 0
 IsRun addr TreeBlock = Unit {0}
 IsRun addr (Sectors n) = (1 ≤ n) × (addr + (n - 1) * 4096 < 2 ^ 64)
-IsRun addr (Unsummed n) = (1 ≤ n) × (addr + (n - 1) * 4096 < 2 ^ 64)
+IsRun addr (Unsummed n) = (1 ≤ n) × (addr + n * 4096 < 2 ^ 64)
 
 -- the tree block at an address, of the first of some marks
 abbrev pub tree_from : ℕ → List TreeMark → List Want
@@ -106,11 +107,28 @@ kept_wants kept = wants_of kept.kind kept.runs kept.sums kept.marks
 abbrev pub IsList : Kept → Type 0
 IsList kept = IsWhole kept.kind kept.runs kept.sums kept.marks
 
--- a block was put behind the others
-pub record AddsTo (old new : Kept) (want : Want) : Type 0 where
+-- blocks were put behind the others
+pub record AddsAll (old new : Kept) (more : List Want) : Type 0 where
   pub is_list : IsList new
   pub kind : new.kind ≡ old.kind
-  pub wants : kept_wants new ≡ kept_wants old ++ want ∷ []
+  pub wants : kept_wants new ≡ kept_wants old ++ more
+
+-- one block was put behind the others
+abbrev pub AddsTo : Kept → Kept → Want → Type 0
+AddsTo old new want = AddsAll old new (want ∷ [])
+
+-- a want can be put into a list with checksums of a kind: a sector has one of it, a plain one ends
+-- at an address, and no tree block is of any generation
+abbrev pub IsOfKind : SumKind → Want → Type 0
+IsOfKind kind (Tree addr generation level) = Unit {0}
+IsOfKind kind (Block addr) = ⊥
+IsOfKind kind (Sector addr sum) = stored_sum kind sum.bytes ≡ sum
+IsOfKind kind (Plain addr) = addr + 4096 < 2 ^ 64
+
+-- all of some wants can
+abbrev pub AreOfKind : SumKind → List Want → Type 0
+AreOfKind kind [] = Unit {0}
+AreOfKind kind (want ∷ wants) = IsOfKind kind want × AreOfKind kind wants
 
 -- a run was put behind the others
 pub record Begins (old new : Kept) (run : Run) : Type 0 where
@@ -131,17 +149,17 @@ abbrev pub IsLonger : Option Run → ℕ → Option Run → Type 0
 IsLonger last addr None = Unit {0}
 IsLonger last addr (Some longer) = IsSomeAnd last (λ run. Lengthens run addr longer)
 
--- a run of plain sectors has one more, at an address
-pub record Extends (run : Run) (addr : ℕ) (longer : Run) : Type 0 where
+-- a run of plain sectors has n more, from an address on
+pub record Extends (run : Run) (addr n : ℕ) (longer : Run) : Type 0 where
   pub count : ℕ
   pub sectors : run.kind ≡ Unsummed count
-  pub more : longer ≡ record { addr = run.addr; kind = Unsummed (count + 1) }
+  pub more : longer ≡ record { addr = run.addr; kind = Unsummed (count + n) }
   pub next : addr ≡ run.addr + count * 4096
 
--- the run that comes last has one more plain sector, if the address is the next of its sectors
-abbrev pub IsExtended : Option Run → ℕ → Option Run → Type 0
-IsExtended last addr None = Unit {0}
-IsExtended last addr (Some longer) = IsSomeAnd last (λ run. Extends run addr longer)
+-- the run that comes last has n more plain sectors, if the address is the next of its sectors
+abbrev pub IsExtended : Option Run → ℕ → ℕ → Option Run → Type 0
+IsExtended last addr n None = Unit {0}
+IsExtended last addr n (Some longer) = IsSomeAnd last (λ run. Extends run addr n longer)
 
 -- fewer sectors of the first run are past than it has; of a tree block none
 abbrev pub IsPast : List Run → ℕ → Type 0
@@ -204,7 +222,20 @@ pub record PassesPlain (old : List Want) (end : ℕ) (new : List Want) : Type 0 
   pub plain : (want : Want) → In want past → is_plain want ≡ true
   pub below : (want : Want) → In want past → addr_of want < end
 
--- the same where it is to pass some; else nothing is passed
+-- a reader passes over plain sectors one behind another from an address on, as far as they begin
+-- before a bound; where the last one ends comes out
+pub record PassesFrom (old : List Want) (from bound end : ℕ) (new : List Want) : Type 0 where
+  pub count : ℕ
+  pub split : old ≡ plains_from from count ++ new
+  pub ends : end ≡ from + count * 4096
+  pub below : (i : ℕ) → i < count → from + i * 4096 < bound
+
+-- a plain sector at an address comes next
+pub record IsNextPlain (wants : List Want) (addr : ℕ) : Type 0 where
+  pub rest : List Want
+  pub split : wants ≡ Plain addr ∷ rest
+
+-- a reader passes over plain sectors where it is to; else nothing is passed
 abbrev pub PassesIf : Bool → List Want → ℕ → List Want → Type 0
 PassesIf true old end new = PassesPlain old end new
 PassesIf false old end new = new ≡ old

@@ -14,6 +14,18 @@ abbrev pub AreApart : Layout → ℕ → List Want → Type 0
 AreApart layout end [] = Unit {0}
 AreApart layout end (want ∷ wants) = (end ≤ addr_of want) × IsOk (sought layout want) × AreApart layout (addr_of want + len_of layout.setting want) wants
 
+-- the same, and they end at or before another address
+abbrev pub AreBetween : Layout → ℕ → ℕ → List Want → Type 0
+AreBetween layout from to [] = from ≤ to
+AreBetween layout from to (want ∷ wants) = (from ≤ addr_of want) × IsOk (sought layout want)
+    × AreBetween layout (addr_of want + len_of layout.setting want) to wants
+
+-- the same, and the last one ends just there; without blocks it is where they could begin
+abbrev pub AreUpTo : Layout → ℕ → ℕ → List Want → Type 0
+AreUpTo layout from to [] = to ≡ from
+AreUpTo layout from to (want ∷ wants) = (from ≤ addr_of want) × IsOk (sought layout want)
+    × AreUpTo layout (addr_of want + len_of layout.setting want) to wants
+
 -- the blocks with their positions
 abbrev pub targets : Layout → List Want → List Target
 targets layout wants = filter_map (λ want. ok_or_none (sought layout want)) wants

@@ -16,7 +16,7 @@ use Rattle.btr_scrub_copies.specs.Fresh.{Failing, fresh, stale_parts}
 use Rattle.btr_scrub_copies.specs.Writes.{Images}
 use Rattle.btr_scrub_row.specs.Rows.{Row, parities, range_in_element}
 pub use Rattle.btr_scrub.specs.Columns.{Committed, HasFewWrongAt, HasRightPlace, IsRightIn}
-use Rattle.btr_scrub.specs.Leaves.{KeepsOutside}
+use Rattle.btr_scrub.specs.WrittenRanges.{KeepsOutside}
 use Rattle.btr_scrub.specs.Repair.{first_missing, blocks, failed, ranges, row_of, rows, sites}
 
 -- committed bytes pass

@@ -9,7 +9,7 @@ use Rattle.btr_read.specs.Want.{addr_of}
 use Rattle.btr_read.specs.declared.want.Want.{Want}
 use Rattle.btr_scrub_row.specs.Rows.{Row, has_doubtful}
 use Rattle.btr_scrub_row.specs.declared.mended.MendedRow.{MendedRow}
-use Rattle.btr_scrub.specs.Glue.{In}
+use Rattle.btr_scrub.specs.BlocksInRows.{In}
 
 -- the row of a chunk in which an address lies, if it lies in the chunk
 abbrev pub row_in : Chunk → ℕ → Option ℕ

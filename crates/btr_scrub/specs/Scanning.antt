@@ -11,7 +11,7 @@ use Rattle.btr_super.specs.declared.superblock.Super.{Super}
 use Rattle.btr_walk.specs.Going.{IsOn}
 use Rattle.btr_walk.specs.Le.{TreeItem}
 use Rattle.btr_walk.specs.Reading.{Map, Tells, UnreadBlock, halt_of, unread_by}
-use Rattle.btr_walk.specs.ScanEnds.{IsReady, left_of, without_leaf}
+use Rattle.btr_walk.specs.ScanEnds.{IsScanReady, left_of, without_leaf}
 use Rattle.btr_walk.specs.declared.fault.TreeFault.{TreeFault}
 use Rattle.btr_walk.specs.declared.scan.Scan.{Scan}
 use Rattle.btr_volume.specs.declared.root.TreeRoot.{TreeRoot}
@@ -37,7 +37,7 @@ Says s item (Broken leaf) = (is_extent item.key ≡ true) × (extent_of s item �
 Says s item (Found extent leaf) = (is_extent item.key ≡ true) × (extent_of s item ≡ Some extent) × (item.leaf ≡ leaf)
 
 -- an item came, and this is what it says
-pub record Comes (s : Super) (B : Map) (seen : List Want) (old new : Blocks) (scan scan' : Scan) (next : NextExtent) : Type 0 where
+pub record GivesExtent (s : Super) (B : Map) (seen : List Want) (old new : Blocks) (scan scan' : Scan) (next : NextExtent) : Type 0 where
   pub item : TreeItem
   pub gives : GivesItem B seen old new scan scan' item
   pub says : Says s item next
@@ -45,9 +45,9 @@ pub record Comes (s : Super) (B : Map) (seen : List Want) (old new : Blocks) (sc
 -- the next item of a scan, or its end
 abbrev pub NextBy : Super → (UnreadBlock → Want → Type 0) → Map → List Want → Blocks → Blocks → Scan → Scan → Result NextExtent TreeFault → Type 0
 NextBy s Is B seen old new scan scan' (Ok End) = Follows Is no_part seen (exec B (left_of B old scan)) [] (Ok tt)
-NextBy s Is B seen old new scan scan' (Ok Other) = Comes s B seen old new scan scan' Other
-NextBy s Is B seen old new scan scan' (Ok (Broken leaf)) = Comes s B seen old new scan scan' (Broken leaf)
-NextBy s Is B seen old new scan scan' (Ok (Found extent leaf)) = Comes s B seen old new scan scan' (Found extent leaf)
+NextBy s Is B seen old new scan scan' (Ok Other) = GivesExtent s B seen old new scan scan' Other
+NextBy s Is B seen old new scan scan' (Ok (Broken leaf)) = GivesExtent s B seen old new scan scan' (Broken leaf)
+NextBy s Is B seen old new scan scan' (Ok (Found extent leaf)) = GivesExtent s B seen old new scan scan' (Found extent leaf)
 NextBy s Is B seen old new scan scan' (Err f) = Follows Is no_part seen (exec B (left_of B old scan)) [] (Err (halt_of f))
 
 -- a scan that gave an item comes nearer to its end
@@ -72,7 +72,7 @@ module _ (s : Super) (sums : Option TreeRoot) (chunk : Chunk) where
     pub reads : OnlyReads x.rack y.rack
     pub sup : y.vol.sup ≡ x.vol.sup
     pub others : SameLoans (without_leaf x.vol.store scan) (without_leaf y.vol.store scan')
-    pub ready : IsReady y.rack y.vol.store scan'
+    pub ready : IsScanReady y.rack y.vol.store scan'
     pub done : List Met
     pub lists : Lists x.list y.list done
     pub content : Tells x.vol.store.layout x.rack y.rack (λ B. Between B x.vol.store y.vol.store scan scan' end done)
@@ -82,7 +82,7 @@ module _ (s : Super) (sums : Option TreeRoot) (chunk : Chunk) where
     pub reads : OnlyReads x.rack y.rack
     pub sup : y.vol.sup ≡ x.vol.sup
     pub others : SameLoans (without_leaf x.vol.store scan) (without_leaf y.vol.store scan')
-    pub ready : IsReady y.rack y.vol.store scan'
+    pub ready : IsScanReady y.rack y.vol.store scan'
     pub done : List Met
     pub lists : OnOk answer (Lists x.list y.list done)
     pub content : Tells x.vol.store.layout x.rack y.rack (λ B. Follows (unread_by x.vol.store.layout x.rack y.rack) no_part [] (exec B (items_met s sums chunk 0 (left_of B x.vol.store scan))) done (ended answer))

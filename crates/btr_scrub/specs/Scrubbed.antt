@@ -9,7 +9,7 @@ use Rattle.btr_volume.specs.declared.volume.Volume.{Volume}
 use Rattle.btr_walk.specs.declared.fault.TreeFault.{TreeFault}
 use Rattle.btr_walk.specs.declared.fault.TreeFault.TheVariants as tree
 use Rattle.btr_scrub.specs.Filesystem.{Filesystem}
-use Rattle.btr_scrub.specs.Leaves.{KeepsOutside, WaitsInOne}
+use Rattle.btr_scrub.specs.WrittenRanges.{KeepsOutside, WaitsInOne}
 use Rattle.btr_scrub.specs.Repair.{effect}
 use Rattle.btr_scrub.specs.Right.{Committed, IsCommitted, RangesLeaveFresh, RangesLieInWrong, RangesMayHoldAnything, SparedStand}
 use Rattle.btr_scrub.specs.Scrubbing.{IsOfScrub}

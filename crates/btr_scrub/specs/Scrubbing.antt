@@ -22,8 +22,8 @@ use Rattle.btr_scrub_row.specs.Mending.{HasRoom, mended_row}
 use Rattle.btr_scrub_row.specs.declared.buffer.RowBuffer.{RowBuffer}
 use Rattle.btr_scrub_row.specs.Rows.{Row, row_writes}
 use Rattle.btr_scrub_row.specs.declared.mended.MendedRow.{MendedRow}
-use Rattle.btr_scrub.specs.Glue.{In}
-use Rattle.btr_scrub.specs.Leaves.{LiesInStripe, WaitsInOne, alone}
+use Rattle.btr_scrub.specs.BlocksInRows.{In}
+use Rattle.btr_scrub.specs.WrittenRanges.{LiesInStripe, WaitsInOne, alone}
 use Rattle.btr_scrub.specs.Order.{AreApart, targets}
 use Rattle.btr_scrub_copies.specs.Fresh.{Failing, freshened}
 use Rattle.btr_scrub_row.specs.Wanted.{mending_writes}

@@ -12,7 +12,7 @@ use Rattle.btr_scrub_row.specs.Wanted.{new_bytes, wrong_parts}
 use Rattle.btr_read.specs.Fate.{is_plain}
 pub use Rattle.btr_scrub.specs.Devices.{HaveLengths}
 use Rattle.btr_read.specs.Layout.{Layout}
-use Rattle.btr_scrub.specs.Glue.{In, IsInRow, LiesInRow}
+use Rattle.btr_scrub.specs.BlocksInRows.{In, IsInRow, LiesInRow}
 use Rattle.btr_scrub.specs.Columns.{HasFewWrong, HasFewWrongAt, HasRightPlace, IsRight, IsRightIn, IsWrongAt, right_for}
 use Rattle.btr_scrub.specs.Right.{AreBytes, Committed, StandsFor}
 use Rattle.btr_scrub_row.specs.Rows.{Row, blocks_at, differs, element, is_decided, range_in_element}

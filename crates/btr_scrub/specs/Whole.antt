@@ -13,13 +13,13 @@ use Rattle.btr_volume.specs.declared.stop.Stop.TheVariants as stop
 use Rattle.btr_scrub_copies.specs.declared.mended.MendFault.{MendFault}
 use Rattle.btr_scrub_copies.specs.declared.mended.MendFault.TheVariants.{Image, Memory}
 use Rattle.btr_scrub.specs.Gathering.{StopCause, wants_among, count_met, stop_halt}
-use Rattle.btr_scrub_copies.specs.Writes.{Images, Write}
+use Rattle.btr_scrub_copies.specs.Writes.{FailsAt, Images, Write}
 use Rattle.btr_scrub.specs.Filesystem.{Filesystem}
 use Rattle.btr_scrub.specs.Judging.{IsFirstRefused}
 use Rattle.btr_chunk.specs.Table.{IsTable}
 use Rattle.btr_chunk.specs.declared.stripe.Stripe.{Stripe}
 use Rattle.btr_scrub.specs.Devices.{HaveLengths}
-use Rattle.btr_scrub.specs.Leaves.{KeepsOutside}
+use Rattle.btr_scrub.specs.WrittenRanges.{KeepsOutside, LiesInStripe}
 use Rattle.btr_scrub.specs.Doubts.{failing}
 use Rattle.btr_scrub.specs.Order.{targets}
 use Rattle.btr_scrub_copies.specs.Fresh.{Failing}
@@ -54,27 +54,34 @@ listed_count_for layout write wants images tally = all_count_for (listed_failing
 abbrev pub Refuses : Seen → Seen → Result Tally Stop → Stripe → Type 0
 Refuses old new result stripe = (result ≡ Err (stop.Missing stripe.devid)) × (new ≡ old)
 
--- the blocks of a list were mended, chunk by chunk: exactly the writes that follow from what the images held, or those up to a call that failed
-pub record WorksOn (layout : Layout) (write : Bool) (wants : List Want) (unchecked : ℕ) (old new : Seen) (result : Result Tally Stop) : Type 0 where
+-- the blocks of a list were mended, chunk by chunk, and counted from some counts on: exactly the writes that follow from
+-- what the images held, or those up to a call that failed
+pub record WorksFrom (layout : Layout) (write : Bool) (wants : List Want) (start : Tally) (old new : Seen) (result : Result Tally Stop) : Type 0 where
   pub tally : Tally
   pub ended : Result (Unit {0}) MendFault
-  pub works : Works layout write (listed_writes_for layout wants) (listed_count_for layout write wants) old new (first_tally unchecked) tally ended
+  pub works : Works layout write (listed_writes_for layout wants) (listed_count_for layout write wants) old new start tally ended
   pub says : result ≡ answer_of ended tally
 
--- what became of the list of the checked blocks: it came to a stop, it was made, or it was refused
--- as blocks in it have no position or overlap
+-- the same from no counts but that of the sectors without a checksum
+abbrev pub WorksOn : Layout → Bool → List Want → ℕ → Seen → Seen → Result Tally Stop → Type 0
+WorksOn layout write wants unchecked old new result = WorksFrom layout write wants (first_tally unchecked) old new result
+
+-- what became of the list of the checked blocks: it came to a stop, it was made, it was refused as
+-- blocks in it have no position or overlap, or an image failed as those listed so far were looked at
 pub data Listing : Type 0 where
   Stopped : Stop → Listing
   Listed : Listing
   Refused : TreeFault → Listing
+  Failed : ℕ → Listing
 
--- what the call comes to by its list: one that isn't made or is refused is the answer, and nothing is written. It is
--- never refused so far as its reads were steady.
+-- what the call comes to by its list: one that isn't made or is refused is the answer, and so is an image that failed
+-- before; nothing is written then. It is never refused so far as its reads were steady.
 abbrev pub Goes : Super → Layout → Bool → Seen → Seen → Seen → List Met → Result Tally Stop → Listing → Type 0
 Goes s layout write old mid new done result (Stopped why) =
     (result ≡ Err why) × (new ≡ mid) × Tells layout old mid (λ B. Follows (unread_by layout old mid) no_part [] (exec B (units_in s layout.chunks)) done (Err (stop_halt why))) × StopCause {A = Tally} layout old mid (Err why)
 Goes s layout write old mid new done result Listed =
     Tells layout old mid (λ B. Follows (unread_by layout old mid) no_part [] (exec B (units_in s layout.chunks)) done (Ok tt)) × WorksOn layout write (wants_among done) (fold count_met 0 done) mid new result
+Goes s layout write old mid new done result (Failed slot) = (result ≡ Err (stop.Image slot)) × OnlyReads mid new × FailsAt (LiesInStripe layout) slot mid new
 Goes s layout write old mid new done result (Refused fault) = (result ≡ Err (stop.Tree fault)) × (new ≡ mid) × IsFirstRefused layout 0 (wants_among done) fault × Tells layout old mid (λ B. ⊥)
 
 -- The checked blocks were listed, and then mended.

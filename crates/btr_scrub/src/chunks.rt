@@ -1,19 +1,24 @@
 // The checked blocks of the chunks, one chunk after another.
-ghost use Rattle.std.specs.Prelude.{◌≡◌, ◌+◌, ◌-◌, ◌<◌, ◌≤◌, ◌^◌, Contains, length};
+ghost use Rattle.std.specs.Prelude.{◌≡◌, ◌+◌, ◌-◌, ◌<◌, ◌≤◌, ◌^◌, false, Contains, length, OnOk};
 ghost use Rattle.btr_chunk.specs.declared.chunk.Chunk.{Chunk};
 ghost use Rattle.btr_read.specs.Serves.{Serves};
 ghost use Rattle.btr_read.specs.Store.{free_count};
 ghost use Rattle.btr_files.specs.Sums.{kind_in, tree_behind};
+ghost use Rattle.btr_volume.specs.Looking.{SameVolume};
 ghost use Rattle.btr_volume.specs.Tree.{key, last};
 ghost use Rattle.btr_scrub.specs.Extents.{span_of};
 ghost use Rattle.btr_scrub.specs.Gathering.{Gathers, scene};
 ghost use Rattle.btr_scrub.specs.Listed.{IsList};
 ghost use Rattle.btr_scrub.specs.Scanning.{IsSpanAt, IsSpanIn};
+ghost use Rattle.btr_scrub.specs.Scrubbing.{CanMend};
+ghost use Rattle.btr_scrub.specs.Sifting.{Sieves, Stands};
 ghost use Rattle.btr_scrub.specs.Units as units;
+ghost use Rattle.btr_scrub.specs.declared.gathered.Gathered.{Gathered};
 
 use crate::collecting::gather_items;
 use crate::extent::{Span, span_of};
 use crate::gathered::Gathered;
+use crate::sieve::{Sieve, sift_listed, stop_of};
 use btr_base::Key;
 use btr_rack::Rack;
 use btr_volume::{Stop, TreeRoot, Volume};
@@ -77,26 +82,82 @@ fn gather_chunk<R: Rack>(
     end
 }
 
-/// Lists the blocks of all chunks, by ascending start. Five slots are free.
+// Lists the blocks of the extents that begin in a chunk, and sifts them; answers where the last
+// extent ends.
+fn sift_chunk<R: Rack>(
+    extents: &TreeRoot,
+    sums: Option<&TreeRoot>,
+    span: &Span,
+    rack: &mut R,
+    vol: &mut Volume,
+    marks: &mut [bool],
+    sieve: &mut Sieve,
+) -> Result<u64, Stop>
+    requires ready { CanMend false (R.seen rack.old) vol.old.store marks.old }
+    requires room { 5 ≤ free_count vol.old.store }
+    requires nodesize { vol.old.sup.nodesize ≡ vol.old.store.layout.setting.nodesize }
+    requires is_list { IsList sieve.old.sifted.kept }
+    requires kind { sieve.old.sifted.kept.kind ≡ kind_in vol.old.sup }
+    requires span { span.now.start + span.now.length < 2 ^ 64 }
+    requires some { 1 ≤ span.now.length }
+    requires chunk { IsSpanIn vol.old.store.layout span.now }
+    ensures ready { CanMend false (R.seen rack.new) vol.new.store marks.new }
+    ensures volume { SameVolume vol.old vol.new }
+    ensures is_list { OnOk result (IsList sieve.new.sifted.kept) }
+    ensures kind { OnOk result (sieve.new.sifted.kept.kind ≡ sieve.old.sifted.kept.kind) }
+    ensures sieves { (chunk : Chunk) (whole : Gathered) → span.now ≡ span_of chunk → Contains vol.old.store.layout.chunks chunk
+        → Stands vol.old.store.layout (R.seen rack.old).held whole sieve.old
+        → Sieves (units.in_chunk vol.old.sup (tree_behind sums.entry) chunk extents.now)
+        (scene (R.seen rack.old) vol.old whole) (R.seen rack.new) vol.new sieve.new result }
+{
+    let mut gathered = Gathered {
+        list: sieve.sifted.kept.emptied(),
+        unchecked: sieve.unchecked,
+    };
+    let end = match gather_chunk(extents, sums, span, rack, vol, &mut gathered) {
+        Ok(end) => end,
+        Err(stop) => return Err(stop),
+    };
+    match sift_listed(
+        &gathered,
+        vol.sup.nodesize,
+        rack,
+        &mut vol.store,
+        marks,
+        sieve,
+    ) {
+        Ok(()) => Ok(end),
+        Err(fault) => Err(stop_of(fault)),
+    }
+}
+
+/// Lists the blocks of all chunks, by ascending start, and sifts those of each chunk behind its
+/// listing. Five slots are free.
 ///
-/// `Tree` where a block of the two trees can't be had or is malformed, or an extent breaks a rule, and `Memory` for want of memory.
-pub(crate) fn gather_chunks<R: Rack>(
+/// `Tree` where a block of the two trees can't be had or is malformed, or an extent breaks a rule.
+/// `Image`: a read of an image failed as blocks were sifted,
+/// and nothing was tried behind it. `Memory` for want of memory.
+pub(crate) fn sift_chunks<R: Rack>(
     extents: &TreeRoot,
     sums: Option<&TreeRoot>,
     rack: &mut R,
     vol: &mut Volume,
-    gathered: &mut Gathered,
+    marks: &mut [bool],
+    sieve: &mut Sieve,
 ) -> Result<(), Stop>
-    requires serves { Serves (R.seen rack.old) vol.old.store }
+    requires ready { CanMend false (R.seen rack.old) vol.old.store marks.old }
     requires room { 5 ≤ free_count vol.old.store }
-    requires is_list { IsList gathered.old.list }
-    requires kind { gathered.old.list.kind ≡ kind_in vol.old.sup }
-    ensures { Gathers (units.in_chunks vol.old.sup (tree_behind sums.entry) extents.now vol.old.store.layout.chunks)
-        (scene (R.seen rack.old) vol.old gathered.old) (scene (R.seen rack.new) vol.new gathered.new) result }
+    requires nodesize { vol.old.sup.nodesize ≡ vol.old.store.layout.setting.nodesize }
+    requires is_list { IsList sieve.old.sifted.kept }
+    requires kind { sieve.old.sifted.kept.kind ≡ kind_in vol.old.sup }
+    ensures ready { CanMend false (R.seen rack.new) vol.new.store marks.new }
+    ensures sieves { (whole : Gathered) → Stands vol.old.store.layout (R.seen rack.old).held whole sieve.old
+        → Sieves (units.in_chunks vol.old.sup (tree_behind sums.entry) extents.now vol.old.store.layout.chunks)
+        (scene (R.seen rack.old) vol.old whole) (R.seen rack.new) vol.new sieve.new result }
 {
     for i in 0..vol.store.chunks().count() {
         let span = span_at(vol, i);
-        match gather_chunk(extents, sums, &span, rack, vol, gathered) {
+        match sift_chunk(extents, sums, &span, rack, vol, marks, sieve) {
             Ok(_) => {}
             Err(stop) => return Err(stop),
         }

@@ -6,7 +6,7 @@ ghost use Rattle.btr_read.specs.Serves.{Serves};
 ghost use Rattle.btr_read.specs.Store.{SameLoans, free_count};
 ghost use Rattle.btr_walk.specs.Going.{IsOn};
 ghost use Rattle.btr_walk.specs.Reading.{HasCause, Map};
-ghost use Rattle.btr_walk.specs.ScanEnds.{IsReady, rank_of, without_leaf};
+ghost use Rattle.btr_walk.specs.ScanEnds.{IsScanReady, rank_of, without_leaf};
 ghost use Rattle.btr_walk.specs.Showing.{item_of};
 ghost use Rattle.btr_files.specs.Sums.{kind_in, tree_behind};
 ghost use Rattle.btr_scrub.specs.Extents.{span_of};
@@ -117,9 +117,9 @@ fn next_extent<R: Rack>(
     rack: &mut R,
     store: &mut Store,
 ) -> Result<NextExtent, TreeFault>
-    requires ready { IsReady (R.seen rack.old) store.old scan.old }
+    requires ready { IsScanReady (R.seen rack.old) store.old scan.old }
     requires room { 4 ≤ free_count (without_leaf store.old scan.old) }
-    ensures ready { IsReady (R.seen rack.new) store.new scan.new }
+    ensures ready { IsScanReady (R.seen rack.new) store.new scan.new }
     ensures reads { OnlyReads (R.seen rack.old) (R.seen rack.new) }
     ensures others { SameLoans (without_leaf store.old scan.old) (without_leaf store.new scan.new) }
     ensures lo { scan.new.lo ≡ scan.old.lo }
@@ -145,14 +145,14 @@ pub(crate) fn gather_items<R: Rack>(
     vol: &mut Volume,
     gathered: &mut Gathered,
 ) -> Result<u64, Stop>
-    requires ready { IsReady (R.seen rack.old) vol.old.store scan.old }
+    requires ready { IsScanReady (R.seen rack.old) vol.old.store scan.old }
     requires room { 5 ≤ free_count (without_leaf vol.old.store scan.old) }
     requires is_list { IsList gathered.old.list }
     requires kind { gathered.old.list.kind ≡ kind_in vol.old.sup }
     requires span { span.now.start + span.now.length < 2 ^ 64 }
     requires on { (B : Map) → IsOn scan.old.lo scan.old.hi B [] scan.old.place }
     requires chunk { IsSpanIn vol.old.store.layout span.now }
-    ensures ready { IsReady (R.seen rack.new) vol.new.store scan.new }
+    ensures ready { IsScanReady (R.seen rack.new) vol.new.store scan.new }
     ensures scanned { (chunk : Chunk) → span.now ≡ span_of chunk → Contains vol.old.store.layout.chunks chunk
         → Scanned vol.old.sup (tree_behind sums.entry) chunk
         (scene (R.seen rack.old) vol.old gathered.old) (scene (R.seen rack.new) vol.new gathered.new)

@@ -5,7 +5,7 @@ ghost use Rattle.btr_read.specs.Fate.{is_plain, sought};
 ghost use Rattle.btr_read.specs.Store.{SameLoans};
 ghost use Rattle.btr_scrub_copies.specs.Blocks.{block_writes};
 ghost use Rattle.btr_scrub_copies.specs.Mending.{IsCopied, mended_of};
-ghost use Rattle.btr_scrub.specs.Leaves.{alone};
+ghost use Rattle.btr_scrub.specs.WrittenRanges.{alone};
 ghost use Rattle.btr_scrub.specs.Listed.{PassesIf};
 ghost use Rattle.btr_scrub_copies.specs.Fresh.{flagged, fresh_writes, freshened};
 ghost use Rattle.btr_scrub.specs.Judged.{has_behind};
@@ -160,8 +160,9 @@ fn is_calm(want: &Want, behind: bool) -> bool
     is_plain(want) && !behind
 }
 
-// Passes over the sectors without a checksum that come next and follow each other, if that is wanted, as far as they begin before an address.
-fn pass_if(wanted: bool, end: u64, blocks: &mut Reader<'_>)
+/// Passes over the sectors without a checksum that come next and follow each other, if that is
+/// wanted, as far as they begin before an address.
+pub(crate) fn pass_if(wanted: bool, end: u64, blocks: &mut Reader<'_>)
     ensures { PassesIf wanted blocks.old end blocks.new }
 {
     if wanted {

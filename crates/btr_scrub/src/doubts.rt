@@ -13,13 +13,14 @@ ghost use Rattle.btr_read.specs.Want.{len_of, passes};
 ghost use Rattle.btr_scrub_copies.specs.Writes.{AccountsMend};
 ghost use Rattle.btr_scrub.specs.Doubts.{fails_at, fails_on};
 ghost use Rattle.btr_scrub.specs.Judged.{AccountsParts, FlagsAll, FlagsBlock, HasOwn};
-ghost use Rattle.btr_scrub.specs.Judged.{IsIdle, IsReady, Suffices, has_older, is_older, some_older, some_parity};
-ghost use Rattle.btr_scrub.specs.Leaves.{LiesInStripe};
+ghost use Rattle.btr_scrub.specs.Judged.{IsIdle, HasRoom, Suffices, has_older, is_older, some_older, some_parity};
+ghost use Rattle.btr_scrub.specs.WrittenRanges.{LiesInStripe};
 ghost use Rattle.btr_scrub.specs.Listed.{IsList, kept_wants};
 ghost use Rattle.btr_scrub.specs.Order.{AreApart};
 
-use crate::gathered::Gathered;
+use crate::copied::pass_if;
 use crate::judging::len_of;
+use crate::listed::Listed;
 use crate::mending::has_parity;
 use crate::reader::{Reader, read_all};
 use btr_chunk::{Chunk, Part, elements, place_of};
@@ -109,8 +110,8 @@ fn flag_part<R: Rack>(
     requires open { AreOpen (R.seen rack.old).slots store.now.layout.devices }
     requires nodesize { nodesize ≡ store.now.layout.setting.nodesize }
     requires own { HasOwn store.now.layout part want.now }
-    requires ready { IsReady nodesize (R.seen rack.old) probe.old }
-    ensures ready { IsReady nodesize (R.seen rack.new) probe.new }
+    requires ready { HasRoom nodesize (R.seen rack.old) probe.old }
+    ensures ready { HasRoom nodesize (R.seen rack.new) probe.new }
     ensures reads { OnlyReads (R.seen rack.old) (R.seen rack.new) }
     ensures flags { FlagsBlock store.now.layout want.now (R.seen rack.old)
         (λ images t slot. fails_at images t slot part)
@@ -130,7 +131,7 @@ fn flag_part<R: Rack>(
 }
 
 // How many copies a block has; none where its chunk has parity.
-fn copies_of(want: &Want, store: &Store) -> Option<u32>
+pub(crate) fn copies_of(want: &Want, store: &Store) -> Option<u32>
     requires { IsOk (sought store.now.layout want.now) }
     ensures { (t : Target) → sought store.now.layout want.now ≡ Ok t → result ≡ mirrors t.chunk }
 {
@@ -171,8 +172,8 @@ fn flag_copies<R: Rack>(
     requires sought { IsOk (sought store.now.layout want.now) }
     requires copies { (t : Target) → sought store.now.layout want.now ≡ Ok t
         → mirrors t.chunk ≡ Some copies }
-    requires ready { IsReady nodesize (R.seen rack.old) probe.old }
-    ensures ready { IsReady nodesize (R.seen rack.new) probe.new }
+    requires ready { HasRoom nodesize (R.seen rack.old) probe.old }
+    ensures ready { HasRoom nodesize (R.seen rack.new) probe.new }
     ensures reads { OnlyReads (R.seen rack.old) (R.seen rack.new) }
     ensures flags { FlagsBlock store.now.layout want.now (R.seen rack.old)
         (λ images t slot. fails_on images slot t)
@@ -200,8 +201,8 @@ fn flag_block<R: Rack>(
     requires open { AreOpen (R.seen rack.old).slots store.now.layout.devices }
     requires nodesize { nodesize ≡ store.now.layout.setting.nodesize }
     requires sought { IsOk (sought store.now.layout want.now) }
-    requires ready { IsReady nodesize (R.seen rack.old) probe.old }
-    ensures ready { IsReady nodesize (R.seen rack.new) probe.new }
+    requires ready { HasRoom nodesize (R.seen rack.old) probe.old }
+    ensures ready { HasRoom nodesize (R.seen rack.new) probe.new }
     ensures reads { OnlyReads (R.seen rack.old) (R.seen rack.new) }
     ensures flags { FlagsBlock store.now.layout want.now (R.seen rack.old)
         (λ images t slot. fails_on images slot t)
@@ -236,8 +237,8 @@ pub(crate) fn flag_blocks<R: Rack>(
     requires nodesize { nodesize ≡ store.now.layout.setting.nodesize }
     requires table { IsTable store.now.layout.chunks }
     requires apart { AreApart store.now.layout 0 blocks.old }
-    requires ready { IsReady nodesize (R.seen rack.old) probe.old }
-    ensures ready { IsReady nodesize (R.seen rack.new) probe.new }
+    requires ready { HasRoom nodesize (R.seen rack.old) probe.old }
+    ensures ready { HasRoom nodesize (R.seen rack.new) probe.new }
     ensures reads { OnlyReads (R.seen rack.old) (R.seen rack.new) }
     ensures flags { FlagsAll store.now.layout blocks.old (R.seen rack.old)
         probe.old.failing.items probe.new.failing.items result }
@@ -249,6 +250,7 @@ pub(crate) fn flag_blocks<R: Rack>(
             Ok(()) => {}
             Err(fault) => return Err(fault),
         }
+        pass_if(is_plain(&want), u64::MAX, blocks);
     }
     Ok(())
 }
@@ -276,7 +278,7 @@ fn is_older(devid: u64, store: &Store) -> bool
 }
 
 // Whether some image of a chunk is.
-fn has_older(chunk: &Chunk, store: &Store) -> bool
+pub(crate) fn has_older(chunk: &Chunk, store: &Store) -> bool
     ensures { result ≡ has_older store.now.layout.devices chunk.now }
 {
     for i in 0..chunk.stripes.len() {
@@ -312,14 +314,14 @@ fn some_plain(blocks: &mut Reader<'_>) -> bool
 }
 
 // Whether it matters nowhere which images fail.
-fn is_idle(gathered: &Gathered, store: &Store) -> bool
-    requires { IsList gathered.now.list }
-    ensures { IsTrue result → IsIdle store.now.layout (kept_wants gathered.now.list) }
+fn is_idle(list: &Listed, store: &Store) -> bool
+    requires { IsList list.now }
+    ensures { IsTrue result → IsIdle store.now.layout (kept_wants list.now) }
 {
     if !some_parity(store) && !some_older(store) {
         return true;
     }
-    !some_plain(&mut read_all(&gathered.list))
+    !some_plain(&mut read_all(list))
 }
 
 /// By slot, whether some of the listed blocks doesn't pass at its place on the image. It matters for
@@ -329,7 +331,7 @@ fn is_idle(gathered: &Gathered, store: &Store) -> bool
 /// `Memory`: for want of memory.
 pub(crate) fn failing_images<R: Rack>(
     alloc: Global,
-    gathered: &Gathered,
+    list: &Listed,
     nodesize: u32,
     rack: &mut R,
     store: &Store,
@@ -338,10 +340,10 @@ pub(crate) fn failing_images<R: Rack>(
     requires nodesize { nodesize ≡ store.now.layout.setting.nodesize }
     requires large { 4096 ≤ nodesize }
     requires table { IsTable store.now.layout.chunks }
-    requires is_list { IsList gathered.now.list }
-    requires apart { AreApart store.now.layout 0 (kept_wants gathered.now.list) }
+    requires is_list { IsList list.now }
+    requires apart { AreApart store.now.layout 0 (kept_wants list.now) }
     ensures reads { OnlyReads (R.seen rack.old) (R.seen rack.new) }
-    ensures flags { IfOk result (λ flags. Suffices store.now.layout (kept_wants gathered.now.list)
+    ensures flags { IfOk result (λ flags. Suffices store.now.layout (kept_wants list.now)
         (R.seen rack.old) flags.items) }
     ensures account { AccountsMend (LiesInStripe store.now.layout)
         (R.seen rack.old) (R.seen rack.new) result }
@@ -349,14 +351,14 @@ pub(crate) fn failing_images<R: Rack>(
     let Ok(failing) = vec![in alloc; false; rack.count()] else {
         return Err(MendFault::Memory);
     };
-    if is_idle(gathered, store) {
+    if is_idle(list, store) {
         return Ok(failing);
     }
     let Ok(buffer) = vec![in alloc; 0; nodesize as usize] else {
         return Err(MendFault::Memory);
     };
     let mut probe = Probe { buffer, failing };
-    let mut blocks = read_all(&gathered.list);
+    let mut blocks = read_all(list);
     match flag_blocks(&mut blocks, nodesize, rack, store, &mut probe) {
         Ok(()) => Ok(probe.failing),
         Err(fault) => Err(fault),

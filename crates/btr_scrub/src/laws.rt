@@ -5,10 +5,11 @@ ghost use Rattle.btr_scrub.specs.Places.{ElementsApart};
 ghost use Rattle.btr_scrub.specs.Listed.{FewBytes};
 ghost use Rattle.btr_scrub.specs.Staying.{RightStays, RowOutlivesWrites, RowWritesAreWrong};
 ghost use Rattle.btr_scrub.specs.Keeping.{FirstTurnKeepsBlocks, SecondTurnKeepsBlocks};
-ghost use Rattle.btr_scrub.specs.Leaves.{WritesKeepTheRest};
+ghost use Rattle.btr_scrub.specs.WrittenRanges.{WritesKeepTheRest};
 ghost use Rattle.btr_scrub.specs.Whole.{ListedCounts, ListedWrites, WorksKeepTheRest};
-ghost use Rattle.btr_scrub.specs.Glue.{SomeCandidateIsRight, BlockOfElement, PartStands};
-ghost use Rattle.btr_scrub.specs.Glue.{RowGivesBlocks};
+ghost use Rattle.btr_scrub.specs.Sifting.{KeptCounts, KeptWrites};
+ghost use Rattle.btr_scrub.specs.BlocksInRows.{SomeCandidateIsRight, BlockOfElement, PartStands};
+ghost use Rattle.btr_scrub.specs.BlocksInRows.{RowGivesBlocks};
 
 /// Where at most as many elements of a full stripe are wrong as there is parity, some candidate of each block reads none of
 /// them, and gives the bytes as they should be (`docs/FORMAT.md`, "Full stripes").
@@ -123,4 +124,16 @@ pub fn first_turn_keeps_blocks()
 /// wait for a sync (`docs/FORMAT.md`, "Full stripes").
 pub fn second_turn_keeps_blocks()
     ensures { SecondTurnKeepsBlocks }
+{}
+
+/// The writes for those blocks of a list for which something may have to be written are the writes
+/// for all of them.
+pub fn kept_writes()
+    ensures { KeptWrites }
+{}
+
+/// The counts for them, begun with how many of the other blocks are checked, are the counts for all
+/// of them.
+pub fn kept_counts()
+    ensures { KeptCounts }
 {}

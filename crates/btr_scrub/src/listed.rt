@@ -6,6 +6,7 @@ ghost use Rattle.btr_scrub.specs.Listed.{IsExtended, IsLonger};
 use crate::pages::Pages;
 use crate::run::{Run, RunKind, TreeMark};
 use btr_base::{Memory, Sum, SumKind};
+use btr_read::Want;
 use std::alloc::Global;
 use std::marker::Model;
 
@@ -31,12 +32,12 @@ impl Model for Listed {
     ghost view = { λ s. record { kind = s.kind; runs = s.runs ++ option_to_list s.last; sums = s.sums; marks = s.marks } };
 }
 
-// Whether an address is that behind so many sectors of a run, which can have one more.
-fn follows(run: Run, count: u32, addr: u64) -> bool
+// Whether an address is that behind so many sectors of a run, which can have `more`.
+fn follows(run: Run, count: u32, addr: u64, more: u32) -> bool
     ensures next { IsTrue result → addr ≡ run.addr + count * 4096 }
-    ensures room { IsTrue result → count + 1 < 2 ^ 32 }
+    ensures room { IsTrue result → count + more < 2 ^ 32 }
 {
-    count != u32::MAX && addr >= run.addr && addr - run.addr == u64::from(count) * 4096
+    count <= u32::MAX - more && addr >= run.addr && addr - run.addr == u64::from(count) * 4096
 }
 
 // The last run with one more sector that has a checksum, if the address is the next of its sectors.
@@ -47,7 +48,7 @@ fn lengthened(last: Option<Run>, addr: u64) -> Option<Run>
     let RunKind::Sectors(count) = run.kind else {
         return None;
     };
-    if !follows(run, count, addr) {
+    if !follows(run, count, addr, 1) {
         return None;
     }
     Some(Run {
@@ -56,20 +57,20 @@ fn lengthened(last: Option<Run>, addr: u64) -> Option<Run>
     })
 }
 
-// The same with one more that has none.
-fn extended(last: Option<Run>, addr: u64) -> Option<Run>
-    ensures { IsExtended last addr result }
+// The same with `more` that have none.
+fn extended(last: Option<Run>, addr: u64, more: u32) -> Option<Run>
+    ensures { IsExtended last addr more result }
 {
     let run = last?;
     let RunKind::Unsummed(count) = run.kind else {
         return None;
     };
-    if !follows(run, count, addr) {
+    if !follows(run, count, addr, more) {
         return None;
     }
     Some(Run {
         addr: run.addr,
-        kind: RunKind::Unsummed(count + 1),
+        kind: RunKind::Unsummed(count + more),
     })
 }
 
@@ -85,9 +86,11 @@ fn push_sum(sums: &mut Pages<u8>, kind: SumKind, sum: &Sum) -> Result<(), Memory
 }
 
 impl Listed {
-    ghost use Rattle.std.specs.Prelude.{◌≡◌, ◌+◌, ◌<◌, ◌≤◌, ◌^◌, [], drop, length, slice_get, OnOk};
+    ghost use Rattle.std.specs.Prelude.{◌≡◌, ◌+◌, ◌*◌, ◌<◌, ◌≤◌, ◌^◌, [], drop, length};
+    ghost use Rattle.std.specs.Prelude.{slice_get, OnOk};
     ghost use Rattle.btr_base.specs.Sum.{stored_sum, sum_size};
-    ghost use Rattle.btr_scrub.specs.Listed.{AddsTo, Begins, IsList, kept_wants};
+    ghost use Rattle.btr_scrub.specs.Listed.{AddsAll, AddsTo, Begins, IsList, IsOfKind};
+    ghost use Rattle.btr_scrub.specs.Listed.{kept_wants, plains_from};
     ghost use Rattle.btr_read.specs.declared.want.Want.TheVariants.{Plain, Tree, Sector};
 
     /// A list of no blocks, for checksums of this kind.
@@ -103,6 +106,15 @@ impl Listed {
             sums: Pages::new(alloc),
             marks: Pages::new(alloc),
         }
+    }
+
+    /// A list of no blocks, for checksums of the same kind.
+    pub(crate) fn emptied(&self) -> Listed
+        ensures kind { result.kind ≡ self.now.kind }
+        ensures is_list { IsList result }
+        ensures wants { kept_wants result ≡ [] }
+    {
+        Listed::new(self.runs.alloc(), self.kind)
     }
 
     // Puts a run behind the others.
@@ -149,20 +161,42 @@ impl Listed {
         }
     }
 
-    /// Puts a sector of data that has no checksum behind the others. After `Memory` the list isn't used again.
-    pub(crate) fn push_plain(&mut self, addr: u64) -> Result<(), Memory>
-        requires { IsList self.old }
-        ensures { OnOk result (AddsTo self.old self.new (Plain addr)) }
+    /// Puts so many sectors of data that have no checksum behind the others, which follow each
+    /// other from an address on. After `Memory` the list isn't used again.
+    pub(crate) fn push_plains(&mut self, addr: u64, count: u32) -> Result<(), Memory>
+        requires is_list { IsList self.old }
+        requires some { 1 ≤ count }
+        requires range { addr + count * 4096 < 2 ^ 64 }
+        ensures { OnOk result (AddsAll self.old self.new (plains_from addr count)) }
     {
-        match extended(self.last, addr) {
+        match extended(self.last, addr, count) {
             Some(run) => {
                 self.last = Some(run);
                 Ok(())
             }
             None => self.begin(Run {
                 addr,
-                kind: RunKind::Unsummed(1),
+                kind: RunKind::Unsummed(count),
             }),
+        }
+    }
+
+    /// Puts a block of another list, whose checksums are of the same kind, behind the others. After
+    /// `Memory` the list isn't used again.
+    pub(crate) fn push(&mut self, want: &Want) -> Result<(), Memory>
+        requires is_list { IsList self.old }
+        requires of_kind { IsOfKind self.old.kind want.now }
+        ensures { OnOk result (AddsTo self.old self.new want.now) }
+    {
+        match want {
+            Want::Tree {
+                addr,
+                generation,
+                level,
+            } => self.push_tree(*addr, *generation, *level),
+            Want::Sector { addr, sum } => self.push_sector(*addr, sum),
+            Want::Plain { addr } => self.push_plains(*addr, 1),
+            Want::Block { .. } => unreachable!(),
         }
     }
 

@@ -94,6 +94,11 @@ impl<T: Copy + Drop> Pages<T> {
         }
     }
 
+    /// Where its memory comes from.
+    pub(crate) fn alloc(&self) -> Global {
+        self.alloc
+    }
+
     /// Puts an item behind the others. After `Memory` nothing is said of the list.
     pub(crate) fn push(&mut self, item: T) -> Result<(), Memory>
         ensures { OnOk result (self.new ≡ self.old ++ item ∷ []) }

@@ -58,8 +58,8 @@ pub fn read_all(listed: &Listed) -> Reader<'_>
 }
 
 impl<'a> Reader<'a> {
-    ghost use Rattle.std.specs.Prelude.{◌≡◌};
-    ghost use Rattle.btr_scrub.specs.Listed.{Gives, PassesPlain};
+    ghost use Rattle.std.specs.Prelude.{◌≡◌, IfSome};
+    ghost use Rattle.btr_scrub.specs.Listed.{Gives, IsNextPlain, PassesFrom, PassesPlain};
 
     /// Another reader at the same place.
     pub fn again(&self) -> Reader<'a>
@@ -117,26 +117,49 @@ impl<'a> Reader<'a> {
         }
     }
 
-    /// Passes over the sectors without a checksum that come next and follow each other, as far as they begin before an address.
+    // The address of the sector that comes next, if that has no checksum.
+    fn plain_at(&self) -> Option<u64>
+        ensures { IfSome result (IsNextPlain self.now) }
+    {
+        let run = self.listed.run_at(self.run)?;
+        match run.kind {
+            RunKind::TreeBlock | RunKind::Sectors(_) => None,
+            RunKind::Unsummed(_) => Some(run.addr + u64::from(self.past) * 4096),
+        }
+    }
+
+    /// Passes over the sectors without a checksum that come next one behind another from an address
+    /// on, as far as they begin before a bound; answers where the last one ends.
+    pub(crate) fn pass_from(&mut self, from: u64, bound: u64) -> u64
+        ensures { PassesFrom self.old from bound result self.new }
+    {
+        let Some(run) = self.listed.run_at(self.run) else {
+            return from;
+        };
+        let RunKind::Unsummed(count) = run.kind else {
+            return from;
+        };
+        if run.addr + u64::from(self.past) * 4096 != from || from >= bound {
+            return from;
+        }
+        let below = (bound - from - 1) / 4096 + 1;
+        let left = u64::from(count - self.past);
+        if below >= left {
+            self.run += 1;
+            self.past = 0;
+            return from + left * 4096;
+        }
+        self.past += below as u32;
+        from + below * 4096
+    }
+
+    /// Passes over the sectors without a checksum that come next and follow each other, as far as
+    /// they begin before an address.
     pub(crate) fn pass_plain(&mut self, end: u64)
         ensures { PassesPlain self.old end self.new }
     {
-        let Some(run) = self.listed.run_at(self.run) else {
-            return;
-        };
-        let RunKind::Unsummed(count) = run.kind else {
-            return;
-        };
-        let addr = run.addr + u64::from(self.past) * 4096;
-        if addr >= end {
-            return;
-        }
-        let below = (end - addr - 1) / 4096 + 1;
-        if below >= u64::from(count - self.past) {
-            self.run += 1;
-            self.past = 0;
-        } else {
-            self.past += below as u32;
+        if let Some(addr) = self.plain_at() {
+            self.pass_from(addr, end);
         }
     }
 }

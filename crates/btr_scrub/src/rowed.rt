@@ -10,7 +10,7 @@ ghost use Rattle.btr_read.specs.Want.{addr_of};
 ghost use Rattle.btr_scrub_copies.specs.Fresh.{flagged};
 ghost use Rattle.btr_scrub_row.specs.Mending.{IsRow, IsRowOf, mended_row};
 ghost use Rattle.btr_scrub_row.specs.Rows.{Row, row_writes};
-ghost use Rattle.btr_scrub.specs.Leaves.{alone};
+ghost use Rattle.btr_scrub.specs.WrittenRanges.{alone};
 ghost use Rattle.btr_scrub.specs.Order.{targets};
 ghost use Rattle.btr_scrub.specs.Repair.{rows_in};
 ghost use Rattle.btr_scrub.specs.Rowing.{Collects, CollectsRow, GivesInRow, IsCalm, row_in, untouched};

@@ -1,59 +1,80 @@
 // The sectors of a data extent.
-ghost use Rattle.std.specs.Prelude.{◌≡◌, ◌+◌, ◌*◌, ◌<◌, ◌≤◌, ◌^◌, [], ◌∷◌, OnOk};
+ghost use Rattle.std.specs.Prelude.{◌+◌, ◌*◌, ◌<◌, ◌≡◌, ◌≤◌, ◌^◌, OnOk};
 ghost use Rattle.btr_read.specs.Serves.{Serves};
 ghost use Rattle.btr_read.specs.Store.{free_count};
 ghost use Rattle.btr_files.specs.Sums.{kind_in, tree_behind};
-ghost use Rattle.btr_scrub.specs.Gathering.{Gathers, Lists, scene};
+ghost use Rattle.btr_scrub.specs.Gathering.{Gathers, GathersSome, Lists, gap_met, scene};
 ghost use Rattle.btr_scrub.specs.Listed.{IsList};
 ghost use Rattle.btr_scrub.specs.Units as units;
-ghost use Rattle.btr_scrub.specs.Units.{Unchecked};
 
 use crate::gathered::Gathered;
 use btr_base::Memory;
-use btr_files::sum_of;
+use btr_files::{Summed, sums_from};
 use btr_rack::Rack;
 use btr_volume::{Stop, TreeRoot, Volume};
 
-// Lists a sector that has no checksum, which is counted.
-fn gather_plain(addr: u64, gathered: &mut Gathered) -> Result<(), Memory>
+// Lists so many sectors that have no checksum, which are counted.
+fn gather_gap(addr: u64, count: u32, gathered: &mut Gathered) -> Result<(), Memory>
     requires is_list { IsList gathered.old.list }
-    ensures { OnOk result (Lists gathered.old gathered.new (Unchecked addr ∷ [])) }
+    requires some { 1 ≤ count }
+    requires range { addr + count * 4096 < 2 ^ 64 }
+    ensures { OnOk result (Lists gathered.old gathered.new (gap_met count addr)) }
 {
-    gathered.unchecked = gathered.unchecked.saturating_add(1);
-    gathered.list.push_plain(addr)
+    gathered.unchecked = gathered.unchecked.saturating_add(u64::from(count));
+    gathered.list.push_plains(addr, count)
 }
 
-// Lists a sector of data with its checksum, or without one.
-fn gather_sector<R: Rack>(
+// How many sectors of a gap are listed at once, where there are so many of them at most.
+fn part_of(len: u64, most: u64) -> u32
+    requires some { 1 ≤ len }
+    requires most { 1 ≤ most }
+    ensures some { 1 ≤ result }
+    ensures len { result ≤ len }
+    ensures most { result ≤ most }
+{
+    len.min(most).min(u64::from(u32::MAX)) as u32
+}
+
+// Lists the first of so many sectors of data with its checksum, or those of the gap that it
+// begins; answers how many.
+fn gather_some<R: Rack>(
     sums: Option<&TreeRoot>,
     addr: u64,
+    most: u64,
     rack: &mut R,
     vol: &mut Volume,
     gathered: &mut Gathered,
-) -> Result<(), Stop>
+) -> Result<u64, Stop>
     requires serves { Serves (R.seen rack.old) vol.old.store }
     requires room { 4 ≤ free_count vol.old.store }
     requires is_list { IsList gathered.old.list }
     requires kind { gathered.old.list.kind ≡ kind_in vol.old.sup }
-    ensures { Gathers (units.sector vol.old.sup (tree_behind sums.entry) addr)
+    requires some { 1 ≤ most }
+    requires range { addr + most * 4096 < 2 ^ 64 }
+    ensures { GathersSome vol.old.sup (tree_behind sums.entry) addr most
         (scene (R.seen rack.old) vol.old gathered.old) (scene (R.seen rack.new) vol.new gathered.new) result }
 {
-    match sum_of(sums, addr, rack, vol) {
+    match sums_from(sums, addr, rack, vol) {
         Err(fault) => Err(Stop::Tree(fault)),
-        Ok(None) => match gather_plain(addr, gathered) {
-            Ok(()) => Ok(()),
+        Ok(Summed::Sum(sum)) => match gathered.list.push_sector(addr, &sum) {
+            Ok(()) => Ok(1),
             Err(_) => Err(Stop::Memory),
         },
-        Ok(Some(sum)) => match gathered.list.push_sector(addr, &sum) {
-            Ok(()) => Ok(()),
-            Err(_) => Err(Stop::Memory),
-        },
+        Ok(Summed::Gap(len)) => {
+            let count = part_of(len, most);
+            match gather_gap(addr, count, gathered) {
+                Ok(()) => Ok(u64::from(count)),
+                Err(_) => Err(Stop::Memory),
+            }
+        }
     }
 }
 
-/// Lists so many sectors of data from an address on. Those that have no checksum are counted, and listed with the others. Four slots are free.
+/// Lists so many sectors of data from an address on. Those that have no checksum are counted, and
+/// listed with the others. Four slots are free.
 ///
-/// `Tree` where a block of the checksum tree can't be had or is malformed, and `Memory` for want of memory.
+/// `Tree` where a block of the checksum tree can't be had or is malformed, and `Memory` for want of
+/// memory.
 pub(crate) fn gather_sectors<R: Rack>(
     sums: Option<&TreeRoot>,
     addr: u64,
@@ -70,9 +91,10 @@ pub(crate) fn gather_sectors<R: Rack>(
     ensures { Gathers (units.sectors vol.old.sup (tree_behind sums.entry) count addr)
         (scene (R.seen rack.old) vol.old gathered.old) (scene (R.seen rack.new) vol.new gathered.new) result }
 {
-    for i in 0..count {
-        match gather_sector(sums, addr + i * 4096, rack, vol, gathered) {
-            Ok(()) => {}
+    let mut done = 0;
+    while done < count {
+        match gather_some(sums, addr + done * 4096, count - done, rack, vol, gathered) {
+            Ok(more) => done += more,
             Err(stop) => return Err(stop),
         }
     }

@@ -9,23 +9,21 @@ ghost use Rattle.btr_scrub.specs.Listed.{IsList, kept_wants};
 ghost use Rattle.btr_scrub.specs.Order.{AreApart};
 ghost use Rattle.btr_scrub.specs.Repair.{first_missing};
 ghost use Rattle.btr_scrub.specs.Scrubbed.{IsSafe, IsScrubbed, called};
-ghost use Rattle.btr_scrub.specs.Scrubbing.{HasRooms, NoneIsWider};
-ghost use Rattle.btr_scrub.specs.Whole.{Refuses, ScrubsAll, WorksOn, answer_of, first_tally};
-ghost use Rattle.btr_scrub.specs.declared.tally.Tally.{Tally};
+ghost use Rattle.btr_scrub.specs.Scrubbing.{CanMend, HasRooms, NoneIsWider};
+ghost use Rattle.btr_scrub.specs.Sifting.{begun};
+ghost use Rattle.btr_scrub.specs.Whole.{Refuses, ScrubsAll, WorksFrom};
 
 use crate::doubts::failing_images;
-use crate::gathered::Gathered;
-use crate::judging::judge_blocks;
 use crate::mending::mend_all;
 use crate::missing::missing_device;
 use crate::reader::read_all;
 use crate::rowed::RowRoom;
+use crate::sieve::{Sieve, Sifted, stop_of};
 use crate::tally::Tally;
-use crate::units::list_blocks;
+use crate::units::sift_blocks;
 use btr_base::Memory;
 use btr_rack::Rack;
 use btr_read::Store;
-use btr_scrub_copies::MendFault;
 use btr_scrub_row::RowBuffer;
 use btr_volume::{Stop, Volume};
 use std::alloc::Global;
@@ -61,12 +59,12 @@ pub(crate) fn make_room(alloc: Global, store: &Store) -> Result<RowRoom, Memory>
     Ok(RowRoom { wants, buffer })
 }
 
-// The counts before the first block.
-fn first_tally(unchecked: u64) -> Tally
-    ensures { result ≡ first_tally unchecked }
+// The counts of so many checked blocks that are sound, and so many sectors without a checksum.
+fn begun(sound: u64, unchecked: u64) -> Tally
+    ensures { result ≡ begun sound unchecked }
 {
     Tally {
-        blocks: 0,
+        blocks: sound,
         bad: 0,
         repaired: 0,
         lost: 0,
@@ -75,50 +73,38 @@ fn first_tally(unchecked: u64) -> Tally
     }
 }
 
-// What a fault of the mending is answered as.
-fn stop_of(fault: MendFault) -> Stop
-    ensures { (tally : Tally) → Err result ≡ answer_of (Err fault) tally }
-{
-    match fault {
-        MendFault::Image(slot) => Stop::Image(slot),
-        MendFault::Memory => Stop::Memory,
-    }
-}
-
-// Mends the blocks of a list, in which they have a position and are apart.
-fn mend_listed<R: Rack>(
+// Mends the blocks that a sieve kept, which have a position and are apart.
+fn mend_kept<R: Rack>(
     alloc: Global,
     write: bool,
-    gathered: Gathered,
+    sieve: Sieve,
+    mut room: RowRoom,
+    marks: &mut [bool],
     rack: &mut R,
     vol: &mut Volume,
 ) -> Result<Tally, Stop>
-    requires serves { Serves (R.seen rack.old) vol.old.store }
-    requires room { 2 ≤ free_count vol.old.store }
+    requires ready { CanMend write (R.seen rack.old) vol.old.store marks.old }
+    requires rooms { HasRooms vol.old.store.layout room.buffer }
     requires large { 4096 ≤ vol.old.sup.nodesize }
-    requires writable { IsTrue write → AreWritable (R.seen rack.old).slots }
     requires nodesize { vol.old.sup.nodesize ≡ vol.old.store.layout.setting.nodesize }
-    requires given { first_missing vol.old.store.layout ≡ None }
-    requires is_list { IsList gathered.list }
-    requires apart { AreApart vol.old.store.layout 0 (kept_wants gathered.list) }
+    requires is_list { IsList sieve.sifted.kept }
+    requires apart { AreApart vol.old.store.layout 0 (kept_wants sieve.sifted.kept) }
     ensures serves { Serves (R.seen rack.new) vol.new.store }
     ensures volume { SameVolume vol.old vol.new }
-    ensures works { WorksOn vol.old.store.layout write (kept_wants gathered.list) gathered.unchecked
+    ensures works { WorksFrom vol.old.store.layout write (kept_wants sieve.sifted.kept) (begun sieve.sifted.sound sieve.unchecked)
         (R.seen rack.old) (R.seen rack.new) result }
 {
-    let Ok(mut room) = make_room(alloc, &vol.store) else {
-        return Err(Stop::Memory);
-    };
-    let Ok(mut marks) = vec![in alloc; false; rack.count()] else {
-        return Err(Stop::Memory);
-    };
-    let failing = match failing_images(alloc, &gathered, vol.sup.nodesize, rack, &vol.store) {
+    let Sieve {
+        sifted: Sifted { kept, sound },
+        unchecked,
+        ..
+    } = sieve;
+    let failing = match failing_images(alloc, &kept, vol.sup.nodesize, rack, &vol.store) {
         Ok(failing) => failing,
         Err(fault) => return Err(stop_of(fault)),
     };
-    let Gathered { list, unchecked } = gathered;
-    let mut tally = first_tally(unchecked);
-    let mut blocks = read_all(&list);
+    let mut tally = begun(sound, unchecked);
+    let mut blocks = read_all(&kept);
     match mend_all(
         vol.sup.nodesize,
         write,
@@ -127,7 +113,7 @@ fn mend_listed<R: Rack>(
         rack,
         &mut vol.store,
         &mut room,
-        &mut marks,
+        marks,
         &mut tally,
     ) {
         Ok(()) => Ok(tally),
@@ -135,7 +121,8 @@ fn mend_listed<R: Rack>(
     }
 }
 
-// Lists the blocks, looks the list over once more, and mends them.
+// Lists and sifts the blocks, and mends those that are kept. All memory for full stripes is had
+// before.
 fn scrub_given<R: Rack>(
     alloc: Global,
     write: bool,
@@ -153,14 +140,19 @@ fn scrub_given<R: Rack>(
     ensures volume { SameVolume vol.old vol.new }
     ensures scrubs { ScrubsAll vol.old.sup vol.old.store.layout write (R.seen rack.old) (R.seen rack.new) result }
 {
-    let gathered = match list_blocks(alloc, rack, vol) {
-        Ok(gathered) => gathered,
+    let Ok(room) = make_room(alloc, &vol.store) else {
+        return Err(Stop::Memory);
+    };
+    let Ok(mut marks) = vec![in alloc; false; rack.count()] else {
+        return Err(Stop::Memory);
+    };
+    let sieve = match sift_blocks(alloc, rack, vol, &mut marks) {
+        Ok(sieve) => sieve,
         Err(stop) => return Err(stop),
     };
-    let mut blocks = read_all(&gathered.list);
-    match judge_blocks(&mut blocks, vol.sup.nodesize, &vol.store) {
-        Ok(()) => mend_listed(alloc, write, gathered, rack, vol),
-        Err(fault) => Err(Stop::Tree(fault)),
+    match sieve.refused {
+        Some(fault) => Err(Stop::Tree(fault)),
+        None => mend_kept(alloc, write, sieve, room, &mut marks, rack, vol),
     }
 }
 

@@ -1,48 +1,31 @@
-// The list of the checked blocks of small volumes, and of their sectors without a checksum.
-ghost use Rattle.btr_scrub.specs.Listed.{IsList};
-
-use btr_make::{RowVolume, row};
-use btr_rack::{MemRack, Rack};
-use btr_scrub::{Listed, list_blocks, read_all};
-use btr_volume::Volume;
-use std::alloc::Global;
+// The checked blocks of small volumes, and their sectors without a checksum.
+use super::damage::scrub_images;
+use super::shapes::{Made, build};
+use btr_make::RowVolume;
 use std::test::Fail;
 
-// How many blocks and sectors are listed, at most 100.
-fn count_of(list: &Listed) -> u32
-    requires { IsList list.now }
-{
-    let mut reader = read_all(list);
-    let mut count: u32 = 0;
-    for _ in 0..100 {
-        if reader.next().is_none() {
-            return count;
-        }
-        count = count.saturating_add(1);
-    }
-    count
-}
-
-// How many blocks and sectors of the volume of a rack's open images are listed, and how many of its sectors have no checksum.
-fn listed(alloc: Global, rack: &mut MemRack) -> Option<(u32, u64)> {
-    if rack.count() == 0 {
-        return None;
-    }
-    let Ok(mut volume) = Volume::open(alloc, rack) else {
-        return None;
-    };
-    match list_blocks(alloc, rack, &mut volume) {
-        Ok(gathered) => Some((count_of(&gathered.list), gathered.unchecked)),
-        Err(_) => None,
-    }
-}
+// How many checked blocks volumes have, and how many sectors without a checksum: none, some in a
+// hole, one before a sector that has one, one behind it up to the extent's end, and over a full
+// stripe.
+const COUNTS: [(Made, u64, u64); 6] = [
+    (Made::Row(RowVolume::V1d), 8, 0),
+    (Made::Row(RowVolume::N), 6, 2),
+    (Made::HalfSummed, 7, 1),
+    (Made::Unsummed5(""), 8, 15),
+    (Made::Unsummed6(""), 8, 15),
+    (Made::Filled5(&[]), 8, 30),
+];
 
 #[test]
 fn blocks_of_small_volumes(rt: HostRuntime) -> Result<(), Fail> {
-    for (which, sites, unchecked) in [(RowVolume::V1d, 8, 0), (RowVolume::N, 8, 2)] {
-        let mut rack = row(rt.alloc(), which)?;
-        rack.open("a", false)?;
-        assert_eq!(rt; listed(rt.alloc(), &mut rack), Some((sites, unchecked)));
+    for (which, blocks, unchecked) in COUNTS {
+        let mut rack = build(rt.alloc(), which)?;
+        let tally = scrub_images(&rt, rt.alloc(), false, &mut rack, which.names())?;
+        assert_eq!(rt;
+            tally.map(|tally| (tally.blocks, tally.unchecked)),
+            Some((blocks, unchecked)),
+            "{which:?}"
+        );
     }
     Ok(())
 }

@@ -108,7 +108,8 @@ impl Made {
             | Made::Filled6(_)
             | Made::UnsummedRaid10(_)
             | Made::UnsummedRaid1c4(_) => &["a", "b", "c", "d"],
-            Made::Row(RowVolume::V1 | RowVolume::V1d) | Made::OverSuper => &["a"],
+            Made::OverSuper => &["a"],
+            Made::Row(RowVolume::V1 | RowVolume::V1d | RowVolume::N) => &["a"],
             _ => &["a", "b", "c"],
         }
     }

@@ -2,7 +2,7 @@ use Rattle.std.proofs.Common.{◌≡◌, ◌≤◌}
 use Rattle.std.specs.Prelude.{Contains}
 use Rattle.btr_chunk.specs.declared.chunk.Chunk.{Chunk}
 use Rattle.btr_read.specs.Store.{free_count}
-use Rattle.btr_walk.specs.ScanEnds.{IsReady, rank_of, without_leaf}
+use Rattle.btr_walk.specs.ScanEnds.{IsScanReady, rank_of, without_leaf}
 use Rattle.btr_files.specs.Sums.{tree_behind}
 use Rattle.btr_scrub.specs.Extents.{span_of}
 use Rattle.btr_scrub.specs.Gathering.{scene}
@@ -12,7 +12,7 @@ use Rattle.btr_scrub.proofs.collecting.gather_items.Given as goal
 
 abbrev pub invariant-loop-fault : goal.invariant-loop-fault
 invariant-loop-fault g l = record {
-  ready : IsReady (g.R.Rack.seen l.rack) l.vol.store l.scan;
+  ready : IsScanReady (g.R.Rack.seen l.rack) l.vol.store l.scan;
   room : 5 ≤ free_count (without_leaf l.vol.store l.scan);
   sup : l.vol.sup ≡ l.fn.vol.sup;
   layout : l.vol.store.layout ≡ l.fn.vol.store.layout;

@@ -1,7 +1,7 @@
 use Rattle.btr_scrub_copies.proofs.Doing.{only_slots}
 use Rattle.btr_scrub_copies.specs.Blocks.{block_writes}
 use Rattle.btr_scrub_copies.specs.Mending.{mended_of}
-use Rattle.btr_scrub.specs.Leaves.{alone}
+use Rattle.btr_scrub.specs.WrittenRanges.{alone}
 use Rattle.btr_scrub.specs.Scrubbing.{counted}
 use Rattle.btr_scrub.proofs.Positions.{copy_in_stripe, is_sought}
 use Rattle.btr_scrub.proofs.Scrubbing.{can_mend_then, scrubs_not, scrubs_one}

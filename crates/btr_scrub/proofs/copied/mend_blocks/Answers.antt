@@ -11,7 +11,7 @@ use Rattle.btr_read.proofs.Serving.{serving}
 use Rattle.btr_scrub_copies.specs.Mending.{IsCopied}
 use Rattle.btr_scrub_copies.proofs.Copied.{same_loans_then}
 use Rattle.btr_scrub_row.specs.Wanted.{mending_writes}
-use Rattle.btr_scrub.specs.Leaves.{alone}
+use Rattle.btr_scrub.specs.WrittenRanges.{alone}
 use Rattle.btr_scrub.specs.Judged.{has_behind}
 use Rattle.btr_scrub.specs.Order.{AreApart, targets}
 use Rattle.btr_scrub_copies.specs.Fresh.{flagged}

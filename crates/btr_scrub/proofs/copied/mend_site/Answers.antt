@@ -3,7 +3,7 @@ use Rattle.btr_read.specs.Fate.{is_plain}
 use Rattle.btr_scrub_copies.specs.Blocks.{block_writes}
 use Rattle.btr_scrub_copies.specs.Mending.{mended_of}
 use Rattle.btr_scrub_copies.specs.Fresh.{flagged, fresh_writes, freshened}
-use Rattle.btr_scrub.specs.Leaves.{alone}
+use Rattle.btr_scrub.specs.WrittenRanges.{alone}
 use Rattle.btr_scrub.specs.Scrubbing.{Scrubs, counted, counted_plain}
 use Rattle.btr_read.proofs.Fates.{sought_of}
 use Rattle.btr_scrub.proofs.copied.mend_site.Goals as goal

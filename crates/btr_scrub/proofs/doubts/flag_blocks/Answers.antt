@@ -1,4 +1,4 @@
-use Rattle.std.proofs.Common.{IfSome, Err, refl, subst, arith}
+use Rattle.std.proofs.Common.{◌-◌, ◌^◌, IfSome, Err, refl, subst, arith}
 use Rattle.btr_rack.proofs.Reading.{reads_more}
 use Rattle.btr_read.specs.Fate.{sought}
 use Rattle.btr_read.proofs.Keeping.{none_more}
@@ -6,8 +6,8 @@ use Rattle.btr_read.proofs.ReadsOn.{open_still, same_held, same_sure}
 use Rattle.btr_scrub_copies.proofs.Doing.{account_then}
 use Rattle.btr_scrub.specs.Doubts.{fails_on}
 use Rattle.btr_scrub.specs.Judged.{Flags}
-use Rattle.btr_scrub.specs.Leaves.{LiesInStripe}
-use Rattle.btr_scrub.proofs.Doubting.{looked_done, looked_first, looked_more, looks_next, parts_in_stripe, the_sought}
+use Rattle.btr_scrub.specs.WrittenRanges.{LiesInStripe}
+use Rattle.btr_scrub.proofs.Doubting.{looked_done, looked_first, looked_more, looked_passed, looks_next, parts_in_stripe, the_sought}
 use Rattle.btr_scrub.proofs.Positions.{is_sought}
 use Rattle.btr_scrub.proofs.doubts.flag_blocks.Goals as goal
 
@@ -44,10 +44,12 @@ loop-want-preserved g c =
       ready = c.in-Ok.ensures.ready;
       reads = reads_more c.loop-want.invariant.reads c.in-Ok.ensures.reads;
       account = none_more a.account b.account d.account c.loop-want.invariant.account (c.in-Ok.ensures.account t.0 t.1);
-      looked = looked_more layout a.held c.args.blocks.now c.loop-want.blocks c.args.probe.now.failing.items mid new want c.next.new.self t.0
+      looked = looked_passed layout a.held c.args.blocks.now c.args.probe.now.failing.items new c.is_plain.result c.next.new.self (2 ^ 64 - 1)
+          c.pass_if.new.blocks c.pass_if.ensures
+          (looked_more layout a.held c.args.blocks.now c.loop-want.blocks c.args.probe.now.failing.items mid new want c.next.new.self t.0
           c.in-Some.ensures t.1 c.loop-want.invariant.looked
           (subst (λ held. IfSome held (λ images. Flags mid (λ slot. fails_on images slot t.0) new)) (same_held c.loop-want.invariant.reads)
-          (c.in-Ok.ensures.flags t.0 t.1));
+          (c.in-Ok.ensures.flags t.0 t.1)));
     }
 
 pub returns-in-Err-clause-reads : goal.returns-in-Err-clause-reads

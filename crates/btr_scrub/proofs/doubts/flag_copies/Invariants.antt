@@ -5,12 +5,12 @@ use Rattle.btr_rack.specs.Rack.{NoneFailed, OnlyReads}
 use Rattle.btr_read.specs.Candidates.{Target}
 use Rattle.btr_read.specs.Fate.{sought}
 use Rattle.btr_scrub.specs.Doubts.{fails_at}
-use Rattle.btr_scrub.specs.Judged.{Flags, IsReady}
+use Rattle.btr_scrub.specs.Judged.{Flags, HasRoom}
 use Rattle.btr_scrub.proofs.doubts.flag_copies.Given as goal
 
 abbrev pub invariant-loop-mirror : goal.invariant-loop-mirror
 invariant-loop-mirror g l = record {
-  ready : IsReady l.nodesize (g.R.Rack.seen l.rack) l.probe;
+  ready : HasRoom l.nodesize (g.R.Rack.seen l.rack) l.probe;
   reads : OnlyReads (g.R.Rack.seen l.initial.rack) (g.R.Rack.seen l.rack);
   account : NoneFailed (g.R.Rack.seen l.initial.rack).account (g.R.Rack.seen l.rack).account;
   flags : (t : Target) → sought l.store.layout l.want ≡ Ok t → IfSome (g.R.Rack.seen l.initial.rack).held

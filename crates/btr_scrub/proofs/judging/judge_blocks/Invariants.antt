@@ -1,13 +1,13 @@
-use Rattle.std.proofs.Common.{length}
+use Rattle.std.proofs.Common.{ℕ, length}
 use Rattle.btr_walk.specs.declared.fault.TreeFault.{TreeFault}
 use Rattle.btr_scrub.specs.Judging.{IsFirstRefused}
-use Rattle.btr_scrub.specs.Order.{AreApart}
+use Rattle.btr_scrub.specs.Order.{AreUpTo}
 use Rattle.btr_scrub.proofs.judging.judge_blocks.Given as goal
 
 abbrev pub invariant-loop-want : goal.invariant-loop-want
 invariant-loop-want l = record {
-  ahead : AreApart l.store.layout l.end l.blocks → AreApart l.store.layout 0 l.initial.blocks;
-  refused : (fault : TreeFault) → IsFirstRefused l.store.layout l.end l.blocks fault → IsFirstRefused l.store.layout 0 l.initial.blocks fault;
+  ahead : (to : ℕ) → AreUpTo l.store.layout l.end to l.blocks → AreUpTo l.store.layout l.from to l.initial.blocks;
+  refused : (fault : TreeFault) → IsFirstRefused l.store.layout l.end l.blocks fault → IsFirstRefused l.store.layout l.from l.initial.blocks fault;
 }
 
 abbrev pub decreases-loop-want : goal.decreases-loop-want

@@ -4,7 +4,7 @@ use Rattle.btr_chunk.specs.declared.chunk.Chunk.{Chunk}
 use Rattle.btr_read.specs.Layout.{Layout}
 use Rattle.btr_read.proofs.Serving.{serving}
 use Rattle.btr_scrub_copies.proofs.Copied.{same_loans_then}
-use Rattle.btr_scrub.specs.Leaves.{alone}
+use Rattle.btr_scrub.specs.WrittenRanges.{alone}
 use Rattle.btr_scrub.specs.Order.{AreApart}
 use Rattle.btr_scrub.specs.Scrubbing.{HasRooms, IsPastChunk, Works, all_count_for, all_writes_for, chunk_count_for, chunk_writes_for}
 use Rattle.btr_scrub_copies.specs.Fresh.{flagged}

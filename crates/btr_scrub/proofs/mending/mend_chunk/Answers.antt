@@ -2,7 +2,7 @@ use Rattle.std.proofs.Common.{◌≡◌, Bool, true, false, cond, is_none, IsSom
 use Rattle.btr_chunk.specs.Chunk.{mirrors}
 use Rattle.btr_chunk.specs.declared.chunk.Chunk.{Chunk}
 use Rattle.btr_scrub_copies.specs.Fresh.{flagged}
-use Rattle.btr_scrub.specs.Leaves.{alone}
+use Rattle.btr_scrub.specs.WrittenRanges.{alone}
 use Rattle.btr_scrub.specs.Order.{targets}
 use Rattle.btr_scrub.specs.Repair.{rows_in}
 use Rattle.btr_scrub.specs.Scrubbing.{Scrubs, sites_count, sites_in, sites_writes, rows_count, rows_writes}

@@ -3,7 +3,7 @@ use Rattle.btr_rack.specs.Rack.{Seen}
 use Rattle.btr_scrub_copies.specs.Writes.{Images}
 use Rattle.btr_scrub_row.specs.Mending.{IsRowOf, mended_row}
 use Rattle.btr_scrub_row.specs.Rows.{row_writes}
-use Rattle.btr_scrub.specs.Leaves.{alone}
+use Rattle.btr_scrub.specs.WrittenRanges.{alone}
 use Rattle.btr_scrub.specs.Rowing.{IsCalm, untouched}
 use Rattle.btr_scrub.specs.Scrubbing.{Scrubs, counted_row}
 use Rattle.btr_scrub.specs.declared.tally.Tally.{Tally}

@@ -10,7 +10,7 @@ use Rattle.btr_read.proofs.Serving.{serving}
 use Rattle.btr_scrub_copies.proofs.Copied.{same_loans_then}
 use Rattle.btr_scrub_row.specs.Mending.{IsRow, IsRowOf, mended_row}
 use Rattle.btr_scrub_row.specs.Rows.{Row, row_writes}
-use Rattle.btr_scrub.specs.Leaves.{alone}
+use Rattle.btr_scrub.specs.WrittenRanges.{alone}
 use Rattle.btr_scrub.specs.Order.{AreApart, targets}
 use Rattle.btr_scrub.specs.Repair.{row_of}
 use Rattle.btr_scrub.specs.Scrubbing.{BeginsBehind, HasRooms, IsPastChunk, Scrubs, counted_row}

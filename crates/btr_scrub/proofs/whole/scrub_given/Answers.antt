@@ -1,50 +1,87 @@
-use Rattle.std.proofs.Common.{[], Ok, refl, sym, ap, ◌∙◌, subst, arith}
+use Rattle.std.proofs.Common.{◌+◌, [], Ok, refl, sym, ap, ◌∙◌, subst, arith}
+use Rattle.std.specs.Prelude.{count_by}
 use Rattle.btr_prog.specs.Answers.{Follows, no_part}
 use Rattle.btr_prog.specs.Prog.{exec}
 use Rattle.btr_read.specs.Layout.{Layout}
 use Rattle.btr_walk.specs.Reading.{unread_by}
 use Rattle.btr_walk.proofs.Joined.{drawn}
 use Rattle.btr_scrub.specs.Gathering.{wants_among}
-use Rattle.btr_scrub.specs.Judging.{IsFirstRefused}
+use Rattle.btr_scrub.specs.Listed.{kept_wants}
 use Rattle.btr_scrub.specs.Order.{AreApart}
+use Rattle.btr_scrub.specs.Repair.{is_unchecked}
+use Rattle.btr_scrub.specs.Sifting.{Judges, begun}
 use Rattle.btr_scrub.specs.Units.{units_in}
+use Rattle.btr_scrub.specs.Whole.{Listed, Refused, WorksFrom, first_tally}
 use Rattle.btr_scrub.proofs.Refusing.{not_apart}
-use Rattle.btr_scrub.proofs.Unitwise.{units_apart}
-use Rattle.btr_scrub.specs.Whole.{Refused, Stopped}
+use Rattle.btr_scrub.proofs.Unitwise.{between_apart, units_apart}
+use Rattle.btr_scrub.proofs.KeptWorks.{counts_stand, scrubs_memory, scrubs_stopped, works_kept}
 use Rattle.btr_scrub.proofs.whole.scrub_given.Goals as goal
 
-pub returns-in-Err-clause-scrubs : goal.returns-in-Err-clause-scrubs
-returns-in-Err-clause-scrubs g c = record {
-  mid = g.R.Rack.seen c.list_blocks.new.rack;
-  reads = c.in-Err.ensures.reads;
-  done = c.in-Err.ensures.lists.done;
-  listing = Stopped c.in-Err.stop;
-  goes = (refl, refl, c.in-Err.ensures.lists.content, c.in-Err.ensures.lists.cause);
-}
+pub returns-in_default-clause-scrubs : goal.returns-in_default-clause-scrubs
+returns-in_default-clause-scrubs g c = scrubs_memory c.args.vol.now.sup c.args.vol.now.store.layout c.args.write (g.R.Rack.seen c.args.rack.now)
 
-pub returns-in-Err-judge_blocks-clause-scrubs : goal.returns-in-Err-judge_blocks-clause-scrubs
-returns-in-Err-judge_blocks-clause-scrubs g c =
+pub returns-in_default-vec-clause-scrubs : goal.returns-in_default-vec-clause-scrubs
+returns-in_default-vec-clause-scrubs g c = scrubs_memory c.args.vol.now.sup c.args.vol.now.store.layout c.args.write (g.R.Rack.seen c.args.rack.now)
+
+pub returns-in-Err-clause-scrubs : goal.returns-in-Err-clause-scrubs
+returns-in-Err-clause-scrubs g c =
+    scrubs_stopped c.args.vol.now.sup c.args.vol.now.store.layout c.args.write (g.R.Rack.seen c.args.rack.now) (g.R.Rack.seen c.sift_blocks.new.rack) c.in-Err.stop
+    c.in-Err.ensures.reads c.in-Err.ensures.sifts
+
+pub mend_kept-requires-clause-apart : goal.mend_kept-requires-clause-apart
+mend_kept-requires-clause-apart g c =
+    let layout = c.args.vol.now.store.layout in
+    let sieve = c.in-Ok-sift_blocks.sieve in
+    let is = c.in-Ok-sift_blocks.ensures.sifts in
+    let judged = subst (Judges layout (g.R.Rack.seen c.sift_blocks.new.rack).held (wants_among is.0) sieve) c.in-None.is is.1.judged in
+    subst (λ (l : Layout). AreApart l 0 (kept_wants sieve.sifted.kept)) (sym c.in-Ok-sift_blocks.ensures.volume.store.layout)
+    (between_apart layout 0 sieve.end (kept_wants sieve.sifted.kept) judged.kept_apart)
+
+pub returns-in-Some-clause-scrubs : goal.returns-in-Some-clause-scrubs
+returns-in-Some-clause-scrubs g c =
     let s = c.args.vol.now.sup in
     let layout = c.args.vol.now.store.layout in
     let old = g.R.Rack.seen c.args.rack.now in
-    let mid = g.R.Rack.seen c.list_blocks.new.rack in
-    let lists = c.in-Ok.ensures.lists in
-    let listed = lists.lists in
-    let fault = c.in-Err-judge_blocks.fault in
-    let judged = subst (λ (l : Layout). IsFirstRefused l 0 c.read_all-blocks.result fault) c.in-Ok.ensures.volume.store.layout c.in-Err-judge_blocks.ensures in
-    let refused = subst (λ wants. IsFirstRefused layout 0 wants fault) (c.read_all-blocks.ensures ∙ listed.wants) judged in
+    let mid = g.R.Rack.seen c.sift_blocks.new.rack in
+    let is = c.in-Ok-sift_blocks.ensures.sifts in
+    let fault = c.in-Some.fault in
+    let refused = subst (Judges layout mid.held (wants_among is.0) c.in-Ok-sift_blocks.sieve) c.in-Some.is is.1.judged in
     record {
       mid = mid;
-      reads = c.in-Ok.ensures.reads;
-      done = lists.done;
+      reads = c.in-Ok-sift_blocks.ensures.reads;
+      done = is.0;
       listing = Refused fault;
       goes = (
         refl,
         refl,
         refused,
-        drawn layout (λ B. Follows (unread_by layout old mid) no_part [] (exec B (units_in s layout.chunks)) lists.done (Ok tt)) (λ B. ⊥)
-            (λ B f. not_apart layout 0 (wants_among lists.done) fault refused (subst (AreApart layout 0) (ap wants_among (sym f.0))
+        drawn layout (λ B. Follows (unread_by layout old mid) no_part [] (exec B (units_in s layout.chunks)) is.0 (Ok tt)) (λ B. ⊥)
+            (λ B f. not_apart layout 0 (wants_among is.0) fault refused (subst (AreApart layout 0) (ap wants_among (sym f.0))
             (units_apart s layout c.requires.table c.requires.nodesize (omega (arith, c.requires.large)) B)))
-            lists.content,
+            is.2,
+      );
+    }
+
+pub returns-in-None-clause-scrubs : goal.returns-in-None-clause-scrubs
+returns-in-None-clause-scrubs g c =
+    let layout = c.args.vol.now.store.layout in
+    let mid = g.R.Rack.seen c.sift_blocks.new.rack in
+    let new = g.R.Rack.seen c.mend_kept.new.rack in
+    let sieve = c.in-Ok-sift_blocks.sieve in
+    let kept = kept_wants sieve.sifted.kept in
+    let is = c.in-Ok-sift_blocks.ensures.sifts in
+    let judged = subst (Judges layout mid.held (wants_among is.0) sieve) c.in-None.is is.1.judged in
+    let works = subst (λ (l : Layout). WorksFrom l c.args.write kept (begun sieve.sifted.sound sieve.unchecked) mid new c.mend_kept.result)
+    c.in-Ok-sift_blocks.ensures.volume.store.layout c.mend_kept.ensures.works in
+    record {
+      mid = mid;
+      reads = c.in-Ok-sift_blocks.ensures.reads;
+      done = is.0;
+      listing = Listed;
+      goes = (
+        is.2,
+        subst (λ n. WorksFrom layout c.args.write (wants_among is.0) (first_tally n) mid new c.mend_kept.result) is.1.unchecked
+            (works_kept layout c.args.write kept (wants_among is.0) sieve.sifted.sound sieve.unchecked mid new c.requires.table judged.needed judged.sound
+            (0 + count_by is_unchecked is.0) (is.1.unchecked ∙ counts_stand is.0) c.mend_kept.result works),
       );
     }

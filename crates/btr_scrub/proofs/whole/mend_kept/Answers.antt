@@ -1,57 +1,32 @@
-use Rattle.std.proofs.Common.{Bool, length, Ok, Err, refl, sym, ap, subst, arith}
+use Rattle.std.proofs.Common.{Bool, length, Ok, Err, refl, sym, ap, ◌∙◌, subst}
 use Rattle.std.specs.declared.vec.Vec.{Vec}
 use Rattle.std.specs.declared.alloc.Global.{Global}
 use Rattle.btr_scrub_copies.specs.Writes.{AreWritable}
-use Rattle.btr_scrub_copies.specs.declared.mended.MendFault.TheVariants.{Memory}
 use Rattle.btr_read.proofs.ReadsOn.{same_held, same_slots}
 use Rattle.btr_read.proofs.Serving.{serves_as, serving}
 use Rattle.btr_scrub.specs.Listed.{kept_wants}
 use Rattle.btr_scrub_copies.specs.Fresh.{flagged}
 use Rattle.btr_scrub.specs.Scrubbing.{Works, all_count_for, all_writes_for}
-use Rattle.btr_scrub.specs.Whole.{first_tally, listed_count_for, listed_writes_for}
+use Rattle.btr_scrub.specs.Sifting.{begun}
+use Rattle.btr_scrub.specs.Whole.{listed_count_for, listed_writes_for}
 use Rattle.btr_scrub.proofs.Sufficing.{works_beside, works_missed}
-use Rattle.btr_scrub.proofs.Working.{works_nothing}
-use Rattle.btr_scrub.proofs.whole.mend_listed.Goals as goal
-
-pub returns-in_default-clause-works : goal.returns-in_default-clause-works
-returns-in_default-clause-works g c =
-    let layout = c.args.vol.now.store.layout in
-    let wants = kept_wants c.args.gathered.list in
-    record {
-      tally = first_tally c.args.gathered.unchecked;
-      ended = Err Memory;
-      works = works_nothing layout c.args.write (listed_writes_for layout wants)
-          (listed_count_for layout c.args.write wants) (g.R.Rack.seen c.args.rack.now) (first_tally c.args.gathered.unchecked);
-      says = refl;
-    }
-
-pub returns-in_default-vec-clause-works : goal.returns-in_default-vec-clause-works
-returns-in_default-vec-clause-works g c =
-    let layout = c.args.vol.now.store.layout in
-    let wants = kept_wants c.args.gathered.list in
-    record {
-      tally = first_tally c.args.gathered.unchecked;
-      ended = Err Memory;
-      works = works_nothing layout c.args.write (listed_writes_for layout wants)
-          (listed_count_for layout c.args.write wants) (g.R.Rack.seen c.args.rack.now) (first_tally c.args.gathered.unchecked);
-      says = refl;
-    }
+use Rattle.btr_scrub.proofs.whole.mend_kept.Goals as goal
 
 pub failing_images-requires-clause-open : goal.failing_images-requires-clause-open
-failing_images-requires-clause-open g c = (serving (g.R.Rack.seen c.args.rack.now) c.args.vol.now.store c.requires.serves).are_open
+failing_images-requires-clause-open g c = (serving (g.R.Rack.seen c.args.rack.now) c.args.vol.now.store c.requires.ready.serves).are_open
 
 pub returns-in-Err-clause-serves : goal.returns-in-Err-clause-serves
 returns-in-Err-clause-serves g c =
     let store = c.args.vol.now.store in
     let reads = c.in-Err.ensures.reads in
     serves_as (g.R.Rack.seen c.args.rack.now) (g.R.Rack.seen c.failing_images.new.rack) store store (same_slots reads)
-    (same_held reads) refl refl c.requires.serves
+    (same_held reads) refl refl c.requires.ready.serves
 
 pub returns-in-Err-clause-works : goal.returns-in-Err-clause-works
 returns-in-Err-clause-works g c =
     let layout = c.args.vol.now.store.layout in
-    let wants = kept_wants c.args.gathered.list in
-    let start = first_tally c.args.gathered.unchecked in
+    let wants = kept_wants c.args.sieve.sifted.kept in
+    let start = begun c.args.sieve.sifted.sound c.args.sieve.unchecked in
     record {
       tally = start;
       ended = Err c.in-Err.fault;
@@ -65,70 +40,70 @@ returns-in-Err-clause-works g c =
 pub mend_all-requires-clause-ready : goal.mend_all-requires-clause-ready
 mend_all-requires-clause-ready g c =
     let store = c.args.vol.now.store in
-    let reads = c.in-Ok-failing_images.ensures.reads in
+    let reads = c.in-Ok.ensures.reads in
     record {
       serves = serves_as (g.R.Rack.seen c.args.rack.now) (g.R.Rack.seen c.failing_images.new.rack) store store (same_slots reads)
-          (same_held reads) refl refl c.requires.serves;
-      room = c.requires.room;
-      writable = λ w. subst AreWritable (sym (same_slots reads)) (c.requires.writable w);
-      slots = omega (arith, c.count.ensures, c.deref_mut.ensures.len, c.in-Ok-vec.ensures.len, ap length (same_slots reads));
-      table = c.in-Ok.ensures.table;
-      given = c.requires.given;
+          (same_held reads) refl refl c.requires.ready.serves;
+      room = c.requires.ready.room;
+      writable = λ w. subst AreWritable (sym (same_slots reads)) (c.requires.ready.writable w);
+      slots = c.requires.ready.slots ∙ sym (ap length (same_slots reads));
+      table = c.requires.ready.table;
+      given = c.requires.ready.given;
     }
 
 pub returns-in-Ok-mend_all-clause-works : goal.returns-in-Ok-mend_all-clause-works
 returns-in-Ok-mend_all-clause-works g c =
     let layout = c.args.vol.now.store.layout in
-    let wants = kept_wants c.args.gathered.list in
+    let wants = kept_wants c.args.sieve.sifted.kept in
     let a = g.R.Rack.seen c.args.rack.now in
     let b = g.R.Rack.seen c.failing_images.new.rack in
     let z = g.R.Rack.seen c.mend_all.new.rack in
-    let flags = c.in-Ok-failing_images.failing.items in
+    let flags = c.in-Ok.failing.items in
     let kept = flagged flags in
-    let was = serving a c.args.vol.now.store c.requires.serves in
-    let start = first_tally c.args.gathered.unchecked in
+    let was = serving a c.args.vol.now.store c.requires.ready.serves in
+    let start = begun c.args.sieve.sifted.sound c.args.sieve.unchecked in
     let end = c.mend_all.new.tally in
     let flagged_so = subst (λ fs. Works {A = Unit {0}} layout c.args.write (all_writes_for (flagged fs) layout layout.chunks c.read_all-blocks.result)
-    (all_count_for (flagged fs) layout c.args.write layout.chunks c.read_all-blocks.result) b z c.first_tally-tally.result end (Ok tt))
+    (all_count_for (flagged fs) layout c.args.write layout.chunks c.read_all-blocks.result) b z c.begun-tally.result end (Ok tt))
     c.deref.ensures.value c.in-Ok-mend_all.ensures.works in
     let listed = subst (λ ws. Works {A = Unit {0}} layout c.args.write (all_writes_for kept layout layout.chunks ws)
-    (all_count_for kept layout c.args.write layout.chunks ws) b z c.first_tally-tally.result end (Ok tt))
+    (all_count_for kept layout c.args.write layout.chunks ws) b z c.begun-tally.result end (Ok tt))
     c.read_all-blocks.ensures flagged_so in
     let begun = subst (λ t. Works {A = Unit {0}} layout c.args.write (all_writes_for kept layout layout.chunks wants)
-    (all_count_for kept layout c.args.write layout.chunks wants) b z t end (Ok tt)) c.first_tally-tally.ensures listed in
+    (all_count_for kept layout c.args.write layout.chunks wants) b z t end (Ok tt)) c.begun-tally.ensures listed in
     record {
       tally = end;
       ended = Ok tt;
       works = works_beside layout c.args.write wants flags a b z start end
-          (Ok tt) c.in-Ok.ensures.table was.own_slots c.requires.given c.in-Ok-failing_images.ensures.reads c.in-Ok-failing_images.ensures.account c.in-Ok-failing_images.ensures.flags begun;
+          (Ok tt) c.requires.ready.table was.own_slots c.requires.ready.given c.in-Ok.ensures.reads c.in-Ok.ensures.account c.in-Ok.ensures.flags begun;
       says = refl;
     }
 
 pub returns-clause-works : goal.returns-clause-works
 returns-clause-works g c =
     let layout = c.args.vol.now.store.layout in
-    let wants = kept_wants c.args.gathered.list in
+    let wants = kept_wants c.args.sieve.sifted.kept in
     let a = g.R.Rack.seen c.args.rack.now in
     let b = g.R.Rack.seen c.failing_images.new.rack in
     let z = g.R.Rack.seen c.mend_all.new.rack in
-    let flags = c.in-Ok-failing_images.failing.items in
+    let flags = c.in-Ok.failing.items in
     let kept = flagged flags in
-    let was = serving a c.args.vol.now.store c.requires.serves in
-    let start = first_tally c.args.gathered.unchecked in
+    let was = serving a c.args.vol.now.store c.requires.ready.serves in
+    let start = begun c.args.sieve.sifted.sound c.args.sieve.unchecked in
     let end = c.mend_all.new.tally in
     let fault = c.in-Err-mend_all.fault in
     let flagged_so = subst (λ fs. Works {A = Unit {0}} layout c.args.write (all_writes_for (flagged fs) layout layout.chunks c.read_all-blocks.result)
-    (all_count_for (flagged fs) layout c.args.write layout.chunks c.read_all-blocks.result) b z c.first_tally-tally.result end (Err fault))
+    (all_count_for (flagged fs) layout c.args.write layout.chunks c.read_all-blocks.result) b z c.begun-tally.result end (Err fault))
     c.deref.ensures.value c.in-Err-mend_all.ensures.works in
     let listed = subst (λ ws. Works {A = Unit {0}} layout c.args.write (all_writes_for kept layout layout.chunks ws)
-    (all_count_for kept layout c.args.write layout.chunks ws) b z c.first_tally-tally.result end (Err fault))
+    (all_count_for kept layout c.args.write layout.chunks ws) b z c.begun-tally.result end (Err fault))
     c.read_all-blocks.ensures flagged_so in
     let begun = subst (λ t. Works {A = Unit {0}} layout c.args.write (all_writes_for kept layout layout.chunks wants)
-    (all_count_for kept layout c.args.write layout.chunks wants) b z t end (Err fault)) c.first_tally-tally.ensures listed in
+    (all_count_for kept layout c.args.write layout.chunks wants) b z t end (Err fault)) c.begun-tally.ensures listed in
     record {
       tally = end;
       ended = Err fault;
       works = works_beside layout c.args.write wants flags a b z start end
-          (Err fault) c.in-Ok.ensures.table was.own_slots c.requires.given c.in-Ok-failing_images.ensures.reads c.in-Ok-failing_images.ensures.account c.in-Ok-failing_images.ensures.flags begun;
+          (Err fault) c.requires.ready.table was.own_slots c.requires.ready.given c.in-Ok.ensures.reads c.in-Ok.ensures.account c.in-Ok.ensures.flags begun;
       says = c.stop_of-in-Err-mend_all.ensures end;
     }

@@ -1,0 +1,85 @@
+-- What came of the blocks that are kept is what comes of all.
+use Rattle.std.proofs.Common.{◌≡◌, ℕ, ◌+◌, Bool, List, [], Some, IfSome, Result, Err, refl, sym, ap, ◌∙◌}
+use Rattle.std.specs.Prelude.{count_by, fold}
+use Rattle.btr_chunk.specs.Table.{IsTable}
+use Rattle.btr_prog.specs.Answers.{Broke, Follows, no_part}
+use Rattle.btr_prog.specs.Prog.{exec}
+use Rattle.btr_prog.proofs.Follow.{broke_here}
+use Rattle.btr_rack.specs.Rack.{OnlyReads, Seen}
+use Rattle.btr_rack.proofs.Reading.{reads_none}
+use Rattle.btr_read.specs.Layout.{Layout}
+use Rattle.btr_read.specs.declared.want.Want.{Want}
+use Rattle.btr_super.specs.declared.superblock.Super.{Super}
+use Rattle.btr_walk.specs.Reading.{unread_by}
+use Rattle.btr_volume.specs.declared.stop.Stop.{Stop}
+use Rattle.btr_volume.specs.declared.stop.Stop.TheVariants as stop
+use Rattle.btr_scrub_copies.specs.Writes.{Images}
+use Rattle.btr_scrub.specs.Repair.{is_unchecked, stood}
+use Rattle.btr_scrub.specs.Gathering.{count_met}
+use Rattle.btr_scrub.specs.Sifting.{SiftsUnits, begun, kept_of, left_out}
+use Rattle.btr_scrub.specs.Units.{Met, units_in}
+use Rattle.btr_scrub.specs.Whole.{Failed, ScrubsAll, Stopped, WorksFrom, first_tally, listed_count_for, listed_writes_for}
+use Rattle.btr_scrub.specs.declared.tally.Tally.{Tally}
+use Rattle.btr_scrub.proofs.Scrubbing.{told}
+use Rattle.btr_scrub.proofs.Sieved.{tells_all}
+use Rattle.btr_scrub.proofs.Sifting.{kept_counts, kept_writes}
+use Rattle.btr_scrub.proofs.Tallying.{unchecked_among}
+use Rattle.btr_scrub.proofs.Working.{works_as}
+
+module _ (layout : Layout) (write : Bool) (kept wants : List Want) (sound unchecked : ℕ) (b z : Seen) (table : IsTable layout.chunks) (needed : IfSome b.held (λ images. kept ≡ kept_of images layout wants)) (many : IfSome b.held (λ images. sound ≡ stood (left_out images layout wants))) (bare : ℕ) (bares : unchecked ≡ stood bare) where
+  same_writes : (images : Images) → b.held ≡ Some images → listed_writes_for layout kept images ≡ listed_writes_for layout wants images
+  same_writes images e = ap (λ ks. listed_writes_for layout ks images) (told b.held (λ images. kept ≡ kept_of images layout wants) images e needed) ∙ kept_writes images layout wants table
+
+  same_counts : (images : Images) → b.held ≡ Some images → listed_count_for layout write kept images (begun sound unchecked) ≡ listed_count_for layout write wants images (first_tally unchecked)
+  same_counts images e =
+      ap (λ ks. listed_count_for layout write ks images (begun sound unchecked)) (told b.held (λ images. kept ≡ kept_of images layout wants) images e needed)
+      ∙ ap (λ n. listed_count_for layout write (kept_of images layout wants) images (begun n unchecked)) (told b.held (λ images. sound ≡ stood (left_out images layout wants)) images e many)
+      ∙ ap (λ n. listed_count_for layout write (kept_of images layout wants) images (begun (stood (left_out images layout wants)) n)) bares
+      ∙ kept_counts images layout write wants bare table
+      ∙ ap (λ n. listed_count_for layout write wants images (first_tally n)) (sym bares)
+
+  pub works_kept : (r : Result Tally Stop) → WorksFrom layout write kept (begun sound unchecked) b z r → WorksFrom layout write wants (first_tally unchecked) b z r
+  works_kept r h =
+      let all = works_as layout write (listed_writes_for layout kept) (listed_writes_for layout wants) (listed_count_for layout write kept)
+      (λ images t. listed_count_for layout write wants images (first_tally unchecked)) b z (begun sound unchecked) h.tally h.ended
+      (λ images e. (same_writes images e, same_counts images e)) h.works in
+      record {
+        tally = h.tally;
+        ended = h.ended;
+        works = record { does = all.does; counts = all.counts; synced = all.synced; waits = all.waits; stranded = all.stranded; unwritten = all.unwritten };
+        says = h.says;
+      }
+
+-- a count of the sectors without a checksum stands still
+pub counts_stand : (done : List Met) → fold count_met 0 done ≡ stood (0 + count_by is_unchecked done)
+counts_stand done = unchecked_among done 0
+
+-- ---- stops
+
+module _ (s : Super) (layout : Layout) (write : Bool) (a b : Seen) where
+  pub scrubs_stopped : (why : Stop) → OnlyReads a b → SiftsUnits (units_in s layout.chunks) layout a b (Err why) → ScrubsAll s layout write a b (Err why)
+  scrubs_stopped (stop.NoTree id) reads k = record { mid = b; reads = reads; done = k.0; listing = Stopped (stop.NoTree id); goes = (refl, refl, k.1, k.2) }
+  scrubs_stopped (stop.Tree f) reads k = record { mid = b; reads = reads; done = k.0; listing = Stopped (stop.Tree f); goes = (refl, refl, k.1, k.2) }
+  scrubs_stopped (stop.Deletion id) reads k = record { mid = b; reads = reads; done = k.0; listing = Stopped (stop.Deletion id); goes = (refl, refl, k.1, k.2) }
+  scrubs_stopped stop.Balance reads k = record { mid = b; reads = reads; done = k.0; listing = Stopped stop.Balance; goes = (refl, refl, k.1, k.2) }
+  scrubs_stopped (stop.Missing id) reads k = record { mid = b; reads = reads; done = k.0; listing = Stopped (stop.Missing id); goes = (refl, refl, k.1, k.2) }
+  scrubs_stopped (stop.Image slot) reads k = record { mid = k.mid; reads = k.before; done = []; listing = Failed slot; goes = (refl, k.reads, k.failed) }
+  scrubs_stopped stop.Sink reads k = record { mid = b; reads = reads; done = k.0; listing = Stopped stop.Sink; goes = (refl, refl, k.1, k.2) }
+  scrubs_stopped stop.Out reads k = record { mid = b; reads = reads; done = k.0; listing = Stopped stop.Out; goes = (refl, refl, k.1, k.2) }
+  scrubs_stopped stop.Memory reads k = record { mid = b; reads = reads; done = k.0; listing = Stopped stop.Memory; goes = (refl, refl, k.1, k.2) }
+
+-- no memory was had before the first call
+pub scrubs_memory : (s : Super) (layout : Layout) (write : Bool) (a : Seen) → ScrubsAll s layout write a a (Err stop.Memory)
+scrubs_memory s layout write a = record {
+  mid = a;
+  reads = reads_none a;
+  done = [];
+  listing = Stopped stop.Memory;
+  goes = (
+    refl,
+    refl,
+    tells_all layout a a (λ B. Follows (unread_by layout a a) no_part [] (exec B (units_in s layout.chunks)) [] (Err Broke)) (reads_none a)
+        (λ B. broke_here (unread_by layout a a) no_part [] (exec B (units_in s layout.chunks))),
+    tt,
+  );
+}

@@ -1,0 +1,227 @@
+-- Calls that list blocks and sift them, one after another.
+use Rattle.std.proofs.Common.{◌≡◌, ℕ, List, [], ◌++◌, Option, Some, None, Result, Ok, Err, refl, sym, ap, ◌∙◌, subst, arith}
+use Rattle.std.specs.Prelude.{fold}
+use Rattle.btr_prog.specs.Answers.{Broke, Follows, no_part}
+use Rattle.btr_prog.specs.Calls.{Sure}
+use Rattle.btr_prog.specs.Prog.{bind, exec}
+use Rattle.btr_prog.proofs.Follow.{broke_here}
+use Rattle.btr_rack.specs.Rack.{OnlyReads, Seen}
+use Rattle.btr_rack.proofs.Reading.{reads_more}
+use Rattle.btr_read.specs.Fate as fate
+use Rattle.btr_read.specs.Layout.{Layout}
+use Rattle.btr_read.specs.Reading.{OnMap}
+use Rattle.btr_read.specs.Serves.{Serves}
+use Rattle.btr_read.proofs.ReadsOn.{same_held}
+use Rattle.btr_walk.specs.Reading.{Map, Tells, unread_by}
+use Rattle.btr_walk.proofs.Joined.{joined}
+use Rattle.btr_base.specs.declared.kind.SumKind.{SumKind}
+use Rattle.btr_super.specs.declared.superblock.Super.{Super}
+use Rattle.btr_volume.specs.Looking.{SameVolume}
+use Rattle.btr_volume.specs.declared.stop.Stop.{Stop}
+use Rattle.btr_volume.specs.declared.stop.Stop.TheVariants as stop
+use Rattle.btr_volume.specs.declared.volume.Volume.{Volume}
+use Rattle.btr_scrub_copies.specs.Writes.{AccountsMend, FailsAt}
+use Rattle.btr_scrub_copies.specs.declared.mended.MendFault.{MendFault}
+use Rattle.btr_scrub_copies.specs.declared.mended.MendFault.TheVariants.{Image, Memory}
+use Rattle.btr_scrub.specs.Gathering.{Gathers, Reaches, Scene, count_met, scene, wants_among}
+use Rattle.btr_scrub.specs.WrittenRanges.{LiesInStripe}
+use Rattle.btr_scrub.specs.Listed.{IsList, kept_wants}
+use Rattle.btr_scrub.specs.Sifting.{ImageFails, Judges, Sieves, SiftsUnits, Stands, Went}
+use Rattle.btr_scrub.specs.Units.{Meeting}
+use Rattle.btr_scrub.specs.Whole.{answer_of}
+use Rattle.btr_scrub.specs.declared.gathered.Gathered.{Gathered}
+use Rattle.btr_scrub.specs.declared.sieve.Sieve.{Sieve}
+use Rattle.btr_scrub.specs.declared.tally.Tally.{Tally}
+use Rattle.btr_scrub.proofs.Gathering.{gathers_halt, gathers_then, reaches_ends, same_then}
+use Rattle.btr_scrub.proofs.Sieving.{both, is_behind}
+
+-- what holds of each block map is told by any reads
+pub tells_all : (layout : Layout) (a b : Seen) (P : Map → Type 0) → OnlyReads a b → ((B : Map) → P B) → Tells layout a b P
+tells_all layout a b P reads f = record { calls = record { same = same_held reads; later = reads.later; content = λ sure s. by a.held sure } }
+  where
+    by : (h : Option (List (List ℕ))) (sure : Sure) → OnMap layout P sure h
+    by None sure = tt
+    by (Some images) sure = f (fate.fate images layout)
+
+-- ---- a list behind another
+
+-- the blocks of a chunk behind those that were listed before
+abbrev pub behind : Gathered → Gathered → Gathered
+behind whole more = record { list = both whole.list more.list; unchecked = more.unchecked }
+
+module _ {A : Type 0} (p : Meeting A) (a b : Seen) (vol after : Volume) (empty whole more : Gathered) where
+  pub gathers_behind : (x : A) → kept_wants empty.list ≡ [] → empty.list.kind ≡ whole.list.kind → empty.unchecked ≡ whole.unchecked → IsList whole.list
+      → Gathers p (scene a vol empty) (scene b after more) (Ok x) → Gathers p (scene a vol whole) (scene b after (behind whole more)) (Ok x)
+  gathers_behind x none kind unchecked is h =
+      let all = is_behind whole.list more.list is h.lists.is_list (h.lists.kind ∙ kind) whole.unchecked more.unchecked more.unchecked refl in
+      record {
+        reads = h.reads;
+        volume = h.volume;
+        serves = h.serves;
+        done = h.done;
+        lists = record {
+          is_list = all.is_list;
+          kind = refl;
+          wants = all.wants ∙ ap (λ ws. kept_wants whole.list ++ ws) (h.lists.wants ∙ ap (λ ws. ws ++ wants_among h.done) none);
+          unchecked = h.lists.unchecked ∙ ap (λ n. fold count_met n h.done) unchecked;
+        };
+        content = h.content;
+        cause = h.cause;
+      }
+
+  pub stop_behind : (s : Stop) → Gathers p (scene a vol empty) (scene b after more) (Err s) → Gathers p (scene a vol whole) (scene b after more) (Err s)
+  stop_behind s h = record { reads = h.reads; volume = h.volume; serves = h.serves; done = h.done; lists = tt; content = h.content; cause = h.cause }
+
+-- ---- further reads
+
+module _ {A : Type 0} (p : Meeting A) (a b z : Seen) (vol after last : Volume) (list more : Gathered) (reads : OnlyReads b z) (same : SameVolume after last) (serves : Serves z last.store) (x : A) (h : Gathers p (scene a vol list) (scene b after more) (Ok x)) where
+  pub gathers_later : Gathers p (scene a vol list) (scene z last more) (Ok x)
+  gathers_later = record {
+    reads = reads_more h.reads reads;
+    volume = same_then h.volume same;
+    serves = serves;
+    done = h.done;
+    lists = h.lists;
+    content = joined (λ B. Follows (unread_by vol.store.layout a b) no_part [] (exec B p) h.done (Ok x)) (λ B. Unit {0})
+        (λ B. Follows (unread_by vol.store.layout a z) no_part [] (exec B p) h.done (Ok x)) refl (λ B f t. f) h.content
+        (tells_all vol.store.layout b z (λ B. Unit {0}) reads (λ B. tt));
+    cause = tt;
+  }
+
+  pub gathers_broke : Gathers p (scene a vol list) (scene z last more) (Err stop.Memory)
+  gathers_broke = record {
+    reads = reads_more h.reads reads;
+    volume = same_then h.volume same;
+    serves = serves;
+    done = [];
+    lists = tt;
+    content = tells_all vol.store.layout a z (λ B. Follows (unread_by vol.store.layout a z) no_part [] (exec B p) [] (Err Broke)) (reads_more h.reads reads)
+        (λ B. broke_here (unread_by vol.store.layout a z) no_part [] (exec B p));
+    cause = tt;
+  }
+
+-- ---- what came of it
+
+-- a stop of the listing
+went_stop : {A : Type 0} (p : Meeting A) (x : Scene) (rack : Seen) (vol : Volume) (sieve : Sieve) (list : Gathered) (s : Stop) → Gathers p x (scene rack vol list) (Err s)
+    → Went p x rack vol sieve (Err s)
+went_stop p x rack vol sieve list (stop.NoTree id) h = (list, h)
+went_stop p x rack vol sieve list (stop.Tree f) h = (list, h)
+went_stop p x rack vol sieve list (stop.Deletion id) h = (list, h)
+went_stop p x rack vol sieve list stop.Balance h = (list, h)
+went_stop p x rack vol sieve list (stop.Missing id) h = (list, h)
+went_stop p x rack vol sieve list (stop.Image slot) h = absurd h.cause
+went_stop p x rack vol sieve list stop.Sink h = (list, h)
+went_stop p x rack vol sieve list stop.Out h = (list, h)
+went_stop p x rack vol sieve list stop.Memory h = (list, h)
+
+module _ {A : Type 0} (p : Meeting A) (x : Scene) (rack : Seen) (vol : Volume) (sieve : Sieve) (list : Gathered) where
+  pub sieves_stop : (s : Stop) → Gathers p x (scene rack vol list) (Err s) → Sieves p x rack vol sieve (Err s)
+  sieves_stop s h = record { reads = h.reads; volume = h.volume; serves = h.serves; went = went_stop p x rack vol sieve list s h }
+
+  pub sieves_ok : (a : A) → Gathers p x (scene rack vol list) (Ok a) → Stands x.vol.store.layout rack.held list sieve → Sieves p x rack vol sieve (Ok a)
+  sieves_ok a h stands = record { reads = h.reads; volume = h.volume; serves = h.serves; went = (list, h, stands) }
+
+-- a fault of the sifting
+pub sieves_fault : {A : Type 0} (p : Meeting A) (a b z : Seen) (vol after last : Volume) (list more : Gathered) (sieve : Sieve) (x : A)
+    → Gathers p (scene a vol list) (scene b after more) (Ok x) → OnlyReads b z → SameVolume after last → Serves z last.store
+    → (f : MendFault) → AccountsMend {A = Unit {0}} (LiesInStripe vol.store.layout) b z (Err f)
+    → (s : Stop) → ((tally : Tally) → Err s ≡ answer_of (Err f) tally) → (tally : Tally) → Sieves p (scene a vol list) z last sieve (Err s)
+sieves_fault p a b z vol after last list more sieve x h reads same serves (Image slot) account s says tally =
+    let is : stop.Image slot ≡ s = same_stop (stop.Image slot) s (sym (says tally)) in
+    subst (λ w. Sieves p (scene a vol list) z last sieve (Err w)) is (record {
+      reads = reads_more h.reads reads;
+      volume = same_then h.volume same;
+      serves = serves;
+      went = record { mid = b; before = h.reads; reads = reads; failed = account };
+    })
+  where
+    same_stop : (s t : Stop) → ◌≡◌ {A = Result Tally Stop} (Err s) (Err t) → s ≡ t
+    same_stop s t e = cc e
+sieves_fault p a b z vol after last list more sieve x h reads same serves Memory account s says tally =
+    let is : stop.Memory ≡ s = same_stop stop.Memory s (sym (says tally)) in
+    subst (λ w. Sieves p (scene a vol list) z last sieve (Err w)) is
+    (sieves_stop p (scene a vol list) z last sieve more stop.Memory (gathers_broke p a b z vol after last list more reads same serves x h))
+  where
+    same_stop : (s t : Stop) → ◌≡◌ {A = Result Tally Stop} (Err s) (Err t) → s ≡ t
+    same_stop s t e = cc e
+
+-- ---- one after another
+
+fails_since : (layout layout' : Layout) (slot : ℕ) (a b c : Seen) → layout' ≡ layout → OnlyReads a b → ImageFails layout' slot b c → ImageFails layout slot a c
+fails_since layout layout' slot a b c e reads h = record { mid = h.mid; before = reads_more reads h.before; reads = h.reads; failed = subst (λ l. FailsAt (LiesInStripe l) slot h.mid c) e h.failed }
+
+module _ {A C : Type 0} (p : Meeting A) (k : A → Meeting C) (x y : Scene) (a : A) (h : Gathers p x y (Ok a)) (rack : Seen) (vol : Volume) (sieve : Sieve) where
+  went_then : (r : Result C Stop) → Went (k a) y rack vol sieve r → Went (bind p k) x rack vol sieve r
+  went_then (Ok c) w = (w.0, gathers_then p k x y (scene rack vol w.0) a (Ok c) h w.1, subst (λ l. Stands l rack.held w.0 sieve) h.volume.store.layout w.2)
+  went_then (Err (stop.NoTree id)) w = (w.0, gathers_then p k x y (scene rack vol w.0) a (Err (stop.NoTree id)) h w.1)
+  went_then (Err (stop.Tree f)) w = (w.0, gathers_then p k x y (scene rack vol w.0) a (Err (stop.Tree f)) h w.1)
+  went_then (Err (stop.Deletion id)) w = (w.0, gathers_then p k x y (scene rack vol w.0) a (Err (stop.Deletion id)) h w.1)
+  went_then (Err stop.Balance) w = (w.0, gathers_then p k x y (scene rack vol w.0) a (Err stop.Balance) h w.1)
+  went_then (Err (stop.Missing id)) w = (w.0, gathers_then p k x y (scene rack vol w.0) a (Err (stop.Missing id)) h w.1)
+  went_then (Err (stop.Image slot)) w = fails_since x.vol.store.layout y.vol.store.layout slot x.rack y.rack rack h.volume.store.layout h.reads w
+  went_then (Err stop.Sink) w = (w.0, gathers_then p k x y (scene rack vol w.0) a (Err stop.Sink) h w.1)
+  went_then (Err stop.Out) w = (w.0, gathers_then p k x y (scene rack vol w.0) a (Err stop.Out) h w.1)
+  went_then (Err stop.Memory) w = (w.0, gathers_then p k x y (scene rack vol w.0) a (Err stop.Memory) h w.1)
+
+  pub sieves_then : (r : Result C Stop) → Sieves (k a) y rack vol sieve r → Sieves (bind p k) x rack vol sieve r
+  sieves_then r s = record { reads = reads_more h.reads s.reads; volume = same_then h.volume s.volume; serves = s.serves; went = went_then r s.went }
+
+module _ {A C : Type 0} (p : Meeting C) (q : Meeting A) (k : A → Meeting C) (x y : Scene) (h : Reaches p (bind q k) x y) (rack : Seen) (vol : Volume) (sieve : Sieve) where
+  went_halt : (s : Stop) → Went q y rack vol sieve (Err s) → Went p x rack vol sieve (Err s)
+  went_halt (stop.NoTree id) w = (w.0, reaches_ends p (bind q k) x y (scene rack vol w.0) (Err (stop.NoTree id)) h (gathers_halt q k y (scene rack vol w.0) (stop.NoTree id) w.1))
+  went_halt (stop.Tree f) w = (w.0, reaches_ends p (bind q k) x y (scene rack vol w.0) (Err (stop.Tree f)) h (gathers_halt q k y (scene rack vol w.0) (stop.Tree f) w.1))
+  went_halt (stop.Deletion id) w = (w.0, reaches_ends p (bind q k) x y (scene rack vol w.0) (Err (stop.Deletion id)) h (gathers_halt q k y (scene rack vol w.0) (stop.Deletion id) w.1))
+  went_halt stop.Balance w = (w.0, reaches_ends p (bind q k) x y (scene rack vol w.0) (Err stop.Balance) h (gathers_halt q k y (scene rack vol w.0) stop.Balance w.1))
+  went_halt (stop.Missing id) w = (w.0, reaches_ends p (bind q k) x y (scene rack vol w.0) (Err (stop.Missing id)) h (gathers_halt q k y (scene rack vol w.0) (stop.Missing id) w.1))
+  went_halt (stop.Image slot) w = fails_since x.vol.store.layout y.vol.store.layout slot x.rack y.rack rack h.volume.store.layout h.reads w
+  went_halt stop.Sink w = (w.0, reaches_ends p (bind q k) x y (scene rack vol w.0) (Err stop.Sink) h (gathers_halt q k y (scene rack vol w.0) stop.Sink w.1))
+  went_halt stop.Out w = (w.0, reaches_ends p (bind q k) x y (scene rack vol w.0) (Err stop.Out) h (gathers_halt q k y (scene rack vol w.0) stop.Out w.1))
+  went_halt stop.Memory w = (w.0, reaches_ends p (bind q k) x y (scene rack vol w.0) (Err stop.Memory) h (gathers_halt q k y (scene rack vol w.0) stop.Memory w.1))
+
+  pub sieves_halt : (s : Stop) → Sieves q y rack vol sieve (Err s) → Sieves p x rack vol sieve (Err s)
+  sieves_halt s v = record { reads = reads_more h.reads v.reads; volume = same_then h.volume v.volume; serves = v.serves; went = went_halt s v.went }
+
+-- ---- the same of other parts
+
+pub stands_as : (layout layout' : Layout) (a b : Seen) (whole : Gathered) (sieve : Sieve) → layout' ≡ layout → b.held ≡ a.held → Stands layout a.held whole sieve
+    → Stands layout' b.held whole sieve
+stands_as layout layout' a b whole sieve e held h = subst (λ o. Stands layout' o whole sieve) (sym held) (subst (λ l. Stands l a.held whole sieve) (sym e) h)
+
+-- the superblock and the layout as they were before calls that left them
+pub sieves_as : {A : Type 0} (p : Super → Layout → Meeting A) (s t : Super) (layout layout' : Layout) (x : Scene) (rack : Seen) (vol : Volume) (sieve : Sieve)
+    (r : Result A Stop) → t ≡ s → layout' ≡ layout → Sieves (p t layout') x rack vol sieve r → Sieves (p s layout) x rack vol sieve r
+sieves_as p s t layout layout' x rack vol sieve r e h k = subst (λ l. Sieves (p s l) x rack vol sieve r) h (subst (λ u. Sieves (p u layout') x rack vol sieve r) e k)
+
+-- ---- all blocks
+
+-- a list of nothing
+abbrev pub nothing_listed : SumKind → Gathered
+nothing_listed kind = record { list = record { kind = kind; runs = []; sums = []; marks = [] }; unchecked = 0 }
+
+pub nothing_is : (kind : SumKind) → IsList (nothing_listed kind).list
+nothing_is kind = record { runs_fit = tt; sums_fit = omega arith; marks_fit = refl }
+
+module _ (p : Meeting (Unit {0})) (a b : Seen) (vol after : Volume) (kind : SumKind) (sieve : Sieve) where
+  pub sifted_all : Sieves p (scene a vol (nothing_listed kind)) b after sieve (Ok tt) → SiftsUnits p vol.store.layout a b (Ok sieve)
+  sifted_all s =
+      let w = s.went in (
+        w.1.done,
+        record {
+          is_list = w.2.is_list;
+          unchecked = w.2.unchecked ∙ w.1.lists.unchecked;
+          judged = subst (λ ws. Judges vol.store.layout b.held ws sieve sieve.refused) w.1.lists.wants w.2.judged;
+        },
+        w.1.content,
+      )
+
+  pub sifted_none : (s : Stop) → Sieves p (scene a vol (nothing_listed kind)) b after sieve (Err s) → SiftsUnits p vol.store.layout a b (Err s)
+  sifted_none (stop.NoTree id) s = (s.went.1.done, s.went.1.content, s.went.1.cause)
+  sifted_none (stop.Tree f) s = (s.went.1.done, s.went.1.content, s.went.1.cause)
+  sifted_none (stop.Deletion id) s = (s.went.1.done, s.went.1.content, s.went.1.cause)
+  sifted_none stop.Balance s = (s.went.1.done, s.went.1.content, s.went.1.cause)
+  sifted_none (stop.Missing id) s = (s.went.1.done, s.went.1.content, s.went.1.cause)
+  sifted_none (stop.Image slot) s = s.went
+  sifted_none stop.Sink s = (s.went.1.done, s.went.1.content, s.went.1.cause)
+  sifted_none stop.Out s = (s.went.1.done, s.went.1.content, s.went.1.cause)
+  sifted_none stop.Memory s = (s.went.1.done, s.went.1.content, s.went.1.cause)

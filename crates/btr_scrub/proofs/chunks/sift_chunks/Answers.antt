@@ -1,0 +1,101 @@
+use Rattle.std.proofs.Common.{◌≡◌, ℕ, ◌+◌, ◌≤◌, length, drop, slice_get, Some, Ok, Err, sym, ap, ◌∙◌, subst, arith}
+use Rattle.std.proofs.lemmas.List.{drop_all}
+use Rattle.btr_files.specs.Sums.{tree_behind}
+use Rattle.btr_prog.specs.Prog.{Return}
+use Rattle.btr_read.specs.Layout.{Layout}
+use Rattle.btr_super.specs.declared.superblock.Super.{Super}
+use Rattle.btr_scrub.specs.Gathering.{Reaches, scene}
+use Rattle.btr_scrub.specs.Sifting.{Sieves, Stands}
+use Rattle.btr_scrub.specs.Units.{Meeting, in_chunk, in_chunks}
+use Rattle.btr_scrub.proofs.Chunkwise.{chunk_first, contains_at, span_in}
+use Rattle.btr_scrub.proofs.Gathering.{gathers_value, reaches_ends, reaches_none, reaches_step, same_self, same_then}
+use Rattle.btr_scrub.proofs.Sieved.{sieves_halt, sieves_ok}
+use Rattle.btr_scrub.proofs.chunks.sift_chunks.Goals as goal
+
+pub loop-i-init : goal.loop-i-init
+loop-i-init g c = record {
+  ready = c.requires.ready;
+  volume = same_self c.args.vol.now;
+  is_list = c.requires.is_list;
+  kind = c.requires.kind;
+  reaches = λ whole stands. (
+    whole,
+    reaches_none (in_chunks c.args.vol.now.sup (tree_behind c.args.sums) c.args.extents.now c.args.vol.now.store.layout.chunks)
+        (scene (g.R.Rack.seen c.args.rack.now) c.args.vol.now whole) stands.is_whole c.requires.ready.serves,
+    stands,
+  );
+}
+
+pub sift_chunk-requires-clause-chunk : goal.sift_chunk-requires-clause-chunk
+sift_chunk-requires-clause-chunk g c = span_in c.args.vol.now.store.layout c.loop-i.vol.store.layout c.loop-i.i c.span_at-span.result
+    c.loop-i.invariant.volume.store.layout c.span_at-span.ensures
+
+pub returns-in-Err-clause-sieves : goal.returns-in-Err-clause-sieves
+returns-in-Err-clause-sieves g c whole stands =
+    let s = c.args.vol.now.sup in
+    let sums = tree_behind c.args.sums in
+    let i = c.loop-i.i in
+    let chunks = c.args.vol.now.store.layout.chunks in
+    let extents = c.args.extents.now in
+    let at = c.span_at-span.ensures in
+    let h = c.loop-i.invariant.reaches whole stands in
+    let x = scene (g.R.Rack.seen c.args.rack.now) c.args.vol.now whole in
+    let y = scene (g.R.Rack.seen c.loop-i.rack) c.loop-i.vol h.0 in
+    let z = g.R.Rack.seen c.sift_chunk.new.rack in
+    let here = in_chunk s sums at.chunk extents in
+    let rest = λ (n : ℕ). in_chunks s sums extents (drop (i + 1) chunks) in
+    let there = subst (λ (l : Layout). slice_get l.chunks i ≡ Some at.chunk) c.loop-i.invariant.volume.store.layout at.at in
+    sieves_halt (in_chunks s sums extents chunks) here rest x y
+    (subst (λ (q : Meeting (Unit {0})). Reaches (in_chunks s sums extents chunks) q x y) (chunk_first s sums extents chunks i at.chunk there) h.1)
+    z c.sift_chunk.new.vol c.sift_chunk.new.sieve c.in-Err.stop
+    (subst (λ (t : Super). Sieves (in_chunk t sums at.chunk extents) y z c.sift_chunk.new.vol c.sift_chunk.new.sieve (Err c.in-Err.stop)) c.loop-i.invariant.volume.sup
+    (c.in-Err.ensures.sieves at.chunk h.0 at.is (contains_at c.loop-i.vol.store.layout.chunks i at.chunk at.at) h.2))
+
+pub loop-i-preserved : goal.loop-i-preserved
+loop-i-preserved g c = record {
+  ready = c.in-Ok.ensures.ready;
+  volume = same_then c.loop-i.invariant.volume c.in-Ok.ensures.volume;
+  is_list = c.in-Ok.ensures.is_list;
+  kind = c.in-Ok.ensures.kind ∙ c.loop-i.invariant.kind;
+  reaches = λ whole stands.
+      let s = c.args.vol.now.sup in
+      let sums = tree_behind c.args.sums in
+      let i = c.loop-i.i in
+      let chunks = c.args.vol.now.store.layout.chunks in
+      let extents = c.args.extents.now in
+      let at = c.span_at-span.ensures in
+      let h = c.loop-i.invariant.reaches whole stands in
+      let x = scene (g.R.Rack.seen c.args.rack.now) c.args.vol.now whole in
+      let y = scene (g.R.Rack.seen c.loop-i.rack) c.loop-i.vol h.0 in
+      let z = g.R.Rack.seen c.sift_chunk.new.rack in
+      let here = in_chunk s sums at.chunk extents in
+      let rest = λ (n : ℕ). in_chunks s sums extents (drop (i + 1) chunks) in
+      let there = subst (λ (l : Layout). slice_get l.chunks i ≡ Some at.chunk) c.loop-i.invariant.volume.store.layout at.at in
+      let one = subst (λ (t : Super). Sieves (in_chunk t sums at.chunk extents) y z c.sift_chunk.new.vol c.sift_chunk.new.sieve (Ok c.in-Ok.field-0)) c.loop-i.invariant.volume.sup
+      (c.in-Ok.ensures.sieves at.chunk h.0 at.is (contains_at c.loop-i.vol.store.layout.chunks i at.chunk at.at) h.2) in (
+        one.went.0,
+        reaches_step (in_chunks s sums extents chunks) here rest x y
+            (subst (λ (q : Meeting (Unit {0})). Reaches (in_chunks s sums extents chunks) q x y) (chunk_first s sums extents chunks i at.chunk there) h.1)
+            (scene z c.sift_chunk.new.vol one.went.0) c.in-Ok.field-0 one.went.1,
+        subst (λ (l : Layout). Stands l z.held one.went.0 c.sift_chunk.new.sieve) (sym c.in-Ok.ensures.volume.store.layout) one.went.2,
+      );
+}
+
+pub returns-clause-sieves : goal.returns-clause-sieves
+returns-clause-sieves g c whole stands =
+    let s = c.args.vol.now.sup in
+    let sums = tree_behind c.args.sums in
+    let i = c.loop-i.i in
+    let layout = c.args.vol.now.store.layout in
+    let extents = c.args.extents.now in
+    let rack = g.R.Rack.seen c.loop-i.rack in
+    let h = c.loop-i.invariant.reaches whole stands in
+    let x = scene (g.R.Rack.seen c.args.rack.now) c.args.vol.now whole in
+    let y = scene rack c.loop-i.vol h.0 in
+    let p = in_chunks s sums extents layout.chunks in
+    let few : length layout.chunks ≤ i = omega (arith, c.loop-i-test.false, c.count-i-end.ensures.count, ap length c.chunks.ensures) in
+    let none = ap (in_chunks s sums extents) (drop_all i layout.chunks few) in
+    sieves_ok p x rack c.loop-i.vol c.loop-i.sieve h.0 tt
+    (reaches_ends p (Return tt) x y y (Ok tt) (subst (λ (q : Meeting (Unit {0})). Reaches p q x y) none h.1)
+    (gathers_value tt y h.2.is_whole c.loop-i.invariant.ready.serves))
+    (subst (λ (l : Layout). Stands l rack.held h.0 c.loop-i.sieve) c.loop-i.invariant.volume.store.layout h.2)

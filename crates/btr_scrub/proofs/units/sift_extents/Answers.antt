@@ -1,0 +1,60 @@
+use Rattle.std.proofs.Common.{Option, Some, None, Ok, subst}
+use Rattle.btr_prog.specs.Quiet.{quiet}
+use Rattle.btr_read.proofs.ReadsOn.{same_held}
+use Rattle.btr_volume.specs.Looking.{Looks}
+use Rattle.btr_volume.specs.Tree.{tree_of}
+use Rattle.btr_volume.specs.declared.root.TreeRoot.{TreeRoot}
+use Rattle.btr_volume.specs.declared.stop.Stop.TheVariants.{Tree}
+use Rattle.btr_scrub.specs.Gathering.{scene}
+use Rattle.btr_scrub.specs.Units.{in_chunks}
+use Rattle.btr_scrub.proofs.Gathering.{gathers_fault, gathers_found, gathers_halt}
+use Rattle.btr_scrub.proofs.Sieved.{sieves_as, sieves_stop, sieves_then, stands_as}
+use Rattle.btr_scrub.proofs.units.sift_extents.Goals as goal
+
+pub returns-in-Err-clause-sieves : goal.returns-in-Err-clause-sieves
+returns-in-Err-clause-sieves g c whole stands =
+    let s = c.args.vol.now.sup in
+    let old = g.R.Rack.seen c.args.rack.now in
+    let new = g.R.Rack.seen c.tree.new.rack in
+    let k = λ (sums : Option TreeRoot). in_chunks s sums c.args.extents.now c.args.vol.now.store.layout.chunks in
+    sieves_stop _ (scene old c.args.vol.now whole) new c.tree.new.self c.args.sieve.now whole (Tree c.in-Err.fault)
+    (gathers_halt (quiet (tree_of s 7)) k (scene old c.args.vol.now whole) (scene new c.tree.new.self whole) (Tree c.in-Err.fault)
+    (gathers_fault (tree_of s 7) old new c.args.vol.now c.tree.new.self whole c.in-Err.fault c.in-Err.ensures.serves
+    c.in-Err.ensures.reads c.in-Err.ensures.same c.in-Err.ensures.cause c.in-Err.ensures.content))
+
+pub returns-in-Ok-None-clause-sieves : goal.returns-in-Ok-None-clause-sieves
+returns-in-Ok-None-clause-sieves g c whole stands =
+    let s = c.args.vol.now.sup in
+    let old = g.R.Rack.seen c.args.rack.now in
+    let new = g.R.Rack.seen c.tree.new.rack in
+    let layout = c.args.vol.now.store.layout in
+    let same = c.in-Ok-None.ensures.same in
+    let mid = scene new c.tree.new.self whole in
+    let here = stands_as layout c.tree.new.self.store.layout old new whole c.args.sieve.now same.store.layout (same_held c.in-Ok-None.ensures.reads) stands in
+    sieves_then (quiet (tree_of s 7)) (λ sums. in_chunks s sums c.args.extents.now layout.chunks) (scene old c.args.vol.now whole) mid None
+    (gathers_found (tree_of s 7) old new c.args.vol.now c.tree.new.self whole None stands.is_whole c.in-Ok-None.ensures.serves
+    c.in-Ok-None.ensures.reads same
+    (subst (λ (r : Option TreeRoot). Looks layout old new (tree_of s 7) (Ok r)) c.in-Ok-None.field-0-is c.in-Ok-None.ensures.content))
+    (g.R.Rack.seen c.sift_chunks.new.rack) c.sift_chunks.new.vol c.sift_chunks.new.sieve c.sift_chunks.result
+    (sieves_as (λ t l. in_chunks t None c.args.extents.now l.chunks) s c.tree.new.self.sup layout c.tree.new.self.store.layout mid
+    (g.R.Rack.seen c.sift_chunks.new.rack) c.sift_chunks.new.vol c.sift_chunks.new.sieve c.sift_chunks.result same.sup same.store.layout
+    (c.sift_chunks.ensures.sieves whole here))
+
+pub returns-in-Ok-Some-clause-sieves : goal.returns-in-Ok-Some-clause-sieves
+returns-in-Ok-Some-clause-sieves g c whole stands =
+    let s = c.args.vol.now.sup in
+    let old = g.R.Rack.seen c.args.rack.now in
+    let new = g.R.Rack.seen c.tree.new.rack in
+    let layout = c.args.vol.now.store.layout in
+    let sums = c.in-Ok-Some.sums in
+    let same = c.in-Ok-Some.ensures.same in
+    let mid = scene new c.tree.new.self whole in
+    let here = stands_as layout c.tree.new.self.store.layout old new whole c.args.sieve.now same.store.layout (same_held c.in-Ok-Some.ensures.reads) stands in
+    sieves_then (quiet (tree_of s 7)) (λ sums. in_chunks s sums c.args.extents.now layout.chunks) (scene old c.args.vol.now whole) mid (Some sums)
+    (gathers_found (tree_of s 7) old new c.args.vol.now c.tree.new.self whole (Some sums) stands.is_whole c.in-Ok-Some.ensures.serves
+    c.in-Ok-Some.ensures.reads same
+    (subst (λ (r : Option TreeRoot). Looks layout old new (tree_of s 7) (Ok r)) c.in-Ok-Some.field-0-is c.in-Ok-Some.ensures.content))
+    (g.R.Rack.seen c.sift_chunks-in-Ok-Some.new.rack) c.sift_chunks-in-Ok-Some.new.vol c.sift_chunks-in-Ok-Some.new.sieve c.sift_chunks-in-Ok-Some.result
+    (sieves_as (λ t l. in_chunks t (Some sums) c.args.extents.now l.chunks) s c.tree.new.self.sup layout c.tree.new.self.store.layout mid
+    (g.R.Rack.seen c.sift_chunks-in-Ok-Some.new.rack) c.sift_chunks-in-Ok-Some.new.vol c.sift_chunks-in-Ok-Some.new.sieve c.sift_chunks-in-Ok-Some.result
+    same.sup same.store.layout (c.sift_chunks-in-Ok-Some.ensures.sieves whole here))
