@@ -1,6 +1,5 @@
 -- Lookups one after another.
-use Rattle.std.proofs.Common.{◌≡◌, ◌≤◌, count_by, is_none, Bool, true, false, cond, List, [], Option}
-use Rattle.std.proofs.Common.{Some, None, Result, Ok, Err, refl, sym, ap, ◌∙◌, subst, arith}
+use Rattle.std.proofs.Common.{◌≡◌, Bool, true, false, cond, List, [], Option, Some, None, Result, Ok, Err, IsErrAnd, refl, sym, subst}
 use Rattle.btr_prog.specs.Answers.{Follows, no_part}
 use Rattle.btr_prog.specs.Calls.{Sure}
 use Rattle.btr_prog.specs.Prog.{Return, bind, exec, wants_of}
@@ -8,45 +7,22 @@ use Rattle.btr_prog.proofs.Follow.{follows_alone, follows_as, follows_halt, foll
 use Rattle.btr_prog.proofs.Runs.{exec-bind}
 use Rattle.btr_prog.proofs.Successive.{calls_none}
 use Rattle.btr_rack.specs.Rack.{Seen, OnlyReads}
+use Rattle.btr_rack.proofs.Reading.{reads_more, reads_none}
 use Rattle.btr_read.specs.Fate.{fate}
 use Rattle.btr_read.specs.Layout.{Layout}
 use Rattle.btr_read.specs.Reading.{OnMap}
 use Rattle.btr_read.specs.Serves.{Serves}
-use Rattle.btr_read.specs.Store.{free_count}
 use Rattle.btr_super.specs.declared.superblock.Super.{Super}
 use Rattle.btr_walk.specs.Reading.{HasCause, Map, answer_of, halt_of, unread_by}
 use Rattle.btr_walk.specs.declared.fault.TreeFault.{TreeFault}
-use Rattle.btr_walk.proofs.Fetched.{cause_since, since}
+use Rattle.btr_walk.proofs.Fetched.{cause_since, passed_on, since}
 use Rattle.btr_walk.proofs.Joined.{drawn, joined}
 use Rattle.btr_volume.specs.Looking.{Looks, SameVolume}
 use Rattle.btr_volume.specs.Lookup.{Lookup}
 use Rattle.btr_volume.specs.declared.volume.Volume.{Volume}
-use Rattle.btr_listing.specs.Looked.{CanLook, Looked}
-
--- calls in a row only read, and left the volume as it was
-pub same_then : {a b c : Volume} → SameVolume a b → SameVolume b c → SameVolume a c
-same_then one two = record {
-  sup = two.sup ∙ one.sup;
-  store = record { layout = two.store.layout ∙ one.store.layout; loans = two.store.loans ∙ one.store.loans };
-}
-
-pub reads_then : {a b c : Seen} → OnlyReads a b → OnlyReads b c → OnlyReads a c
-reads_then {c = c} one two = record {
-  later = omega (arith, one.later, two.later);
-  same = two.same ∙ ap (λ (s : Seen). record s { account = c.account }) one.same;
-  same_shut = two.same_shut ∙ one.same_shut;
-}
-
--- no call did anything
-pub same_self : (vol : Volume) → SameVolume vol vol
-same_self vol = record { sup = refl; store = record { layout = refl; loans = refl } }
-
-pub reads_self : (rack : Seen) → OnlyReads rack rack
-reads_self rack = record { later = omega arith; same = refl; same_shut = refl }
-
--- the slots that were free still are
-pub room_kept : {n : _} (vol after : Volume) → SameVolume vol after → n ≤ free_count vol.store → n ≤ free_count after.store
-room_kept {n} vol after same h = subst (λ l. n ≤ count_by is_none l) (sym same.store.loans) h
+use Rattle.btr_volume.specs.Readable.{CanRead}
+use Rattle.btr_volume.proofs.Onward.{reads_on, same_self, same_then}
+use Rattle.btr_listing.specs.Looked.{Looked}
 
 -- a fault of a later call has its cause
 pub causes_since : {C : Type 0} {a b : Seen} (c : Seen) (layout layout' : Layout) (r : Result C TreeFault) → layout' ≡ layout → OnlyReads a b
@@ -87,25 +63,21 @@ module _ {A C : Type 0} (p : Lookup A) (k : A → Lookup C) (layout : Layout) wh
       (λ B one. subst (λ x. Follows {S = ⊥} (unread_by layout a b) no_part [] x [] (Err (halt_of f))) (sym (exec-bind B p k))
       (follows_halt (unread_by layout a b) no_part [] (exec B p) (λ u. exec B (k u)) [] (halt_of f) one)) h
 
--- a volume can be looked up in again
-pub look_again : {old new : Seen} {vol vol' : Volume} → CanLook old vol → Serves new vol'.store → SameVolume vol vol' → CanLook new vol'
-look_again {vol = vol} {vol' = vol'} ready serves same = record { serves = serves; room = room_kept vol vol' same ready.room }
-
 -- a lookup by the clauses of its call
-pub looked_by : {A : Type 0} (p : Lookup A) (r : Result A TreeFault) {old new : Seen} {vol vol' : Volume} → CanLook old vol → Serves new vol'.store
+pub looked_by : {A : Type 0} (p : Lookup A) (r : Result A TreeFault) {old new : Seen} {vol vol' : Volume} → CanRead 4 old vol → Serves new vol'.store
     → OnlyReads old new → SameVolume vol vol' → HasCause vol.store.layout old new r → Looks vol.store.layout old new p r → Looked p old vol new vol' r
 looked_by p r {vol = vol} {vol' = vol'} ready serves reads same cause content = record {
   reads = reads;
   volume = same;
-  ready = look_again ready serves same;
+  ready = reads_on _ vol vol' ready serves same;
   cause = cause;
   content = content;
 }
 
 -- nothing is looked up
-pub looked_value : {A : Type 0} (a : A) {rack : Seen} {vol : Volume} → CanLook rack vol → Looked (Return a) rack vol rack vol (Ok a)
+pub looked_value : {A : Type 0} (a : A) {rack : Seen} {vol : Volume} → CanRead 4 rack vol → Looked (Return a) rack vol rack vol (Ok a)
 looked_value a {rack} {vol} ready = record {
-  reads = reads_self rack;
+  reads = reads_none rack;
   volume = same_self vol;
   ready = ready;
   cause = tt;
@@ -117,7 +89,7 @@ module _ {A C : Type 0} (p : Lookup A) (k : Super → A → Lookup C) {old mid :
   pub looked_then : {new : Seen} {vol'' : Volume} (a : A) (r : Result C TreeFault) → Looked p old vol mid vol' found → found ≡ Ok a
       → Looked (k vol'.sup a) mid vol' new vol'' r → Looked (bind p (k vol.sup)) old vol new vol'' r
   looked_then {new} a r h is g = record {
-    reads = reads_then h.reads g.reads;
+    reads = reads_more h.reads g.reads;
     volume = same_then h.volume g.volume;
     ready = g.ready;
     cause = causes_since new vol.store.layout vol'.store.layout r h.volume.store.layout h.reads g.cause;
@@ -134,6 +106,11 @@ module _ {A C : Type 0} (p : Lookup A) (k : Super → A → Lookup C) {old mid :
     cause = subst (λ x. HasCause vol.store.layout old mid x) is h.cause;
     content = looks_halt p (k vol.sup) vol.store.layout f (subst (λ x. Looks vol.store.layout old mid p x) is h.content);
   }
+
+-- a fault that is passed on
+pub looked_passed : {A : Type 0} {p : Lookup A} {old new : Seen} {vol vol' : Volume} {f : TreeFault} (r : Result A TreeFault) → IsErrAnd r (λ e. e ≡ f)
+    → Looked p old vol new vol' (Err f) → Looked p old vol new vol' r
+looked_passed {p = p} {old = old} {new = new} {vol = vol} {vol' = vol'} {f = f} r is h = passed_on (λ q. Looked p old vol new vol' q) r f is h
 
 -- a lookup, and a value that is made of what it came to
 pub looked_last : {A C : Type 0} (p : Lookup A) (f : A → C) {old mid : Seen} {vol vol' : Volume} {found : Result A TreeFault} (a : A) (v : C)

@@ -1,12 +1,11 @@
 -- What a lookup in a volume did and answered, in one word.
-use Rattle.std.specs.Prelude.{◌≤◌, Result, IfOk}
+use Rattle.std.specs.Prelude.{Result, IfOk}
 use Rattle.btr_rack.specs.Rack.{Seen, OnlyReads}
-use Rattle.btr_read.specs.Serves.{Serves}
-use Rattle.btr_read.specs.Store.{free_count}
 use Rattle.btr_walk.specs.Reading.{HasCause}
 use Rattle.btr_walk.specs.declared.fault.TreeFault.{TreeFault}
 use Rattle.btr_volume.specs.Looking.{Looks, SameVolume}
 use Rattle.btr_volume.specs.Lookup.{Lookup}
+use Rattle.btr_volume.specs.Readable.{CanRead}
 use Rattle.btr_volume.specs.declared.volume.Volume.{Volume}
 use Rattle.btr_files.specs.Listing.{named_row}
 use Rattle.btr_listing.specs.declared.decision.Decision.{Decision}
@@ -14,18 +13,13 @@ use Rattle.btr_listing.specs.declared.entry.Entry.{Entry}
 use Rattle.btr_listing.specs.declared.rules.Rules.{Rules}
 use Rattle.btr_listing.specs.Deciding.{Fits, Met}
 
--- a volume can be looked up in: four slots are free for a block
-pub record CanLook (rack : Seen) (vol : Volume) : Type 0 where
-  pub serves : Serves rack vol.store
-  pub room : 4 ≤ free_count vol.store
-
--- A lookup only read, its volume is as before and can be looked up in again, a fault has its cause,
+-- A lookup only read, its volume is as before and can be read again, a fault has its cause,
 -- and what was answered follows its program.
 pub record Looked
     {A : Type 0} (p : Lookup A) (old : Seen) (vol : Volume) (new : Seen) (vol' : Volume) (answer : Result A TreeFault) : Type 0 where
   pub reads : OnlyReads old new
   pub volume : SameVolume vol vol'
-  pub ready : CanLook new vol'
+  pub ready : CanRead 4 new vol'
   pub cause : HasCause vol.store.layout old new answer
   pub content : Looks vol.store.layout old new p answer
 

@@ -5,7 +5,8 @@ ghost use Rattle.btr_rack.specs.Name.{IsGoodName};
 ghost use Rattle.btr_listing.specs.Deciding.{is_long, root_found, surveyed};
 ghost use Rattle.btr_listing.specs.Deciding.{decided, directory_decided, file_decided, file_found};
 ghost use Rattle.btr_listing.specs.Deciding.{folder_decided, named_decided, root_decided, subvolume_decided};
-ghost use Rattle.btr_listing.specs.Looked.{CanLook, FitsAll, FitsEntry, Looked, met_by};
+ghost use Rattle.btr_listing.specs.Looked.{FitsAll, FitsEntry, Looked, met_by};
+ghost use Rattle.btr_volume.specs.Readable.{CanRead};
 
 use crate::cause::Cause;
 use crate::decision::Decision;
@@ -39,7 +40,7 @@ fn by_inode<R: Rack>(
     rack: &mut R,
     vol: &mut Volume,
 ) -> Result<Decision, TreeFault>
-    requires ready { CanLook (R.seen rack.old) vol.old }
+    requires ready { CanRead 4 (R.seen rack.old) vol.old }
     requires good { IsGoodName (name_in entry.now.name.now) }
     ensures looked { Looked (file_found (met_by entry.now) (Some inode))
         (R.seen rack.old) vol.old (R.seen rack.new) vol.new result }
@@ -48,24 +49,21 @@ fn by_inode<R: Rack>(
     if inode.size > MOST_BYTES {
         return Ok(Decision::Skip(Cause::Size));
     }
-    match survey(&entry.tree, entry.row.location.objectid, rack, vol) {
-        Err(fault) => Err(fault),
-        Ok(found) => Ok(by_survey(inode, found)),
-    }
+    let found = survey(&entry.tree, entry.row.location.objectid, rack, vol)?;
+    Ok(by_survey(inode, found))
 }
 
 // A file, by what is found of it.
 fn file<R: Rack>(entry: &Entry<'_>, rack: &mut R, vol: &mut Volume) -> Result<Decision, TreeFault>
-    requires ready { CanLook (R.seen rack.old) vol.old }
+    requires ready { CanRead 4 (R.seen rack.old) vol.old }
     requires good { IsGoodName (name_in entry.now.name.now) }
     ensures looked { Looked (file_decided (met_by entry.now))
         (R.seen rack.old) vol.old (R.seen rack.new) vol.new result }
     ensures fits { FitsAll (met_by entry.now) result }
 {
-    match inode(&entry.tree, entry.row.location.objectid, rack, vol) {
-        Err(fault) => Err(fault),
-        Ok(None) => Ok(Decision::Skip(Cause::Missing)),
-        Ok(Some(found)) => by_inode(entry, found, rack, vol),
+    match inode(&entry.tree, entry.row.location.objectid, rack, vol)? {
+        None => Ok(Decision::Skip(Cause::Missing)),
+        Some(found) => by_inode(entry, found, rack, vol),
     }
 }
 
@@ -75,7 +73,7 @@ fn directory<R: Rack>(
     rack: &mut R,
     vol: &mut Volume,
 ) -> Result<Decision, TreeFault>
-    requires ready { CanLook (R.seen rack.old) vol.old }
+    requires ready { CanRead 4 (R.seen rack.old) vol.old }
     requires good { IsGoodName (name_in entry.now.name.now) }
     requires shallow { entry.now.deep ≡ false }
     ensures looked { Looked (directory_decided (met_by entry.now))
@@ -126,17 +124,15 @@ fn root<R: Rack>(
     rack: &mut R,
     vol: &mut Volume,
 ) -> Result<Decision, TreeFault>
-    requires ready { CanLook (R.seen rack.old) vol.old }
+    requires ready { CanRead 4 (R.seen rack.old) vol.old }
     requires good { IsGoodName (name_in entry.now.name.now) }
     requires shallow { entry.now.deep ≡ false }
     ensures looked { Looked (root_decided rules.now vol.old.sup (met_by entry.now))
         (R.seen rack.old) vol.old (R.seen rack.new) vol.new result }
     ensures fits { FitsEntry rules.now (met_by entry.now) result }
 {
-    match vol.tree(entry.row.location.objectid, rack) {
-        Err(fault) => Err(fault),
-        Ok(found) => Ok(by_root(rules, found)),
-    }
+    let found = vol.tree(entry.row.location.objectid, rack)?;
+    Ok(by_root(rules, found))
 }
 
 // A subvolume, where this entry is its one name; else a directory that stays empty.
@@ -146,7 +142,7 @@ fn subvolume<R: Rack>(
     rack: &mut R,
     vol: &mut Volume,
 ) -> Result<Decision, TreeFault>
-    requires ready { CanLook (R.seen rack.old) vol.old }
+    requires ready { CanRead 4 (R.seen rack.old) vol.old }
     requires good { IsGoodName (name_in entry.now.name.now) }
     requires shallow { entry.now.deep ≡ false }
     ensures looked { Looked (subvolume_decided rules.now vol.old.sup (met_by entry.now))
@@ -172,7 +168,7 @@ fn folder<R: Rack>(
     rack: &mut R,
     vol: &mut Volume,
 ) -> Result<Decision, TreeFault>
-    requires ready { CanLook (R.seen rack.old) vol.old }
+    requires ready { CanRead 4 (R.seen rack.old) vol.old }
     requires good { IsGoodName (name_in entry.now.name.now) }
     ensures looked { Looked (folder_decided rules.now vol.old.sup (met_by entry.now))
         (R.seen rack.old) vol.old (R.seen rack.new) vol.new result }
@@ -204,7 +200,7 @@ fn named<R: Rack>(
     rack: &mut R,
     vol: &mut Volume,
 ) -> Result<Decision, TreeFault>
-    requires ready { CanLook (R.seen rack.old) vol.old }
+    requires ready { CanRead 4 (R.seen rack.old) vol.old }
     requires good { IsGoodName (name_in entry.now.name.now) }
     ensures looked { Looked (named_decided rules.now vol.old.sup (met_by entry.now))
         (R.seen rack.old) vol.old (R.seen rack.new) vol.new result }
@@ -235,7 +231,7 @@ pub fn decide<R: Rack>(
     rack: &mut R,
     vol: &mut Volume,
 ) -> Result<Decision, TreeFault>
-    requires ready { CanLook (R.seen rack.old) vol.old }
+    requires ready { CanRead 4 (R.seen rack.old) vol.old }
     ensures looked { Looked (decided rules.now vol.old.sup (met_by entry.now))
         (R.seen rack.old) vol.old (R.seen rack.new) vol.new result }
     ensures fits { FitsEntry rules.now (met_by entry.now) result }

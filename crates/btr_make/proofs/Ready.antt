@@ -3,7 +3,7 @@ use Rattle.std.proofs.Common.{◌≡◌, ◌∙◌, ℕ, zero, suc, List, [], �
 use Rattle.std.specs.Option.{is_some, IsSome}
 use Rattle.btr_rack.specs.Image.{MemoryImage, zeros}
 use Rattle.btr_rack.specs.Memory.{MemoryRack, named, slots_of, shelf_of, empty_rack, with_image}
-use Rattle.btr_make.specs.Shelf.{Standing, standing, IsReady}
+use Rattle.btr_make.specs.Shelf.{Standing, standing, IsShelved}
 
 -- where no slot is open, each image is on the shelf
 none_open : (n : ℕ) (xs : List MemoryImage) → map (λ (image : MemoryImage). image.slot) (take n xs) ≡ [] → (take n xs ≡ []) × (drop n xs ≡ xs)
@@ -24,7 +24,7 @@ shelved old new name e closed some =
     let names : is_some (named new name) ≡ is_some (named old name) = ap (λ (s : Standing). s.names name) e in
     ap is_some (shelf_closed new name closed') ∙ names ∙ sym (ap is_some (shelf_closed old name closed)) ∙ some
 
-pub ready_stays : (old new : MemoryRack) → IsReady old → standing new ≡ standing old → IsReady new
+pub ready_stays : (old new : MemoryRack) → IsShelved old → standing new ≡ standing old → IsShelved new
 unfolding standing
 ready_stays old new r e =
     let failing : new.failing ≡ old.failing = ap (λ (s : Standing). s.failing) e in
@@ -44,11 +44,11 @@ ready_stays old new r e =
 
 -- three images of zeros make one
 pub ready_zeros : (len : ℕ) (none one two three : MemoryRack) → none ≡ empty_rack → one ≡ with_image (zeros (codes "a") len) none → two
-    ≡ with_image (zeros (codes "b") len) one → three ≡ with_image (zeros (codes "c") len) two → IsReady three
+    ≡ with_image (zeros (codes "b") len) one → three ≡ with_image (zeros (codes "c") len) two → IsShelved three
 ready_zeros len none one two three e a b c =
     let all : three ≡ with_image (zeros (codes "c") len) (with_image (zeros (codes "b") len) (with_image (zeros (codes "a") len) empty_rack)) =
     c ∙ ap (with_image (zeros (codes "c") len)) (b ∙ ap (with_image (zeros (codes "b") len)) (a ∙ ap (with_image (zeros (codes "a") len)) e)) in
-    subst IsReady (sym all) (record {
+    subst IsShelved (sym all) (record {
       a = refl;
       b = refl;
       c = refl;

@@ -28,7 +28,7 @@ standing rack = record {
 
 -- A rack of a volume that can be tried: the images `a`, `b` and `c` stand on the shelf, no slot is open, nothing is to
 -- fail, and nothing waits for a sync; the count of faults can still rise.
-pub record IsReady (rack : MemoryRack) : Type 0 where
+pub record IsShelved (rack : MemoryRack) : Type 0 where
   pub a : IsSome (shelf_of rack (codes "a"))
   pub b : IsSome (shelf_of rack (codes "b"))
   pub c : IsSome (shelf_of rack (codes "c"))

@@ -1,6 +1,6 @@
 // The made volumes.
 ghost use Rattle.std.specs.Prelude.{◌≡◌, ◌≤◌, IfOk};
-ghost use Rattle.btr_make.specs.Shelf.{standing, IsReady};
+ghost use Rattle.btr_make.specs.Shelf.{standing, IsShelved};
 
 use crate::draft::{Draft, TOP_TREE};
 use crate::fault::MakeFault;
@@ -51,13 +51,13 @@ const FILES: u64 = 4;
 pub fn make(alloc: Global, number: u64) -> Result<MemRack, Memory>
     requires least { 1 ≤ number }
     requires most { number ≤ 1000 }
-    ensures { IfOk result IsReady }
+    ensures { IfOk result IsShelved }
 {
     Ok(made(alloc, number)?)
 }
 
 fn made(alloc: Global, number: u64) -> Result<MemRack, MakeFault>
-    ensures { IfOk result IsReady }
+    ensures { IfOk result IsShelved }
 {
     let mut rack = shelf(alloc)?;
     let mut draft = Draft::new(alloc, MADE)?;
@@ -73,7 +73,7 @@ fn made(alloc: Global, number: u64) -> Result<MemRack, MakeFault>
 
 // The three images, all zeros.
 fn shelf(alloc: Global) -> Result<MemRack, MakeFault>
-    ensures { IfOk result IsReady }
+    ensures { IfOk result IsShelved }
 {
     let mut rack = MemRack::new(alloc);
     rack.add("a", MADE.image_len)?;

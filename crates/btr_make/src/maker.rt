@@ -1,5 +1,5 @@
 ghost use Rattle.std.specs.Prelude.{◌≡◌, ◌≤◌, ℕ, List, Option, Some, None, Ok, IfOk, IfSome};
-ghost use Rattle.btr_make.specs.Shelf.{IsReady, volume_of};
+ghost use Rattle.btr_make.specs.Shelf.{IsShelved, volume_of};
 
 use crate::make;
 use btr_base::Memory;
@@ -17,7 +17,7 @@ pub trait Maker {
     fn make(self, alloc: Global, number: u64) -> Result<MemRack, Memory>
         requires least { 1 ≤ number }
         requires most { number ≤ 1000 }
-        ensures ready { IfOk result IsReady }
+        ensures ready { IfOk result IsShelved }
         ensures told { IfOk result (λ rack. IfSome (volume self) (λ images. images ≡ volume_of rack)) };
 }
 
@@ -41,22 +41,22 @@ pub struct Given {
 
 impl Model for Given {
     ghost use Rattle.btr_rack.specs.Memory.{MemoryRack};
-    ghost use Rattle.btr_make.specs.Shelf.{IsReady};
+    ghost use Rattle.btr_make.specs.Shelf.{IsShelved};
 
     ghost Value = { MemoryRack };
 
     ghost view = { λ given. given.rack };
 
-    ghost invariant = { λ given. IsReady given.rack };
+    ghost invariant = { λ given. IsShelved given.rack };
 }
 
 impl Given {
     ghost use Rattle.std.specs.Prelude.{◌≡◌};
-    ghost use Rattle.btr_make.specs.Shelf.{IsReady};
+    ghost use Rattle.btr_make.specs.Shelf.{IsShelved};
 
     /// The maker of this rack: the images `a`, `b` and `c` stand on its shelf, no slot is open and nothing is to fail.
     pub fn new(rack: MemRack) -> Given
-        requires { IsReady rack }
+        requires { IsShelved rack }
         ensures { result ≡ rack }
     {
         Given { rack }
@@ -73,7 +73,7 @@ impl Maker for Given {
     fn make(self, _alloc: Global, _number: u64) -> Result<MemRack, Memory>
         requires least { 1 ≤ _number }
         requires most { _number ≤ 1000 }
-        ensures ready { IfOk result IsReady }
+        ensures ready { IfOk result IsShelved }
         ensures told { IfOk result (λ rack. volume_of self ≡ volume_of rack) }
         ensures same { result ≡ Ok self }
     {

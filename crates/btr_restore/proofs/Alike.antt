@@ -1,11 +1,10 @@
 -- Where the images are honest the candidates of the root tree's root block agree.
-use Rattle.std.proofs.Common.{◌≡◌, ◌⊎◌, inl, inr, ℕ, List, Option, Some, None, IsSome, Result, Ok, Err, refl, sym, ap, ◌∙◌, subst}
-use Rattle.std.specs.Option.{is_some}
+use Rattle.std.proofs.Common.{◌≡◌, inl, inr, ℕ, List, Option, Some, None, IsSome, Result, Ok, Err, refl, sym, ap, ◌∙◌}
 use Rattle.std.proofs.lemmas.Bool.{false≢true}
 use Rattle.btr_chunk.specs.declared.chunk.Chunk.{Chunk}
 use Rattle.btr_files.specs.declared.plan.RestorePlan.{RestorePlan}
 use Rattle.btr_prog.specs.Prog.{BlockMap, Run, exec}
-use Rattle.btr_prog.specs.Maps.{Each, IsWhole, Loses, cut}
+use Rattle.btr_prog.specs.Maps.{cut}
 use Rattle.btr_prog.proofs.Lost.{missing}
 use Rattle.btr_prog.proofs.Quieting.{quiet_ends}
 use Rattle.btr_prog.proofs.Runs.{cut_law, cut-whole}

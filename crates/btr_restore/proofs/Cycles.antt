@@ -1,5 +1,6 @@
 -- A directory in another one.
-use Rattle.std.proofs.Common.{◌≡◌, ℕ, ◌+◌, ◌-◌, ◌<◌, ◌≤◌, Bool, true, false, zero, suc, List, Option, Result, Ok, Err, refl, sym, ap, ◌∙◌, subst, arith}
+use Rattle.std.proofs.Common.{◌≡◌, ℕ, ◌+◌, ◌-◌, ◌<◌, ◌≤◌, Bool, true, false, zero, suc, List, Option, Result, Ok, Err, IsErrAnd, refl}
+use Rattle.std.proofs.Common.{sym, ap, ◌∙◌, subst, arith}
 use Rattle.std.specs.Prelude.{◌==◌, OnOk}
 use Rattle.btr_prog.specs.Prog.{Return}
 use Rattle.btr_rack.specs.Sink.{Sink, left}
@@ -37,10 +38,15 @@ stands_up dry n old new (Ok u) after h = λ d.
     (ap (λ (s : Sink). s.stage) is ∙ was.0, ap (λ (s : Sink). s.depth) is ∙ (ap (λ k. k - 1) was.1 ∙ omega arith))
 stands_up dry n old new (Err t) after h = tt
 
+-- a stop that is passed on
+pub ended_passed : (counts : Counts) (r : Result (Unit {0}) TheStop) (s : TheStop) → IsErrAnd r (λ e. e ≡ s) → IsErrAnd (ended_with counts r) (λ e. e ≡ s)
+ended_passed counts (Ok u) s is = absurd is
+ended_passed counts (Err e) s is = is
+
 -- the listing of one of some places
-pub listing_is : (plan : RestorePlan) (s : Super) (sums : Option TreeRoot) (frames below : ℕ) → frames ≡ below + 1 → listing_in plan s sums frames
+pub listing_is : (plan : RestorePlan) (s : Super) (sums : Option TreeRoot) (dirs below : ℕ) → dirs ≡ below + 1 → listing_in plan s sums dirs
     ≡ directory plan s sums below
-listing_is plan s sums frames below e = ap (listing_in plan s sums) (e ∙ step below)
+listing_is plan s sums dirs below e = ap (listing_in plan s sums) (e ∙ step below)
   where
     step : (k : ℕ) → k + 1 ≡ suc k
     step k = omega arith
@@ -60,8 +66,8 @@ room_left depth depth' below below' most e f h = omega arith
 pub room_within : (depth depth' below most : ℕ) → depth' ≡ depth + 1 → depth + below ≤ most → depth' + below ≤ most + 1
 room_within depth depth' below most e h = omega arith
 
-pub room_below : (depth frames below most : ℕ) → frames ≡ below + 1 → depth + frames ≤ most + 1 → depth + below ≤ most
-room_below depth frames below most e h = omega arith
+pub room_below : (depth dirs below most : ℕ) → dirs ≡ below + 1 → depth + dirs ≤ most + 1 → depth + below ≤ most
+room_below depth dirs below most e h = omega arith
 
 pub room_above : (depth below most : ℕ) (deep : Bool) → deep ≡ (below == 0) → deep ≡ false → depth + below ≤ most → depth < most
 room_above depth zero most deep is shallow h = absurd (cc (sym is ∙ shallow))
@@ -83,7 +89,8 @@ treated_in plan s sums deep tree dirid path here counts entry x y r at h =
     subst (λ (p : List ℕ). Ran (journey.treated plan s sums (Met_at p) counts) x y r) at h
 
 -- what is done with an entry, as far as it was treated
-module _ (plan : RestorePlan) (s : Super) (sums : Option TreeRoot) (k : ℕ) (deep : Bool) (is : deep ≡ is_deep k) (tree : TreeRoot) (dirid : ℕ) (path : List ℕ) (counts : Counts) (entry : DirEntry) (x y z : World) where
+module _ (plan : RestorePlan) (s : Super) (sums : Option TreeRoot) (k : ℕ) (deep : Bool) (is : deep ≡ is_deep k) (tree : TreeRoot) (dirid : ℕ)
+    (path : List ℕ) (counts : Counts) (entry : DirEntry) (x y z : World) where
   abbrev Whole : Result Counts TheStop → World → Type 0
   Whole r w = Ran (treat_in plan s sums k tree dirid path counts entry) x w r
 
@@ -109,23 +116,24 @@ module _ (plan : RestorePlan) (s : Super) (sums : Option TreeRoot) (k : ℕ) (de
       (as_first (Ok (journey.Within inner ino after)) h) g
 
 -- what is in a directory, and the way up
-module _ (plan : RestorePlan) (s : Super) (sums : Option TreeRoot) (frames below : ℕ) (is : frames ≡ below + 1) (inner : TreeRoot) (dirid : ℕ) (path : List ℕ) (counts : Counts) (x y : World) where
+module _ (plan : RestorePlan) (s : Super) (sums : Option TreeRoot) (dirs below : ℕ) (is : dirs ≡ below + 1) (inner : TreeRoot) (dirid : ℕ)
+    (path : List ℕ) (counts : Counts) (x y : World) where
   abbrev up : Counts → Program Step Counts
   up after = row plan Up (Return after)
 
   as_listed : (r : Result Counts TheStop) → Ran (directory plan s sums below inner dirid path counts) x y r
-      → Ran (listing_in plan s sums frames inner dirid path counts) x y r
-  as_listed r h = subst (λ (l : Listing). Ran (l inner dirid path counts) x y r) (sym (listing_is plan s sums frames below is)) h
+      → Ran (listing_in plan s sums dirs inner dirid path counts) x y r
+  as_listed r h = subst (λ (l : Listing). Ran (l inner dirid path counts) x y r) (sym (listing_is plan s sums dirs below is)) h
 
   pub within_halts : (t : TheStop) → Ran (directory plan s sums below inner dirid path counts) x y (Err t)
-      → Ran (journey.listed_in plan s sums (listing_in plan s sums frames) path (journey.Within inner dirid counts)) x y (Err t)
-  within_halts t h = ran_halt (listing_in plan s sums frames inner dirid path counts) up x y y t (as_listed (Err t) h)
+      → Ran (journey.listed_in plan s sums (listing_in plan s sums dirs) path (journey.Within inner dirid counts)) x y (Err t)
+  within_halts t h = ran_halt (listing_in plan s sums dirs inner dirid path counts) up x y y t (as_listed (Err t) h)
 
   pub within_up : (after : Counts) (z : Outside) (r : Result (Unit {0}) TheStop)
       → Ran (directory plan s sums below inner dirid path counts) x y (Ok after) → Wrote (row plan Up (Return tt)) y.out z r
-      → Ran (journey.listed_in plan s sums (listing_in plan s sums frames) path (journey.Within inner dirid counts)) x (world y.rack y.vol z)
+      → Ran (journey.listed_in plan s sums (listing_in plan s sums dirs) path (journey.Within inner dirid counts)) x (world y.rack y.vol z)
       (ended_with after r)
-  within_up after z r h w = ran_then (listing_in plan s sums frames inner dirid path counts) up x y (world y.rack y.vol z) after (ended_with after r)
+  within_up after z r h w = ran_then (listing_in plan s sums dirs inner dirid path counts) up x y (world y.rack y.vol z) after (ended_with after r)
       (as_listed (Ok after) h)
       (ran_wrote (up after) y.rack y.vol y.out z (ended_with after r) h.ready (wrote_up plan after y.out z r w))
 

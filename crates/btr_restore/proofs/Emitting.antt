@@ -13,7 +13,8 @@ use Rattle.btr_walk.specs.Reading.{UnreadBlock, unread_by}
 use Rattle.btr_volume.specs.Lookup.{Program}
 use Rattle.btr_volume.specs.declared.stop.Stop.{Stop}
 use Rattle.btr_restore.specs.Outcome.{text_of}
-use Rattle.btr_restore.specs.Restoring.{sink_after, text_after, Emits, stop_halt, stops_out, stops_sink}
+use Rattle.btr_restore.specs.Restoring.{sink_after, text_after, Emits}
+use Rattle.btr_volume.specs.Stops.{stop_halt, stops_out, stops_sink}
 use Rattle.btr_files.specs.declared.counts.Counts.{Counts}
 use Rattle.btr_restore.specs.Journey.{Treated, Over}
 use Rattle.btr_listing.specs.Lines.{more, with_skip}
@@ -93,7 +94,8 @@ module _ (text : List ℕ) (counts : Counts) (s : Sink) (told told' : Option (Li
   Skips answer = Emits (Emit (Line text) (Return (Over (with_skip counts)))) s s told told' answer
 
   pub left_out : (n : ℕ) → n ≡ more counts.skipped → Adds told told' text → Skips (Ok (Over (record { dirs = counts.dirs; files = counts.files; skipped = n })))
-  left_out n is h = subst (λ m. Skips (Ok (Over (record { dirs = counts.dirs; files = counts.files; skipped = m })))) (sym is) (emits_line text (Over (with_skip counts)) s told told' h)
+  left_out n is h = subst (λ m. Skips (Ok (Over (record { dirs = counts.dirs; files = counts.files; skipped = m })))) (sym is) (emits_line text (Over
+      (with_skip counts)) s told told' h)
 
   pub left_broke : (stop : Stop) (error : SinkError) → stop ≡ stops_out error → ((n : ℕ) × Adds told told' (take n text)) → Skips (Err (stop_halt stop))
   left_broke stop error is h = as_out Skips stop error is (breaks_line text (Return (Over (with_skip counts))) s told told' h)
@@ -120,9 +122,10 @@ module _ (dry : Bool) (step : Step) (silent : text_of (step ∷ []) ≡ []) (s :
     })
 
     pub row_broke : (stop : Stop) (error : SinkError) → dry ≡ false → stop ≡ stops_sink error → s' ≡ s → Emits (Row dry) s s' told told (Err (stop_halt stop))
-    row_broke stop error e is same = as_sink (λ answer. Emits (Row dry) s s' told told answer) stop error is (subst (λ b. Emits (Row b) s s' told told (Err Broke)) (sym e) (record {
-      done = [];
-      sink = same;
-      text = text_none told;
-      goes = λ layout old new Bs. goes_nowhere Bs (unread_by layout old new) part [] 0 (Emit step (Return tt));
-    }))
+    row_broke stop error e is same = as_sink (λ answer. Emits (Row dry) s s' told told answer) stop error is (subst (λ b. Emits (Row b) s s' told told
+        (Err Broke)) (sym e) (record {
+          done = [];
+          sink = same;
+          text = text_none told;
+          goes = λ layout old new Bs. goes_nowhere Bs (unread_by layout old new) part [] 0 (Emit step (Return tt));
+        }))

@@ -19,6 +19,7 @@ use Rattle.btr_walk.specs.Reading.{Map, UnreadBlock, Tells, unread_by, halt_of, 
 use Rattle.btr_walk.proofs.Fetched.{since, cause_since}
 use Rattle.btr_volume.specs.Lookup.{Program, each}
 use Rattle.btr_volume.specs.Looking.{SameVolume}
+use Rattle.btr_volume.specs.Readable.{CanRead}
 use Rattle.btr_volume.specs.declared.stop.Stop.{Stop as TheStop}
 use Rattle.btr_volume.specs.declared.stop.Stop.TheVariants as stop
 use Rattle.btr_files.specs.declared.counts.Counts.{Counts}
@@ -35,14 +36,15 @@ use Rattle.btr_restore.specs.Journey.{directory}
 use Rattle.btr_files.proofs.Nextward.{rest_more}
 use Rattle.btr_files.specs.Listing.{dir_left, IsDirOn, GivesEntry, IsNextEntry, named_row}
 use Rattle.btr_restore.specs.Listing.{maps_of, TellsBoth, body_of, last_of, treat_in, Left, LeftOf, MetOf, Listed}
-use Rattle.btr_restore.specs.Restoring.{sink_after, text_after, SinkCounts, OutCounts, stop_halt}
-use Rattle.btr_restore.specs.Running.{World, world, IsReady, Ran}
+use Rattle.btr_restore.specs.Restoring.{IsRestoreStop, sink_after, text_after, SinkCounts, OutCounts}
+use Rattle.btr_volume.specs.Stops.{stop_halt}
+use Rattle.btr_rack.proofs.Reading.{reads_none, reads_more}
+use Rattle.btr_volume.proofs.Onward.{behind_since, same_self, same_then}
+use Rattle.btr_restore.specs.Running.{World, world, Ran}
 use Rattle.btr_listing.specs.Step.{Step, part}
 use Rattle.btr_restore.proofs.Doing.{fold-append, text_then}
 use Rattle.btr_restore.proofs.Emitting.{text_none}
 use Rattle.btr_restore.proofs.Goings.{if_some, if_both, first_map, each_all, goes_as}
-use Rattle.btr_listing.proofs.Looking.{reads_self, reads_then, same_self, same_then}
-use Rattle.btr_restore.proofs.Stopping.{stop_cause_since}
 
 -- facts of calls in a row, over one layout
 module _ (layout : Layout) (a b c : Seen) where
@@ -156,10 +158,10 @@ module _ (treat : Counts → DirEntry → Program Step Counts) (B : Map) (Bs : �
 
 -- a listing, call by call
 module _ (treat : Counts → DirEntry → Program Step Counts) (x : World) where
-  pub listed_first : (counts : Counts) (dir : Dir) (p : Program DirEntry (Unit {0})) → IsReady x.rack x.vol → ((B : Map) → dir_left B dir ≡ p)
+  pub listed_first : (counts : Counts) (dir : Dir) (p : Program DirEntry (Unit {0})) → CanRead 6 x.rack x.vol → ((B : Map) → dir_left B dir ≡ p)
       → ((B : Map) → IsDirOn B [] dir) → Listed treat (each treat counts p) x x counts dir
   listed_first counts dir p ready is on = record {
-    reads = reads_self x.rack;
+    reads = reads_none x.rack;
     volume = same_self x.vol;
     ready = ready;
     done = [];
@@ -171,7 +173,8 @@ module _ (treat : Counts → DirEntry → Program Step Counts) (x : World) where
     out_calls = refl;
   }
 
-  module _ (whole : Program Step Counts) (y : World) (counts : Counts) (dir dir' : Dir) (name : NameBuf) (rack : Seen) (vol : Volume) (l : Listed treat whole x y counts dir) (reads : OnlyReads y.rack rack) (same : SameVolume y.vol vol) (ready : IsReady rack vol) where
+  module _ (whole : Program Step Counts) (y : World) (counts : Counts) (dir dir' : Dir) (name : NameBuf) (rack : Seen) (vol : Volume)
+      (l : Listed treat whole x y counts dir) (reads : OnlyReads y.rack rack) (same : SameVolume y.vol vol) (ready : CanRead 6 rack vol) where
     abbrev layout : Layout
     layout = x.vol.store.layout
 
@@ -192,7 +195,7 @@ module _ (treat : Counts → DirEntry → Program Step Counts) (x : World) where
     pub listed_fault : (f : TreeFault) → HasCause {A = Option DirRow} y.vol.store.layout y.rack rack (Err f)
         → Tells y.vol.store.layout y.rack rack (Next y.vol.store.layout (Err f)) → Ran whole x (world rack vol y.out) (Err (stop.Tree f))
     listed_fault f cause t = record {
-      reads = reads_then l.reads reads;
+      reads = reads_more l.reads reads;
       volume = same_then l.volume same;
       ready = ready;
       did = record {
@@ -216,7 +219,7 @@ module _ (treat : Counts → DirEntry → Program Step Counts) (x : World) where
     pub listed_end : (result : Result (Option DirRow) TreeFault) → result ≡ Ok None
         → Tells y.vol.store.layout y.rack rack (Next y.vol.store.layout result) → Ran whole x (world rack vol y.out) (Ok counts)
     listed_end result is t = record {
-      reads = reads_then l.reads reads;
+      reads = reads_more l.reads reads;
       volume = same_then l.volume same;
       ready = ready;
       did = record {
@@ -235,7 +238,8 @@ module _ (treat : Counts → DirEntry → Program Step Counts) (x : World) where
       out_calls = l.out_calls;
     }
 
-    module _ (row : DirRow) (result : Result (Option DirRow) TreeFault) (is : result ≡ Ok (Some row)) (t : Tells y.vol.store.layout y.rack rack (Next y.vol.store.layout result)) (z : World) where
+    module _ (row : DirRow) (result : Result (Option DirRow) TreeFault) (is : result ≡ Ok (Some row)) (t : Tells y.vol.store.layout y.rack rack
+        (Next y.vol.store.layout result)) (z : World) where
       abbrev entry : DirEntry
       entry = named_row row name
 
@@ -250,7 +254,7 @@ module _ (treat : Counts → DirEntry → Program Step Counts) (x : World) where
       -- an entry was treated wholly
       pub listed_step : (counts' : Counts) → Ran (treat counts entry) (world rack vol y.out) z (Ok counts') → Listed treat whole x z counts' dir'
       listed_step counts' r = record {
-        reads = reads_then (reads_then l.reads reads) r.reads;
+        reads = reads_more (reads_more l.reads reads) r.reads;
         volume = same_then (same_then l.volume same) r.volume;
         ready = r.ready;
         done = l.done ++ r.did.done;
@@ -269,7 +273,7 @@ module _ (treat : Counts → DirEntry → Program Step Counts) (x : World) where
       -- an entry was not treated to its end
       pub listed_halt : (s : TheStop) → Ran (treat counts entry) (world rack vol y.out) z (Err s) → Ran whole x z (Err s)
       listed_halt s r = record {
-        reads = reads_then (reads_then l.reads reads) r.reads;
+        reads = reads_more (reads_more l.reads reads) r.reads;
         volume = same_then (same_then l.volume same) r.volume;
         ready = r.ready;
         did = record {
@@ -282,11 +286,11 @@ module _ (treat : Counts → DirEntry → Program Step Counts) (x : World) where
               (λ B Bs. Goes (unread_by layout x.rack z.rack) part [] Bs whole (l.done ++ r.did.done) (Err (stop_halt s)))
               (λ B Bs zth m g. left_halts treat B Bs zth whole counts entry dir' l.done r.did.done (unread_by layout x.rack z.rack) (stop_halt s) m
               (goes_as (unread_by layout rack z.rack) (unread_by layout x.rack z.rack) Bs (treat counts entry) r.did.done (Err (stop_halt s))
-              (λ u w i. since layout layout refl (reads_then l.reads reads) u w i) g)) met
+              (λ u w i. since layout layout refl (reads_more l.reads reads) u w i) g)) met
               (subst (λ (L : Layout). TellsAll L rack z.rack
               (λ Bs. Goes (unread_by L rack z.rack) part [] Bs (treat counts entry) r.did.done (Err (stop_halt s)))) deeper r.did.content));
         };
-        cause = stop_cause_since {C = Counts} z.rack layout vol.store.layout (Err s) deeper (reads_then l.reads reads) r.cause;
+        cause = behind_since IsRestoreStop {C = Counts} z.rack layout vol.store.layout (Err s) deeper (reads_more l.reads reads) r.cause;
         sink_calls = subst (λ a. SinkCounts {A = Counts} a z.out.sink_calls (Err s)) l.sink_calls r.sink_calls;
         out_calls = subst (λ a. OutCounts {A = Counts} a z.out.out_calls (Err s)) l.out_calls r.out_calls;
       }

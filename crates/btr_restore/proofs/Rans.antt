@@ -1,6 +1,6 @@
 -- Calls of restore one after another.
 use Rattle.std.proofs.Common.{◌≡◌, ℕ, Bool, true, false, cond, List, [], ◌∷◌, ◌++◌, Option, Some, None, Result, Ok, Err, refl, sym, ap, ◌∙◌, subst, append-nil}
-use Rattle.std.proofs.Common.{arith}
+use Rattle.std.proofs.Common.{IsErrAnd, arith}
 use Rattle.btr_prog.specs.Answers.{Broke}
 use Rattle.btr_prog.specs.Prog.{Return, Stop, Emit, run, bind}
 use Rattle.btr_prog.specs.Quiet.{quiet}
@@ -8,24 +8,28 @@ use Rattle.btr_prog.proofs.Choices.{goes_nowhere, goes_step, goes_broke}
 use Rattle.btr_rack.specs.Rack.{Seen}
 use Rattle.btr_rack.specs.Sink.{Sink}
 use Rattle.btr_read.specs.Fate as fate
-use Rattle.btr_read.specs.Serves.{Serves}
 use Rattle.btr_walk.specs.Reading.{unread_by}
 use Rattle.btr_walk.specs.declared.fault.TreeFault.{TreeFault}
-use Rattle.btr_volume.specs.Looking.{SameVolume}
+use Rattle.btr_volume.specs.Readable.{CanRead}
 use Rattle.btr_volume.specs.Lookup.{Program, Lookup, looks}
-use Rattle.btr_listing.specs.Looked.{CanLook, Looked}
+use Rattle.btr_listing.specs.Looked.{Looked}
+use Rattle.btr_volume.specs.Stops.{stop_halt, ended}
+use Rattle.btr_rack.proofs.Reading.{reads_none, reads_more}
+use Rattle.btr_volume.proofs.Onward.{behind_since, reads_on, same_self, same_then, stop_passed}
 use Rattle.btr_volume.specs.declared.stop.Stop.{Stop as TheStop}
 use Rattle.btr_volume.specs.declared.stop.Stop.TheVariants as stop
 use Rattle.btr_volume.specs.declared.volume.Volume.{Volume}
+use Rattle.btr_files.specs.declared.counts.Counts.{Counts}
 use Rattle.btr_restore.specs.Outcome.{text_of}
-use Rattle.btr_restore.specs.Restoring.{sink_after, text_after, Emits, stop_halt, ended}
-use Rattle.btr_restore.specs.Running.{Outside, World, world, scene_of, IsReady, StopsOutside, Wrote, Ran}
+use Rattle.btr_restore.specs.Restoring.{IsRestoreStop, sink_after, text_after, Emits}
+use Rattle.btr_restore.specs.Running.{Outside, World, world, scene_of, Wrote, Ran}
+use Rattle.btr_restore.specs.Treating.{came}
+use Rattle.btr_restore.specs.declared.treated.Treated.{Treated}
 use Rattle.btr_listing.specs.Step.{Step, part}
 use Rattle.btr_restore.proofs.Doing.{emits_then, emits_halt}
 use Rattle.btr_restore.proofs.Emitting.{text_none, emits_none}
 use Rattle.btr_restore.proofs.Goings.{does_emits, does_halt, does_look, does_then}
-use Rattle.btr_listing.proofs.Looking.{reads_self, reads_then, room_kept, same_self, same_then}
-use Rattle.btr_restore.proofs.Stopping.{cause_kept, no_cause, outs_kept, outs_then, sinks_kept, sinks_then, stop_cause_since}
+use Rattle.btr_restore.proofs.Stopping.{no_cause, outs_then, sinks_then}
 
 -- calls that write only, one after another
 module _ {A C : Type 0} (p : Program Step A) (k : A → Program Step C) (x y z : Outside) where
@@ -37,34 +41,23 @@ module _ {A C : Type 0} (p : Program Step A) (k : A → Program Step C) (x y z :
     stops = g.stops;
   }
 
-  stops_kept : (s : TheStop) → StopsOutside {A = A} (Err s) → StopsOutside {A = C} (Err s)
-  stops_kept (stop.NoTree id) h = h
-  stops_kept (stop.Tree f) h = h
-  stops_kept (stop.Deletion id) h = h
-  stops_kept stop.Balance h = h
-  stops_kept (stop.Missing id) h = h
-  stops_kept (stop.Image slot) h = h
-  stops_kept stop.Sink h = h
-  stops_kept stop.Out h = h
-  stops_kept stop.Memory h = h
-
   pub wrote_halt : (s : TheStop) → Wrote p x y (Err s) → Wrote (bind p k) x y (Err s)
   wrote_halt s h = record {
     did = emits_halt p k x.sink y.sink y.sink x.text y.text y.text (stop_halt s) h.did;
-    sink_calls = sinks_kept A C x.sink_calls y.sink_calls s h.sink_calls;
-    out_calls = outs_kept A C x.out_calls y.out_calls s h.out_calls;
-    stops = stops_kept s h.stops;
+    sink_calls = h.sink_calls;
+    out_calls = h.out_calls;
+    stops = h.stops;
   }
 
 -- calls that read and write, one after another
 module _ {A C : Type 0} (p : Program Step A) (k : A → Program Step C) (x y z : World) where
   pub ran_then : (a : A) (r : Result C TheStop) → Ran p x y (Ok a) → Ran (k a) y z r → Ran (bind p k) x z r
   ran_then a r h g = record {
-    reads = reads_then h.reads g.reads;
+    reads = reads_more h.reads g.reads;
     volume = same_then h.volume g.volume;
     ready = g.ready;
     did = does_then x.vol.store.layout y.vol.store.layout h.volume.store.layout p k (scene_of x) (scene_of y) (scene_of z) a (ended r) h.reads h.did g.did;
-    cause = stop_cause_since z.rack x.vol.store.layout y.vol.store.layout r h.volume.store.layout h.reads g.cause;
+    cause = behind_since IsRestoreStop z.rack x.vol.store.layout y.vol.store.layout r h.volume.store.layout h.reads g.cause;
     sink_calls = sinks_then x.out.sink_calls y.out.sink_calls z.out.sink_calls a r h.sink_calls g.sink_calls;
     out_calls = outs_then x.out.out_calls y.out.out_calls z.out.out_calls a r h.out_calls g.out_calls;
   }
@@ -75,16 +68,29 @@ module _ {A C : Type 0} (p : Program Step A) (k : A → Program Step C) (x y z :
     volume = h.volume;
     ready = h.ready;
     did = does_halt x.vol.store.layout x.vol.store.layout refl p k (scene_of x) (scene_of y) (scene_of y) (stop_halt s) h.did;
-    cause = cause_kept A C x.vol.store.layout x.rack y.rack s h.cause;
-    sink_calls = sinks_kept A C x.out.sink_calls y.out.sink_calls s h.sink_calls;
-    out_calls = outs_kept A C x.out.out_calls y.out.out_calls s h.out_calls;
+    cause = h.cause;
+    sink_calls = h.sink_calls;
+    out_calls = h.out_calls;
   }
+
+-- a stop that is passed on
+pub wrote_passed : {A : Type 0} {p : Program Step A} {x y : Outside} {s : TheStop} (r : Result A TheStop) → IsErrAnd r (λ e. e ≡ s)
+    → Wrote p x y (Err s) → Wrote p x y r
+wrote_passed {p = p} {x = x} {y = y} {s = s} r is h = stop_passed (λ q. Wrote p x y q) r s is h
+
+pub ran_passed : {A : Type 0} {p : Program Step A} {x y : World} {s : TheStop} (r : Result A TheStop) → IsErrAnd r (λ e. e ≡ s)
+    → Ran p x y (Err s) → Ran p x y r
+ran_passed {p = p} {x = x} {y = y} {s = s} r is h = stop_passed (λ q. Ran p x y q) r s is h
+
+pub came_passed : (counts : Counts) (r : Result Treated TheStop) (s : TheStop) → IsErrAnd r (λ e. e ≡ s) → IsErrAnd (came counts r) (λ e. e ≡ s)
+came_passed counts (Ok t) s is = absurd is
+came_passed counts (Err e) s is = is
 
 -- a call that reads nothing, beside a rack and a volume
 module _ {A : Type 0} (p : Program Step A) (rack : Seen) (vol : Volume) (x y : Outside) where
-  pub ran_wrote : (r : Result A TheStop) → IsReady rack vol → Wrote p x y r → Ran p (world rack vol x) (world rack vol y) r
+  pub ran_wrote : (r : Result A TheStop) → CanRead 6 rack vol → Wrote p x y r → Ran p (world rack vol x) (world rack vol y) r
   ran_wrote r ready w = record {
-    reads = reads_self rack;
+    reads = reads_none rack;
     volume = same_self vol;
     ready = ready;
     did = does_emits vol.store.layout rack p x.sink y.sink x.text y.text (ended r) w.did;
@@ -93,33 +99,29 @@ module _ {A : Type 0} (p : Program Step A) (rack : Seen) (vol : Volume) (x y : O
     out_calls = w.out_calls;
   }
 
--- a volume can be read on after a call that only read
-pub ready_next : {old : Seen} (new : Seen) (vol after : Volume) → IsReady old vol → Serves new after.store → SameVolume vol after → IsReady new after
-ready_next new vol after ready serves same = record { serves = serves; room = room_kept vol after same ready.room }
-
 -- the slots that a lookup needs are free
-pub can_look : {rack : Seen} {vol : Volume} → IsReady rack vol → CanLook rack vol
+pub can_look : {rack : Seen} {vol : Volume} → CanRead 6 rack vol → CanRead 4 rack vol
 can_look ready = record { serves = ready.serves; room = omega (arith, ready.room) }
 
 -- a lookup
 module _ {A : Type 0} (p : Lookup A) (old new : Seen) (vol after : Volume) (x : Outside) where
-  pub ran_found : (a : A) → IsReady old vol → Looked p old vol new after (Ok a) → Ran (quiet p) (world old vol x) (world new after x) (Ok a)
+  pub ran_found : (a : A) → CanRead 6 old vol → Looked p old vol new after (Ok a) → Ran (quiet p) (world old vol x) (world new after x) (Ok a)
   ran_found a ready looked = record {
     reads = looked.reads;
     volume = looked.volume;
-    ready = ready_next new vol after ready looked.ready.serves looked.volume;
+    ready = reads_on new vol after ready looked.ready.serves looked.volume;
     did = does_look vol.store.layout old new p x.sink x.text (Ok a) looked.content;
     cause = tt;
     sink_calls = refl;
     out_calls = refl;
   }
 
-  pub ran_fault : (f : TreeFault) → IsReady old vol → Looked p old vol new after (Err f)
+  pub ran_fault : (f : TreeFault) → CanRead 6 old vol → Looked p old vol new after (Err f)
       → Ran (quiet p) (world old vol x) (world new after x) (Err (stop.Tree f))
   ran_fault f ready looked = record {
     reads = looked.reads;
     volume = looked.volume;
-    ready = ready_next new vol after ready looked.ready.serves looked.volume;
+    ready = reads_on new vol after ready looked.ready.serves looked.volume;
     did = does_look vol.store.layout old new p x.sink x.text (Err f) looked.content;
     cause = looked.cause;
     sink_calls = refl;
@@ -173,7 +175,7 @@ module _ {C : Type 0} (b : Bool) (step : Step) (rest : Program Step C) where
 
 -- the calls of the sink and the lines that come before the rest of a program that reads too
 module _ {C : Type 0} (b : Bool) (step : Step) (rest : Program Step C) (rack : Seen) (vol : Volume) (x y : Outside) (z : World) (r : Result C TheStop) where
-  pub row_ran : IsReady rack vol → Wrote (unless b step rest b) x y (Ok tt) → Ran rest (world rack vol y) z r
+  pub row_ran : CanRead 6 rack vol → Wrote (unless b step rest b) x y (Ok tt) → Ran rest (world rack vol y) z r
       → Ran (cond b rest (Emit step rest)) (world rack vol x) z r
   row_ran ready w h = subst (λ (p : Program Step C). Ran p (world rack vol x) z r) (unless_bind b step rest b)
       (ran_then (unless b step rest b) (λ u. rest) (world rack vol x) (world rack vol y) z tt r
@@ -202,7 +204,7 @@ module _ {A : Type 0} (p q : Program Step A) (x y : World) (r : Result A TheStop
   ran_else false e h = h
 
 -- want of memory, before anything was done
-pub ran_memory : {A : Type 0} (p : Program Step A) (rack : Seen) (vol : Volume) (x : Outside) → IsReady rack vol
+pub ran_memory : {A : Type 0} (p : Program Step A) (rack : Seen) (vol : Volume) (x : Outside) → CanRead 6 rack vol
     → Ran p (world rack vol x) (world rack vol x) (Err stop.Memory)
 ran_memory p rack vol x ready = ran_wrote p rack vol x x (Err stop.Memory) ready (wrote_memory p x)
 
@@ -240,9 +242,9 @@ module _ {A : Type 0} (p q : Lookup A) (x y : World) (r : Result A TheStop) wher
   look_else false e h = h
 
 -- there is no such tree
-pub ran_no_tree : {A : Type 0} (id : ℕ) (x : World) → IsReady x.rack x.vol → Ran {A = A} (Stop (fate.NoTree id)) x x (Err (stop.NoTree id))
+pub ran_no_tree : {A : Type 0} (id : ℕ) (x : World) → CanRead 6 x.rack x.vol → Ran {A = A} (Stop (fate.NoTree id)) x x (Err (stop.NoTree id))
 ran_no_tree {A} id x ready = record {
-  reads = reads_self x.rack;
+  reads = reads_none x.rack;
   volume = same_self x.vol;
   ready = ready;
   did = does_emits x.vol.store.layout x.rack (Stop (fate.NoTree id)) x.out.sink x.out.sink x.out.text x.out.text (Err (stop_halt (stop.NoTree id)))

@@ -18,7 +18,8 @@ use Rattle.btr_volume.specs.declared.stop.Stop.{Stop as TheStop}
 use Rattle.btr_volume.specs.declared.stop.Stop.TheVariants as stop
 use Rattle.btr_volume.specs.declared.volume.Volume.{Volume}
 use Rattle.btr_restore.specs.Listing.{maps_of}
-use Rattle.btr_restore.specs.Restoring.{Scene, Does as Did, OutCounts, Settles, SinkCounts, stop_halt}
+use Rattle.btr_restore.specs.Restoring.{Scene, Does as Did, OutCounts, Settles, SinkCounts}
+use Rattle.btr_volume.specs.Stops.{stop_halt}
 use Rattle.btr_restore.specs.Running.{Ran, World, outside, scene_of, world}
 use Rattle.btr_listing.specs.Step.{Step, part}
 use Rattle.btr_restore.proofs.Goings.{if_map}
@@ -36,12 +37,29 @@ pub broken : {W A U : Type 0} (Is : U → W → Type 0) (r : Run W fate.Fault St
 broken {W} {A} {U} Is r done answer = of answer
   where
     all : done ≡ steps_of r.marks → Breaks part (λ (ws : List W). Unit {0}) r done
-    all is = record { before = r.marks; behind = []; left = None; place = sym (append-nil r.marks); steps = is ∙ sym (append-nil (steps_of r.marks)); leaves = tt; holds = tt }
+    all is = record {
+      before = r.marks;
+      behind = [];
+      left = None;
+      place = sym (append-nil r.marks);
+      steps = is ∙ sym (append-nil
+          (steps_of r.marks));
+      leaves = tt;
+      holds = tt;
+    }
 
     of : (answer : Result A (Halt fate.Fault U)) → Follows Is part [] r done answer → Follows Is part [] r done (Err Broke)
     of (Ok a) f = all f.0
     of (Err (halt_fault x)) f = all f.0
-    of (Err (halt_unread u)) f = record { before = f.before; behind = f.behind; left = f.left; place = f.place; steps = f.steps; leaves = left_whole f.left f.behind f.leaves; holds = tt }
+    of (Err (halt_unread u)) f = record {
+      before = f.before;
+      behind = f.behind;
+      left = f.left;
+      place = f.place;
+      steps = f.steps;
+      leaves = left_whole f.left f.behind f.leaves;
+      holds = tt;
+    }
     of (Err Broke) f = f
 
 does_broken : {A : Type 0} (layout : Layout) (p : Program Step A) (x y : Scene) (answer : Result A (Halt fate.Fault UnreadBlock))
@@ -61,28 +79,16 @@ does_broken layout p x y answer h = record {
 -- the sink failed behind another stop
 pub sink_behind : (A : Type 0) (a b c : CallAccount) (s : TheStop) → s ≢ stop.Sink → SinkCounts {A = A} a b (Err s)
     → Counts {T = Unit {0}} b c (Err Failed) → SinkCounts {A = A} a c (Err stop.Sink)
-sink_behind A a b c (stop.NoTree id) other h f = subst (λ (x : CallAccount). Counts {T = Unit {0}} x c (Err Failed)) h f
-sink_behind A a b c (stop.Tree fault) other h f = subst (λ (x : CallAccount). Counts {T = Unit {0}} x c (Err Failed)) h f
-sink_behind A a b c (stop.Deletion id) other h f = subst (λ (x : CallAccount). Counts {T = Unit {0}} x c (Err Failed)) h f
-sink_behind A a b c stop.Balance other h f = subst (λ (x : CallAccount). Counts {T = Unit {0}} x c (Err Failed)) h f
-sink_behind A a b c (stop.Missing id) other h f = subst (λ (x : CallAccount). Counts {T = Unit {0}} x c (Err Failed)) h f
-sink_behind A a b c (stop.Image slot) other h f = subst (λ (x : CallAccount). Counts {T = Unit {0}} x c (Err Failed)) h f
 sink_behind A a b c stop.Sink other h f = absurd (other refl)
-sink_behind A a b c stop.Out other h f = subst (λ (x : CallAccount). Counts {T = Unit {0}} x c (Err Failed)) h f
-sink_behind A a b c stop.Memory other h f = subst (λ (x : CallAccount). Counts {T = Unit {0}} x c (Err Failed)) h f
+sink_behind A a b c s other h f = subst (λ (x : CallAccount). Counts {T = Unit {0}} x c (Err Failed)) h f
 
 pub out_before : (A : Type 0) (a b : CallAccount) (s : TheStop) → OutCounts {A = A} a b (Err s) → OutCounts {A = A} a b (Err stop.Sink)
-out_before A a b (stop.NoTree id) h = inl h
-out_before A a b (stop.Tree fault) h = inl h
-out_before A a b (stop.Deletion id) h = inl h
-out_before A a b stop.Balance h = inl h
-out_before A a b (stop.Missing id) h = inl h
-out_before A a b (stop.Image slot) h = inl h
 out_before A a b stop.Sink h = h
 out_before A a b stop.Out h = inr h
-out_before A a b stop.Memory h = inl h
+out_before A a b s h = inl h
 
-module _ {A : Type 0} (p : Program Step A) (x : World) (rack : Seen) (vol : Volume) (sink : Sink) (before after : CallAccount) (text : Option (List ℕ)) (out_calls : CallAccount) where
+module _ {A : Type 0} (p : Program Step A) (x : World) (rack : Seen) (vol : Volume) (sink : Sink) (before after : CallAccount) (text : Option
+    (List ℕ)) (out_calls : CallAccount) where
   abbrev At : CallAccount → TheStop → Type 0
   At calls s = Ran p x (world rack vol (outside sink calls text out_calls)) (Err s)
 
@@ -100,7 +106,8 @@ module _ {A : Type 0} (p : Program Step A) (x : World) (rack : Seen) (vol : Volu
   -- a call did the steps of a program, and what waited was stored before its stop is answered
   pub ran_settled : (s result : TheStop) (sink' : Sink) → sink' ≡ sink → Settles s before after result → At before s
       → Ran p x (world rack vol (outside sink' after text out_calls)) (Err result)
-  ran_settled s result sink' same settles h = subst (λ (k : Sink). Ran p x (world rack vol (outside k after text out_calls)) (Err result)) (sym same) (of settles)
+  ran_settled s result sink' same settles h = subst (λ (k : Sink). Ran p x (world rack vol (outside k after text out_calls)) (Err result)) (sym same)
+      (of settles)
     where
       of : Settles s before after result → At after result
       of (inl e) = subst (λ (r : TheStop). At after r) (sym e.0) (subst (λ (c : CallAccount). At c s) (sym e.1) h)

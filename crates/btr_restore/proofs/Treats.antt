@@ -20,7 +20,8 @@ use Rattle.btr_listing.specs.Deciding.{decided}
 use Rattle.btr_listing.specs.Looked.{Looked, met_by}
 use Rattle.btr_restore.specs.declared.job.Job.{Job}
 use Rattle.btr_restore.specs.Journey.{Treated, done_about, empty, entered, rules_of, skip}
-use Rattle.btr_restore.specs.Running.{IsReady, Outside, Ran, World, world}
+use Rattle.btr_volume.specs.Readable.{CanRead}
+use Rattle.btr_restore.specs.Running.{Outside, Ran, World, world}
 use Rattle.btr_restore.specs.Treating.{done_for, treated_for, written_for}
 use Rattle.btr_restore.proofs.Rans.{look_halt, look_then, ran_fault, ran_found}
 
@@ -50,7 +51,7 @@ module _ (job : Job) (entry : Entry) (counts : Counts) (s : Super) where
 
   -- an entry, by what is looked up under the rules of restore
   module _ (rules : Rules) (of_plan : rules ≡ rules_of job.plan) (old : Seen) (vol : Volume) (same : s ≡ vol.sup) (new : Seen) (after : Volume)
-      (x : Outside) (ready : IsReady old vol) where
+      (x : Outside) (ready : CanRead 6 old vol) where
     as_rules : (r : Result Decision TreeFault) → Looked (decided rules vol.sup (met_by entry)) old vol new after r
         → Looked (decided (rules_of job.plan) s (met_by entry)) old vol new after r
     as_rules r h =

@@ -1,5 +1,5 @@
--- A file piece by piece.
-use Rattle.std.proofs.Common.{◌≡◌, ℕ, Bool, false, List, [], ◌∷◌, ◌++◌, Option, Some, None, Result, Ok, Err, refl, sym, ap, ◌∙◌, subst, append-nil}
+-- A file piece by piece, whatever is done with each.
+use Rattle.std.proofs.Common.{◌≡◌, ℕ, List, [], ◌∷◌, ◌++◌, Option, Some, None, Result, Ok, Err, refl, sym, ap, ◌∙◌, subst, append-nil}
 use Rattle.std.specs.Prelude.{fold}
 use Rattle.btr_base.specs.declared.kind.SumKind.{SumKind}
 use Rattle.btr_prog.specs.Answers.{Halt, no_part}
@@ -26,6 +26,7 @@ use Rattle.btr_walk.proofs.Turns.{base_layout}
 use Rattle.btr_walk.proofs.Fetched.{since, cause_since}
 use Rattle.btr_volume.specs.Lookup.{Program, each}
 use Rattle.btr_volume.specs.Looking.{SameVolume}
+use Rattle.btr_volume.specs.Readable.{CanRead}
 use Rattle.btr_volume.specs.declared.stop.Stop.{Stop as TheStop}
 use Rattle.btr_volume.specs.declared.stop.Stop.TheVariants as stop
 use Rattle.btr_volume.specs.declared.volume.Volume.{Volume}
@@ -38,16 +39,17 @@ use Rattle.btr_files.specs.Streaming.{without_file}
 use Rattle.btr_files.specs.Sums.{kind_in}
 use Rattle.btr_files.proofs.Nextward.{rest_more}
 use Rattle.btr_files.proofs.Onwards.{then_some}
-use Rattle.btr_restore.specs.Journey.{put}
 use Rattle.btr_restore.specs.Listing.{maps_of}
-use Rattle.btr_restore.specs.Restoring.{sink_after, text_after, SinkCounts, OutCounts, stop_halt, ended}
-use Rattle.btr_restore.specs.Running.{Outside, World, world, IsReady, Wrote, Ran}
+use Rattle.btr_restore.specs.Restoring.{sink_after, text_after, SinkCounts, OutCounts}
+use Rattle.btr_volume.specs.Stops.{stop_halt, ended}
+use Rattle.btr_rack.proofs.Reading.{reads_none, reads_more}
+use Rattle.btr_volume.proofs.Onward.{room_kept}
+use Rattle.btr_restore.specs.Running.{Outside, World, world, Wrote, Ran}
 use Rattle.btr_listing.specs.Step.{Step, part}
-use Rattle.btr_restore.specs.Writing.{put_of, last_plain, Puts, PutsLeft, PutsFrom, LeftToPut, PieceToPut, IsWriting, WasWritten}
+use Rattle.btr_restore.specs.Writing.{put_of, last_state, WritesPieces, WritesLeft, WritesFrom, LeftToWrite, PieceToWrite, IsWriting, WasWritten}
 use Rattle.btr_restore.proofs.Doing.{fold-append, text_then}
 use Rattle.btr_restore.proofs.Emitting.{text_none}
 use Rattle.btr_restore.proofs.Goings.{if_some, if_map, if_both}
-use Rattle.btr_listing.proofs.Looking.{reads_self, reads_then, room_kept}
 use Rattle.btr_restore.proofs.Stopping.{no_cause}
 
 wants_back : {W : Type 0} (ws : List W) → wants_of {S = Step} (want_marks ws) ≡ ws
@@ -58,21 +60,21 @@ steps_back : {W : Type 0} (ws : List W) → steps_of {S = Step} (want_marks ws) 
 steps_back [] = refl
 steps_back (w ∷ ws) = steps_back ws
 
-module _ (Bs : ℕ → Map) where
-  abbrev Body : Bool → Piece → Run Want Fault Step (Result Bool Bool) → Type 0
-  Body st piece b = GoesTo Bs (put_of st piece) b
+module _ {St : Type 0} (put : St → Piece → Program Step St) (Bs : ℕ → Map) where
+  abbrev Body : St → Piece → Run Want Fault Step (Result St St) → Type 0
+  Body st piece b = GoesTo Bs (put_of put st piece) b
 
-  abbrev last : Bool → Unit {0} → Bool
-  last = last_plain
+  abbrev last : St → Unit {0} → St
+  last = last_state put
 
-  abbrev some : Bool → Run Want Fault Piece (Unit {0}) → Run Want Fault Step Bool
-  some st q = some_run Bs 0 (put_of) last st q.marks q.ending
+  abbrev some : St → Run Want Fault Piece (Unit {0}) → Run Want Fault Step St
+  some st q = some_run Bs 0 (put_of put) last st q.marks q.ending
 
-  some_puts : (st : Bool) (q : Run Want Fault Piece (Unit {0})) → Puts Bs st q (some st q)
-  some_puts st q = threads_map Bs 0 (put_of) last st q.marks q.ending
+  some_puts : (st : St) (q : Run Want Fault Piece (Unit {0})) → WritesPieces put Bs st q (some st q)
+  some_puts st q = threads_map Bs 0 (put_of put) last st q.marks q.ending
 
-  past_in : (ws : List Want) (st : Bool) (q : Run Want Fault Piece (Unit {0})) (r : Run Want Fault Step Bool) → Puts Bs st q r
-      → Puts Bs st (prepend (want_marks ws) q) (prepend (want_marks ws) r)
+  past_in : (ws : List Want) (st : St) (q : Run Want Fault Piece (Unit {0})) (r : Run Want Fault Step St) → WritesPieces put Bs st q r
+      → WritesPieces put Bs st (prepend (want_marks ws) q) (prepend (want_marks ws) r)
   past_in [] st q r h = h
   past_in (w ∷ ws) st q r h = (prepend (want_marks ws) r, refl, past_in ws st q r h)
 
@@ -85,96 +87,104 @@ module _ (Bs : ℕ → Map) where
       let p = file.progress in
       then_some kind file.source Bs (todo_prog kind file.source p.at p.end (inline_of (met_last (Bs 0) p.rest)) p.todo) (exec (Bs 0) (rest_left (Bs 0) p.rest))
 
-  pub left_first : (kind : SumKind) (file : FileBytes) (plain : Bool) (p : Program Piece (Unit {0})) → Begins kind file p → IsFileOn (Bs 0) [] file
-      → LeftToPut (each put plain p) kind Bs plain file []
-  left_first kind file plain p begins on = record {
+  pub left_first : (kind : SumKind) (file : FileBytes) (st : St) (p : Program Piece (Unit {0})) → Begins kind file p → IsFileOn (Bs 0) [] file
+      → LeftToWrite put (each put st p) kind Bs st file []
+  left_first kind file st p begins on = record {
     seen = [];
-    so_far = so_far_more (GoesTo Bs (each put plain p)) (GoesTo Bs (each put plain p)) (PutsLeft kind Bs plain file) [] [] []
-        (λ r h. goes_thread Bs (put_of) last plain p h.0 r (begins Bs h.0 h.1) h.2) (so_far_none (GoesTo Bs (each put plain p)));
+    so_far = so_far_more (GoesTo Bs (each put st p)) (GoesTo Bs (each put st p)) (WritesLeft put kind Bs st file) [] [] []
+        (λ r h. goes_thread Bs (put_of put) last st p h.0 r (begins Bs h.0 h.1) h.2) (so_far_none (GoesTo Bs (each put st p)));
     on = on;
   }
 
-  module _ (whole : Program Step Bool) (kind : SumKind) (plain : Bool) (file : FileBytes) (done : List Step) where
-    abbrev Whole : Run Want Fault Step Bool → Type 0
+  module _ (whole : Program Step St) (kind : SumKind) (st : St) (file : FileBytes) (done : List Step) where
+    abbrev Whole : Run Want Fault Step St → Type 0
     Whole = GoesTo Bs whole
 
     -- a piece was given
-    pub piece_next : (file' : FileBytes) (piece : Piece) → (l : LeftToPut whole kind Bs plain file done) → GivesPiece kind Bs l.seen file file' piece
-        → PieceToPut whole kind Bs plain piece file' done
+    pub piece_next : (file' : FileBytes) (piece : Piece) → (l : LeftToWrite put whole kind Bs st file done) → GivesPiece kind Bs l.seen file file' piece
+        → PieceToWrite put whole kind Bs st piece file' done
     piece_next file' piece l g =
         let ws = want_marks {S = Step} g.past in
-        let more = so_far_more Whole (PutsLeft kind Bs plain file) (PutsFrom kind Bs plain piece file') l.seen done ws
-        (λ r h. (prepend (want_marks g.past) (first (Does piece) h.0), g.goes h.0 h.1, past_in g.past plain (first (Does piece) h.0) r h.2)) l.so_far in
+        let more = so_far_more Whole (WritesLeft put kind Bs st file) (WritesFrom put kind Bs st piece file') l.seen done ws
+        (λ r h. (prepend (want_marks g.past) (first (Does piece) h.0), g.goes h.0 h.1, past_in g.past st (first (Does piece) h.0) r h.2)) l.so_far in
         record {
           seen = l.seen ++ g.past;
-          so_far = subst (λ (x : List Want). SoFar Whole (PutsFrom kind Bs plain piece file') (l.seen ++ x) done) (wants_back g.past)
-              (subst (λ (x : List Step). SoFar Whole (PutsFrom kind Bs plain piece file') (l.seen ++ wants_of ws) x)
-              (ap (λ (x : List Step). done ++ x) (steps_back g.past) ∙ append-nil done) more);
+          so_far = subst (λ (x : List Want). SoFar Whole (WritesFrom put kind Bs st piece file') (l.seen ++ x) done) (wants_back g.past)
+              (subst (λ (x : List Step). SoFar Whole (WritesFrom put kind Bs st piece file') (l.seen ++ wants_of ws) x) (ap (λ (x : List Step). done ++ x)
+              (steps_back g.past) ∙ append-nil done) more);
           on = g.on;
         }
 
     -- the file came to a fault
-    pub file_fault : (Is : UnreadBlock → Want → Type 0) (halt : Halt Fault UnreadBlock) → (l : LeftToPut whole kind Bs plain file done)
+    pub file_fault : (Is : UnreadBlock → Want → Type 0) (halt : Halt Fault UnreadBlock) → (l : LeftToWrite put whole kind Bs st file done)
         → EndsBy kind Is Bs l.seen file (Err halt) → Goes Is part [] Bs whole done (Err halt)
     file_fault Is halt l e =
-        let c = cursor_halts Body last (λ st q. (some st q, some_puts st q)) Is part l.seen plain e.0 halt e.2 in
+        let c = cursor_halts Body last (λ st q. (some st q, some_puts st q)) Is part l.seen st e.0 halt e.2 in
         subst (λ (x : List Step). Answers Is part Whole x (Err halt)) (append-nil done)
-        (so_far_ends Is part Whole (PutsLeft kind Bs plain file) l.seen done [] (Err halt) l.so_far (c.0, (e.0, e.1, c.1), c.2))
+        (so_far_ends Is part Whole (WritesLeft put kind Bs st file) l.seen done [] (Err halt) l.so_far (c.0, (e.0, e.1, c.1), c.2))
 
-    -- a run without pieces puts none
-    no_more : (ms : List (Mark Want Piece)) (e : Result (Unit {0}) Fault) → [] ≡ steps_of ms → e ≡ Ok tt → (r : Run Want Fault Step Bool)
-        × ThreadsTo Body last plain ms e r × ([] ≡ steps_of r.marks) × (r.ending ≡ Ok plain)
-    no_more [] e n i = subst (λ (x : Result (Unit {0}) Fault). (r : Run Want Fault Step Bool) × ThreadsTo Body last plain [] x r
-        × ([] ≡ steps_of r.marks) × (r.ending ≡ Ok plain)) (sym i) (run [] (Ok plain), refl, refl, refl)
+    -- a run without pieces writes none
+    no_more : (ms : List (Mark Want Piece)) (e : Result (Unit {0}) Fault) → [] ≡ steps_of ms → e ≡ Ok tt
+        → (r : Run Want Fault Step St) × ThreadsTo Body last st ms e r × ([] ≡ steps_of r.marks) × (r.ending ≡ Ok st)
+    no_more [] e n i = subst (λ (x : Result (Unit {0}) Fault). (r : Run Want Fault Step St) × ThreadsTo Body last st [] x r × ([] ≡ steps_of r.marks) ×
+        (r.ending ≡ Ok st)) (sym i) (run [] (Ok st), refl, refl, refl)
     no_more (Wants w ∷ ms) e n i = let g = no_more ms e n i in (first (Wants w) g.0, (g.0, refl, g.1), g.2, g.3)
     no_more (Does p ∷ ms) e n i = cc
 
     -- the file came to its end
-    pub file_end : (Is : UnreadBlock → Want → Type 0) → (l : LeftToPut whole kind Bs plain file done) → EndsBy kind Is Bs l.seen file (Ok tt)
-        → Goes Is part [] Bs whole done (Ok plain)
+    pub file_end : (Is : UnreadBlock → Want → Type 0) → (l : LeftToWrite put whole kind Bs st file done) → EndsBy kind Is Bs l.seen file (Ok tt)
+        → Goes Is part [] Bs whole done (Ok st)
     file_end Is l e =
         let c = no_more e.0.marks e.0.ending e.2.0 e.2.1 in
-        subst (λ (x : List Step). Answers Is part Whole x (Ok plain)) (append-nil done)
-        (so_far_ends Is part Whole (PutsLeft kind Bs plain file) l.seen done [] (Ok plain) l.so_far (c.0, (e.0, e.1, c.1), (c.2, c.3)))
+        subst (λ (x : List Step). Answers Is part Whole x (Ok st)) (append-nil done)
+        (so_far_ends Is part Whole (WritesLeft put kind Bs st file) l.seen done [] (Ok st) l.so_far (c.0, (e.0, e.1, c.1), (c.2, c.3)))
 
     module _ (piece : Piece) (more : List Step) (Is : UnreadBlock → Want → Type 0) where
       module _ (q : Run Want Fault Piece (Unit {0})) where
-        treated : (st : Bool) (marks : List (Mark Want Step)) (x : Result (Result Bool Bool) Fault) (r : Run Want Fault Step Bool) → x ≡ Ok (Ok st)
-            → Puts Bs st q r → AfterTo marks x (GoOnTo (λ st'. Puts Bs st' q)) (prepend marks r)
-        treated st marks x r i h = subst (λ y. AfterTo marks y (GoOnTo (λ st'. Puts Bs st' q)) (prepend marks r)) (sym i) (r, refl, h)
+        treated : (st : St) (marks : List (Mark Want Step)) (x : Result (Result St St) Fault) (r : Run Want Fault Step St) → x ≡ Ok (Ok st)
+            → WritesPieces put Bs st q r → AfterTo marks x (GoOnTo (λ st'. WritesPieces put Bs st' q)) (prepend marks r)
+        treated st marks x r i h = subst (λ y. AfterTo marks y (GoOnTo (λ st'. WritesPieces put Bs st' q)) (prepend marks r)) (sym i) (r, refl, h)
 
-        after_some : (marks : List (Mark Want Step)) (x : Result (Result Bool Bool) Fault)
-            → AfterTo marks x (GoOnTo (λ st'. Puts Bs st' q)) (after marks x (go_on_run (λ st'. some st' q)))
+        after_some : (marks : List (Mark Want Step)) (x : Result (Result St St) Fault) → AfterTo marks x (GoOnTo (λ st'. WritesPieces put Bs st' q))
+            (after marks x
+            (go_on_run (λ st'. some st' q)))
         after_some marks (Ok (Ok st)) = (some st q, refl, some_puts st q)
         after_some marks (Ok (Err y)) = (run [] (Ok y), refl, refl)
         after_some marks (Err f) = refl
 
       -- the piece was put
-      pub piece_put : (plain' : Bool) → PieceToPut whole kind Bs plain piece file done → Goes Is part [] Bs (put plain piece) more (Ok plain')
-          → LeftToPut whole kind Bs plain' file (done ++ more)
-      piece_put plain' l t =
-          let b : Run Want Fault Step (Result Bool Bool) = with_value {S = Step} Bs Ok t.0 in
-          let f = follows_value Is part [] Ok t.0 plain' more t.2 in
+      pub piece_put : (st' : St) → PieceToWrite put whole kind Bs st piece file done → Goes Is part [] Bs (put st piece) more (Ok st')
+          → LeftToWrite put whole kind Bs st' file (done ++ more)
+      piece_put st' l t =
+          let b : Run Want Fault Step (Result St St) = with_value {S = Step} Bs Ok t.0 in
+          let f = follows_value Is part [] Ok t.0 st' more t.2 in
           record {
             seen = l.seen ++ wants_of b.marks;
-            so_far = subst (λ (x : List Step). SoFar Whole (PutsLeft kind Bs plain' file) (l.seen ++ wants_of b.marks) (done ++ x)) (sym f.0)
-                (so_far_more Whole (PutsFrom kind Bs plain piece file) (PutsLeft kind Bs plain' file) l.seen done b.marks
-                (λ r h. (h.0, h.1, (b, goes_value Bs Ok (put plain piece) t.0 t.1, treated h.0 plain' b.marks b.ending r f.1 h.2))) l.so_far);
+            so_far = subst (λ (x : List Step). SoFar Whole (WritesLeft put kind Bs st' file) (l.seen ++ wants_of b.marks) (done ++ x)) (sym f.0)
+                (so_far_more Whole (WritesFrom put kind Bs st piece file) (WritesLeft put kind Bs st' file) l.seen done b.marks
+                (λ r h. (h.0, h.1, (b, goes_value Bs Ok (put st piece) t.0 t.1, treated h.0 st' b.marks b.ending r f.1 h.2))) l.so_far);
             on = file_more file l.seen (wants_of b.marks) l.on;
           }
 
       -- the piece was not put
-      pub piece_halts : (halt : Halt Fault UnreadBlock) → PieceToPut whole kind Bs plain piece file done
-          → Goes Is part [] Bs (put plain piece) more (Err halt) → Goes Is part [] Bs whole (done ++ more) (Err halt)
+      pub piece_halts : (halt : Halt Fault UnreadBlock) → PieceToWrite put whole kind Bs st piece file done → Goes Is part [] Bs (put st piece) more (Err halt)
+          → Goes Is part [] Bs whole (done ++ more) (Err halt)
       piece_halts halt l t =
-          let b : Run Want Fault Step (Result Bool Bool) = with_value {S = Step} Bs Ok t.0 in
+          let b : Run Want Fault Step (Result St St) = with_value {S = Step} Bs Ok t.0 in
           let f = some_file kind file in
           let g = follows_alone Is part l.seen b more (Err halt) (follows_halt Is part [] t.0 (λ x. run [] (Ok (Ok x))) more halt t.2) in
-          so_far_ends Is part Whole (PutsFrom kind Bs plain piece file) l.seen done more (Err halt) l.so_far (
+          so_far_ends Is part Whole (WritesFrom put kind Bs st piece file) l.seen done more (Err halt) l.so_far (
             after b.marks b.ending (go_on_run (λ st'. some st' f.0)),
-            (f.0, f.1, (b, goes_value Bs Ok (put plain piece) t.0 t.1, after_some f.0 b.marks b.ending)),
-            follows_halt Is part l.seen b
-                (go_on_run (λ st'. some st' f.0)) more halt g,
+            (
+              f.0,
+              f.1,
+              (
+                b,
+                goes_value Bs Ok (put st piece) t.0 t.1,
+                after_some f.0 b.marks b.ending,
+              ),
+            ),
+            follows_halt Is part l.seen b (go_on_run (λ st'. some st' f.0)) more halt g,
           )
 
 -- facts of calls in a row, over one layout
@@ -187,7 +197,8 @@ all_then layout a b c P Q R f one two = record {
 }
 
 -- the writing of a file, call by call
-module _ (whole : Program Step Bool) (x y : World) (plain : Bool) (file file' : FileBytes) (rack : Seen) (vol : Volume) (l : IsWriting whole x y plain file) (reads : OnlyReads y.rack rack) where
+module _ {St : Type 0} (put : St → Piece → Program Step St) (whole : Program Step St) (x y : World) (st : St) (file file' : FileBytes) (rack : Seen)
+    (vol : Volume) (l : IsWriting put whole x y st file) (reads : OnlyReads y.rack rack) where
   abbrev layout : Layout
   layout = x.vol.store.layout
 
@@ -195,7 +206,7 @@ module _ (whole : Program Step Bool) (x y : World) (plain : Bool) (file file' : 
   kind = kind_in x.vol.sup
 
   abbrev Was : (ℕ → Map) → Type 0
-  Was Bs = LeftToPut whole kind Bs plain file l.done
+  Was Bs = LeftToWrite put whole kind Bs st file l.done
 
   abbrev Next : Layout → Super → Result (Option Lending) TreeFault → (ℕ → Map) → Type 0
   Next L t result Bs = IsNextPiece (kind_in t) (unread_by L y.rack rack) Bs file file' result
@@ -205,8 +216,8 @@ module _ (whole : Program Step Bool) (x y : World) (plain : Bool) (file file' : 
 
   over : (result : Result (Option Lending) TreeFault) → TellsAll y.vol.store.layout y.rack rack (Next y.vol.store.layout y.vol.sup result)
       → TellsAll layout y.rack rack (Next layout x.vol.sup result)
-  over result t = subst (λ (v : Super). TellsAll layout y.rack rack (Next layout v result)) l.sup
-      (subst (λ (L : Layout). TellsAll L y.rack rack (Next L y.vol.sup result)) same_layout t)
+  over result t = subst (λ (v : Super). TellsAll layout y.rack rack (Next layout v result)) l.sup (subst (λ (L : Layout). TellsAll L y.rack rack
+      (Next L y.vol.sup result)) same_layout t)
 
   earlier : (u : UnreadBlock) (w : Want) → unread_by layout y.rack rack u w → unread_by layout x.rack rack u w
   earlier u w i = since layout layout refl l.reads u w i
@@ -220,11 +231,11 @@ module _ (whole : Program Step Bool) (x y : World) (plain : Bool) (file file' : 
 
   -- it came to a fault
   pub writing_fault : (f : TreeFault) (result : Result (Option Lending) TreeFault) → result ≡ Err f → Streamed y.vol vol file file' y.rack rack result
-      → HasCause {A = Option Lending} y.vol.store.layout y.rack rack (Err f) → WasWritten whole x (world rack vol y.out) file' (Err (stop.Tree f))
+      → HasCause {A = Option Lending} y.vol.store.layout y.rack rack (Err f) → WasWritten put whole x (world rack vol y.out) file' (Err (stop.Tree f))
   writing_fault f result is m cause =
       let n = streamed result (Err f) is m in
       record {
-        reads = reads_then l.reads reads;
+        reads = reads_more l.reads reads;
         sup = n.sup ∙ l.sup;
         others = apart n.others;
         reading = n.reading;
@@ -232,10 +243,15 @@ module _ (whole : Program Step Bool) (x y : World) (plain : Bool) (file file' : 
           done = l.done;
           sink = l.sink;
           text = l.text;
-          content = all_then layout x.rack y.rack rack Was (Next layout x.vol.sup (Err f))
-              (λ Bs. Goes (unread_by layout x.rack rack) part [] Bs whole l.done (Err (halt_of f)))
-              (λ Bs p q. file_fault Bs whole kind plain file l.done (unread_by layout x.rack rack) (halt_of f) p
-              (let e = q p.seen p.on in (e.0, e.1, follows_as (unread_by layout y.rack rack) (unread_by layout x.rack rack) earlier no_part p.seen e.0 [] (Err (halt_of f)) e.2)))
+          content = all_then layout x.rack y.rack rack Was (Next layout x.vol.sup (Err f)) (λ Bs. Goes (unread_by layout x.rack rack) part [] Bs whole l.done
+              (Err (halt_of f)))
+              (λ Bs p q. file_fault put Bs whole kind st file l.done (unread_by layout x.rack rack) (halt_of f) p
+              (let e = q p.seen p.on in (
+                e.0,
+                e.1,
+                follows_as (unread_by layout y.rack rack) (unread_by layout x.rack rack) earlier no_part p.seen e.0 [] (Err
+                    (halt_of f)) e.2,
+              )))
               l.content (over (Err f) n.content);
         };
         cause = cause_since rack layout y.vol.store.layout f same_layout l.reads cause;
@@ -243,13 +259,13 @@ module _ (whole : Program Step Bool) (x y : World) (plain : Bool) (file file' : 
         out_calls = l.out_calls;
       }
 
-  -- it came to its end
+  -- a file came to its end
   pub writing_end : (result : Result (Option Lending) TreeFault) → result ≡ Ok None → Streamed y.vol vol file file' y.rack rack result
-      → WasWritten whole x (world rack vol y.out) file' (Ok plain)
+      → WasWritten put whole x (world rack vol y.out) file' (Ok st)
   writing_end result is m =
       let n = streamed result (Ok None) is m in
       record {
-        reads = reads_then l.reads reads;
+        reads = reads_more l.reads reads;
         sup = n.sup ∙ l.sup;
         others = apart n.others;
         reading = n.reading;
@@ -257,10 +273,15 @@ module _ (whole : Program Step Bool) (x y : World) (plain : Bool) (file file' : 
           done = l.done;
           sink = l.sink;
           text = l.text;
-          content = all_then layout x.rack y.rack rack Was (Next layout x.vol.sup (Ok None))
-              (λ Bs. Goes (unread_by layout x.rack rack) part [] Bs whole l.done (Ok plain))
-              (λ Bs p q. file_end Bs whole kind plain file l.done (unread_by layout x.rack rack) p
-              (let e = q p.seen p.on in (e.0, e.1, follows_as (unread_by layout y.rack rack) (unread_by layout x.rack rack) earlier no_part p.seen e.0 [] (Ok tt) e.2)))
+          content = all_then layout x.rack y.rack rack Was (Next layout x.vol.sup (Ok None)) (λ Bs. Goes
+              (unread_by layout x.rack rack) part [] Bs whole l.done (Ok st))
+              (λ Bs p q. file_end put Bs whole kind st file l.done (unread_by layout x.rack rack) p
+              (let e = q p.seen p.on in (
+                e.0,
+                e.1,
+                follows_as (unread_by layout y.rack rack) (unread_by layout x.rack rack) earlier no_part p.seen e.0 []
+                    (Ok tt) e.2,
+              )))
               l.content (over (Ok None) n.content);
         };
         cause = tt;
@@ -269,40 +290,43 @@ module _ (whole : Program Step Bool) (x y : World) (plain : Bool) (file file' : 
       }
 
   -- a piece was given, and put or not
-  module _ (piece : Lending) (result : Result (Option Lending) TreeFault) (is : result ≡ Ok (Some piece)) (m : Streamed y.vol vol file file' y.rack rack result) (z : Outside) where
+  module _ (piece : Lending) (result : Result (Option Lending) TreeFault) (is : result ≡ Ok (Some piece))
+      (m : Streamed y.vol vol file file' y.rack rack result) (z : Outside) where
     n : Streamed y.vol vol file file' y.rack rack (Ok (Some piece))
     n = streamed result (Ok (Some piece)) is m
 
     abbrev Met : (ℕ → Map) → Type 0
-    Met Bs = PieceToPut whole kind Bs plain (piece_of piece) file' l.done
+    Met Bs = PieceToWrite put whole kind Bs st (piece_of piece) file' l.done
 
     met : TellsAll layout x.rack rack Met
-    met = all_then layout x.rack y.rack rack Was (Next layout x.vol.sup (Ok (Some piece))) Met
-        (λ Bs p q. piece_next Bs whole kind plain file l.done file' (piece_of piece) p (q p.seen p.on)) l.content (over (Ok (Some piece)) n.content)
+    met = all_then layout x.rack y.rack rack Was (Next layout x.vol.sup (Ok (Some piece))) Met (λ Bs p q. piece_next put Bs whole kind st file l.done file'
+        (piece_of piece) p (q p.seen p.on)) l.content (over (Ok (Some piece)) n.content)
 
-    put_with : {R : (ℕ → Map) → Type 0} (r : Result Bool TheStop) (w : Wrote (put plain (piece_of piece)) y.out z r)
-        → ((Bs : ℕ → Map) → Met Bs → Goes (unread_by layout x.rack rack) part [] Bs (put plain (piece_of piece)) w.did.done (ended r) → R Bs)
-        → TellsAll layout x.rack rack R
-    put_with {R} r w f = record { calls = calls_as (λ sure h p. if_map (λ images. Met (maps_of layout sure images)) (λ images. R (maps_of layout sure images)) h (λ images m. f (maps_of layout sure images) m (w.did.goes layout x.rack rack (maps_of layout sure images))) p) met.calls }
+    put_with : {R : (ℕ → Map) → Type 0} (r : Result St TheStop) (w : Wrote (put st (piece_of piece)) y.out z r) → ((Bs : ℕ → Map) → Met Bs
+        → Goes (unread_by layout x.rack rack) part [] Bs (put st (piece_of piece)) w.did.done (ended r) → R Bs) → TellsAll layout x.rack rack R
+    put_with {R} r w f = record {
+      calls = calls_as (λ sure h p. if_map (λ images. Met (maps_of layout sure images)) (λ images. R
+          (maps_of layout sure images)) h (λ images m. f (maps_of layout sure images) m (w.did.goes layout x.rack rack
+          (maps_of layout sure images))) p) met.calls;
+    }
 
-    pub writing_on : (plain' : Bool) → Wrote (put plain (piece_of piece)) y.out z (Ok plain') → IsWriting whole x (world rack vol z) plain' file'
-    writing_on plain' w = record {
-      reads = reads_then l.reads reads;
+    pub writing_on : (st' : St) → Wrote (put st (piece_of piece)) y.out z (Ok st') → IsWriting put whole x (world rack vol z) st' file'
+    writing_on st' w = record {
+      reads = reads_more l.reads reads;
       sup = n.sup ∙ l.sup;
       others = apart n.others;
       reading = n.reading;
       done = l.done ++ w.did.done;
       sink = w.did.sink ∙ (ap (λ v. fold sink_after v w.did.done) l.sink ∙ sym (fold-append sink_after x.out.sink l.done w.did.done));
       text = w.did.text ∙ (ap (λ u. text_after u w.did.done) l.text ∙ text_then x.out.text l.done w.did.done);
-      content = put_with (Ok plain') w (λ Bs m g. piece_put Bs whole kind plain file' l.done (piece_of piece) w.did.done
-          (unread_by layout x.rack rack) plain' m g);
+      content = put_with (Ok st') w (λ Bs m g. piece_put put Bs whole kind st file' l.done (piece_of piece) w.did.done (unread_by layout x.rack rack) st' m g);
       sink_calls = w.sink_calls ∙ l.sink_calls;
       out_calls = w.out_calls ∙ l.out_calls;
     }
 
-    pub writing_halt : (t : TheStop) → Wrote (put plain (piece_of piece)) y.out z (Err t) → WasWritten whole x (world rack vol z) file' (Err t)
+    pub writing_halt : (t : TheStop) → Wrote (put st (piece_of piece)) y.out z (Err t) → WasWritten put whole x (world rack vol z) file' (Err t)
     writing_halt t w = record {
-      reads = reads_then l.reads reads;
+      reads = reads_more l.reads reads;
       sup = n.sup ∙ l.sup;
       others = apart n.others;
       reading = n.reading;
@@ -310,19 +334,20 @@ module _ (whole : Program Step Bool) (x y : World) (plain : Bool) (file file' : 
         done = l.done ++ w.did.done;
         sink = w.did.sink ∙ (ap (λ v. fold sink_after v w.did.done) l.sink ∙ sym (fold-append sink_after x.out.sink l.done w.did.done));
         text = w.did.text ∙ (ap (λ u. text_after u w.did.done) l.text ∙ text_then x.out.text l.done w.did.done);
-        content = put_with (Err t) w (λ Bs m g. piece_halts Bs whole kind plain file' l.done (piece_of piece) w.did.done
-            (unread_by layout x.rack rack) (stop_halt t) m g);
+        content = put_with (Err t) w (λ Bs m g. piece_halts put Bs whole kind st file' l.done (piece_of piece) w.did.done (unread_by layout x.rack rack)
+            (stop_halt t) m g);
       };
-      cause = no_cause {A = Bool} layout x.rack rack (Err t) w.stops;
-      sink_calls = subst (λ a. SinkCounts {A = Bool} a z.sink_calls (Err t)) l.sink_calls w.sink_calls;
-      out_calls = subst (λ a. OutCounts {A = Bool} a z.out_calls (Err t)) l.out_calls w.out_calls;
+      cause = no_cause {A = St} layout x.rack rack (Err t) w.stops;
+      sink_calls = subst (λ a. SinkCounts {A = St} a z.sink_calls (Err t)) l.sink_calls w.sink_calls;
+      out_calls = subst (λ a. OutCounts {A = St} a z.out_calls (Err t)) l.out_calls w.out_calls;
     }
 
 -- a file begins
-pub writing_first : (x : World) (file : FileBytes) (p : Program Piece (Unit {0})) → IsReading x.rack x.vol.store file → without_file x.vol.store file
-    ≡ x.vol.store → Begins (kind_in x.vol.sup) file p → ((B : Map) → IsFileOn B [] file) → IsWriting (each put false p) x x false file
-writing_first x file p reading same begins on = record {
-  reads = reads_self x.rack;
+pub writing_first : {St : Type 0} (put : St → Piece → Program Step St) (st : St) (x : World) (file : FileBytes) (p : Program Piece (Unit {0}))
+    → IsReading x.rack x.vol.store file → without_file x.vol.store file ≡ x.vol.store → Begins (kind_in x.vol.sup) file p → ((B : Map) → IsFileOn B [] file)
+    → IsWriting put (each put st p) x x st file
+writing_first {St} put st x file p reading same begins on = record {
+  reads = reads_none x.rack;
   sup = refl;
   others = subst (SameLoans x.vol.store) (sym same) (record { layout = refl; loans = refl });
   reading = reading;
@@ -330,21 +355,28 @@ writing_first x file p reading same begins on = record {
   sink = refl;
   text = text_none x.out.text;
   content = record {
-    calls = calls_none (λ sure. if_some (λ images. LeftToPut (each put false p) (kind_in x.vol.sup) (maps_of x.vol.store.layout sure images) false
-        file []) x.rack.held
-        (λ images. left_first (maps_of x.vol.store.layout sure images) (kind_in x.vol.sup) file false p begins
-        (on (maps_of x.vol.store.layout sure images 0))));
+    calls = calls_none (λ sure. if_some (λ images. LeftToWrite put (each put st p) (kind_in x.vol.sup)
+        (maps_of x.vol.store.layout sure images) st file []) x.rack.held
+        (λ images. left_first put (maps_of x.vol.store.layout sure images) (kind_in x.vol.sup) file st p begins (on
+        (maps_of x.vol.store.layout sure images 0))));
   };
   sink_calls = refl;
   out_calls = refl;
 }
 
 -- a file was written wholly and is given back
-pub writing_over : (whole : Program Step Bool) (x y : World) (vol : Volume) (file : FileBytes) (r : Result Bool TheStop) → IsReady x.rack x.vol
-    → WasWritten whole x y file r → vol.sup ≡ y.vol.sup → SameLoans (without_file y.vol.store file) vol.store → Serves y.rack vol.store
-    → Ran whole x (world y.rack vol y.out) r
-writing_over whole x y vol file r ready w sup back serves =
-    let same : SameVolume x.vol vol = record { sup = sup ∙ w.sup; store = record { layout = back.layout ∙ w.others.layout; loans = back.loans ∙ w.others.loans } } in
+pub writing_over : {St : Type 0} (put : St → Piece → Program Step St) (whole : Program Step St) (x y : World) (vol : Volume) (file : FileBytes)
+    (r : Result St TheStop) → CanRead 6 x.rack x.vol → WasWritten put whole x y file r → vol.sup ≡ y.vol.sup
+    → SameLoans (without_file y.vol.store file) vol.store → Serves y.rack vol.store → Ran whole x (world y.rack vol y.out) r
+writing_over put whole x y vol file r ready w sup back serves =
+    let same : SameVolume x.vol vol = record {
+      sup = sup ∙ w.sup;
+      store = record {
+        layout = back.layout ∙ w.others.layout;
+        loans = back.loans
+            ∙ w.others.loans;
+      };
+    } in
     record {
       reads = w.reads;
       volume = same;

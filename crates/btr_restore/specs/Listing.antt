@@ -15,6 +15,7 @@ use Rattle.btr_walk.specs.Reading.{Map}
 use Rattle.btr_volume.specs.Lookup.{Program, each}
 use Rattle.btr_volume.specs.declared.stop.Stop.{Stop}
 use Rattle.btr_volume.specs.Looking.{SameVolume}
+use Rattle.btr_volume.specs.Readable.{CanRead}
 use Rattle.btr_volume.specs.declared.root.TreeRoot.{TreeRoot}
 use Rattle.btr_files.specs.declared.counts.Counts.{Counts}
 use Rattle.btr_files.specs.declared.dir.Dir.{Dir}
@@ -27,7 +28,7 @@ use Rattle.btr_files.specs.Maps.{maps_by}
 use Rattle.btr_restore.specs.declared.job.Job.{Job}
 use Rattle.btr_restore.specs.Journey.{Listing, Within, directory, listed_in, treat}
 use Rattle.btr_restore.specs.Restoring.{sink_after, text_after}
-use Rattle.btr_restore.specs.Running.{World, IsReady, KeepsSink, Stands}
+use Rattle.btr_restore.specs.Running.{World, KeepsSink, Stands}
 use Rattle.btr_listing.specs.Step.{Step}
 
 -- whether directories are too deep, below which so many more may be entered
@@ -117,7 +118,7 @@ module _ (treat : Counts → DirEntry → Program Step Counts) where
   pub record Listed (whole : Program Step Counts) (x y : World) (counts : Counts) (dir : Dir) : Type 0 where
     pub reads : OnlyReads x.rack y.rack
     pub volume : SameVolume x.vol y.vol
-    pub ready : IsReady y.rack y.vol
+    pub ready : CanRead 6 y.rack y.vol
     pub done : List Step
     pub sink : y.out.sink ≡ fold sink_after x.out.sink done
     pub text : y.out.text ≡ text_after x.out.text done
@@ -129,7 +130,7 @@ module _ (treat : Counts → DirEntry → Program Step Counts) where
 pub record IsUnderway
     {T : Type 0} (began now : T) (plan : RestorePlan) (sums : Option TreeRoot) (deeper : ℕ) (tree : TreeRoot) (dirid : ℕ) (path : List ℕ)
     (first : Counts) (x y : World) (counts : Counts) (dir : Dir) (here : List ℕ) (below : ℕ) : Type 0 where
-  pub ready : IsReady y.rack y.vol
+  pub ready : CanRead 6 y.rack y.vol
   pub reads_on : IsDir dir
   pub same_path : here ≡ path
   pub same_below : below ≡ deeper

@@ -1,19 +1,19 @@
 -- What calls of restore have done and answer, whatever failed.
 use Rattle.std.specs.Prelude.{◌≡◌, ◌≢◌, ◌⊎◌, ℕ, List, [], ◌++◌, fold, replicate, Option, Some, None, Result, Ok, Err}
-use Rattle.btr_prog.specs.Answers.{Halt, Fault as halt_fault, Broke}
+use Rattle.btr_prog.specs.Answers.{Halt}
 use Rattle.btr_prog.specs.Goes.{Goes}
 use Rattle.btr_rack.specs.Out.{CallAccount, Counts}
 use Rattle.btr_rack.specs.Rack.{Seen}
 use Rattle.btr_rack.specs.Sink.{Sink, started, entered, left, begun, grown, finished}
-use Rattle.btr_rack.specs.declared.error.SinkError.{SinkError}
-use Rattle.btr_rack.specs.declared.error.SinkError.TheVariants.{Failed, Memory as NoMemory}
+use Rattle.btr_rack.specs.declared.error.SinkError.TheVariants.{Failed}
 use Rattle.btr_read.specs.Fate as fate
 use Rattle.btr_read.specs.Layout.{Layout}
 use Rattle.btr_read.specs.declared.want.Want.{Want}
-use Rattle.btr_walk.specs.Reading.{Map, UnreadBlock, unread_by, FaultCause, halt_of}
+use Rattle.btr_walk.specs.Reading.{Map, UnreadBlock, unread_by}
 use Rattle.btr_volume.specs.Lookup.{Program}
+use Rattle.btr_volume.specs.Stops.{IsBehindAnswer}
 use Rattle.btr_volume.specs.declared.stop.Stop.{Stop}
-use Rattle.btr_volume.specs.declared.stop.Stop.TheVariants.{NoTree, Tree, Deletion, Balance, Missing, Image, Sink as sink_stop, Out as out_stop, Memory}
+use Rattle.btr_volume.specs.declared.stop.Stop.TheVariants.{NoTree, Tree, Sink as sink_stop, Out as out_stop, Memory}
 use Rattle.btr_files.specs.Maps.{TellsAll}
 use Rattle.btr_restore.specs.Outcome.{text_of}
 use Rattle.btr_listing.specs.Step.{Step, Start, Dir, Up, File, Bytes, Zeros, Done, Line, part}
@@ -56,66 +56,40 @@ pub record Did (layout : Layout) (before now : Scene) (P : (UnreadBlock → Want
 abbrev pub Does : {A : Type 0} → Layout → Program Step A → Scene → Scene → Result A (Halt fate.Fault UnreadBlock) → Type 0
 Does layout p before now answer = Did layout before now (λ Is Bs done. Goes Is part [] Bs p done answer)
 
--- how a stop ends a run: by its fault, or at any place
-abbrev pub stop_halt : Stop → Halt fate.Fault UnreadBlock
-stop_halt (NoTree id) = halt_fault (fate.NoTree id)
-stop_halt (Tree f) = halt_of f
-stop_halt (Deletion id) = Broke
-stop_halt Balance = Broke
-stop_halt (Missing id) = Broke
-stop_halt (Image slot) = Broke
-stop_halt sink_stop = Broke
-stop_halt out_stop = Broke
-stop_halt Memory = Broke
+-- the stops that may be answered
+abbrev pub IsRestoreStop : Stop → Type 0
+IsRestoreStop (NoTree id) = Unit {0}
+IsRestoreStop (Tree f) = Unit {0}
+IsRestoreStop sink_stop = Unit {0}
+IsRestoreStop out_stop = Unit {0}
+IsRestoreStop Memory = Unit {0}
+IsRestoreStop stop = ⊥
 
--- the answer of a call as the answer of its program
-abbrev pub ended : {A : Type 0} → Result A Stop → Result A (Halt fate.Fault UnreadBlock)
-ended (Ok a) = Ok a
-ended (Err stop) = Err (stop_halt stop)
-
--- what lies behind a stop: a tree's fault has its cause; no other stop than these is answered
+-- what lies behind an answer
 abbrev pub StopCause : {A : Type 0} → Layout → Seen → Seen → Result A Stop → Type 0
-StopCause layout old new (Ok a) = Unit {0}
-StopCause layout old new (Err (NoTree id)) = Unit {0}
-StopCause layout old new (Err (Tree f)) = FaultCause layout old new f
-StopCause layout old new (Err (Deletion id)) = ⊥
-StopCause layout old new (Err Balance) = ⊥
-StopCause layout old new (Err (Missing id)) = ⊥
-StopCause layout old new (Err (Image slot)) = ⊥
-StopCause layout old new (Err sink_stop) = Unit {0}
-StopCause layout old new (Err out_stop) = Unit {0}
-StopCause layout old new (Err Memory) = Unit {0}
+StopCause layout old new answer = IsBehindAnswer IsRestoreStop layout old new answer
 
--- what the sink answered last, as far as its account is concerned
-abbrev pub sink_answer : {A : Type 0} → Result A Stop → Result Unit SinkError
-sink_answer (Ok a) = Ok tt
-sink_answer (Err (NoTree id)) = Ok tt
-sink_answer (Err (Tree f)) = Ok tt
-sink_answer (Err (Deletion id)) = Ok tt
-sink_answer (Err Balance) = Ok tt
-sink_answer (Err (Missing id)) = Ok tt
-sink_answer (Err (Image slot)) = Ok tt
-sink_answer (Err sink_stop) = Err Failed
-sink_answer (Err out_stop) = Ok tt
-sink_answer (Err Memory) = Ok tt
+-- the account of the sink at a stop: it changed only where a call of it failed
+abbrev pub SinkStops : CallAccount → CallAccount → Stop → Type 0
+SinkStops old new sink_stop = Counts {T = Unit {0}} old new (Err Failed)
+SinkStops old new stop = new ≡ old
 
--- the account of the sink changed only where a call of it failed, and then that is the answer
+-- the account of the output at a stop: it changed only where a call of it failed, after which the
+-- sink may have failed too
+abbrev pub OutStops : CallAccount → CallAccount → Stop → Type 0
+OutStops old new sink_stop = (new ≡ old) ⊎ Counts {T = Unit {0}} old new (Err Failed)
+OutStops old new out_stop = Counts {T = Unit {0}} old new (Err Failed)
+OutStops old new stop = new ≡ old
+
+-- the account of the sink after an answer
 abbrev pub SinkCounts : {A : Type 0} → CallAccount → CallAccount → Result A Stop → Type 0
-SinkCounts old new result = Counts old new (sink_answer result)
+SinkCounts old new (Ok a) = new ≡ old
+SinkCounts old new (Err stop) = SinkStops old new stop
 
--- the account of the output changed only where a call of it failed, and then that is
--- the answer, or that the sink failed behind it
+-- the account of the output after an answer
 abbrev pub OutCounts : {A : Type 0} → CallAccount → CallAccount → Result A Stop → Type 0
 OutCounts old new (Ok a) = new ≡ old
-OutCounts old new (Err (NoTree id)) = new ≡ old
-OutCounts old new (Err (Tree f)) = new ≡ old
-OutCounts old new (Err (Deletion id)) = new ≡ old
-OutCounts old new (Err Balance) = new ≡ old
-OutCounts old new (Err (Missing id)) = new ≡ old
-OutCounts old new (Err (Image slot)) = new ≡ old
-OutCounts old new (Err sink_stop) = (new ≡ old) ⊎ Counts {T = Unit {0}} old new (Err Failed)
-OutCounts old new (Err out_stop) = Counts {T = Unit {0}} old new (Err Failed)
-OutCounts old new (Err Memory) = new ≡ old
+OutCounts old new (Err stop) = OutStops old new stop
 
 -- what waits in a sink was stored before a stop is answered; where that failed the answer is that the sink did
 abbrev pub Settles : Stop → CallAccount → CallAccount → Stop → Type 0
@@ -130,13 +104,3 @@ pub record Emits
   pub sink : s' ≡ fold sink_after s done
   pub text : told' ≡ text_after told done
   pub goes : (layout : Layout) (old new : Seen) (Bs : ℕ → Map) → Goes (unread_by layout old new) part [] Bs p done answer
-
--- the stop that a failed call of an output is
-abbrev pub stops_out : SinkError → Stop
-stops_out Failed = out_stop
-stops_out NoMemory = Memory
-
--- the stop that a failed call of a sink is
-abbrev pub stops_sink : SinkError → Stop
-stops_sink Failed = sink_stop
-stops_sink NoMemory = Memory

@@ -1,21 +1,21 @@
 -- What a call of restore did and how it answered, in one word.
-use Rattle.std.specs.Prelude.{◌≡◌, ℕ, ◌+◌, ◌≤◌, Bool, true, false, List, Option, Result, Ok, Err}
+use Rattle.std.specs.Prelude.{◌≡◌, ℕ, ◌+◌, Bool, true, false, List, Option, Result, Ok, Err}
 use Rattle.btr_prog.specs.Prog.{Return}
 use Rattle.btr_prog.specs.Quiet.{quiet}
 use Rattle.btr_rack.specs.Out.{CallAccount}
 use Rattle.btr_rack.specs.Rack.{Seen, OnlyReads}
 use Rattle.btr_rack.specs.Sink.{Sink, BetweenFiles}
-use Rattle.btr_read.specs.Serves.{Serves}
-use Rattle.btr_read.specs.Store.{free_count}
 use Rattle.btr_super.specs.declared.superblock.Super.{Super}
 use Rattle.btr_volume.specs.Lookup.{Lookup, Program}
 use Rattle.btr_files.specs.declared.plan.RestorePlan.{RestorePlan}
 use Rattle.btr_restore.specs.Journey.{row}
 use Rattle.btr_volume.specs.Looking.{SameVolume}
+use Rattle.btr_volume.specs.Readable.{CanRead}
 use Rattle.btr_volume.specs.declared.stop.Stop.{Stop}
-use Rattle.btr_volume.specs.declared.stop.Stop.TheVariants.{NoTree, Tree, Deletion, Balance, Missing, Image, Sink as SinkStop, Out as OutStop, Memory}
+use Rattle.btr_volume.specs.declared.stop.Stop.TheVariants.{Sink as SinkStop, Out as OutStop, Memory}
 use Rattle.btr_volume.specs.declared.volume.Volume.{Volume}
-use Rattle.btr_restore.specs.Restoring.{Scene, scene, Does, Emits, StopCause, SinkCounts, OutCounts, ended}
+use Rattle.btr_restore.specs.Restoring.{Scene, scene, Does, Emits, StopCause, SinkCounts, OutCounts}
+use Rattle.btr_volume.specs.Stops.{ended}
 use Rattle.btr_listing.specs.Step.{Step}
 use Rattle.btr_restore.specs.declared.treated.Treated.{Treated}
 use Rattle.btr_restore.specs.declared.treated.Treated.TheVariants.{Over, Within}
@@ -53,23 +53,17 @@ beside seen sink sink_calls rack vol tree text out_calls = world (seen rack) vol
 abbrev pub scene_of : World → Scene
 scene_of x = scene x.rack x.out.sink x.out.text
 
--- a volume can be read: four slots are free for a block, and two for what a file keeps
-pub record IsReady (rack : Seen) (vol : Volume) : Type 0 where
-  pub serves : Serves rack vol.store
-  pub room : 6 ≤ free_count vol.store
+-- the stops of calls that read nothing: those of the sink and the output, and for want of memory
+abbrev pub IsOutsideStop : Stop → Type 0
+IsOutsideStop SinkStop = Unit {0}
+IsOutsideStop OutStop = Unit {0}
+IsOutsideStop Memory = Unit {0}
+IsOutsideStop stop = ⊥
 
--- no other stops than those of the sink and the output, and for want of memory
+-- no other stop is answered
 abbrev pub StopsOutside : {A : Type 0} → Result A Stop → Type 0
 StopsOutside (Ok a) = Unit {0}
-StopsOutside (Err (NoTree id)) = ⊥
-StopsOutside (Err (Tree f)) = ⊥
-StopsOutside (Err (Deletion id)) = ⊥
-StopsOutside (Err Balance) = ⊥
-StopsOutside (Err (Missing id)) = ⊥
-StopsOutside (Err (Image slot)) = ⊥
-StopsOutside (Err SinkStop) = Unit {0}
-StopsOutside (Err OutStop) = Unit {0}
-StopsOutside (Err Memory) = Unit {0}
+StopsOutside (Err stop) = IsOutsideStop stop
 
 -- a call that reads nothing did the steps of a program, and counted its refusal
 pub record Wrote {A : Type 0} (p : Program Step A) (x y : Outside) (answer : Result A Stop) : Type 0 where
@@ -82,18 +76,21 @@ pub record Wrote {A : Type 0} (p : Program Step A) (x y : Outside) (answer : Res
 pub record Ran {A : Type 0} (p : Program Step A) (x y : World) (answer : Result A Stop) : Type 0 where
   pub reads : OnlyReads x.rack y.rack
   pub volume : SameVolume x.vol y.vol
-  pub ready : IsReady y.rack y.vol
+  pub ready : CanRead 6 y.rack y.vol
   pub did : Does x.vol.store.layout p (scene_of x) (scene_of y) (ended answer)
   pub cause : StopCause x.vol.store.layout x.rack y.rack answer
   pub sink_calls : SinkCounts x.out.sink_calls y.out.sink_calls answer
   pub out_calls : OutCounts x.out.out_calls y.out.out_calls answer
 
--- a call of the sink did a step, unless the run is dry, whatever the output is
-abbrev pub WroteRow : {T : Type 0} → RestorePlan → Step → (T → Sink) → (T → CallAccount) → T → T → Result (Unit {0}) Stop → Type 0
-WroteRow plan step sink calls tree tree' answer =
+-- calls of the sink did the steps of a program, whatever the output is
+abbrev pub WroteIn : {A T : Type 0} → Program Step A → (T → Sink) → (T → CallAccount) → T → T → Result A Stop → Type 0
+WroteIn p sink calls tree tree' answer =
     (text : Option (List ℕ)) (out_calls : CallAccount)
-    → Wrote (row plan step (Return tt)) (outside (sink tree) (calls tree) text out_calls)
-    (outside (sink tree') (calls tree') text out_calls) answer
+    → Wrote p (outside (sink tree) (calls tree) text out_calls) (outside (sink tree') (calls tree') text out_calls) answer
+
+-- a call of the sink did a step, unless the run is dry
+abbrev pub WroteRow : {T : Type 0} → RestorePlan → Step → (T → Sink) → (T → CallAccount) → T → T → Result (Unit {0}) Stop → Type 0
+WroteRow plan step = WroteIn (row plan step (Return tt))
 
 -- calls of the output did the steps of a program, whatever the sink is
 abbrev pub WroteLines : {A O : Type 0} → Program Step A → (O → Option (List ℕ)) → (O → CallAccount) → O → O → Result A Stop → Type 0

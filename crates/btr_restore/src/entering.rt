@@ -3,7 +3,8 @@ ghost use Rattle.std.specs.Prelude.{◌≡◌, false, OnOk, ◌<◌};
 ghost use Rattle.btr_rack.specs.Name.{IsGoodName};
 ghost use Rattle.btr_rack.specs.Sink.{BetweenFiles, InFile};
 ghost use Rattle.btr_restore.specs.Journey.{closed, empty, entered};
-ghost use Rattle.btr_restore.specs.Running.{IsReady, KeepsSink, KeepsStanding, RanFor, Wrote, outside_of, world};
+ghost use Rattle.btr_volume.specs.Readable.{CanRead};
+ghost use Rattle.btr_restore.specs.Running.{KeepsSink, KeepsStanding, RanFor, Wrote, outside_of, world};
 ghost use Rattle.btr_restore.specs.Treating.{IsOver, came, written_for};
 
 use crate::job::Job;
@@ -38,14 +39,8 @@ pub(crate) fn enter<T: TreeSink, O: Out>(
     ensures stands { KeepsStanding job.now.plan.dry (T.sink tree.old) (T.sink tree.new) result }
     ensures dry { KeepsSink job.now.plan.dry tree.old tree.new }
 {
-    match make_dir(&job.plan, name, tree) {
-        Ok(()) => {}
-        Err(stop) => return Err(stop),
-    }
-    match tell(&job.plan, b"dir", path, out) {
-        Ok(()) => {}
-        Err(stop) => return Err(stop),
-    }
+    make_dir(&job.plan, name, tree)?;
+    tell(&job.plan, b"dir", path, out)?;
     counts.dirs = more(counts.dirs);
     Ok(Treated::Within { tree: inner, dirid })
 }
@@ -70,18 +65,9 @@ pub(crate) fn enter_empty<T: TreeSink, O: Out>(
     ensures over { IsOver result }
     ensures dry { KeepsSink job.now.plan.dry tree.old tree.new }
 {
-    match make_dir(&job.plan, name, tree) {
-        Ok(()) => {}
-        Err(stop) => return Err(stop),
-    }
-    match tell(&job.plan, b"dir", path, out) {
-        Ok(()) => {}
-        Err(stop) => return Err(stop),
-    }
-    match leave_dir(&job.plan, tree) {
-        Ok(()) => {}
-        Err(stop) => return Err(stop),
-    }
+    make_dir(&job.plan, name, tree)?;
+    tell(&job.plan, b"dir", path, out)?;
+    leave_dir(&job.plan, tree)?;
     counts.dirs = more(counts.dirs);
     Ok(Treated::Over)
 }
@@ -105,18 +91,9 @@ fn finish_file<T: TreeSink, O: Out>(
     ensures depth { job.now.plan.dry ≡ false → OnOk result ((T.sink tree.new).depth ≡ (T.sink tree.old).depth) }
     ensures dry { KeepsSink job.now.plan.dry tree.old tree.new }
 {
-    match close_file(&job.plan, tree) {
-        Ok(()) => {}
-        Err(stop) => return Err(stop),
-    }
-    match tell(&job.plan, b"file", path, out) {
-        Ok(()) => {}
-        Err(stop) => return Err(stop),
-    }
-    match tell_unverified(plain, path, out) {
-        Ok(()) => {}
-        Err(stop) => return Err(stop),
-    }
+    close_file(&job.plan, tree)?;
+    tell(&job.plan, b"file", path, out)?;
+    tell_unverified(plain, path, out)?;
     counts.files = more(counts.files);
     Ok(Treated::Over)
 }
@@ -133,7 +110,7 @@ pub(crate) fn write_file<R: Rack, T: TreeSink, O: Out>(
     tree: &mut T,
     out: &mut O,
 ) -> Result<Treated, Stop>
-    requires ready { IsReady (R.seen rack.old) vol.old }
+    requires ready { CanRead 6 (R.seen rack.old) vol.old }
     requires between { job.now.plan.dry ≡ false → (T.sink tree.old).stage ≡ BetweenFiles }
     requires good { IsGoodName name.now }
     ensures ran { RanFor (written_for job.now entry.now name.now found.now counts.old)
@@ -144,13 +121,8 @@ pub(crate) fn write_file<R: Rack, T: TreeSink, O: Out>(
     ensures over { IsOver result }
     ensures dry { KeepsSink job.now.plan.dry tree.old tree.new }
 {
-    match make_file(&job.plan, name, tree) {
-        Ok(()) => {}
-        Err(stop) => return Err(stop),
-    }
+    make_file(&job.plan, name, tree)?;
     let ino = entry.row.location.objectid;
-    match write_bytes(job, &entry.tree, ino, found, rack, vol, tree) {
-        Err(stop) => Err(stop),
-        Ok(plain) => finish_file(job, entry.path, plain, counts, tree, out),
-    }
+    let plain = write_bytes(job, &entry.tree, ino, found, rack, vol, tree)?;
+    finish_file(job, entry.path, plain, counts, tree, out)
 }

@@ -18,11 +18,11 @@ mod writing;
 
 pub use job::Job;
 pub use laws::{committed_order, each_told, headline, opened_then, orderly, settled};
-pub use listing::Frame;
+pub use listing::OpenDir;
 pub use lookups::find_tree;
-pub use restoring::{free_frames, restore, settle, tell_counts};
+pub use restoring::{free_dirs, restore, settle, store_waiting, tell_counts};
 pub use rows::{leave_dir, start_in};
 pub use telling::{leave_out, more, out_stop, sink_stop, tell_unverified};
 pub use treated::Treated;
 pub use treating::{carry_out, rules_of};
-pub use writing::has_no_sums;
+pub use writing::{has_no_sums, is_plain};

@@ -2,7 +2,8 @@
 ghost use Rattle.std.specs.Prelude.{◌≡◌, ◌<◌, false, OnOk, length, take, ◌+◌, ◌≤◌};
 ghost use Rattle.btr_rack.specs.Sink.{BetweenFiles};
 ghost use Rattle.btr_restore.specs.Listing.{ended_with, listing_for, entry_for, within_for, KeepsDepth, LeavesDepth};
-ghost use Rattle.btr_restore.specs.Running.{KeepsSink, IsReady, world, RanFor, outside_of};
+ghost use Rattle.btr_volume.specs.Readable.{CanRead};
+ghost use Rattle.btr_restore.specs.Running.{KeepsSink, world, RanFor, outside_of};
 
 use crate::job::Job;
 use crate::rows::leave_dir;
@@ -15,18 +16,18 @@ use btr_volume::{Stop, TreeRoot, Volume};
 
 /// Where a directory is listed: how far that has come, and a place for the name of an entry.
 #[derive(Clone, Copy, Debug)]
-pub struct Frame {
+pub struct OpenDir {
     pub dir: Dir,
     pub name: NameBuf,
 }
 
-// What is in a directory that was entered, and the way up. The first frame is its own.
+// What is in a directory that was entered, and the way up. The first of `dirs` is its own.
 #[cycle(listing)]
 fn list_within<R: Rack, T: TreeSink, O: Out>(
     job: &Job,
     inner: TreeRoot,
     dirid: u64,
-    frames: &mut [Frame],
+    dirs: &mut [OpenDir],
     path: &mut Path,
     counts: &mut Counts,
     rack: &mut R,
@@ -34,12 +35,12 @@ fn list_within<R: Rack, T: TreeSink, O: Out>(
     tree: &mut T,
     out: &mut O,
 ) -> Result<(), Stop>
-    requires ready { IsReady (R.seen rack.old) vol.old }
+    requires ready { CanRead 6 (R.seen rack.old) vol.old }
     requires between { job.now.plan.dry ≡ false → (T.sink tree.old).stage ≡ BetweenFiles }
-    requires some { 0 < length frames.old }
+    requires some { 0 < length dirs.old }
     requires below { job.now.plan.dry ≡ false → 0 < (T.sink tree.old).depth }
-    requires room { job.now.plan.dry ≡ false → (T.sink tree.old).depth + length frames.old ≤ 513 }
-    ensures ran { RanFor (within_for job.now (length frames.old) path.old inner dirid counts.old)
+    requires room { job.now.plan.dry ≡ false → (T.sink tree.old).depth + length dirs.old ≤ 513 }
+    ensures ran { RanFor (within_for job.now (length dirs.old) path.old inner dirid counts.old)
         (world (R.seen rack.old) vol.old (outside_of T.sink T.account O.text O.account tree.old out.old))
         (world (R.seen rack.new) vol.new (outside_of T.sink T.account O.text O.account tree.new out.new))
         (ended_with counts.new result) }
@@ -47,18 +48,16 @@ fn list_within<R: Rack, T: TreeSink, O: Out>(
     ensures stands { LeavesDepth job.now.plan.dry (T.sink tree.old) (T.sink tree.new) result }
     ensures dry { KeepsSink job.now.plan.dry tree.old tree.new }
 {
-    let Some((here, below)) = frames.split_first_mut() else {
+    let Some((here, below)) = dirs.split_first_mut() else {
         unreachable!();
     };
-    match list(
+    list(
         job, inner, dirid, here, below, path, counts, rack, vol, tree, out,
-    ) {
-        Err(stop) => Err(stop),
-        Ok(()) => leave_dir(&job.plan, tree),
-    }
+    )?;
+    leave_dir(&job.plan, tree)
 }
 
-// An entry of a directory, and what is in it. There is a frame for each directory that may be entered.
+// An entry of a directory, and what is in it. There is a place below for each that may be entered.
 #[cycle(listing)]
 fn list_entry<R: Rack, T: TreeSink, O: Out>(
     job: &Job,
@@ -66,7 +65,7 @@ fn list_entry<R: Rack, T: TreeSink, O: Out>(
     dirid: u64,
     row: DirRow,
     name: &NameBuf,
-    below: &mut [Frame],
+    below: &mut [OpenDir],
     path: &mut Path,
     counts: &mut Counts,
     rack: &mut R,
@@ -74,7 +73,7 @@ fn list_entry<R: Rack, T: TreeSink, O: Out>(
     tree: &mut T,
     out: &mut O,
 ) -> Result<(), Stop>
-    requires ready { IsReady (R.seen rack.old) vol.old }
+    requires ready { CanRead 6 (R.seen rack.old) vol.old }
     requires between { job.now.plan.dry ≡ false → (T.sink tree.old).stage ≡ BetweenFiles }
     requires room { job.now.plan.dry ≡ false → (T.sink tree.old).depth + length below.old ≤ 512 }
     ensures ran { RanFor (entry_for job.now (length below.old) root.now dirid path.old counts.old row name.now)
@@ -97,23 +96,23 @@ fn list_entry<R: Rack, T: TreeSink, O: Out>(
         name,
         path: path.as_bytes(),
     };
-    match treat(job, &entry, counts, rack, vol, tree, out) {
-        Err(stop) => Err(stop),
-        Ok(Treated::Over) => Ok(()),
-        Ok(Treated::Within { tree: inner, dirid }) => {
+    match treat(job, &entry, counts, rack, vol, tree, out)? {
+        Treated::Over => Ok(()),
+        Treated::Within { tree: inner, dirid } => {
             list_within(job, inner, dirid, below, path, counts, rack, vol, tree, out)
         }
     }
 }
 
-/// Lists a directory and all that is entered below it. `here` is its frame, and there is one for each directory that may be entered below.
+/// Lists a directory and all that is entered below it. `here` is its place, and there is one in
+/// `below` for each directory that may be entered.
 #[cycle(listing)]
 pub(crate) fn list<R: Rack, T: TreeSink, O: Out>(
     job: &Job,
     root: TreeRoot,
     dirid: u64,
-    here: &mut Frame,
-    below: &mut [Frame],
+    here: &mut OpenDir,
+    below: &mut [OpenDir],
     path: &mut Path,
     counts: &mut Counts,
     rack: &mut R,
@@ -121,7 +120,7 @@ pub(crate) fn list<R: Rack, T: TreeSink, O: Out>(
     tree: &mut T,
     out: &mut O,
 ) -> Result<(), Stop>
-    requires ready { IsReady (R.seen rack.old) vol.old }
+    requires ready { CanRead 6 (R.seen rack.old) vol.old }
     requires between { job.now.plan.dry ≡ false → (T.sink tree.old).stage ≡ BetweenFiles }
     requires room { job.now.plan.dry ≡ false → (T.sink tree.old).depth + length below.old ≤ 512 }
     ensures ran { RanFor (listing_for job.now (length below.old) root dirid path.old counts.old)
@@ -139,12 +138,10 @@ pub(crate) fn list<R: Rack, T: TreeSink, O: Out>(
             Err(fault) => return Err(Stop::Tree(fault)),
             Ok(None) => return Ok(()),
             Ok(Some(row)) => {
-                match list_entry(
+                list_entry(
                     job, &root, dirid, row, &here.name, below, path, counts, rack, vol, tree, out,
-                ) {
-                    Ok(()) => path.cut(len),
-                    Err(stop) => return Err(stop),
-                }
+                )?;
+                path.cut(len);
             }
         }
     }

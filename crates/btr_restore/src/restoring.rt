@@ -5,11 +5,12 @@ ghost use Rattle.btr_rack.specs.Sink.{NotStarted};
 ghost use Rattle.btr_restore.specs.Journey.{from_root, listing, restored};
 ghost use Rattle.btr_listing.specs.Lines.{counts_line};
 ghost use Rattle.btr_restore.specs.Restoring.{Settles};
-ghost use Rattle.btr_restore.specs.Running.{KeepsSink, IsReady, Ran, world, RanFor, WroteLines, outside_of};
+ghost use Rattle.btr_volume.specs.Readable.{CanRead};
+ghost use Rattle.btr_restore.specs.Running.{KeepsSink, Ran, world, RanFor, WroteLines, outside_of};
 ghost use Rattle.btr_listing.specs.Step.{Line};
 
 use crate::job::Job;
-use crate::listing::{Frame, list};
+use crate::listing::{OpenDir, list};
 use crate::lookups::{find_sums, find_tree};
 use crate::rows::start_in;
 use crate::telling::out_stop;
@@ -21,11 +22,12 @@ use btr_volume::{Stop, TreeRoot, Volume};
 use btr_walk::RootPlace;
 use std::alloc::Global;
 
-// A frame for the destination, and one for each of the 512 directories in one another that may be entered below it.
-const FRAMES: usize = 513;
+// A place for the destination, and one for each of the 512 directories in one another that may be
+// entered below it.
+const OPEN_DIRS: usize = 513;
 
-// A frame that lists nothing yet.
-fn free_frame() -> Frame {
+// A place where nothing is listed yet.
+fn free_dir() -> OpenDir {
     let nowhere = TreeRoot {
         id: 0,
         offset: 0,
@@ -37,18 +39,19 @@ fn free_frame() -> Frame {
         dirid: 0,
         refs: 0,
     };
-    Frame {
+    OpenDir {
         dir: Dir::new(nowhere, 0),
         name: NameBuf::new(),
     }
 }
 
-/// The frames of a listing: 513, one for the destination and one for each of the 512 directories in one another. Their memory is taken once.
-pub fn free_frames(alloc: Global) -> Result<Vec<Frame>, Memory>
-    ensures { IfOk result (λ frames. length frames.items ≡ 513) }
+/// The places of a listing: 513, one for the destination and one for each of the 512 directories in
+/// one another. Their memory is taken once.
+pub fn free_dirs(alloc: Global) -> Result<Vec<OpenDir>, Memory>
+    ensures { IfOk result (λ dirs. length dirs.items ≡ 513) }
 {
-    match vec![in alloc; free_frame(); FRAMES] {
-        Ok(frames) => Ok(frames),
+    match vec![in alloc; free_dir(); OPEN_DIRS] {
+        Ok(dirs) => Ok(dirs),
         Err(_) => Err(Memory),
     }
 }
@@ -69,16 +72,16 @@ fn list_into<R: Rack, T: TreeSink, O: Out>(
     job: &Job,
     dest: &str,
     root: &TreeRoot,
-    frames: &mut [Frame],
+    dirs: &mut [OpenDir],
     path: &mut Path,
     rack: &mut R,
     vol: &mut Volume,
     tree: &mut T,
     out: &mut O,
 ) -> Result<Counts, Stop>
-    requires ready { IsReady (R.seen rack.old) vol.old }
+    requires ready { CanRead 6 (R.seen rack.old) vol.old }
     requires fresh { job.now.plan.dry ≡ false → (T.sink tree.old).stage ≡ NotStarted }
-    requires frames { length frames.old ≡ 513 }
+    requires dirs { length dirs.old ≡ 513 }
     requires path { path.old ≡ [] }
     ensures ran { RanFor (λ s. restored job.now.plan dest.now s root.now job.now.sums)
         (world (R.seen rack.old) vol.old (outside_of T.sink T.account O.text O.account tree.old out.old))
@@ -86,19 +89,16 @@ fn list_into<R: Rack, T: TreeSink, O: Out>(
         result }
     ensures dry { KeepsSink job.now.plan.dry tree.old tree.new }
 {
-    match start_in(&job.plan, dest, tree) {
-        Ok(()) => {}
-        Err(stop) => return Err(stop),
-    }
+    start_in(&job.plan, dest, tree)?;
     let mut counts = Counts {
         dirs: 0,
         files: 0,
         skipped: 0,
     };
-    let Some((here, below)) = frames.split_first_mut() else {
+    let Some((here, below)) = dirs.split_first_mut() else {
         unreachable!();
     };
-    match list(
+    list(
         job,
         *root,
         root.dirid,
@@ -110,10 +110,8 @@ fn list_into<R: Rack, T: TreeSink, O: Out>(
         vol,
         tree,
         out,
-    ) {
-        Ok(()) => tell_counts(&counts, out),
-        Err(stop) => Err(stop),
-    }
+    )?;
+    tell_counts(&counts, out)
 }
 
 // A tree into the destination, once its checksums are found.
@@ -121,16 +119,16 @@ fn restore_tree<R: Rack, T: TreeSink, O: Out>(
     plan: &RestorePlan,
     dest: &str,
     root: &TreeRoot,
-    frames: &mut [Frame],
+    dirs: &mut [OpenDir],
     path: &mut Path,
     rack: &mut R,
     vol: &mut Volume,
     tree: &mut T,
     out: &mut O,
 ) -> Result<Counts, Stop>
-    requires ready { IsReady (R.seen rack.old) vol.old }
+    requires ready { CanRead 6 (R.seen rack.old) vol.old }
     requires fresh { plan.now.dry ≡ false → (T.sink tree.old).stage ≡ NotStarted }
-    requires frames { length frames.old ≡ 513 }
+    requires dirs { length dirs.old ≡ 513 }
     requires path { path.old ≡ [] }
     ensures ran { RanFor (λ s. from_root plan.now dest.now s (Some root.now))
         (world (R.seen rack.old) vol.old (outside_of T.sink T.account O.text O.account tree.old out.old))
@@ -138,13 +136,9 @@ fn restore_tree<R: Rack, T: TreeSink, O: Out>(
         result }
     ensures dry { KeepsSink plan.now.dry tree.old tree.new }
 {
-    match find_sums(plan, rack, vol) {
-        Err(stop) => Err(stop),
-        Ok(sums) => {
-            let job = Job { plan: *plan, sums };
-            list_into(&job, dest, root, frames, path, rack, vol, tree, out)
-        }
-    }
+    let sums = find_sums(plan, rack, vol)?;
+    let job = Job { plan: *plan, sums };
+    list_into(&job, dest, root, dirs, path, rack, vol, tree, out)
 }
 
 // Restores the subvolume of a plan. What waits in the sink then isn't stored yet.
@@ -157,7 +151,7 @@ fn restore_unsettled<R: Rack, T: TreeSink, O: Out>(
     tree: &mut T,
     out: &mut O,
 ) -> Result<Counts, Stop>
-    requires ready { IsReady (R.seen rack.old) vol.old }
+    requires ready { CanRead 6 (R.seen rack.old) vol.old }
     requires fresh { plan.now.dry ≡ false → (T.sink tree.old).stage ≡ NotStarted }
     ensures ran { Ran (listing plan.now dest.now vol.old.sup)
         (world (R.seen rack.old) vol.old (outside_of T.sink T.account O.text O.account tree.old out.old))
@@ -169,21 +163,35 @@ fn restore_unsettled<R: Rack, T: TreeSink, O: Out>(
         Ok(path) => path,
         Err(_) => return Err(Stop::Memory),
     };
-    let mut frames = match free_frames(alloc) {
-        Ok(frames) => frames,
+    let mut dirs = match free_dirs(alloc) {
+        Ok(dirs) => dirs,
         Err(_) => return Err(Stop::Memory),
     };
-    match find_tree(plan.root, rack, vol) {
-        Err(stop) => Err(stop),
-        Ok(None) => Err(Stop::NoTree(plan.root)),
-        Ok(Some(root)) => {
-            let frames = frames.as_mut_slice();
-            restore_tree(plan, dest, &root, frames, &mut path, rack, vol, tree, out)
+    match find_tree(plan.root, rack, vol)? {
+        None => Err(Stop::NoTree(plan.root)),
+        Some(root) => {
+            let dirs = dirs.as_mut_slice();
+            restore_tree(plan, dest, &root, dirs, &mut path, rack, vol, tree, out)
         }
     }
 }
 
-/// Stores what waits in the sink, before a stop is answered: where that fails, the sink failed. A dry run leaves the sink alone.
+/// Stores what waits in the sink, before a stop is answered: where that fails, the sink failed.
+pub fn store_waiting<T: TreeSink>(stop: Stop, tree: &mut T) -> Stop
+    ensures same { T.sink tree.new ≡ T.sink tree.old }
+    ensures settled { Settles stop (T.account tree.old) (T.account tree.new) result }
+    ensures stored { result ≢ Stop.Sink → T.waits tree.new ≡ false }
+{
+    match stop {
+        Stop::Sink => Stop::Sink,
+        other => match tree.flush() {
+            Ok(()) => other,
+            Err(_) => Stop::Sink,
+        },
+    }
+}
+
+/// The same by a plan: a dry run leaves the sink alone.
 pub fn settle<T: TreeSink>(plan: &RestorePlan, stop: Stop, tree: &mut T) -> Stop
     ensures same { T.sink tree.new ≡ T.sink tree.old }
     ensures settled { Settles stop (T.account tree.old) (T.account tree.new) result }
@@ -193,13 +201,7 @@ pub fn settle<T: TreeSink>(plan: &RestorePlan, stop: Stop, tree: &mut T) -> Stop
     if plan.dry {
         return stop;
     }
-    match stop {
-        Stop::Sink => Stop::Sink,
-        other => match tree.flush() {
-            Ok(()) => other,
-            Err(_) => Stop::Sink,
-        },
-    }
+    store_waiting(stop, tree)
 }
 
 /// Restores the subvolume of a plan into the destination of this name: its directories, the bytes of its files, and a line of what was restored. Entries that
@@ -220,7 +222,7 @@ pub fn restore<R: Rack, T: TreeSink, O: Out>(
     tree: &mut T,
     out: &mut O,
 ) -> Result<Counts, Stop>
-    requires ready { IsReady (R.seen rack.old) vol.old }
+    requires ready { CanRead 6 (R.seen rack.old) vol.old }
     requires fresh { plan.now.dry ≡ false → (T.sink tree.old).stage ≡ NotStarted }
     ensures ran { Ran (listing plan.now dest.now vol.old.sup)
         (world (R.seen rack.old) vol.old (outside_of T.sink T.account O.text O.account tree.old out.old))

@@ -5,7 +5,7 @@ ghost use Rattle.btr_listing.specs.Causes.{cause_text};
 ghost use Rattle.btr_prog.specs.Prog.{Return};
 ghost use Rattle.btr_restore.specs.Journey.{told, skip, unverified};
 ghost use Rattle.btr_listing.specs.Lines.{more};
-ghost use Rattle.btr_restore.specs.Restoring.{stops_out, stops_sink};
+ghost use Rattle.btr_volume.specs.Stops.{stops_out, stops_sink};
 ghost use Rattle.btr_restore.specs.Running.{WroteLines};
 ghost use Rattle.btr_restore.specs.Treating.{IsOver, came};
 

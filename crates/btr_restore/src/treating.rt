@@ -6,7 +6,8 @@ ghost use Rattle.btr_listing.specs.Looked.{met_by};
 ghost use Rattle.btr_rack.specs.Name.{IsGoodName};
 ghost use Rattle.btr_rack.specs.Sink.{BetweenFiles};
 ghost use Rattle.btr_restore.specs.Journey.{rules_of};
-ghost use Rattle.btr_restore.specs.Running.{IsReady, KeepsSink, KeepsStanding, RanFor, outside_of, world};
+ghost use Rattle.btr_volume.specs.Readable.{CanRead};
+ghost use Rattle.btr_restore.specs.Running.{KeepsSink, KeepsStanding, RanFor, outside_of, world};
 ghost use Rattle.btr_restore.specs.Treating.{IsOver, came, done_for, treated_for};
 
 use crate::entering::{enter, enter_empty, write_file};
@@ -53,7 +54,7 @@ pub fn carry_out<R: Rack, T: TreeSink, O: Out>(
     tree: &mut T,
     out: &mut O,
 ) -> Result<Treated, Stop>
-    requires ready { IsReady (R.seen rack.old) vol.old }
+    requires ready { CanRead 6 (R.seen rack.old) vol.old }
     requires between { job.now.plan.dry ≡ false → (T.sink tree.old).stage ≡ BetweenFiles }
     requires fits { Fits (rules_of job.now.plan) (met_by entry.now) decision }
     requires above { entry.now.deep ≡ false → job.now.plan.dry ≡ false → (T.sink tree.old).depth < 512 }
@@ -92,7 +93,7 @@ pub(crate) fn treat<R: Rack, T: TreeSink, O: Out>(
     tree: &mut T,
     out: &mut O,
 ) -> Result<Treated, Stop>
-    requires ready { IsReady (R.seen rack.old) vol.old }
+    requires ready { CanRead 6 (R.seen rack.old) vol.old }
     requires between { job.now.plan.dry ≡ false → (T.sink tree.old).stage ≡ BetweenFiles }
     requires above { entry.now.deep ≡ false → job.now.plan.dry ≡ false → (T.sink tree.old).depth < 512 }
     ensures ran { RanFor (treated_for job.now entry.now counts.old)

@@ -3,9 +3,10 @@ ghost use Rattle.std.specs.Prelude.{◌≡◌, ◌≤◌, ◌<◌, ◌||◌, not
 ghost use Rattle.btr_rack.specs.Sink.{InFile};
 ghost use Rattle.btr_read.specs.Store.{SameLoans, free_count};
 ghost use Rattle.btr_files.specs.Streaming.{bytes_left, IsPiece, IsReading, piece_of, without_file};
-ghost use Rattle.btr_restore.specs.Journey.{has_no_sums, pieces};
-ghost use Rattle.btr_restore.specs.Running.{KeepsSink, IsReady, RanBeside, beside};
-ghost use Rattle.btr_restore.specs.Writing.{PutsNext, PutsPiece, PutsRest};
+ghost use Rattle.btr_restore.specs.Journey.{has_no_sums, pieces, put};
+ghost use Rattle.btr_volume.specs.Readable.{CanRead};
+ghost use Rattle.btr_restore.specs.Running.{KeepsSink, RanBeside, WroteIn, beside};
+ghost use Rattle.btr_restore.specs.Writing.{WritesNext, WritesRest};
 
 use crate::job::Job;
 use crate::telling::sink_stop;
@@ -15,18 +16,18 @@ use btr_items::{Inode, InodeFlags};
 use btr_rack::{Rack, TreeSink};
 use btr_volume::{Stop, TreeRoot, Volume};
 
-// Whether some piece was read without a checksum, this one included.
-fn is_plain(plain: bool, verified: bool) -> bool
+/// Whether some piece was read without a checksum, this one included.
+pub fn is_plain(plain: bool, verified: bool) -> bool
     ensures { result ≡ (plain || not verified) }
 {
     plain || !verified
 }
 
-// Puts a piece of a file. Answers whether some piece was read without a checksum, as `plain` says of those before.
+// Writes a piece of a file. Answers whether some piece was read without a checksum, as `plain` says of those before.
 fn put_piece<T: TreeSink>(piece: Piece<'_>, plain: bool, tree: &mut T) -> Result<bool, Stop>
     requires begun { (T.sink tree.old).stage ≡ InFile }
     requires some { IsPiece piece }
-    ensures wrote { PutsPiece plain (piece_of piece.entry) T.sink T.account tree.old tree.new result }
+    ensures wrote { WroteIn (put plain (piece_of piece.entry)) T.sink T.account tree.old tree.new result }
     ensures stage { (T.sink tree.new).stage ≡ InFile }
     ensures depth { (T.sink tree.new).depth ≡ (T.sink tree.old).depth }
 {
@@ -57,7 +58,7 @@ fn put_next<R: Rack, T: TreeSink>(
     requires ready { IsReading (R.seen rack.old) vol.old.store file.old }
     requires room { 5 ≤ free_count (without_file vol.old.store file.old) }
     requires begun { (T.sink tree.old).stage ≡ InFile }
-    ensures writes { PutsNext plain file.old file.new
+    ensures writes { WritesNext put plain file.old file.new
         (beside R.seen T.sink T.account rack.old vol.old tree.old)
         (beside R.seen T.sink T.account rack.new vol.new tree.new) result }
     ensures ready { IsReading (R.seen rack.new) vol.new.store file.new }
@@ -76,7 +77,7 @@ fn put_next<R: Rack, T: TreeSink>(
     }
 }
 
-// Puts the pieces of a file that are still to come. Answers whether some piece was read without a checksum.
+// Writes the pieces of a file that are still to come. Answers whether some piece was read without a checksum.
 fn put_pieces<R: Rack, T: TreeSink>(
     file: &mut FileBytes,
     rack: &mut R,
@@ -86,7 +87,7 @@ fn put_pieces<R: Rack, T: TreeSink>(
     requires ready { IsReading (R.seen rack.old) vol.old.store file.old }
     requires room { 5 ≤ free_count (without_file vol.old.store file.old) }
     requires begun { (T.sink tree.old).stage ≡ InFile }
-    ensures writes { PutsRest file.old file.new
+    ensures writes { WritesRest put false file.old file.new
         (beside R.seen T.sink T.account rack.old vol.old tree.old)
         (beside R.seen T.sink T.account rack.new vol.new tree.new) result }
     ensures ready { IsReading (R.seen rack.new) vol.new.store file.new }
@@ -120,7 +121,7 @@ pub(crate) fn write_bytes<R: Rack, T: TreeSink>(
     vol: &mut Volume,
     tree: &mut T,
 ) -> Result<bool, Stop>
-    requires ready { IsReady (R.seen rack.old) vol.old }
+    requires ready { CanRead 6 (R.seen rack.old) vol.old }
     requires begun { job.now.plan.dry ≡ false → (T.sink tree.old).stage ≡ InFile }
     ensures ran { RanBeside vol.old.sup (λ s. pieces job.now.plan s job.now.sums root.now ino inode.now)
         (beside R.seen T.sink T.account rack.old vol.old tree.old)

@@ -1,5 +1,5 @@
 -- A directory in another one.
-use Rattle.std.proofs.Common.{◌≡◌, ℕ, ◌+◌, Bool, List, Option, Result, Ok, Err, sym, ap, ◌∙◌, subst, arith, suc}
+use Rattle.std.proofs.Common.{◌≡◌, ℕ, ◌+◌, Bool, List, Option, Result, Ok, Err, IsErrAnd, sym, ap, ◌∙◌, subst, arith, suc}
 use Rattle.btr_prog.specs.Prog.{Return}
 use Rattle.btr_prog.specs.Trying.{attempt}
 use Rattle.btr_super.specs.declared.superblock.Super.{Super}
@@ -28,10 +28,15 @@ wrote_up : (plan : RestorePlan) (so_far : Salvaged) (x y : Outside) (r : Result 
 wrote_up plan so_far x y (Ok u) w = row_then _ _ _ _ _ _ _ w (wrote_none so_far y)
 wrote_up plan so_far x y (Err t) w = row_halt _ _ _ _ _ _ w
 
+-- a stop that is passed on
+pub counted_passed : (so_far : Salvaged) (r : Result (Unit {0}) TheStop) (s : TheStop) → IsErrAnd r (λ e. e ≡ s) → IsErrAnd (counted so_far r) (λ e. e ≡ s)
+counted_passed so_far (Ok u) s is = absurd is
+counted_passed so_far (Err e) s is = is
+
 -- the listing of one of some places
-listing_is : (plan : RestorePlan) (s : Super) (sums : Option TreeRoot) (frames below : ℕ) → frames ≡ below + 1 → listing_in plan s sums frames
+listing_is : (plan : RestorePlan) (s : Super) (sums : Option TreeRoot) (folders below : ℕ) → folders ≡ below + 1 → listing_in plan s sums folders
     ≡ directory plan s sums below
-listing_is plan s sums frames below e = ap (listing_in plan s sums) (e ∙ step below)
+listing_is plan s sums folders below e = ap (listing_in plan s sums) (e ∙ step below)
   where
     step : (k : ℕ) → k + 1 ≡ suc k
     step k = omega arith
@@ -73,22 +78,22 @@ module _ (plan : RestorePlan) (s : Super) (sums : Option TreeRoot) (k : ℕ) (de
       (as_first (Ok (salvaging.Within inner ino after)) h) g
 
 -- what is in a directory, and the way up
-module _ (plan : RestorePlan) (s : Super) (sums : Option TreeRoot) (frames below : ℕ) (is : frames ≡ below + 1) (inner : TreeRoot) (dirid : ℕ) (path : List ℕ)
+module _ (plan : RestorePlan) (s : Super) (sums : Option TreeRoot) (folders below : ℕ) (is : folders ≡ below + 1) (inner : TreeRoot) (dirid : ℕ) (path : List ℕ)
     (so_far : Salvaged) (x y : World) where
   abbrev up : Salvaged → Attempt Salvaged
   up after = attempt (row plan Up (Return after))
 
   as_listed : (r : Result Salvaged TheStop) → Ran (directory plan s sums below inner dirid path so_far) x y r
-      → Ran (listing_in plan s sums frames inner dirid path so_far) x y r
-  as_listed r h = subst (λ (l : Listing). Ran (l inner dirid path so_far) x y r) (sym (listing_is plan s sums frames below is)) h
+      → Ran (listing_in plan s sums folders inner dirid path so_far) x y r
+  as_listed r h = subst (λ (l : Listing). Ran (l inner dirid path so_far) x y r) (sym (listing_is plan s sums folders below is)) h
 
   pub within_halts : (t : TheStop) → Ran (directory plan s sums below inner dirid path so_far) x y (Err t)
-      → Ran (listed_in plan s sums (listing_in plan s sums frames) path (salvaging.Within inner dirid so_far)) x y (Err t)
-  within_halts t h = ran_halt (listing_in plan s sums frames inner dirid path so_far) up x y y t (as_listed (Err t) h)
+      → Ran (listed_in plan s sums (listing_in plan s sums folders) path (salvaging.Within inner dirid so_far)) x y (Err t)
+  within_halts t h = ran_halt (listing_in plan s sums folders inner dirid path so_far) up x y y t (as_listed (Err t) h)
 
   pub within_up : (after : Salvaged) (z : Outside) (r : Result (Unit {0}) TheStop) → Ran (directory plan s sums below inner dirid path so_far) x y (Ok after)
-      → Wrote (row plan Up (Return tt)) y.out z r → Ran (listed_in plan s sums (listing_in plan s sums frames) path (salvaging.Within inner dirid so_far)) x
+      → Wrote (row plan Up (Return tt)) y.out z r → Ran (listed_in plan s sums (listing_in plan s sums folders) path (salvaging.Within inner dirid so_far)) x
       (world y.rack y.vol z) (counted after r)
-  within_up after z r h w = ran_then (listing_in plan s sums frames inner dirid path so_far) up x y (world y.rack y.vol z) after (counted after r)
+  within_up after z r h w = ran_then (listing_in plan s sums folders inner dirid path so_far) up x y (world y.rack y.vol z) after (counted after r)
       (as_listed (Ok after) h)
       (ran_writes (row plan Up (Return after)) y.rack y.vol y.out z (counted after r) h.ready (wrote_up plan after y.out z r w))

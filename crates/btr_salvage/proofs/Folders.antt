@@ -1,18 +1,17 @@
 -- What is found in a directory, as its tour goes on.
-use Rattle.std.proofs.Common.{◌≡◌, ℕ, ◌<◌, List, [], ◌++◌, Option, Some, None, IfSome, IsSome, IsSomeAnd, Result, Ok, Err, refl, sym, ap, ◌∙◌, subst}
+use Rattle.std.proofs.Common.{◌≡◌, ℕ, ◌<◌, List, [], ◌++◌, Option, Some, None, IsSome, IsSomeAnd, Result, Ok, Err, sym, ap, ◌∙◌, subst}
 use Rattle.std.proofs.Common.{arith}
 use Rattle.std.specs.Option.{option_map}
-use Rattle.std.proofs.lemmas.List.Elements.{Contains-append_left}
 use Rattle.btr_prog.specs.Answers.{Follows, no_part}
 use Rattle.btr_prog.specs.Prog.{Does, first, prepend, want_marks}
 use Rattle.btr_prog.specs.Trying.{tried}
-use Rattle.btr_prog.proofs.Follow.{follows_as, unread_here}
+use Rattle.btr_prog.proofs.Follow.{follows_as}
 use Rattle.btr_rack.specs.Rack.{Seen}
 use Rattle.btr_read.specs.Fate as fate
 use Rattle.btr_read.specs.Layout.{Layout}
 use Rattle.btr_read.specs.Store.{Blocks}
 use Rattle.btr_read.specs.declared.want.Want.{Want}
-use Rattle.btr_tour.specs.Rests.{rank_left, GoesOn, IsKept, IsRestOn, RestCause, Rests, TakesUp}
+use Rattle.btr_tour.specs.Rests.{rank_left, GoesOn, IsRestOn, RestCause, Rests, TakesUp}
 use Rattle.btr_tour.specs.Steps.{reason, Meets}
 use Rattle.btr_tour.specs.Tour as marks
 use Rattle.btr_tour.specs.Tour.{Mark}
@@ -23,12 +22,11 @@ use Rattle.btr_tour.specs.declared.met.Met.TheVariants as met
 use Rattle.btr_tour.specs.declared.rest.Rest.{Rest}
 use Rattle.btr_tour.specs.declared.tour.Tour.{Tour}
 use Rattle.btr_tour.proofs.Marks.{next_is, cause_is}
-use Rattle.btr_tour.proofs.Paths.{on_more}
+use Rattle.btr_walk.proofs.Halting.{unread_halts}
 use Rattle.btr_walk.specs.Le.{want_of}
 use Rattle.btr_walk.specs.Reading.{FaultCause, HasCause, Map, UnreadBlock, halt_of}
 use Rattle.btr_walk.specs.Showing.{item_of}
 use Rattle.btr_walk.specs.declared.fault.TreeFault.{TreeFault}
-use Rattle.btr_walk.specs.declared.fault.TreeFault.TheVariants as tree
 use Rattle.btr_walk.specs.declared.frame.Frame.{Frame}
 use Rattle.btr_walk.specs.declared.found.Found.{Found as FoundItem}
 use Rattle.btr_walk.specs.declared.place.RootPlace.{RootPlace}
@@ -131,12 +129,7 @@ module _ (Is One : UnreadBlock → Want → Type 0) (weaker : (u : UnreadBlock) 
 -- a leaf that could not be read again
 pub rest_fault : (Is : UnreadBlock → Want → Type 0) (B : Map) (folder : Folder) (store : Blocks) (name : NameBuf) (f : TreeFault)
     → TakesUp Is B folder.rest store (Err f) → IsNextFound Is B folder folder name (Err f)
-rest_fault Is B folder store name (tree.Lost a) h seen on = absurd (h seen on)
-rest_fault Is B folder store name (tree.Unread a slot) h seen on = unread_here Is no_part seen (record { addr = a; slot = slot })
-    (tried B (folder_left B folder)) (h seen on)
-rest_fault Is B folder store name (tree.Unmapped a) h seen on = absurd (h seen on)
-rest_fault Is B folder store name (tree.Crosses a) h seen on = absurd (h seen on)
-rest_fault Is B folder store name (tree.Malformed a) h seen on = absurd (h seen on)
+rest_fault Is B folder store name f h seen on = unread_halts Is seen f (tried B (folder_left B folder)) (h seen on)
 
 pub rest_cause : (layout : Layout) (a b : Seen) (leaf : Option Frame) (f : TreeFault) → RestCause layout a b leaf (Err f) → FaultCause layout a b f
 rest_cause layout a b None f h = absurd h
@@ -147,22 +140,3 @@ pub folder_nears : (rest after : Rest) (tour tour' : Tour) (store : Blocks) (res
 folder_nears rest after tour tour' store (Ok (Some f)) e r h = omega (arith, h, r.rank, e)
 folder_nears rest after tour tour' store (Ok None) e r h = tt
 folder_nears rest after tour tour' store (Err f) e r h = tt
-
--- where more was wanted, a directory can still be read on
-kept_more : (B : Map) (seen more : List Want) (o : Option Frame) → IfSome o (IsKept B seen) → IfSome o (IsKept B (seen ++ more))
-kept_more B seen more None k = tt
-kept_more B seen more (Some frame) k = record {
-  block = k.block;
-  came = k.came;
-  is = k.is;
-  read = Contains-append_left seen more
-      (want_of 0 frame.spot) k.read;
-  all = k.all;
-}
-
-pub rest_more : (B : Map) (seen more : List Want) (rest : Rest) → IsRestOn B seen rest → IsRestOn B (seen ++ more) rest
-rest_more B seen more rest on = record {
-  place = on_more rest.scope.lo rest.scope.hi B seen more rest.place rest.place refl on.place;
-  kept =
-      kept_more B seen more rest.leaf on.kept;
-}

@@ -19,6 +19,7 @@ use Rattle.btr_walk.specs.Reading.{HasCause, Map, Tells, UnreadBlock, halt_of, u
 use Rattle.btr_walk.specs.declared.fault.TreeFault.{TreeFault}
 use Rattle.btr_walk.proofs.Fetched.{cause_since, since}
 use Rattle.btr_volume.specs.Looking.{SameVolume}
+use Rattle.btr_volume.specs.Readable.{CanRead}
 use Rattle.btr_volume.specs.declared.root.TreeRoot.{TreeRoot}
 use Rattle.btr_volume.specs.declared.stop.Stop.{Stop as TheStop}
 use Rattle.btr_volume.specs.declared.stop.Stop.TheVariants as stop
@@ -27,14 +28,15 @@ use Rattle.btr_files.specs.Maps.{TellsAll}
 use Rattle.btr_files.specs.declared.name.NameBuf.{NameBuf}
 use Rattle.btr_files.specs.declared.plan.RestorePlan.{RestorePlan}
 use Rattle.btr_listing.specs.Step.{Step, part}
-use Rattle.btr_listing.proofs.Looking.{reads_self, reads_then, same_self, same_then}
+use Rattle.btr_rack.proofs.Reading.{reads_none, reads_more}
+use Rattle.btr_volume.proofs.Onward.{behind_since, same_self, same_then}
+use Rattle.btr_volume.specs.Stops.{stop_halt}
 use Rattle.btr_restore.specs.Listing.{TellsBoth}
-use Rattle.btr_restore.specs.Restoring.{OutCounts, SinkCounts, sink_after, stop_halt, text_after}
-use Rattle.btr_restore.specs.Running.{IsReady, World, world}
+use Rattle.btr_restore.specs.Restoring.{IsRestoreStop, OutCounts, SinkCounts, sink_after, text_after}
+use Rattle.btr_restore.specs.Running.{World, world}
 use Rattle.btr_restore.proofs.Doing.{fold-append, text_then}
 use Rattle.btr_restore.proofs.Emitting.{text_none}
 use Rattle.btr_restore.proofs.Listings.{all_of, both_all, both_none, both_then}
-use Rattle.btr_restore.proofs.Stopping.{stop_cause_since}
 use Rattle.btr_salvage.specs.declared.folder.Folder.{Folder}
 use Rattle.btr_salvage.specs.declared.folder.Found.{Found}
 use Rattle.btr_salvage.specs.declared.salvaged.Salvaged.{Salvaged}
@@ -45,7 +47,7 @@ use Rattle.btr_salvage.specs.Running.{Ran}
 use Rattle.btr_salvage.specs.Marks.{InFolder, folder_tour}
 use Rattle.btr_salvage.specs.Salvaging.{Attempt, directory}
 use Rattle.btr_salvage.proofs.Attempts.{comes_some, comes_tried, tries_each, tried_ends}
-use Rattle.btr_salvage.proofs.Folders.{rest_more}
+use Rattle.btr_tour.proofs.Resting.{rest_on_more}
 use Rattle.btr_salvage.proofs.Rans.{tries_as}
 
 -- a directory, below which so many more may be entered, mark by mark
@@ -130,7 +132,7 @@ module _ (treat : Salvaged → InFolder → Attempt Salvaged) (B : Map) (Bs : �
             seen = l.seen ++ wants_of b.marks;
             run = so_far_step Body last rest.marks rest.ending Is part Whole l.seen done more so_far so_far' l.mark b body
                 (follows_alone Is part l.seen b more (Ok (Ok so_far')) (follows_value Is part [] Ok t.0 so_far' more t.2)) l.run;
-            on = rest_more B l.seen (wants_of b.marks) folder'.rest l.on;
+            on = rest_on_more B l.seen (wants_of b.marks) folder'.rest l.on;
           }
 
       -- it was not treated to its end
@@ -158,10 +160,10 @@ module _ (treat : Salvaged → InFolder → Attempt Salvaged) (B : Map) (Bs : �
 
 -- a listing, call by call
 module _ (treat : Salvaged → InFolder → Attempt Salvaged) (x : World) where
-  pub listed_first : (so_far : Salvaged) (folder : Folder) (p : TourProg) → IsReady x.rack x.vol → ((B : Map) → folder_left B folder ≡ p)
+  pub listed_first : (so_far : Salvaged) (folder : Folder) (p : TourProg) → CanRead 6 x.rack x.vol → ((B : Map) → folder_left B folder ≡ p)
       → ((B : Map) → IsFolderOn B [] folder) → Listed treat (treat_each (by_mark treat) so_far p) x x so_far folder
   listed_first so_far folder p ready is on = record {
-    reads = reads_self x.rack;
+    reads = reads_none x.rack;
     volume = same_self x.vol;
     ready = ready;
     done = [];
@@ -174,7 +176,7 @@ module _ (treat : Salvaged → InFolder → Attempt Salvaged) (x : World) where
   }
 
   module _ (whole : Attempt Salvaged) (y : World) (so_far : Salvaged) (folder folder' : Folder) (name : NameBuf) (rack : Seen) (vol : Volume)
-      (l : Listed treat whole x y so_far folder) (reads : OnlyReads y.rack rack) (same : SameVolume y.vol vol) (ready : IsReady rack vol) where
+      (l : Listed treat whole x y so_far folder) (reads : OnlyReads y.rack rack) (same : SameVolume y.vol vol) (ready : CanRead 6 rack vol) where
     abbrev layout : Layout
     layout = x.vol.store.layout
 
@@ -195,7 +197,7 @@ module _ (treat : Salvaged → InFolder → Attempt Salvaged) (x : World) where
     pub listed_fault : (f : TreeFault) → HasCause {A = Option Found} y.vol.store.layout y.rack rack (Err f)
         → Tells y.vol.store.layout y.rack rack (Next y.vol.store.layout (Err f)) → Ran whole x (world rack vol y.out) (Err (stop.Tree f))
     listed_fault f cause t = record {
-      reads = reads_then l.reads reads;
+      reads = reads_more l.reads reads;
       volume = same_then l.volume same;
       ready = ready;
       did = record {
@@ -218,7 +220,7 @@ module _ (treat : Salvaged → InFolder → Attempt Salvaged) (x : World) where
     pub listed_end : (result : Result (Option Found) TreeFault) → result ≡ Ok None → Tells y.vol.store.layout y.rack rack (Next y.vol.store.layout result)
         → Ran whole x (world rack vol y.out) (Ok so_far)
     listed_end result is t = record {
-      reads = reads_then l.reads reads;
+      reads = reads_more l.reads reads;
       volume = same_then l.volume same;
       ready = ready;
       did = record {
@@ -251,7 +253,7 @@ module _ (treat : Salvaged → InFolder → Attempt Salvaged) (x : World) where
       -- what was found was treated wholly
       pub listed_step : (so_far' : Salvaged) → Ran (treat so_far what) (world rack vol y.out) z (Ok so_far') → Listed treat whole x z so_far' folder'
       listed_step so_far' r = record {
-        reads = reads_then (reads_then l.reads reads) r.reads;
+        reads = reads_more (reads_more l.reads reads) r.reads;
         volume = same_then (same_then l.volume same) r.volume;
         ready = r.ready;
         done = l.done ++ r.did.done;
@@ -270,7 +272,7 @@ module _ (treat : Salvaged → InFolder → Attempt Salvaged) (x : World) where
       -- it was not listed to its end
       pub listed_halt : (s : TheStop) → Ran (treat so_far what) (world rack vol y.out) z (Err s) → Ran whole x z (Err s)
       listed_halt s r = record {
-        reads = reads_then (reads_then l.reads reads) r.reads;
+        reads = reads_more (reads_more l.reads reads) r.reads;
         volume = same_then (same_then l.volume same) r.volume;
         ready = r.ready;
         did = record {
@@ -283,11 +285,11 @@ module _ (treat : Salvaged → InFolder → Attempt Salvaged) (x : World) where
               (λ B Bs. Tries (unread_by layout x.rack z.rack) part Bs whole (l.done ++ r.did.done) (Err (stop_halt s)))
               (λ B Bs zth m g. left_halts treat B Bs zth whole so_far what folder' l.done r.did.done (unread_by layout x.rack z.rack) (stop_halt s) m
               (tries_as Bs (unread_by layout rack z.rack) (unread_by layout x.rack z.rack) (treat so_far what) r.did.done (Err (stop_halt s))
-              (λ u w i. since layout layout refl (reads_then l.reads reads) u w i) g)) met
+              (λ u w i. since layout layout refl (reads_more l.reads reads) u w i) g)) met
               (subst (λ (L : Layout). TellsAll L rack z.rack (λ Bs. Tries (unread_by L rack z.rack) part Bs (treat so_far what) r.did.done
               (Err (stop_halt s)))) deeper r.did.content));
         };
-        cause = stop_cause_since {C = Salvaged} z.rack layout vol.store.layout (Err s) deeper (reads_then l.reads reads) r.cause;
+        cause = behind_since IsRestoreStop {C = Salvaged} z.rack layout vol.store.layout (Err s) deeper (reads_more l.reads reads) r.cause;
         sink_calls = subst (λ a. SinkCounts {A = Salvaged} a z.out.sink_calls (Err s)) l.sink_calls r.sink_calls;
         out_calls = subst (λ a. OutCounts {A = Salvaged} a z.out.out_calls (Err s)) l.out_calls r.out_calls;
       }

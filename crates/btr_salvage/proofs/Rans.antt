@@ -1,5 +1,5 @@
 -- Calls of salvage one after another.
-use Rattle.std.proofs.Common.{◌≡◌, ℕ, List, [], ◌++◌, Some, None, Result, Ok, Err, refl, sym, ap, ◌∙◌, subst}
+use Rattle.std.proofs.Common.{◌≡◌, ℕ, List, [], ◌++◌, Some, None, Result, Ok, Err, IsErrAnd, refl, sym, ap, ◌∙◌, subst}
 use Rattle.std.specs.Prelude.{fold}
 use Rattle.btr_prog.specs.Answers.{Halt, Fault, Unread, Broke, Follows, Names, no_part}
 use Rattle.btr_prog.specs.Goes.{AfterTo, Goes}
@@ -23,17 +23,20 @@ use Rattle.btr_volume.specs.declared.stop.Stop.{Stop as TheStop}
 use Rattle.btr_volume.specs.declared.stop.Stop.TheVariants as stop
 use Rattle.btr_volume.specs.declared.volume.Volume.{Volume}
 use Rattle.btr_listing.specs.Step.{Step, part}
-use Rattle.btr_listing.proofs.Looking.{reads_self, reads_then, same_self, same_then}
+use Rattle.btr_rack.proofs.Reading.{reads_none, reads_more}
+use Rattle.btr_volume.proofs.Onward.{behind_since, same_self, same_then, stop_passed}
+use Rattle.btr_volume.specs.Stops.{ended, stop_halt}
 use Rattle.btr_restore.specs.Listing.{maps_of}
-use Rattle.btr_restore.specs.Restoring.{OutCounts, Scene, SinkCounts, ended, sink_after, stop_halt, text_after}
+use Rattle.btr_restore.specs.Restoring.{IsRestoreStop, OutCounts, Scene, SinkCounts, sink_after, text_after}
 use Rattle.btr_restore.specs.Restoring as restoring
-use Rattle.btr_restore.specs.Running.{IsReady, Outside, World, Wrote, scene_of, world}
+use Rattle.btr_volume.specs.Readable.{CanRead}
+use Rattle.btr_restore.specs.Running.{Outside, World, Wrote, scene_of, world}
 use Rattle.btr_restore.specs.Running as running
 use Rattle.btr_restore.proofs.Doing.{fold-append, text_then}
 use Rattle.btr_restore.proofs.Emitting.{text_none}
 use Rattle.btr_restore.proofs.Goings.{if_both, if_map, if_some}
 use Rattle.btr_restore.proofs.Rans.{ran_wrote}
-use Rattle.btr_restore.proofs.Stopping.{cause_kept, outs_kept, outs_then, sinks_kept, sinks_then, stop_cause_since}
+use Rattle.btr_restore.proofs.Stopping.{outs_then, sinks_then}
 use Rattle.btr_salvage.specs.Attempts.{TriesTo, Tries, on_value, value_then}
 use Rattle.btr_salvage.specs.Running.{Does, Ran}
 use Rattle.btr_salvage.specs.Salvaging.{Attempt, tries}
@@ -127,8 +130,12 @@ ran_of p x y r h = record {
   out_calls = h.out_calls;
 }
 
+-- a stop that is passed on
+pub ran_passed : {A : Type 0} {p : Attempt A} {x y : World} {s : TheStop} (r : Result A TheStop) → IsErrAnd r (λ e. e ≡ s) → Ran p x y (Err s) → Ran p x y r
+ran_passed {p = p} {x = x} {y = y} {s = s} r is h = stop_passed (λ q. Ran p x y q) r s is h
+
 -- calls that only write
-pub ran_writes : {A : Type 0} (p : Program Step A) (rack : Seen) (vol : Volume) (x y : Outside) (r : Result A TheStop) → IsReady rack vol → Wrote p x y r
+pub ran_writes : {A : Type 0} (p : Program Step A) (rack : Seen) (vol : Volume) (x y : Outside) (r : Result A TheStop) → CanRead 6 rack vol → Wrote p x y r
     → Ran (attempt p) (world rack vol x) (world rack vol y) r
 ran_writes p rack vol x y r ready w = ran_of p (world rack vol x) (world rack vol y) r (ran_wrote p rack vol x y r ready w)
 
@@ -190,12 +197,12 @@ module _ {A C : Type 0} (p : Attempt A) (h : Result A fate.Fault → Attempt C) 
       → SinkCounts {A = Unit {0}} x.out.sink_calls y.out.sink_calls (Ok (tt {0})) → OutCounts {A = Unit {0}} x.out.out_calls y.out.out_calls (Ok (tt {0}))
       → Ran p x y ans → Ran (h v) y z r → Ran (try_then p h) x z r
   next_by ans v r hands sinks outs one two = record {
-    reads = reads_then one.reads two.reads;
+    reads = reads_more one.reads two.reads;
     volume = same_then one.volume two.volume;
     ready = two.ready;
     did = does_next x.vol.store.layout y.vol.store.layout one.volume.store.layout p h (scene_of x) (scene_of y) (scene_of z) (ended ans) v
         (ended r) hands one.reads one.did two.did;
-    cause = stop_cause_since z.rack x.vol.store.layout y.vol.store.layout r one.volume.store.layout one.reads two.cause;
+    cause = behind_since IsRestoreStop z.rack x.vol.store.layout y.vol.store.layout r one.volume.store.layout one.reads two.cause;
     sink_calls = sinks_then x.out.sink_calls y.out.sink_calls z.out.sink_calls (tt {0}) r sinks two.sink_calls;
     out_calls = outs_then x.out.out_calls y.out.out_calls z.out.out_calls (tt {0}) r outs two.out_calls;
   }
@@ -247,15 +254,15 @@ module _ {A C : Type 0} (p : Attempt A) (k : A → Attempt C) (x y z : World) wh
     volume = one.volume;
     ready = one.ready;
     did = does_stop x.vol.store.layout p k (scene_of x) (scene_of y) (stop_halt s) one.did;
-    cause = cause_kept A C x.vol.store.layout x.rack y.rack s one.cause;
-    sink_calls = sinks_kept A C x.out.sink_calls y.out.sink_calls s one.sink_calls;
-    out_calls = outs_kept A C x.out.out_calls y.out.out_calls s one.out_calls;
+    cause = one.cause;
+    sink_calls = one.sink_calls;
+    out_calls = one.out_calls;
   }
 
 -- nothing is done
-pub ran_value : {A : Type 0} (a : A) (x : World) → IsReady x.rack x.vol → Ran (Done (Ok a)) x x (Ok a)
+pub ran_value : {A : Type 0} (a : A) (x : World) → CanRead 6 x.rack x.vol → Ran (Done (Ok a)) x x (Ok a)
 ran_value a x ready = record {
-  reads = reads_self x.rack;
+  reads = reads_none x.rack;
   volume = same_self x.vol;
   ready = ready;
   did = record {
@@ -273,12 +280,12 @@ ran_value a x ready = record {
 }
 
 -- want of memory, before anything was done
-pub ran_memory : {A : Type 0} (p : Attempt A) (rack : Seen) (vol : Volume) (x : Outside) → IsReady rack vol
+pub ran_memory : {A : Type 0} (p : Attempt A) (rack : Seen) (vol : Volume) (x : Outside) → CanRead 6 rack vol
     → Ran p (world rack vol x) (world rack vol x) (Err stop.Memory)
 ran_memory {A} p rack vol x ready =
     let layout = vol.store.layout in
     record {
-      reads = reads_self rack;
+      reads = reads_none rack;
       volume = same_self vol;
       ready = ready;
       did = record {

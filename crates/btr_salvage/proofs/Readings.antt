@@ -21,6 +21,7 @@ use Rattle.btr_walk.specs.declared.fault.TreeFault.{TreeFault}
 use Rattle.btr_walk.proofs.Fetched.{cause_since, since}
 use Rattle.btr_walk.proofs.Turns.{base_layout}
 use Rattle.btr_volume.specs.Looking.{SameVolume}
+use Rattle.btr_volume.specs.Readable.{CanRead}
 use Rattle.btr_volume.specs.Lookup.{Program}
 use Rattle.btr_volume.specs.declared.volume.Volume.{Volume}
 use Rattle.btr_files.specs.Content.{Piece}
@@ -30,10 +31,12 @@ use Rattle.btr_files.specs.Sums.{kind_in}
 use Rattle.btr_files.specs.declared.file.FileBytes.{FileBytes}
 use Rattle.btr_files.specs.declared.piece.Piece.{Piece as Lending}
 use Rattle.btr_listing.specs.Step.{Step, part}
-use Rattle.btr_listing.proofs.Looking.{reads_self, reads_then, room_kept}
+use Rattle.btr_rack.proofs.Reading.{reads_none, reads_more}
+use Rattle.btr_volume.proofs.Onward.{room_kept}
+use Rattle.btr_volume.specs.Stops.{ended}
 use Rattle.btr_restore.specs.Listing.{maps_of}
-use Rattle.btr_restore.specs.Restoring.{OutCounts, SinkCounts, StopCause, ended}
-use Rattle.btr_restore.specs.Running.{IsReady, Outside, world}
+use Rattle.btr_restore.specs.Restoring.{OutCounts, SinkCounts, StopCause}
+use Rattle.btr_restore.specs.Running.{Outside, world}
 use Rattle.btr_restore.proofs.Emitting.{text_none}
 use Rattle.btr_restore.proofs.Goings.{if_map, if_some}
 use Rattle.btr_restore.proofs.Listings.{all_of, both_all}
@@ -133,7 +136,7 @@ module _ (whole : Program Piece (Unit {0})) (start : Seen) (began : Volume) (old
   passing_fault f result is m cause =
       let n = streamed result (Err f) is m in
       record {
-        reads = reads_then l.reads reads;
+        reads = reads_more l.reads reads;
         sup = n.sup ∙ l.sup;
         others = apart n.others;
         reading = n.reading;
@@ -148,7 +151,7 @@ module _ (whole : Program Piece (Unit {0})) (start : Seen) (began : Volume) (old
   passing_end result is m =
       let n = streamed result (Ok None) is m in
       record {
-        reads = reads_then l.reads reads;
+        reads = reads_more l.reads reads;
         sup = n.sup ∙ l.sup;
         others = apart n.others;
         reading = n.reading;
@@ -163,7 +166,7 @@ module _ (whole : Program Piece (Unit {0})) (start : Seen) (began : Volume) (old
   passing_on piece result is m =
       let n = streamed result (Ok (Some piece)) is m in
       record {
-        reads = reads_then l.reads reads;
+        reads = reads_more l.reads reads;
         sup = n.sup ∙ l.sup;
         others = apart n.others;
         reading = n.reading;
@@ -175,7 +178,7 @@ module _ (whole : Program Piece (Unit {0})) (start : Seen) (began : Volume) (old
 pub passing_first : (rack : Seen) (vol : Volume) (file : FileBytes) (p : Program Piece (Unit {0})) → IsReading rack vol.store file
     → without_file vol.store file ≡ vol.store → Begins (kind_in vol.sup) file p → ((B : Map) → IsFileOn B [] file) → IsPassing p rack vol rack vol file
 passing_first rack vol file p reading same begins on = record {
-  reads = reads_self rack;
+  reads = reads_none rack;
   sup = refl;
   others = subst (SameLoans vol.store) (sym same) (record { layout = refl; loans = refl });
   reading = reading;
@@ -198,7 +201,7 @@ module _ (p : Program Piece (Unit {0})) (rack : Seen) (vol : Volume) (now : Seen
   abbrev only_wants : Run Want Fault Piece (Unit {0}) → Run Want Fault Step (Unit {0})
   only_wants r = run (want_marks (wants_of r.marks)) r.ending
 
-  pub passing_over : (r : Result (Unit {0}) TreeFault) → IsReady rack vol → WasPassed p rack vol now mid file r → after.sup ≡ mid.sup
+  pub passing_over : (r : Result (Unit {0}) TreeFault) → CanRead 6 rack vol → WasPassed p rack vol now mid file r → after.sup ≡ mid.sup
       → SameLoans (without_file mid.store file) after.store → Serves now after.store → Ran (ending_of p) (world rack vol x) (world now after x) (stopped r)
   passing_over r ready w sup back serves =
       let same : SameVolume vol after = record {

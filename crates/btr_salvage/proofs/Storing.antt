@@ -15,7 +15,8 @@ use Rattle.btr_volume.specs.declared.stop.Stop.TheVariants as stop
 use Rattle.btr_volume.specs.declared.volume.Volume.{Volume}
 use Rattle.btr_listing.specs.Step.{part}
 use Rattle.btr_restore.specs.Listing.{maps_of}
-use Rattle.btr_restore.specs.Restoring.{Scene, Settles, stop_halt}
+use Rattle.btr_restore.specs.Restoring.{Scene, Settles}
+use Rattle.btr_volume.specs.Stops.{stop_halt}
 use Rattle.btr_restore.specs.Running.{World, outside, scene_of, world}
 use Rattle.btr_restore.proofs.Goings.{if_map}
 use Rattle.btr_restore.proofs.Storing.{broken, out_before, sink_behind}

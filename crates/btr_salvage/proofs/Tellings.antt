@@ -8,7 +8,8 @@ use Rattle.btr_rack.specs.declared.error.SinkError.{SinkError}
 use Rattle.btr_volume.specs.declared.stop.Stop.{Stop as TheStop}
 use Rattle.btr_listing.specs.Lines.{more}
 use Rattle.btr_listing.specs.Step.{Line}
-use Rattle.btr_restore.specs.Restoring.{Emits, stops_out}
+use Rattle.btr_restore.specs.Restoring.{Emits}
+use Rattle.btr_volume.specs.Stops.{stops_out}
 use Rattle.btr_restore.specs.Running.{Wrote, outside}
 use Rattle.btr_restore.proofs.Emitting.{as_out, breaks_line, emits_line}
 use Rattle.btr_restore.proofs.Stopping.{out_stops, outs_of_out, sinks_of_out}

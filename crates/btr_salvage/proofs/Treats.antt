@@ -28,7 +28,8 @@ use Rattle.btr_restore.specs.declared.treated.Treated.TheVariants.{Over, Within}
 use Rattle.btr_restore.specs.Journey.{done_about, rules_of}
 use Rattle.btr_restore.specs.Treating as treating
 use Rattle.btr_restore.specs.Treating.{IsOver}
-use Rattle.btr_restore.specs.Running.{IsReady, KeepsStanding, Outside, StandsAfter, World, outside, world}
+use Rattle.btr_volume.specs.Readable.{CanRead}
+use Rattle.btr_restore.specs.Running.{KeepsStanding, Outside, StandsAfter, World, outside, world}
 use Rattle.btr_restore.specs.Running as running
 use Rattle.btr_restore.proofs.Rans.{ran_fault, ran_found}
 use Rattle.btr_salvage.specs.declared.salvaged.Salvaged.{Salvaged}
@@ -88,7 +89,7 @@ module _ (plan : RestorePlan) (s : Super) (sums : Option TreeRoot) (met : Met) (
 
 -- an entry, by what is looked up under the rules of restore
 module _ (job : Job) (entry : Entry) (so_far : Salvaged) (s : Super) (rules : Rules) (of_plan : rules ≡ rules_of job.plan) (old : Seen) (vol : Volume)
-    (same : s ≡ vol.sup) (new : Seen) (after : Volume) (x : Outside) (ready : IsReady old vol) where
+    (same : s ≡ vol.sup) (new : Seen) (after : Volume) (x : Outside) (ready : CanRead 6 old vol) where
   abbrev lookup : Lookup Decision
   lookup = decided (rules_of job.plan) s (met_by entry)
 

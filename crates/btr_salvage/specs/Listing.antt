@@ -11,6 +11,7 @@ use Rattle.btr_super.specs.declared.superblock.Super.{Super}
 use Rattle.btr_tour.specs.Tour.{Mark}
 use Rattle.btr_walk.specs.Reading.{Map}
 use Rattle.btr_volume.specs.Looking.{SameVolume}
+use Rattle.btr_volume.specs.Readable.{CanRead}
 use Rattle.btr_volume.specs.declared.root.TreeRoot.{TreeRoot}
 use Rattle.btr_files.specs.declared.dir_row.DirRow.{DirRow}
 use Rattle.btr_files.specs.declared.name.NameBuf.{NameBuf}
@@ -21,7 +22,7 @@ use Rattle.btr_listing.specs.Step.{Step}
 use Rattle.btr_restore.specs.declared.job.Job.{Job}
 use Rattle.btr_restore.specs.Listing.{TellsBoth, is_deep}
 use Rattle.btr_restore.specs.Restoring.{sink_after, text_after}
-use Rattle.btr_restore.specs.Running.{IsReady, Stands, World}
+use Rattle.btr_restore.specs.Running.{Stands, World}
 use Rattle.btr_salvage.specs.declared.folder.Folder.{Folder}
 use Rattle.btr_salvage.specs.declared.folder.Found.{Found}
 use Rattle.btr_salvage.specs.declared.salvaged.Salvaged.{Salvaged}
@@ -100,7 +101,7 @@ module _ (treat : Salvaged → InFolder → Attempt Salvaged) where
   pub record Listed (whole : Attempt Salvaged) (x y : World) (so_far : Salvaged) (folder : Folder) : Type 0 where
     pub reads : OnlyReads x.rack y.rack
     pub volume : SameVolume x.vol y.vol
-    pub ready : IsReady y.rack y.vol
+    pub ready : CanRead 6 y.rack y.vol
     pub done : List Step
     pub sink : y.out.sink ≡ fold sink_after x.out.sink done
     pub text : y.out.text ≡ text_after x.out.text done
@@ -112,7 +113,7 @@ module _ (treat : Salvaged → InFolder → Attempt Salvaged) where
 pub record IsUnderway
     (plan : RestorePlan) (sums : Option TreeRoot) (deeper : ℕ) (tree : TreeRoot) (dirid : ℕ) (path : List ℕ)
     (first : Salvaged) (x y : World) (so_far : Salvaged) (folder : Folder) (here : List ℕ) (below : ℕ) : Type 0 where
-  pub ready : IsReady y.rack y.vol
+  pub ready : CanRead 6 y.rack y.vol
   pub reads_on : IsFolder folder
   pub same_path : here ≡ path
   pub same_below : below ≡ deeper

@@ -8,12 +8,14 @@ use Rattle.btr_super.specs.declared.superblock.Super.{Super}
 use Rattle.btr_walk.specs.Reading.{UnreadBlock}
 use Rattle.btr_walk.specs.declared.fault.TreeFault.{TreeFault}
 use Rattle.btr_volume.specs.Looking.{SameVolume}
+use Rattle.btr_volume.specs.Readable.{CanRead}
 use Rattle.btr_volume.specs.declared.stop.Stop.{Stop}
 use Rattle.btr_volume.specs.declared.stop.Stop.TheVariants.{Tree}
 use Rattle.btr_volume.specs.declared.volume.Volume.{Volume}
 use Rattle.btr_listing.specs.Step.{part}
-use Rattle.btr_restore.specs.Restoring.{Scene, Did, StopCause, SinkCounts, OutCounts, ended}
-use Rattle.btr_restore.specs.Running.{IsReady, Outside, World, scene_of, world}
+use Rattle.btr_restore.specs.Restoring.{Scene, Did, StopCause, SinkCounts, OutCounts}
+use Rattle.btr_volume.specs.Stops.{ended}
+use Rattle.btr_restore.specs.Running.{Outside, World, scene_of, world}
 use Rattle.btr_salvage.specs.Attempts.{Tries}
 use Rattle.btr_salvage.specs.Salvaging.{Attempt}
 
@@ -25,7 +27,7 @@ Does layout p before now answer = Did layout before now (λ Is Bs done. Tries Is
 pub record Ran {A : Type 0} (p : Attempt A) (x y : World) (answer : Result A Stop) : Type 0 where
   pub reads : OnlyReads x.rack y.rack
   pub volume : SameVolume x.vol y.vol
-  pub ready : IsReady y.rack y.vol
+  pub ready : CanRead 6 y.rack y.vol
   pub did : Does x.vol.store.layout p (scene_of x) (scene_of y) (ended answer)
   pub cause : StopCause x.vol.store.layout x.rack y.rack answer
   pub sink_calls : SinkCounts x.out.sink_calls y.out.sink_calls answer

@@ -3,7 +3,7 @@ ghost use Rattle.std.specs.Prelude.{◌≡◌, ◌≤◌, []};
 ghost use Rattle.btr_rack.specs.Rack.{OnlyReads};
 ghost use Rattle.btr_read.specs.Serves.{Serves};
 ghost use Rattle.btr_read.specs.Store.{SameLoans, free_count};
-ghost use Rattle.btr_tour.specs.TourEnds.{IsReady, without_leaf};
+ghost use Rattle.btr_tour.specs.TourEnds.{IsTourReady, without_leaf};
 ghost use Rattle.btr_walk.specs.Reading.{Map, HasCause};
 ghost use Rattle.btr_walk.specs.Showing.{item_of};
 ghost use Rattle.btr_volume.specs.Looking.{SameVolume};
@@ -72,9 +72,9 @@ fn meet_next<R: Rack>(
     store: &mut Store,
     name: &mut NameBuf,
 ) -> Result<Option<Found>, TreeFault>
-    requires ready { IsReady (R.seen rack.old) store.old tour.old }
+    requires ready { IsTourReady (R.seen rack.old) store.old tour.old }
     requires room { 4 ≤ free_count (without_leaf store.old tour.old) }
-    ensures ready { IsReady (R.seen rack.new) store.new tour.new }
+    ensures ready { IsTourReady (R.seen rack.new) store.new tour.new }
     ensures reads { OnlyReads (R.seen rack.old) (R.seen rack.new) }
     ensures others { SameLoans (without_leaf store.old tour.old) (without_leaf store.new tour.new) }
     ensures nears { MetNears tour.old tour.new result }

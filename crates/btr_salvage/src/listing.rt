@@ -2,7 +2,8 @@
 ghost use Rattle.std.specs.Prelude.{◌≡◌, ◌<◌, false, OnOk, length, take, ◌+◌, ◌≤◌};
 ghost use Rattle.btr_rack.specs.Sink.{BetweenFiles};
 ghost use Rattle.btr_restore.specs.Listing.{KeepsDepth, LeavesDepth};
-ghost use Rattle.btr_restore.specs.Running.{IsReady, world, outside_of};
+ghost use Rattle.btr_volume.specs.Readable.{CanRead};
+ghost use Rattle.btr_restore.specs.Running.{world, outside_of};
 ghost use Rattle.btr_salvage.specs.Listing.{entry_for, found_for, listing_for, within_for};
 ghost use Rattle.btr_salvage.specs.Running.{RanFor};
 ghost use Rattle.btr_salvage.specs.Treating.{counted};
@@ -19,18 +20,18 @@ use btr_volume::{Stop, TreeRoot, Volume};
 
 /// Where a directory is listed: how far that has come, and a place for the name of an entry.
 #[derive(Clone, Copy)]
-pub(crate) struct Frame {
+pub(crate) struct OpenFolder {
     pub(crate) folder: Folder,
     pub(crate) name: NameBuf,
 }
 
-// What is in a directory that was entered, and the way up. The first frame is its own.
+// What is in a directory that was entered, and the way up. The first of `folders` is its own.
 #[cycle(listing)]
 fn list_within<R: Rack, T: TreeSink, O: Out>(
     job: &Job,
     inner: TreeRoot,
     dirid: u64,
-    frames: &mut [Frame],
+    folders: &mut [OpenFolder],
     path: &mut Path,
     salvaged: &mut Salvaged,
     rack: &mut R,
@@ -38,30 +39,28 @@ fn list_within<R: Rack, T: TreeSink, O: Out>(
     tree: &mut T,
     out: &mut O,
 ) -> Result<(), Stop>
-    requires ready { IsReady (R.seen rack.old) vol.old }
+    requires ready { CanRead 6 (R.seen rack.old) vol.old }
     requires between { job.now.plan.dry ≡ false → (T.sink tree.old).stage ≡ BetweenFiles }
-    requires some { 0 < length frames.old }
+    requires some { 0 < length folders.old }
     requires below { job.now.plan.dry ≡ false → 0 < (T.sink tree.old).depth }
-    requires room { job.now.plan.dry ≡ false → (T.sink tree.old).depth + length frames.old ≤ 513 }
-    ensures ran { RanFor (within_for job.now (length frames.old) path.old inner dirid salvaged.old)
+    requires room { job.now.plan.dry ≡ false → (T.sink tree.old).depth + length folders.old ≤ 513 }
+    ensures ran { RanFor (within_for job.now (length folders.old) path.old inner dirid salvaged.old)
         (world (R.seen rack.old) vol.old (outside_of T.sink T.account O.text O.account tree.old out.old))
         (world (R.seen rack.new) vol.new (outside_of T.sink T.account O.text O.account tree.new out.new))
         (counted salvaged.new result) }
     ensures path { OnOk result (path.new ≡ path.old) }
     ensures stands { LeavesDepth job.now.plan.dry (T.sink tree.old) (T.sink tree.new) result }
 {
-    let Some((here, below)) = frames.split_first_mut() else {
+    let Some((here, below)) = folders.split_first_mut() else {
         unreachable!();
     };
-    match list(
+    list(
         job, inner, dirid, here, below, path, salvaged, rack, vol, tree, out,
-    ) {
-        Err(stop) => Err(stop),
-        Ok(()) => leave_dir(&job.plan, tree),
-    }
+    )?;
+    leave_dir(&job.plan, tree)
 }
 
-// An entry of a directory, and what is in it. There is a frame for each directory that may be entered.
+// An entry of a directory, and what is in it. There is a place below for each that may be entered.
 #[cycle(listing)]
 fn list_entry<R: Rack, T: TreeSink, O: Out>(
     job: &Job,
@@ -69,7 +68,7 @@ fn list_entry<R: Rack, T: TreeSink, O: Out>(
     dirid: u64,
     row: DirRow,
     name: &NameBuf,
-    below: &mut [Frame],
+    below: &mut [OpenFolder],
     path: &mut Path,
     salvaged: &mut Salvaged,
     rack: &mut R,
@@ -77,7 +76,7 @@ fn list_entry<R: Rack, T: TreeSink, O: Out>(
     tree: &mut T,
     out: &mut O,
 ) -> Result<(), Stop>
-    requires ready { IsReady (R.seen rack.old) vol.old }
+    requires ready { CanRead 6 (R.seen rack.old) vol.old }
     requires between { job.now.plan.dry ≡ false → (T.sink tree.old).stage ≡ BetweenFiles }
     requires room { job.now.plan.dry ≡ false → (T.sink tree.old).depth + length below.old ≤ 512 }
     ensures ran { RanFor (entry_for job.now (length below.old) root.now dirid path.old salvaged.old row name.now)
@@ -99,10 +98,9 @@ fn list_entry<R: Rack, T: TreeSink, O: Out>(
         name,
         path: path.as_bytes(),
     };
-    match treat(job, &entry, salvaged, rack, vol, tree, out) {
-        Err(stop) => Err(stop),
-        Ok(Treated::Over) => Ok(()),
-        Ok(Treated::Within { tree: inner, dirid }) => {
+    match treat(job, &entry, salvaged, rack, vol, tree, out)? {
+        Treated::Over => Ok(()),
+        Treated::Within { tree: inner, dirid } => {
             list_within(
                 job, inner, dirid, below, path, salvaged, rack, vol, tree, out,
             )
@@ -118,7 +116,7 @@ fn list_found<R: Rack, T: TreeSink, O: Out>(
     dirid: u64,
     found: Found,
     name: &NameBuf,
-    below: &mut [Frame],
+    below: &mut [OpenFolder],
     path: &mut Path,
     salvaged: &mut Salvaged,
     rack: &mut R,
@@ -126,7 +124,7 @@ fn list_found<R: Rack, T: TreeSink, O: Out>(
     tree: &mut T,
     out: &mut O,
 ) -> Result<(), Stop>
-    requires ready { IsReady (R.seen rack.old) vol.old }
+    requires ready { CanRead 6 (R.seen rack.old) vol.old }
     requires between { job.now.plan.dry ≡ false → (T.sink tree.old).stage ≡ BetweenFiles }
     requires room { job.now.plan.dry ≡ false → (T.sink tree.old).depth + length below.old ≤ 512 }
     ensures ran { RanFor (found_for job.now (length below.old) root.now dirid path.old salvaged.old found name.now)
@@ -145,15 +143,15 @@ fn list_found<R: Rack, T: TreeSink, O: Out>(
     }
 }
 
-/// Lists a directory and all that is entered below it, also behind blocks that can't be had. `here` is its frame, and there is one for each directory that
-/// may be entered below.
+/// Lists a directory and all that is entered below it, also behind blocks that can't be had. `here` is
+/// its place, and there is one in `below` for each directory that may be entered.
 #[cycle(listing)]
 pub(crate) fn list<R: Rack, T: TreeSink, O: Out>(
     job: &Job,
     root: TreeRoot,
     dirid: u64,
-    here: &mut Frame,
-    below: &mut [Frame],
+    here: &mut OpenFolder,
+    below: &mut [OpenFolder],
     path: &mut Path,
     salvaged: &mut Salvaged,
     rack: &mut R,
@@ -161,7 +159,7 @@ pub(crate) fn list<R: Rack, T: TreeSink, O: Out>(
     tree: &mut T,
     out: &mut O,
 ) -> Result<(), Stop>
-    requires ready { IsReady (R.seen rack.old) vol.old }
+    requires ready { CanRead 6 (R.seen rack.old) vol.old }
     requires between { job.now.plan.dry ≡ false → (T.sink tree.old).stage ≡ BetweenFiles }
     requires room { job.now.plan.dry ≡ false → (T.sink tree.old).depth + length below.old ≤ 512 }
     ensures ran { RanFor (listing_for job.now (length below.old) root dirid path.old salvaged.old)
@@ -178,13 +176,11 @@ pub(crate) fn list<R: Rack, T: TreeSink, O: Out>(
             Err(fault) => return Err(Stop::Tree(fault)),
             Ok(None) => return Ok(()),
             Ok(Some(found)) => {
-                match list_found(
+                list_found(
                     job, &root, dirid, found, &here.name, below, path, salvaged, rack, vol, tree,
                     out,
-                ) {
-                    Ok(()) => path.cut(len),
-                    Err(stop) => return Err(stop),
-                }
+                )?;
+                path.cut(len);
             }
         }
     }

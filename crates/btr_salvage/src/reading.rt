@@ -2,7 +2,7 @@
 ghost use Rattle.std.specs.Prelude.{◌≤◌};
 ghost use Rattle.btr_read.specs.Store.{SameLoans, free_count};
 ghost use Rattle.btr_files.specs.Streaming.{bytes_left, IsReading, without_file};
-ghost use Rattle.btr_restore.specs.Running.{IsReady};
+ghost use Rattle.btr_volume.specs.Readable.{CanRead};
 ghost use Rattle.btr_salvage.specs.Reading.{PassesNext, PassesRest, PassNears};
 ghost use Rattle.btr_salvage.specs.Running.{ReadFor};
 ghost use Rattle.btr_salvage.specs.Treating.{reading_for};
@@ -63,7 +63,7 @@ pub(crate) fn read_through<R: Rack>(
     rack: &mut R,
     vol: &mut Volume,
 ) -> Result<(), TreeFault>
-    requires { IsReady (R.seen rack.old) vol.old }
+    requires { CanRead 6 (R.seen rack.old) vol.old }
     ensures { ReadFor (reading_for job.now root.now ino inode.now) (R.seen rack.old) vol.old (R.seen rack.new) vol.new result }
 {
     let nosum = has_no_sums(inode);

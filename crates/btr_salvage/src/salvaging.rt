@@ -1,12 +1,13 @@
 // The call salvage.
 ghost use Rattle.std.specs.Prelude.{◌≡◌, ◌≢◌, false, IfErr, IfOk, [], length, Some};
 ghost use Rattle.btr_rack.specs.Sink.{NotStarted};
-ghost use Rattle.btr_restore.specs.Running.{IsReady, world, outside_of};
+ghost use Rattle.btr_volume.specs.Readable.{CanRead};
+ghost use Rattle.btr_restore.specs.Running.{world, outside_of};
 ghost use Rattle.btr_salvage.specs.Running.{Ran, RanFor};
 ghost use Rattle.btr_salvage.specs.Salvaging.{from_root, from_tree, salvaging};
 
 use crate::folder::Folder;
-use crate::listing::{Frame, list};
+use crate::listing::{OpenFolder, list};
 use crate::salvaged::Salvaged;
 use crate::telling::tell_salvaged;
 use btr_base::Memory;
@@ -18,14 +19,15 @@ use btr_volume::{Stop, TreeRoot, Volume};
 use btr_walk::RootPlace;
 use std::alloc::Global;
 
-// A frame for the destination, and one for each of the 512 directories in one another that may be entered below it.
-const FRAMES: usize = 513;
+// A place for the destination, and one for each of the 512 directories in one another that may be
+// entered below it.
+const OPEN_FOLDERS: usize = 513;
 
 // The tree of the checksums of data.
 const SUM_TREE: u64 = 7;
 
-// A frame that lists nothing yet.
-fn free_frame() -> Frame {
+// A place where nothing is listed yet.
+fn free_folder() -> OpenFolder {
     let nowhere = TreeRoot {
         id: 0,
         offset: 0,
@@ -37,18 +39,18 @@ fn free_frame() -> Frame {
         dirid: 0,
         refs: 0,
     };
-    Frame {
+    OpenFolder {
         folder: Folder::new(&nowhere, 0),
         name: NameBuf::new(),
     }
 }
 
-// The frames of a listing. Their memory is taken once.
-fn free_frames(alloc: Global) -> Result<Vec<Frame>, Memory>
-    ensures { IfOk result (λ frames. length frames.items ≡ 513) }
+// The places of a listing. Their memory is taken once.
+fn free_folders(alloc: Global) -> Result<Vec<OpenFolder>, Memory>
+    ensures { IfOk result (λ folders. length folders.items ≡ 513) }
 {
-    match vec![in alloc; free_frame(); FRAMES] {
-        Ok(frames) => Ok(frames),
+    match vec![in alloc; free_folder(); OPEN_FOLDERS] {
+        Ok(folders) => Ok(folders),
         Err(_) => Err(Memory),
     }
 }
@@ -58,26 +60,23 @@ fn list_into<R: Rack, T: TreeSink, O: Out>(
     job: &Job,
     dest: &str,
     root: &TreeRoot,
-    frames: &mut [Frame],
+    folders: &mut [OpenFolder],
     path: &mut Path,
     rack: &mut R,
     vol: &mut Volume,
     tree: &mut T,
     out: &mut O,
 ) -> Result<Salvaged, Stop>
-    requires ready { IsReady (R.seen rack.old) vol.old }
+    requires ready { CanRead 6 (R.seen rack.old) vol.old }
     requires fresh { job.now.plan.dry ≡ false → (T.sink tree.old).stage ≡ NotStarted }
-    requires frames { length frames.old ≡ 513 }
+    requires folders { length folders.old ≡ 513 }
     requires path { path.old ≡ [] }
     ensures { RanFor (λ s. from_tree job.now.plan dest.now s root.now job.now.sums)
         (world (R.seen rack.old) vol.old (outside_of T.sink T.account O.text O.account tree.old out.old))
         (world (R.seen rack.new) vol.new (outside_of T.sink T.account O.text O.account tree.new out.new))
         result }
 {
-    match start_in(&job.plan, dest, tree) {
-        Ok(()) => {}
-        Err(stop) => return Err(stop),
-    }
+    start_in(&job.plan, dest, tree)?;
     let mut salvaged = Salvaged {
         counts: Counts {
             dirs: 0,
@@ -86,10 +85,10 @@ fn list_into<R: Rack, T: TreeSink, O: Out>(
         },
         broken: 0,
     };
-    let Some((here, below)) = frames.split_first_mut() else {
+    let Some((here, below)) = folders.split_first_mut() else {
         unreachable!();
     };
-    match list(
+    list(
         job,
         *root,
         root.dirid,
@@ -101,10 +100,8 @@ fn list_into<R: Rack, T: TreeSink, O: Out>(
         vol,
         tree,
         out,
-    ) {
-        Ok(()) => tell_salvaged(&salvaged, out),
-        Err(stop) => Err(stop),
-    }
+    )?;
+    tell_salvaged(&salvaged, out)
 }
 
 // A tree into the destination, once its checksums are found.
@@ -112,29 +109,25 @@ fn salvage_tree<R: Rack, T: TreeSink, O: Out>(
     plan: &RestorePlan,
     dest: &str,
     root: &TreeRoot,
-    frames: &mut [Frame],
+    folders: &mut [OpenFolder],
     path: &mut Path,
     rack: &mut R,
     vol: &mut Volume,
     tree: &mut T,
     out: &mut O,
 ) -> Result<Salvaged, Stop>
-    requires ready { IsReady (R.seen rack.old) vol.old }
+    requires ready { CanRead 6 (R.seen rack.old) vol.old }
     requires fresh { plan.now.dry ≡ false → (T.sink tree.old).stage ≡ NotStarted }
-    requires frames { length frames.old ≡ 513 }
+    requires folders { length folders.old ≡ 513 }
     requires path { path.old ≡ [] }
     ensures { RanFor (λ s. from_root plan.now dest.now s (Some root.now))
         (world (R.seen rack.old) vol.old (outside_of T.sink T.account O.text O.account tree.old out.old))
         (world (R.seen rack.new) vol.new (outside_of T.sink T.account O.text O.account tree.new out.new))
         result }
 {
-    match find_tree(SUM_TREE, rack, vol) {
-        Err(stop) => Err(stop),
-        Ok(sums) => {
-            let job = Job { plan: *plan, sums };
-            list_into(&job, dest, root, frames, path, rack, vol, tree, out)
-        }
-    }
+    let sums = find_tree(SUM_TREE, rack, vol)?;
+    let job = Job { plan: *plan, sums };
+    list_into(&job, dest, root, folders, path, rack, vol, tree, out)
 }
 
 // Salvages the subvolume of a plan. What waits in the sink then isn't stored yet.
@@ -147,7 +140,7 @@ fn salvage_unsettled<R: Rack, T: TreeSink, O: Out>(
     tree: &mut T,
     out: &mut O,
 ) -> Result<Salvaged, Stop>
-    requires ready { IsReady (R.seen rack.old) vol.old }
+    requires ready { CanRead 6 (R.seen rack.old) vol.old }
     requires fresh { plan.now.dry ≡ false → (T.sink tree.old).stage ≡ NotStarted }
     ensures { Ran (salvaging plan.now dest.now vol.old.sup)
         (world (R.seen rack.old) vol.old (outside_of T.sink T.account O.text O.account tree.old out.old))
@@ -158,16 +151,15 @@ fn salvage_unsettled<R: Rack, T: TreeSink, O: Out>(
         Ok(path) => path,
         Err(_) => return Err(Stop::Memory),
     };
-    let mut frames = match free_frames(alloc) {
-        Ok(frames) => frames,
+    let mut folders = match free_folders(alloc) {
+        Ok(folders) => folders,
         Err(_) => return Err(Stop::Memory),
     };
-    match find_tree(plan.root, rack, vol) {
-        Err(stop) => Err(stop),
-        Ok(None) => Err(Stop::NoTree(plan.root)),
-        Ok(Some(root)) => {
-            let frames = frames.as_mut_slice();
-            salvage_tree(plan, dest, &root, frames, &mut path, rack, vol, tree, out)
+    match find_tree(plan.root, rack, vol)? {
+        None => Err(Stop::NoTree(plan.root)),
+        Some(root) => {
+            let folders = folders.as_mut_slice();
+            salvage_tree(plan, dest, &root, folders, &mut path, rack, vol, tree, out)
         }
     }
 }
@@ -193,7 +185,7 @@ pub fn salvage<R: Rack, T: TreeSink, O: Out>(
     tree: &mut T,
     out: &mut O,
 ) -> Result<Salvaged, Stop>
-    requires ready { IsReady (R.seen rack.old) vol.old }
+    requires ready { CanRead 6 (R.seen rack.old) vol.old }
     requires wet { plan.now.dry ≡ false }
     requires fresh { (T.sink tree.old).stage ≡ NotStarted }
     ensures ran { Ran (salvaging plan.now dest.now vol.old.sup)

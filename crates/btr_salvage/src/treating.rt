@@ -6,7 +6,8 @@ ghost use Rattle.btr_listing.specs.Looked.{met_by};
 ghost use Rattle.btr_rack.specs.Name.{IsGoodName};
 ghost use Rattle.btr_rack.specs.Sink.{BetweenFiles};
 ghost use Rattle.btr_restore.specs.Journey.{rules_of};
-ghost use Rattle.btr_restore.specs.Running.{IsReady, KeepsStanding, outside_of, world};
+ghost use Rattle.btr_volume.specs.Readable.{CanRead};
+ghost use Rattle.btr_restore.specs.Running.{KeepsStanding, outside_of, world};
 ghost use Rattle.btr_restore.specs.Treating.{IsOver};
 ghost use Rattle.btr_salvage.specs.Running.{RanFor};
 ghost use Rattle.btr_salvage.specs.Treating.{came, decided_for, file_for, file_in, treated_for, Misses};
@@ -49,7 +50,7 @@ fn treat_file<R: Rack, T: TreeSink, O: Out>(
     tree: &mut T,
     out: &mut O,
 ) -> Result<Treated, Stop>
-    requires ready { IsReady (R.seen rack.old) vol.old }
+    requires ready { CanRead 6 (R.seen rack.old) vol.old }
     requires between { job.now.plan.dry ≡ false → (T.sink tree.old).stage ≡ BetweenFiles }
     requires good { IsGoodName (name_in entry.now.name.now) }
     requires above { entry.now.deep ≡ false → job.now.plan.dry ≡ false → (T.sink tree.old).depth < 512 }
@@ -100,7 +101,7 @@ fn treat_decided<R: Rack, T: TreeSink, O: Out>(
     tree: &mut T,
     out: &mut O,
 ) -> Result<Treated, Stop>
-    requires ready { IsReady (R.seen rack.old) vol.old }
+    requires ready { CanRead 6 (R.seen rack.old) vol.old }
     requires between { job.now.plan.dry ≡ false → (T.sink tree.old).stage ≡ BetweenFiles }
     requires fits { Fits (rules_of job.now.plan) (met_by entry.now) decision }
     requires above { entry.now.deep ≡ false → job.now.plan.dry ≡ false → (T.sink tree.old).depth < 512 }
@@ -136,7 +137,7 @@ pub(crate) fn treat<R: Rack, T: TreeSink, O: Out>(
     tree: &mut T,
     out: &mut O,
 ) -> Result<Treated, Stop>
-    requires ready { IsReady (R.seen rack.old) vol.old }
+    requires ready { CanRead 6 (R.seen rack.old) vol.old }
     requires between { job.now.plan.dry ≡ false → (T.sink tree.old).stage ≡ BetweenFiles }
     requires above { entry.now.deep ≡ false → job.now.plan.dry ≡ false → (T.sink tree.old).depth < 512 }
     ensures ran { RanFor (treated_for job.now entry.now salvaged.old)

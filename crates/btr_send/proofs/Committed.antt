@@ -13,7 +13,6 @@ use Rattle.btr_read.specs.Fate.{Fault, Lost}
 use Rattle.btr_read.specs.declared.want.Want.{Want}
 use Rattle.btr_read.specs.declared.want.Want.TheVariants.{Tree, Block, Sector, Plain}
 use Rattle.btr_restore.specs.Outcome.{tree_after}
-use Rattle.btr_super.specs.declared.superblock.Super.{Super}
 use Rattle.btr_volume.specs.Lookup.{Program}
 use Rattle.btr_walk.specs.Reading.{Map}
 use Rattle.btr_send.specs.Restored.{GivesSectors, IsSent, IsStreamOf, SentCommitted, members_of_rows, restores, sends}

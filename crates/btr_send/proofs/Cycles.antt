@@ -25,8 +25,8 @@ directory_is s sums zero tree dirid path counts = refl
 directory_is s sums (suc n) tree dirid path counts = refl
 
 -- the listing of one of some places
-pub listing_is : (s : Super) (sums : Option TreeRoot) (frames below : ℕ) → frames ≡ below + 1 → listing_in sums s frames ≡ directory s sums below
-listing_is s sums frames below e = ap (listing_in sums s) (e ∙ step below)
+pub listing_is : (s : Super) (sums : Option TreeRoot) (dirs below : ℕ) → dirs ≡ below + 1 → listing_in sums s dirs ≡ directory s sums below
+listing_is s sums dirs below e = ap (listing_in sums s) (e ∙ step below)
   where
     step : (k : ℕ) → k + 1 ≡ suc k
     step k = omega arith
@@ -69,8 +69,8 @@ module _ (s : Super) (sums : Option TreeRoot) (k : ℕ) (deep : Bool) (is : deep
       ran_then (first_part (is_deep k)) then_part x y z (journey.Within inner ino after) r (as_first (Ok (journey.Within inner ino after)) h) g
 
 -- what is in a directory
-pub within_listed : (s : Super) (sums : Option TreeRoot) (frames below : ℕ) → frames ≡ below + 1 → (inner : TreeRoot) (dirid : ℕ) (path : List ℕ)
+pub within_listed : (s : Super) (sums : Option TreeRoot) (dirs below : ℕ) → dirs ≡ below + 1 → (inner : TreeRoot) (dirid : ℕ) (path : List ℕ)
     (counts : Counts) (x y : World) (r : Result Counts TheStop) → Ran (directory s sums below inner dirid path counts) x y r
-    → Ran (listed_in s sums (listing_in sums s frames) path (journey.Within inner dirid counts)) x y r
-within_listed s sums frames below is inner dirid path counts x y r h =
-    subst (λ (l : Listing). Ran (l inner dirid path counts) x y r) (sym (listing_is s sums frames below is)) h
+    → Ran (listed_in s sums (listing_in sums s dirs) path (journey.Within inner dirid counts)) x y r
+within_listed s sums dirs below is inner dirid path counts x y r h =
+    subst (λ (l : Listing). Ran (l inner dirid path counts) x y r) (sym (listing_is s sums dirs below is)) h

@@ -1,7 +1,6 @@
 pub mod Encoding
 pub mod Shifting
 mod Putting
-mod Writings
 mod Treats
 mod Cycles
 mod Sources

@@ -12,8 +12,10 @@ use Rattle.btr_volume.specs.Lookup.{Program}
 use Rattle.btr_volume.specs.declared.stop.Stop.{Stop as TheStop}
 use Rattle.btr_volume.specs.declared.volume.Volume.{Volume}
 use Rattle.btr_listing.specs.Step.{Step, part}
-use Rattle.btr_restore.specs.Restoring.{Emits, stop_halt, stops_sink}
-use Rattle.btr_restore.specs.Running.{Outside, World, world, IsReady, Wrote, Ran}
+use Rattle.btr_restore.specs.Restoring.{Emits}
+use Rattle.btr_volume.specs.Stops.{stop_halt, stops_sink}
+use Rattle.btr_volume.specs.Readable.{CanRead}
+use Rattle.btr_restore.specs.Running.{Outside, World, world, Wrote, Ran}
 use Rattle.btr_restore.proofs.Emitting.{as_sink, text_none}
 use Rattle.btr_restore.proofs.Rans.{ran_then, ran_wrote, wrote_halt, wrote_then}
 use Rattle.btr_send.specs.Command.{write}
@@ -40,7 +42,7 @@ module _ {C : Type 0} (step : Step) (rest : Program Step C) (x y : Outside) wher
   pub step_halt : (s : TheStop) → Wrote alone x y (Err s) → Wrote (Emit step rest) x y (Err s)
   step_halt s h = wrote_halt alone (λ u. rest) x y y s h
 
-  pub step_ran : (rack : Seen) (vol : Volume) (z : World) (r : Result C TheStop) → IsReady rack vol → Wrote alone x y (Ok tt)
+  pub step_ran : (rack : Seen) (vol : Volume) (z : World) (r : Result C TheStop) → CanRead 6 rack vol → Wrote alone x y (Ok tt)
       → Ran rest (world rack vol y) z r → Ran (Emit step rest) (world rack vol x) z r
   step_ran rack vol z r ready w h =
       ran_then alone (λ u. rest) (world rack vol x) (world rack vol y) z tt r (ran_wrote alone rack vol x y (Ok tt) ready w) h

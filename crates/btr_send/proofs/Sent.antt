@@ -1,5 +1,5 @@
 -- A whole stream makes what restore makes by the rules of send.
-use Rattle.std.proofs.Common.{◌≡◌, ◌⊎◌, inl, inr, ℕ, zero, suc, ◌+◌, ◌-◌, ◌*◌, ◌/◌, ◌<◌, ◌≤◌, ◌^◌, Bool, true, false, cond, length, replicate, take}
+use Rattle.std.proofs.Common.{◌≡◌, ℕ, zero, suc, ◌+◌, ◌-◌, ◌*◌, ◌/◌, ◌<◌, ◌≤◌, ◌^◌, Bool, true, false, cond, length, replicate, take}
 use Rattle.std.proofs.Common.{drop, List, [], ◌∷◌, ◌++◌}
 use Rattle.std.proofs.Common.{Option, Some, None, Result, Ok, Err, refl, sym, ap, ◌∙◌, subst, arith, append_assoc, append-nil}
 use Rattle.std.specs.Prelude.{codes, flat_map, fold, get_or, nat_le, not, ◌||◌, ◌==◌}
@@ -30,16 +30,15 @@ use Rattle.btr_listing.specs.Lines.{counts_line, line, no_counts, path_in, with_
 use Rattle.btr_listing.specs.Step.{Step, Dir, Up, Zeros, Done, Line}
 use Rattle.btr_listing.specs.Step as step
 use Rattle.btr_listing.proofs.Decidings.{Gives}
-use Rattle.btr_prog.specs.Prog.{Prog, Return, Stop, Need, Emit, Run, bind, exec, steps, steps_of}
+use Rattle.btr_prog.specs.Prog.{Prog, Return, Stop, Need, Emit, bind, exec, steps}
 use Rattle.btr_prog.specs.Quiet.{quiet}
 use Rattle.btr_rack.specs.Sink.{Tree, with_finished, longer}
 use Rattle.btr_rack.specs.declared.row.Row.TheVariants as row
-use Rattle.btr_read.specs.Fate.{Fault, NoTree}
+use Rattle.btr_read.specs.Fate.{NoTree}
 use Rattle.btr_read.proofs.Pieces.{length-slice_range}
-use Rattle.btr_read.specs.declared.want.Want.{Want}
 use Rattle.btr_restore.specs.Journey as restore
 use Rattle.btr_restore.specs.Journey.{Listing, Treated, Over, Within, has_no_sums}
-use Rattle.btr_restore.specs.Outcome.{after_step, nothing, tree_after}
+use Rattle.btr_restore.specs.Outcome.{after_step, nothing}
 use Rattle.btr_super.specs.declared.superblock.Super.{Super}
 use Rattle.btr_volume.specs.Lookup.{Program, formed, looks}
 use Rattle.btr_volume.specs.Table.{chunk_root}

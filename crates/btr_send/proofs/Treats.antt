@@ -25,7 +25,8 @@ use Rattle.btr_listing.specs.Causes.{cause_text}
 use Rattle.btr_listing.specs.Deciding.{Met, decided, named_decided}
 use Rattle.btr_listing.specs.Looked.{Looked, met_by}
 use Rattle.btr_restore.specs.Journey.{Treated, skip}
-use Rattle.btr_restore.specs.Running.{IsReady, Outside, Ran, World, world}
+use Rattle.btr_volume.specs.Readable.{CanRead}
+use Rattle.btr_restore.specs.Running.{Outside, Ran, World, world}
 use Rattle.btr_restore.proofs.Rans.{look_halt, look_then, ran_fault, ran_found}
 use Rattle.btr_send.specs.Sending.{done_about, empty, entered, rules}
 use Rattle.btr_send.specs.Treating.{done_for, overlong, treated_for, written_for}
@@ -53,7 +54,7 @@ module _ (sums : Option TreeRoot) (entry : Entry) (counts : Counts) (s : Super) 
 
   -- an entry, by what is looked up under the rules of send
   module _ (by : Rules) (of_send : by ≡ rules) (old : Seen) (vol : Volume) (same : s ≡ vol.sup) (new : Seen) (after : Volume)
-      (x : Outside) (ready : IsReady old vol) where
+      (x : Outside) (ready : CanRead 6 old vol) where
     as_rules : (r : Result Decision TreeFault) → Looked (decided by vol.sup (met_by entry)) old vol new after r
         → Looked (decided rules s (met_by entry)) old vol new after r
     as_rules r h =

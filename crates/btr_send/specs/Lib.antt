@@ -2,9 +2,7 @@ pub mod Command
 pub mod Source
 pub mod Sending
 pub mod Names
-pub mod Running
 pub mod Treating
-pub mod Writing
 pub mod Listing
 pub mod Replay
 pub mod Restored

@@ -14,7 +14,8 @@ use Rattle.btr_files.specs.Listing.{named_row, IsDir}
 use Rattle.btr_listing.specs.Step.{Step}
 use Rattle.btr_restore.specs.Journey.{Listing, Within}
 use Rattle.btr_restore.specs.Listing.{Listed, is_deep}
-use Rattle.btr_restore.specs.Running.{World, IsReady}
+use Rattle.btr_volume.specs.Readable.{CanRead}
+use Rattle.btr_restore.specs.Running.{World}
 use Rattle.btr_send.specs.Sending.{directory, listed_in, treat}
 
 module _ (sums : Option TreeRoot) (s : Super) where
@@ -43,7 +44,7 @@ listing_for sums n tree dirid path counts s = directory s sums n tree dirid path
 pub record IsUnderway
     (sums : Option TreeRoot) (deeper : ℕ) (tree : TreeRoot) (dirid : ℕ) (path : List ℕ)
     (first : Counts) (x y : World) (counts : Counts) (dir : Dir) (here : List ℕ) (below : ℕ) : Type 0 where
-  pub ready : IsReady y.rack y.vol
+  pub ready : CanRead 6 y.rack y.vol
   pub reads_on : IsDir dir
   pub same_path : here ≡ path
   pub same_below : below ≡ deeper

@@ -6,7 +6,7 @@ ghost use Rattle.btr_rack.specs.Name.{IsGoodName};
 ghost use Rattle.btr_rack.specs.Sink.{NotStarted, BetweenFiles, InFile, started, begun};
 ghost use Rattle.btr_listing.specs.Step.{Start, File, Done};
 ghost use Rattle.btr_send.specs.Command.{end, header, mkdir, mkfile, subvol, truncate, write};
-ghost use Rattle.btr_send.specs.Running.{WroteIn};
+ghost use Rattle.btr_restore.specs.Running.{WroteIn};
 ghost use Rattle.btr_send.specs.Sending.{behind, tells, writes};
 
 use crate::buffer::Buffer;
@@ -53,7 +53,7 @@ pub(crate) fn finish_file<T: TreeSink>(tree: &mut T) -> Result<(), Stop>
     }
 }
 
-// Puts a command, or the header.
+// WritesPieces a command, or the header.
 fn put_bytes<T: TreeSink>(bytes: &[u8], tree: &mut T) -> Result<(), Stop>
     requires begun { (T.sink tree.old).stage ≡ InFile }
     requires some { bytes.now ≢ [] }
@@ -66,7 +66,7 @@ fn put_bytes<T: TreeSink>(bytes: &[u8], tree: &mut T) -> Result<(), Stop>
     }
 }
 
-/// Puts the header.
+/// WritesPieces the header.
 pub(crate) fn put_header<T: TreeSink>(tree: &mut T) -> Result<(), Stop>
     requires begun { (T.sink tree.old).stage ≡ InFile }
     ensures wrote { WroteIn (tells header (Return tt)) T.sink T.account tree.old tree.new result }
@@ -75,7 +75,7 @@ pub(crate) fn put_header<T: TreeSink>(tree: &mut T) -> Result<(), Stop>
     put_bytes(HEADER, tree)
 }
 
-/// Puts the subvolume.
+/// WritesPieces the subvolume.
 pub(crate) fn put_subvol<T: TreeSink>(
     name: &str,
     source: &Source,
@@ -177,10 +177,8 @@ pub(crate) fn put_writes<T: TreeSink>(
         return put_write(path, offset, part, crc, buffer, tree);
     }
     let (front, rest) = part.split_at(4096);
-    match put_write(path, offset, front, None, buffer, tree) {
-        Ok(()) => put_writes(path, behind(offset, 4096), rest, None, buffer, tree),
-        Err(stop) => Err(stop),
-    }
+    put_write(path, offset, front, None, buffer, tree)?;
+    put_writes(path, behind(offset, 4096), rest, None, buffer, tree)
 }
 
 /// Sets the size of a file.

@@ -1,9 +1,9 @@
 // What is sent for an entry.
 ghost use Rattle.std.specs.Prelude.{◌≡◌, ◌≤◌, length};
 ghost use Rattle.btr_rack.specs.Sink.{InFile};
-ghost use Rattle.btr_restore.specs.Running.{IsReady, RanFor, Wrote, outside_of, world};
+ghost use Rattle.btr_volume.specs.Readable.{CanRead};
+ghost use Rattle.btr_restore.specs.Running.{RanFor, Wrote, outside_of, world, WroteIn};
 ghost use Rattle.btr_restore.specs.Treating.{IsOver, came};
-ghost use Rattle.btr_send.specs.Running.{WroteIn};
 ghost use Rattle.btr_send.specs.Sending.{closed, empty, entered};
 ghost use Rattle.btr_send.specs.Treating.{written_for};
 
@@ -33,10 +33,7 @@ pub(crate) fn enter<T: TreeSink>(
         T.sink T.account tree.old tree.new (came counts.new result) }
     ensures stage { (T.sink tree.new).stage ≡ InFile }
 {
-    match put_mkdir(path, buffer, tree) {
-        Ok(()) => {}
-        Err(stop) => return Err(stop),
-    }
+    put_mkdir(path, buffer, tree)?;
     counts.dirs = more(counts.dirs);
     Ok(Treated::Within { tree: inner, dirid })
 }
@@ -55,10 +52,7 @@ pub(crate) fn enter_empty<T: TreeSink>(
     ensures over { IsOver result }
     ensures stage { (T.sink tree.new).stage ≡ InFile }
 {
-    match put_mkdir(path, buffer, tree) {
-        Ok(()) => {}
-        Err(stop) => return Err(stop),
-    }
+    put_mkdir(path, buffer, tree)?;
     counts.dirs = more(counts.dirs);
     Ok(Treated::Over)
 }
@@ -82,14 +76,8 @@ fn close_file<T: TreeSink, O: Out>(
     ensures over { IsOver result }
     ensures stage { (T.sink tree.new).stage ≡ InFile }
 {
-    match put_truncate(path, size, buffer, tree) {
-        Ok(()) => {}
-        Err(stop) => return Err(stop),
-    }
-    match tell_unverified(sent.plain, path, out) {
-        Ok(()) => {}
-        Err(stop) => return Err(stop),
-    }
+    put_truncate(path, size, buffer, tree)?;
+    tell_unverified(sent.plain, path, out)?;
     counts.files = more(counts.files);
     Ok(Treated::Over)
 }
@@ -106,7 +94,7 @@ pub(crate) fn write_file<R: Rack, T: TreeSink, O: Out>(
     tree: &mut T,
     out: &mut O,
 ) -> Result<Treated, Stop>
-    requires ready { IsReady (R.seen rack.old) vol.old }
+    requires ready { CanRead 6 (R.seen rack.old) vol.old }
     requires begun { (T.sink tree.old).stage ≡ InFile }
     requires short { length entry.now.path.now ≤ 4096 }
     ensures ran { RanFor (written_for sums entry.now inode.now counts.old)
@@ -116,14 +104,9 @@ pub(crate) fn write_file<R: Rack, T: TreeSink, O: Out>(
     ensures over { IsOver result }
     ensures stage { (T.sink tree.new).stage ≡ InFile }
 {
-    match put_mkfile(entry.path, buffer, tree) {
-        Ok(()) => {}
-        Err(stop) => return Err(stop),
-    }
+    put_mkfile(entry.path, buffer, tree)?;
     let ino = entry.row.location.objectid;
     let path = entry.path;
-    match write_bytes(sums, &entry.tree, ino, path, inode, buffer, rack, vol, tree) {
-        Err(stop) => Err(stop),
-        Ok(sent) => close_file(path, inode.size, sent, buffer, counts, tree, out),
-    }
+    let sent = write_bytes(sums, &entry.tree, ino, path, inode, buffer, rack, vol, tree)?;
+    close_file(path, inode.size, sent, buffer, counts, tree, out)
 }

@@ -2,7 +2,8 @@
 ghost use Rattle.std.specs.Prelude.{◌≡◌, ◌<◌, OnOk, length, take};
 ghost use Rattle.btr_rack.specs.Sink.{InFile};
 ghost use Rattle.btr_restore.specs.Listing.{ended_with};
-ghost use Rattle.btr_restore.specs.Running.{IsReady, RanFor, outside_of, world};
+ghost use Rattle.btr_volume.specs.Readable.{CanRead};
+ghost use Rattle.btr_restore.specs.Running.{RanFor, outside_of, world};
 ghost use Rattle.btr_send.specs.Listing.{entry_for, listing_for, within_for};
 
 use crate::buffer::Buffer;
@@ -10,16 +11,16 @@ use crate::treating::treat;
 use btr_files::{Counts, Dir, DirRow, NameBuf};
 use btr_listing::{Entry, Path};
 use btr_rack::{Out, Rack, TreeSink};
-use btr_restore::{Frame, Treated};
+use btr_restore::{OpenDir, Treated};
 use btr_volume::{Stop, TreeRoot, Volume};
 
-// What is in a directory that was entered. The first frame is its own.
+// What is in a directory that was entered. The first of `dirs` is its own.
 #[cycle(listing)]
 fn list_within<R: Rack, T: TreeSink, O: Out>(
     sums: Option<TreeRoot>,
     inner: TreeRoot,
     dirid: u64,
-    frames: &mut [Frame],
+    dirs: &mut [OpenDir],
     path: &mut Path,
     buffer: &mut Buffer,
     counts: &mut Counts,
@@ -28,17 +29,17 @@ fn list_within<R: Rack, T: TreeSink, O: Out>(
     tree: &mut T,
     out: &mut O,
 ) -> Result<(), Stop>
-    requires ready { IsReady (R.seen rack.old) vol.old }
+    requires ready { CanRead 6 (R.seen rack.old) vol.old }
     requires begun { (T.sink tree.old).stage ≡ InFile }
-    requires some { 0 < length frames.old }
-    ensures ran { RanFor (within_for sums (length frames.old) path.old inner dirid counts.old)
+    requires some { 0 < length dirs.old }
+    ensures ran { RanFor (within_for sums (length dirs.old) path.old inner dirid counts.old)
         (world (R.seen rack.old) vol.old (outside_of T.sink T.account O.text O.account tree.old out.old))
         (world (R.seen rack.new) vol.new (outside_of T.sink T.account O.text O.account tree.new out.new))
         (ended_with counts.new result) }
     ensures path { OnOk result (path.new ≡ path.old) }
     ensures stage { (T.sink tree.new).stage ≡ InFile }
 {
-    let Some((here, below)) = frames.split_first_mut() else {
+    let Some((here, below)) = dirs.split_first_mut() else {
         unreachable!();
     };
     list(
@@ -46,7 +47,7 @@ fn list_within<R: Rack, T: TreeSink, O: Out>(
     )
 }
 
-// An entry of a directory, and what is in it. There is a frame for each directory that may be entered.
+// An entry of a directory, and what is in it. There is a place below for each that may be entered.
 #[cycle(listing)]
 fn list_entry<R: Rack, T: TreeSink, O: Out>(
     sums: Option<TreeRoot>,
@@ -54,7 +55,7 @@ fn list_entry<R: Rack, T: TreeSink, O: Out>(
     dirid: u64,
     row: DirRow,
     name: &NameBuf,
-    below: &mut [Frame],
+    below: &mut [OpenDir],
     path: &mut Path,
     buffer: &mut Buffer,
     counts: &mut Counts,
@@ -63,7 +64,7 @@ fn list_entry<R: Rack, T: TreeSink, O: Out>(
     tree: &mut T,
     out: &mut O,
 ) -> Result<(), Stop>
-    requires ready { IsReady (R.seen rack.old) vol.old }
+    requires ready { CanRead 6 (R.seen rack.old) vol.old }
     requires begun { (T.sink tree.old).stage ≡ InFile }
     ensures ran { RanFor (entry_for sums (length below.old) root.now dirid path.old counts.old row name.now)
         (world (R.seen rack.old) vol.old (outside_of T.sink T.account O.text O.account tree.old out.old))
@@ -84,23 +85,23 @@ fn list_entry<R: Rack, T: TreeSink, O: Out>(
         name,
         path: path.as_bytes(),
     };
-    match treat(sums, &entry, buffer, counts, rack, vol, tree, out) {
-        Err(stop) => Err(stop),
-        Ok(Treated::Over) => Ok(()),
-        Ok(Treated::Within { tree: inner, dirid }) => list_within(
+    match treat(sums, &entry, buffer, counts, rack, vol, tree, out)? {
+        Treated::Over => Ok(()),
+        Treated::Within { tree: inner, dirid } => list_within(
             sums, inner, dirid, below, path, buffer, counts, rack, vol, tree, out,
         ),
     }
 }
 
-/// Lists a directory and all that is entered below it. `here` is its frame, and there is one for each directory that may be entered below.
+/// Lists a directory and all that is entered below it. `here` is its place, and there is one in
+/// `below` for each directory that may be entered.
 #[cycle(listing)]
 pub(crate) fn list<R: Rack, T: TreeSink, O: Out>(
     sums: Option<TreeRoot>,
     root: TreeRoot,
     dirid: u64,
-    here: &mut Frame,
-    below: &mut [Frame],
+    here: &mut OpenDir,
+    below: &mut [OpenDir],
     path: &mut Path,
     buffer: &mut Buffer,
     counts: &mut Counts,
@@ -109,7 +110,7 @@ pub(crate) fn list<R: Rack, T: TreeSink, O: Out>(
     tree: &mut T,
     out: &mut O,
 ) -> Result<(), Stop>
-    requires ready { IsReady (R.seen rack.old) vol.old }
+    requires ready { CanRead 6 (R.seen rack.old) vol.old }
     requires begun { (T.sink tree.old).stage ≡ InFile }
     ensures ran { RanFor (listing_for sums (length below.old) root dirid path.old counts.old)
         (world (R.seen rack.old) vol.old (outside_of T.sink T.account O.text O.account tree.old out.old))
@@ -125,13 +126,11 @@ pub(crate) fn list<R: Rack, T: TreeSink, O: Out>(
             Err(fault) => return Err(Stop::Tree(fault)),
             Ok(None) => return Ok(()),
             Ok(Some(row)) => {
-                match list_entry(
+                list_entry(
                     sums, &root, dirid, row, &here.name, below, path, buffer, counts, rack, vol,
                     tree, out,
-                ) {
-                    Ok(()) => path.cut(len),
-                    Err(stop) => return Err(stop),
-                }
+                )?;
+                path.cut(len);
             }
         }
     }

@@ -2,11 +2,11 @@
 ghost use Rattle.std.specs.Prelude.{◌≡◌, ◌≢◌, IfErr, OnOk, [], false, length};
 ghost use Rattle.btr_rack.specs.Sink.{NotStarted, InFile};
 ghost use Rattle.btr_restore.specs.Restoring.{Settles};
-ghost use Rattle.btr_restore.specs.Running.{IsReady, Ran, RanFor, Wrote, outside_of, world};
+ghost use Rattle.btr_volume.specs.Readable.{CanRead};
+ghost use Rattle.btr_restore.specs.Running.{Ran, RanFor, Wrote, outside_of, world, WroteIn};
 ghost use Rattle.btr_volume.specs.Lookup.{looks};
 ghost use Rattle.btr_volume.specs.Tree.{tree_of};
 ghost use Rattle.btr_send.specs.Names.{IsStreamName};
-ghost use Rattle.btr_send.specs.Running.{WroteIn};
 ghost use Rattle.btr_send.specs.Sending.{ended, opened, sending, sent, sent_below};
 
 use crate::buffer::Buffer;
@@ -17,7 +17,7 @@ use crate::source::{Source, find_source};
 use btr_files::Counts;
 use btr_listing::Path;
 use btr_rack::{Out, Rack, TreeSink};
-use btr_restore::{Frame, find_tree, free_frames, tell_counts};
+use btr_restore::{OpenDir, find_tree, free_dirs, store_waiting, tell_counts};
 use btr_volume::{Stop, TreeRoot, Volume};
 use std::alloc::Global;
 
@@ -36,14 +36,8 @@ fn finish<T: TreeSink, O: Out>(
         (outside_of T.sink T.account O.text O.account tree.old out.old)
         (outside_of T.sink T.account O.text O.account tree.new out.new) result }
 {
-    match put_end(buffer, tree) {
-        Ok(()) => {}
-        Err(stop) => return Err(stop),
-    }
-    match finish_file(tree) {
-        Ok(()) => {}
-        Err(stop) => return Err(stop),
-    }
+    put_end(buffer, tree)?;
+    finish_file(tree)?;
     tell_counts(counts, out)
 }
 
@@ -60,18 +54,9 @@ fn begin<T: TreeSink>(
     ensures wrote { WroteIn (opened dest.now name.now source.now) T.sink T.account tree.old tree.new result }
     ensures stage { OnOk result ((T.sink tree.new).stage ≡ InFile) }
 {
-    match start_in(dest, tree) {
-        Ok(()) => {}
-        Err(stop) => return Err(stop),
-    }
-    match begin_file(name, tree) {
-        Ok(()) => {}
-        Err(stop) => return Err(stop),
-    }
-    match put_header(tree) {
-        Ok(()) => {}
-        Err(stop) => return Err(stop),
-    }
+    start_in(dest, tree)?;
+    begin_file(name, tree)?;
+    put_header(tree)?;
     put_subvol(name, source, buffer, tree)
 }
 
@@ -79,7 +64,7 @@ fn begin<T: TreeSink>(
 fn send_below<R: Rack, T: TreeSink, O: Out>(
     source: &Source,
     sums: Option<TreeRoot>,
-    frames: &mut [Frame],
+    dirs: &mut [OpenDir],
     path: &mut Path,
     buffer: &mut Buffer,
     rack: &mut R,
@@ -87,9 +72,9 @@ fn send_below<R: Rack, T: TreeSink, O: Out>(
     tree: &mut T,
     out: &mut O,
 ) -> Result<Counts, Stop>
-    requires ready { IsReady (R.seen rack.old) vol.old }
+    requires ready { CanRead 6 (R.seen rack.old) vol.old }
     requires begun { (T.sink tree.old).stage ≡ InFile }
-    requires frames { length frames.old ≡ 513 }
+    requires dirs { length dirs.old ≡ 513 }
     requires path { path.old ≡ [] }
     ensures { RanFor (λ s. sent_below s source.now sums)
         (world (R.seen rack.old) vol.old (outside_of T.sink T.account O.text O.account tree.old out.old))
@@ -101,10 +86,10 @@ fn send_below<R: Rack, T: TreeSink, O: Out>(
         files: 0,
         skipped: 0,
     };
-    let Some((here, below)) = frames.split_first_mut() else {
+    let Some((here, below)) = dirs.split_first_mut() else {
         unreachable!();
     };
-    match list(
+    list(
         sums,
         source.root,
         source.root.dirid,
@@ -117,10 +102,8 @@ fn send_below<R: Rack, T: TreeSink, O: Out>(
         vol,
         tree,
         out,
-    ) {
-        Ok(()) => finish(&counts, buffer, tree, out),
-        Err(stop) => Err(stop),
-    }
+    )?;
+    finish(&counts, buffer, tree, out)
 }
 
 // A subvolume as one file of the destination.
@@ -129,7 +112,7 @@ fn send_source<R: Rack, T: TreeSink, O: Out>(
     name: &str,
     source: &Source,
     sums: Option<TreeRoot>,
-    frames: &mut [Frame],
+    dirs: &mut [OpenDir],
     path: &mut Path,
     buffer: &mut Buffer,
     rack: &mut R,
@@ -137,20 +120,18 @@ fn send_source<R: Rack, T: TreeSink, O: Out>(
     tree: &mut T,
     out: &mut O,
 ) -> Result<Counts, Stop>
-    requires ready { IsReady (R.seen rack.old) vol.old }
+    requires ready { CanRead 6 (R.seen rack.old) vol.old }
     requires fresh { (T.sink tree.old).stage ≡ NotStarted }
     requires good { IsStreamName name.now }
-    requires frames { length frames.old ≡ 513 }
+    requires dirs { length dirs.old ≡ 513 }
     requires path { path.old ≡ [] }
     ensures { RanFor (λ s. sent dest.now name.now s source.now sums)
         (world (R.seen rack.old) vol.old (outside_of T.sink T.account O.text O.account tree.old out.old))
         (world (R.seen rack.new) vol.new (outside_of T.sink T.account O.text O.account tree.new out.new))
         result }
 {
-    match begin(dest, name, source, buffer, tree) {
-        Ok(()) => send_below(source, sums, frames, path, buffer, rack, vol, tree, out),
-        Err(stop) => Err(stop),
-    }
+    begin(dest, name, source, buffer, tree)?;
+    send_below(source, sums, dirs, path, buffer, rack, vol, tree, out)
 }
 
 // A subvolume, once its checksums are found.
@@ -158,7 +139,7 @@ fn send_found<R: Rack, T: TreeSink, O: Out>(
     dest: &str,
     name: &str,
     source: &Source,
-    frames: &mut [Frame],
+    dirs: &mut [OpenDir],
     path: &mut Path,
     buffer: &mut Buffer,
     rack: &mut R,
@@ -166,22 +147,20 @@ fn send_found<R: Rack, T: TreeSink, O: Out>(
     tree: &mut T,
     out: &mut O,
 ) -> Result<Counts, Stop>
-    requires ready { IsReady (R.seen rack.old) vol.old }
+    requires ready { CanRead 6 (R.seen rack.old) vol.old }
     requires fresh { (T.sink tree.old).stage ≡ NotStarted }
     requires good { IsStreamName name.now }
-    requires frames { length frames.old ≡ 513 }
+    requires dirs { length dirs.old ≡ 513 }
     requires path { path.old ≡ [] }
     ensures { RanFor (λ s. looks (tree_of s 7) (sent dest.now name.now s source.now))
         (world (R.seen rack.old) vol.old (outside_of T.sink T.account O.text O.account tree.old out.old))
         (world (R.seen rack.new) vol.new (outside_of T.sink T.account O.text O.account tree.new out.new))
         result }
 {
-    match find_tree(SUM_TREE, rack, vol) {
-        Err(stop) => Err(stop),
-        Ok(sums) => send_source(
-            dest, name, source, sums, frames, path, buffer, rack, vol, tree, out,
-        ),
-    }
+    let sums = find_tree(SUM_TREE, rack, vol)?;
+    send_source(
+        dest, name, source, sums, dirs, path, buffer, rack, vol, tree, out,
+    )
 }
 
 // Sends the subvolume of a plan. What waits in the sink then isn't stored yet.
@@ -195,7 +174,7 @@ fn send_unsettled<R: Rack, T: TreeSink, O: Out>(
     tree: &mut T,
     out: &mut O,
 ) -> Result<Counts, Stop>
-    requires ready { IsReady (R.seen rack.old) vol.old }
+    requires ready { CanRead 6 (R.seen rack.old) vol.old }
     requires fresh { (T.sink tree.old).stage ≡ NotStarted }
     requires good { IsStreamName name.now }
     ensures { Ran (sending dest.now name.now vol.old.sup plan.now)
@@ -211,20 +190,19 @@ fn send_unsettled<R: Rack, T: TreeSink, O: Out>(
         Ok(buffer) => buffer,
         Err(_) => return Err(Stop::Memory),
     };
-    let mut frames = match free_frames(alloc) {
-        Ok(frames) => frames,
+    let mut dirs = match free_dirs(alloc) {
+        Ok(dirs) => dirs,
         Err(_) => return Err(Stop::Memory),
     };
-    match find_source(plan.root, rack, vol) {
-        Err(stop) => Err(stop),
-        Ok(None) => Err(Stop::NoTree(plan.root)),
-        Ok(Some(source)) => {
-            let frames = frames.as_mut_slice();
+    match find_source(plan.root, rack, vol)? {
+        None => Err(Stop::NoTree(plan.root)),
+        Some(source) => {
+            let dirs = dirs.as_mut_slice();
             send_found(
                 dest,
                 name,
                 &source,
-                frames,
+                dirs,
                 &mut path,
                 &mut buffer,
                 rack,
@@ -233,21 +211,6 @@ fn send_unsettled<R: Rack, T: TreeSink, O: Out>(
                 out,
             )
         }
-    }
-}
-
-// Stores what waits in the sink, before a stop is answered: where that fails, the sink failed.
-fn settle<T: TreeSink>(stop: Stop, tree: &mut T) -> Stop
-    ensures same { T.sink tree.new ≡ T.sink tree.old }
-    ensures settled { Settles stop (T.account tree.old) (T.account tree.new) result }
-    ensures stored { result ≢ Stop.Sink → T.waits tree.new ≡ false }
-{
-    match stop {
-        Stop::Sink => Stop::Sink,
-        other => match tree.flush() {
-            Ok(()) => other,
-            Err(_) => Stop::Sink,
-        },
     }
 }
 
@@ -271,7 +234,7 @@ pub fn send<R: Rack, T: TreeSink, O: Out>(
     tree: &mut T,
     out: &mut O,
 ) -> Result<Counts, Stop>
-    requires ready { IsReady (R.seen rack.old) vol.old }
+    requires ready { CanRead 6 (R.seen rack.old) vol.old }
     requires fresh { (T.sink tree.old).stage ≡ NotStarted }
     requires good { IsStreamName name.now }
     ensures ran { Ran (sending dest.now name.now vol.old.sup plan.now)
@@ -282,6 +245,6 @@ pub fn send<R: Rack, T: TreeSink, O: Out>(
 {
     match send_unsettled(alloc, plan, dest, name, rack, vol, tree, out) {
         Ok(counts) => Ok(counts),
-        Err(stop) => Err(settle(stop, tree)),
+        Err(stop) => Err(store_waiting(stop, tree)),
     }
 }

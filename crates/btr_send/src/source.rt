@@ -7,9 +7,10 @@ ghost use Rattle.btr_walk.specs.Lending.{base};
 ghost use Rattle.btr_walk.specs.Reading.{HasCause};
 ghost use Rattle.btr_walk.specs.Showing.{item_of};
 ghost use Rattle.btr_volume.specs.Looking.{Judges, Looks};
+ghost use Rattle.btr_volume.specs.Readable.{CanRead};
 ghost use Rattle.btr_volume.specs.Tree.{is_root_of};
-ghost use Rattle.btr_listing.specs.Looked.{CanLook, Looked};
-ghost use Rattle.btr_restore.specs.Running.{IsReady, LookedFor};
+ghost use Rattle.btr_listing.specs.Looked.{Looked};
+ghost use Rattle.btr_restore.specs.Running.{LookedFor};
 ghost use Rattle.btr_send.specs.Source.{source_found, source_in, source_of, transid_in, unnamed, uuid_in};
 
 use btr_base::{Key, array_at, u64_at};
@@ -134,7 +135,7 @@ fn find_in<R: Rack>(
 
 // The same in a volume: a tree whose root the superblock names has no ROOT_ITEM.
 fn look_up<R: Rack>(id: u64, rack: &mut R, vol: &mut Volume) -> Result<Option<Source>, TreeFault>
-    requires { CanLook (R.seen rack.old) vol.old }
+    requires { CanRead 4 (R.seen rack.old) vol.old }
     ensures { Looked (source_of vol.old.sup id) (R.seen rack.old) vol.old (R.seen rack.new) vol.new result }
 {
     let root = root_root(&vol.sup);
@@ -151,7 +152,7 @@ pub(crate) fn find_source<R: Rack>(
     rack: &mut R,
     vol: &mut Volume,
 ) -> Result<Option<Source>, Stop>
-    requires { IsReady (R.seen rack.old) vol.old }
+    requires { CanRead 6 (R.seen rack.old) vol.old }
     ensures { LookedFor (λ s. source_of s id) (R.seen rack.old) vol.old (R.seen rack.new) vol.new result }
 {
     match look_up(id, rack, vol) {

@@ -3,7 +3,8 @@ ghost use Rattle.std.specs.Prelude.{◌≡◌, ◌≤◌, length, true};
 ghost use Rattle.btr_rack.specs.Sink.{InFile};
 ghost use Rattle.btr_listing.specs.Deciding.{Fits};
 ghost use Rattle.btr_listing.specs.Looked.{met_by};
-ghost use Rattle.btr_restore.specs.Running.{IsReady, RanFor, outside_of, world};
+ghost use Rattle.btr_volume.specs.Readable.{CanRead};
+ghost use Rattle.btr_restore.specs.Running.{RanFor, outside_of, world};
 ghost use Rattle.btr_restore.specs.Treating.{IsOver, came};
 ghost use Rattle.btr_send.specs.Sending.{rules};
 ghost use Rattle.btr_send.specs.Treating.{done_for, overlong, treated_for};
@@ -52,7 +53,7 @@ fn carry_out<R: Rack, T: TreeSink, O: Out>(
     tree: &mut T,
     out: &mut O,
 ) -> Result<Treated, Stop>
-    requires ready { IsReady (R.seen rack.old) vol.old }
+    requires ready { CanRead 6 (R.seen rack.old) vol.old }
     requires begun { (T.sink tree.old).stage ≡ InFile }
     requires short { length entry.now.path.now ≤ 4096 }
     requires fits { Fits rules (met_by entry.now) decision }
@@ -86,7 +87,7 @@ pub(crate) fn treat<R: Rack, T: TreeSink, O: Out>(
     tree: &mut T,
     out: &mut O,
 ) -> Result<Treated, Stop>
-    requires ready { IsReady (R.seen rack.old) vol.old }
+    requires ready { CanRead 6 (R.seen rack.old) vol.old }
     requires begun { (T.sink tree.old).stage ≡ InFile }
     ensures ran { RanFor (treated_for sums entry.now counts.old)
         (world (R.seen rack.old) vol.old (outside_of T.sink T.account O.text O.account tree.old out.old))

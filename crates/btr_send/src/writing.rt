@@ -1,12 +1,12 @@
 // The bytes of a file.
-ghost use Rattle.std.specs.Prelude.{◌≡◌, ◌≤◌, ◌<◌, ◌||◌, not, IfOk, IfSome, length};
+ghost use Rattle.std.specs.Prelude.{◌≡◌, ◌≤◌, ◌<◌, IfOk, IfSome, length};
 ghost use Rattle.btr_rack.specs.Sink.{InFile};
 ghost use Rattle.btr_read.specs.Store.{SameLoans, free_count};
 ghost use Rattle.btr_files.specs.Streaming.{bytes_left, IsPiece, IsReading, piece_of, without_file};
-ghost use Rattle.btr_restore.specs.Running.{IsReady, RanBeside, beside};
-ghost use Rattle.btr_send.specs.Running.{WroteIn};
+ghost use Rattle.btr_volume.specs.Readable.{CanRead};
+ghost use Rattle.btr_restore.specs.Running.{RanBeside, beside, WroteIn};
 ghost use Rattle.btr_send.specs.Sending.{at_front, pieces, put};
-ghost use Rattle.btr_send.specs.Writing.{PutsNext, PutsRest};
+ghost use Rattle.btr_restore.specs.Writing.{WritesNext, WritesRest};
 
 use crate::buffer::Buffer;
 use crate::commands::{behind, put_writes};
@@ -14,17 +14,10 @@ use crate::progress::Progress;
 use btr_files::{FileBytes, Piece, next_piece};
 use btr_items::Inode;
 use btr_rack::{Rack, TreeSink};
-use btr_restore::has_no_sums;
+use btr_restore::{has_no_sums, is_plain};
 use btr_volume::{Stop, TreeRoot, Volume};
 
-// Whether some piece was read without a checksum, this one included.
-fn is_plain(plain: bool, verified: bool) -> bool
-    ensures { result ≡ (plain || not verified) }
-{
-    plain || !verified
-}
-
-// Puts a piece of a file, behind those before it.
+// Writes a piece of a file, behind those before it.
 fn put_piece<T: TreeSink>(
     path: &[u8],
     now: Progress,
@@ -73,7 +66,7 @@ fn put_next<R: Rack, T: TreeSink>(
     requires room { 5 ≤ free_count (without_file vol.old.store file.old) }
     requires begun { (T.sink tree.old).stage ≡ InFile }
     requires short { length path.now ≤ 4096 }
-    ensures writes { PutsNext (put path.now) now file.old file.new
+    ensures writes { WritesNext (put path.now) now file.old file.new
         (beside R.seen T.sink T.account rack.old vol.old tree.old)
         (beside R.seen T.sink T.account rack.new vol.new tree.new) result }
     ensures ready { IsReading (R.seen rack.new) vol.new.store file.new }
@@ -91,7 +84,7 @@ fn put_next<R: Rack, T: TreeSink>(
     }
 }
 
-// Puts the pieces of a file that are still to come. Answers how much was sent.
+// Writes the pieces of a file that are still to come. Answers how much was sent.
 fn put_pieces<R: Rack, T: TreeSink>(
     path: &[u8],
     file: &mut FileBytes,
@@ -104,7 +97,7 @@ fn put_pieces<R: Rack, T: TreeSink>(
     requires room { 5 ≤ free_count (without_file vol.old.store file.old) }
     requires begun { (T.sink tree.old).stage ≡ InFile }
     requires short { length path.now ≤ 4096 }
-    ensures writes { PutsRest (put path.now) at_front file.old file.new
+    ensures writes { WritesRest (put path.now) at_front file.old file.new
         (beside R.seen T.sink T.account rack.old vol.old tree.old)
         (beside R.seen T.sink T.account rack.new vol.new tree.new) result }
     ensures ready { IsReading (R.seen rack.new) vol.new.store file.new }
@@ -135,7 +128,7 @@ pub(crate) fn write_bytes<R: Rack, T: TreeSink>(
     vol: &mut Volume,
     tree: &mut T,
 ) -> Result<Progress, Stop>
-    requires ready { IsReady (R.seen rack.old) vol.old }
+    requires ready { CanRead 6 (R.seen rack.old) vol.old }
     requires begun { (T.sink tree.old).stage ≡ InFile }
     requires short { length path.now ≤ 4096 }
     ensures ran { RanBeside vol.old.sup (λ s. pieces s sums root.now ino path.now inode.now)

@@ -5,6 +5,7 @@ use Rattle.btr_check.specs.Before.{refusal}
 use Rattle.btr_check.specs.Filesystem as checked
 use Rattle.btr_check.specs.Findings.{findings}
 use Rattle.btr_check.specs.Running.{Answers, Ran, is_outside, world}
+use Rattle.btr_check.specs.Wanted.{OfCheck}
 use Rattle.btr_prog.specs.Calls.{First}
 use Rattle.btr_rack.specs.Memory.{MemoryRack, held_of}
 use Rattle.btr_findings.specs.declared.finding.Finding.{Finding}
@@ -26,7 +27,7 @@ module _ (old new : MemoryRack) (volume after : Volume) (opened : filesystem_of 
   fs = as_checked (held_of old) (filesystem_in volume)
 
   abbrev Ends : Result (List Finding) Stop → Type 0
-  Ends result = Ran (λ fs. Answers (λ all. (refusal fs ≡ None) × (all ≡ findings false fs)) fs result) (world (sure_seen old) volume)
+  Ends result = Ran (OfCheck false) (λ fs. Answers (λ all. (refusal fs ≡ None) × (all ≡ findings false fs)) fs result) (world (sure_seen old) volume)
       (world (sure_seen new) after) result
 
   -- what was answered, of the images
@@ -47,7 +48,7 @@ module _ (old new : MemoryRack) (volume after : Volume) (opened : filesystem_of 
   pub findings_stopped : (end : Stop) → (end ≡ stop.Memory → ⊥) → Ends (Err end) → findings_of (held_of old) ≡ None
   findings_stopped (stop.NoTree id) own ran = stopped (stop.NoTree id) refl ran
   findings_stopped (stop.Tree (tree.Lost a)) own ran = stopped (stop.Tree (tree.Lost a)) refl ran
-  findings_stopped (stop.Tree (tree.Unread a slot)) own ran = absurd (none_rose ran.cause.1.unread.rose)
+  findings_stopped (stop.Tree (tree.Unread a slot)) own ran = absurd (none_rose ran.cause.2.unread.rose)
   findings_stopped (stop.Tree (tree.Unmapped a)) own ran = stopped (stop.Tree (tree.Unmapped a)) refl ran
   findings_stopped (stop.Tree (tree.Crosses a)) own ran = stopped (stop.Tree (tree.Crosses a)) refl ran
   findings_stopped (stop.Tree (tree.Malformed a)) own ran = stopped (stop.Tree (tree.Malformed a)) refl ran

@@ -20,7 +20,8 @@ use Rattle.btr_read.specs.Fate.{Fault, fate}
 use Rattle.btr_read.specs.declared.want.Want.{Want}
 use Rattle.btr_restore.specs.Journey.{listing}
 use Rattle.btr_restore.specs.Outcome.{after_step, tree_after}
-use Rattle.btr_restore.specs.Restoring.{ended, sink_after}
+use Rattle.btr_restore.specs.Restoring.{sink_after}
+use Rattle.btr_volume.specs.Stops.{ended}
 use Rattle.btr_restore.specs.Running.{Outside, Ran, outside, world}
 use Rattle.btr_volume.specs.Lookup.{Program}
 use Rattle.btr_volume.specs.declared.stop.Stop.{Stop}

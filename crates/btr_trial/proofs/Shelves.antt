@@ -6,13 +6,13 @@ use Rattle.std.specs.Option.{IsSome, is_some, option_map, unwrap_or}
 use Rattle.std.specs.Str.{bytes_eq}
 use Rattle.std.proofs.lemmas.Bool.{lt-ltb, ltb-true}
 use Rattle.std.proofs.lemmas.List.{take-append-drop}
-use Rattle.btr_make.specs.Shelf.{IsReady, Standing, standing, volume_of}
+use Rattle.btr_make.specs.Shelf.{IsShelved, Standing, standing, volume_of}
 use Rattle.btr_make.specs.Spoil.{spoiled}
 use Rattle.btr_make.proofs.Ready.{ready_stays}
 use Rattle.btr_rack.specs.Image.{MemoryImage, bytes_in, is_named}
 use Rattle.btr_rack.specs.Memory.{MemoryRack, held_of, is_calm, is_empty, is_sure, named, nothing_fails, shelf_of, slots_of}
 use Rattle.btr_rack.specs.Rack.{Slot}
-use Rattle.btr_trial.specs.Sure.{Comes, IsSpoiled, name_at, spoiled_at, volume_names}
+use Rattle.btr_trial.specs.Sure.{CameTo, IsSpoiled, name_at, spoiled_at, volume_names}
 
 -- the names differ
 pub a-b : codes "a" ≢ codes "b"
@@ -104,7 +104,7 @@ module _ (rack closed : MemoryRack) (names : map (λ (s : Slot). s.name) (slots_
   and_right true b e = e
   and_right false b e = cc
 
-  pub closed_ready : IsReady closed
+  pub closed_ready : IsShelved closed
   closed_ready = record {
     a = ap is_some shelf_a;
     b = ap is_some shelf_b;
@@ -123,7 +123,7 @@ module _ (rack closed : MemoryRack) (names : map (λ (s : Slot). s.name) (slots_
   closed_volume = (λ i. unwrap_or (shelf_a i) [] ∷ unwrap_or (shelf_b i) [] ∷ unwrap_or (shelf_c i) [] ∷ []) ∙ sym (ap (map bytes_in) t.all)
 
 -- a rack of a volume that can be tried is sure, and has the image of each number
-pub ready_sure : (rack : MemoryRack) → IsReady rack → is_sure rack ≡ true
+pub ready_sure : (rack : MemoryRack) → IsShelved rack → is_sure rack ≡ true
 ready_sure rack ready =
     (λ i. (is_empty (ready.calls i) && is_empty (ready.writes i) && is_empty (ready.ranges i)) && nat_lt rack.account.faults (2 ^ 64 - 1))
     ∙ lt-ltb rack.account.faults (2 ^ 64 - 1) ready.faults
@@ -134,7 +134,7 @@ name_holds P a b c (suc zero) below = b
 name_holds P a b c (suc (suc zero)) below = c
 name_holds P a b c (suc (suc (suc n))) below = absurd (omega (arith, below))
 
-pub image_stands : (rack : MemoryRack) → IsReady rack → (slot : ℕ) → slot < 3 → IsSome (named rack (name_at slot))
+pub image_stands : (rack : MemoryRack) → IsShelved rack → (slot : ℕ) → slot < 3 → IsSome (named rack (name_at slot))
 image_stands rack ready slot below =
     let stands : (name : List ℕ) → IsSome (shelf_of rack name) → IsSome (named rack name) = λ name some. sym (ap is_some (shelf_closed rack name ready.closed)) ∙ some in
     name_holds (λ name. IsSome (named rack name)) (stands (codes "a") ready.a) (stands (codes "b") ready.b) (stands (codes "c") ready.c) slot below
@@ -154,8 +154,8 @@ unfolding standing
 standing_sure old new e = ap (λ (s : Standing). is_calm s.failing && nat_lt s.account.faults (2 ^ 64 - 1)) e
 
 -- an image of a volume was spoiled
-module _ (old new : MemoryRack) (ready : IsReady old) where
-  pub still_ready : (name : List ℕ) → IsSpoiled name old new → IsReady new
+module _ (old new : MemoryRack) (ready : IsShelved old) where
+  pub still_ready : (name : List ℕ) → IsSpoiled name old new → IsShelved new
   still_ready name s = ready_stays old new ready s.2.standing
 
   module _ (name : List ℕ) (s : IsSpoiled name old new) where
@@ -190,7 +190,7 @@ module _ (old new : MemoryRack) (ready : IsReady old) where
   spoiled_volume (suc (suc (suc n))) below s = absurd (omega (arith, below))
 
   pub spoiled_comes : {E : Type 0} (slot : ℕ) (name : List ℕ) → slot < 3 → name ≡ name_at slot → (r : Result (Unit {0}) E)
-      → OnOk r (IsSpoiled name old new) → Comes (λ images. tt) (λ images. spoiled_at images slot) old new r
+      → OnOk r (IsSpoiled name old new) → CameTo (λ images. tt) (λ images. spoiled_at images slot) old new r
   spoiled_comes slot name below is (Ok u) s =
       let this : IsSpoiled (name_at slot) old new = subst (λ n. IsSpoiled n old new) is s in
       (still_ready (name_at slot) this, refl, spoiled_volume slot below this)

@@ -1,7 +1,7 @@
 -- A rack in memory whose calls don't fail.
 use Rattle.std.specs.Prelude.{◌≡◌, ℕ, ◌<◌, ◌==◌, Bool, true, if◌then◌else◌, List, [], ◌∷◌, ◌++◌, length, map, codes, slice_set, Some, Result, Ok, Err, All}
 use Rattle.std.proofs.Common.{arith}
-use Rattle.btr_make.specs.Shelf.{IsReady, volume_of}
+use Rattle.btr_make.specs.Shelf.{IsShelved, volume_of}
 use Rattle.btr_make.specs.Spoil.{Becomes, spoiled}
 use Rattle.btr_rack.specs.Memory.{MemoryRack, held_of, named, seen_of, slots_of}
 use Rattle.btr_rack.specs.MemoryLaws.{sound_rack}
@@ -57,6 +57,6 @@ spoiled_at images slot = slice_set images slot (spoiled (image_of images slot))
 
 -- A step of a trial found a volume on the shelf: where memory sufficed it came to what it comes to over its
 -- images, and left these or others on the shelf.
-abbrev pub Comes : {A E : Type 0} → (Images → A) → (Images → Images) → MemoryRack → MemoryRack → Result A E → Type 0
-Comes came left old new (Ok a) = IsReady new × (a ≡ came (volume_of old)) × (volume_of new ≡ left (volume_of old))
-Comes came left old new (Err e) = Unit {0}
+abbrev pub CameTo : {A E : Type 0} → (Images → A) → (Images → Images) → MemoryRack → MemoryRack → Result A E → Type 0
+CameTo came left old new (Ok a) = IsShelved new × (a ≡ came (volume_of old)) × (volume_of new ≡ left (volume_of old))
+CameTo came left old new (Err e) = Unit {0}

@@ -1,8 +1,8 @@
 // The check of a trial.
 ghost use Rattle.std.specs.Prelude.{◌≡◌, length, IfOk};
-ghost use Rattle.btr_make.specs.Shelf.{IsReady};
+ghost use Rattle.btr_make.specs.Shelf.{IsShelved};
 ghost use Rattle.btr_rack.specs.Memory.{held_of};
-ghost use Rattle.btr_trial.specs.Sure.{Comes, HasImages, KeepsOpen};
+ghost use Rattle.btr_trial.specs.Sure.{CameTo, HasImages, KeepsOpen};
 ghost use Rattle.btr_trial.specs.Trial.{findings_of};
 
 use crate::opening::{open_filesystem, unless_wanted};
@@ -14,8 +14,8 @@ use std::alloc::Global;
 
 /// Checks a volume, and answers how many findings there are; `None` where it is refused.
 pub(crate) fn try_check(alloc: Global, rack: &mut SureRack) -> Result<Option<u64>, Memory>
-    requires { IsReady rack.old }
-    ensures { Comes findings_of (λ images. images) rack.old rack.new result }
+    requires { IsShelved rack.old }
+    ensures { CameTo findings_of (λ images. images) rack.old rack.new result }
 {
     rack.open_all(false)?;
     let findings = count_findings(alloc, rack)?;

@@ -29,9 +29,9 @@ impl Model for SureRack {
 
 impl SureRack {
     ghost use Rattle.std.specs.Prelude.{◌≡◌, ◌<◌, true, map, OnOk};
-    ghost use Rattle.btr_make.specs.Shelf.{IsReady, volume_of};
+    ghost use Rattle.btr_make.specs.Shelf.{IsShelved, volume_of};
     ghost use Rattle.btr_rack.specs.Memory.{held_of, is_sure, slots_of};
-    ghost use Rattle.btr_trial.specs.Sure.{Comes, IsOpen, spoiled_at, volume_names};
+    ghost use Rattle.btr_trial.specs.Sure.{CameTo, IsOpen, spoiled_at, volume_names};
 
     /// The rack in which nothing is to fail.
     pub(crate) fn new(rack: MemRack) -> SureRack
@@ -50,7 +50,7 @@ impl SureRack {
 
     /// Opens the images of the volume in their order, to be written or only to be read.
     pub(crate) fn open_all(&mut self, write: bool) -> Result<(), Memory>
-        requires { IsReady self.old }
+        requires { IsShelved self.old }
         ensures { OnOk result (IsOpen write (volume_of self.old) self.new) }
     {
         open_image(&mut self.rack, "a", write)?;
@@ -61,7 +61,7 @@ impl SureRack {
     /// Puts the images of the volume back on the shelf.
     pub(crate) fn close(&mut self)
         requires { map (λ slot. slot.name) (slots_of self.old) ≡ volume_names }
-        ensures ready { IsReady self.new }
+        ensures ready { IsShelved self.new }
         ensures volume { volume_of self.new ≡ held_of self.old }
     {
         self.rack.close_all();
@@ -69,9 +69,9 @@ impl SureRack {
 
     /// Spoils the image of this number.
     pub(crate) fn spoil(&mut self, slot: u64) -> Result<(), Memory>
-        requires ready { IsReady self.old }
+        requires ready { IsShelved self.old }
         requires slot { slot < 3 }
-        ensures { Comes (λ images. tt) (λ images. spoiled_at images slot) self.old self.new result }
+        ensures { CameTo (λ images. tt) (λ images. spoiled_at images slot) self.old self.new result }
     {
         spoil_image(&mut self.rack, name_of(slot))
     }

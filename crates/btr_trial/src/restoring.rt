@@ -1,8 +1,8 @@
 // The restores of a trial.
 ghost use Rattle.std.specs.Prelude.{◌≡◌, ◌≤◌, IfOk};
-ghost use Rattle.btr_make.specs.Shelf.{IsReady};
+ghost use Rattle.btr_make.specs.Shelf.{IsShelved};
 ghost use Rattle.btr_rack.specs.Memory.{held_of};
-ghost use Rattle.btr_trial.specs.Sure.{Comes, HasImages, KeepsOpen};
+ghost use Rattle.btr_trial.specs.Sure.{CameTo, HasImages, KeepsOpen};
 ghost use Rattle.btr_trial.specs.Trial.{restored_same};
 
 use crate::comparing::are_made;
@@ -30,8 +30,8 @@ pub(crate) fn try_restore(
     rack: &mut SureRack,
 ) -> Result<Option<bool>, Memory>
     requires most { number ≤ 1000 }
-    requires ready { IsReady rack.old }
-    ensures { Comes (restored_same number) (λ images. images) rack.old rack.new result }
+    requires ready { IsShelved rack.old }
+    ensures { CameTo (restored_same number) (λ images. images) rack.old rack.new result }
 {
     rack.open_all(false)?;
     let same = compare_files(alloc, number, rack)?;

@@ -1,9 +1,9 @@
 // The scrub of a trial.
 ghost use Rattle.std.specs.Prelude.{◌≡◌, IfOk, OnOk};
-ghost use Rattle.btr_make.specs.Shelf.{IsReady};
+ghost use Rattle.btr_make.specs.Shelf.{IsShelved};
 ghost use Rattle.btr_scrub_copies.specs.Writes.{AreWritable};
 ghost use Rattle.btr_rack.specs.Memory.{held_of, slots_of};
-ghost use Rattle.btr_trial.specs.Sure.{Comes, HasImages};
+ghost use Rattle.btr_trial.specs.Sure.{CameTo, HasImages};
 ghost use Rattle.btr_trial.specs.Trial.{lost_of, scrubbed};
 
 use crate::opening::{open_filesystem, unless_wanted};
@@ -14,8 +14,8 @@ use std::alloc::Global;
 
 /// Scrubs a volume, writing, and answers how many blocks are lost; `None` where it is refused.
 pub(crate) fn try_scrub(alloc: Global, rack: &mut SureRack) -> Result<Option<u64>, Memory>
-    requires { IsReady rack.old }
-    ensures { Comes lost_of scrubbed rack.old rack.new result }
+    requires { IsShelved rack.old }
+    ensures { CameTo lost_of scrubbed rack.old rack.new result }
 {
     rack.open_all(true)?;
     let lost = count_lost(alloc, rack)?;

@@ -1,6 +1,6 @@
 // The whole trial.
 ghost use Rattle.std.specs.Prelude.{◌≡◌, ◌≤◌, IfOk};
-ghost use Rattle.btr_make.specs.Shelf.{IsReady, volume_of};
+ghost use Rattle.btr_make.specs.Shelf.{IsShelved, volume_of};
 ghost use Rattle.btr_trial.specs.Shown.{Ends};
 ghost use Rattle.btr_trial.specs.Trial.{trial_of};
 
@@ -32,7 +32,7 @@ pub fn trial<O: Out>(
 ) -> Result<u64, Stop>
     requires least { 1 ≤ number }
     requires most { number ≤ 1000 }
-    requires ready { IsReady rack.old }
+    requires ready { IsShelved rack.old }
     ensures { Ends (trial_of (volume_of rack.old) number)
         (O.text out.old) (O.text out.new) (O.account out.old) (O.account out.new) result }
 {
@@ -48,7 +48,7 @@ pub fn trial<O: Out>(
 // All steps, one behind another.
 fn try_all(alloc: Global, number: u64, rack: &mut SureRack) -> Result<Tried, Memory>
     requires most { number ≤ 1000 }
-    requires ready { IsReady rack.old }
+    requires ready { IsShelved rack.old }
     ensures { IfOk result (λ tried. tried ≡ trial_of (volume_of rack.old) number) }
 {
     let findings = try_check(alloc, rack)?;

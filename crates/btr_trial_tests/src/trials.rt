@@ -1,6 +1,6 @@
 // Trials of made volumes, sound and spoiled.
 ghost use Rattle.std.specs.Prelude.{IfOk};
-ghost use Rattle.btr_make.specs.Shelf.{IsReady};
+ghost use Rattle.btr_make.specs.Shelf.{IsShelved};
 
 use btr_make::{make, spoil};
 use btr_rack::{MemOut, MemRack};
@@ -67,7 +67,7 @@ const CASES: [Case; 6] = [
 
 // The volume of a case.
 fn volume_of(alloc: Global, case: &Case) -> Result<MemRack, Fail>
-    ensures { IfOk result IsReady }
+    ensures { IfOk result IsShelved }
 {
     if case.made < 1 || case.made > 1000 {
         return Err("no volume is made of so many directories")?;

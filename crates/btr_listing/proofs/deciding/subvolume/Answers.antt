@@ -3,11 +3,12 @@ use Rattle.btr_listing.specs.declared.decision.Decision.TheVariants.{Empty}
 use Rattle.btr_files.specs.Names.{mounted}
 use Rattle.btr_listing.specs.Deciding.{mount_found, mount_of, target}
 use Rattle.btr_listing.specs.Looked.{met_by}
-use Rattle.btr_listing.proofs.Looking.{look_again, looked_by, looked_else, looked_halt, looked_if, looked_then, looked_value}
+use Rattle.btr_volume.proofs.Onward.{reads_on}
+use Rattle.btr_listing.proofs.Looking.{looked_by, looked_else, looked_halt, looked_if, looked_then, looked_value}
 use Rattle.btr_listing.proofs.deciding.subvolume.Goals as goal
 
 pub root-requires-clause-ready : goal.root-requires-clause-ready
-root-requires-clause-ready g c = look_again c.requires.ready c.mounted.ensures.serves c.mounted.ensures.volume
+root-requires-clause-ready g c = reads_on _ _ _ c.requires.ready c.mounted.ensures.serves c.mounted.ensures.volume
 
 pub returns-then-not-rules-clause-looked : goal.returns-then-not-rules-clause-looked
 returns-then-not-rules-clause-looked g c = looked_if _ _ _ (ap not c.if-not-rules.true) (looked_value _ c.requires.ready)
@@ -28,7 +29,7 @@ returns-in-Ok-false-clause-looked g c =
     (looked_by _ _ c.requires.ready c.mounted.ensures.serves c.mounted.ensures.reads c.mounted.ensures.volume
     c.mounted.ensures.cause c.mounted.ensures.content)
     (c.in-Ok-false.is ∙ ap Ok c.in-Ok-false.field-0-test)
-    (looked_value Empty (look_again c.requires.ready c.mounted.ensures.serves c.mounted.ensures.volume)))
+    (looked_value Empty (reads_on _ _ _ c.requires.ready c.mounted.ensures.serves c.mounted.ensures.volume)))
 
 pub returns-in-Ok-true-clause-looked : goal.returns-in-Ok-true-clause-looked
 returns-in-Ok-true-clause-looked g c =

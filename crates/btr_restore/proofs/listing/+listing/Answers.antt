@@ -17,9 +17,10 @@ use Rattle.btr_restore.specs.Listing.{ended_with, treat_in, listing_in}
 use Rattle.btr_restore.specs.Running.{Ran, outside, world}
 use Rattle.btr_listing.specs.Step.{Step}
 use Rattle.btr_restore.proofs.Listings.{directory_is, listed_first, listed_fault, listed_end, listed_step, listed_halt}
-use Rattle.btr_restore.proofs.Cycles.{deep_is, entry_halts, entry_over, entry_within, room_above, room_below, room_left, room_within, some_place, treated_in}
-use Rattle.btr_restore.proofs.Cycles.{stands_over, stands_up, stands_within, within_halts, within_up}
-use Rattle.btr_restore.proofs.Rans.{ran_memory, ready_next}
+use Rattle.btr_restore.proofs.Cycles.{deep_is, ended_passed, entry_halts, entry_over, entry_within, room_above, room_below, room_left}
+use Rattle.btr_restore.proofs.Cycles.{room_within, some_place, treated_in, stands_over, stands_up, stands_within, within_halts, within_up}
+use Rattle.btr_restore.proofs.Rans.{ran_memory, ran_passed}
+use Rattle.btr_volume.proofs.Onward.{reads_on}
 use Rattle.btr_restore.proofs.listing.+listing.Goals as goal
 
 pub list-loop-fault-init : goal.list-loop-fault-init
@@ -62,7 +63,7 @@ list-returns-in-Err-clause-ran g t c s e =
     (outside (g.T.TreeSink.sink c.loop-fault.tree) (g.T.TreeSink.account c.loop-fault.tree) (g.O.Out.text c.loop-fault.out)
     (g.O.Out.account c.loop-fault.out))) c.loop-fault.counts c.loop-fault.here.dir c.next.new.self c.next.new.name (g.R.Rack.seen c.next.new.rack)
     c.next.new.vol (c.loop-fault.invariant.listed s e) c.in-Err.ensures.reads c.in-Err.ensures.volume
-    (ready_next _ _ _ c.loop-fault.invariant.ready c.in-Err.ensures.serves c.in-Err.ensures.volume) c.in-Err.fault c.in-Err.ensures.cause
+    (reads_on _ _ _ c.loop-fault.invariant.ready c.in-Err.ensures.serves c.in-Err.ensures.volume) c.in-Err.fault c.in-Err.ensures.cause
     c.in-Err.ensures.content)
 
 pub list-returns-in-Ok-None-clause-ran : goal.list-returns-in-Ok-None-clause-ran
@@ -82,7 +83,7 @@ list-returns-in-Ok-None-clause-ran g t c s e =
     (outside (g.T.TreeSink.sink c.loop-fault.tree) (g.T.TreeSink.account c.loop-fault.tree) (g.O.Out.text c.loop-fault.out)
     (g.O.Out.account c.loop-fault.out))) c.loop-fault.counts c.loop-fault.here.dir c.next.new.self c.next.new.name (g.R.Rack.seen c.next.new.rack)
     c.next.new.vol (c.loop-fault.invariant.listed s e) c.in-Ok-None.ensures.reads c.in-Ok-None.ensures.volume
-    (ready_next _ _ _ c.loop-fault.invariant.ready c.in-Ok-None.ensures.serves c.in-Ok-None.ensures.volume) c.next.result
+    (reads_on _ _ _ c.loop-fault.invariant.ready c.in-Ok-None.ensures.serves c.in-Ok-None.ensures.volume) c.next.result
     (c.in-Ok-None.is ∙ ap Ok c.in-Ok-None.field-0-is) c.next.ensures.content)
 
 pub list-returns-in-Ok-None-clause-path : goal.list-returns-in-Ok-None-clause-path
@@ -101,7 +102,7 @@ list-list_entry-requires g t c κs within = (
       (
         within.1.1,
         (
-          ready_next _ _ _ c.loop-fault.invariant.ready c.in-Ok-Some.ensures.serves c.in-Ok-Some.ensures.volume,
+          reads_on _ _ _ c.loop-fault.invariant.ready c.in-Ok-Some.ensures.serves c.in-Ok-Some.ensures.volume,
           (
             λ dry. (c.loop-fault.invariant.stands (g.T.TreeSink.sink c.args.tree.now).depth (λ d. (c.requires.between d, refl)) dry).0,
             λ dry. room_left _ _ _ _ 512 (c.loop-fault.invariant.stands (g.T.TreeSink.sink c.args.tree.now).depth (λ d. (c.requires.between d, refl))
@@ -120,14 +121,26 @@ list-loop-fault-smaller g t c = subst (λ (r : Option DirRow). DirNears c.loop-f
 pub list-loop-fault-preserved : goal.list-loop-fault-preserved
 list-loop-fault-preserved g t c =
     record {
-      ready = (c.in-Ok.ensures.ran c.next.new.vol.sup refl).ready;
+      ready = (c.in_ok-list_entry-in-Ok-Some.ensures.ran c.next.new.vol.sup refl).ready;
       reads_on = c.in-Ok-Some.ensures.dir;
       same_path = c.cut.ensures ∙ (ap (λ (n : ℕ). take n c.list_entry.new.path) (c.len-len.ensures ∙ ap length (sym c.loop-fault.invariant.same_path))
-          ∙ (c.in-Ok.ensures.path ∙ c.loop-fault.invariant.same_path));
+          ∙ (c.in_ok-list_entry-in-Ok-Some.ensures.path ∙ c.loop-fault.invariant.same_path));
       same_below = c.list_entry.auto.below ∙ c.loop-fault.invariant.same_below;
-      same_sink = λ dry. c.in-Ok.ensures.dry dry ∙ c.loop-fault.invariant.same_sink dry;
-      stands = λ n h. c.in-Ok.ensures.stands n (c.loop-fault.invariant.stands n h);
-      listed = λ s e. listed_step (treat_in c.args.job.now.plan s c.args.job.now.sums (length c.args.below.now) c.args.root c.args.dirid c.args.path.now) (world (g.R.Rack.seen c.args.rack.now) c.args.vol.now (outside (g.T.TreeSink.sink c.args.tree.now) (g.T.TreeSink.account c.args.tree.now) (g.O.Out.text c.args.out.now) (g.O.Out.account c.args.out.now))) (each (treat_in c.args.job.now.plan s c.args.job.now.sums (length c.args.below.now) c.args.root c.args.dirid c.args.path.now) c.args.counts.now (entries c.args.root c.args.dirid)) (world (g.R.Rack.seen c.loop-fault.rack) c.loop-fault.vol (outside (g.T.TreeSink.sink c.loop-fault.tree) (g.T.TreeSink.account c.loop-fault.tree) (g.O.Out.text c.loop-fault.out) (g.O.Out.account c.loop-fault.out))) c.loop-fault.counts c.loop-fault.here.dir c.next.new.self c.next.new.name (g.R.Rack.seen c.next.new.rack) c.next.new.vol (c.loop-fault.invariant.listed s e) c.in-Ok-Some.ensures.reads c.in-Ok-Some.ensures.volume (ready_next _ _ _ c.loop-fault.invariant.ready c.in-Ok-Some.ensures.serves c.in-Ok-Some.ensures.volume) c.in-Ok-Some.row c.next.result (c.in-Ok-Some.is ∙ ap Ok c.in-Ok-Some.field-0-is) c.next.ensures.content (world (g.R.Rack.seen c.list_entry.new.rack) c.list_entry.new.vol (outside (g.T.TreeSink.sink c.list_entry.new.tree) (g.T.TreeSink.account c.list_entry.new.tree) (g.O.Out.text c.list_entry.new.out) (g.O.Out.account c.list_entry.new.out))) c.list_entry.new.counts
+      same_sink = λ dry. c.in_ok-list_entry-in-Ok-Some.ensures.dry dry ∙ c.loop-fault.invariant.same_sink dry;
+      stands = λ n h. c.in_ok-list_entry-in-Ok-Some.ensures.stands n (c.loop-fault.invariant.stands n h);
+      listed = λ s e. listed_step (treat_in c.args.job.now.plan s c.args.job.now.sums
+          (length c.args.below.now) c.args.root c.args.dirid c.args.path.now) (world (g.R.Rack.seen c.args.rack.now) c.args.vol.now (outside
+          (g.T.TreeSink.sink c.args.tree.now) (g.T.TreeSink.account c.args.tree.now) (g.O.Out.text c.args.out.now) (g.O.Out.account c.args.out.now)))
+          (each (treat_in c.args.job.now.plan s c.args.job.now.sums
+          (length c.args.below.now) c.args.root c.args.dirid c.args.path.now) c.args.counts.now (entries c.args.root c.args.dirid)) (world
+          (g.R.Rack.seen c.loop-fault.rack) c.loop-fault.vol (outside (g.T.TreeSink.sink c.loop-fault.tree) (g.T.TreeSink.account c.loop-fault.tree)
+          (g.O.Out.text c.loop-fault.out)
+          (g.O.Out.account c.loop-fault.out))) c.loop-fault.counts c.loop-fault.here.dir c.next.new.self c.next.new.name
+          (g.R.Rack.seen c.next.new.rack) c.next.new.vol (c.loop-fault.invariant.listed s e) c.in-Ok-Some.ensures.reads c.in-Ok-Some.ensures.volume
+          (reads_on _ _ _ c.loop-fault.invariant.ready c.in-Ok-Some.ensures.serves c.in-Ok-Some.ensures.volume) c.in-Ok-Some.row c.next.result
+          (c.in-Ok-Some.is ∙ ap Ok c.in-Ok-Some.field-0-is) c.next.ensures.content (world (g.R.Rack.seen c.list_entry.new.rack) c.list_entry.new.vol
+          (outside (g.T.TreeSink.sink c.list_entry.new.tree) (g.T.TreeSink.account c.list_entry.new.tree) (g.O.Out.text c.list_entry.new.out)
+          (g.O.Out.account c.list_entry.new.out))) c.list_entry.new.counts
           (subst (λ (k : ℕ). Ran (treat_in c.args.job.now.plan s c.args.job.now.sums k c.args.root c.args.dirid c.args.path.now c.loop-fault.counts
           (named_row c.in-Ok-Some.row c.next.new.name)) (world (g.R.Rack.seen c.next.new.rack) c.next.new.vol
           (outside (g.T.TreeSink.sink c.loop-fault.tree) (g.T.TreeSink.account c.loop-fault.tree) (g.O.Out.text c.loop-fault.out)
@@ -141,32 +154,43 @@ list-loop-fault-preserved g t c =
           (g.O.Out.account c.loop-fault.out))) (world (g.R.Rack.seen c.list_entry.new.rack) c.list_entry.new.vol
           (outside (g.T.TreeSink.sink c.list_entry.new.tree) (g.T.TreeSink.account c.list_entry.new.tree) (g.O.Out.text c.list_entry.new.out)
           (g.O.Out.account c.list_entry.new.out))) (Ok c.list_entry.new.counts)) c.loop-fault.invariant.same_path
-          (c.in-Ok.ensures.ran s (e ∙ (sym (c.loop-fault.invariant.listed s e).volume.sup ∙ sym c.in-Ok-Some.ensures.volume.sup)))));
+          (c.in_ok-list_entry-in-Ok-Some.ensures.ran s (e ∙ (sym (c.loop-fault.invariant.listed s e).volume.sup ∙ sym c.in-Ok-Some.ensures.volume.sup)))));
     }
 
-pub list-returns-in-Err-list_entry-clause-ran : goal.list-returns-in-Err-list_entry-clause-ran
-list-returns-in-Err-list_entry-clause-ran g t c s e =
-    subst (λ (p : Program Step Counts). Ran p (world (g.R.Rack.seen c.args.rack.now) c.args.vol.now
+pub list-returns-in_err-list_entry-in-Ok-Some-clause-ran : goal.list-returns-in_err-list_entry-in-Ok-Some-clause-ran
+list-returns-in_err-list_entry-in-Ok-Some-clause-ran g t c s e =
+    ran_passed _ (ended_passed _ _ _ c.from_residual.ensures.1)
+    (subst (λ (p : Program Step Counts). Ran p (world (g.R.Rack.seen c.args.rack.now) c.args.vol.now
     (outside (g.T.TreeSink.sink c.args.tree.now) (g.T.TreeSink.account c.args.tree.now) (g.O.Out.text c.args.out.now)
     (g.O.Out.account c.args.out.now))) (world (g.R.Rack.seen c.list_entry.new.rack) c.list_entry.new.vol
     (outside (g.T.TreeSink.sink c.list_entry.new.tree) (g.T.TreeSink.account c.list_entry.new.tree) (g.O.Out.text c.list_entry.new.out)
-    (g.O.Out.account c.list_entry.new.out))) (Err c.in-Err-list_entry.stop))
+    (g.O.Out.account c.list_entry.new.out))) (Err c.in_err-list_entry-in-Ok-Some.field-0.0))
     (directory_is c.args.job.now.plan s c.args.job.now.sums (length c.args.below.now) c.args.root c.args.dirid c.args.path.now c.args.counts.now)
-    (listed_halt (treat_in c.args.job.now.plan s c.args.job.now.sums (length c.args.below.now) c.args.root c.args.dirid c.args.path.now) (world (g.R.Rack.seen c.args.rack.now) c.args.vol.now (outside (g.T.TreeSink.sink c.args.tree.now) (g.T.TreeSink.account c.args.tree.now) (g.O.Out.text c.args.out.now) (g.O.Out.account c.args.out.now))) (each (treat_in c.args.job.now.plan s c.args.job.now.sums (length c.args.below.now) c.args.root c.args.dirid c.args.path.now) c.args.counts.now (entries c.args.root c.args.dirid)) (world (g.R.Rack.seen c.loop-fault.rack) c.loop-fault.vol (outside (g.T.TreeSink.sink c.loop-fault.tree) (g.T.TreeSink.account c.loop-fault.tree) (g.O.Out.text c.loop-fault.out) (g.O.Out.account c.loop-fault.out))) c.loop-fault.counts c.loop-fault.here.dir c.next.new.self c.next.new.name (g.R.Rack.seen c.next.new.rack) c.next.new.vol (c.loop-fault.invariant.listed s e) c.in-Ok-Some.ensures.reads c.in-Ok-Some.ensures.volume (ready_next _ _ _ c.loop-fault.invariant.ready c.in-Ok-Some.ensures.serves c.in-Ok-Some.ensures.volume) c.in-Ok-Some.row c.next.result (c.in-Ok-Some.is ∙ ap Ok c.in-Ok-Some.field-0-is) c.next.ensures.content (world (g.R.Rack.seen c.list_entry.new.rack) c.list_entry.new.vol (outside (g.T.TreeSink.sink c.list_entry.new.tree) (g.T.TreeSink.account c.list_entry.new.tree) (g.O.Out.text c.list_entry.new.out) (g.O.Out.account c.list_entry.new.out))) c.in-Err-list_entry.stop
+    (listed_halt (treat_in c.args.job.now.plan s c.args.job.now.sums (length c.args.below.now) c.args.root c.args.dirid c.args.path.now) (world
+    (g.R.Rack.seen c.args.rack.now) c.args.vol.now (outside (g.T.TreeSink.sink c.args.tree.now) (g.T.TreeSink.account c.args.tree.now)
+    (g.O.Out.text c.args.out.now) (g.O.Out.account c.args.out.now))) (each (treat_in c.args.job.now.plan s c.args.job.now.sums
+    (length c.args.below.now) c.args.root c.args.dirid c.args.path.now) c.args.counts.now (entries c.args.root c.args.dirid)) (world
+    (g.R.Rack.seen c.loop-fault.rack) c.loop-fault.vol (outside (g.T.TreeSink.sink c.loop-fault.tree) (g.T.TreeSink.account c.loop-fault.tree)
+    (g.O.Out.text c.loop-fault.out) (g.O.Out.account c.loop-fault.out))) c.loop-fault.counts c.loop-fault.here.dir c.next.new.self c.next.new.name
+    (g.R.Rack.seen c.next.new.rack) c.next.new.vol (c.loop-fault.invariant.listed s e) c.in-Ok-Some.ensures.reads c.in-Ok-Some.ensures.volume
+    (reads_on _ _ _ c.loop-fault.invariant.ready c.in-Ok-Some.ensures.serves c.in-Ok-Some.ensures.volume) c.in-Ok-Some.row c.next.result
+    (c.in-Ok-Some.is ∙ ap Ok c.in-Ok-Some.field-0-is) c.next.ensures.content (world (g.R.Rack.seen c.list_entry.new.rack) c.list_entry.new.vol
+    (outside (g.T.TreeSink.sink c.list_entry.new.tree) (g.T.TreeSink.account c.list_entry.new.tree) (g.O.Out.text c.list_entry.new.out)
+    (g.O.Out.account c.list_entry.new.out))) c.in_err-list_entry-in-Ok-Some.field-0.0
     (subst (λ (k : ℕ). Ran (treat_in c.args.job.now.plan s c.args.job.now.sums k c.args.root c.args.dirid c.args.path.now c.loop-fault.counts
     (named_row c.in-Ok-Some.row c.next.new.name)) (world (g.R.Rack.seen c.next.new.rack) c.next.new.vol
     (outside (g.T.TreeSink.sink c.loop-fault.tree) (g.T.TreeSink.account c.loop-fault.tree) (g.O.Out.text c.loop-fault.out)
     (g.O.Out.account c.loop-fault.out))) (world (g.R.Rack.seen c.list_entry.new.rack) c.list_entry.new.vol
     (outside (g.T.TreeSink.sink c.list_entry.new.tree) (g.T.TreeSink.account c.list_entry.new.tree) (g.O.Out.text c.list_entry.new.out)
-    (g.O.Out.account c.list_entry.new.out))) (Err c.in-Err-list_entry.stop)) c.loop-fault.invariant.same_below
+    (g.O.Out.account c.list_entry.new.out))) (Err c.in_err-list_entry-in-Ok-Some.field-0.0)) c.loop-fault.invariant.same_below
     (subst (λ (p : List ℕ). Ran (treat_in c.args.job.now.plan s c.args.job.now.sums (length c.loop-fault.below) c.args.root c.args.dirid p
     c.loop-fault.counts (named_row c.in-Ok-Some.row c.next.new.name))
     (world (g.R.Rack.seen c.next.new.rack) c.next.new.vol
     (outside (g.T.TreeSink.sink c.loop-fault.tree) (g.T.TreeSink.account c.loop-fault.tree) (g.O.Out.text c.loop-fault.out)
     (g.O.Out.account c.loop-fault.out))) (world (g.R.Rack.seen c.list_entry.new.rack) c.list_entry.new.vol
     (outside (g.T.TreeSink.sink c.list_entry.new.tree) (g.T.TreeSink.account c.list_entry.new.tree) (g.O.Out.text c.list_entry.new.out)
-    (g.O.Out.account c.list_entry.new.out))) (Err c.in-Err-list_entry.stop)) c.loop-fault.invariant.same_path
-    (c.in-Err-list_entry.ensures.ran s (e ∙ (sym (c.loop-fault.invariant.listed s e).volume.sup ∙ sym c.in-Ok-Some.ensures.volume.sup))))))
+    (g.O.Out.account c.list_entry.new.out))) (Err c.in_err-list_entry-in-Ok-Some.field-0.0)) c.loop-fault.invariant.same_path
+    (c.in_err-list_entry-in-Ok-Some.ensures.ran s (e ∙ (sym (c.loop-fault.invariant.listed s e).volume.sup ∙ sym c.in-Ok-Some.ensures.volume.sup)))))))
 
 pub list_entry-returns-in-Err-clause-ran : goal.list_entry-returns-in-Err-clause-ran
 list_entry-returns-in-Err-clause-ran g t c s e =
@@ -185,18 +209,18 @@ list_entry-list_within-requires g t c κs within = (
           (c.treat.ensures.ran c.args.vol.now.sup refl).ready,
           (
             λ dry. (stands_within c.args.job.now.plan.dry (g.T.TreeSink.sink c.args.tree.now).depth (g.T.TreeSink.sink c.treat.new.tree)
-                c.in-Ok-Within.field-0 c.in-Ok-Within.inner c.in-Ok-Within.dirid c.in-Ok-Within.field-0-is
-                (c.in-Ok-Within.ensures.stands (g.T.TreeSink.sink c.args.tree.now).depth (λ d. (c.requires.between d, refl))) dry).0,
+                c.in_ok-treat.field-0 c.in-Within.inner c.in-Within.dirid c.in-Within.is
+                (c.in_ok-treat.ensures.stands (g.T.TreeSink.sink c.args.tree.now).depth (λ d. (c.requires.between d, refl))) dry).0,
             (
-              some_place (length c.args.below.now) c.is_empty.result c.in-Ok-Within.field-0 c.in-Ok-Within.inner c.in-Ok-Within.dirid
-                  (λ z. c.is_empty.ensures ∙ ap (λ (k : ℕ). k == 0) z) c.in-Ok-Within.field-0-is c.in-Ok-Within.ensures.flat,
+              some_place (length c.args.below.now) c.is_empty.result c.in_ok-treat.field-0 c.in-Within.inner c.in-Within.dirid
+                  (λ z. c.is_empty.ensures ∙ ap (λ (k : ℕ). k == 0) z) c.in-Within.is c.in_ok-treat.ensures.flat,
               (
                 λ dry. subst (λ (d : ℕ). 0 < d) (sym (stands_within c.args.job.now.plan.dry (g.T.TreeSink.sink c.args.tree.now).depth
-                    (g.T.TreeSink.sink c.treat.new.tree) c.in-Ok-Within.field-0 c.in-Ok-Within.inner c.in-Ok-Within.dirid c.in-Ok-Within.field-0-is
-                    (c.in-Ok-Within.ensures.stands (g.T.TreeSink.sink c.args.tree.now).depth (λ d. (c.requires.between d, refl))) dry).1) (omega arith),
+                    (g.T.TreeSink.sink c.treat.new.tree) c.in_ok-treat.field-0 c.in-Within.inner c.in-Within.dirid c.in-Within.is
+                    (c.in_ok-treat.ensures.stands (g.T.TreeSink.sink c.args.tree.now).depth (λ d. (c.requires.between d, refl))) dry).1) (omega arith),
                 λ dry. room_within _ _ _ 512 (stands_within c.args.job.now.plan.dry (g.T.TreeSink.sink c.args.tree.now).depth
-                    (g.T.TreeSink.sink c.treat.new.tree) c.in-Ok-Within.field-0 c.in-Ok-Within.inner c.in-Ok-Within.dirid c.in-Ok-Within.field-0-is
-                    (c.in-Ok-Within.ensures.stands (g.T.TreeSink.sink c.args.tree.now).depth (λ d. (c.requires.between d, refl))) dry).1 (c.requires.room dry),
+                    (g.T.TreeSink.sink c.treat.new.tree) c.in_ok-treat.field-0 c.in-Within.inner c.in-Within.dirid c.in-Within.is
+                    (c.in_ok-treat.ensures.stands (g.T.TreeSink.sink c.args.tree.now).depth (λ d. (c.requires.between d, refl))) dry).1 (c.requires.room dry),
               ),
             ),
           ),
@@ -209,9 +233,10 @@ list_entry-list_within-requires g t c κs within = (
 pub list_entry-treat-requires-clause-above : goal.list_entry-treat-requires-clause-above
 list_entry-treat-requires-clause-above g t c = λ shallow dry. room_above _ _ 512 _ c.is_empty.ensures shallow (c.requires.room dry)
 
-pub list_entry-returns-in-Err-treat-clause-ran : goal.list_entry-returns-in-Err-treat-clause-ran
-list_entry-returns-in-Err-treat-clause-ran g t c s e =
-    entry_halts c.args.job.now.plan s c.args.job.now.sums (length c.args.below.now) c.is_empty.result
+pub list_entry-returns-in_err-treat-clause-ran : goal.list_entry-returns-in_err-treat-clause-ran
+list_entry-returns-in_err-treat-clause-ran g t c s e =
+    ran_passed _ (ended_passed _ _ _ c.from_residual.ensures.1)
+    (entry_halts c.args.job.now.plan s c.args.job.now.sums (length c.args.below.now) c.is_empty.result
     (c.is_empty.ensures ∙ deep_is (length c.args.below.now)) c.args.root.now c.args.dirid c.args.path.now c.args.counts.now
     (named_row c.args.row c.args.name.now) (world (g.R.Rack.seen c.args.rack.now) c.args.vol.now
     (outside (g.T.TreeSink.sink c.args.tree.now) (g.T.TreeSink.account c.args.tree.now) (g.O.Out.text c.args.out.now)
@@ -219,13 +244,13 @@ list_entry-returns-in-Err-treat-clause-ran g t c s e =
     (outside (g.T.TreeSink.sink c.treat.new.tree) (g.T.TreeSink.account c.treat.new.tree) (g.O.Out.text c.treat.new.out)
     (g.O.Out.account c.treat.new.out))) (world (g.R.Rack.seen c.treat.new.rack) c.treat.new.vol
     (outside (g.T.TreeSink.sink c.treat.new.tree) (g.T.TreeSink.account c.treat.new.tree) (g.O.Out.text c.treat.new.out)
-    (g.O.Out.account c.treat.new.out))) c.in-Err-treat.stop
+    (g.O.Out.account c.treat.new.out))) c.in_err-treat.field-0.0
     (treated_in c.args.job.now.plan s c.args.job.now.sums c.is_empty.result c.args.root.now c.args.dirid c.args.path.now _ c.args.counts.now
     (named_row c.args.row c.args.name.now) _ _ _ (c.as_bytes-2.ensures ∙ (c.in-Ok.ensures ∙ ap (path_in c.args.path.now) c.as_bytes.ensures))
-    (c.in-Err-treat.ensures.ran s e))
+    (c.in_err-treat.ensures.ran s e)))
 
-pub list_entry-returns-in-Ok-Over-clause-ran : goal.list_entry-returns-in-Ok-Over-clause-ran
-list_entry-returns-in-Ok-Over-clause-ran g t c s e =
+pub list_entry-returns-in-Over-clause-ran : goal.list_entry-returns-in-Over-clause-ran
+list_entry-returns-in-Over-clause-ran g t c s e =
     entry_over c.args.job.now.plan s c.args.job.now.sums (length c.args.below.now) c.is_empty.result
     (c.is_empty.ensures ∙ deep_is (length c.args.below.now)) c.args.root.now c.args.dirid c.args.path.now c.args.counts.now
     (named_row c.args.row c.args.name.now) (world (g.R.Rack.seen c.args.rack.now) c.args.vol.now
@@ -241,18 +266,26 @@ list_entry-returns-in-Ok-Over-clause-ran g t c s e =
     (outside (g.T.TreeSink.sink c.args.tree.now) (g.T.TreeSink.account c.args.tree.now) (g.O.Out.text c.args.out.now)
     (g.O.Out.account c.args.out.now))) (world (g.R.Rack.seen c.treat.new.rack) c.treat.new.vol
     (outside (g.T.TreeSink.sink c.treat.new.tree) (g.T.TreeSink.account c.treat.new.tree) (g.O.Out.text c.treat.new.out)
-    (g.O.Out.account c.treat.new.out))) (Ok (came_to c.treat.new.counts r))) c.in-Ok-Over.field-0-is
+    (g.O.Out.account c.treat.new.out))) (Ok (came_to c.treat.new.counts r))) c.in-Over.is
     (treated_in c.args.job.now.plan s c.args.job.now.sums c.is_empty.result c.args.root.now c.args.dirid c.args.path.now _ c.args.counts.now
     (named_row c.args.row c.args.name.now) _ _ _ (c.as_bytes-2.ensures ∙ (c.in-Ok.ensures ∙ ap (path_in c.args.path.now) c.as_bytes.ensures))
-    (c.in-Ok-Over.ensures.ran s e)))
+    (c.in_ok-treat.ensures.ran s e)))
 
-pub list_entry-returns-in-Ok-Over-clause-stands : goal.list_entry-returns-in-Ok-Over-clause-stands
-list_entry-returns-in-Ok-Over-clause-stands g t c n h =
-    stands_over _ n (g.T.TreeSink.sink c.treat.new.tree) c.in-Ok-Over.field-0 c.in-Ok-Over.field-0-is (c.in-Ok-Over.ensures.stands n h)
+pub list_entry-returns-in-Over-clause-stands : goal.list_entry-returns-in-Over-clause-stands
+list_entry-returns-in-Over-clause-stands g t c n h =
+    stands_over _ n (g.T.TreeSink.sink c.treat.new.tree) c.in_ok-treat.field-0 c.in-Over.is (c.in_ok-treat.ensures.stands n h)
 
-pub list_entry-returns-in-Ok-Within-clause-ran : goal.list_entry-returns-in-Ok-Within-clause-ran
-list_entry-returns-in-Ok-Within-clause-ran g t c s e =
-    let h = subst (λ (r : Treated). Ran (treated c.args.job.now.plan s c.args.job.now.sums (met_in c.is_empty.result c.args.root.now c.args.dirid c.args.path.now (named_row c.args.row c.args.name.now)) c.args.counts.now) (world (g.R.Rack.seen c.args.rack.now) c.args.vol.now (outside (g.T.TreeSink.sink c.args.tree.now) (g.T.TreeSink.account c.args.tree.now) (g.O.Out.text c.args.out.now) (g.O.Out.account c.args.out.now))) (world (g.R.Rack.seen c.treat.new.rack) c.treat.new.vol (outside (g.T.TreeSink.sink c.treat.new.tree) (g.T.TreeSink.account c.treat.new.tree) (g.O.Out.text c.treat.new.out) (g.O.Out.account c.treat.new.out))) (Ok (came_to c.treat.new.counts r))) c.in-Ok-Within.field-0-is (treated_in c.args.job.now.plan s c.args.job.now.sums c.is_empty.result c.args.root.now c.args.dirid c.args.path.now _ c.args.counts.now (named_row c.args.row c.args.name.now) _ _ _ (c.as_bytes-2.ensures ∙ (c.in-Ok.ensures ∙ ap (path_in c.args.path.now) c.as_bytes.ensures)) (c.in-Ok-Within.ensures.ran s e)) in
+pub list_entry-returns-in-Within-clause-ran : goal.list_entry-returns-in-Within-clause-ran
+list_entry-returns-in-Within-clause-ran g t c s e =
+    let h = subst (λ (r : Treated). Ran (treated c.args.job.now.plan s c.args.job.now.sums
+    (met_in c.is_empty.result c.args.root.now c.args.dirid c.args.path.now (named_row c.args.row c.args.name.now)) c.args.counts.now) (world
+    (g.R.Rack.seen c.args.rack.now) c.args.vol.now (outside (g.T.TreeSink.sink c.args.tree.now) (g.T.TreeSink.account c.args.tree.now)
+    (g.O.Out.text c.args.out.now) (g.O.Out.account c.args.out.now))) (world (g.R.Rack.seen c.treat.new.rack) c.treat.new.vol (outside
+    (g.T.TreeSink.sink c.treat.new.tree) (g.T.TreeSink.account c.treat.new.tree) (g.O.Out.text c.treat.new.out)
+    (g.O.Out.account c.treat.new.out))) (Ok (came_to c.treat.new.counts r))) c.in-Within.is
+    (treated_in c.args.job.now.plan s c.args.job.now.sums c.is_empty.result c.args.root.now c.args.dirid c.args.path.now _ c.args.counts.now
+    (named_row c.args.row c.args.name.now) _ _ _ (c.as_bytes-2.ensures ∙ (c.in-Ok.ensures ∙ ap (path_in c.args.path.now) c.as_bytes.ensures))
+    (c.in_ok-treat.ensures.ran s e)) in
     entry_within c.args.job.now.plan s c.args.job.now.sums (length c.args.below.now) c.is_empty.result
     (c.is_empty.ensures ∙ deep_is (length c.args.below.now)) c.args.root.now c.args.dirid c.args.path.now c.args.counts.now
     (named_row c.args.row c.args.name.now) (world (g.R.Rack.seen c.args.rack.now) c.args.vol.now
@@ -261,10 +294,10 @@ list_entry-returns-in-Ok-Within-clause-ran g t c s e =
     (outside (g.T.TreeSink.sink c.treat.new.tree) (g.T.TreeSink.account c.treat.new.tree) (g.O.Out.text c.treat.new.out)
     (g.O.Out.account c.treat.new.out))) (world (g.R.Rack.seen c.list_within.new.rack) c.list_within.new.vol
     (outside (g.T.TreeSink.sink c.list_within.new.tree) (g.T.TreeSink.account c.list_within.new.tree) (g.O.Out.text c.list_within.new.out)
-    (g.O.Out.account c.list_within.new.out))) c.in-Ok-Within.inner c.in-Ok-Within.dirid c.treat.new.counts _ h
+    (g.O.Out.account c.list_within.new.out))) c.in-Within.inner c.in-Within.dirid c.treat.new.counts _ h
     (subst (λ (p : List ℕ). Ran (listed_in c.args.job.now.plan s c.args.job.now.sums
     (listing_in c.args.job.now.plan s c.args.job.now.sums (length c.args.below.now)) p
-    (journey.Within c.in-Ok-Within.inner c.in-Ok-Within.dirid c.treat.new.counts))
+    (journey.Within c.in-Within.inner c.in-Within.dirid c.treat.new.counts))
     (world (g.R.Rack.seen c.treat.new.rack) c.treat.new.vol
     (outside (g.T.TreeSink.sink c.treat.new.tree) (g.T.TreeSink.account c.treat.new.tree) (g.O.Out.text c.treat.new.out)
     (g.O.Out.account c.treat.new.out))) (world (g.R.Rack.seen c.list_within.new.rack) c.list_within.new.vol
@@ -273,10 +306,10 @@ list_entry-returns-in-Ok-Within-clause-ran g t c s e =
     (c.in-Ok.ensures ∙ ap (path_in c.args.path.now) c.as_bytes.ensures)
     (c.list_within.ensures.ran s (e ∙ sym h.volume.sup)))
 
-pub list_entry-returns-in-Ok-Within-clause-stands : goal.list_entry-returns-in-Ok-Within-clause-stands
-list_entry-returns-in-Ok-Within-clause-stands g t c n h =
-    c.list_within.ensures.stands n (stands_within _ n (g.T.TreeSink.sink c.treat.new.tree) c.in-Ok-Within.field-0 c.in-Ok-Within.inner
-    c.in-Ok-Within.dirid c.in-Ok-Within.field-0-is (c.in-Ok-Within.ensures.stands n h))
+pub list_entry-returns-in-Within-clause-stands : goal.list_entry-returns-in-Within-clause-stands
+list_entry-returns-in-Within-clause-stands g t c n h =
+    c.list_within.ensures.stands n (stands_within _ n (g.T.TreeSink.sink c.treat.new.tree) c.in_ok-treat.field-0 c.in-Within.inner
+    c.in-Within.dirid c.in-Within.is (c.in_ok-treat.ensures.stands n h))
 
 pub list_within-list-requires : goal.list_within-list-requires
 list_within-list-requires g t c κs within = (
@@ -302,35 +335,36 @@ list_within-list-requires g t c κs within = (
 
 pub list_within-leave_dir-requires-clause-between : goal.list_within-leave_dir-requires-clause-between
 list_within-leave_dir-requires-clause-between g t c =
-    λ dry. (c.in-Ok.ensures.stands (g.T.TreeSink.sink c.args.tree.now).depth (λ d. (c.requires.between d, refl)) dry).0
+    λ dry. (c.in_ok-list.ensures.stands (g.T.TreeSink.sink c.args.tree.now).depth (λ d. (c.requires.between d, refl)) dry).0
 
 pub list_within-leave_dir-requires-clause-below : goal.list_within-leave_dir-requires-clause-below
 list_within-leave_dir-requires-clause-below g t c =
-    λ dry. subst (λ (d : ℕ). 0 < d) (sym (c.in-Ok.ensures.stands (g.T.TreeSink.sink c.args.tree.now).depth (λ d. (c.requires.between d, refl)) dry).1)
+    λ dry. subst (λ (d : ℕ). 0 < d) (sym (c.in_ok-list.ensures.stands (g.T.TreeSink.sink c.args.tree.now).depth (λ d. (c.requires.between d, refl)) dry).1)
     (c.requires.below dry)
 
-pub list_within-returns-in-Err-clause-ran : goal.list_within-returns-in-Err-clause-ran
-list_within-returns-in-Err-clause-ran g t c s e =
-    within_halts c.args.job.now.plan s c.args.job.now.sums (length c.args.frames.now) (length c.in-Some.below.now) (sym c.in-Some.ensures.cases.1)
+pub list_within-returns-in_err-list-clause-ran : goal.list_within-returns-in_err-list-clause-ran
+list_within-returns-in_err-list-clause-ran g t c s e =
+    ran_passed _ (ended_passed _ _ _ c.from_residual.ensures.1)
+    (within_halts c.args.job.now.plan s c.args.job.now.sums (length c.args.dirs.now) (length c.in-Some.below.now) (sym c.in-Some.ensures.cases.1)
     c.args.inner c.args.dirid c.args.path.now c.args.counts.now
     (world (g.R.Rack.seen c.args.rack.now) c.args.vol.now
     (outside (g.T.TreeSink.sink c.args.tree.now) (g.T.TreeSink.account c.args.tree.now) (g.O.Out.text c.args.out.now)
     (g.O.Out.account c.args.out.now))) (world (g.R.Rack.seen c.list.new.rack) c.list.new.vol
     (outside (g.T.TreeSink.sink c.list.new.tree) (g.T.TreeSink.account c.list.new.tree) (g.O.Out.text c.list.new.out)
-    (g.O.Out.account c.list.new.out))) c.in-Err.stop (c.in-Err.ensures.ran s e)
+    (g.O.Out.account c.list.new.out))) c.in_err-list.field-0.0 (c.in_err-list.ensures.ran s e))
 
-pub list_within-returns-in-Ok-clause-ran : goal.list_within-returns-in-Ok-clause-ran
-list_within-returns-in-Ok-clause-ran g t c s e =
-    within_up c.args.job.now.plan s c.args.job.now.sums (length c.args.frames.now) (length c.in-Some.below.now) (sym c.in-Some.ensures.cases.1)
+pub list_within-returns-clause-ran : goal.list_within-returns-clause-ran
+list_within-returns-clause-ran g t c s e =
+    within_up c.args.job.now.plan s c.args.job.now.sums (length c.args.dirs.now) (length c.in-Some.below.now) (sym c.in-Some.ensures.cases.1)
     c.args.inner c.args.dirid c.args.path.now c.args.counts.now
     (world (g.R.Rack.seen c.args.rack.now) c.args.vol.now
     (outside (g.T.TreeSink.sink c.args.tree.now) (g.T.TreeSink.account c.args.tree.now) (g.O.Out.text c.args.out.now)
     (g.O.Out.account c.args.out.now))) (world (g.R.Rack.seen c.list.new.rack) c.list.new.vol
     (outside (g.T.TreeSink.sink c.list.new.tree) (g.T.TreeSink.account c.list.new.tree) (g.O.Out.text c.list.new.out)
-    (g.O.Out.account c.list.new.out))) c.list.new.counts _ c.leave_dir.result (c.in-Ok.ensures.ran s e)
+    (g.O.Out.account c.list.new.out))) c.list.new.counts _ c.leave_dir.result (c.in_ok-list.ensures.ran s e)
     (c.leave_dir.ensures.wrote (g.O.Out.text c.list.new.out) (g.O.Out.account c.list.new.out))
 
-pub list_within-returns-in-Ok-clause-stands : goal.list_within-returns-in-Ok-clause-stands
-list_within-returns-in-Ok-clause-stands g t c n h =
+pub list_within-returns-clause-stands : goal.list_within-returns-clause-stands
+list_within-returns-clause-stands g t c n h =
     stands_up c.args.job.now.plan.dry n (g.T.TreeSink.sink c.list.new.tree) (g.T.TreeSink.sink c.leave_dir.new.tree) c.leave_dir.result
-    c.leave_dir.ensures.after (c.in-Ok.ensures.stands (n + 1) h)
+    c.leave_dir.ensures.after (c.in_ok-list.ensures.stands (n + 1) h)

@@ -4,6 +4,7 @@ use Rattle.btr_rack.specs.Sink.{InFile}
 use Rattle.btr_read.specs.Store.{SameLoans}
 use Rattle.btr_volume.specs.Lookup.{Program}
 use Rattle.btr_files.specs.Streaming.{bytes_left, IsReading, without_file}
+use Rattle.btr_restore.specs.Journey.{put}
 use Rattle.btr_restore.specs.Running.{World, outside, world}
 use Rattle.btr_listing.specs.Step.{Step}
 use Rattle.btr_restore.specs.Writing.{IsWriting}
@@ -16,9 +17,9 @@ invariant-loop-stop g l =
     × ((g.T.TreeSink.sink l.tree).stage ≡ InFile)
     × ((g.T.TreeSink.sink l.tree).depth ≡ (g.T.TreeSink.sink l.initial.tree).depth)
     × ((whole : Program Step Bool) (x : World) (text : Option (List ℕ)) (calls : CallAccount)
-    → IsWriting whole x (world (g.R.Rack.seen l.initial.rack) l.initial.vol
+    → IsWriting put whole x (world (g.R.Rack.seen l.initial.rack) l.initial.vol
     (outside (g.T.TreeSink.sink l.initial.tree) (g.T.TreeSink.account l.initial.tree) text calls)) false l.initial.file
-    → IsWriting whole x (world (g.R.Rack.seen l.rack) l.vol (outside (g.T.TreeSink.sink l.tree) (g.T.TreeSink.account l.tree) text calls)) l.plain l.file)
+    → IsWriting put whole x (world (g.R.Rack.seen l.rack) l.vol (outside (g.T.TreeSink.sink l.tree) (g.T.TreeSink.account l.tree) text calls)) l.plain l.file)
 
 abbrev pub decreases-loop-stop : goal.decreases-loop-stop
 decreases-loop-stop g l = bytes_left l.file

@@ -15,10 +15,13 @@ returns-then-job-clause-ran g c s text calls e = ran_if _ _ _ _ _ _ c.if-job.tru
 
 pub returns-clause-ran : goal.returns-clause-ran
 returns-clause-ran g c s text calls e =
-    let begins = subst (λ (b : Bool). Begins (kind_in c.args.vol.now.sup) c.new-file.result (content (kind_in c.args.vol.now.sup) c.args.job.now.sums b c.args.inode.now.size c.args.root.now c.args.ino)) c.has_no_sums-nosum.ensures (c.new-file.ensures.program (kind_in c.args.vol.now.sup)) in
-    let begins_so = subst (λ (t : Super). Begins (kind_in c.args.vol.now.sup) c.new-file.result (content (kind_in t) c.args.job.now.sums (has_no_sums c.args.inode.now) c.args.inode.now.size c.args.root.now c.args.ino)) (sym e) begins in
+    let begins = subst (λ (b : Bool). Begins (kind_in c.args.vol.now.sup) c.new-file.result (content
+    (kind_in c.args.vol.now.sup) c.args.job.now.sums b c.args.inode.now.size c.args.root.now c.args.ino)) c.has_no_sums-nosum.ensures
+    (c.new-file.ensures.program (kind_in c.args.vol.now.sup)) in
+    let begins_so = subst (λ (t : Super). Begins (kind_in c.args.vol.now.sup) c.new-file.result (content (kind_in t) c.args.job.now.sums
+    (has_no_sums c.args.inode.now) c.args.inode.now.size c.args.root.now c.args.ino)) (sym e) begins in
     ran_else _ _ _ _ _ _ c.if-job.false
-    (writing_over (each put false (content (kind_in s) c.args.job.now.sums (has_no_sums c.args.inode.now) c.args.inode.now.size c.args.root.now
+    (writing_over put (each put false (content (kind_in s) c.args.job.now.sums (has_no_sums c.args.inode.now) c.args.inode.now.size c.args.root.now
     c.args.ino)) (world (g.R.Rack.seen c.args.rack.now) c.args.vol.now
     (outside (g.T.TreeSink.sink c.args.tree.now) (g.T.TreeSink.account c.args.tree.now) text calls))
     (world (g.R.Rack.seen c.put_pieces-plain.new.rack) c.put_pieces-plain.new.vol
@@ -27,7 +30,7 @@ returns-clause-ran g c s text calls e =
     (c.put_pieces-plain.ensures.writes (each put false (content (kind_in s) c.args.job.now.sums (has_no_sums c.args.inode.now) c.args.inode.now.size
     c.args.root.now c.args.ino)) (world (g.R.Rack.seen c.args.rack.now) c.args.vol.now
     (outside (g.T.TreeSink.sink c.args.tree.now) (g.T.TreeSink.account c.args.tree.now) text calls)) text calls
-    (writing_first (world (g.R.Rack.seen c.args.rack.now) c.args.vol.now
+    (writing_first put false (world (g.R.Rack.seen c.args.rack.now) c.args.vol.now
     (outside (g.T.TreeSink.sink c.args.tree.now) (g.T.TreeSink.account c.args.tree.now) text calls)) c.new-file.result
     (content (kind_in s) c.args.job.now.sums (has_no_sums c.args.inode.now) c.args.inode.now.size c.args.root.now c.args.ino)
     (c.new-file.ensures.reading (g.R.Rack.seen c.args.rack.now) c.args.vol.now.store c.requires.ready.serves)

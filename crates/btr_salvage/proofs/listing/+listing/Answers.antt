@@ -7,7 +7,7 @@ use Rattle.btr_listing.specs.Lines.{path_in}
 use Rattle.btr_restore.specs.Running.{Wrote, outside, world}
 use Rattle.btr_restore.specs.declared.treated.Treated.{Treated}
 use Rattle.btr_restore.proofs.Cycles.{deep_is, room_above, room_below, room_left, room_within, some_place, stands_over, stands_up, stands_within}
-use Rattle.btr_restore.proofs.Rans.{ready_next}
+use Rattle.btr_volume.proofs.Onward.{reads_on}
 use Rattle.btr_salvage.specs.declared.folder.Found.{Found}
 use Rattle.btr_salvage.specs.declared.salvaged.Salvaged.{Salvaged}
 use Rattle.btr_salvage.specs.Attempts.{treat_each}
@@ -20,8 +20,8 @@ use Rattle.btr_salvage.specs.Salvaging.{Attempt, listed_in, part_missing, treate
 use Rattle.btr_salvage.specs.Salvaging as salvaging
 use Rattle.btr_salvage.specs.Treating.{came_to, counted}
 use Rattle.btr_salvage.proofs.Listings.{directory_is, listed_first, listed_fault, listed_end, listed_step, listed_halt}
-use Rattle.btr_salvage.proofs.Cycles.{entry_halts, entry_over, entry_within, treated_in, within_halts, within_up}
-use Rattle.btr_salvage.proofs.Rans.{ran_memory, ran_value, ran_writes}
+use Rattle.btr_salvage.proofs.Cycles.{counted_passed, entry_halts, entry_over, entry_within, treated_in, within_halts, within_up}
+use Rattle.btr_salvage.proofs.Rans.{ran_memory, ran_passed, ran_value, ran_writes}
 use Rattle.btr_salvage.proofs.listing.+listing.Goals as goal
 
 pub list-loop-fault-init : goal.list-loop-fault-init
@@ -61,7 +61,7 @@ list-returns-in-Err-clause-ran g t c s e =
     (outside (g.T.TreeSink.sink c.loop-fault.tree) (g.T.TreeSink.account c.loop-fault.tree) (g.O.Out.text c.loop-fault.out)
     (g.O.Out.account c.loop-fault.out))) c.loop-fault.salvaged c.loop-fault.here.folder c.next.new.self c.next.new.name
     (g.R.Rack.seen c.next.new.rack) c.next.new.vol (c.loop-fault.invariant.listed s e) c.in-Err.ensures.reads c.in-Err.ensures.volume
-    (ready_next _ _ _ c.loop-fault.invariant.ready c.in-Err.ensures.serves c.in-Err.ensures.volume) c.in-Err.fault c.in-Err.ensures.cause
+    (reads_on _ _ _ c.loop-fault.invariant.ready c.in-Err.ensures.serves c.in-Err.ensures.volume) c.in-Err.fault c.in-Err.ensures.cause
     c.in-Err.ensures.content)
 
 pub list-returns-in-Ok-None-clause-ran : goal.list-returns-in-Ok-None-clause-ran
@@ -79,7 +79,7 @@ list-returns-in-Ok-None-clause-ran g t c s e =
     (outside (g.T.TreeSink.sink c.loop-fault.tree) (g.T.TreeSink.account c.loop-fault.tree) (g.O.Out.text c.loop-fault.out)
     (g.O.Out.account c.loop-fault.out))) c.loop-fault.salvaged c.loop-fault.here.folder c.next.new.self c.next.new.name
     (g.R.Rack.seen c.next.new.rack) c.next.new.vol (c.loop-fault.invariant.listed s e) c.in-Ok-None.ensures.reads c.in-Ok-None.ensures.volume
-    (ready_next _ _ _ c.loop-fault.invariant.ready c.in-Ok-None.ensures.serves c.in-Ok-None.ensures.volume) c.next.result
+    (reads_on _ _ _ c.loop-fault.invariant.ready c.in-Ok-None.ensures.serves c.in-Ok-None.ensures.volume) c.next.result
     (c.in-Ok-None.is ∙ ap Ok c.in-Ok-None.field-0-is) c.next.ensures.content)
 
 pub list-returns-in-Ok-None-clause-path : goal.list-returns-in-Ok-None-clause-path
@@ -98,7 +98,7 @@ list-list_found-requires g t c κs within = (
       (
         within.1.1,
         (
-          ready_next _ _ _ c.loop-fault.invariant.ready c.in-Ok-Some.ensures.serves c.in-Ok-Some.ensures.volume,
+          reads_on _ _ _ c.loop-fault.invariant.ready c.in-Ok-Some.ensures.serves c.in-Ok-Some.ensures.volume,
           (
             λ dry. (c.loop-fault.invariant.stands (g.T.TreeSink.sink c.args.tree.now).depth (λ d. (c.requires.between d, refl)) dry).0,
             λ dry. room_left _ _ _ _ 512 (c.loop-fault.invariant.stands (g.T.TreeSink.sink c.args.tree.now).depth (λ d. (c.requires.between d, refl)) dry).1
@@ -117,12 +117,12 @@ list-loop-fault-smaller g t c = subst (λ (r : Option Found). FolderNears c.loop
 pub list-loop-fault-preserved : goal.list-loop-fault-preserved
 list-loop-fault-preserved g t c =
     record {
-      ready = (c.in-Ok.ensures.ran c.next.new.vol.sup refl).ready;
+      ready = (c.in_ok-list_found-in-Ok-Some.ensures.ran c.next.new.vol.sup refl).ready;
       reads_on = c.in-Ok-Some.ensures.folder;
       same_path = c.cut.ensures ∙ (ap (λ (n : ℕ). take n c.list_found.new.path) (c.len-len.ensures ∙ ap length (sym c.loop-fault.invariant.same_path))
-          ∙ (c.in-Ok.ensures.path ∙ c.loop-fault.invariant.same_path));
+          ∙ (c.in_ok-list_found-in-Ok-Some.ensures.path ∙ c.loop-fault.invariant.same_path));
       same_below = c.list_found.auto.below ∙ c.loop-fault.invariant.same_below;
-      stands = λ n h. c.in-Ok.ensures.stands n (c.loop-fault.invariant.stands n h);
+      stands = λ n h. c.in_ok-list_found-in-Ok-Some.ensures.stands n (c.loop-fault.invariant.stands n h);
       listed = λ s e. listed_step (meet_in c.args.job.now.plan s c.args.job.now.sums (length c.args.below.now) c.args.root c.args.dirid c.args.path.now)
           (world (g.R.Rack.seen c.args.rack.now) c.args.vol.now (outside (g.T.TreeSink.sink c.args.tree.now) (g.T.TreeSink.account c.args.tree.now)
           (g.O.Out.text c.args.out.now) (g.O.Out.account c.args.out.now)))
@@ -131,7 +131,7 @@ list-loop-fault-preserved g t c =
           (outside (g.T.TreeSink.sink c.loop-fault.tree) (g.T.TreeSink.account c.loop-fault.tree) (g.O.Out.text c.loop-fault.out)
           (g.O.Out.account c.loop-fault.out))) c.loop-fault.salvaged c.loop-fault.here.folder c.next.new.self c.next.new.name
           (g.R.Rack.seen c.next.new.rack) c.next.new.vol (c.loop-fault.invariant.listed s e) c.in-Ok-Some.ensures.reads c.in-Ok-Some.ensures.volume
-          (ready_next _ _ _ c.loop-fault.invariant.ready c.in-Ok-Some.ensures.serves c.in-Ok-Some.ensures.volume) c.in-Ok-Some.found c.next.result
+          (reads_on _ _ _ c.loop-fault.invariant.ready c.in-Ok-Some.ensures.serves c.in-Ok-Some.ensures.volume) c.in-Ok-Some.found c.next.result
           (c.in-Ok-Some.is ∙ ap Ok c.in-Ok-Some.field-0-is) c.next.ensures.content
           (world (g.R.Rack.seen c.list_found.new.rack) c.list_found.new.vol
           (outside (g.T.TreeSink.sink c.list_found.new.tree) (g.T.TreeSink.account c.list_found.new.tree) (g.O.Out.text c.list_found.new.out)
@@ -149,16 +149,17 @@ list-loop-fault-preserved g t c =
           (world (g.R.Rack.seen c.list_found.new.rack) c.list_found.new.vol
           (outside (g.T.TreeSink.sink c.list_found.new.tree) (g.T.TreeSink.account c.list_found.new.tree) (g.O.Out.text c.list_found.new.out)
           (g.O.Out.account c.list_found.new.out))) (Ok c.list_found.new.salvaged)) c.loop-fault.invariant.same_path
-          (c.in-Ok.ensures.ran s (e ∙ (sym (c.loop-fault.invariant.listed s e).volume.sup ∙ sym c.in-Ok-Some.ensures.volume.sup)))));
+          (c.in_ok-list_found-in-Ok-Some.ensures.ran s (e ∙ (sym (c.loop-fault.invariant.listed s e).volume.sup ∙ sym c.in-Ok-Some.ensures.volume.sup)))));
     }
 
-pub list-returns-in-Err-list_found-clause-ran : goal.list-returns-in-Err-list_found-clause-ran
-list-returns-in-Err-list_found-clause-ran g t c s e =
-    subst (λ (p : Attempt Salvaged). Ran p (world (g.R.Rack.seen c.args.rack.now) c.args.vol.now
+pub list-returns-in_err-list_found-in-Ok-Some-clause-ran : goal.list-returns-in_err-list_found-in-Ok-Some-clause-ran
+list-returns-in_err-list_found-in-Ok-Some-clause-ran g t c s e =
+    ran_passed _ (counted_passed _ _ _ c.from_residual.ensures.1)
+    (subst (λ (p : Attempt Salvaged). Ran p (world (g.R.Rack.seen c.args.rack.now) c.args.vol.now
     (outside (g.T.TreeSink.sink c.args.tree.now) (g.T.TreeSink.account c.args.tree.now) (g.O.Out.text c.args.out.now) (g.O.Out.account c.args.out.now)))
     (world (g.R.Rack.seen c.list_found.new.rack) c.list_found.new.vol
     (outside (g.T.TreeSink.sink c.list_found.new.tree) (g.T.TreeSink.account c.list_found.new.tree) (g.O.Out.text c.list_found.new.out)
-    (g.O.Out.account c.list_found.new.out))) (Err c.in-Err-list_found.stop))
+    (g.O.Out.account c.list_found.new.out))) (Err c.in_err-list_found-in-Ok-Some.field-0.0))
     (directory_is c.args.job.now.plan s c.args.job.now.sums (length c.args.below.now) c.args.root c.args.dirid c.args.path.now c.args.salvaged.now)
     (listed_halt (meet_in c.args.job.now.plan s c.args.job.now.sums (length c.args.below.now) c.args.root c.args.dirid c.args.path.now)
     (world (g.R.Rack.seen c.args.rack.now) c.args.vol.now (outside (g.T.TreeSink.sink c.args.tree.now) (g.T.TreeSink.account c.args.tree.now)
@@ -168,24 +169,24 @@ list-returns-in-Err-list_found-clause-ran g t c s e =
     (outside (g.T.TreeSink.sink c.loop-fault.tree) (g.T.TreeSink.account c.loop-fault.tree) (g.O.Out.text c.loop-fault.out)
     (g.O.Out.account c.loop-fault.out))) c.loop-fault.salvaged c.loop-fault.here.folder c.next.new.self c.next.new.name
     (g.R.Rack.seen c.next.new.rack) c.next.new.vol (c.loop-fault.invariant.listed s e) c.in-Ok-Some.ensures.reads c.in-Ok-Some.ensures.volume
-    (ready_next _ _ _ c.loop-fault.invariant.ready c.in-Ok-Some.ensures.serves c.in-Ok-Some.ensures.volume) c.in-Ok-Some.found c.next.result
+    (reads_on _ _ _ c.loop-fault.invariant.ready c.in-Ok-Some.ensures.serves c.in-Ok-Some.ensures.volume) c.in-Ok-Some.found c.next.result
     (c.in-Ok-Some.is ∙ ap Ok c.in-Ok-Some.field-0-is) c.next.ensures.content
     (world (g.R.Rack.seen c.list_found.new.rack) c.list_found.new.vol
     (outside (g.T.TreeSink.sink c.list_found.new.tree) (g.T.TreeSink.account c.list_found.new.tree) (g.O.Out.text c.list_found.new.out)
-    (g.O.Out.account c.list_found.new.out))) c.in-Err-list_found.stop
+    (g.O.Out.account c.list_found.new.out))) c.in_err-list_found-in-Ok-Some.field-0.0
     (subst (λ (k : ℕ). Ran (meet_in c.args.job.now.plan s c.args.job.now.sums k c.args.root c.args.dirid c.args.path.now c.loop-fault.salvaged
     (found_in c.in-Ok-Some.found c.next.new.name)) (world (g.R.Rack.seen c.next.new.rack) c.next.new.vol
     (outside (g.T.TreeSink.sink c.loop-fault.tree) (g.T.TreeSink.account c.loop-fault.tree) (g.O.Out.text c.loop-fault.out)
     (g.O.Out.account c.loop-fault.out))) (world (g.R.Rack.seen c.list_found.new.rack) c.list_found.new.vol
     (outside (g.T.TreeSink.sink c.list_found.new.tree) (g.T.TreeSink.account c.list_found.new.tree) (g.O.Out.text c.list_found.new.out)
-    (g.O.Out.account c.list_found.new.out))) (Err c.in-Err-list_found.stop)) c.loop-fault.invariant.same_below
+    (g.O.Out.account c.list_found.new.out))) (Err c.in_err-list_found-in-Ok-Some.field-0.0)) c.loop-fault.invariant.same_below
     (subst (λ (p : List ℕ). Ran (meet_in c.args.job.now.plan s c.args.job.now.sums (length c.loop-fault.below) c.args.root c.args.dirid p c.loop-fault.salvaged
     (found_in c.in-Ok-Some.found c.next.new.name)) (world (g.R.Rack.seen c.next.new.rack) c.next.new.vol
     (outside (g.T.TreeSink.sink c.loop-fault.tree) (g.T.TreeSink.account c.loop-fault.tree) (g.O.Out.text c.loop-fault.out)
     (g.O.Out.account c.loop-fault.out))) (world (g.R.Rack.seen c.list_found.new.rack) c.list_found.new.vol
     (outside (g.T.TreeSink.sink c.list_found.new.tree) (g.T.TreeSink.account c.list_found.new.tree) (g.O.Out.text c.list_found.new.out)
-    (g.O.Out.account c.list_found.new.out))) (Err c.in-Err-list_found.stop)) c.loop-fault.invariant.same_path
-    (c.in-Err-list_found.ensures.ran s (e ∙ (sym (c.loop-fault.invariant.listed s e).volume.sup ∙ sym c.in-Ok-Some.ensures.volume.sup))))))
+    (g.O.Out.account c.list_found.new.out))) (Err c.in_err-list_found-in-Ok-Some.field-0.0)) c.loop-fault.invariant.same_path
+    (c.in_err-list_found-in-Ok-Some.ensures.ran s (e ∙ (sym (c.loop-fault.invariant.listed s e).volume.sup ∙ sym c.in-Ok-Some.ensures.volume.sup)))))))
 
 pub list_entry-returns-in-Err-clause-ran : goal.list_entry-returns-in-Err-clause-ran
 list_entry-returns-in-Err-clause-ran g t c s e =
@@ -204,19 +205,19 @@ list_entry-list_within-requires g t c κs within = (
           (c.treat.ensures.ran c.args.vol.now.sup refl).ready,
           (
             λ dry. (stands_within c.args.job.now.plan.dry (g.T.TreeSink.sink c.args.tree.now).depth
-                (g.T.TreeSink.sink c.treat.new.tree) c.in-Ok-Within.field-0 c.in-Ok-Within.inner c.in-Ok-Within.dirid c.in-Ok-Within.field-0-is
-                (c.in-Ok-Within.ensures.stands (g.T.TreeSink.sink c.args.tree.now).depth (λ d. (c.requires.between d, refl))) dry).0,
+                (g.T.TreeSink.sink c.treat.new.tree) c.in_ok-treat.field-0 c.in-Within.inner c.in-Within.dirid c.in-Within.is
+                (c.in_ok-treat.ensures.stands (g.T.TreeSink.sink c.args.tree.now).depth (λ d. (c.requires.between d, refl))) dry).0,
             (
-              some_place (length c.args.below.now) c.is_empty.result c.in-Ok-Within.field-0 c.in-Ok-Within.inner c.in-Ok-Within.dirid
-                  (λ z. c.is_empty.ensures ∙ ap (λ (k : ℕ). k == 0) z) c.in-Ok-Within.field-0-is c.in-Ok-Within.ensures.flat,
+              some_place (length c.args.below.now) c.is_empty.result c.in_ok-treat.field-0 c.in-Within.inner c.in-Within.dirid
+                  (λ z. c.is_empty.ensures ∙ ap (λ (k : ℕ). k == 0) z) c.in-Within.is c.in_ok-treat.ensures.flat,
               (
                 λ dry. subst (λ (d : ℕ). 0 < d)
                     (sym (stands_within c.args.job.now.plan.dry (g.T.TreeSink.sink c.args.tree.now).depth
-                    (g.T.TreeSink.sink c.treat.new.tree) c.in-Ok-Within.field-0 c.in-Ok-Within.inner c.in-Ok-Within.dirid c.in-Ok-Within.field-0-is
-                    (c.in-Ok-Within.ensures.stands (g.T.TreeSink.sink c.args.tree.now).depth (λ d. (c.requires.between d, refl))) dry).1) (omega arith),
+                    (g.T.TreeSink.sink c.treat.new.tree) c.in_ok-treat.field-0 c.in-Within.inner c.in-Within.dirid c.in-Within.is
+                    (c.in_ok-treat.ensures.stands (g.T.TreeSink.sink c.args.tree.now).depth (λ d. (c.requires.between d, refl))) dry).1) (omega arith),
                 λ dry. room_within _ _ _ 512 (stands_within c.args.job.now.plan.dry (g.T.TreeSink.sink c.args.tree.now).depth
-                    (g.T.TreeSink.sink c.treat.new.tree) c.in-Ok-Within.field-0 c.in-Ok-Within.inner c.in-Ok-Within.dirid c.in-Ok-Within.field-0-is
-                    (c.in-Ok-Within.ensures.stands (g.T.TreeSink.sink c.args.tree.now).depth (λ d. (c.requires.between d, refl))) dry).1 (c.requires.room dry),
+                    (g.T.TreeSink.sink c.treat.new.tree) c.in_ok-treat.field-0 c.in-Within.inner c.in-Within.dirid c.in-Within.is
+                    (c.in_ok-treat.ensures.stands (g.T.TreeSink.sink c.args.tree.now).depth (λ d. (c.requires.between d, refl))) dry).1 (c.requires.room dry),
               ),
             ),
           ),
@@ -229,22 +230,23 @@ list_entry-list_within-requires g t c κs within = (
 pub list_entry-treat-requires-clause-above : goal.list_entry-treat-requires-clause-above
 list_entry-treat-requires-clause-above g t c = λ shallow dry. room_above _ _ 512 _ c.is_empty.ensures shallow (c.requires.room dry)
 
-pub list_entry-returns-in-Err-treat-clause-ran : goal.list_entry-returns-in-Err-treat-clause-ran
-list_entry-returns-in-Err-treat-clause-ran g t c s e =
-    entry_halts c.args.job.now.plan s c.args.job.now.sums (length c.args.below.now) c.is_empty.result
+pub list_entry-returns-in_err-treat-clause-ran : goal.list_entry-returns-in_err-treat-clause-ran
+list_entry-returns-in_err-treat-clause-ran g t c s e =
+    ran_passed _ (counted_passed _ _ _ c.from_residual.ensures.1)
+    (entry_halts c.args.job.now.plan s c.args.job.now.sums (length c.args.below.now) c.is_empty.result
     (c.is_empty.ensures ∙ deep_is (length c.args.below.now)) c.args.root.now c.args.dirid c.args.path.now c.args.salvaged.now
     (named_row c.args.row c.args.name.now) (world (g.R.Rack.seen c.args.rack.now) c.args.vol.now
     (outside (g.T.TreeSink.sink c.args.tree.now) (g.T.TreeSink.account c.args.tree.now) (g.O.Out.text c.args.out.now) (g.O.Out.account c.args.out.now)))
     (world (g.R.Rack.seen c.treat.new.rack) c.treat.new.vol (outside (g.T.TreeSink.sink c.treat.new.tree) (g.T.TreeSink.account c.treat.new.tree)
     (g.O.Out.text c.treat.new.out) (g.O.Out.account c.treat.new.out)))
     (world (g.R.Rack.seen c.treat.new.rack) c.treat.new.vol (outside (g.T.TreeSink.sink c.treat.new.tree) (g.T.TreeSink.account c.treat.new.tree)
-    (g.O.Out.text c.treat.new.out) (g.O.Out.account c.treat.new.out))) c.in-Err-treat.stop
+    (g.O.Out.text c.treat.new.out) (g.O.Out.account c.treat.new.out))) c.in_err-treat.field-0.0
     (treated_in c.args.job.now.plan s c.args.job.now.sums c.is_empty.result c.args.root.now c.args.dirid c.args.path.now _ c.args.salvaged.now
     (named_row c.args.row c.args.name.now) _ _ _ (c.as_bytes-2.ensures ∙ (c.in-Ok.ensures ∙ ap (path_in c.args.path.now) c.as_bytes.ensures))
-    (c.in-Err-treat.ensures.ran s e))
+    (c.in_err-treat.ensures.ran s e)))
 
-pub list_entry-returns-in-Ok-Over-clause-ran : goal.list_entry-returns-in-Ok-Over-clause-ran
-list_entry-returns-in-Ok-Over-clause-ran g t c s e =
+pub list_entry-returns-in-Over-clause-ran : goal.list_entry-returns-in-Over-clause-ran
+list_entry-returns-in-Over-clause-ran g t c s e =
     entry_over c.args.job.now.plan s c.args.job.now.sums (length c.args.below.now) c.is_empty.result
     (c.is_empty.ensures ∙ deep_is (length c.args.below.now)) c.args.root.now c.args.dirid c.args.path.now c.args.salvaged.now
     (named_row c.args.row c.args.name.now) (world (g.R.Rack.seen c.args.rack.now) c.args.vol.now
@@ -258,26 +260,26 @@ list_entry-returns-in-Ok-Over-clause-ran g t c s e =
     (world (g.R.Rack.seen c.args.rack.now) c.args.vol.now (outside (g.T.TreeSink.sink c.args.tree.now) (g.T.TreeSink.account c.args.tree.now)
     (g.O.Out.text c.args.out.now) (g.O.Out.account c.args.out.now)))
     (world (g.R.Rack.seen c.treat.new.rack) c.treat.new.vol (outside (g.T.TreeSink.sink c.treat.new.tree) (g.T.TreeSink.account c.treat.new.tree)
-    (g.O.Out.text c.treat.new.out) (g.O.Out.account c.treat.new.out))) (Ok (came_to c.treat.new.salvaged r))) c.in-Ok-Over.field-0-is
+    (g.O.Out.text c.treat.new.out) (g.O.Out.account c.treat.new.out))) (Ok (came_to c.treat.new.salvaged r))) c.in-Over.is
     (treated_in c.args.job.now.plan s c.args.job.now.sums c.is_empty.result c.args.root.now c.args.dirid c.args.path.now _ c.args.salvaged.now
     (named_row c.args.row c.args.name.now) _ _ _ (c.as_bytes-2.ensures ∙ (c.in-Ok.ensures ∙ ap (path_in c.args.path.now) c.as_bytes.ensures))
-    (c.in-Ok-Over.ensures.ran s e)))
+    (c.in_ok-treat.ensures.ran s e)))
 
-pub list_entry-returns-in-Ok-Over-clause-stands : goal.list_entry-returns-in-Ok-Over-clause-stands
-list_entry-returns-in-Ok-Over-clause-stands g t c n h =
-    stands_over _ n (g.T.TreeSink.sink c.treat.new.tree) c.in-Ok-Over.field-0 c.in-Ok-Over.field-0-is (c.in-Ok-Over.ensures.stands n h)
+pub list_entry-returns-in-Over-clause-stands : goal.list_entry-returns-in-Over-clause-stands
+list_entry-returns-in-Over-clause-stands g t c n h =
+    stands_over _ n (g.T.TreeSink.sink c.treat.new.tree) c.in_ok-treat.field-0 c.in-Over.is (c.in_ok-treat.ensures.stands n h)
 
-pub list_entry-returns-in-Ok-Within-clause-ran : goal.list_entry-returns-in-Ok-Within-clause-ran
-list_entry-returns-in-Ok-Within-clause-ran g t c s e =
+pub list_entry-returns-in-Within-clause-ran : goal.list_entry-returns-in-Within-clause-ran
+list_entry-returns-in-Within-clause-ran g t c s e =
     let h = subst (λ (r : Treated). Ran (treated c.args.job.now.plan s c.args.job.now.sums
     (met_in c.is_empty.result c.args.root.now c.args.dirid c.args.path.now (named_row c.args.row c.args.name.now)) c.args.salvaged.now)
     (world (g.R.Rack.seen c.args.rack.now) c.args.vol.now (outside (g.T.TreeSink.sink c.args.tree.now) (g.T.TreeSink.account c.args.tree.now)
     (g.O.Out.text c.args.out.now) (g.O.Out.account c.args.out.now)))
     (world (g.R.Rack.seen c.treat.new.rack) c.treat.new.vol (outside (g.T.TreeSink.sink c.treat.new.tree) (g.T.TreeSink.account c.treat.new.tree)
-    (g.O.Out.text c.treat.new.out) (g.O.Out.account c.treat.new.out))) (Ok (came_to c.treat.new.salvaged r))) c.in-Ok-Within.field-0-is
+    (g.O.Out.text c.treat.new.out) (g.O.Out.account c.treat.new.out))) (Ok (came_to c.treat.new.salvaged r))) c.in-Within.is
     (treated_in c.args.job.now.plan s c.args.job.now.sums c.is_empty.result c.args.root.now c.args.dirid c.args.path.now _ c.args.salvaged.now
     (named_row c.args.row c.args.name.now) _ _ _ (c.as_bytes-2.ensures ∙ (c.in-Ok.ensures ∙ ap (path_in c.args.path.now) c.as_bytes.ensures))
-    (c.in-Ok-Within.ensures.ran s e)) in
+    (c.in_ok-treat.ensures.ran s e)) in
     entry_within c.args.job.now.plan s c.args.job.now.sums (length c.args.below.now) c.is_empty.result
     (c.is_empty.ensures ∙ deep_is (length c.args.below.now)) c.args.root.now c.args.dirid c.args.path.now c.args.salvaged.now
     (named_row c.args.row c.args.name.now) (world (g.R.Rack.seen c.args.rack.now) c.args.vol.now
@@ -286,10 +288,10 @@ list_entry-returns-in-Ok-Within-clause-ran g t c s e =
     (g.O.Out.text c.treat.new.out) (g.O.Out.account c.treat.new.out)))
     (world (g.R.Rack.seen c.list_within.new.rack) c.list_within.new.vol
     (outside (g.T.TreeSink.sink c.list_within.new.tree) (g.T.TreeSink.account c.list_within.new.tree) (g.O.Out.text c.list_within.new.out)
-    (g.O.Out.account c.list_within.new.out))) c.in-Ok-Within.inner c.in-Ok-Within.dirid c.treat.new.salvaged _ h
+    (g.O.Out.account c.list_within.new.out))) c.in-Within.inner c.in-Within.dirid c.treat.new.salvaged _ h
     (subst (λ (p : List ℕ). Ran (listed_in c.args.job.now.plan s c.args.job.now.sums
     (listing_in c.args.job.now.plan s c.args.job.now.sums (length c.args.below.now)) p
-    (salvaging.Within c.in-Ok-Within.inner c.in-Ok-Within.dirid c.treat.new.salvaged))
+    (salvaging.Within c.in-Within.inner c.in-Within.dirid c.treat.new.salvaged))
     (world (g.R.Rack.seen c.treat.new.rack) c.treat.new.vol (outside (g.T.TreeSink.sink c.treat.new.tree) (g.T.TreeSink.account c.treat.new.tree)
     (g.O.Out.text c.treat.new.out) (g.O.Out.account c.treat.new.out)))
     (world (g.R.Rack.seen c.list_within.new.rack) c.list_within.new.vol
@@ -298,10 +300,10 @@ list_entry-returns-in-Ok-Within-clause-ran g t c s e =
     (c.in-Ok.ensures ∙ ap (path_in c.args.path.now) c.as_bytes.ensures)
     (c.list_within.ensures.ran s (e ∙ sym h.volume.sup)))
 
-pub list_entry-returns-in-Ok-Within-clause-stands : goal.list_entry-returns-in-Ok-Within-clause-stands
-list_entry-returns-in-Ok-Within-clause-stands g t c n h =
-    c.list_within.ensures.stands n (stands_within _ n (g.T.TreeSink.sink c.treat.new.tree) c.in-Ok-Within.field-0 c.in-Ok-Within.inner c.in-Ok-Within.dirid
-    c.in-Ok-Within.field-0-is (c.in-Ok-Within.ensures.stands n h))
+pub list_entry-returns-in-Within-clause-stands : goal.list_entry-returns-in-Within-clause-stands
+list_entry-returns-in-Within-clause-stands g t c n h =
+    c.list_within.ensures.stands n (stands_within _ n (g.T.TreeSink.sink c.treat.new.tree) c.in_ok-treat.field-0 c.in-Within.inner c.in-Within.dirid
+    c.in-Within.is (c.in_ok-treat.ensures.stands n h))
 
 pub list_within-list-requires : goal.list_within-list-requires
 list_within-list-requires g t c κs within = (
@@ -317,36 +319,37 @@ list_within-list-requires g t c κs within = (
 
 pub list_within-leave_dir-requires-clause-between : goal.list_within-leave_dir-requires-clause-between
 list_within-leave_dir-requires-clause-between g t c =
-    λ dry. (c.in-Ok.ensures.stands (g.T.TreeSink.sink c.args.tree.now).depth (λ d. (c.requires.between d, refl)) dry).0
+    λ dry. (c.in_ok-list.ensures.stands (g.T.TreeSink.sink c.args.tree.now).depth (λ d. (c.requires.between d, refl)) dry).0
 
 pub list_within-leave_dir-requires-clause-below : goal.list_within-leave_dir-requires-clause-below
 list_within-leave_dir-requires-clause-below g t c =
-    λ dry. subst (λ (d : ℕ). 0 < d) (sym (c.in-Ok.ensures.stands (g.T.TreeSink.sink c.args.tree.now).depth (λ d. (c.requires.between d, refl)) dry).1)
+    λ dry. subst (λ (d : ℕ). 0 < d) (sym (c.in_ok-list.ensures.stands (g.T.TreeSink.sink c.args.tree.now).depth (λ d. (c.requires.between d, refl)) dry).1)
     (c.requires.below dry)
 
-pub list_within-returns-in-Err-clause-ran : goal.list_within-returns-in-Err-clause-ran
-list_within-returns-in-Err-clause-ran g t c s e =
-    within_halts c.args.job.now.plan s c.args.job.now.sums (length c.args.frames.now) (length c.in-Some.below.now)
+pub list_within-returns-in_err-list-clause-ran : goal.list_within-returns-in_err-list-clause-ran
+list_within-returns-in_err-list-clause-ran g t c s e =
+    ran_passed _ (counted_passed _ _ _ c.from_residual.ensures.1)
+    (within_halts c.args.job.now.plan s c.args.job.now.sums (length c.args.folders.now) (length c.in-Some.below.now)
     (sym c.in-Some.ensures.cases.1) c.args.inner c.args.dirid c.args.path.now c.args.salvaged.now
     (world (g.R.Rack.seen c.args.rack.now) c.args.vol.now (outside (g.T.TreeSink.sink c.args.tree.now) (g.T.TreeSink.account c.args.tree.now)
     (g.O.Out.text c.args.out.now) (g.O.Out.account c.args.out.now)))
     (world (g.R.Rack.seen c.list.new.rack) c.list.new.vol (outside (g.T.TreeSink.sink c.list.new.tree) (g.T.TreeSink.account c.list.new.tree)
-    (g.O.Out.text c.list.new.out) (g.O.Out.account c.list.new.out))) c.in-Err.stop (c.in-Err.ensures.ran s e)
+    (g.O.Out.text c.list.new.out) (g.O.Out.account c.list.new.out))) c.in_err-list.field-0.0 (c.in_err-list.ensures.ran s e))
 
-pub list_within-returns-in-Ok-clause-ran : goal.list_within-returns-in-Ok-clause-ran
-list_within-returns-in-Ok-clause-ran g t c s e =
-    within_up c.args.job.now.plan s c.args.job.now.sums (length c.args.frames.now) (length c.in-Some.below.now)
+pub list_within-returns-clause-ran : goal.list_within-returns-clause-ran
+list_within-returns-clause-ran g t c s e =
+    within_up c.args.job.now.plan s c.args.job.now.sums (length c.args.folders.now) (length c.in-Some.below.now)
     (sym c.in-Some.ensures.cases.1) c.args.inner c.args.dirid c.args.path.now c.args.salvaged.now
     (world (g.R.Rack.seen c.args.rack.now) c.args.vol.now (outside (g.T.TreeSink.sink c.args.tree.now) (g.T.TreeSink.account c.args.tree.now)
     (g.O.Out.text c.args.out.now) (g.O.Out.account c.args.out.now)))
     (world (g.R.Rack.seen c.list.new.rack) c.list.new.vol (outside (g.T.TreeSink.sink c.list.new.tree) (g.T.TreeSink.account c.list.new.tree)
-    (g.O.Out.text c.list.new.out) (g.O.Out.account c.list.new.out))) c.list.new.salvaged _ c.leave_dir.result (c.in-Ok.ensures.ran s e)
+    (g.O.Out.text c.list.new.out) (g.O.Out.account c.list.new.out))) c.list.new.salvaged _ c.leave_dir.result (c.in_ok-list.ensures.ran s e)
     (c.leave_dir.ensures.wrote (g.O.Out.text c.list.new.out) (g.O.Out.account c.list.new.out))
 
-pub list_within-returns-in-Ok-clause-stands : goal.list_within-returns-in-Ok-clause-stands
-list_within-returns-in-Ok-clause-stands g t c n h =
+pub list_within-returns-clause-stands : goal.list_within-returns-clause-stands
+list_within-returns-clause-stands g t c n h =
     stands_up c.args.job.now.plan.dry n (g.T.TreeSink.sink c.list.new.tree)
-    (g.T.TreeSink.sink c.leave_dir.new.tree) c.leave_dir.result c.leave_dir.ensures.after (c.in-Ok.ensures.stands (n + 1) h)
+    (g.T.TreeSink.sink c.leave_dir.new.tree) c.leave_dir.result c.leave_dir.ensures.after (c.in_ok-list.ensures.stands (n + 1) h)
 
 pub list_found-returns-in-Passing-clause-ran : goal.list_found-returns-in-Passing-clause-ran
 list_found-returns-in-Passing-clause-ran g t c s e =

@@ -14,7 +14,7 @@ abbrev pub decreases-list_entry : goal.decreases-list_entry
 decreases-list_entry g l = 4 * length l.below.now + 1
 
 abbrev pub decreases-list_within : goal.decreases-list_within
-decreases-list_within g l = 4 * length l.frames.now
+decreases-list_within g l = 4 * length l.folders.now
 
 abbrev pub invariant-list-loop-fault : goal.invariant-list-loop-fault
 invariant-list-loop-fault g l =

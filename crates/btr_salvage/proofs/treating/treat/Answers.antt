@@ -2,7 +2,8 @@ use Rattle.std.proofs.Common.{refl, sym, ◌∙◌}
 use Rattle.btr_listing.specs.Deciding.{decided}
 use Rattle.btr_listing.specs.Looked.{met_by}
 use Rattle.btr_restore.specs.Journey.{rules_of}
-use Rattle.btr_restore.proofs.Rans.{can_look, ready_next}
+use Rattle.btr_restore.proofs.Rans.{can_look}
+use Rattle.btr_volume.proofs.Onward.{reads_on}
 use Rattle.btr_salvage.specs.Salvaging.{by_lookup, tries}
 use Rattle.btr_salvage.proofs.Treats.{looked_fault, looked_then, missed, stands_over}
 use Rattle.btr_salvage.proofs.treating.treat.Goals as goal
@@ -11,7 +12,7 @@ pub decide-requires : goal.decide-requires
 decide-requires g c = record { ready = can_look c.requires.ready }
 
 pub treat_decided-requires-clause-ready : goal.treat_decided-requires-clause-ready
-treat_decided-requires-clause-ready g c = ready_next _ _ _ c.requires.ready c.in-Ok.ensures.looked.ready.serves c.in-Ok.ensures.looked.volume
+treat_decided-requires-clause-ready g c = reads_on _ _ _ c.requires.ready c.in-Ok.ensures.looked.ready.serves c.in-Ok.ensures.looked.volume
 
 pub returns-in-Err-clause-ran : goal.returns-in-Err-clause-ran
 returns-in-Err-clause-ran g c s e =

@@ -1,13 +1,15 @@
 use Rattle.std.proofs.Common.{ℕ, Ok, sym, subst}
 use Rattle.btr_restore.specs.Journey.{Within}
 use Rattle.btr_restore.specs.Running.{Wrote, outside}
-use Rattle.btr_restore.proofs.Rans.{wrote_none}
+use Rattle.btr_restore.proofs.Rans.{came_passed, wrote_none, wrote_passed}
 use Rattle.btr_send.specs.Sending.{entered}
 use Rattle.btr_send.proofs.Putting.{step_halt, step_then}
 use Rattle.btr_send.proofs.entering.enter.Goals as goal
 
-pub returns-in-Err-clause-wrote : goal.returns-in-Err-clause-wrote
-returns-in-Err-clause-wrote g c text calls = step_halt _ _ _ _ _ (c.in-Err.ensures.wrote text calls)
+pub returns-in_err-put_mkdir-clause-wrote : goal.returns-in_err-put_mkdir-clause-wrote
+returns-in_err-put_mkdir-clause-wrote g c text calls =
+    wrote_passed _ (came_passed _ _ _ c.from_residual.ensures.1)
+    (step_halt _ _ _ _ _ (c.in_err-put_mkdir.ensures.wrote text calls))
 
 pub returns-clause-wrote : goal.returns-clause-wrote
 returns-clause-wrote g c text calls =
@@ -16,4 +18,4 @@ returns-clause-wrote g c text calls =
     (outside (g.T.TreeSink.sink c.put_mkdir.new.tree) (g.T.TreeSink.account c.put_mkdir.new.tree) text calls)
     (Ok (Within c.args.inner c.args.dirid (record { dirs = n; files = c.args.counts.now.files; skipped = c.args.counts.now.skipped }))))
     (sym c.more-counts.ensures)
-    (step_then _ _ _ _ _ _ (c.in-Ok.ensures.wrote text calls) (wrote_none _ _))
+    (step_then _ _ _ _ _ _ (c.in_ok-put_mkdir.ensures.wrote text calls) (wrote_none _ _))

@@ -18,9 +18,10 @@ use Rattle.btr_send.specs.Listing.{listing_in, treat_in}
 use Rattle.btr_restore.specs.Running.{Ran, outside, world}
 use Rattle.btr_listing.specs.Step.{Step}
 use Rattle.btr_restore.proofs.Listings.{listed_first, listed_fault, listed_end, listed_step, listed_halt}
-use Rattle.btr_restore.proofs.Cycles.{deep_is, some_place}
+use Rattle.btr_restore.proofs.Cycles.{deep_is, ended_passed, some_place}
 use Rattle.btr_send.proofs.Cycles.{directory_is, entry_halts, entry_over, entry_within, treated_in, within_listed}
-use Rattle.btr_restore.proofs.Rans.{ran_memory, ready_next}
+use Rattle.btr_restore.proofs.Rans.{ran_memory, ran_passed}
+use Rattle.btr_volume.proofs.Onward.{reads_on}
 use Rattle.btr_send.proofs.listing.+listing.Goals as goal
 
 pub list-loop-fault-init : goal.list-loop-fault-init
@@ -59,7 +60,7 @@ list-returns-in-Err-clause-ran g t c s e =
     (g.R.Rack.seen c.loop-fault.rack) c.loop-fault.vol (outside (g.T.TreeSink.sink c.loop-fault.tree) (g.T.TreeSink.account c.loop-fault.tree)
     (g.O.Out.text c.loop-fault.out) (g.O.Out.account c.loop-fault.out))) c.loop-fault.counts c.loop-fault.here.dir c.next.new.self c.next.new.name
     (g.R.Rack.seen c.next.new.rack) c.next.new.vol (c.loop-fault.invariant.listed s e) c.in-Err.ensures.reads c.in-Err.ensures.volume
-    (ready_next _ _ _ c.loop-fault.invariant.ready c.in-Err.ensures.serves c.in-Err.ensures.volume) c.in-Err.fault c.in-Err.ensures.cause
+    (reads_on _ _ _ c.loop-fault.invariant.ready c.in-Err.ensures.serves c.in-Err.ensures.volume) c.in-Err.fault c.in-Err.ensures.cause
     c.in-Err.ensures.content)
 
 pub list-returns-in-Ok-None-clause-ran : goal.list-returns-in-Ok-None-clause-ran
@@ -76,7 +77,7 @@ list-returns-in-Ok-None-clause-ran g t c s e =
     (g.R.Rack.seen c.loop-fault.rack) c.loop-fault.vol (outside (g.T.TreeSink.sink c.loop-fault.tree) (g.T.TreeSink.account c.loop-fault.tree)
     (g.O.Out.text c.loop-fault.out) (g.O.Out.account c.loop-fault.out))) c.loop-fault.counts c.loop-fault.here.dir c.next.new.self c.next.new.name
     (g.R.Rack.seen c.next.new.rack) c.next.new.vol (c.loop-fault.invariant.listed s e) c.in-Ok-None.ensures.reads c.in-Ok-None.ensures.volume
-    (ready_next _ _ _ c.loop-fault.invariant.ready c.in-Ok-None.ensures.serves c.in-Ok-None.ensures.volume) c.next.result (c.in-Ok-None.is
+    (reads_on _ _ _ c.loop-fault.invariant.ready c.in-Ok-None.ensures.serves c.in-Ok-None.ensures.volume) c.next.result (c.in-Ok-None.is
     ∙ ap Ok c.in-Ok-None.field-0-is) c.next.ensures.content)
 
 pub list-returns-in-Ok-None-clause-path : goal.list-returns-in-Ok-None-clause-path
@@ -92,7 +93,7 @@ list-list_entry-requires g t c κs within = (
       (
         within.1.1,
         (
-          ready_next _ _ _ c.loop-fault.invariant.ready c.in-Ok-Some.ensures.serves c.in-Ok-Some.ensures.volume,
+          reads_on _ _ _ c.loop-fault.invariant.ready c.in-Ok-Some.ensures.serves c.in-Ok-Some.ensures.volume,
           c.loop-fault.invariant.stage,
         ),
       ),
@@ -107,10 +108,10 @@ list-loop-fault-smaller g t c = subst (λ (r : Option DirRow). DirNears c.loop-f
 pub list-loop-fault-preserved : goal.list-loop-fault-preserved
 list-loop-fault-preserved g t c =
     record {
-      ready = (c.in-Ok.ensures.ran c.next.new.vol.sup refl).ready;
+      ready = (c.in_ok-list_entry-in-Ok-Some.ensures.ran c.next.new.vol.sup refl).ready;
       reads_on = c.in-Ok-Some.ensures.dir;
       same_path = c.cut.ensures ∙ (ap (λ (n : ℕ). take n c.list_entry.new.path) (c.len-len.ensures ∙ ap length (sym c.loop-fault.invariant.same_path))
-          ∙ (c.in-Ok.ensures.path ∙ c.loop-fault.invariant.same_path));
+          ∙ (c.in_ok-list_entry-in-Ok-Some.ensures.path ∙ c.loop-fault.invariant.same_path));
       same_below = c.list_entry.auto.below ∙ c.loop-fault.invariant.same_below;
       stage = c.list_entry.ensures.stage;
       listed = λ s e. listed_step (treat_in c.args.sums s (length c.args.below.now) c.args.root c.args.dirid c.args.path.now) (world
@@ -120,7 +121,7 @@ list-loop-fault-preserved g t c =
           (g.R.Rack.seen c.loop-fault.rack) c.loop-fault.vol (outside (g.T.TreeSink.sink c.loop-fault.tree) (g.T.TreeSink.account c.loop-fault.tree)
           (g.O.Out.text c.loop-fault.out) (g.O.Out.account c.loop-fault.out))) c.loop-fault.counts c.loop-fault.here.dir c.next.new.self c.next.new.name
           (g.R.Rack.seen c.next.new.rack) c.next.new.vol (c.loop-fault.invariant.listed s e) c.in-Ok-Some.ensures.reads c.in-Ok-Some.ensures.volume
-          (ready_next _ _ _ c.loop-fault.invariant.ready c.in-Ok-Some.ensures.serves c.in-Ok-Some.ensures.volume) c.in-Ok-Some.row c.next.result
+          (reads_on _ _ _ c.loop-fault.invariant.ready c.in-Ok-Some.ensures.serves c.in-Ok-Some.ensures.volume) c.in-Ok-Some.row c.next.result
           (c.in-Ok-Some.is ∙ ap Ok c.in-Ok-Some.field-0-is) c.next.ensures.content (world (g.R.Rack.seen c.list_entry.new.rack) c.list_entry.new.vol (outside
           (g.T.TreeSink.sink c.list_entry.new.tree) (g.T.TreeSink.account c.list_entry.new.tree) (g.O.Out.text c.list_entry.new.out)
           (g.O.Out.account c.list_entry.new.out))) c.list_entry.new.counts
@@ -136,16 +137,18 @@ list-loop-fault-preserved g t c =
           (g.O.Out.account c.loop-fault.out))) (world (g.R.Rack.seen c.list_entry.new.rack) c.list_entry.new.vol (outside
           (g.T.TreeSink.sink c.list_entry.new.tree) (g.T.TreeSink.account c.list_entry.new.tree) (g.O.Out.text c.list_entry.new.out)
           (g.O.Out.account c.list_entry.new.out))) (Ok c.list_entry.new.counts)) c.loop-fault.invariant.same_path
-          (c.in-Ok.ensures.ran s (e ∙ (sym (c.loop-fault.invariant.listed s e).volume.sup ∙ sym c.in-Ok-Some.ensures.volume.sup)))));
+          (c.in_ok-list_entry-in-Ok-Some.ensures.ran s (e ∙ (sym (c.loop-fault.invariant.listed s e).volume.sup ∙ sym c.in-Ok-Some.ensures.volume.sup)))));
     }
 
-pub list-returns-in-Err-list_entry-clause-ran : goal.list-returns-in-Err-list_entry-clause-ran
-list-returns-in-Err-list_entry-clause-ran g t c s e =
-    subst (λ (p : Program Step Counts). Ran p (world (g.R.Rack.seen c.args.rack.now) c.args.vol.now (outside (g.T.TreeSink.sink c.args.tree.now)
+pub list-returns-in_err-list_entry-in-Ok-Some-clause-ran : goal.list-returns-in_err-list_entry-in-Ok-Some-clause-ran
+list-returns-in_err-list_entry-in-Ok-Some-clause-ran g t c s e =
+    ran_passed _ (ended_passed _ _ _ c.from_residual.ensures.1)
+    (subst (λ (p : Program Step Counts). Ran p (world (g.R.Rack.seen c.args.rack.now) c.args.vol.now (outside (g.T.TreeSink.sink c.args.tree.now)
     (g.T.TreeSink.account c.args.tree.now) (g.O.Out.text c.args.out.now) (g.O.Out.account c.args.out.now))) (world
     (g.R.Rack.seen c.list_entry.new.rack) c.list_entry.new.vol (outside (g.T.TreeSink.sink c.list_entry.new.tree)
     (g.T.TreeSink.account c.list_entry.new.tree) (g.O.Out.text c.list_entry.new.out) (g.O.Out.account c.list_entry.new.out)))
-    (Err c.in-Err-list_entry.stop)) (directory_is s c.args.sums (length c.args.below.now) c.args.root c.args.dirid c.args.path.now c.args.counts.now)
+    (Err c.in_err-list_entry-in-Ok-Some.field-0.0))
+    (directory_is s c.args.sums (length c.args.below.now) c.args.root c.args.dirid c.args.path.now c.args.counts.now)
     (listed_halt (treat_in c.args.sums s (length c.args.below.now) c.args.root c.args.dirid c.args.path.now) (world
     (g.R.Rack.seen c.args.rack.now) c.args.vol.now (outside (g.T.TreeSink.sink c.args.tree.now) (g.T.TreeSink.account c.args.tree.now)
     (g.O.Out.text c.args.out.now) (g.O.Out.account c.args.out.now))) (each (treat_in c.args.sums s
@@ -153,23 +156,23 @@ list-returns-in-Err-list_entry-clause-ran g t c s e =
     (g.R.Rack.seen c.loop-fault.rack) c.loop-fault.vol (outside (g.T.TreeSink.sink c.loop-fault.tree) (g.T.TreeSink.account c.loop-fault.tree)
     (g.O.Out.text c.loop-fault.out) (g.O.Out.account c.loop-fault.out))) c.loop-fault.counts c.loop-fault.here.dir c.next.new.self c.next.new.name
     (g.R.Rack.seen c.next.new.rack) c.next.new.vol (c.loop-fault.invariant.listed s e) c.in-Ok-Some.ensures.reads c.in-Ok-Some.ensures.volume
-    (ready_next _ _ _ c.loop-fault.invariant.ready c.in-Ok-Some.ensures.serves c.in-Ok-Some.ensures.volume) c.in-Ok-Some.row c.next.result
+    (reads_on _ _ _ c.loop-fault.invariant.ready c.in-Ok-Some.ensures.serves c.in-Ok-Some.ensures.volume) c.in-Ok-Some.row c.next.result
     (c.in-Ok-Some.is ∙ ap Ok c.in-Ok-Some.field-0-is) c.next.ensures.content (world (g.R.Rack.seen c.list_entry.new.rack) c.list_entry.new.vol (outside
     (g.T.TreeSink.sink c.list_entry.new.tree) (g.T.TreeSink.account c.list_entry.new.tree) (g.O.Out.text c.list_entry.new.out)
-    (g.O.Out.account c.list_entry.new.out))) c.in-Err-list_entry.stop
+    (g.O.Out.account c.list_entry.new.out))) c.in_err-list_entry-in-Ok-Some.field-0.0
     (subst (λ (k : ℕ). Ran (treat_in c.args.sums s k c.args.root c.args.dirid c.args.path.now c.loop-fault.counts
     (named_row c.in-Ok-Some.row c.next.new.name)) (world (g.R.Rack.seen c.next.new.rack) c.next.new.vol (outside (g.T.TreeSink.sink c.loop-fault.tree)
     (g.T.TreeSink.account c.loop-fault.tree) (g.O.Out.text c.loop-fault.out) (g.O.Out.account c.loop-fault.out))) (world
     (g.R.Rack.seen c.list_entry.new.rack) c.list_entry.new.vol (outside (g.T.TreeSink.sink c.list_entry.new.tree)
     (g.T.TreeSink.account c.list_entry.new.tree) (g.O.Out.text c.list_entry.new.out) (g.O.Out.account c.list_entry.new.out)))
-    (Err c.in-Err-list_entry.stop)) c.loop-fault.invariant.same_below
+    (Err c.in_err-list_entry-in-Ok-Some.field-0.0)) c.loop-fault.invariant.same_below
     (subst (λ (p : List ℕ). Ran (treat_in c.args.sums s (length c.loop-fault.below) c.args.root c.args.dirid p c.loop-fault.counts
     (named_row c.in-Ok-Some.row c.next.new.name)) (world (g.R.Rack.seen c.next.new.rack) c.next.new.vol (outside (g.T.TreeSink.sink c.loop-fault.tree)
     (g.T.TreeSink.account c.loop-fault.tree) (g.O.Out.text c.loop-fault.out) (g.O.Out.account c.loop-fault.out))) (world
     (g.R.Rack.seen c.list_entry.new.rack) c.list_entry.new.vol (outside (g.T.TreeSink.sink c.list_entry.new.tree)
     (g.T.TreeSink.account c.list_entry.new.tree) (g.O.Out.text c.list_entry.new.out) (g.O.Out.account c.list_entry.new.out)))
-    (Err c.in-Err-list_entry.stop)) c.loop-fault.invariant.same_path
-    (c.in-Err-list_entry.ensures.ran s (e ∙ (sym (c.loop-fault.invariant.listed s e).volume.sup ∙ sym c.in-Ok-Some.ensures.volume.sup))))))
+    (Err c.in_err-list_entry-in-Ok-Some.field-0.0)) c.loop-fault.invariant.same_path
+    (c.in_err-list_entry-in-Ok-Some.ensures.ran s (e ∙ (sym (c.loop-fault.invariant.listed s e).volume.sup ∙ sym c.in-Ok-Some.ensures.volume.sup)))))))
 
 pub list_entry-returns-in-Err-clause-ran : goal.list_entry-returns-in-Err-clause-ran
 list_entry-returns-in-Err-clause-ran g t c s e =
@@ -188,8 +191,8 @@ list_entry-list_within-requires g t c κs within = (
           (c.treat.ensures.ran c.args.vol.now.sup refl).ready,
           (
             c.treat.ensures.stage,
-            some_place (length c.args.below.now) c.is_empty.result c.in-Ok-Within.field-0 c.in-Ok-Within.inner c.in-Ok-Within.dirid (λ z. c.is_empty.ensures
-                ∙ ap (λ (k : ℕ). k == 0) z) c.in-Ok-Within.field-0-is c.in-Ok-Within.ensures.flat,
+            some_place (length c.args.below.now) c.is_empty.result c.in_ok-treat.field-0 c.in-Within.inner c.in-Within.dirid (λ z. c.is_empty.ensures
+                ∙ ap (λ (k : ℕ). k == 0) z) c.in-Within.is c.in_ok-treat.ensures.flat,
           ),
         ),
       ),
@@ -197,21 +200,22 @@ list_entry-list_within-requires g t c κs within = (
   ),
 )
 
-pub list_entry-returns-in-Err-treat-clause-ran : goal.list_entry-returns-in-Err-treat-clause-ran
-list_entry-returns-in-Err-treat-clause-ran g t c s e =
-    entry_halts s c.args.sums (length c.args.below.now) c.is_empty.result (c.is_empty.ensures
+pub list_entry-returns-in_err-treat-clause-ran : goal.list_entry-returns-in_err-treat-clause-ran
+list_entry-returns-in_err-treat-clause-ran g t c s e =
+    ran_passed _ (ended_passed _ _ _ c.from_residual.ensures.1)
+    (entry_halts s c.args.sums (length c.args.below.now) c.is_empty.result (c.is_empty.ensures
     ∙ deep_is (length c.args.below.now)) c.args.root.now c.args.dirid c.args.path.now c.args.counts.now (named_row c.args.row c.args.name.now) (world
     (g.R.Rack.seen c.args.rack.now) c.args.vol.now (outside (g.T.TreeSink.sink c.args.tree.now) (g.T.TreeSink.account c.args.tree.now)
     (g.O.Out.text c.args.out.now) (g.O.Out.account c.args.out.now))) (world (g.R.Rack.seen c.treat.new.rack) c.treat.new.vol (outside
     (g.T.TreeSink.sink c.treat.new.tree) (g.T.TreeSink.account c.treat.new.tree) (g.O.Out.text c.treat.new.out) (g.O.Out.account c.treat.new.out))) (world
     (g.R.Rack.seen c.treat.new.rack) c.treat.new.vol (outside (g.T.TreeSink.sink c.treat.new.tree) (g.T.TreeSink.account c.treat.new.tree)
-    (g.O.Out.text c.treat.new.out) (g.O.Out.account c.treat.new.out))) c.in-Err-treat.stop
+    (g.O.Out.text c.treat.new.out) (g.O.Out.account c.treat.new.out))) c.in_err-treat.field-0.0
     (treated_in s c.args.sums c.is_empty.result c.args.root.now c.args.dirid c.args.path.now _ c.args.counts.now
     (named_row c.args.row c.args.name.now) _ _ _ (c.as_bytes-2.ensures ∙ (c.in-Ok.ensures
-    ∙ ap (path_in c.args.path.now) c.as_bytes.ensures)) (c.in-Err-treat.ensures.ran s e))
+    ∙ ap (path_in c.args.path.now) c.as_bytes.ensures)) (c.in_err-treat.ensures.ran s e)))
 
-pub list_entry-returns-in-Ok-Over-clause-ran : goal.list_entry-returns-in-Ok-Over-clause-ran
-list_entry-returns-in-Ok-Over-clause-ran g t c s e =
+pub list_entry-returns-in-Over-clause-ran : goal.list_entry-returns-in-Over-clause-ran
+list_entry-returns-in-Over-clause-ran g t c s e =
     entry_over s c.args.sums (length c.args.below.now) c.is_empty.result (c.is_empty.ensures
     ∙ deep_is (length c.args.below.now)) c.args.root.now c.args.dirid c.args.path.now c.args.counts.now (named_row c.args.row c.args.name.now) (world
     (g.R.Rack.seen c.args.rack.now) c.args.vol.now (outside (g.T.TreeSink.sink c.args.tree.now) (g.T.TreeSink.account c.args.tree.now)
@@ -223,31 +227,31 @@ list_entry-returns-in-Ok-Over-clause-ran g t c s e =
     (named_row c.args.row c.args.name.now)) c.args.counts.now) (world (g.R.Rack.seen c.args.rack.now) c.args.vol.now (outside
     (g.T.TreeSink.sink c.args.tree.now) (g.T.TreeSink.account c.args.tree.now) (g.O.Out.text c.args.out.now) (g.O.Out.account c.args.out.now))) (world
     (g.R.Rack.seen c.treat.new.rack) c.treat.new.vol (outside (g.T.TreeSink.sink c.treat.new.tree) (g.T.TreeSink.account c.treat.new.tree)
-    (g.O.Out.text c.treat.new.out) (g.O.Out.account c.treat.new.out))) (Ok (came_to c.treat.new.counts r))) c.in-Ok-Over.field-0-is
+    (g.O.Out.text c.treat.new.out) (g.O.Out.account c.treat.new.out))) (Ok (came_to c.treat.new.counts r))) c.in-Over.is
     (treated_in s c.args.sums c.is_empty.result c.args.root.now c.args.dirid c.args.path.now _ c.args.counts.now
     (named_row c.args.row c.args.name.now) _ _ _ (c.as_bytes-2.ensures ∙ (c.in-Ok.ensures
-    ∙ ap (path_in c.args.path.now) c.as_bytes.ensures)) (c.in-Ok-Over.ensures.ran s e)))
+    ∙ ap (path_in c.args.path.now) c.as_bytes.ensures)) (c.in_ok-treat.ensures.ran s e)))
 
-pub list_entry-returns-in-Ok-Within-clause-ran : goal.list_entry-returns-in-Ok-Within-clause-ran
-list_entry-returns-in-Ok-Within-clause-ran g t c s e =
+pub list_entry-returns-in-Within-clause-ran : goal.list_entry-returns-in-Within-clause-ran
+list_entry-returns-in-Within-clause-ran g t c s e =
     let h = subst (λ (r : Treated). Ran (treated s c.args.sums (met_in c.is_empty.result c.args.root.now c.args.dirid c.args.path.now
     (named_row c.args.row c.args.name.now)) c.args.counts.now) (world (g.R.Rack.seen c.args.rack.now) c.args.vol.now (outside
     (g.T.TreeSink.sink c.args.tree.now) (g.T.TreeSink.account c.args.tree.now) (g.O.Out.text c.args.out.now) (g.O.Out.account c.args.out.now))) (world
     (g.R.Rack.seen c.treat.new.rack) c.treat.new.vol (outside (g.T.TreeSink.sink c.treat.new.tree) (g.T.TreeSink.account c.treat.new.tree)
-    (g.O.Out.text c.treat.new.out) (g.O.Out.account c.treat.new.out))) (Ok (came_to c.treat.new.counts r))) c.in-Ok-Within.field-0-is
+    (g.O.Out.text c.treat.new.out) (g.O.Out.account c.treat.new.out))) (Ok (came_to c.treat.new.counts r))) c.in-Within.is
     (treated_in s c.args.sums c.is_empty.result c.args.root.now c.args.dirid c.args.path.now _ c.args.counts.now
     (named_row c.args.row c.args.name.now) _ _ _ (c.as_bytes-2.ensures ∙ (c.in-Ok.ensures
-    ∙ ap (path_in c.args.path.now) c.as_bytes.ensures)) (c.in-Ok-Within.ensures.ran s e)) in
+    ∙ ap (path_in c.args.path.now) c.as_bytes.ensures)) (c.in_ok-treat.ensures.ran s e)) in
     entry_within s c.args.sums (length c.args.below.now) c.is_empty.result (c.is_empty.ensures
     ∙ deep_is (length c.args.below.now)) c.args.root.now c.args.dirid c.args.path.now c.args.counts.now (named_row c.args.row c.args.name.now) (world
     (g.R.Rack.seen c.args.rack.now) c.args.vol.now (outside (g.T.TreeSink.sink c.args.tree.now) (g.T.TreeSink.account c.args.tree.now)
     (g.O.Out.text c.args.out.now) (g.O.Out.account c.args.out.now))) (world (g.R.Rack.seen c.treat.new.rack) c.treat.new.vol (outside
     (g.T.TreeSink.sink c.treat.new.tree) (g.T.TreeSink.account c.treat.new.tree) (g.O.Out.text c.treat.new.out) (g.O.Out.account c.treat.new.out))) (world
     (g.R.Rack.seen c.list_within.new.rack) c.list_within.new.vol (outside (g.T.TreeSink.sink c.list_within.new.tree)
-    (g.T.TreeSink.account c.list_within.new.tree) (g.O.Out.text c.list_within.new.out) (g.O.Out.account c.list_within.new.out))) c.in-Ok-Within.inner
-    c.in-Ok-Within.dirid c.treat.new.counts _ h
+    (g.T.TreeSink.account c.list_within.new.tree) (g.O.Out.text c.list_within.new.out) (g.O.Out.account c.list_within.new.out))) c.in-Within.inner
+    c.in-Within.dirid c.treat.new.counts _ h
     (subst (λ (p : List ℕ). Ran (listed_in s c.args.sums (listing_in c.args.sums s (length c.args.below.now)) p
-    (journey.Within c.in-Ok-Within.inner c.in-Ok-Within.dirid c.treat.new.counts)) (world (g.R.Rack.seen c.treat.new.rack) c.treat.new.vol (outside
+    (journey.Within c.in-Within.inner c.in-Within.dirid c.treat.new.counts)) (world (g.R.Rack.seen c.treat.new.rack) c.treat.new.vol (outside
     (g.T.TreeSink.sink c.treat.new.tree) (g.T.TreeSink.account c.treat.new.tree) (g.O.Out.text c.treat.new.out) (g.O.Out.account c.treat.new.out))) (world
     (g.R.Rack.seen c.list_within.new.rack) c.list_within.new.vol (outside (g.T.TreeSink.sink c.list_within.new.tree)
     (g.T.TreeSink.account c.list_within.new.tree) (g.O.Out.text c.list_within.new.out) (g.O.Out.account c.list_within.new.out)))
@@ -262,5 +266,5 @@ list_within-list-requires g t c κs within = (
 
 pub list_within-returns-clause-ran : goal.list_within-returns-clause-ran
 list_within-returns-clause-ran g t c s e =
-    within_listed s c.args.sums (length c.args.frames.now) (length c.in-Some.below.now) (sym c.in-Some.ensures.cases.1) c.args.inner c.args.dirid
+    within_listed s c.args.sums (length c.args.dirs.now) (length c.in-Some.below.now) (sym c.in-Some.ensures.cases.1) c.args.inner c.args.dirid
     c.args.path.now c.args.counts.now _ _ _ (c.list.ensures.ran s e)

@@ -1,5 +1,6 @@
 use Rattle.std.proofs.Common.{sym, ◌∙◌}
-use Rattle.btr_restore.proofs.Rans.{can_look, ran_wrote, ready_next}
+use Rattle.btr_restore.proofs.Rans.{can_look, ran_wrote}
+use Rattle.btr_volume.proofs.Onward.{reads_on}
 use Rattle.btr_send.proofs.Treats.{treat_halts, treat_long, treat_then}
 use Rattle.btr_send.proofs.treating.treat.Goals as goal
 
@@ -7,7 +8,7 @@ pub decide-requires : goal.decide-requires
 decide-requires g c = record { ready = can_look c.requires.ready }
 
 pub carry_out-requires-clause-ready : goal.carry_out-requires-clause-ready
-carry_out-requires-clause-ready g c = ready_next _ _ _ c.requires.ready c.in-Ok.ensures.looked.ready.serves c.in-Ok.ensures.looked.volume
+carry_out-requires-clause-ready g c = reads_on _ _ _ c.requires.ready c.in-Ok.ensures.looked.ready.serves c.in-Ok.ensures.looked.volume
 
 pub returns-then-entry-gt-LONGEST-clause-ran : goal.returns-then-entry-gt-LONGEST-clause-ran
 returns-then-entry-gt-LONGEST-clause-ran g c s e = treat_long c.args.sums c.args.entry.now c.args.counts.now s _ _ _ _ _ c.if-entry-gt-LONGEST.true

@@ -1,6 +1,6 @@
 use Rattle.std.proofs.Common.{Ok, ap, ◌∙◌}
 use Rattle.btr_send.specs.Sending.{put}
-use Rattle.btr_send.proofs.Writings.{writing_end, writing_fault, writing_halt, writing_on}
+use Rattle.btr_restore.proofs.Writings.{writing_end, writing_fault, writing_halt, writing_on}
 use Rattle.btr_send.proofs.writing.put_next.Goals as goal
 
 pub returns-in-Err-clause-writes : goal.returns-in-Err-clause-writes

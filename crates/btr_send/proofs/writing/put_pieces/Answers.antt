@@ -2,7 +2,7 @@ use Rattle.std.proofs.Common.{Option, Ok, subst}
 use Rattle.btr_restore.specs.Running.{outside, world}
 use Rattle.btr_send.specs.declared.progress.Progress.{Progress}
 use Rattle.btr_send.specs.Sending.{put}
-use Rattle.btr_send.specs.Writing.{WritesOn}
+use Rattle.btr_restore.specs.Writing.{WritesOn}
 use Rattle.btr_send.proofs.writing.put_pieces.Goals as goal
 
 pub returns-in-Err-clause-writes : goal.returns-in-Err-clause-writes

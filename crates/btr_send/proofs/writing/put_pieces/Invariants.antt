@@ -8,7 +8,7 @@ use Rattle.btr_restore.specs.Running.{World, outside, world}
 use Rattle.btr_listing.specs.Step.{Step}
 use Rattle.btr_send.specs.declared.progress.Progress.{Progress}
 use Rattle.btr_send.specs.Sending.{at_front, put}
-use Rattle.btr_send.specs.Writing.{IsWriting}
+use Rattle.btr_restore.specs.Writing.{IsWriting}
 use Rattle.btr_send.proofs.writing.put_pieces.Given as goal
 
 abbrev pub invariant-loop-stop : goal.invariant-loop-stop

@@ -7,7 +7,7 @@ use Rattle.btr_files.specs.Sums.{kind_in}
 use Rattle.btr_restore.specs.Journey.{has_no_sums}
 use Rattle.btr_restore.specs.Running.{outside, world}
 use Rattle.btr_send.specs.Sending.{at_front, put}
-use Rattle.btr_send.proofs.Writings.{writing_first, writing_over}
+use Rattle.btr_restore.proofs.Writings.{writing_first, writing_over}
 use Rattle.btr_send.proofs.writing.write_bytes.Goals as goal
 
 pub returns-clause-ran : goal.returns-clause-ran
