@@ -4,8 +4,10 @@ use Rattle.std.specs.Option.{IfSome}
 use Rattle.btr_chunk.specs.declared.chunk.Chunk.{Chunk}
 use Rattle.btr_check.specs.Before.{refusal}
 use Rattle.btr_check.specs.Findings.{findings}
-use Rattle.btr_check.specs.Running.{OfReading, is_outside}
+use Rattle.btr_check.specs.Running.{IsUnreadOf, OfReading, StopUnread, filesystem, is_outside}
+use Rattle.btr_check.specs.Wanted.{OfCheck}
 use Rattle.btr_dump.specs.Pieces.{Text}
+use Rattle.btr_files.proofs.AheadLooks.{paired}
 use Rattle.btr_prog.specs.Answers.{Halt, Fault as halts, Follows, no_part}
 use Rattle.btr_prog.specs.Calls.{Any}
 use Rattle.btr_prog.specs.Prog.{exec}
@@ -238,6 +240,7 @@ module _ (read_data : Bool) (old mid new : Seen) (first : OnlyReads old mid) (vo
   module _ (end : Stop) (reading : OfReading end) (answer : Answer) (is : answer ≡ stop_answer end) (calm : IsNoFault (stop_answer end)) where
     stopped_one : (images : Images) → filesystem_of images ≡ Ok (filesystem_in volume)
         → (is_outside end ≡ false → refusal (filesystem_by images (filesystem_in volume)) ≡ Some end)
+        → StopUnread (IsUnreadOf volume.store.layout mid new (OfCheck read_data (filesystem_by images (filesystem_in volume)))) end
         → IsCheckedOrUnread read_data images (refused (stop_answer end))
     stopped_one images opened = of end reading
       where
@@ -246,27 +249,42 @@ module _ (read_data : Bool) (old mid new : Seen) (first : OnlyReads old mid) (vo
             (λ r. unless_refused r (listing (findings read_data (filesystem_by images (filesystem_in volume))))) e
 
         of : (s : Stop) → OfReading s → (is_outside s ≡ false → refusal (filesystem_by images (filesystem_in volume)) ≡ Some s)
+            → StopUnread (IsUnreadOf volume.store.layout mid new (OfCheck read_data (filesystem_by images (filesystem_in volume)))) s
             → IsCheckedOrUnread read_data images (refused (stop_answer s))
-        of (stop.NoTree id) r f = inl (inl (refusing (stop.NoTree id) (f refl)))
-        of (stop.Tree (tree.Lost a)) r f = inl (inl (refusing (stop.Tree (tree.Lost a)) (f refl)))
-        of (stop.Tree (tree.Unread a slot)) r f = inr (record { addr = a; slot = slot }, refl)
-        of (stop.Tree (tree.Unmapped a)) r f = inl (inl (refusing (stop.Tree (tree.Unmapped a)) (f refl)))
-        of (stop.Tree (tree.Crosses a)) r f = inl (inl (refusing (stop.Tree (tree.Crosses a)) (f refl)))
-        of (stop.Tree (tree.Malformed a)) r f = inl (inl (refusing (stop.Tree (tree.Malformed a)) (f refl)))
-        of (stop.Deletion id) r f = inl (inl (refusing (stop.Deletion id) (f refl)))
-        of stop.Balance r f = inl (inl (refusing stop.Balance (f refl)))
-        of stop.Memory r f = inl (inr (inr (inr refl)))
-        of other r f = absurd r
+        of (stop.NoTree id) r f u = inl (inl (refusing (stop.NoTree id) (f refl)))
+        of (stop.Tree (tree.Lost a)) r f u = inl (inl (refusing (stop.Tree (tree.Lost a)) (f refl)))
+        of (stop.Tree (tree.Unread a slot)) r f u = inr (record {
+          fs = filesystem_in volume;
+          opened = opened;
+          unread = record { addr = a; slot = slot };
+          want = u.0;
+          wanted = u.1;
+          named = u.2.same_addr;
+          bare = refl;
+        })
+        of (stop.Tree (tree.Unmapped a)) r f u = inl (inl (refusing (stop.Tree (tree.Unmapped a)) (f refl)))
+        of (stop.Tree (tree.Crosses a)) r f u = inl (inl (refusing (stop.Tree (tree.Crosses a)) (f refl)))
+        of (stop.Tree (tree.Malformed a)) r f u = inl (inl (refusing (stop.Tree (tree.Malformed a)) (f refl)))
+        of (stop.Deletion id) r f u = inl (inl (refusing (stop.Deletion id) (f refl)))
+        of stop.Balance r f u = inl (inl (refusing stop.Balance (f refl)))
+        of stop.Memory r f u = inl (inr (inr (inr refl)))
+        of other r f u = absurd r
 
-    pub stopped_agreed : (text : Option Text) (account : CallAccount) → Tells volume.store.layout mid new
-        (λ B. is_outside end ≡ false → refusal (record { sup = volume.sup; chunks = volume.store.layout.chunks; blocks = B }) ≡ Some end)
+    abbrev Refused : Map → Type 0
+    Refused B = is_outside end ≡ false → refusal (filesystem volume B) ≡ Some end
+
+    abbrev Named : Map → Type 0
+    Named B = StopUnread (IsUnreadOf volume.store.layout mid new (OfCheck read_data (filesystem volume B))) end
+
+    pub stopped_agreed : (text : Option Text) (account : CallAccount) → Tells volume.store.layout mid new Refused → Tells volume.store.layout mid new Named
         → IfSome old.held (λ images. AreAgreed images → Shows (IsCheckedOrUnread read_data images) text text account account answer)
-    stopped_agreed text account =
-        agreeing (λ B. is_outside end ≡ false → refusal (record { sup = volume.sup; chunks = volume.store.layout.chunks; blocks = B }) ≡ Some end)
+    stopped_agreed text account told named =
+        agreeing (λ B. Refused B × Named B)
         (λ images. Shows (IsCheckedOrUnread read_data images) text text account account answer)
         (λ images opened h.
         subst (Shows (IsCheckedOrUnread read_data images) text text account account) (sym is)
-        (shows_bare (IsCheckedOrUnread read_data images) text account (stop_answer end) (stopped_one images opened h) calm))
+        (shows_bare (IsCheckedOrUnread read_data images) text account (stop_answer end) (stopped_one images opened h.0 h.1) calm))
+        (paired volume.store.layout Refused Named (λ B. Refused B × Named B) (λ B r n. (r, n)) told named)
 
   -- the filesystem was checked, and a list of findings was put
   module _ (all : List Finding) (answer : Answer) where

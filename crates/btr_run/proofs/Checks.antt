@@ -3,7 +3,7 @@ use Rattle.std.proofs.Common.{◌≡◌, ◌≢◌, inl, inr, ℕ, true, false, 
 use Rattle.std.proofs.Common.{◌∙◌, subst, arith}
 use Rattle.btr_check.specs.Before.{refusal}
 use Rattle.btr_check.specs.Findings.{findings}
-use Rattle.btr_check.specs.Running.{OfReading, StopUnread, is_outside}
+use Rattle.btr_check.specs.Running.{IsAnyUnread, OfReading, StopUnread, is_outside}
 use Rattle.btr_check.specs.Text.{findings_text}
 use Rattle.btr_rack.specs.Rack.{Seen, OnlyReads, Steady}
 use Rattle.btr_rack.specs.Out.{CallAccount, Counts, Puts}
@@ -85,7 +85,7 @@ module _ (end : Stop) (reading : OfReading end) where
 
 -- The filesystem is open, and it isn't checked.
 module _ (read_data : Bool) (old mid new : Seen) (first : OnlyReads old mid) (second : OnlyReads mid new) (layout : Layout) (end : Stop)
-    (reading : OfReading end) (cause : StopUnread layout mid new end) (answer : Answer) (is : answer ≡ stop_answer end) where
+    (reading : OfReading end) (cause : StopUnread (IsAnyUnread layout mid new) end) (answer : Answer) (is : answer ≡ stop_answer end) where
   -- by what refuses it, or for want of memory
   stopped_one : (volume : Volume) (images : Images) → volume.store.layout ≡ layout → filesystem_of images ≡ Ok (filesystem_in volume)
       → (is_outside end ≡ false → refusal (filesystem_by images (filesystem_in volume)) ≡ Some end)
@@ -97,11 +97,12 @@ module _ (read_data : Bool) (old mid new : Seen) (first : OnlyReads old mid) (se
       refusing s e = ap (λ f. Some (check_in read_data images f)) opened ∙ ap
           (λ r. Some (unless_refused r (listing (findings read_data (filesystem_by images (filesystem_in volume)))))) e
 
-      of : (s : Stop) → OfReading s → StopUnread layout mid new s → (is_outside s ≡ false → refusal (filesystem_by images (filesystem_in volume)) ≡ Some s)
+      of : (s : Stop) → OfReading s → StopUnread (IsAnyUnread layout mid new) s
+          → (is_outside s ≡ false → refusal (filesystem_by images (filesystem_in volume)) ≡ Some s)
           → OrMemory (λ outcome. Some (check_outcome read_data images) ≡ Some outcome) (refused (stop_answer s))
       of (stop.NoTree id) r u f = inl (refusing (stop.NoTree id) (f refl))
       of (stop.Tree (tree.Lost a)) r u f = inl (refusing (stop.Tree (tree.Lost a)) (f refl))
-      of (stop.Tree (tree.Unread a slot)) r u f = absurd (none_unread layout mid new steady (record { addr = a; slot = slot }) (u.0 ∷ []) (inl u.1))
+      of (stop.Tree (tree.Unread a slot)) r u f = absurd (none_unread layout mid new steady (record { addr = a; slot = slot }) (u.0 ∷ []) (inl u.2))
       of (stop.Tree (tree.Unmapped a)) r u f = inl (refusing (stop.Tree (tree.Unmapped a)) (f refl))
       of (stop.Tree (tree.Crosses a)) r u f = inl (refusing (stop.Tree (tree.Crosses a)) (f refl))
       of (stop.Tree (tree.Malformed a)) r u f = inl (refusing (stop.Tree (tree.Malformed a)) (f refl))
@@ -134,12 +135,14 @@ module _ (read_data : Bool) (old mid new : Seen) (first : OnlyReads old mid) (se
   stopped_cause : IsLayoutOf old new layout → HasToldCause IsUnread old new (stop_answer end)
   stopped_cause own fault e told = (layout, own, of end cause (ap tree_in e ∙ tree_back fault))
     where
-      by : (f : TreeFault) → IsUnread f → StopUnread layout mid new (stop.Tree f) → FaultCause layout old new f
-      by (tree.Unread a slot) u c = cause_since new layout layout (tree.Unread a slot) refl first c
+      by : (f : TreeFault) → IsUnread f → StopUnread (IsAnyUnread layout mid new) (stop.Tree f) → FaultCause layout old new f
+      by (tree.Unread a slot) u c = cause_since new layout layout (tree.Unread a slot) refl first (c.0, c.2)
       by other u c = absurd u
 
-      of : (s : Stop) → StopUnread layout mid new s → tree_in (stop_answer s) ≡ Some fault → FaultCause layout old new fault
-      of (stop.Tree f) c e = let same : f ≡ fault = cc (sym (tree_back f) ∙ e) in by fault told (subst (λ g. StopUnread layout mid new (stop.Tree g)) same c)
+      of : (s : Stop) → StopUnread (IsAnyUnread layout mid new) s → tree_in (stop_answer s) ≡ Some fault → FaultCause layout old new fault
+      of (stop.Tree f) c e =
+          let same : f ≡ fault = cc (sym (tree_back f) ∙ e) in
+          by fault told (subst (λ g. StopUnread (IsAnyUnread layout mid new) (stop.Tree g)) same c)
       of (stop.NoTree id) c e = absurd (cc e)
       of (stop.Deletion id) c e = absurd (cc e)
       of stop.Balance c e = absurd (cc e)

@@ -18,7 +18,7 @@ use Rattle.btr_scrub.proofs.Refusing.{refused_one}
 use Rattle.btr_scrub.specs.Repair.{effect, effect_of_ending, effect_unless, first_missing, meeting}
 use Rattle.btr_scrub.specs.Scrubbed.{AnswersAs, HasEffect, IsScrubbed, called}
 use Rattle.btr_scrub.specs.Units.{Met, units_in}
-use Rattle.btr_scrub.specs.Whole.{Goes, Listed, Listing, Refused, ScrubsAll, Stopped}
+use Rattle.btr_scrub.specs.Whole.{Failed, Goes, Listed, Listing, Refused, ScrubsAll, Stopped}
 use Rattle.btr_scrub.specs.Whole as whole
 use Rattle.btr_scrub.specs.declared.tally.Tally.{Tally}
 use Rattle.btr_volume.specs.Start.{Images}
@@ -89,6 +89,7 @@ module _ (write : Bool) (old mid new : Seen) (first : OnlyReads old mid) (volume
 
     by : (at : Seen) (met : List Met) (l : Listing) → Goes volume.sup layout write mid at new met result l → LacksUnits images (refused (Unread addr slot))
     by at met Listed g = absurd (is_listed g.1.ended g.1.tally g.1.says)
+    by at met (Failed other) g = cc (sym g.0 ∙ is)
     by at met (Refused f) g = absurd (is_refused f (wants_among met) g.0 g.2)
     by at met (Stopped why) g =
         let same : why ≡ stop.Tree (tree.Unread addr slot) = cc (sym g.0 ∙ is) in

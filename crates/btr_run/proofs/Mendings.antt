@@ -12,6 +12,7 @@ use Rattle.btr_volume.specs.Opening.{SuperUnread}
 use Rattle.btr_volume.specs.Start.{Images}
 use Rattle.btr_volume.specs.declared.which.Which.TheVariants.{Images as images_limit}
 use Rattle.btr_volume.specs.declared.stop.Stop.{Stop}
+use Rattle.btr_run.specs.Commands.{IsBehindCommand}
 use Rattle.btr_run.specs.Behind.{HasTreeCause, IfSteady, IsBehind, IsFault, IsNoCrossing}
 use Rattle.btr_run.specs.Answers.{error_line}
 use Rattle.btr_run.specs.Faults.{stop_answer}
@@ -62,15 +63,15 @@ unfolding mending_writes
 writes_by images = refl
 
 -- nothing was written
-module _ (write : Bool) (old new : Seen) (answer : Answer) (behind : IsBehind MayMend IsNoCrossing old new answer) where
+module _ (write : Bool) (old new : Seen) (answer : Answer) (reads : OnlyReads old new) (behind : IsBehindCommand (Scrub write) old new answer) where
   same_held : new.held ≡ old.held
-  same_held = ap (λ (s : Seen). s.held) behind.reads.same
+  same_held = ap (λ (s : Seen). s.held) reads.same
 
-  pub unwritten : IsBare answer → IfSteady old.held old.account new.account (λ images. ScrubsTo write images (Err answer)) → Scrubs write old new (Err answer)
-  unwritten bare content = record {
+  pub left_alone : IsBare answer → IfSteady old.held old.account new.account (λ images. ScrubsTo write images (Err answer)) → Scrubs write old new (Err answer)
+  left_alone bare content = record {
     content = content;
     bare = bare;
-    behind = only_reads (Scrub write) old new answer behind;
+    behind = behind;
     leaves = λ is. leaves;
   }
     where
@@ -85,8 +86,12 @@ module _ (write : Bool) (old new : Seen) (answer : Answer) (behind : IsBehind Ma
             (λ left told'. as_they_were (Steady old.account.faults new.account.faults) images left answer
             (λ lost e. bare.line (ap error_line e ∙ found_line lost)) (the_images left images (sym told' ∙ same_held ∙ told))));
         synced = λ lost e. absurd (bare.line (ap error_line e ∙ found_line lost));
-        waits = λ none. inl (λ range there. inl (subst (λ (s : Seen). In range (waiting s)) behind.reads.same there));
+        waits = λ none. inl (λ range there. inl (subst (λ (s : Seen). In range (waiting s)) reads.same there));
       }
+
+pub unwritten : (write : Bool) (old new : Seen) (answer : Answer) → IsBehind MayMend IsNoCrossing old new answer → IsBare answer
+    → IfSteady old.held old.account new.account (λ images. ScrubsTo write images (Err answer)) → Scrubs write old new (Err answer)
+unwritten write old new answer behind = left_alone write old new answer behind.reads (only_reads (Scrub write) old new answer behind)
 
 -- the filesystem isn't opened
 pub not_opened : (write : Bool) (old new : Seen) (answer result : Answer) → result ≡ answer → IsRefusal answer → OnlyReads old new

@@ -24,7 +24,8 @@ use Rattle.btr_restore.specs.InOrder as journey
 use Rattle.btr_restore.specs.Journey.{listing}
 use Rattle.btr_restore.specs.Journey as whole
 use Rattle.btr_restore.specs.Outcome.{text_of}
-use Rattle.btr_restore.specs.Restoring.{Did, StopCause, ended, text_after}
+use Rattle.btr_restore.specs.Restoring.{Did, StopCause, text_after}
+use Rattle.btr_volume.specs.Stops.{ended}
 use Rattle.btr_restore.specs.Running.{Outside, Ran, scene_of, world}
 use Rattle.btr_listing.specs.Step.{Step, part}
 use Rattle.btr_volume.specs.Maps.{array_layout, table_of, table_or, volume_map}
@@ -71,7 +72,8 @@ adds_after None new steps is = is
 adds_after (Some text) new steps is = is ∙ ap (λ l. Some (text ++ l)) (sym (append-nil (text_of steps)))
 
 -- what a call did stands
-pub did_stand : {Says : (UnreadBlock → Want → Type 0) → (ℕ → Map) → List Step → Type 0} (layout : Layout) (mid new : Seen) (volume after : Volume) (x y : Outside)
+pub did_stand : {Says : (UnreadBlock → Want → Type 0) → (ℕ → Map) → List Step → Type 0} (layout : Layout) (mid new : Seen) (volume after : Volume)
+    (x y : Outside)
     (did : Did layout (scene_of (world mid volume x)) (scene_of (world new after y)) Says) → Stands x y did.done []
 did_stand layout mid new volume after x y did = record { sink = did.sink; text = adds_after x.text y.text did.done did.text }
 

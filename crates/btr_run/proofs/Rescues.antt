@@ -15,7 +15,7 @@ use Rattle.btr_read.specs.declared.want.Want.{Want}
 use Rattle.btr_restore.specs.Committed.{Commit, committed, want_of}
 use Rattle.btr_restore.specs.Journey.{journey}
 use Rattle.btr_scrub.proofs.Lists.{all_in, in_any}
-use Rattle.btr_scrub.specs.Glue.{In}
+use Rattle.btr_scrub.specs.BlocksInRows.{In}
 use Rattle.btr_scrub.proofs.Blockwise.{of_targets}
 use Rattle.btr_scrub.proofs.Survival.{of_filter}
 use Rattle.btr_scrub.proofs.Told.{targets_met}

@@ -12,7 +12,8 @@ use Rattle.btr_rack.specs.Rack.{NoneFailed, OnlyReads, Seen, Steady}
 use Rattle.btr_read.specs.Fate.{Agreed, Fault, choices, fate}
 use Rattle.btr_read.specs.Layout.{Layout}
 use Rattle.btr_read.specs.declared.want.Want.{Want}
-use Rattle.btr_restore.specs.Restoring.{Did, OutCounts, SinkCounts, StopCause, ended}
+use Rattle.btr_restore.specs.Restoring.{Did, OutCounts, SinkCounts, StopCause}
+use Rattle.btr_volume.specs.Stops.{ended}
 use Rattle.btr_restore.specs.Running.{Outside, Ran, scene_of, world}
 use Rattle.btr_volume.specs.Lookup.{Program}
 use Rattle.btr_volume.specs.Opening.{SuperUnread}

@@ -24,9 +24,11 @@ use Rattle.btr_scrub.specs.Repair.{effect_of_ending, effect_unless, first_missin
 use Rattle.btr_scrub.specs.Right.{Committed, IsCommitted, SparedStand}
 use Rattle.btr_scrub.specs.Scrubbed.{IsSafe, called}
 use Rattle.btr_scrub_copies.specs.Syncing.{plain}
+use Rattle.btr_scrub.specs.WrittenRanges.{LiesInStripe}
+use Rattle.btr_run.proofs.Performing.{reads_keep}
 use Rattle.btr_scrub.specs.Scrubbing.{IsOfScrub, Works}
 use Rattle.btr_scrub.specs.Units.{Met, units_in}
-use Rattle.btr_scrub.specs.Whole.{Goes, Listed, ListedCounts, ListedWrites, Listing, Refused, ScrubsAll, Stopped, first_tally, listed_count_for}
+use Rattle.btr_scrub.specs.Whole.{Failed, Goes, Listed, ListedCounts, ListedWrites, Listing, Refused, ScrubsAll, Stopped, first_tally, listed_count_for}
 use Rattle.btr_scrub.specs.Whole.{listed_writes_for}
 use Rattle.btr_scrub.specs.Whole as whole
 use Rattle.btr_scrub.specs.declared.tally.Tally.{Tally}
@@ -61,7 +63,7 @@ use Rattle.btr_run.proofs.Causing.{rose_behind, some_fresh}
 use Rattle.btr_run.proofs.Checks.{listed_no_image, listed_no_tree, listed_none, stop_calm, stop_line, stop_no_image, stop_none}
 use Rattle.btr_run.proofs.Faulting.{no_tree, tree_back, tree_in}
 use Rattle.btr_run.proofs.TreesShown.{NoneOf, mends_of, none_unread, steadily}
-use Rattle.btr_run.proofs.Mendings.{answered, each_told, images_by, the_images, left_nothing, outcome_by, steady_not_rose, stop_place, told_at, unwritten}
+use Rattle.btr_run.proofs.Mendings.{answered, each_told, images_by, the_images, left_nothing, outcome_by, steady_not_rose, stop_place, left_alone, told_at, unwritten}
 use Rattle.btr_run.proofs.Mendings.{writes_by}
 
 -- an answer that has a line isn't that of a scrub that was finished
@@ -239,6 +241,50 @@ module _ (write : Bool) (old mid : Seen) (first : OnlyReads old mid) (volume : V
     listing_refused f wants r tells = let one = refused_one layout 0 wants f r in halted (stop.Tree f) (refused_cause f one.0 one.1.0 one.1.1)
         (each_told old.held (λ images. Steady old.account.faults at.account.faults → ScrubsTo write images (Err (tree_answer f)))
         (λ images told steady. absurd (sure_told (λ B. ⊥) at second tells images told (inl steady)).1))
+
+    -- an image failed as listed blocks were looked at
+    module _ (new : Seen) (later : OnlyReads at new) (slot : ℕ) (f : FailsAt (LiesInStripe layout) slot at new) where
+      looked : OnlyReads old new
+      looked = reads_more all later
+
+      unlooked : ScrubFails old new slot
+      unlooked = record {
+        mid = at;
+        reads = all;
+        layout = layout;
+        is = opened_layout old mid at volume first second opened;
+        failed = record {
+          place = f.place;
+          of_scrub = inr f.lies;
+          on_slot = f.on_slot;
+          unsure = f.failed.unsure;
+          last = f.failed.one.last;
+          no_opening = f.failed.read;
+          faults = f.failed.one.faults;
+          fresh = some_fresh at.account.fresh new.account.fresh f.failed.one.fresh;
+          shut = f.failed.shut;
+        };
+      }
+
+      pub listing_failed : Scrubs write old new (Err (ImageFault slot))
+      listing_failed = left_alone write old new (ImageFault slot) looked
+          (record {
+            keeps = reads_keep old new looked;
+            reads = λ none. looked;
+            held = λ is. ap (λ (s : Seen). s.held) looked.same;
+            image = λ other e. inr (tt, subst (ScrubFails old new) (the_slot slot other e) unlooked);
+            tree = λ g e. absurd (no_tree (ImageFault slot) refl g e);
+            hidden = inr (inr (mends_of (ImageFault slot) tt));
+            no_usage = λ n e. cc;
+            no_limit = λ n e. cc;
+          })
+          (record { no_fault = record { no_out = λ e. cc; no_sink = λ e. cc }; line = λ e. cc })
+          (each_told old.held (λ images. Steady old.account.faults new.account.faults → ScrubsTo write images (Err (ImageFault slot)))
+          (λ images told steady. absurd (steady_not_rose old.account.faults new.account.faults steady
+          (rose_behind old.account.faults at.account.faults new.account.faults all.later f.failed.one.faults))))
+        where
+          the_slot : (a b : ℕ) → ImageFault a ≡ ImageFault b → a ≡ b
+          the_slot a b e = cc e
 
     -- the blocks were listed, and mended
     module _ (listed : ListedWrites) (countings : ListedCounts) (table : IsTable layout.chunks) (new : Seen) (had : HasBlocks new) (done : List Met)
@@ -446,6 +492,7 @@ module _ (write : Bool) (old mid : Seen) (first : OnlyReads old mid) (volume : V
       by given at second done (Stopped why) g = ended_as (Err why) at g.0 g.1 (listing_stopped given at second why g.3 done g.2)
       by given at second done Listed g = ended_as (whole.answer_of g.1.ended g.1.tally) new g.1.says refl
           (worked given at second listed countings table new safe.left done g.0 g.1.tally g.1.ended g.1.works)
+      by given at second done (Failed slot) g = ended_as (Err (stop.Image slot)) new g.0 refl (listing_failed given at second new g.1 slot g.2)
       by given at second done (Refused f) g = ended_as (Err (stop.Tree f)) at g.0 g.1 (listing_refused given at second f (wants_among done) g.2 g.3)
 
       of : (m : Option Stripe) → first_missing layout ≡ m → IfSome m (λ stripe. (result ≡ Err (stop.Missing stripe.devid)) × (new ≡ mid))

@@ -18,7 +18,7 @@ use Rattle.btr_walk.specs.declared.fault.TreeFault.TheVariants as tree
 use Rattle.btr_volume.specs.declared.stop.Stop.{Stop}
 use Rattle.btr_volume.specs.declared.stop.Stop.TheVariants.{NoTree, Tree, Out, Memory}
 use Rattle.btr_dump.specs.Pieces.{Text}
-use Rattle.btr_dump.specs.Showing.{TextRun, part, whole, Puts, PutsAsked}
+use Rattle.btr_dump.specs.Showing.{TextRun, part, whole, PutsText, PutsAsked}
 use Rattle.btr_dump.specs.Stops.{StopCounts}
 use Rattle.btr_run.specs.Filesystem.{fault_answer}
 use Rattle.btr_run.specs.Outcomes.{Outcome, IsNoFault, Shows, showing}
@@ -149,7 +149,7 @@ HasUnread Is r IsOne =
 -- a call that shows a run comes to its outcome, or to a first part, up to a block that could not be read
 module _ (Is : UnreadBlock → Want → Type 0) (IsOne : Outcome → Type 0) (old new : Option Text) (before after : CallAccount) where
   pub puts_come : (r : TextRun (Unit {0})) → IsOne (showing (shown_by whole_answer r)) → HasUnread Is r IsOne → (result : Result (Unit {0}) Stop)
-      → Puts Is r old new result → StopCounts before after result → Shows IsOne old new before after (call_answer result)
+      → PutsText Is r old new result → StopCounts before after result → Shows IsOne old new before after (call_answer result)
   puts_come r one unread (Ok u) puts counts = ended whole_answer fine_whole r IsOne one old new before after puts.done puts.adds (Ok tt) puts.follows counts
   puts_come r one unread (Err (Tree (tree.Lost a))) puts counts = ended whole_answer fine_whole r IsOne one old new before after puts.done puts.adds
       (Err (fault.Lost a)) puts.follows counts

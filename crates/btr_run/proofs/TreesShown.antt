@@ -4,7 +4,7 @@ use Rattle.std.proofs.Common.{arith}
 use Rattle.std.specs.Option.{IfSome}
 use Rattle.std.proofs.lemmas.List.{take_all}
 use Rattle.btr_dump.specs.Pieces.{Text}
-use Rattle.btr_dump.specs.Showing.{Grows, TextRun, TellsBlock, Puts, PutsAsked}
+use Rattle.btr_dump.specs.Showing.{Grows, TextRun, TellsBlock, PutsText, PutsAsked}
 use Rattle.btr_dump.specs.Stops.{StopCause, StopCounts}
 use Rattle.btr_walk.proofs.Fetched.{cause_since}
 use Rattle.btr_prog.specs.Answers.{Names}
@@ -102,7 +102,7 @@ module _ (layout : Layout) (old new : Seen) where
   module _ (text text' : Option Text) (before after : CallAccount) (result : Result (Unit {0}) Stop) (counts : StopCounts before after result) where
     -- what a call comes to that shows the text of a run
     pub run_comes : (run : Map → TextRun (Unit {0}))
-        → IfSteady old.held old.account new.account (λ images. Puts Is (run (fate images layout)) text text' result)
+        → IfSteady old.held old.account new.account (λ images. PutsText Is (run (fate images layout)) text text' result)
         → IfSteady old.held old.account new.account
         (λ images. Shows (λ outcome. outcome ≡ showing (shown_by whole_answer (run (fate images layout)))) text text' before after (call_answer result))
     run_comes run =
@@ -123,7 +123,7 @@ module _ (layout : Layout) (old new : Seen) where
 
     -- what it comes to where the images agree in what it reads
     module _ (Agrees : Images → Type 0) where
-      pub run_agreed : (run : Map → TextRun (Unit {0})) → IfSome old.held (λ images. Agrees images → Puts Is (run (fate images layout)) text text' result)
+      pub run_agreed : (run : Map → TextRun (Unit {0})) → IfSome old.held (λ images. Agrees images → PutsText Is (run (fate images layout)) text text' result)
           → IfSome old.held (λ images. Agrees images → Shows
           (λ outcome. (outcome ≡ showing (shown_by whole_answer (run (fate images layout))))
           ⊎ BreaksOff (run (fate images layout)) outcome) text text' before after (call_answer result))

@@ -3,13 +3,15 @@ use Rattle.std.specs.Prelude.{◌≡◌, ◌⊎◌, ◌≤◌, Bool, length, Som
 use Rattle.btr_prog.specs.Answers.{Names}
 use Rattle.btr_prog.specs.Prog.{wants_of}
 use Rattle.btr_rack.specs.Rack.{Shelf}
+use Rattle.btr_check.specs.Wanted.{OfCheck}
 use Rattle.btr_read.specs.Want.{addr_of}
+use Rattle.btr_read.specs.declared.want.Want.{Want}
 use Rattle.btr_restore.specs.Running.{Outside}
 use Rattle.btr_scrub.specs.Repair.{meeting}
 use Rattle.btr_scrub.specs.declared.tally.Tally.{Tally}
 use Rattle.btr_volume.specs.Start.{Images}
 use Rattle.btr_walk.specs.Reading.{UnreadBlock}
-use Rattle.btr_run.specs.Checked.{check_outcome}
+use Rattle.btr_run.specs.Checked.{check_outcome, filesystem_by}
 use Rattle.btr_run.specs.Commands.{MayCome}
 use Rattle.btr_run.specs.Effects.{MayWantBy}
 use Rattle.btr_run.specs.Filesystem.{Filesystem, filesystem_of}
@@ -26,12 +28,22 @@ use Rattle.btr_run.specs.declared.plan.Command.{Command}
 use Rattle.btr_run.specs.declared.plan.Command.TheVariants.{Super, Ask, Check, Scrub, SelfTest}
 use Rattle.btr_run.specs.declared.plan.Plan.{Plan}
 
+-- a block could not be read that the check wants, and nothing is put but its line
+pub record LacksBlock (read_data : Bool) (images : Images) (outcome : Outcome) : Type 0 where
+  pub fs : Filesystem
+  pub opened : filesystem_of images ≡ Ok fs
+  pub unread : UnreadBlock
+  pub want : Want
+  pub wanted : OfCheck read_data (filesystem_by images fs) want
+  pub named : unread.addr ≡ addr_of want
+  pub bare : outcome ≡ refused (Unread unread.addr unread.slot)
+
 -- a check comes to what the images hold, or to a block that could not be read, before anything is
 -- put
 abbrev pub IsCheckedOrUnread : Bool → Images → Outcome → Type 0
 IsCheckedOrUnread read_data images outcome =
     IsOrUnopened images (check_outcome read_data images) outcome
-    ⊎ ((unread : UnreadBlock) × (outcome ≡ refused (Unread unread.addr unread.slot)))
+    ⊎ LacksBlock read_data images outcome
 
 -- a block could not be read that is wanted where the checked blocks are listed, and nothing is put
 -- but its line

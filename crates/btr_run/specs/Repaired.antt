@@ -5,7 +5,7 @@ use Rattle.btr_scrub_copies.specs.Turns.{WaitsAt}
 use Rattle.btr_scrub_copies.specs.Writes.{IsStopped}
 use Rattle.btr_rack.specs.Rack.{OnlyReads, Rose, Seen, Shelf, Slot, Steady}
 use Rattle.btr_read.specs.Layout.{Layout}
-use Rattle.btr_scrub.specs.Leaves.{WaitsInOne}
+use Rattle.btr_scrub.specs.WrittenRanges.{WaitsInOne}
 use Rattle.btr_scrub.specs.Right.{Committed, IsCommitted, SparedStand}
 use Rattle.btr_scrub.specs.declared.tally.Tally.{Tally}
 use Rattle.btr_volume.specs.Start.{Images}

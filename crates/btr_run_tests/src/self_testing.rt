@@ -1,7 +1,7 @@
 // `self-test`: the volume of `Builder` and volumes that are given, sound and spoiled, and an output
 // that fails.
 ghost use Rattle.std.specs.Prelude.{IfOk};
-ghost use Rattle.btr_make.specs.Shelf.{IsReady};
+ghost use Rattle.btr_make.specs.Shelf.{IsShelved};
 
 use btr_make::{Builder, Given, Maker, make, spoil};
 use btr_rack::MemRack;
@@ -29,7 +29,7 @@ const LINES: &[u8] = b"self-test 1\ndirectories 1 files 4 bytes 24576\n";
 
 // The volume of so many directories, some of whose images are spoiled.
 fn volume_of(alloc: Global, number: u64, spoiled: &[&str]) -> Result<MemRack, CallFault>
-    ensures { IfOk result IsReady }
+    ensures { IfOk result IsShelved }
 {
     if number < 1 || number > 1000 {
         return Err(CallFault::Image);

@@ -107,7 +107,7 @@ returns-in_err-findings-clause-agreed g c =
     let result = answer_of c.from_residual-in_err-findings.result in
     let gives = answer_gives c.from_residual-in_err-findings.result (stop_answer end) c.from_residual-in_err-findings.ensures.1 in
     stopped_agreed c.args.read_data old mid new c.in_ok-volume.ensures.reads volume c.in_ok-volume.ensures.opened end ran.quiet result gives
-    (stop_calm end ran.quiet) (g.O.Out.text c.args.out.now) (g.O.Out.account c.args.out.now) ran.told
+    (stop_calm end ran.quiet) (g.O.Out.text c.args.out.now) (g.O.Out.account c.args.out.now) ran.told ran.named
 
 pub returns-in_err-count-clause-effect : goal.returns-in_err-count-clause-effect
 returns-in_err-count-clause-effect g c =

@@ -15,7 +15,8 @@ use Rattle.btr_read.specs.declared.want.Want.{Want}
 use Rattle.btr_resolve.specs.Resolving.{resolved}
 use Rattle.btr_resolve.specs.Running as call
 use Rattle.btr_restore.specs.Outcome.{text_of}
-use Rattle.btr_restore.specs.Restoring.{StopCause, SinkCounts, OutCounts, ended, sink_after}
+use Rattle.btr_restore.specs.Restoring.{StopCause, SinkCounts, OutCounts, sink_after}
+use Rattle.btr_volume.specs.Stops.{ended}
 use Rattle.btr_restore.specs.Running.{Outside, outside}
 use Rattle.btr_volume.specs.Start.{Images}
 use Rattle.btr_volume.specs.declared.stop.Stop.{Stop}
@@ -133,11 +134,6 @@ module _ (layout : Layout) (old new : Seen) where
   counts_are calls calls' (Err stop.Sink) cause counts = absurd cause
   counts_are calls calls' e cause counts = counts
 
-  halts_are : (r : Run Want Fault Step ℕ) (done : List Step) (e : Result ℕ Stop) → call.StopCause layout old new e
-      → Follows (unread_by layout old new) step.part [] r done (call.ended e) → Follows (unread_by layout old new) step.part [] r done (ended e)
-  halts_are r done (Err (stop.NoTree id)) cause f = absurd cause
-  halts_are r done e cause f = f
-
   no_tree : (id : ℕ) (e : Result ℕ Stop) → e ≡ Err (stop.NoTree id) → call.StopCause layout old new e → ⊥
   no_tree id e is cause = subst (call.StopCause layout old new) is cause
 
@@ -164,14 +160,13 @@ module _ (addr : ℕ) (old mid new : Seen) (first : OnlyReads old mid) (volume a
   did : (s : Sink) (c : CallAccount) → Stands (x s c) (y s c) done []
   did s c = lines_stand ran.lines s c text text' calls calls' ran.adds
 
-  follows : (B : Map) → Follows (unread_by layout mid new) call.part [] (exec B (resolved volume.sup layout.chunks addr)) ran.lines (call.ended result)
+  follows : (B : Map) → Follows (unread_by layout mid new) call.part [] (exec B (resolved volume.sup layout.chunks addr)) ran.lines (ended result)
       → Follows (unread_by layout mid new) step.part [] (lined (exec B (resolved volume.sup layout.chunks addr))) done (ended result)
   follows B f =
-      halts_are layout mid new (lined (exec B (resolved volume.sup layout.chunks addr))) done result ran.cause
-      (follows_lined (unread_by layout mid new) (exec B (resolved volume.sup layout.chunks addr)) ran.lines (call.ended result) f)
+      follows_lined (unread_by layout mid new) (exec B (resolved volume.sup layout.chunks addr)) ran.lines (ended result) f
 
   abbrev IsFollowed : Map → Type 0
-  IsFollowed B = Follows (unread_by layout mid new) call.part [] (exec B (resolved volume.sup layout.chunks addr)) ran.lines (call.ended result)
+  IsFollowed B = Follows (unread_by layout mid new) call.part [] (exec B (resolved volume.sup layout.chunks addr)) ran.lines (ended result)
 
   abbrev row : Row
   row = resolve_row addr
