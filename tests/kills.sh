@@ -1,0 +1,133 @@
+#!/bin/bash
+# Kills a scrub at random moments, over damaged images of filesystems that mkfs.btrfs and the kernel made:
+#
+#     tests/kills.sh PROGRAM [FOLDER]
+#
+# For each profile a filesystem of 300 MB of files is written, and sectors of one copy are spoiled (of one device in RAID5 and RAID6). One scrub runs to its end.
+# Then, twenty times, a scrub of the same images is killed (SIGKILL) at some moment, each time at another; a `restore` of what it left has to write every
+# file as it was, and a second scrub has to leave the images that the one without a kill left, byte for byte.
+#
+# ONLY="NAME.." takes these profiles alone, TIMES=N kills N times, SIZE=M writes M MB, and KEEP=1 keeps the images. It needs root, loop devices, a kernel with
+# btrfs, btrfs-progs and some 4 GB. The gate doesn't run it.
+set -u
+program=$(readlink -f "${1:?tests/kills.sh PROGRAM [FOLDER]}")
+room=${2:-$(mktemp -d)}
+mkdir -p "$room"
+failed=0
+passed=0
+
+# Counts whether what was said is what was wanted.
+holds() {
+    if [ "$2" = "$3" ]; then passed=$((passed + 1)); else failed=$((failed + 1)) && echo "$1: $2 (wanted: $3)"; fi
+}
+
+# Attaches the images to loop devices, in their order, and has the kernel know of these alone.
+attach() {
+    devices=()
+    for image in "$@"; do devices+=("$(losetup -f --show "$image")"); done
+    btrfs device scan "${devices[@]}" >/dev/null
+}
+
+detach() {
+    for device in "${devices[@]}"; do btrfs device scan --forget "$device" >/dev/null 2>&1; losetup -d "$device"; done
+}
+
+# Makes the filesystem of a profile, with files of different sizes, and keeps the sums of the files.
+make() {
+    local count=$1 profile=$2
+    images=()
+    for i in $(seq 1 "$count"); do truncate -s "${DEVICE:-800M}" "$at/$i" && images+=("$at/$i"); done
+    mkfs.btrfs -q -f -d "$profile" -m "$profile" "${images[@]}" >"$at/log" 2>&1 || return 1
+    attach "${images[@]}"
+    mount "${devices[0]}" "$at/mount"
+    for i in $(seq 1 "${SIZE:-300}"); do head -c $((1000000 + i * 137)) /dev/urandom >"$at/mount/$i"; done
+    (cd "$at/mount" && sha256sum -- * | sort -k2) >"$at/sums"
+    umount "$at/mount"
+    detach
+}
+
+# Spoils every hundredth sector that isn't empty, from a byte on, so many bytes, but for each second 64 MiB.
+spoil() {
+    python3 - "$@" <<'P'
+import random, sys
+path, start, length = sys.argv[1], int(sys.argv[2]), int(sys.argv[3])
+random.seed(start)
+with open(path, "r+b") as image:
+    for at in range(start, start + length, 100 * 4096):
+        image.seek(at)
+        if at // (64 << 20) % 2 == 0 and any(image.read(4096)):
+            image.seek(at)
+            image.write(random.randbytes(4096))
+P
+}
+
+# Spoils one copy of what is on the images: what lies on the second one, or, where there is but one, the first copy of each chunk.
+damage() {
+    if [ "${#images[@]}" -gt 1 ]; then spoil "${images[1]}" $((16 << 20)) $(($(stat -c %s "${images[1]}") - (16 << 20))) && return; fi
+    btrfs inspect-internal dump-tree -t chunk "${images[0]}" 2>/dev/null |
+        awk '/CHUNK_ITEM/ { go = 0 } /length .* type DATA\|DUP/ { go = 1; len = $2 } /stripe 0 devid/ { if (go) print $NF, len }' |
+        while read -r start length; do spoil "${images[0]}" "$start" "$length"; done
+}
+
+# Whether a restore of the images writes each file as it was.
+whole() {
+    rm -rf "$at/restored" && mkdir "$at/restored"
+    "$program" restore "$at/restored" "$@" >"$at/said" 2>&1 || { echo "restore: $(tail -n 1 "$at/said")" && return; }
+    (cd "$at/restored" && sha256sum -- * | sort -k2) | cmp -s - "$at/sums" && echo whole || echo "other files"
+}
+
+copy() {
+    for i in "${!images[@]}"; do cp --sparse=always "$1$i" "$2$i"; done
+}
+
+# How many of the images of two sets differ.
+differing() {
+    local n=0
+    for i in "${!images[@]}"; do cmp -s "$1$i" "$2$i" || n=$((n + 1)); done
+    echo "$n"
+}
+
+one() {
+    case " ${ONLY:-$1} " in *" $1 "*) ;; *) return ;; esac
+    local name=$1 count=$2 profile=$3 began took set begun=0
+    at="$room/$name"
+    rm -rf "$at" && mkdir -p "$at/mount"
+    make "$count" "$profile" || { echo "$name: not made here" && return; }
+    damage
+    for i in "${!images[@]}"; do mv "${images[i]}" "$at/bad$i"; done
+    copy "$at/bad" "$at/whole"
+    set=() && for i in "${!images[@]}"; do set+=("$at/whole$i"); done
+    began=$(date +%s%N)
+    "$program" scrub start "${set[@]}" >"$at/scrubbed"
+    holds "$name: a scrub without a kill, status" "$?" 0
+    took=$(($(date +%s%N) - began))
+    holds "$name: behind it" "$(whole "${set[@]}")" whole
+    echo "$name: $(tail -n 1 "$at/scrubbed"), $((took / 1000000)) ms"
+    set=() && for i in "${!images[@]}"; do set+=("$at/cut$i"); done
+    for turn in $(seq 1 "${TIMES:-20}"); do
+        copy "$at/bad" "$at/cut"
+        moment=$((took * turn / (${TIMES:-20} + 1) / 1000 + RANDOM % 5000))
+        "$program" scrub start "${set[@]}" >/dev/null &
+        worker=$!
+        sleep "$(printf '%d.%06d' $((moment / 1000000)) $((moment % 1000000)))"
+        kill -KILL "$worker" 2>/dev/null
+        wait "$worker" 2>/dev/null
+        written=$(differing "$at/bad" "$at/cut")
+        holds "$name: killed after $moment us, restore" "$(whole "${set[@]}")" whole
+        "$program" scrub start "${set[@]}" >"$at/again"
+        holds "$name: killed after $moment us, a second scrub, status" "$?" 0
+        holds "$name: killed after $moment us, images that differ from those of one scrub" "$(differing "$at/whole" "$at/cut")" 0
+        [ "$written" = 0 ] || begun=$((begun + 1))
+    done
+    echo "$name: $begun of ${TIMES:-20} were killed with something written"
+    [ -n "${KEEP:-}" ] || rm -rf "$at"
+}
+
+one raid1 2 raid1
+one raid5 3 raid5
+one raid6 4 raid6
+one raid10 4 raid10
+one dup 1 dup
+[ -n "${KEEP:-}" ] || [ -n "${2:-}" ] || rm -rf "$room"
+echo "$passed passed, $failed failed"
+[ "$failed" = 0 ]
