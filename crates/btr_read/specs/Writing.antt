@@ -1,6 +1,7 @@
 -- What reading into slots may do to a pool.
 use Rattle.std.specs.Prelude.{◌≡◌, ◌≢◌, ℕ, Bool, true, false, List, [], ◌∷◌, length, slice_index_or, slice_set, Option, Some, None, IsSome, ◌≤◌, ◌+◌, ◌-◌, ◌^◌, min}
 use Rattle.btr_pool.specs.Slots.{Slots, IsLive, IsFree, bytes_at}
+use Rattle.btr_read.specs.declared.row_slots.RowSlots.{RowSlots}
 use Rattle.btr_read.specs.declared.want.Want.{Want}
 
 -- the loans stay as they are, and only one of them, and slots that are free, change their bytes
@@ -38,6 +39,10 @@ pub record AreFour (pool : Slots) (a b c d : ℕ) : Type 0 where
   pub ad : a ≢ d
   pub bd : b ≢ d
   pub cd : c ≢ d
+
+-- the slots of a row are four live loans of a pool, each of a slot of its own
+abbrev pub AreRowSlots : Slots → RowSlots → Type 0
+AreRowSlots pool slots = AreFour pool slots.sought.now slots.p.now slots.q.now slots.spare.now
 
 -- what is still known to stand in the slots was known before, and its bytes stand
 abbrev pub StillKept : List (Option Want) → List (Option Want) → Slots → Slots → Type 0

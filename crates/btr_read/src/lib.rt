@@ -26,6 +26,7 @@ mod parity;
 mod passing;
 mod reading;
 mod rebuilding;
+mod row_slots;
 mod search;
 mod setting;
 mod solving;

@@ -2,12 +2,13 @@
 ghost use Rattle.std.specs.Prelude.{◌≡◌, ◌≢◌, ℕ, ◌+◌, ◌≤◌, List, [], ◌∷◌, length, take};
 ghost use Rattle.btr_read.specs.declared.parity.Parity.{Parity};
 ghost use Rattle.btr_read.specs.Folding.{front_of, AddsTwice, SolvesFront, SolvesWith, SolvesPiece, SolvesRange};
-ghost use Rattle.btr_read.specs.Writing.{AreFour, OnlyWritesIn};
+ghost use Rattle.btr_read.specs.Writing.{AreRowSlots, OnlyWritesIn};
 ghost use Rattle.btr_parity.specs.Solutions.{IsTheOne, Weighs};
 ghost use Rattle.btr_pool.specs.Slots.{IsLive, bytes_at, with_bytes};
 
 use crate::folding::{PIECE, add_slot, copy_slot};
 use crate::parity::Parity;
+use crate::row_slots::RowSlots;
 use btr_parity::{rebuild_pq, rebuild_q};
 use btr_pool::{Loan, Pool};
 
@@ -53,31 +54,28 @@ pub(crate) fn solve(pool: &mut Pool, p: &Loan, q: &Loan, len: usize, index: u8, 
 }
 
 // Makes the first of two slices in a slot of its own, of what P and Q leave of it in two others and of the second slice as
-// it was read in a fourth; what P and Q leave of it stands behind this as before.
-pub(crate) fn solve_with(
-    pool: &mut Pool,
-    loan: &Loan,
-    p: &Loan,
-    q: &Loan,
-    slice: &Loan,
-    len: usize,
-    index: u8,
-    other: u8,
-)
-    requires loans { AreFour pool.old loan.now p.now q.now slice.now }
+// it was read in the spare one; what P and Q leave of it stands behind this as before.
+pub(crate) fn solve_with(pool: &mut Pool, slots: &RowSlots<'_>, len: usize, index: u8, other: u8)
+    requires loans { AreRowSlots pool.old slots.now }
     requires fits { len ≤ pool.old.size }
     requires is_index { index ≤ 62 }
     requires is_other_index { other ≤ 62 }
     requires differ { index ≢ other }
-    ensures writes { OnlyWritesIn (q.now ∷ loan.now ∷ []) pool.old pool.new }
-    ensures one { SolvesWith index other len pool.old pool.new loan.now p.now q.now slice.now }
-    ensures twice { AddsTwice other len pool.old pool.new q.now slice.now }
+    ensures writes { OnlyWritesIn (slots.now.q.now ∷ slots.now.sought.now ∷ []) pool.old pool.new }
+    ensures one { SolvesWith index other len pool.old pool.new slots.now.sought.now slots.now.p.now slots.now.q.now slots.now.spare.now }
+    ensures twice { AddsTwice other len pool.old pool.new slots.now.q.now slots.now.spare.now }
 {
-    copy_slot(pool, loan, p, len);
-    add_slot(Parity::P, pool, loan, slice, len, other);
-    add_slot(Parity::Q, pool, q, slice, len, other);
-    solve(pool, loan, q, len, index, other);
-    add_slot(Parity::Q, pool, q, slice, len, other);
+    let RowSlots {
+        sought,
+        p,
+        q,
+        spare,
+    } = *slots;
+    copy_slot(pool, sought, p, len);
+    add_slot(Parity::P, pool, sought, spare, len, other);
+    add_slot(Parity::Q, pool, q, spare, len, other);
+    solve(pool, sought, q, len, index, other);
+    add_slot(Parity::Q, pool, q, spare, len, other);
 }
 
 // Solves for the piece from a place on, as long as the buffer that Q's goes through.

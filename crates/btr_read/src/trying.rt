@@ -17,6 +17,7 @@ use crate::candidate::Candidate;
 use crate::kept::{Kept, take_least};
 use crate::reading::read_into;
 use crate::rebuilding::try_rebuilt;
+use crate::row_slots::RowSlots;
 use crate::search::Search;
 use crate::syndromes::try_row;
 use btr_chunk::{Part, Profile};
@@ -181,7 +182,13 @@ fn try_by_parities<R: Rack>(
     let p = take_least(pool, kept);
     let q = take_least(pool, kept);
     let spare = take_least(pool, kept);
-    let trial = try_row(search, failed, rack, pool, loan, &p, &q, &spare);
+    let slots = RowSlots {
+        sought: loan,
+        p: &p,
+        q: &q,
+        spare: &spare,
+    };
+    let trial = try_row(search, failed, rack, pool, &slots);
     pool.give(spare);
     pool.give(q);
     pool.give(p);

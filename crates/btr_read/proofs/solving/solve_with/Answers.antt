@@ -17,9 +17,9 @@ pub copy_slot-requires-clause-live : goal.copy_slot-requires-clause-live
 copy_slot-requires-clause-live c = c.requires.loans.first.a_live
 
 pub add_slot-requires-clause-live : goal.add_slot-requires-clause-live
-add_slot-requires-clause-live c = live c.args.pool.now c.copy_slot.new.pool c.args.loan.now c.args.loan.now c.copy_slot.ensures.kept
+add_slot-requires-clause-live c = live c.args.pool.now c.copy_slot.new.pool c.args.slots.now.sought.now c.args.slots.now.sought.now c.copy_slot.ensures.kept
     c.requires.loans.first.a_live
 
 pub add_slot-requires-clause-other_live : goal.add_slot-requires-clause-other_live
-add_slot-requires-clause-other_live c = live c.args.pool.now c.copy_slot.new.pool c.args.slice.now c.args.loan.now c.copy_slot.ensures.kept
+add_slot-requires-clause-other_live c = live c.args.pool.now c.copy_slot.new.pool c.args.slots.now.spare.now c.args.slots.now.sought.now c.copy_slot.ensures.kept
     c.requires.loans.d_live

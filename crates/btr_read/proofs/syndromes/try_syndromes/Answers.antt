@@ -22,7 +22,7 @@ returns-then-passes-clause-trial g c = λ before is h.
     let after = g.R.Rack.seen c.try_by_syndromes.new.rack in
     let cand = c.candidate-candidate.result in
     let e = c.in-Ok.ensures in
-    let slot = bytes_at c.try_by_syndromes.new.pool c.args.loan.now in
+    let slot = bytes_at c.try_by_syndromes.new.pool c.args.slots.now.sought.now in
     let bytes : List ℕ = take (size_of t) slot in
     let lt : c.loop-k.k < length (candidates t) = omega (arith, c.loop-k-test.true, c.candidate_count-k-end.ensures) in
     let standing = stands_in_row t cand c.requires.stands (c.candidate-candidate.ensures.behind c.requires.order c.requires.profile (omega (arith, c.loop-k.auto.k))) in
@@ -51,14 +51,14 @@ loop-k-preserved g c =
     let cand = c.candidate-candidate.result in
     let inv = c.loop-k.invariant in
     let e = c.in-Ok.ensures in
-    let bytes : List ℕ = take n (bytes_at new c.args.loan.now) in
+    let bytes : List ℕ = take n (bytes_at new c.args.slots.now.sought.now) in
     let lt : c.loop-k.k < length (candidates t) = omega (arith, c.loop-k-test.true, c.candidate_count-k-end.ensures) in
     let standing = stands_in_row t cand c.requires.stands (c.candidate-candidate.ensures.behind c.requires.order c.requires.profile (omega (arith, c.loop-k.auto.k))) in
     record {
       reads = reads_more inv.reads e.reads;
       writes = writes_more c.args.pool.now c.loop-k.pool new _ inv.writes e.pool;
-      syndromes = subst (λ held. IfSome held (λ images. AreSyndromes images t (take n (bytes_at new c.args.p.now))
-          (take n (bytes_at new c.args.q.now)))) (sym (same_held e.reads)) e.syndromes;
+      syndromes = subst (λ held. IfSome held (λ images. AreSyndromes images t (take n (bytes_at new c.args.slots.now.p.now))
+          (take n (bytes_at new c.args.slots.now.q.now)))) (sym (same_held e.reads)) e.syndromes;
       tried = λ before is h. tried_calm t before now after c.args.failed c.loop-k.k cand (inv.tried before is h) c.candidate-candidate.ensures.value
           lt e.account (λ images im.
           let value : value_of images t cand ≡ bytes = telling now.held (λ images. value_of images t cand ≡ bytes) e.value.1 images (same_held inv.reads ∙ is.held ∙ im) in
@@ -70,7 +70,7 @@ pub returns-clause-trial : goal.returns-clause-trial
 returns-clause-trial g c = λ before is h.
     let t : Target = c.args.search.now in
     let now = g.R.Rack.seen c.loop-k.rack in
-    let slot = bytes_at c.loop-k.pool c.args.loan.now in
+    let slot = bytes_at c.loop-k.pool c.args.slots.now.sought.now in
     let le : length (candidates t) ≤ c.loop-k.k = omega (arith, c.loop-k-test.false, c.candidate_count-k-end.ensures) in
     subst (FitsOutcome t before now slot) (sym c.ended_after.ensures)
     (all_ended t before now c.args.failed c.loop-k.k slot is.fresh le (c.loop-k.invariant.tried before is h))
