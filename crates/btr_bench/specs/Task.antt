@@ -34,7 +34,7 @@ digits_of (Walking walk) = 16
 
 -- what n turns come to: the exclusive or of a kernel's results, how many turns got the
 -- block, or how many items the last turn had
-abbrev pub Gives : Task → ℕ → ℕ → ℕ → Type 0
-Gives (Over kernel) size n all = TurnsGive kernel (first_piece kernel size) (first_kept kernel size) 0 n all
-Gives (Fetching block) size n got = got ≤ n
-Gives (Walking walk) size n got = got ≤ size
+abbrev pub GivesTurns : Task → ℕ → ℕ → ℕ → Type 0
+GivesTurns (Over kernel) size n all = TurnsGive kernel (first_piece kernel size) (first_kept kernel size) 0 n all
+GivesTurns (Fetching block) size n got = got ≤ n
+GivesTurns (Walking walk) size n got = got ≤ size

@@ -17,7 +17,7 @@ pub struct Plan {
 
 impl Plan {
     ghost use Rattle.std.specs.Prelude.{◌≡◌, IfOk, IsOk, Some};
-    ghost use Rattle.btr_bench.specs.Task.{task_of, Gives};
+    ghost use Rattle.btr_bench.specs.Task.{task_of, GivesTurns};
     ghost use Rattle.btr_bench.specs.Plan.{IfPlanned, number_of};
 
     /// Reads the name of a task and two decimal numbers, of which the first is a size that the task takes, in bytes or, of a
@@ -39,7 +39,7 @@ impl Plan {
 
     /// Runs the turns, and answers the number that they come to. `AllocError`: want of memory.
     pub fn run(self, alloc: Global) -> Result<u64, AllocError>
-        ensures { IfOk result (Gives self.task self.size self.times) }
+        ensures { IfOk result (GivesTurns self.task self.size self.times) }
     {
         match self.task {
             Task::Over(kernel) => turns::run(alloc, kernel, self.size, self.times),

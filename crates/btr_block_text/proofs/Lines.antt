@@ -17,7 +17,7 @@ use Rattle.btr_node.proofs.Tables.{range_first}
 use Rattle.btr_node.proofs.Leaves.{leaf_level}
 use Rattle.btr_node.proofs.Inners.{inner_leaf}
 use Rattle.btr_rack.specs.declared.error.SinkError.{SinkError}
-use Rattle.btr_text.specs.Text.{Wrote, WasCut, Writes}
+use Rattle.btr_text.specs.Text.{Wrote, WasCut, WritesOut}
 use Rattle.btr_text.proofs.Writing.{wrote_nothing, wrote_then, wrote_as, cut_then, cut_longer, cut_as, writes_then, writes_as}
 use Rattle.btr_text.specs.Pieces.{bytes_text}
 use Rattle.btr_block_text.specs.Items.{raw_line}
@@ -75,13 +75,13 @@ numbers_none f i n le = let none : n - i ≡ 0 = omega arith in ap (λ k. flat_m
 
 module _ {T X : Type 0} (line : X → List ℕ) (old new : Option (List ℕ)) (waited waits : List ℕ) (r : Result T SinkError) where
   -- the text of what was read
-  pub writes_read : (read : Result X ItemFault) (found : X) → Ok found ≡ read → Writes old new waited waits (line found) r
-      → Writes old new waited waits (of_read line read) r
+  pub writes_read : (read : Result X ItemFault) (found : X) → Ok found ≡ read → WritesOut old new waited waits (line found) r
+      → WritesOut old new waited waits (of_read line read) r
   writes_read read found is = writes_as old new waited waits (line found) (of_read line read) r (ap (of_read line) is)
 
   -- of a fault nothing is written
-  pub writes_fault : (read : Result X ItemFault) (fault : ItemFault) → Err fault ≡ read → Writes old new waited waits [] r
-      → Writes old new waited waits (of_read line read) r
+  pub writes_fault : (read : Result X ItemFault) (fault : ItemFault) → Err fault ≡ read → WritesOut old new waited waits [] r
+      → WritesOut old new waited waits (of_read line read) r
   writes_fault read fault is = writes_as old new waited waits [] (of_read line read) r (ap (of_read line) is)
 
 -- the body of a CHUNK_ITEM has each of its stripes
@@ -113,8 +113,8 @@ cut_second third wrote cut = cut_longer third (cut_then wrote cut)
 -- all three were written, or the third was cut short
 pub writes_third : {T : Type 0} {old mid late : Option (List ℕ)} {waited between behind first second : List ℕ} (new : Option (List ℕ))
     (waits third : List ℕ) (r : Result T SinkError)
-    → Wrote old mid waited between first → Wrote mid late between behind second → Writes late new behind waits third r
-    → Writes old new waited waits ((first ++ second) ++ third) r
+    → Wrote old mid waited between first → Wrote mid late between behind second → WritesOut late new behind waits third r
+    → WritesOut old new waited waits ((first ++ second) ++ third) r
 writes_third new waits third r one two three = writes_then new waits third r (wrote_then one two) three
 
 -- what always holds of what was read

@@ -3,7 +3,7 @@ use Rattle.std.specs.Prelude.{ℕ, List, [], Option, Result, Ok, Err}
 use Rattle.std.specs.List.{flat_map}
 use Rattle.btr_items.specs.declared.fault.ItemFault.{ItemFault}
 use Rattle.btr_rack.specs.declared.error.SinkError.{SinkError}
-use Rattle.btr_text.specs.Text.{Writes}
+use Rattle.btr_text.specs.Text.{WritesOut}
 
 -- the text of what was read, and none of a fault
 abbrev pub of_read : {T : Type 0} → (T → List ℕ) → Result T ItemFault → List ℕ
@@ -16,4 +16,4 @@ of_parts line parts = flat_map (of_read line) parts
 
 -- a text was written to an output, of which its own text is seen; what waits before it is a buffer's
 abbrev pub WritesTo : {T O : Type 0} → (O → Option (List ℕ)) → O → O → List ℕ → List ℕ → List ℕ → Result T SinkError → Type 0
-WritesTo seen old new waited waits text result = Writes (seen old) (seen new) waited waits text result
+WritesTo seen old new waited waits text result = WritesOut (seen old) (seen new) waited waits text result

@@ -37,7 +37,7 @@ use Rattle.btr_walk.specs.Reading.{Map, UnreadBlock, FaultCause, unread_by, tree
 use Rattle.btr_volume.specs.declared.stop.Stop.{Stop}
 use Rattle.btr_volume.specs.declared.stop.Stop.TheVariants.{NoTree, Tree, Deletion, Balance, Missing, Image, Sink, Out, Memory}
 use Rattle.btr_dump.specs.Pieces.{Text, held_block, held_in, block_shown, met_block}
-use Rattle.btr_dump.specs.Showing.{part, BlockAgreed, TellsBlock, CutIn, WroteAll, Writes}
+use Rattle.btr_dump.specs.Showing.{part, BlockAgreed, TellsBlock, CutIn, WroteAll, ShowsText}
 
 map_some : (held : Option (List (List ℕ))) (P Q : List (List ℕ) → Type 0) → ((images : List (List ℕ)) → P images → Q images) → IfSome held P → IfSome held Q
 map_some None P Q f p = tt
@@ -59,15 +59,15 @@ le_leb m n le = grind (arith, nat_tests)
 pub held_cut : (layout : Layout) (before now : Seen) (seen : List Want) (B : Map) (kind : SumKind) (addr : ℕ) (block : List ℕ) (node : Option Node)
     (found : Node) (old new : Option Text) (waited waits : Text) (e : SinkError) → Some found ≡ node
     → WasCut old new waited waits (block_text kind addr block)
-    → Writes (unread_by layout before now) seen (exec B (held_block kind addr block node)) old new waited waits (Err (stop_of e))
+    → ShowsText (unread_by layout before now) seen (exec B (held_block kind addr block node)) old new waited waits (Err (stop_of e))
 unfolding held_block
 held_cut layout before now seen B kind addr block node found old new waited waits e is cut =
-    subst (λ n. Writes (unread_by layout before now) seen (exec B (held_block kind addr block n)) old new waited waits (Err (stop_of e))) is (by e)
+    subst (λ n. ShowsText (unread_by layout before now) seen (exec B (held_block kind addr block n)) old new waited waits (Err (stop_of e))) is (by e)
   where
     within : CutIn (exec B (held_block kind addr block (Some found))) old new waited waits
     within = record { before = Does (block_text kind addr block) ∷ []; behind = []; place = refl; cut = cut_as (block_text kind addr block ++ []) (sym (append-nil (block_text kind addr block))) cut }
 
-    by : (e : SinkError) → Writes (unread_by layout before now) seen (exec B (held_block kind addr block (Some found))) old new waited waits (Err (stop_of e))
+    by : (e : SinkError) → ShowsText (unread_by layout before now) seen (exec B (held_block kind addr block (Some found))) old new waited waits (Err (stop_of e))
     by sink.Failed = within
     by sink.Memory = within
 
@@ -87,7 +87,7 @@ held_wants_none B kind addr block = by (held_in block)
 -- what was written behind a want whose bytes came
 pub writes_came : {A : Type 0} (Is : UnreadBlock → Want → Type 0) (B : Map) (w : Want) (bytes : List ℕ) (k : List ℕ → Prog Want fate.Fault Text A)
     (old new : Option Text) (waited waits : Text) (result : Result A Stop) → B w ≡ Ok bytes
-    → Writes Is [] (exec B (k bytes)) old new waited waits result → Writes Is [] (exec B (Need w k)) old new waited waits result
+    → ShowsText Is [] (exec B (k bytes)) old new waited waits result → ShowsText Is [] (exec B (Need w k)) old new waited waits result
 writes_came {A} Is B w bytes k old new waited waits result is = by result
   where
     behind : (answer : Result A (Halt fate.Fault UnreadBlock)) → WroteAll Is [] (exec B (k bytes)) old new waited waits answer
@@ -97,7 +97,7 @@ writes_came {A} Is B w bytes k old new waited waits result is = by result
     cut : CutIn (exec B (k bytes)) old new waited waits → CutIn (exec B (Need w k)) old new waited waits
     cut h = record { before = Wants w ∷ h.before; behind = h.behind; place = ap (λ x. Wants w ∷ (given x (λ b. exec B (k b))).marks) is ∙ ap (λ ms. Wants w ∷ ms) h.place; cut = h.cut }
 
-    by : (result : Result A Stop) → Writes Is [] (exec B (k bytes)) old new waited waits result → Writes Is [] (exec B (Need w k)) old new waited waits result
+    by : (result : Result A Stop) → ShowsText Is [] (exec B (k bytes)) old new waited waits result → ShowsText Is [] (exec B (Need w k)) old new waited waits result
     by (Ok a) h = behind (Ok a) h
     by (Err (Tree f)) h = behind (Err (halt_of f)) h
     by (Err Out) h = cut h
@@ -114,7 +114,7 @@ module _ (layout : Layout) (old new : Seen) (kind : SumKind) (addr : ℕ) (reads
   Is = unread_by layout old new
 
   abbrev Told : Option Text → Option Text → Text → Text → Result (Unit {0}) Stop → Map → Type 0
-  Told was now waited waits result B = Writes Is [] (exec B (block_shown kind addr)) was now waited waits result
+  Told was now waited waits result B = ShowsText Is [] (exec B (block_shown kind addr)) was now waited waits result
 
   -- the block couldn't be had: nothing was written
   pub block_failed : (text : Option Text) (waits : Text) (store : Blocks) (fault : ReadFault)
@@ -141,7 +141,7 @@ module _ (layout : Layout) (old new : Seen) (kind : SumKind) (addr : ℕ) (reads
   -- the block came, and what was written is its text
   pub block_came : (was now : Option Text) (waited waits : Text) (store : Blocks) (loan : Lent) (block : List ℕ) (result : Result (Unit {0}) Stop)
       → FitsFetch layout (Block addr) old new store (Ok loan) → block_of store loan ≡ Some block
-      → ((B : Map) → Writes Is [] (exec B (held_block kind addr block (held_in block))) was now waited waits result)
+      → ((B : Map) → ShowsText Is [] (exec B (held_block kind addr block (held_in block))) was now waited waits result)
       → TellsBlock layout addr old new (Told was now waited waits result)
   block_came was now waited waits store loan block result fits is written = record { calls = record { same = same_held reads; later = reads.later; content = content } }
     where
@@ -181,7 +181,7 @@ met_wants_none B kind met = held_wants_none B kind met.addr met.bytes
 -- what was written of it
 pub met_written : (Is : UnreadBlock → Want → Type 0) (seen : List Want) (B : Map) (kind : SumKind) (met : TreeBlock) (old new : Option Text)
     (waited waits : Text) (result : Result (Unit {0}) Stop)
-    → Writes Is seen (exec B (held_block kind met.addr met.bytes (held_in met.bytes))) old new waited waits result
-    → Writes Is seen (exec B (met_block kind met)) old new waited waits result
+    → ShowsText Is seen (exec B (held_block kind met.addr met.bytes (held_in met.bytes))) old new waited waits result
+    → ShowsText Is seen (exec B (met_block kind met)) old new waited waits result
 unfolding met_block
 met_written Is seen B kind met old new waited waits result w = w

@@ -14,7 +14,7 @@ use Rattle.btr_walk.specs.Reading.{UnreadBlock, halt_of}
 use Rattle.btr_volume.specs.declared.stop.Stop.{Stop}
 use Rattle.btr_volume.specs.declared.stop.Stop.TheVariants.{NoTree, Tree, Deletion, Balance, Missing, Image, Sink, Out, Memory}
 use Rattle.btr_dump.specs.Pieces.{Text}
-use Rattle.btr_dump.specs.Showing.{part, whole, TextRun, PutsText, WroteAll, Writes}
+use Rattle.btr_dump.specs.Showing.{part, whole, TextRun, PutsText, WroteAll, ShowsText}
 use Rattle.btr_dump.specs.Stops.{stop_of, is_cut}
 use Rattle.btr_dump.proofs.Writing.{IsDone, done_value, done_fault, broke_in}
 
@@ -30,7 +30,7 @@ module _ (Is : UnreadBlock → Want → Type 0) (r : TextRun (Unit {0})) where
       (adds_twice begun mid new w.wrote.put (take n waits) w.wrote.adds adds))
 
   pub finish_cut : (begun new : Option Text) (waits : Text) (shown : Result (Unit {0}) Stop) → is_cut shown ≡ true
-      → Writes Is [] r begun new [] waits shown → PutsText Is r begun new shown
+      → ShowsText Is [] r begun new [] waits shown → PutsText Is r begun new shown
   finish_cut begun new waits (Ok u) cut w = absurd (false≢true cut)
   finish_cut begun new waits (Err Out) cut w = let b = broke_in Is r w.before w.behind begun new w.cut.count w.place w.cut.adds in record { done = b.0; adds = b.1; follows = b.2 }
   finish_cut begun new waits (Err Memory) cut w = let b = broke_in Is r w.before w.behind begun new w.cut.count w.place w.cut.adds in record { done = b.0; adds = b.1; follows = b.2 }
@@ -44,10 +44,10 @@ module _ (Is : UnreadBlock → Want → Type 0) (r : TextRun (Unit {0})) where
 
   -- the output's refusal of the rest
   pub finish_refused : (begun mid new : Option Text) (waits : Text) (shown : Result (Unit {0}) Stop) (n : ℕ) (e : SinkError) → is_cut shown ≡ false
-      → Writes Is [] r begun mid [] waits shown → Adds mid new (take n waits) → PutsText Is r begun new (Err (stop_of e))
+      → ShowsText Is [] r begun mid [] waits shown → Adds mid new (take n waits) → PutsText Is r begun new (Err (stop_of e))
   finish_refused begun mid new waits shown n e cut w adds = refused e (broke shown cut w)
     where
-      broke : (shown : Result (Unit {0}) Stop) → is_cut shown ≡ false → Writes Is [] r begun mid [] waits shown → (done : List Text)
+      broke : (shown : Result (Unit {0}) Stop) → is_cut shown ≡ false → ShowsText Is [] r begun mid [] waits shown → (done : List Text)
           × Adds begun new (whole done) × Follows Is part [] r done (Err Broke)
       broke (Ok u) cut w = some_put begun mid new waits n (Ok u) w (done_value Is r w.done u w.follows) adds
       broke (Err (Tree f)) cut w = some_put begun mid new waits n (Err (halt_of f)) w (done_fault Is r w.done f w.follows) adds

@@ -4,13 +4,13 @@ use Rattle.btr_rack.specs.Out.{Puts}
 use Rattle.btr_rack.specs.declared.error.SinkError.{SinkError}
 use Rattle.btr_read.specs.Fate.{Lost}
 use Rattle.btr_read.specs.declared.want.Want.{Want}
-use Rattle.btr_text.specs.Text.{Writes as WritesText}
+use Rattle.btr_text.specs.Text.{WritesOut as WritesText}
 use Rattle.btr_text.proofs.Writing.{adds_nothing, adds_twice}
 use Rattle.btr_walk.specs.Reading.{Map, UnreadBlock}
 use Rattle.btr_volume.specs.declared.stop.Stop.{Stop}
 use Rattle.btr_volume.specs.declared.stop.Stop.TheVariants.{NoTree, Tree, Deletion, Balance, Missing, Image, Sink, Out, Memory}
 use Rattle.btr_dump.specs.Pieces.{Text}
-use Rattle.btr_dump.specs.Showing.{Grows, TextRun, CutIn, Writes}
+use Rattle.btr_dump.specs.Showing.{Grows, TextRun, CutIn, ShowsText}
 
 pub grows_none : (text : Option Text) → Grows text text
 grows_none text = record { more = []; adds = adds_nothing text }
@@ -31,13 +31,13 @@ text_grows T old new waited waits text (Err e) w = record { more = take w.count 
 
 -- by what was written of a run
 pub run_grows : (Is : UnreadBlock → Want → Type 0) (seen : List Want) (r : TextRun (Unit {0})) (old new : Option Text) (waited waits : Text)
-    (result : Result (Unit {0}) Stop) → Writes Is seen r old new waited waits result → Grows old new
+    (result : Result (Unit {0}) Stop) → ShowsText Is seen r old new waited waits result → Grows old new
 run_grows Is seen r old new waited waits result = by result
   where
     cut : CutIn r old new waited waits → Grows old new
     cut c = record { more = _; adds = c.cut.adds }
 
-    by : (result : Result (Unit {0}) Stop) → Writes Is seen r old new waited waits result → Grows old new
+    by : (result : Result (Unit {0}) Stop) → ShowsText Is seen r old new waited waits result → Grows old new
     by (Ok u) w = record { more = w.wrote.put; adds = w.wrote.adds }
     by (Err (Tree f)) w = record { more = w.wrote.put; adds = w.wrote.adds }
     by (Err Out) w = cut w

@@ -21,7 +21,7 @@ use Rattle.btr_volume.specs.Lookup.{Program, each}
 use Rattle.btr_volume.specs.declared.stop.Stop.{Stop}
 use Rattle.btr_volume.specs.declared.stop.Stop.TheVariants.{NoTree, Tree, Deletion, Balance, Missing, Image, Sink, Out, Memory}
 use Rattle.btr_dump.specs.Pieces.{Text, Shown}
-use Rattle.btr_dump.specs.Showing.{part, whole, TextRun, CutIn, WroteAll, Writes, GoesOn, Turns}
+use Rattle.btr_dump.specs.Showing.{part, whole, TextRun, CutIn, WroteAll, ShowsText, GoesOn, Turns}
 
 whole-append : (a b : List Text) → whole (a ++ b) ≡ whole a ++ whole b
 whole-append a b = flat_map-append (λ (piece : Text). piece) a b
@@ -117,12 +117,12 @@ module _ {X : Type 0} (show : X → Shown) (B : Map) where
   -- the cursor came to a fault
   pub turn_halts : (Is : UnreadBlock → Want → Type 0) (seen : List Want) (p : Program X (Unit {0})) (text : Option Text) (waits : Text)
       (f : TreeFault) → Follows Is no_part seen (exec B p) [] (Err (halt_of f))
-      → Writes {A = Unit {0}} Is seen (exec B (shown_all p)) text text waits waits (Err (Tree f))
+      → ShowsText {A = Unit {0}} Is seen (exec B (shown_all p)) text text waits waits (Err (Tree f))
   turn_halts Is seen p text waits f h = record { done = []; wrote = wrote_nothing text waits; follows = all_halts Is seen p (halt_of f) h }
 
   -- to its end
   pub turn_ends : (Is : UnreadBlock → Want → Type 0) (seen : List Want) (p : Program X (Unit {0})) (text : Option Text) (waits : Text)
-      → Follows Is no_part seen (exec B p) [] (Ok tt) → Writes Is seen (exec B (shown_all p)) text text waits waits (Ok tt)
+      → Follows Is no_part seen (exec B p) [] (Ok tt) → ShowsText Is seen (exec B (shown_all p)) text text waits waits (Ok tt)
   turn_ends Is seen p text waits h = record { done = []; wrote = wrote_nothing text waits; follows = subst (λ q. Follows Is part seen q [] (Ok tt)) (sym (exec_all p)) (all_none (exec B p).marks (exec B p).ending h.0 h.1) }
 
   -- to an item behind some wants
@@ -185,8 +185,8 @@ module _ {X : Type 0} (show : X → Shown) (B : Map) where
 
     -- the item could not be shown to its end
     pub turn_stops : (Is : UnreadBlock → Want → Type 0) (seen : List Want) (old new : Option Text) (waited waits : Text) (stop : Stop)
-        → Writes {A = Unit {0}} Is (seen ++ past) item old new waited waits (Err stop)
-        → Writes {A = Unit {0}} Is seen (exec B (shown_all p)) old new waited waits (Err stop)
+        → ShowsText {A = Unit {0}} Is (seen ++ past) item old new waited waits (Err stop)
+        → ShowsText {A = Unit {0}} Is seen (exec B (shown_all p)) old new waited waits (Err stop)
     turn_stops Is seen old new waited waits (Tree f) w = behind Is seen old new waited waits (halt_of f) w
     turn_stops Is seen old new waited waits Out w = cut old new waited waits w
     turn_stops Is seen old new waited waits Memory w = cut old new waited waits w
@@ -226,8 +226,8 @@ goes_more On On' from mid to seen old between new waited waiting waits g turn =
 -- what is written of the rest is written of the whole
 pub goes_ends : (On : List Want → Type 0) (Is Less : UnreadBlock → Want → Type 0) → ((u : UnreadBlock) (w : Want) → Is u w → Less u w)
     → (from mid : TextRun (Unit {0})) (seen : List Want) (old between new : Option Text) (waited waiting waits : Text) (result : Result (Unit {0}) Stop)
-    → GoesOn On from mid seen old between waited waiting → ((ws : List Want) → On ws → Writes Is ws mid between new waiting waits result)
-    → Writes Less seen from old new waited waits result
+    → GoesOn On from mid seen old between waited waiting → ((ws : List Want) → On ws → ShowsText Is ws mid between new waiting waits result)
+    → ShowsText Less seen from old new waited waits result
 goes_ends On Is Less weaker from mid seen old between new waited waiting waits result g rest = by result (rest (seen ++ wants_of g.past.marks) g.on)
   where
     all : (answer : Result (Unit {0}) (Halt fate.Fault UnreadBlock))
@@ -249,8 +249,8 @@ goes_ends On Is Less weaker from mid seen old between new waited waiting waits r
           (sym (ap whole (steps_of-append g.past.marks c.before) ∙ whole-append (steps_of g.past.marks) (steps_of c.before))) (cut_then g.past.wrote c.cut);
     }
 
-    by : (result : Result (Unit {0}) Stop) → Writes Is (seen ++ wants_of g.past.marks) mid between new waiting waits result
-        → Writes Less seen from old new waited waits result
+    by : (result : Result (Unit {0}) Stop) → ShowsText Is (seen ++ wants_of g.past.marks) mid between new waiting waits result
+        → ShowsText Less seen from old new waited waits result
     by (Ok u) w = all (Ok u) w
     by (Err (Tree f)) w = all (Err (halt_of f)) w
     by (Err Out) w = cut w
@@ -277,7 +277,7 @@ module _ {C : Type 0} (on : Map → List Want → C → Type 0) (left : Map → 
   -- all turns
   abbrev pub Shows : (UnreadBlock → Want → Type 0) → Map → Blocks → C → Option Text → Option Text → Text → Text → Result (Unit {0}) Stop → Type 0
   Shows Is B store c text text' waited waits result = (seen : List Want) → on B seen c
-      → Writes Is seen (exec B (left B store c)) text text' waited waits result
+      → ShowsText Is seen (exec B (left B store c)) text text' waited waits result
 
   module _ (B : Map) (old mid new : Blocks) (c now after : C) (begun between text : Option Text) (waited waiting waits : Text) where
     pub led_more : (Is : UnreadBlock → Want → Type 0) → Led B old mid c now begun between waited waiting

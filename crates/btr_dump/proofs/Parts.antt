@@ -12,21 +12,21 @@ use Rattle.btr_walk.specs.Reading.{Map, UnreadBlock, halt_of}
 use Rattle.btr_volume.specs.declared.stop.Stop.{Stop}
 use Rattle.btr_volume.specs.declared.stop.Stop.TheVariants.{NoTree, Tree, Deletion, Balance, Missing, Image, Sink, Out, Memory}
 use Rattle.btr_dump.specs.Pieces.{Text, Shown}
-use Rattle.btr_dump.specs.Showing.{part, whole, TextRun, CutIn, WroteAll, Writes, GoesOn}
+use Rattle.btr_dump.specs.Showing.{part, whole, TextRun, CutIn, WroteAll, ShowsText, GoesOn}
 use Rattle.btr_dump.proofs.Loops.{goes_ends, marks_after, value_then}
 
 -- what a call wrote of a run it wrote behind other wants, and in calls that began earlier
 pub writes_behind : (Is Later : UnreadBlock → Want → Type 0) → ((u : UnreadBlock) (w : Want) → Later u w → Is u w)
     → (ws : List Want) (r : TextRun (Unit {0})) (old new : Option Text) (waited waits : Text) (result : Result (Unit {0}) Stop)
-    → Writes Later [] r old new waited waits result
-    → Writes Is ws r old new waited waits result
+    → ShowsText Later [] r old new waited waits result
+    → ShowsText Is ws r old new waited waits result
 writes_behind Is Later weaker ws r old new waited waits result = by result
   where
     all : (answer : Result (Unit {0}) (Halt fate.Fault UnreadBlock)) → WroteAll Later [] r old new waited waits answer
         → WroteAll Is ws r old new waited waits answer
     all answer w = record { done = w.done; wrote = w.wrote; follows = follows_as Later Is weaker part ws r w.done answer (follows_alone Later part ws r w.done answer w.follows) }
 
-    by : (result : Result (Unit {0}) Stop) → Writes Later [] r old new waited waits result → Writes Is ws r old new waited waits result
+    by : (result : Result (Unit {0}) Stop) → ShowsText Later [] r old new waited waits result → ShowsText Is ws r old new waited waits result
     by (Ok u) w = all (Ok u) w
     by (Err (Tree f)) w = all (Err (halt_of f)) w
     by (Err Out) w = w
@@ -62,15 +62,15 @@ module _ (B : Map) (p : Shown) (k : Unit {0} → Shown) where
   -- the first was written, and then the second to its end or to some place
   pub second_then : (Early Is Later : UnreadBlock → Want → Type 0) → ((u : UnreadBlock) (w : Want) → Later u w → Is u w)
       → (old mid new : Option Text) (waited between waits : Text) (result : Result (Unit {0}) Stop)
-      → Writes {A = Unit {0}} Early [] front old mid waited between (Ok tt)
-      → Writes Later [] (exec B (k tt)) mid new between waits result → Writes Is [] both old new waited waits result
+      → ShowsText {A = Unit {0}} Early [] front old mid waited between (Ok tt)
+      → ShowsText Later [] (exec B (k tt)) mid new between waits result → ShowsText Is [] both old new waited waits result
   second_then Early Is Later weaker old mid new waited between waits result one two =
       goes_ends (λ ws. Unit {0}) Later Is weaker both (exec B (k tt)) [] old mid new waited between waits result
       (goes Early old mid waited between one) (λ ws on. writes_behind Later Later (λ u w is. is) ws (exec B (k tt)) mid new between waits result two)
 
   -- the first was written to some place
   pub first_stops : (Is : UnreadBlock → Want → Type 0) (old new : Option Text) (waited waits : Text) (stop : Stop)
-      → Writes {A = Unit {0}} Is [] front old new waited waits (Err stop) → Writes {A = Unit {0}} Is [] both old new waited waits (Err stop)
+      → ShowsText {A = Unit {0}} Is [] front old new waited waits (Err stop) → ShowsText {A = Unit {0}} Is [] both old new waited waits (Err stop)
   first_stops Is old new waited waits stop = by stop
     where
       halts : (h : Halt fate.Fault UnreadBlock) → WroteAll Is [] front old new waited waits (Err h) → WroteAll Is [] both old new waited waits (Err h)
@@ -85,7 +85,7 @@ module _ (B : Map) (p : Shown) (k : Unit {0} → Shown) where
             cut = c.cut;
           }
 
-      by : (stop : Stop) → Writes {A = Unit {0}} Is [] front old new waited waits (Err stop) → Writes {A = Unit {0}} Is [] both old new waited waits (Err stop)
+      by : (stop : Stop) → ShowsText {A = Unit {0}} Is [] front old new waited waits (Err stop) → ShowsText {A = Unit {0}} Is [] both old new waited waits (Err stop)
       by (Tree f) w = halts (halt_of f) w
       by Out w = cut w
       by Memory w = cut w

@@ -10,7 +10,7 @@ use Rattle.btr_volume.specs.declared.stop.Stop.TheVariants.{NoTree, Tree, Deleti
 use Rattle.btr_walk.specs.declared.scan_place.ScanPlace.{ScanPlace}
 use Rattle.btr_walk.specs.Going.{IsOn}
 use Rattle.btr_walk.proofs.Fetched.{cause_since}
-use Rattle.btr_dump.specs.Stops.{StopCounts, StopCause}
+use Rattle.btr_dump.specs.Stops.{StopCounts, DumpStopCause}
 use Rattle.btr_walk.specs.Reading.{Map}
 
 -- a place of a scan, whose ends go by other names
@@ -19,7 +19,7 @@ on_as lo hi lo' hi' B ws place same_lo same_hi on = subst (λ l. IsOn l hi' B ws
 
 -- the cause of an answer stays one of calls that began earlier
 pub stop_cause_since : (A C : Type 0) {a b : Seen} (c : Seen) (layout layout' : Layout) (stop : Stop) → layout' ≡ layout → OnlyReads a b
-    → StopCause {A = A} layout' b c (Err stop) → StopCause {A = C} layout a c (Err stop)
+    → DumpStopCause {A = A} layout' b c (Err stop) → DumpStopCause {A = C} layout a c (Err stop)
 stop_cause_since A C c layout layout' (Tree f) e first h = cause_since c layout layout' f e first h
 stop_cause_since A C c layout layout' (NoTree n) e first h = tt
 stop_cause_since A C c layout layout' (Deletion n) e first h = tt

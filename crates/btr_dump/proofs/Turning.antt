@@ -18,7 +18,7 @@ use Rattle.btr_volume.specs.Tree.{described}
 use Rattle.btr_volume.specs.declared.root.TreeRoot.{TreeRoot}
 use Rattle.btr_volume.specs.declared.stop.Stop.{Stop}
 use Rattle.btr_dump.specs.Pieces.{Text, Shown, if_formed, item_root, item_trees, tree_if, tree_shown}
-use Rattle.btr_dump.specs.Showing.{TextRun, GoesOn, WroteAll, Writes}
+use Rattle.btr_dump.specs.Showing.{TextRun, GoesOn, WroteAll, ShowsText}
 use Rattle.btr_dump.specs.Trees.{GivesItem}
 use Rattle.btr_walk.proofs.Staying.{left_same, on_more}
 use Rattle.btr_dump.proofs.Loops.{turn_goes, turn_moves, turn_stops}
@@ -61,8 +61,8 @@ module _ (Is : UnreadBlock → Want → Type 0) (B : Map) (kind : SumKind) (seen
 
   -- or to some place
   pub tree_stops : (root : TreeRoot) → item_root item ≡ Some root → (text text' : Option Text) (waited waits : Text) (stop : Stop)
-      → Writes {A = Unit {0}} Is (seen ++ gives.past) (exec B (tree_shown kind root)) text text' waited waits (Err stop)
-      → Writes {A = Unit {0}} Is seen from text text' waited waits (Err stop)
+      → ShowsText {A = Unit {0}} Is (seen ++ gives.past) (exec B (tree_shown kind root)) text text' waited waits (Err stop)
+      → ShowsText {A = Unit {0}} Is seen from text text' waited waits (Err stop)
   tree_stops root is text text' waited waits stop w =
       turn_stops show B (left_of B old scan) (left_of B mid scan') item gives.past gives.is Is seen text text' waited waits stop
-      (subst (λ o. Writes {A = Unit {0}} Is (seen ++ gives.past) (exec B (tree_if kind o)) text text' waited waits (Err stop)) (sym is) w)
+      (subst (λ o. ShowsText {A = Unit {0}} Is (seen ++ gives.past) (exec B (tree_if kind o)) text text' waited waits (Err stop)) (sym is) w)

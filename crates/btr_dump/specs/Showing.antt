@@ -96,21 +96,21 @@ pub record WroteAll {A : Type 0} (Is : UnreadBlock → Want → Type 0) (seen : 
   pub follows : Follows Is part seen r done answer
 
 -- what a call wrote
-abbrev pub Writes : {A : Type 0} → (UnreadBlock → Want → Type 0) → List Want → TextRun A → Option Text → Option Text → Text → Text → Result A Stop → Type 0
-Writes Is seen r old new waited waits (Ok a) = WroteAll Is seen r old new waited waits (Ok a)
-Writes Is seen r old new waited waits (Err (Tree f)) = WroteAll Is seen r old new waited waits (Err (halt_of f))
-Writes Is seen r old new waited waits (Err Out) = CutIn r old new waited waits
-Writes Is seen r old new waited waits (Err Memory) = CutIn r old new waited waits
-Writes Is seen r old new waited waits (Err (NoTree n)) = ⊥
-Writes Is seen r old new waited waits (Err (Deletion n)) = ⊥
-Writes Is seen r old new waited waits (Err Balance) = ⊥
-Writes Is seen r old new waited waits (Err (Missing n)) = ⊥
-Writes Is seen r old new waited waits (Err (Image slot)) = ⊥
-Writes Is seen r old new waited waits (Err Sink) = ⊥
+abbrev pub ShowsText : {A : Type 0} → (UnreadBlock → Want → Type 0) → List Want → TextRun A → Option Text → Option Text → Text → Text → Result A Stop → Type 0
+ShowsText Is seen r old new waited waits (Ok a) = WroteAll Is seen r old new waited waits (Ok a)
+ShowsText Is seen r old new waited waits (Err (Tree f)) = WroteAll Is seen r old new waited waits (Err (halt_of f))
+ShowsText Is seen r old new waited waits (Err Out) = CutIn r old new waited waits
+ShowsText Is seen r old new waited waits (Err Memory) = CutIn r old new waited waits
+ShowsText Is seen r old new waited waits (Err (NoTree n)) = ⊥
+ShowsText Is seen r old new waited waits (Err (Deletion n)) = ⊥
+ShowsText Is seen r old new waited waits (Err Balance) = ⊥
+ShowsText Is seen r old new waited waits (Err (Missing n)) = ⊥
+ShowsText Is seen r old new waited waits (Err (Image slot)) = ⊥
+ShowsText Is seen r old new waited waits (Err Sink) = ⊥
 
 -- what a call wrote follows a program, so far as the calls over its store were steady
 abbrev pub WritesShown : Blocks → Seen → Seen → Shown → Option Text → Option Text → Text → Text → Result (Unit {0}) Stop → Type 0
-WritesShown store before now p old new waited waits result = TellsOf store before now (λ Is B. Writes Is [] (exec B p) old new waited waits result)
+WritesShown store before now p old new waited waits result = TellsOf store before now (λ Is B. ShowsText Is [] (exec B p) old new waited waits result)
 
 -- what a call put into a text follows a program, so far as the calls over its store were steady
 abbrev pub PutsShown : Blocks → Seen → Seen → Shown → Option Text → Option Text → Result (Unit {0}) Stop → Type 0
@@ -119,13 +119,13 @@ PutsShown store before now p old new result = TellsOf store before now (λ Is B.
 -- whatever was read, what a call wrote follows a program that wants nothing
 abbrev pub WritesAlways : Shown → Option Text → Option Text → Text → Text → Result (Unit {0}) Stop → Type 0
 WritesAlways p old new waited waits result =
-    (layout : Layout) (before now : Seen) (seen : List Want) (B : Map) → Writes (unread_by layout before now) seen (exec B p) old new waited waits result
+    (layout : Layout) (before now : Seen) (seen : List Want) (B : Map) → ShowsText (unread_by layout before now) seen (exec B p) old new waited waits result
 
 -- what was written follows a run; where what waits of it is put too, what was put follows it
 abbrev pub Finishes : Option Text → Option Text → Text → Result (Unit {0}) Stop → Result (Unit {0}) Stop → Type 0
 Finishes old new waits shown result =
     (layout : Layout) (before now : Seen) (r : TextRun (Unit {0})) (begun : Option Text)
-    → Writes (unread_by layout before now) [] r begun old [] waits shown → PutsText (unread_by layout before now) r begun new result
+    → ShowsText (unread_by layout before now) [] r begun old [] waits shown → PutsText (unread_by layout before now) r begun new result
 
 -- some first marks are past, and their pieces were written behind what waited
 pub record Past (from to : TextRun (Unit {0})) (old new : Option Text) (waited waits : Text) : Type 0 where
@@ -141,8 +141,8 @@ pub record GoesOn (On : List Want → Type 0) (from to : TextRun (Unit {0})) (se
 -- one turn of a loop over a cursor: it goes on, or is at its end
 abbrev pub Turns : (UnreadBlock → Want → Type 0) → (List Want → Type 0) → TextRun (Unit {0}) → TextRun (Unit {0}) → List Want → Option Text → Option Text → Text → Text → Result Bool Stop → Type 0
 Turns Is On from to seen old new waited waits (Ok true) = GoesOn On from to seen old new waited waits
-Turns Is On from to seen old new waited waits (Ok false) = Writes {A = Unit {0}} Is seen from old new waited waits (Ok tt)
-Turns Is On from to seen old new waited waits (Err stop) = Writes Is seen from old new waited waits (Err stop)
+Turns Is On from to seen old new waited waits (Ok false) = ShowsText {A = Unit {0}} Is seen from old new waited waits (Ok tt)
+Turns Is On from to seen old new waited waits (Err stop) = ShowsText Is seen from old new waited waits (Err stop)
 
 -- a cursor that goes on comes nearer to its end
 abbrev pub TurnNears : ℕ → ℕ → Result Bool Stop → Type 0

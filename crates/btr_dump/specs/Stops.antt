@@ -28,17 +28,17 @@ StopCounts old new (Err (Image slot)) = ⊥
 StopCounts old new (Err Sink) = ⊥
 
 -- a fault of a tree has its cause
-abbrev pub StopCause : {A : Type 0} → Layout → Seen → Seen → Result A Stop → Type 0
-StopCause layout old new (Ok a) = ⊤
-StopCause layout old new (Err (Tree f)) = FaultCause layout old new f
-StopCause layout old new (Err (NoTree n)) = ⊤
-StopCause layout old new (Err (Deletion n)) = ⊤
-StopCause layout old new (Err Balance) = ⊤
-StopCause layout old new (Err (Missing n)) = ⊤
-StopCause layout old new (Err (Image slot)) = ⊤
-StopCause layout old new (Err Sink) = ⊤
-StopCause layout old new (Err Out) = ⊤
-StopCause layout old new (Err Memory) = ⊤
+abbrev pub DumpStopCause : {A : Type 0} → Layout → Seen → Seen → Result A Stop → Type 0
+DumpStopCause layout old new (Ok a) = ⊤
+DumpStopCause layout old new (Err (Tree f)) = FaultCause layout old new f
+DumpStopCause layout old new (Err (NoTree n)) = ⊤
+DumpStopCause layout old new (Err (Deletion n)) = ⊤
+DumpStopCause layout old new (Err Balance) = ⊤
+DumpStopCause layout old new (Err (Missing n)) = ⊤
+DumpStopCause layout old new (Err (Image slot)) = ⊤
+DumpStopCause layout old new (Err Sink) = ⊤
+DumpStopCause layout old new (Err Out) = ⊤
+DumpStopCause layout old new (Err Memory) = ⊤
 
 -- the output refused on the way, so nothing waits any more
 abbrev pub is_cut : {A : Type 0} → Result A Stop → Bool

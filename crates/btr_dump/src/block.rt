@@ -9,8 +9,8 @@ ghost use Rattle.btr_read.specs.declared.want.Want.{Want};
 ghost use Rattle.btr_walk.specs.Reading.{unread_by};
 ghost use Rattle.btr_volume.specs.Looking.{SameVolume};
 ghost use Rattle.btr_dump.specs.Pieces.{kind_in, held_block, held_in, block_shown};
-ghost use Rattle.btr_dump.specs.Showing.{Grows, Writes, WritesAlways, PutsText, TellsBlock};
-ghost use Rattle.btr_dump.specs.Stops.{StopCounts, StopCause};
+ghost use Rattle.btr_dump.specs.Showing.{Grows, ShowsText, WritesAlways, PutsText, TellsBlock};
+ghost use Rattle.btr_dump.specs.Stops.{StopCounts, DumpStopCause};
 
 use crate::ending::{finish, stop_of};
 use crate::kind::kind_in;
@@ -26,7 +26,7 @@ use btr_walk::TreeFault;
 // The size of a block's header.
 const HEADER: usize = 101;
 
-/// Writes a block that keeps the rules of one block; another one is malformed.
+/// ShowsText a block that keeps the rules of one block; another one is malformed.
 #[tactic(auto, unfolding(crate::specs::Pieces::held_block))]
 pub(crate) fn write_held<O: Out>(
     kind: SumKind,
@@ -38,7 +38,7 @@ pub(crate) fn write_held<O: Out>(
     ensures text { WritesAlways (held_block kind addr block.now (held_in block.now))
         (O.text out.old) (O.text out.new) text.old text.new result }
     ensures account { StopCounts (O.account out.old) (O.account out.new) result }
-    ensures cause { (layout : Layout) (before now : Seen) → StopCause layout before now result }
+    ensures cause { (layout : Layout) (before now : Seen) → DumpStopCause layout before now result }
 {
     if block.len() < HEADER {
         return Err(Stop::Tree(TreeFault::Malformed(addr)));
@@ -52,7 +52,7 @@ pub(crate) fn write_held<O: Out>(
     }
 }
 
-// Writes the block at an address, of whatever tree it is.
+// ShowsText the block at an address, of whatever tree it is.
 fn show_block<R: Rack, O: Out>(
     kind: SumKind,
     addr: u64,
@@ -67,10 +67,10 @@ fn show_block<R: Rack, O: Out>(
     ensures reads { OnlyReads (R.seen rack.old) (R.seen rack.new) }
     ensures loans { SameLoans store.old store.new }
     ensures account { StopCounts (O.account out.old) (O.account out.new) result }
-    ensures cause { StopCause store.old.layout (R.seen rack.old) (R.seen rack.new) result }
+    ensures cause { DumpStopCause store.old.layout (R.seen rack.old) (R.seen rack.new) result }
     ensures grows { Grows (O.text out.old) (O.text out.new) }
     ensures content { TellsBlock store.old.layout addr (R.seen rack.old) (R.seen rack.new)
-        (λ B. Writes (unread_by store.old.layout (R.seen rack.old) (R.seen rack.new)) []
+        (λ B. ShowsText (unread_by store.old.layout (R.seen rack.old) (R.seen rack.new)) []
         (exec B (block_shown kind addr))
         (O.text out.old) (O.text out.new) text.old text.new result) }
 {
@@ -100,7 +100,7 @@ pub fn dump_block<R: Rack, O: Out>(
     ensures reads { OnlyReads (R.seen rack.old) (R.seen rack.new) }
     ensures same { SameVolume vol.old vol.new }
     ensures account { StopCounts (O.account out.old) (O.account out.new) result }
-    ensures cause { StopCause vol.old.store.layout (R.seen rack.old) (R.seen rack.new) result }
+    ensures cause { DumpStopCause vol.old.store.layout (R.seen rack.old) (R.seen rack.new) result }
     ensures grows { Grows (O.text out.old) (O.text out.new) }
     ensures content { TellsBlock vol.old.store.layout addr (R.seen rack.old) (R.seen rack.new)
         (λ B. PutsText (unread_by vol.old.store.layout (R.seen rack.old) (R.seen rack.new))

@@ -7,8 +7,8 @@ ghost use Rattle.btr_read.specs.declared.want.Want.{Want};
 ghost use Rattle.btr_walk.specs.Lending.{base};
 ghost use Rattle.btr_walk.specs.Reading.{Map, Tells, unread_by};
 ghost use Rattle.btr_dump.specs.Pieces.{Shown};
-ghost use Rattle.btr_dump.specs.Showing.{Grows, Writes, Turns, TurnNears};
-ghost use Rattle.btr_dump.specs.Stops.{StopCounts, StopCause};
+ghost use Rattle.btr_dump.specs.Showing.{Grows, ShowsText, Turns, TurnNears};
+ghost use Rattle.btr_dump.specs.Stops.{StopCounts, DumpStopCause};
 
 use btr_rack::{Out, Rack};
 use btr_read::Store;
@@ -50,7 +50,7 @@ pub(crate) trait Cursor {
         ensures others { SameLoans (base store.old (loan self.old)) (base store.new (loan self.new)) }
         ensures nears { TurnNears (rank self.old) (rank self.new) result }
         ensures account { StopCounts (O.account out.old) (O.account out.new) result }
-        ensures cause { StopCause store.old.layout (R.seen rack.old) (R.seen rack.new) result }
+        ensures cause { DumpStopCause store.old.layout (R.seen rack.old) (R.seen rack.new) result }
         ensures grows { Grows (O.text out.old) (O.text out.new) }
         ensures content { Tells store.old.layout (R.seen rack.old) (R.seen rack.new)
             (λ B. (seen : List Want) → on B seen self.old
@@ -73,11 +73,11 @@ pub(crate) fn show_rest<C: Cursor, R: Rack, O: Out>(
     ensures reads { OnlyReads (R.seen rack.old) (R.seen rack.new) }
     ensures others { SameLoans (base store.old (C.loan cursor.old)) (base store.new (C.loan cursor.new)) }
     ensures account { StopCounts (O.account out.old) (O.account out.new) result }
-    ensures cause { StopCause store.old.layout (R.seen rack.old) (R.seen rack.new) result }
+    ensures cause { DumpStopCause store.old.layout (R.seen rack.old) (R.seen rack.new) result }
     ensures grows { Grows (O.text out.old) (O.text out.new) }
     ensures content { Tells store.old.layout (R.seen rack.old) (R.seen rack.new)
         (λ B. (seen : List Want) → C.on B seen cursor.old
-        → Writes (unread_by store.old.layout (R.seen rack.old) (R.seen rack.new)) seen
+        → ShowsText (unread_by store.old.layout (R.seen rack.old) (R.seen rack.new)) seen
         (exec B (C.left B store.old cursor.old))
         (O.text out.old) (O.text out.new) text.old text.new result) }
 {

@@ -4,7 +4,7 @@ ghost use Rattle.btr_rack.specs.Out.{CallAccount};
 ghost use Rattle.btr_rack.specs.Rack.{Seen};
 ghost use Rattle.btr_read.specs.Layout.{Layout};
 ghost use Rattle.btr_dump.specs.Showing.{Grows, Finishes};
-ghost use Rattle.btr_dump.specs.Stops.{stop_of, is_cut, StopCounts, StopCause};
+ghost use Rattle.btr_dump.specs.Stops.{stop_of, is_cut, StopCounts, DumpStopCause};
 
 use btr_rack::{Out, SinkError};
 use btr_text::TextBuffer;
@@ -38,7 +38,7 @@ pub(crate) fn finish<O: Out>(
     ensures account { (begun : CallAccount)
         → StopCounts begun (O.account out.old) shown → StopCounts begun (O.account out.new) result }
     ensures cause { (layout : Layout) (before now : Seen)
-        → StopCause layout before now shown → StopCause layout before now result }
+        → DumpStopCause layout before now shown → DumpStopCause layout before now result }
 {
     if is_cut(&shown) {
         return shown;

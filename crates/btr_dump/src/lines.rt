@@ -6,7 +6,7 @@ ghost use Rattle.btr_text.specs.Pieces.{text_of};
 ghost use Rattle.btr_walk.specs.Showing.{item_of};
 ghost use Rattle.btr_dump.specs.Pieces.{piece, root_text, item_line};
 ghost use Rattle.btr_dump.specs.Showing.{WritesAlways};
-ghost use Rattle.btr_dump.specs.Stops.{StopCounts, StopCause};
+ghost use Rattle.btr_dump.specs.Stops.{StopCounts, DumpStopCause};
 
 use crate::ending::stop_of;
 use btr_items::{ItemFault, RootItem, item};
@@ -23,7 +23,7 @@ pub(crate) fn write_line<O: Out>(
 ) -> Result<(), Stop>
     ensures text { WritesAlways (piece (text_of line.now)) (O.text out.old) (O.text out.new) text.old text.new result }
     ensures account { StopCounts (O.account out.old) (O.account out.new) result }
-    ensures cause { (layout : Layout) (before now : Seen) → StopCause layout before now result }
+    ensures cause { (layout : Layout) (before now : Seen) → DumpStopCause layout before now result }
 {
     match text.push_all(line, out) {
         Ok(()) => Ok(()),
@@ -65,7 +65,7 @@ pub(crate) fn write_item<O: Out>(
     ensures text { WritesAlways (item_line (item_of found.now))
         (O.text out.old) (O.text out.new) text.old text.new result }
     ensures account { StopCounts (O.account out.old) (O.account out.new) result }
-    ensures cause { (layout : Layout) (before now : Seen) → StopCause layout before now result }
+    ensures cause { (layout : Layout) (before now : Seen) → DumpStopCause layout before now result }
 {
     if found.key.kind != item::ROOT_ITEM {
         return Ok(());

@@ -5,13 +5,13 @@ ghost use Rattle.btr_rack.specs.Rack.{OnlyReads};
 ghost use Rattle.btr_read.specs.Serves.{Serves};
 ghost use Rattle.btr_read.specs.Store.{SameLoans, free_count};
 ghost use Rattle.btr_text.specs.Pieces.{text_of};
-ghost use Rattle.btr_text.specs.Text.{Writes as WritesText};
+ghost use Rattle.btr_text.specs.Text.{WritesOut as WritesText};
 ghost use Rattle.btr_volume.specs.Looking.{SameVolume};
 ghost use Rattle.btr_volume.specs.Tree.{root_root, named_root};
 ghost use Rattle.btr_volume.specs.Table.{chunk_root};
 ghost use Rattle.btr_dump.specs.Pieces as spec;
 ghost use Rattle.btr_dump.specs.Showing.{Grows, WritesShown, PutsShown};
-ghost use Rattle.btr_dump.specs.Stops.{StopCounts, StopCause};
+ghost use Rattle.btr_dump.specs.Stops.{StopCounts, DumpStopCause};
 
 use crate::cursor::{Cursor, show_rest};
 use crate::ending::{finish, stop_of};
@@ -95,7 +95,7 @@ fn show_roots<R: Rack, O: Out>(
     ensures reads { OnlyReads (R.seen rack.old) (R.seen rack.new) }
     ensures loans { SameLoans store.old store.new }
     ensures account { StopCounts (O.account out.old) (O.account out.new) result }
-    ensures cause { StopCause store.old.layout (R.seen rack.old) (R.seen rack.new) result }
+    ensures cause { DumpStopCause store.old.layout (R.seen rack.old) (R.seen rack.new) result }
     ensures grows { Grows (O.text out.old) (O.text out.new) }
     ensures content { WritesShown store.old (R.seen rack.old) (R.seen rack.new) (spec.roots_shown s.now)
         (O.text out.old) (O.text out.new) text.old text.new result }
@@ -127,7 +127,7 @@ pub fn list_roots<R: Rack, O: Out>(rack: &mut R, vol: &mut Volume, out: &mut O) 
     ensures reads { OnlyReads (R.seen rack.old) (R.seen rack.new) }
     ensures same { SameVolume vol.old vol.new }
     ensures account { StopCounts (O.account out.old) (O.account out.new) result }
-    ensures cause { StopCause vol.old.store.layout (R.seen rack.old) (R.seen rack.new) result }
+    ensures cause { DumpStopCause vol.old.store.layout (R.seen rack.old) (R.seen rack.new) result }
     ensures grows { Grows (O.text out.old) (O.text out.new) }
     ensures content { PutsShown vol.old.store (R.seen rack.old) (R.seen rack.new) (spec.roots_shown vol.old.sup)
         (O.text out.old) (O.text out.new) result }

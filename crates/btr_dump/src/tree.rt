@@ -8,8 +8,8 @@ ghost use Rattle.btr_text.specs.Pieces.{text_of};
 ghost use Rattle.btr_volume.specs.Looking.{SameVolume};
 ghost use Rattle.btr_walk.specs.Reading.{TellsOf};
 ghost use Rattle.btr_dump.specs.Pieces.{tree_text, tree_shown, asked_tree};
-ghost use Rattle.btr_dump.specs.Showing.{Grows, Writes, PutsAsked, WritesShown, PutsShown};
-ghost use Rattle.btr_dump.specs.Stops.{StopCounts, StopCause};
+ghost use Rattle.btr_dump.specs.Showing.{Grows, ShowsText, PutsAsked, WritesShown, PutsShown};
+ghost use Rattle.btr_dump.specs.Stops.{StopCounts, DumpStopCause};
 
 use crate::block::write_held;
 use crate::cursor::{Cursor, show_rest};
@@ -75,7 +75,7 @@ impl Cursor for TreeBlocks {
     }
 }
 
-/// Writes a tree: its line, and the text of each of its blocks.
+/// ShowsText a tree: its line, and the text of each of its blocks.
 pub(crate) fn show_tree<R: Rack, O: Out>(
     kind: SumKind,
     root: &TreeRoot,
@@ -90,7 +90,7 @@ pub(crate) fn show_tree<R: Rack, O: Out>(
     ensures reads { OnlyReads (R.seen rack.old) (R.seen rack.new) }
     ensures loans { SameLoans store.old store.new }
     ensures account { StopCounts (O.account out.old) (O.account out.new) result }
-    ensures cause { StopCause store.old.layout (R.seen rack.old) (R.seen rack.new) result }
+    ensures cause { DumpStopCause store.old.layout (R.seen rack.old) (R.seen rack.new) result }
     ensures grows { Grows (O.text out.old) (O.text out.new) }
     ensures content { WritesShown store.old (R.seen rack.old) (R.seen rack.new) (tree_shown kind root.now)
         (O.text out.old) (O.text out.new) text.old text.new result }
@@ -123,7 +123,7 @@ fn put_tree<R: Rack, O: Out>(
     ensures reads { OnlyReads (R.seen rack.old) (R.seen rack.new) }
     ensures loans { SameLoans store.old store.new }
     ensures account { StopCounts (O.account out.old) (O.account out.new) result }
-    ensures cause { StopCause store.old.layout (R.seen rack.old) (R.seen rack.new) result }
+    ensures cause { DumpStopCause store.old.layout (R.seen rack.old) (R.seen rack.new) result }
     ensures grows { Grows (O.text out.old) (O.text out.new) }
     ensures content { PutsShown store.old (R.seen rack.old) (R.seen rack.new) (tree_shown kind root.now)
         (O.text out.old) (O.text out.new) result }
@@ -153,7 +153,7 @@ pub fn dump_tree<R: Rack, O: Out>(
     ensures reads { OnlyReads (R.seen rack.old) (R.seen rack.new) }
     ensures same { SameVolume vol.old vol.new }
     ensures account { StopCounts (O.account out.old) (O.account out.new) result }
-    ensures cause { StopCause vol.old.store.layout (R.seen rack.old) (R.seen rack.new) result }
+    ensures cause { DumpStopCause vol.old.store.layout (R.seen rack.old) (R.seen rack.new) result }
     ensures grows { Grows (O.text out.old) (O.text out.new) }
     ensures content { TellsOf vol.old.store (R.seen rack.old) (R.seen rack.new)
         (λ Is B. PutsAsked Is (exec B (asked_tree vol.old.sup id)) (O.text out.old) (O.text out.new) result) }

@@ -11,7 +11,7 @@ ghost use Rattle.btr_walk.specs.Showing.{item_of};
 ghost use Rattle.btr_volume.specs.Looking.{SameVolume};
 ghost use Rattle.btr_dump.specs.Pieces.{item_root, top_trees, all_trees};
 ghost use Rattle.btr_dump.specs.Showing.{Grows, WritesShown, PutsShown};
-ghost use Rattle.btr_dump.specs.Stops.{StopCounts, StopCause};
+ghost use Rattle.btr_dump.specs.Stops.{StopCounts, DumpStopCause};
 ghost use Rattle.btr_dump.specs.Trees.{ItemNears, NextItemBy};
 
 use crate::cursor::{Cursor, show_rest};
@@ -138,7 +138,7 @@ fn show_tops<R: Rack, O: Out>(
     ensures reads { OnlyReads (R.seen rack.old) (R.seen rack.new) }
     ensures loans { SameLoans store.old store.new }
     ensures account { StopCounts (O.account out.old) (O.account out.new) result }
-    ensures cause { StopCause store.old.layout (R.seen rack.old) (R.seen rack.new) result }
+    ensures cause { DumpStopCause store.old.layout (R.seen rack.old) (R.seen rack.new) result }
     ensures grows { Grows (O.text out.old) (O.text out.new) }
     ensures content { WritesShown store.old (R.seen rack.old) (R.seen rack.new) (top_trees s.now)
         (O.text out.old) (O.text out.new) text.old text.new result }
@@ -164,7 +164,7 @@ fn show_all<R: Rack, O: Out>(
     ensures reads { OnlyReads (R.seen rack.old) (R.seen rack.new) }
     ensures loans { SameLoans store.old store.new }
     ensures account { StopCounts (O.account out.old) (O.account out.new) result }
-    ensures cause { StopCause store.old.layout (R.seen rack.old) (R.seen rack.new) result }
+    ensures cause { DumpStopCause store.old.layout (R.seen rack.old) (R.seen rack.new) result }
     ensures grows { Grows (O.text out.old) (O.text out.new) }
     ensures content { WritesShown store.old (R.seen rack.old) (R.seen rack.new) (all_trees s.now)
         (O.text out.old) (O.text out.new) text.old text.new result }
@@ -196,7 +196,7 @@ pub fn dump_all<R: Rack, O: Out>(rack: &mut R, vol: &mut Volume, out: &mut O) ->
     ensures reads { OnlyReads (R.seen rack.old) (R.seen rack.new) }
     ensures same { SameVolume vol.old vol.new }
     ensures account { StopCounts (O.account out.old) (O.account out.new) result }
-    ensures cause { StopCause vol.old.store.layout (R.seen rack.old) (R.seen rack.new) result }
+    ensures cause { DumpStopCause vol.old.store.layout (R.seen rack.old) (R.seen rack.new) result }
     ensures grows { Grows (O.text out.old) (O.text out.new) }
     ensures content { PutsShown vol.old.store (R.seen rack.old) (R.seen rack.new) (all_trees vol.old.sup)
         (O.text out.old) (O.text out.new) result }

@@ -27,13 +27,13 @@ use Rattle.btr_volume.specs.declared.root.TreeRoot.{TreeRoot}
 use Rattle.btr_volume.specs.Tree.{key, last}
 use Rattle.btr_volume.specs.Lookup.{Lookup, formed, each}
 use Rattle.btr_files.specs.declared.name_list.NamePlace.{NamePlace}
-use Rattle.btr_files.specs.Gathering.{IsWithin, link_at, links_more, names_step, parts_linked}
+use Rattle.btr_files.specs.Gathering.{IsNameWithin, link_at, links_more, names_step, parts_linked}
 use Rattle.btr_files.specs.Names.{Link, link, inode_link, ext_link, links, parts_of, links_of}
 use Rattle.btr_files.specs.Steps.{formed_next}
 use Rattle.btr_files.proofs.Folding.{bind-return, fold_as, formed_map}
 
 -- a name stays where bytes come behind those of all
-link_same : (bytes more : List ℕ) (place : NamePlace) → IsWithin (length bytes) place → link_at (bytes ++ more) place ≡ link_at bytes place
+link_same : (bytes more : List ℕ) (place : NamePlace) → IsNameWithin (length bytes) place → link_at (bytes ++ more) place ≡ link_at bytes place
 link_same bytes more place within =
     let n = place.at + place.len - place.at in
     ap (link place.parent place.index)
@@ -41,7 +41,7 @@ link_same bytes more place within =
     ∙ take-append-le n (drop place.at bytes) more (omega (arith, within, length-drop place.at bytes)))
 
 -- all names of a list stay where bytes come after those of all
-links_same : (bytes more : List ℕ) (places : List NamePlace) → All (IsWithin (length bytes)) places
+links_same : (bytes more : List ℕ) (places : List NamePlace) → All (IsNameWithin (length bytes)) places
     → map (link_at (bytes ++ more)) places ≡ map (link_at bytes) places
 links_same bytes more [] h = refl
 links_same bytes more (place ∷ places) h =
@@ -58,7 +58,7 @@ link_behind bytes name parent index =
 -- the names after one was added
 pub links_added : (bytes bytes' name : List ℕ) (parent index at : ℕ) (places places' : List NamePlace) → at ≡ length bytes
     → bytes' ≡ bytes ++ name → places' ≡ places ++ record { parent = parent; index = index; at = at; len = length name } ∷ []
-    → All (IsWithin (length bytes)) places
+    → All (IsNameWithin (length bytes)) places
     → map (link_at bytes') places' ≡ map (link_at bytes) places ++ link parent index name ∷ []
 links_added bytes bytes' name parent index at places places' is_at is_bytes is_places within =
     let place : ℕ → NamePlace = λ n. record { parent = parent; index = index; at = n; len = length name } in

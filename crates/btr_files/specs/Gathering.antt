@@ -22,8 +22,8 @@ abbrev pub link_at : List ℕ → NamePlace → Link
 link_at bytes place = link place.parent place.index (bytes_at place.len place.at bytes)
 
 -- its bytes stand among so many
-abbrev pub IsWithin : ℕ → NamePlace → Type 0
-IsWithin count place = place.at + place.len ≤ count
+abbrev pub IsNameWithin : ℕ → NamePlace → Type 0
+IsNameWithin count place = place.at + place.len ≤ count
 
 -- some names, and then those that the parts of a body lead to; none where a part breaks its form
 abbrev pub parts_linked : {T : Type 0} → (T → Link) → List Link → List (Result T ItemFault) → Option (List Link)

@@ -128,8 +128,8 @@ abbrev pub FileGoes : SumKind → (ℕ → Map) → FileBytes → Run Want Fault
 FileGoes kind Bs file = LeftBy kind file.source Bs (Bs 0) file.progress
 
 -- a file that begins: each run of what it has to give is one of a program
-abbrev pub Begins : SumKind → FileBytes → Program Piece (Unit {0}) → Type 0
-Begins kind file p = (Bs : ℕ → Map) (q : Run Want Fault Piece (Unit {0})) → FileGoes kind Bs file q → GoesTo Bs p q
+abbrev pub BeginsFile : SumKind → FileBytes → Program Piece (Unit {0}) → Type 0
+BeginsFile kind file p = (Bs : ℕ → Map) (q : Run Want Fault Piece (Unit {0})) → FileGoes kind Bs file q → GoesTo Bs p q
 
 -- an inline extent is the item that was met last
 abbrev pub IsInline : Option TreeItem → Todo → Type 0

@@ -6,7 +6,7 @@ ghost use Rattle.btr_read.specs.Serves.{Serves};
 ghost use Rattle.btr_read.specs.Store.{Blocks, SameLoans};
 ghost use Rattle.btr_walk.specs.Reading.{Map};
 ghost use Rattle.btr_files.specs.Content.{content};
-ghost use Rattle.btr_files.specs.Streaming.{Begins, IsFileOn, IsHeld, IsReading, without_file};
+ghost use Rattle.btr_files.specs.Streaming.{BeginsFile, IsFileOn, IsHeld, IsReading, without_file};
 
 use crate::lookup::{give_back, key_of};
 use crate::progress::{Progress, Source, Todo};
@@ -38,7 +38,7 @@ impl FileBytes {
     ) -> FileBytes
         ensures reading { (rack : Seen) (store : Blocks) → Serves rack store → IsReading rack store result }
         ensures free { (store : Blocks) → without_file store result ≡ store }
-        ensures program { (kind : SumKind) → Begins kind result (content kind sums nosum size tree ino) }
+        ensures program { (kind : SumKind) → BeginsFile kind result (content kind sums nosum size tree ino) }
         ensures on { (B : Map) → IsFileOn B [] result }
     {
         let lo = key_of(ino, item::EXTENT_DATA, 0);

@@ -36,14 +36,14 @@ pub struct NameList {
 
 impl Model for NameList {
     ghost use Rattle.std.specs.Prelude.{List, All, length, map};
-    ghost use Rattle.btr_files.specs.Gathering.{IsWithin, link_at};
+    ghost use Rattle.btr_files.specs.Gathering.{IsNameWithin, link_at};
     ghost use Rattle.btr_files.specs.Names.{Link};
 
     ghost Value = { List Link };
 
     ghost view = { λ list. map (link_at list.bytes.items) list.places.items };
 
-    ghost invariant = { λ list. All (IsWithin (length list.bytes.items)) list.places.items };
+    ghost invariant = { λ list. All (IsNameWithin (length list.bytes.items)) list.places.items };
 }
 
 impl NameList {

@@ -6,15 +6,8 @@ use Rattle.btr_prog.specs.Prog.{Mark, Wants, Does, Run, run, first, prepend, ste
 use Rattle.btr_prog.specs.Thread.{end_of}
 use Rattle.btr_prog.specs.Answers.{Halt, Fault, Unread, Broke, Names, Breaks, Follows, no_part}
 use Rattle.btr_prog.specs.Goes.{ThreadsTo}
+use Rattle.btr_prog.proofs.Tries.{steps_of-marks, wants_of-marks}
 use Rattle.btr_prog.proofs.SoFars.{SoFar, so_far_more, so_far_ends, Answers}
-
-wants_back : {W : Type 0} (X : Type 0) (ws : List W) → wants_of (want_marks {S = X} ws) ≡ ws
-wants_back X [] = refl
-wants_back X (w ∷ ws) = ap (λ x. w ∷ x) (wants_back X ws)
-
-steps_back : {W : Type 0} (X : Type 0) (ws : List W) → steps_of (want_marks {S = X} ws) ≡ []
-steps_back X [] = refl
-steps_back X (w ∷ ws) = steps_back X ws
 
 nothing_left : {S : Type 0} (xs : List S) (o : Option S) → [] ≡ xs ++ option_to_list o → [] ≡ xs
 nothing_left [] o e = refl
@@ -35,9 +28,9 @@ module _ {W F S A T St R : Type 0} (Body : St → S → Run W F T (Result St R) 
   so_far_past Whole seen ws done st r r' e s =
       let t : SoFar Whole (Treats st (prepend (want_marks ws) r')) seen done = subst (λ x. SoFar Whole (Treats st x) seen done) e s in
       let u = so_far_more Whole (Treats st (prepend (want_marks ws) r')) (Treats st r') seen done (want_marks ws) (λ q h. past_in ws st r' q h) t in
-      subst (λ (x : List W). SoFar Whole (Treats st r') (seen ++ x) done) (wants_back T ws)
+      subst (λ (x : List W). SoFar Whole (Treats st r') (seen ++ x) done) (wants_of-marks T ws)
       (subst (λ (x : List T). SoFar Whole (Treats st r') (seen ++ wants_of (want_marks {S = T} ws)) x)
-      (ap (λ (x : List T). done ++ x) (steps_back T ws) ∙ append-nil done) u)
+      (ap (λ (x : List T). done ++ x) (steps_of-marks T ws) ∙ append-nil done) u)
 
   module _ (some : (st : St) (r : Run W F S A) → (q : Run W F T R) × Treats st r q) where
     -- marks without a step before others
@@ -48,8 +41,19 @@ module _ {W F S A T St R : Type 0} (Body : St → S → Run W F T (Result St R) 
         (g.0, g.1, record { before = []; behind = g.0.marks; left = None; place = refl; steps = refl; leaves = tt; holds = h })
     stops_at part P st e (Wants w ∷ before) behind n h =
         let g = stops_at part (λ ws. P (w ∷ ws)) st e before behind n h in
-        let b = g.2 in
-        (first (Wants w) g.0, (g.0, refl, g.1), record { before = Wants w ∷ b.before; behind = b.behind; left = b.left; place = ap (λ x. Wants w ∷ x) b.place; steps = b.steps; leaves = b.leaves; holds = b.holds })
+        let b = g.2 in (
+          first (Wants w) g.0,
+          (g.0, refl, g.1),
+          record {
+            before = Wants w ∷ b.before;
+            behind = b.behind;
+            left = b.left;
+            place = ap (λ x. Wants w ∷ x) b.place;
+            steps = b.steps;
+            leaves = b.leaves;
+            holds = b.holds;
+          },
+        )
     stops_at part P st e (Does s ∷ before) behind n h = cc
 
     breaks_as : (part0 : S → ℕ → Option S) (part : T → ℕ → Option T) (P : List W → Type 0) (st : St) (r : Run W F S A) → Breaks part0 P r []

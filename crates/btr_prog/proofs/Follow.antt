@@ -1,5 +1,5 @@
 -- How the answers of calls fit together.
-use Rattle.std.proofs.Common.{◌≡◌, ◌⊎◌, inl, inr, ℕ, List, [], ◌∷◌, ◌++◌, Option, Some, None, Result, Ok, Err, refl, sym, ap, ◌∙◌, subst, append_assoc}
+use Rattle.std.proofs.Common.{◌≡◌, inl, inr, ℕ, List, [], ◌∷◌, ◌++◌, Option, Some, None, Result, Ok, Err, refl, sym, ap, ◌∙◌, subst, append_assoc}
 use Rattle.std.proofs.Common.{append-nil}
 use Rattle.std.specs.Option.{option_to_list}
 use Rattle.btr_prog.specs.Prog.{BlockMap, Prog, Mark, Wants, Does, Run, run, first, prepend, given, exec, after, and_then, steps_of, wants_of}
@@ -15,11 +15,6 @@ module _ {W U : Type 0} (Is : U → W → Type 0) (u : U) where
   pub names_right : (vs ws : List W) → Names Is u ws → Names Is u (vs ++ ws)
   names_right [] ws h = h
   names_right (v ∷ vs) ws h = inr (names_right vs ws h)
-
-  pub names_split : (vs ws : List W) → Names Is u (vs ++ ws) → Names Is u vs ⊎ Names Is u ws
-  names_split [] ws h = inr h
-  names_split (v ∷ vs) ws (inl e) = inl (inl e)
-  names_split (v ∷ vs) ws (inr h) = elim (names_split vs ws h) [ inl g ↦ inl (inr g) | inr g ↦ inr g ]
 
 -- what is left of a step stays so where more marks come behind
 pub leaves_more : {W S : Type 0} (part : S → ℕ → Option S) (left : Option S) (ms ns : List (Mark W S)) → Leaves part left ms → Leaves part left (ms ++ ns)
@@ -46,7 +41,15 @@ module _ {W F S : Type 0} (part : S → ℕ → Option S) where
   -- what holds of the wants before may be weakened
   pub breaks_weak : {A : Type 0} (P Q : List W → Type 0) (r : Run W F S A) (done : List S) → ((ws : List W) → P ws → Q ws) → Breaks part P r done
       → Breaks part Q r done
-  breaks_weak P Q r done f b = record { before = b.before; behind = b.behind; left = b.left; place = b.place; steps = b.steps; leaves = b.leaves; holds = f (wants_of b.before) b.holds }
+  breaks_weak P Q r done f b = record {
+    before = b.before;
+    behind = b.behind;
+    left = b.left;
+    place = b.place;
+    steps = b.steps;
+    leaves = b.leaves;
+    holds = f (wants_of b.before) b.holds;
+  }
 
   -- a run that is broken off, also where more would have come
   pub breaks_longer : {A C : Type 0} (P : List W → Type 0) (r : Run W F S A) (more : List (Mark W S)) (e : Result C F) (done : List S)
@@ -64,7 +67,15 @@ module _ {W F S : Type 0} (part : S → ℕ → Option S) where
   pub breaks_then : {A C : Type 0} (P : List W → Type 0) (ms : List (Mark W S)) (e : Result A F) (k : A → Run W F S C) (done : List S)
       → Breaks part P (run ms e) done → Breaks part P (after ms e k) done
   breaks_then P ms (Ok a) k done b = breaks_longer P (run ms (Ok a)) (k a).marks (k a).ending done b
-  breaks_then P ms (Err f) k done b = record { before = b.before; behind = b.behind; left = b.left; place = b.place; steps = b.steps; leaves = b.leaves; holds = b.holds }
+  breaks_then P ms (Err f) k done b = record {
+    before = b.before;
+    behind = b.behind;
+    left = b.left;
+    place = b.place;
+    steps = b.steps;
+    leaves = b.leaves;
+    holds = b.holds;
+  }
 
   -- a run that is broken off before it did anything
   pub breaks_here : {A : Type 0} (P : List W → Type 0) (r : Run W F S A) → P [] → Breaks part P r []
@@ -129,7 +140,15 @@ module _ {W F S U : Type 0} (Is : U → W → Type 0) (part : S → ℕ → Opti
   want_faults seen B w f k e = subst (λ x. Follows Is part seen (first (Wants w) (given x (λ bytes. exec B (k bytes)))) [] (Err (Fault f))) (sym e) (refl, refl)
 
   pub want_unread : {A : Type 0} (seen : List W) (u : U) (w : W) (r : Run W F S A) → Is u w → Follows Is part seen (first (Wants w) r) [] (Err (Unread u))
-  want_unread seen u w r h = record { before = Wants w ∷ []; behind = r.marks; left = None; place = refl; steps = refl; leaves = tt; holds = names_right Is u seen (w ∷ []) (inl h) }
+  want_unread seen u w r h = record {
+    before = Wants w ∷ [];
+    behind = r.marks;
+    left = None;
+    place = refl;
+    steps = refl;
+    leaves = tt;
+    holds = names_right Is u seen (w ∷ []) (inl h);
+  }
 
   pub step_done : {A : Type 0} (seen : List W) (s : S) (r : Run W F S A) (done : List S) (ans : Result A (Halt F U)) → Follows Is part seen r done ans
       → Follows Is part seen (first (Does s) r) (s ∷ done) ans

@@ -7,7 +7,7 @@ use Rattle.btr_prog.proofs.Runs.{steps_of-append}
 use Rattle.btr_prog.proofs.Threads.{exec-thread}
 
 module _ {W F : Type 0} where
-  pub outcome_of-after : {S A C : Type 0} (ms : List (Mark W S)) (e : Result A F) (k : A → Run W F S C) (h : A → Outcome F S C)
+  outcome_of-after : {S A C : Type 0} (ms : List (Mark W S)) (e : Result A F) (k : A → Run W F S C) (h : A → Outcome F S C)
       → ((a : A) → outcome_of (k a) ≡ h a) → outcome_of (after ms e k) ≡ after_steps (steps_of ms) e h
   outcome_of-after ms (Ok a) k h e = ap (λ x. outcome x (k a).ending) (steps_of-append ms (k a).marks)
       ∙ ap (λ (o : Outcome F _ _). outcome (steps_of ms ++ o.steps) o.ending) (e a)

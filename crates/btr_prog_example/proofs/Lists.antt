@@ -13,10 +13,10 @@ use Rattle.btr_prog.proofs.SoFars.{SoFar, so_far_none, so_far_more, so_far_step,
 use Rattle.btr_prog_example.specs.declared.blocks.Want.{Want}
 use Rattle.btr_prog_example.specs.declared.blocks.Want.TheVariants.{Catalogue}
 use Rattle.btr_prog_example.specs.declared.blocks.Stop.{Stop}
-use Rattle.btr_prog_example.specs.Blocks.{IsTold, Misses, Reads}
+use Rattle.btr_prog_example.specs.Blocks.{IsTold, Misses, ReadsBlock}
 use Rattle.btr_prog_example.specs.Rows.{Row, part}
 use Rattle.btr_prog_example.specs.Listing.{items, catalogue, shown, next, treat, listing}
-use Rattle.btr_prog_example.specs.Answers.{halt_of, Puts}
+use Rattle.btr_prog_example.specs.Answers.{halt_of, PutsRows}
 use Rattle.btr_prog_example.proofs.Shows.{puts_stop}
 
 abbrev pub does : List ℕ → List (Mark Want ℕ)
@@ -49,7 +49,7 @@ module _ (Bs : ℕ → Want → Result (List ℕ) ℕ) (a : ℕ) where
   goes_items (page ∷ pages) = (run (does pages) (Ok tt), refl, goes_items pages)
 
   -- the catalogue came
-  pub far_none : {Z : Type 0} (v : Vec ℕ Z) (old : List Row) → Reads Bs (Catalogue a) (Ok v) → Far Bs a v.items 0 old old
+  pub far_none : {Z : Type 0} (v : Vec ℕ Z) (old : List Row) → ReadsBlock Bs (Catalogue a) (Ok v) → Far Bs a v.items 0 old old
   far_none v old h =
       let q : Run Want ℕ ℕ (Unit {0}) = run (does v.items) (Ok tt) in
       let w : List (Mark Want Row) = Wants (Catalogue a) ∷ [] in
@@ -67,7 +67,7 @@ module _ (Bs : ℕ → Want → Result (List ℕ) ℕ) (a : ℕ) where
     rows_then more e = e ∙ (ap (λ x. x ++ more) f.rows ∙ append_assoc old f.done more)
 
     -- a page was shown
-    pub far_more : Puts Bs (shown page) now new (Ok true) → Far Bs a pages page old new
+    pub far_more : PutsRows Bs (shown page) now new (Ok true) → Far Bs a pages page old new
     far_more p =
         let r = p.2.0 in
         let b = with_value Bs (next last page) r in
@@ -81,7 +81,7 @@ module _ (Bs : ℕ → Want → Result (List ℕ) ℕ) (a : ℕ) where
         }
 
     -- a page is empty, which ends the listing
-    pub far_early : Puts Bs (shown page) now new (Ok false) → Puts Bs (listing a) old new (Ok last)
+    pub far_early : PutsRows Bs (shown page) now new (Ok false) → PutsRows Bs (listing a) old new (Ok last)
     far_early p =
         let r = p.2.0 in
         let b = with_value Bs (next last page) r in (
@@ -93,7 +93,7 @@ module _ (Bs : ℕ → Want → Result (List ℕ) ℕ) (a : ℕ) where
         )
 
     -- a page stops the listing
-    pub far_stops : (stop : Stop) → Puts Bs (shown page) now new (Err stop) → Puts Bs (listing a) old new (Err stop)
+    pub far_stops : (stop : Stop) → PutsRows Bs (shown page) now new (Err stop) → PutsRows Bs (listing a) old new (Err stop)
     far_stops stop p =
         let r = p.2.0 in
         let b = with_value Bs (next last page) r in (
@@ -107,11 +107,11 @@ module _ (Bs : ℕ → Want → Result (List ℕ) ℕ) (a : ℕ) where
         )
 
   -- no page is left
-  pub far_all : (last : ℕ) (old now : List Row) → Far Bs a [] last old now → Puts Bs (listing a) old now (Ok last)
+  pub far_all : (last : ℕ) (old now : List Row) → Far Bs a [] last old now → PutsRows Bs (listing a) old now (Ok last)
   far_all last old now f = (f.done, f.rows, so_far_ended (Goings Bs) fin IsTold part (Whole Bs a) f.seen f.done last tt f.sofar)
 
   -- the catalogue did not come
-  pub stops_at_once : (old : List Row) (stop : Stop) → Misses Bs (Catalogue a) stop → Puts Bs (listing a) old old (Err stop)
+  pub stops_at_once : (old : List Row) (stop : Stop) → Misses Bs (Catalogue a) stop → PutsRows Bs (listing a) old old (Err stop)
   stops_at_once old stop h = puts_stop Bs (Catalogue a) (λ bytes. thread treat fin 0 (items bytes)) old stop h
 
   -- the same by the index of a loop over the pages
@@ -122,16 +122,16 @@ module _ (Bs : ℕ → Want → Result (List ℕ) ℕ) (a : ℕ) where
       subst (λ (x : List ℕ). Far Bs a x last old now) e f
 
   module _ (xs : List ℕ) (i last : ℕ) (old now new : List Row) (h : i < length xs) (f : Far Bs a (drop i xs) last old now) where
-    pub loop_more : (more : Bool) → more ≡ true → Puts Bs (shown (get_or xs i 0)) now new (Ok more) → Far Bs a (drop (i + 1) xs) (get_or xs i 0) old new
+    pub loop_more : (more : Bool) → more ≡ true → PutsRows Bs (shown (get_or xs i 0)) now new (Ok more) → Far Bs a (drop (i + 1) xs) (get_or xs i 0) old new
     loop_more true e p = far_more (get_or xs i 0) (drop (i + 1) xs) last old now new (at_page xs i last old now h f) p
     loop_more false e p = cc
 
-    pub loop_early : (more : Bool) → more ≡ false → Puts Bs (shown (get_or xs i 0)) now new (Ok more) → Puts Bs (listing a) old new (Ok last)
+    pub loop_early : (more : Bool) → more ≡ false → PutsRows Bs (shown (get_or xs i 0)) now new (Ok more) → PutsRows Bs (listing a) old new (Ok last)
     loop_early true e p = cc
     loop_early false e p = far_early (get_or xs i 0) (drop (i + 1) xs) last old now new (at_page xs i last old now h f) p
 
-    pub loop_stops : (stop : Stop) → Puts Bs (shown (get_or xs i 0)) now new (Err stop) → Puts Bs (listing a) old new (Err stop)
+    pub loop_stops : (stop : Stop) → PutsRows Bs (shown (get_or xs i 0)) now new (Err stop) → PutsRows Bs (listing a) old new (Err stop)
     loop_stops stop p = far_stops (get_or xs i 0) (drop (i + 1) xs) last old now new (at_page xs i last old now h f) stop p
 
-  pub loop_all : (xs : List ℕ) (i last : ℕ) (old now : List Row) → length xs ≤ i → Far Bs a (drop i xs) last old now → Puts Bs (listing a) old now (Ok last)
+  pub loop_all : (xs : List ℕ) (i last : ℕ) (old now : List Row) → length xs ≤ i → Far Bs a (drop i xs) last old now → PutsRows Bs (listing a) old now (Ok last)
   loop_all xs i last old now h f = far_all last old now (subst (λ (x : List ℕ). Far Bs a x last old now) (drop_all i xs h) f)

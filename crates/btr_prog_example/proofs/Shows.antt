@@ -12,10 +12,10 @@ use Rattle.btr_prog_example.specs.declared.blocks.Want.{Want}
 use Rattle.btr_prog_example.specs.declared.blocks.Want.TheVariants.{Page}
 use Rattle.btr_prog_example.specs.declared.blocks.Stop.{Stop}
 use Rattle.btr_prog_example.specs.declared.blocks.Stop.TheVariants.{Lost, Unread, Sink, Memory}
-use Rattle.btr_prog_example.specs.Blocks.{IsTold, Misses, Reads}
+use Rattle.btr_prog_example.specs.Blocks.{IsTold, Misses, ReadsBlock}
 use Rattle.btr_prog_example.specs.Rows.{Row, Bytes, End, part}
 use Rattle.btr_prog_example.specs.Listing.{rows, shown}
-use Rattle.btr_prog_example.specs.Answers.{halt_of, answer_of, Puts, PutsPage}
+use Rattle.btr_prog_example.specs.Answers.{halt_of, answer_of, PutsRows, PutsPage}
 
 -- by its length, a list is empty or not
 pub none_of : (xs : List ℕ) → (length xs == 0) ≡ true → xs ≡ []
@@ -41,12 +41,12 @@ module _ (Bs : ℕ → Want → Result (List ℕ) ℕ) where
   goes_stop w k Memory h = goes_nowhere Bs IsTold part [] 0 (Need w k)
 
   pub puts_stop : {A : Type 0} (w : Want) (k : List ℕ → Prog Want ℕ Row A) (old : List Row) (stop : Stop) → Misses Bs w stop
-      → Puts Bs (Need w k) old old (Err stop)
+      → PutsRows Bs (Need w k) old old (Err stop)
   puts_stop w k old stop h = ([], sym (append-nil old), goes_stop w k stop h)
 
   -- the page's bytes came
-  pub puts_came : {Z : Type 0} (page : ℕ) (v : Vec ℕ Z) (old new : List Row) (result : Result Bool Stop) → Reads Bs (Page page) (Ok v)
-      → PutsPage v.items old new result → Puts Bs (shown page) old new result
+  pub puts_came : {Z : Type 0} (page : ℕ) (v : Vec ℕ Z) (old new : List Row) (result : Result Bool Stop) → ReadsBlock Bs (Page page) (Ok v)
+      → PutsPage v.items old new result → PutsRows Bs (shown page) old new result
   puts_came page v old new result h a =
       let put = a Bs in (
         put.0,

@@ -24,9 +24,9 @@ answer_of (Ok a) = Ok a
 answer_of (Err stop) = Err (halt_of stop)
 
 -- the rows that were put, and the answer, follow a run of the program
-abbrev pub Puts : {A : Type 0} → (ℕ → Want → Result (List ℕ) ℕ) → Prog Want ℕ Row A → List Row → List Row → Result A Stop → Type 0
-Puts Bs p old new result = (done : List Row) × (new ≡ old ++ done) × Goes IsTold part [] Bs p done (answer_of result)
+abbrev pub PutsRows : {A : Type 0} → (ℕ → Want → Result (List ℕ) ℕ) → Prog Want ℕ Row A → List Row → List Row → Result A Stop → Type 0
+PutsRows Bs p old new result = (done : List Row) × (new ≡ old ++ done) × Goes IsTold part [] Bs p done (answer_of result)
 
 -- the same of the rows of a page, which wants nothing
 abbrev pub PutsPage : List ℕ → List Row → List Row → Result Bool Stop → Type 0
-PutsPage bytes old new result = (Bs : ℕ → Want → Result (List ℕ) ℕ) → Puts Bs (rows bytes) old new result
+PutsPage bytes old new result = (Bs : ℕ → Want → Result (List ℕ) ℕ) → PutsRows Bs (rows bytes) old new result

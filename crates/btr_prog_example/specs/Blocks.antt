@@ -37,6 +37,6 @@ Misses Bs w Sink = ⊥
 Misses Bs w Memory = Unit {0}
 
 -- the answer is one of the copies, or there is a reason for none
-abbrev pub Reads : {Z : Type 0} → (ℕ → Want → Result (List ℕ) ℕ) → Want → Result (Vec ℕ Z) Stop → Type 0
-Reads Bs w (Ok v) = (n : ℕ) × (Bs n w ≡ Ok v.items)
-Reads Bs w (Err stop) = Misses Bs w stop
+abbrev pub ReadsBlock : {Z : Type 0} → (ℕ → Want → Result (List ℕ) ℕ) → Want → Result (Vec ℕ Z) Stop → Type 0
+ReadsBlock Bs w (Ok v) = (n : ℕ) × (Bs n w ≡ Ok v.items)
+ReadsBlock Bs w (Err stop) = Misses Bs w stop

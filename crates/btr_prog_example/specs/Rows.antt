@@ -13,9 +13,9 @@ part (Bytes bytes) n = Some (Bytes (take n bytes))
 part End n = None
 
 -- a call put the bytes as a row, or was refused and left none of it or a first part
-abbrev pub Puts : List Row → List Row → List ℕ → Result (Unit {0}) Refused → Type 0
-Puts old new bytes (Ok u) = new ≡ old ++ (Bytes bytes ∷ [])
-Puts old new bytes (Err e) = (new ≡ old) ⊎ ((n : ℕ) × (new ≡ old ++ (Bytes (take n bytes) ∷ [])))
+abbrev pub PutsRow : List Row → List Row → List ℕ → Result (Unit {0}) Refused → Type 0
+PutsRow old new bytes (Ok u) = new ≡ old ++ (Bytes bytes ∷ [])
+PutsRow old new bytes (Err e) = (new ≡ old) ⊎ ((n : ℕ) × (new ≡ old ++ (Bytes (take n bytes) ∷ [])))
 
 -- a call put the end of a page, or was refused and left nothing
 abbrev pub PutsEnd : List Row → List Row → Result (Unit {0}) Refused → Type 0

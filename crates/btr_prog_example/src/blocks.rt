@@ -1,6 +1,6 @@
 //! Blocks by their address.
 ghost use Rattle.btr_prog.specs.Calls.{Calls, Seen};
-ghost use Rattle.btr_prog_example.specs.Blocks.{Held, Agreed, copies, Reads};
+ghost use Rattle.btr_prog_example.specs.Blocks.{Held, Agreed, copies, ReadsBlock};
 
 /// What is wanted: a catalogue, which has a checksum, or a page, which has none.
 #[derive(Clone, Copy, Debug, PartialEq, Eq)]
@@ -28,5 +28,5 @@ pub trait Blocks {
 
     /// The bytes of a copy of the block that passes its test, the first where no read failed.
     fn read(&mut self, want: Want) -> Result<Vec<u8>, Stop>
-        ensures { Calls Agreed (seen self.old) (seen self.new) (λ sure held. Reads (copies sure held) want result) };
+        ensures { Calls Agreed (seen self.old) (seen self.new) (λ sure held. ReadsBlock (copies sure held) want result) };
 }

@@ -2,12 +2,12 @@
 ghost use Rattle.btr_prog.specs.Calls.{Calls};
 ghost use Rattle.btr_prog_example.specs.Blocks.{Agreed, copies};
 ghost use Rattle.btr_prog_example.specs.Listing.{shown, listing};
-ghost use Rattle.btr_prog_example.specs.Answers.{Puts, PutsPage};
+ghost use Rattle.btr_prog_example.specs.Answers.{PutsRows, PutsPage};
 
 use crate::blocks::{Blocks, Stop, Want};
 use crate::sink::Sink;
 
-/// Puts the bytes of a page and its end, where it has bytes. Answers whether it has.
+/// PutsRows the bytes of a page and its end, where it has bytes. Answers whether it has.
 fn put_page<S: Sink>(sink: &mut S, bytes: &[u8]) -> Result<bool, Stop>
     ensures { PutsPage bytes.now (S.rows sink.old) (S.rows sink.new) result }
 {
@@ -27,7 +27,7 @@ fn put_page<S: Sink>(sink: &mut S, bytes: &[u8]) -> Result<bool, Stop>
 /// Shows a page. Answers whether it has bytes.
 fn show<B: Blocks, S: Sink>(blocks: &mut B, sink: &mut S, page: u8) -> Result<bool, Stop>
     ensures { Calls Agreed (B.seen blocks.old) (B.seen blocks.new)
-        (λ sure held. Puts (copies sure held) (shown page) (S.rows sink.old) (S.rows sink.new) result) }
+        (λ sure held. PutsRows (copies sure held) (shown page) (S.rows sink.old) (S.rows sink.new) result) }
 {
     let bytes = blocks.read(Want::Page(page))?;
     put_page(sink, &bytes)
@@ -39,7 +39,7 @@ fn show<B: Blocks, S: Sink>(blocks: &mut B, sink: &mut S, page: u8) -> Result<bo
 /// those before some place, where the sink refused perhaps with a first part of a row.
 pub fn list<B: Blocks, S: Sink>(blocks: &mut B, sink: &mut S, catalogue: u8) -> Result<u8, Stop>
     ensures { Calls Agreed (B.seen blocks.old) (B.seen blocks.new)
-        (λ sure held. Puts (copies sure held) (listing catalogue) (S.rows sink.old) (S.rows sink.new) result) }
+        (λ sure held. PutsRows (copies sure held) (listing catalogue) (S.rows sink.old) (S.rows sink.new) result) }
 {
     let pages = blocks.read(Want::Catalogue(catalogue))?;
     let mut last = 0;

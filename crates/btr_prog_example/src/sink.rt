@@ -1,6 +1,6 @@
 //! Where rows are put.
 ghost use Rattle.std.specs.Prelude.{List};
-ghost use Rattle.btr_prog_example.specs.Rows.{Row, Puts, PutsEnd};
+ghost use Rattle.btr_prog_example.specs.Rows.{Row, PutsRow, PutsEnd};
 
 /// A row was refused.
 #[derive(Clone, Copy, Debug, PartialEq, Eq)]
@@ -10,9 +10,9 @@ pub struct Refused;
 pub trait Sink {
     ghost rows: { Self → List Row };
 
-    /// Puts bytes. Where it refuses, a first part of them may be there.
+    /// PutsRow bytes. Where it refuses, a first part of them may be there.
     fn put(&mut self, bytes: &[u8]) -> Result<(), Refused>
-        ensures { Puts (rows self.old) (rows self.new) bytes.now result };
+        ensures { PutsRow (rows self.old) (rows self.new) bytes.now result };
 
     /// Ends a page.
     fn end(&mut self) -> Result<(), Refused>

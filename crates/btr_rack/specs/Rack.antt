@@ -134,10 +134,10 @@ pub record TakesImage (name : List ℕ) (old new : Shelf) (images images' : List
   pub others : (other : List ℕ) → other ≢ name → new other ≡ old other
 
 -- what an opening does to the shelf and to the opened images: a rack tells both or neither
-abbrev pub Takes : List ℕ → Option Shelf → Option Shelf → Option (List (List ℕ)) → Option (List (List ℕ)) → Result ℕ RackError → Type 0
-Takes name (Some old) (Some new) (Some images) (Some images') (Ok _) = TakesImage name old new images images'
-Takes name shelf shelf' images images' (Ok _) = (shelf ≡ None) × (shelf' ≡ None) × (images ≡ None) × (images' ≡ None)
-Takes name shelf shelf' images images' (Err _) = (shelf' ≡ shelf) × (images' ≡ images)
+abbrev pub ShelfTakes : List ℕ → Option Shelf → Option Shelf → Option (List (List ℕ)) → Option (List (List ℕ)) → Result ℕ RackError → Type 0
+ShelfTakes name (Some old) (Some new) (Some images) (Some images') (Ok _) = TakesImage name old new images images'
+ShelfTakes name shelf shelf' images images' (Ok _) = (shelf ≡ None) × (shelf' ≡ None) × (images ≡ None) × (images' ≡ None)
+ShelfTakes name shelf shelf' images images' (Err _) = (shelf' ≡ shelf) × (images' ≡ images)
 
 -- what a write does to the opened images, where they are told: the range holds
 -- the bytes at Ok, and some bytes otherwise
@@ -162,7 +162,7 @@ pub record Seen : Type 0 where
 
 -- what an opening does to what is seen of the shelf and of the opened images
 abbrev pub TakesFromShelf : List ℕ → Seen → Seen → Result ℕ RackError → Type 0
-TakesFromShelf name old new result = Takes name old.shelf new.shelf old.held new.held result
+TakesFromShelf name old new result = ShelfTakes name old.shelf new.shelf old.held new.held result
 
 -- what a call at this place that is no opening does to what is seen of the account
 abbrev pub AccountsCall : {T : Type 0} → Place → Seen → Seen → Result T RackError → Type 0

@@ -5,7 +5,7 @@ use Rattle.std.proofs.Math.Seq.{take-append-add}
 use Rattle.std.specs.Result.{IsErr}
 use Rattle.btr_rack.specs.Out.{Adds, Puts}
 use Rattle.btr_rack.specs.declared.error.SinkError.{SinkError}
-use Rattle.btr_text.specs.Text.{Wrote, WasCut, Writes}
+use Rattle.btr_text.specs.Text.{Wrote, WasCut, WritesOut}
 
 -- nothing is added
 pub adds_nothing : (out : Option (List ℕ)) → Adds out out []
@@ -41,7 +41,7 @@ cut_flushing old new waited waits text n adds none = record {
 
 -- a text was put at once, behind what waited
 pub writes_at_once : {T : Type 0} (old mid new : Option (List ℕ)) (waited waits text : List ℕ) (r : Result T SinkError) → Adds old mid waited → waits
-    ≡ [] → Puts mid new text r → Writes old new waited waits text r
+    ≡ [] → Puts mid new text r → WritesOut old new waited waits text r
 writes_at_once old mid new waited waits text (Ok x) adds none puts =
     record { put = waited ++ text; adds = adds_twice old mid new waited text adds puts; whole = ap (λ l. (waited ++ text) ++ l) none ∙ append-nil (waited ++ text) }
 writes_at_once old mid new waited waits text (Err e) adds none puts = record {
@@ -111,26 +111,26 @@ cut_put {old = old} {new = new} {text = text} none a = (a.count, subst (λ l. Ad
 
 -- an error that is passed on
 pub cut_writes : {T : Type 0} {old new : Option (List ℕ)} {waited waits text : List ℕ} (r : Result T SinkError) → IsErr r
-    → WasCut old new waited waits text → Writes old new waited waits text r
+    → WasCut old new waited waits text → WritesOut old new waited waits text r
 cut_writes (Ok x) is a = absurd (cc is)
 cut_writes (Err e) is a = a
 
 -- a text behind one that was written
 pub writes_then : {T : Type 0} {old mid : Option (List ℕ)} {waited between first : List ℕ} (new : Option (List ℕ)) (waits second : List ℕ)
-    (r : Result T SinkError) → Wrote old mid waited between first → Writes mid new between waits second r
-    → Writes old new waited waits (first ++ second) r
+    (r : Result T SinkError) → Wrote old mid waited between first → WritesOut mid new between waits second r
+    → WritesOut old new waited waits (first ++ second) r
 writes_then new waits second (Ok x) a b = wrote_then a b
 writes_then new waits second (Err e) a b = cut_then a b
 
 -- from other bytes that are the same
 pub writes_from : {T : Type 0} (old new : Option (List ℕ)) (waited waited' waits text : List ℕ) (r : Result T SinkError) → waited ≡ waited'
-    → Writes old new waited waits text r → Writes old new waited' waits text r
-writes_from old new waited waited' waits text r same a = subst (λ l. Writes old new l waits text r) same a
+    → WritesOut old new waited waits text r → WritesOut old new waited' waits text r
+writes_from old new waited waited' waits text r same a = subst (λ l. WritesOut old new l waits text r) same a
 
 -- the same text, said otherwise
 pub writes_as : {T : Type 0} (old new : Option (List ℕ)) (waited waits text other : List ℕ) (r : Result T SinkError) → text ≡ other
-    → Writes old new waited waits text r → Writes old new waited waits other r
-writes_as old new waited waits text other r same a = subst (λ l. Writes old new waited waits l r) same a
+    → WritesOut old new waited waits text r → WritesOut old new waited waits other r
+writes_as old new waited waits text other r same a = subst (λ l. WritesOut old new waited waits l r) same a
 
 -- an error that is passed on, of a text that began in an empty buffer
 pub cut_puts : {T : Type 0} {old new : Option (List ℕ)} {waited waits text : List ℕ} (r : Result T SinkError) → IsErr r → waited ≡ []

@@ -16,6 +16,6 @@ pub record WasCut (old new : Option (List ℕ)) (waited waits text : List ℕ) :
   pub empty : waits ≡ []
 
 -- what writing a text does
-abbrev pub Writes : {T : Type 0} → Option (List ℕ) → Option (List ℕ) → List ℕ → List ℕ → List ℕ → Result T SinkError → Type 0
-Writes old new waited waits text (Ok _) = Wrote old new waited waits text
-Writes old new waited waits text (Err _) = WasCut old new waited waits text
+abbrev pub WritesOut : {T : Type 0} → Option (List ℕ) → Option (List ℕ) → List ℕ → List ℕ → List ℕ → Result T SinkError → Type 0
+WritesOut old new waited waits text (Ok _) = Wrote old new waited waits text
+WritesOut old new waited waits text (Err _) = WasCut old new waited waits text

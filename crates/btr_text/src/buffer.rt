@@ -4,7 +4,7 @@ ghost use Rattle.std.specs.Fmt.{decimal};
 ghost use Rattle.uuid.specs.Text.{hyphenated_text, lower};
 ghost use Rattle.btr_rack.specs.Out.{Puts, Counts};
 ghost use Rattle.btr_text.specs.Pieces.{name_text, bytes_text, kind_text, key_text, piece_text, text_of};
-ghost use Rattle.btr_text.specs.Text.{Writes};
+ghost use Rattle.btr_text.specs.Text.{WritesOut};
 
 use crate::digits::{byte_digits, hexadecimal, octal};
 use crate::piece::Piece;
@@ -52,9 +52,9 @@ impl TextBuffer {
         put
     }
 
-    /// Writes pieces, one behind another. The error is the output's; then a first part of the text was put, and nothing waits.
+    /// WritesOut pieces, one behind another. The error is the output's; then a first part of the text was put, and nothing waits.
     pub fn push_all<O: Out>(&mut self, pieces: &[Piece], out: &mut O) -> Result<(), SinkError>
-        ensures text { Writes (O.text out.old) (O.text out.new) self.old self.new (text_of pieces.now) result }
+        ensures text { WritesOut (O.text out.old) (O.text out.new) self.old self.new (text_of pieces.now) result }
         ensures account { Counts (O.account out.old) (O.account out.new) result }
     {
         for piece in pieces {
@@ -63,9 +63,9 @@ impl TextBuffer {
         Ok(())
     }
 
-    /// Writes a piece. The error is the output's; then a first part of the text was put, and nothing waits.
+    /// WritesOut a piece. The error is the output's; then a first part of the text was put, and nothing waits.
     pub fn push<O: Out>(&mut self, piece: Piece, out: &mut O) -> Result<(), SinkError>
-        ensures text { Writes (O.text out.old) (O.text out.new) self.old self.new (piece_text piece.entry) result }
+        ensures text { WritesOut (O.text out.old) (O.text out.new) self.old self.new (piece_text piece.entry) result }
         ensures account { Counts (O.account out.old) (O.account out.new) result }
     {
         match piece {
@@ -80,9 +80,9 @@ impl TextBuffer {
         }
     }
 
-    // Writes some bytes.
+    // WritesOut some bytes.
     fn add<O: Out>(&mut self, bytes: &[u8], out: &mut O) -> Result<(), SinkError>
-        ensures text { Writes (O.text out.old) (O.text out.new) self.old self.new bytes.now result }
+        ensures text { WritesOut (O.text out.old) (O.text out.new) self.old self.new bytes.now result }
         ensures account { Counts (O.account out.old) (O.account out.new) result }
     {
         match self.waiting.try_extend_from_slice(bytes) {
@@ -93,7 +93,7 @@ impl TextBuffer {
 
     // Puts what waits, and writes some bytes behind it, at once where there are more than can wait.
     fn add_behind<O: Out>(&mut self, bytes: &[u8], out: &mut O) -> Result<(), SinkError>
-        ensures text { Writes (O.text out.old) (O.text out.new) self.old self.new bytes.now result }
+        ensures text { WritesOut (O.text out.old) (O.text out.new) self.old self.new bytes.now result }
         ensures account { Counts (O.account out.old) (O.account out.new) result }
     {
         self.flush(out)?;
@@ -104,7 +104,7 @@ impl TextBuffer {
     }
 
     fn add_decimal<O: Out>(&mut self, n: u64, out: &mut O) -> Result<(), SinkError>
-        ensures text { Writes (O.text out.old) (O.text out.new) self.old self.new (decimal n) result }
+        ensures text { WritesOut (O.text out.old) (O.text out.new) self.old self.new (decimal n) result }
         ensures account { Counts (O.account out.old) (O.account out.new) result }
     {
         let mut digits = itoa::Buffer::new();
@@ -112,7 +112,7 @@ impl TextBuffer {
     }
 
     fn add_id<O: Out>(&mut self, id: [u8; 16], out: &mut O) -> Result<(), SinkError>
-        ensures text { Writes (O.text out.old) (O.text out.new) self.old self.new (hyphenated_text lower id) result }
+        ensures text { WritesOut (O.text out.old) (O.text out.new) self.old self.new (hyphenated_text lower id) result }
         ensures account { Counts (O.account out.old) (O.account out.new) result }
     {
         let mut buffer = Uuid::encode_buffer();
@@ -122,7 +122,7 @@ impl TextBuffer {
     }
 
     fn add_name<O: Out>(&mut self, name: &[u8], out: &mut O) -> Result<(), SinkError>
-        ensures text { Writes (O.text out.old) (O.text out.new) self.old self.new (name_text name.now) result }
+        ensures text { WritesOut (O.text out.old) (O.text out.new) self.old self.new (name_text name.now) result }
         ensures account { Counts (O.account out.old) (O.account out.new) result }
     {
         for b in name {
@@ -133,7 +133,7 @@ impl TextBuffer {
     }
 
     fn add_bytes<O: Out>(&mut self, bytes: &[u8], out: &mut O) -> Result<(), SinkError>
-        ensures text { Writes (O.text out.old) (O.text out.new) self.old self.new (bytes_text bytes.now) result }
+        ensures text { WritesOut (O.text out.old) (O.text out.new) self.old self.new (bytes_text bytes.now) result }
         ensures account { Counts (O.account out.old) (O.account out.new) result }
     {
         for b in bytes {
@@ -144,7 +144,7 @@ impl TextBuffer {
 
     // The name of an item type, or its number.
     fn add_kind<O: Out>(&mut self, kind: u8, out: &mut O) -> Result<(), SinkError>
-        ensures text { Writes (O.text out.old) (O.text out.new) self.old self.new (kind_text kind) result }
+        ensures text { WritesOut (O.text out.old) (O.text out.new) self.old self.new (kind_text kind) result }
         ensures account { Counts (O.account out.old) (O.account out.new) result }
     {
         match item::name_of(kind) {
@@ -157,7 +157,7 @@ impl TextBuffer {
     }
 
     fn add_key<O: Out>(&mut self, key: Key, out: &mut O) -> Result<(), SinkError>
-        ensures text { Writes (O.text out.old) (O.text out.new) self.old self.new (key_text key) result }
+        ensures text { WritesOut (O.text out.old) (O.text out.new) self.old self.new (key_text key) result }
         ensures account { Counts (O.account out.old) (O.account out.new) result }
     {
         self.add(b"(", out)?;

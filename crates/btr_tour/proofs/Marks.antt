@@ -19,7 +19,7 @@ use Rattle.btr_tour.specs.Steps.{reason, left, Meets}
 use Rattle.btr_tour.specs.Program.{tour_prog}
 use Rattle.btr_tour.specs.Tour as marks
 use Rattle.btr_tour.specs.Tour.{Mark, first_key}
-use Rattle.btr_tour.specs.TourEnds.{left_of, IsUnderway, HoldsLeaf, NextBy}
+use Rattle.btr_tour.specs.TourEnds.{left_of, IsUnderway, HoldsLeaf, TourNextBy}
 use Rattle.btr_tour.specs.declared.met.Met.{Met}
 use Rattle.btr_tour.specs.declared.met.Met.TheVariants.{Block, Child, Item, Fault}
 use Rattle.btr_tour.specs.declared.scope.Scope.{Scope}
@@ -74,7 +74,7 @@ module _ (Is : UnreadBlock → Want → Type 0) (B : Map) (seen : List Want) (ol
       mark → Next met
   by_meets met mark shown h = record { past = h.past; mark = mark; shown = shown; first = h.met ∙ ap (λ p. prepend (want_marks h.past) (first (prog.Does mark) (tried B p))) left_is; on = on_is (seen ++ h.past) h.on; held = h.held }
 
-  pub next_is : (met : Met) → NextBy Is B seen old new tour tour' (Ok (Some met)) → Next met
+  pub next_is : (met : Met) → TourNextBy Is B seen old new tour tour' (Ok (Some met)) → Next met
   next_is (Block place header) h = record {
     past = want_of place.level h.spot ∷ [];
     mark = marks.Block place h.block;
@@ -103,7 +103,7 @@ module _ (Is : UnreadBlock → Want → Type 0) (B : Map) (seen : List Want) (ol
     }
 
     pub met_some : {E : Type 0} (met : Met) (result : Result Bool (FoldFault E)) → IsTaken step state met state' result
-        → NextBy Is B seen old new tour tour' (Ok (Some met)) → MeetsBy step Is B seen old new tour tour' state state' result
+        → TourNextBy Is B seen old new tour tour' (Ok (Some met)) → MeetsBy step Is B seen old new tour tour' state state' result
     met_some met (Ok true) taken h = let n = next_is met h in goes_next met n (taken n.mark n.shown)
     met_some met (Ok false) taken h = absurd taken
     met_some met (Err (Tree f)) taken h = absurd taken

@@ -20,7 +20,7 @@ use Rattle.btr_tour.specs.declared.step.Step.TheVariants.{Item}
 use Rattle.btr_tour.specs.declared.tour.Tour.{Tour}
 use Rattle.btr_tour.specs.Tour as marks
 use Rattle.btr_tour.specs.Steps.{arrived, Meets, StepsBy, AdvancesIn}
-use Rattle.btr_tour.specs.TourEnds.{left_of, without_leaf, IsTourReady, IsNextStep, NextBy, IsNextMark, Toured}
+use Rattle.btr_tour.specs.TourEnds.{left_of, without_leaf, IsTourReady, IsNextStep, TourNextBy, IsNextMark, Toured}
 use Rattle.btr_tour.proofs.Seeking.{some_item}
 
 -- a step, once the leaf in hand stands in its place
@@ -36,7 +36,7 @@ module _ (old new : Blocks) (tour tour' : Tour) (before now : Seen) (result : Re
   pub toured : (step : Result Step TreeFault) (answer : Result (Option Met) TreeFault) → result ≡ step
       → ((Is : UnreadBlock → Want → Type 0) (B : Map) (seen : List Want)
       → StepsBy tour.scope.lo tour.scope.hi B Is seen tour.scope.sums (left_of B old tour) new tour'.place tour'.leaf step
-      → NextBy Is B seen old new tour tour' answer) → Toured old new tour tour' before now answer
+      → TourNextBy Is B seen old new tour tour' answer) → Toured old new tour tour' before now answer
   toured step answer is shows = record {
     others = others;
     ready = ready;

@@ -67,22 +67,22 @@ IsNextStep Is B old new tour tour' result =
 
 -- Some wants, and then one mark is met; what is left comes behind. Behind a good block comes what is below it, which
 -- can be passed. A block that could not be read is met again.
-abbrev pub NextBy : (UnreadBlock → Want → Type 0) → Map → List Want → Blocks → Blocks → Tour → Tour → Result (Option Met) TreeFault → Type 0
-NextBy Is B seen old new tour tour' (Ok (Some (Block place header))) =
+abbrev pub TourNextBy : (UnreadBlock → Want → Type 0) → Map → List Want → Blocks → Blocks → Tour → Tour → Result (Option Met) TreeFault → Type 0
+TourNextBy Is B seen old new tour tour' (Ok (Some (Block place header))) =
     MeetsBlock tour.scope.lo tour.scope.hi B seen tour.scope.sums (left_of B old tour) new tour'.place tour'.leaf place header
-NextBy Is B seen old new tour tour' (Ok (Some (Child block place))) =
+TourNextBy Is B seen old new tour tour' (Ok (Some (Child block place))) =
     Meets tour.scope.lo tour.scope.hi B seen (left_of B old tour) new tour'.place tour'.leaf (marks.Child block place)
-NextBy Is B seen old new tour tour' (Ok (Some (Item found))) =
+TourNextBy Is B seen old new tour tour' (Ok (Some (Item found))) =
     Meets tour.scope.lo tour.scope.hi B seen (left_of B old tour) new tour'.place tour'.leaf (marks.Item (item_of found))
-NextBy Is B seen old new tour tour' (Ok (Some (Fault f))) =
+TourNextBy Is B seen old new tour tour' (Ok (Some (Fault f))) =
     IsSomeAnd (reason f) (λ fault. Meets tour.scope.lo tour.scope.hi B seen (left_of B old tour) new tour'.place tour'.leaf (marks.Left fault))
-NextBy Is B seen old new tour tour' (Ok None) = left_of B old tour ≡ Done tt
-NextBy Is B seen old new tour tour' (Err f) = Stays tour.scope.lo tour.scope.hi B Is seen (left_of B old tour) new tour'.place tour'.leaf f
+TourNextBy Is B seen old new tour tour' (Ok None) = left_of B old tour ≡ Done tt
+TourNextBy Is B seen old new tour tour' (Err f) = Stays tour.scope.lo tour.scope.hi B Is seen (left_of B old tour) new tour'.place tour'.leaf f
 
 -- what a tour meets next, whatever was read before
 abbrev pub IsNextMark : (UnreadBlock → Want → Type 0) → Map → Blocks → Blocks → Tour → Tour → Result (Option Met) TreeFault → Type 0
 IsNextMark Is B old new tour tour' result =
-    (seen : List Want) → IsUnderway B seen tour → HoldsLeaf B seen old tour → NextBy Is B seen old new tour tour' result
+    (seen : List Want) → IsUnderway B seen tour → HoldsLeaf B seen old tour → TourNextBy Is B seen old new tour tour' result
 
 -- a tour can go on, and no other loan changed; and what the step says of the block map
 pub record Toured (old new : Blocks) (tour tour' : Tour) (before now : Seen) (result : Result (Option Met) TreeFault) : Type 0 where

@@ -20,7 +20,7 @@ use Rattle.btr_read.specs.Layout.{Layout}
 use Rattle.btr_super.specs.declared.superblock.Super.{Super}
 use Rattle.btr_walk.specs.Reading.{Map, unread_by}
 use Rattle.btr_volume.specs.Table.{TableResult}
-use Rattle.btr_volume.specs.Opening.{ReadsTable, MakesStore, Begins, NoneAtFault, Prepares, SupersCause, OpenCause, TableCause, Opens, Scans, start_in}
+use Rattle.btr_volume.specs.Opening.{ReadsTable, MakesStore, BeginsVolume, NoneAtFault, Prepares, SupersCause, OpenCause, TableCause, Opens, Scans, start_in}
 use Rattle.btr_volume.specs.declared.volume.Volume.{Volume}
 use Rattle.btr_prog.specs.Prog.{exec}
 use Rattle.btr_prog.specs.Answers.{Follows, no_part}
@@ -51,7 +51,7 @@ newest_at supers slot s index lt is =
 
 module _ (supers : List Super) (s : Super) (is : newest supers ≡ Some s) (lens : List ℕ) where
   -- the volume that begins
-  pub begun : (store store' : Blocks) → first_refusal (refusals supers s) ≡ None → MakesStore s (Ok store) → store'.layout ≡ record (store.layout) { devices = devices_from s.generation 0 supers lens } → Begins supers lens (Ok (record { store = store'; sup = s }))
+  pub begun : (store store' : Blocks) → first_refusal (refusals supers s) ≡ None → MakesStore s (Ok store) → store'.layout ≡ record (store.layout) { devices = devices_from s.generation 0 supers lens } → BeginsVolume supers lens (Ok (record { store = store'; sup = s }))
   begun store store' none made layout =
       ap (start_by supers lens) is ∙ ap (started s (devices_from s.generation 0 supers lens)) none ∙ made.3 (devices_from s.generation 0 supers lens)
       ∙ ap {A = Layout} (λ l. Ok (record { sup = s; devices = l.devices; setting = l.setting; array = l.chunks })) (sym layout)
@@ -82,13 +82,13 @@ same_seen old new same none =
 -- what the superblocks come to over the images
 module _ (slots : List Slot) (supers : List Super) where
   prepares_of : (images : Images) (r : Result Volume OpenFault) → map length images ≡ map (λ s. s.len) slots → supers_from 0 images ≡ Ok supers
-      → NoneAtFault r → Begins supers (map (λ s. s.len) slots) r → Prepares images r
+      → NoneAtFault r → BeginsVolume supers (map (λ s. s.len) slots) r → Prepares images r
   prepares_of images r sized read early begins = by r early begins
     where
       whole : start_of images ≡ start_by supers (map (λ s. s.len) slots) (newest supers)
       whole = ap (start_with images) read ∙ ap (λ lens. start_by supers lens (newest supers)) sized
 
-      by : (r : Result Volume OpenFault) → NoneAtFault r → Begins supers (map (λ s. s.len) slots) r → Prepares images r
+      by : (r : Result Volume OpenFault) → NoneAtFault r → BeginsVolume supers (map (λ s. s.len) slots) r → Prepares images r
       by (Ok volume) early e = whole ∙ e
       by (Err Memory) early e = tt
       by (Err (ImageFault slot)) early e = tt
@@ -106,7 +106,7 @@ module _ (slots : List Slot) (supers : List Super) where
       by (Err (Limit which n)) early e = whole ∙ e
 
   pub prepared : (held : Option Images) (r : Result Volume OpenFault) → Sized held slots → IfSome held (λ images. supers_from 0 images ≡ Ok supers)
-      → NoneAtFault r → Begins supers (map (λ s. s.len) slots) r → IfSome held (λ images. Prepares images r)
+      → NoneAtFault r → BeginsVolume supers (map (λ s. s.len) slots) r → IfSome held (λ images. Prepares images r)
   prepared None r sized read early begins = tt
   prepared (Some images) r sized read early begins = prepares_of images r sized read early begins
 

@@ -127,10 +127,10 @@ abbrev pub start_in : Volume → Start
 start_in volume = record { sup = volume.sup; devices = volume.store.layout.devices; setting = volume.store.layout.setting; array = volume.store.layout.chunks }
 
 -- a volume with the chunks of the array, by the superblocks and the lengths of the images; or the first refusal
-abbrev pub Begins : List Super → List ℕ → Result Volume OpenFault → Type 0
-Begins supers lens (Ok volume) = start_by supers lens (newest supers) ≡ Ok (start_in volume)
-Begins supers lens (Err Memory) = ⊤
-Begins supers lens (Err refusal) = start_by supers lens (newest supers) ≡ Err refusal
+abbrev pub BeginsVolume : List Super → List ℕ → Result Volume OpenFault → Type 0
+BeginsVolume supers lens (Ok volume) = start_by supers lens (newest supers) ≡ Ok (start_in volume)
+BeginsVolume supers lens (Err Memory) = ⊤
+BeginsVolume supers lens (Err refusal) = start_by supers lens (newest supers) ≡ Err refusal
 
 -- the same over the images
 abbrev pub Prepares : Images → Result Volume OpenFault → Type 0

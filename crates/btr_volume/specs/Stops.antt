@@ -41,10 +41,12 @@ stops_sink NoMemory = Memory
 -- what lies behind an answer: a tree's fault has its cause, and of all other stops only some may be
 -- answered
 module _ (May : Stop → Type 0) where
+  -- what lies behind a stop
   abbrev pub IsBehindStop : Layout → Seen → Seen → Stop → Type 0
   IsBehindStop layout old new (Tree f) = FaultCause layout old new f
   IsBehindStop layout old new stop = May stop
 
+  -- what lies behind an answer: nothing has to where it is no stop
   abbrev pub IsBehindAnswer : {A : Type 0} → Layout → Seen → Seen → Result A Stop → Type 0
   IsBehindAnswer layout old new (Ok a) = Unit {0}
   IsBehindAnswer layout old new (Err stop) = IsBehindStop layout old new stop

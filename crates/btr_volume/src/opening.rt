@@ -6,7 +6,7 @@ ghost use Rattle.btr_read.specs.Serves.{Serves};
 ghost use Rattle.btr_read.specs.Store.{SameLoans, free_count};
 ghost use Rattle.btr_volume.specs.Start.{array_bytes, header_id};
 ghost use Rattle.btr_super.specs.Newest.{newest};
-ghost use Rattle.btr_volume.specs.Opening.{NoneAtFault, ReadsArray, MakesStore, Begins, Prepares, SupersCause, ReadsTable, TableCause, Opens, OpenCause, IsFresh};
+ghost use Rattle.btr_volume.specs.Opening.{NoneAtFault, ReadsArray, MakesStore, BeginsVolume, Prepares, SupersCause, ReadsTable, TableCause, Opens, OpenCause, IsFresh};
 
 use crate::devices::add_devices;
 use crate::refusing::test_supers;
@@ -81,7 +81,7 @@ fn begin<R: Rack>(
     ensures array { IfOk result (λ volume. array_of (array_bytes volume.sup) ≡ Ok volume.store.layout.chunks) }
     ensures size { IfOk result (λ volume. volume.sup.sys_chunk_array_size ≤ 2048) }
     ensures early { NoneAtFault result }
-    ensures content { Begins supers.now (map (λ slot. slot.len) (R.seen rack.now).slots) result }
+    ensures content { BeginsVolume supers.now (map (λ slot. slot.len) (R.seen rack.now).slots) result }
 {
     test_supers(chosen, supers)?;
     let mut store = new_store(alloc, chosen)?;

@@ -34,8 +34,8 @@ module _ {St R : Type 0} where
     folded state root lo hi = folded_over state (range lo hi root)
 
 -- a call did what the step says
-abbrev pub Takes : {St R E : Type 0} → (St → TreeItem → Next St R) → St → TreeItem → St → Result (Took R) E → Type 0
-Takes step old item new (Ok took.Go) = step old item ≡ Go new
-Takes step old item new (Ok (took.End r)) = step old item ≡ End r
-Takes step old item new (Ok took.Broken) = step old item ≡ Broken
-Takes step old item new (Err e) = Unit {0}
+abbrev pub TakesItem : {St R E : Type 0} → (St → TreeItem → Next St R) → St → TreeItem → St → Result (Took R) E → Type 0
+TakesItem step old item new (Ok took.Go) = step old item ≡ Go new
+TakesItem step old item new (Ok (took.End r)) = step old item ≡ End r
+TakesItem step old item new (Ok took.Broken) = step old item ≡ Broken
+TakesItem step old item new (Err e) = Unit {0}

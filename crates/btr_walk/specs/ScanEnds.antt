@@ -48,14 +48,14 @@ pub record Gives (B : Map) (seen : List Want) (old new : Blocks) (scan scan' : S
   pub met : IfSome scan'.leaf (WasMet new (item_of found))
 
 -- a call of the scan gives the next item, the end, or a fault
-abbrev pub NextBy : (UnreadBlock → Want → Type 0) → Map → List Want → Blocks → Blocks → Scan → Scan → Result (Option Found) TreeFault → Type 0
-NextBy Is B seen old new scan scan' (Ok (Some found)) = Gives B seen old new scan scan' found
-NextBy Is B seen old new scan scan' (Ok None) = Follows Is no_part seen (exec B (left_of B old scan)) [] (Ok tt)
-NextBy Is B seen old new scan scan' (Err f) = Follows Is no_part seen (exec B (left_of B old scan)) [] (Err (halt_of f))
+abbrev pub NextItemBy : (UnreadBlock → Want → Type 0) → Map → List Want → Blocks → Blocks → Scan → Scan → Result (Option Found) TreeFault → Type 0
+NextItemBy Is B seen old new scan scan' (Ok (Some found)) = Gives B seen old new scan scan' found
+NextItemBy Is B seen old new scan scan' (Ok None) = Follows Is no_part seen (exec B (left_of B old scan)) [] (Ok tt)
+NextItemBy Is B seen old new scan scan' (Err f) = Follows Is no_part seen (exec B (left_of B old scan)) [] (Err (halt_of f))
 
 -- a call of the scan gives the next item, the end or a fault, whatever was read before
 abbrev pub IsNextOn : (UnreadBlock → Want → Type 0) → Map → Blocks → Blocks → Scan → Scan → Result (Option Found) TreeFault → Type 0
-IsNextOn Is B old new scan scan' result = (seen : List Want) → IsOn scan.lo scan.hi B seen scan.place → NextBy Is B seen old new scan scan' result
+IsNextOn Is B old new scan scan' result = (seen : List Want) → IsOn scan.lo scan.hi B seen scan.place → NextItemBy Is B seen old new scan scan' result
 
 -- a rack and a store can go on with a scan: the loan of its leaf, if it has one, is live
 pub record IsScanReady (rack : Seen) (store : Blocks) (scan : Scan) : Type 0 where

@@ -1,6 +1,6 @@
 // What callers make of the items of a range.
 ghost use Rattle.std.specs.Prelude.{◌≡◌};
-ghost use Rattle.btr_walk.specs.Folds.{Next, Takes};
+ghost use Rattle.btr_walk.specs.Folds.{Next, TakesItem};
 ghost use Rattle.btr_walk.specs.Le.{TreeItem};
 ghost use Rattle.btr_walk.specs.Showing.{item_of};
 
@@ -36,7 +36,7 @@ pub trait Folder<Out, E> {
 
     /// Treats the next item. After a refusal of its own nothing is said of the state.
     fn take(&mut self, item: &Found<'_>) -> Result<Took<Out>, E>
-        ensures { Takes step self.old (item_of item.now) self.new result };
+        ensures { TakesItem step self.old (item_of item.now) self.new result };
 
     /// The answer where no item is left.
     fn end(self) -> Out

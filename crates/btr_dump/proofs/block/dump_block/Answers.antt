@@ -2,7 +2,7 @@ use Rattle.std.proofs.Common.{[], subst}
 use Rattle.btr_prog.specs.Prog.{exec}
 use Rattle.btr_walk.specs.Reading.{unread_by}
 use Rattle.btr_dump.specs.Pieces.{kind_in, block_shown}
-use Rattle.btr_dump.specs.Showing.{PutsText, Writes}
+use Rattle.btr_dump.specs.Showing.{PutsText, ShowsText}
 use Rattle.btr_dump.proofs.Blocks.{tells_drawn}
 use Rattle.btr_dump.proofs.Growing.{grows_twice}
 use Rattle.btr_dump.proofs.block.dump_block.Goals as goal
@@ -23,13 +23,13 @@ returns-clause-content g c =
     let mid = g.O.Out.text c.show_block-shown.new.out in
     let is = unread_by layout old new in
     tells_drawn layout c.args.addr old new
-    (λ B. Writes is [] (exec B (block_shown c.kind_in-kind.result c.args.addr)) begun mid c.new-text.result c.show_block-shown.new.text
+    (λ B. ShowsText is [] (exec B (block_shown c.kind_in-kind.result c.args.addr)) begun mid c.new-text.result c.show_block-shown.new.text
     c.show_block-shown.result)
     (λ B. PutsText is (exec B (block_shown (kind_in c.args.vol.now.sup) c.args.addr)) begun (g.O.Out.text c.finish.new.out) c.finish.result)
     (λ B h. c.finish.ensures.text layout old new (exec B (block_shown (kind_in c.args.vol.now.sup) c.args.addr)) begun
-    (subst (λ kind. Writes is [] (exec B (block_shown kind c.args.addr)) begun mid [] c.show_block-shown.new.text c.show_block-shown.result)
+    (subst (λ kind. ShowsText is [] (exec B (block_shown kind c.args.addr)) begun mid [] c.show_block-shown.new.text c.show_block-shown.result)
     c.kind_in-kind.ensures
-    (subst (λ waited. Writes is [] (exec B (block_shown c.kind_in-kind.result c.args.addr)) begun mid waited c.show_block-shown.new.text
+    (subst (λ waited. ShowsText is [] (exec B (block_shown c.kind_in-kind.result c.args.addr)) begun mid waited c.show_block-shown.new.text
     c.show_block-shown.result) c.new-text.ensures h)))
     c.show_block-shown.ensures.content
 

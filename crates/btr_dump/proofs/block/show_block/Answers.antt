@@ -6,8 +6,8 @@ use Rattle.btr_volume.specs.declared.stop.Stop.TheVariants.{Tree}
 use Rattle.btr_walk.specs.Reading.{unread_by}
 use Rattle.btr_prog.specs.Prog.{exec}
 use Rattle.btr_dump.specs.Pieces.{block_shown, held_block, held_in}
-use Rattle.btr_dump.specs.Showing.{TellsBlock, Writes}
-use Rattle.btr_dump.specs.Stops.{StopCause}
+use Rattle.btr_dump.specs.Showing.{TellsBlock, ShowsText}
+use Rattle.btr_dump.specs.Stops.{DumpStopCause}
 use Rattle.btr_walk.proofs.Lending.{given_back}
 use Rattle.btr_dump.proofs.Blocks.{block_failed, block_came, block_cause}
 use Rattle.btr_dump.proofs.Growing.{grows_none, run_grows, no_block}
@@ -19,7 +19,7 @@ returns-in-Err-clause-content g c =
     let old = g.R.Rack.seen c.args.rack.now in
     let new = g.R.Rack.seen c.fetch.new.rack in
     let text = g.O.Out.text c.args.out.now in
-    subst (λ f. TellsBlock layout c.args.addr old new (λ B. Writes (unread_by layout old new) [] (exec B (block_shown c.args.kind c.args.addr)) text
+    subst (λ f. TellsBlock layout c.args.addr old new (λ B. ShowsText (unread_by layout old new) [] (exec B (block_shown c.args.kind c.args.addr)) text
     text c.args.text.now c.args.text.now (Err (Tree f)))) (sym c.from.ensures)
     (block_failed layout old new c.args.kind c.args.addr c.in-Err.ensures.reads text c.args.text.now c.fetch.new.store c.in-Err.fault c.in-Err.ensures.answer)
 
@@ -28,7 +28,7 @@ returns-in-Err-clause-cause g c =
     let layout = c.args.store.now.layout in
     let old = g.R.Rack.seen c.args.rack.now in
     let new = g.R.Rack.seen c.fetch.new.rack in
-    subst (λ f. StopCause {A = Unit {0}} layout old new (Err (Tree f))) (sym c.from.ensures)
+    subst (λ f. DumpStopCause {A = Unit {0}} layout old new (Err (Tree f))) (sym c.from.ensures)
     (block_cause layout old new c.args.kind c.args.addr c.in-Err.ensures.reads c.fetch.new.store c.in-Err.fault c.in-Err.ensures.answer)
 
 pub returns-clause-serves : goal.returns-clause-serves

@@ -9,7 +9,7 @@ use Rattle.btr_base.specs.Key.{last_key}
 use Rattle.btr_volume.specs.Table.{first_key, chunk_root}
 use Rattle.btr_volume.specs.Tree.{root_root, named_root}
 use Rattle.btr_dump.specs.Pieces.{root_line, item_lines, roots_shown}
-use Rattle.btr_dump.specs.Showing.{Writes}
+use Rattle.btr_dump.specs.Showing.{ShowsText}
 use Rattle.btr_dump.proofs.Rooting.{two_cut, two_then}
 use Rattle.btr_walk.proofs.Joined.{drawn, unread_on}
 use Rattle.btr_dump.proofs.Telling.{on_as}
@@ -23,9 +23,9 @@ returns-in-Err-clause-content g c =
     let rack = g.R.Rack.seen c.args.rack.now in
     let old = g.O.Out.text c.args.out.now in
     let new = g.O.Out.text c.write_tops.new.out in
-    unread_on layout (λ B. Writes {A = Unit {0}} (unread_by layout rack rack) [] (exec B (roots_shown s)) old new c.args.text.now
+    unread_on layout (λ B. ShowsText {A = Unit {0}} (unread_by layout rack rack) [] (exec B (roots_shown s)) old new c.args.text.now
     c.write_tops.new.text (Err c.stop_of.result))
-    (λ B. subst (λ e. Writes {A = Unit {0}} (unread_by layout rack rack) [] (exec B (roots_shown s)) old new c.args.text.now c.write_tops.new.text
+    (λ B. subst (λ e. ShowsText {A = Unit {0}} (unread_by layout rack rack) [] (exec B (roots_shown s)) old new c.args.text.now c.write_tops.new.text
     (Err e)) (sym c.stop_of.ensures)
     (two_cut (unread_by layout rack rack) B (root_line (named_root 1 (root_root s))) (root_line (named_root 3 (chunk_root s)))
     (item_lines (range first_key last_key (root_root s))) old new c.args.text.now c.write_tops.new.text c.in-Err.refusal c.in-Err.ensures.text))
@@ -40,14 +40,14 @@ returns-clause-content g c =
     let new = g.O.Out.text c.show_rest-shown.new.out in
     let scan = c.new.result in
     drawn layout (λ B. (seen : List Want) → IsOn scan.lo scan.hi B seen scan.place
-    → Writes is seen (exec B (item_lines (left_of B c.args.store.now scan))) mid new c.write_tops.new.text c.show_rest-shown.new.text
+    → ShowsText is seen (exec B (item_lines (left_of B c.args.store.now scan))) mid new c.write_tops.new.text c.show_rest-shown.new.text
     c.show_rest-shown.result)
-    (λ B. Writes is [] (exec B (roots_shown s)) old new c.args.text.now c.show_rest-shown.new.text c.show_rest-shown.result)
+    (λ B. ShowsText is [] (exec B (roots_shown s)) old new c.args.text.now c.show_rest-shown.new.text c.show_rest-shown.result)
     (λ B h. two_then is B (root_line (named_root 1 (root_root s))) (root_line (named_root 3 (chunk_root s)))
     (item_lines (range first_key last_key (root_root s))) old mid new c.args.text.now c.write_tops.new.text c.show_rest-shown.new.text
     c.show_rest-shown.result
     c.in-Ok.ensures.text
-    (subst (λ p. Writes is [] (exec B (item_lines p)) mid new c.write_tops.new.text c.show_rest-shown.new.text c.show_rest-shown.result)
+    (subst (λ p. ShowsText is [] (exec B (item_lines p)) mid new c.write_tops.new.text c.show_rest-shown.new.text c.show_rest-shown.result)
     (c.new.ensures.program B c.args.store.now ∙ ap (range first_key last_key) c.root_root.ensures)
     (h [] (on_as first_key last_key scan.lo scan.hi B [] scan.place (sym c.new.ensures.lo) (sym c.new.ensures.hi) (c.new.ensures.on B)))))
     c.show_rest-shown.ensures.content

@@ -7,7 +7,7 @@ use Rattle.btr_walk.specs.Blocks.{blocks}
 use Rattle.btr_walk.specs.Preorder.{IsAmong, blocks_left}
 use Rattle.btr_walk.specs.Reading.{unread_by}
 use Rattle.btr_dump.specs.Pieces.{tree_text, blocks_shown, tree_shown}
-use Rattle.btr_dump.specs.Showing.{Writes}
+use Rattle.btr_dump.specs.Showing.{ShowsText}
 use Rattle.btr_dump.proofs.Rooting.{one_cut, one_then}
 use Rattle.btr_walk.proofs.Joined.{drawn, unread_on}
 use Rattle.btr_dump.proofs.Growing.{grows_twice, text_grows}
@@ -22,9 +22,9 @@ returns-in-Err-clause-content g c =
     let old = g.O.Out.text c.args.out.now in
     let new = g.O.Out.text c.push_all.new.out in
     let line = tree_text root.id root.offset in
-    unread_on layout (λ B. Writes {A = Unit {0}} (unread_by layout rack rack) [] (exec B (tree_shown kind root)) old new c.args.text.now
+    unread_on layout (λ B. ShowsText {A = Unit {0}} (unread_by layout rack rack) [] (exec B (tree_shown kind root)) old new c.args.text.now
     c.push_all.new.self (Err c.stop_of.result))
-    (λ B. subst (λ e. Writes {A = Unit {0}} (unread_by layout rack rack) [] (exec B (tree_shown kind root)) old new c.args.text.now
+    (λ B. subst (λ e. ShowsText {A = Unit {0}} (unread_by layout rack rack) [] (exec B (tree_shown kind root)) old new c.args.text.now
     c.push_all.new.self (Err e)) (sym c.stop_of.ensures)
     (one_cut (unread_by layout rack rack) B line (blocks_shown kind (blocks root.place)) old new c.args.text.now c.push_all.new.self c.in-Err.refusal
     (cut_as line c.tree_line.ensures c.in-Err.ensures.text)))
@@ -41,11 +41,11 @@ returns-clause-content g c =
     let scan = c.new.result in
     let line = tree_text root.id root.offset in
     drawn layout (λ B. (seen : List Want) → IsAmong B seen scan.place
-    → Writes is seen (exec B (blocks_shown kind (blocks_left B scan))) mid new c.push_all.new.self c.show_rest-shown.new.text c.show_rest-shown.result)
-    (λ B. Writes is [] (exec B (tree_shown kind root)) old new c.args.text.now c.show_rest-shown.new.text c.show_rest-shown.result)
+    → ShowsText is seen (exec B (blocks_shown kind (blocks_left B scan))) mid new c.push_all.new.self c.show_rest-shown.new.text c.show_rest-shown.result)
+    (λ B. ShowsText is [] (exec B (tree_shown kind root)) old new c.args.text.now c.show_rest-shown.new.text c.show_rest-shown.result)
     (λ B h. one_then is B line (blocks_shown kind (blocks root.place)) old mid new c.args.text.now c.push_all.new.self c.show_rest-shown.new.text
     c.show_rest-shown.result (wrote_as line c.tree_line.ensures c.in-Ok.ensures.text)
-    (subst (λ p. Writes is [] (exec B (blocks_shown kind p)) mid new c.push_all.new.self c.show_rest-shown.new.text c.show_rest-shown.result)
+    (subst (λ p. ShowsText is [] (exec B (blocks_shown kind p)) mid new c.push_all.new.self c.show_rest-shown.new.text c.show_rest-shown.result)
     (c.new.ensures.program B) (h [] (c.new.ensures.on B))))
     c.show_rest-shown.ensures.content
 

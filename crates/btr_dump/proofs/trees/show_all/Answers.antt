@@ -9,7 +9,7 @@ use Rattle.btr_walk.specs.Range.{range}
 use Rattle.btr_walk.specs.Reading.{unread_by}
 use Rattle.btr_walk.specs.ScanEnds.{left_of}
 use Rattle.btr_dump.specs.Pieces.{all_trees, item_trees, kind_in, top_trees}
-use Rattle.btr_dump.specs.Showing.{Writes}
+use Rattle.btr_dump.specs.Showing.{ShowsText}
 use Rattle.btr_dump.proofs.Growing.{grows_twice}
 use Rattle.btr_dump.proofs.Parts.{first_stops, second_then}
 use Rattle.btr_walk.proofs.Fetched.{since}
@@ -26,8 +26,8 @@ returns-in-Err-clause-content g c =
     let text' = g.O.Out.text c.show_tops.new.out in
     let waited = c.args.text.now in
     let waits = c.show_tops.new.text in
-    drawn layout (λ B. Writes {A = Unit {0}} is [] (exec B (top_trees s)) text text' waited waits (Err c.in-Err.stop))
-    (λ B. Writes {A = Unit {0}} is [] (exec B (all_trees s)) text text' waited waits (Err c.in-Err.stop))
+    drawn layout (λ B. ShowsText {A = Unit {0}} is [] (exec B (top_trees s)) text text' waited waits (Err c.in-Err.stop))
+    (λ B. ShowsText {A = Unit {0}} is [] (exec B (all_trees s)) text text' waited waits (Err c.in-Err.stop))
     (λ B w. first_stops B (top_trees s) (λ u. item_trees (kind_in s) (range first_key last_key (root_root s))) is text text' waited waits
     c.in-Err.stop w) c.in-Err.ensures.content
 
@@ -56,14 +56,14 @@ returns-clause-content g c =
     let items = range first_key last_key (root_root s) in
     let kind = c.kind_in.result in
     let result = c.show_rest-shown.result in
-    joined (λ B. Writes {A = Unit {0}} early [] (exec B (top_trees s)) old text waited waiting (Ok tt))
+    joined (λ B. ShowsText {A = Unit {0}} early [] (exec B (top_trees s)) old text waited waiting (Ok tt))
     (λ B. (seen : List Want) → IsOn scan.lo scan.hi B seen scan.place
-    → Writes later seen (exec B (item_trees kind (left_of B store scan))) text new waiting waits result)
-    (λ B. Writes is [] (exec B (all_trees s)) old new waited waits result) c.in-Ok.ensures.loans.layout
+    → ShowsText later seen (exec B (item_trees kind (left_of B store scan))) text new waiting waits result)
+    (λ B. ShowsText is [] (exec B (all_trees s)) old new waited waits result) c.in-Ok.ensures.loans.layout
     (λ B one two. second_then B (top_trees s) (λ u. item_trees (kind_in s) items) early is later
     (since layout mid c.in-Ok.ensures.loans.layout c.in-Ok.ensures.reads) old text new waited waiting waits result one
-    (subst (λ k. Writes later [] (exec B (item_trees k items)) text new waiting waits result) c.kind_in.ensures
-    (subst (λ p. Writes later [] (exec B (item_trees kind p)) text new waiting waits result)
+    (subst (λ k. ShowsText later [] (exec B (item_trees k items)) text new waiting waits result) c.kind_in.ensures
+    (subst (λ p. ShowsText later [] (exec B (item_trees kind p)) text new waiting waits result)
     (c.new.ensures.program B store ∙ ap (range first_key last_key) c.root_root.ensures)
     (two [] (on_as first_key last_key scan.lo scan.hi B [] scan.place (sym c.new.ensures.lo) (sym c.new.ensures.hi) (c.new.ensures.on B))))))
     c.in-Ok.ensures.content c.show_rest-shown.ensures.content

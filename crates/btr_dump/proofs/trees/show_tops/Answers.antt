@@ -4,7 +4,7 @@ use Rattle.btr_volume.specs.Table.{chunk_root}
 use Rattle.btr_volume.specs.Tree.{root_root, named_root}
 use Rattle.btr_walk.specs.Reading.{unread_by}
 use Rattle.btr_dump.specs.Pieces.{kind_in, top_trees, tree_shown}
-use Rattle.btr_dump.specs.Showing.{Writes}
+use Rattle.btr_dump.specs.Showing.{ShowsText}
 use Rattle.btr_dump.proofs.Growing.{grows_twice}
 use Rattle.btr_dump.proofs.Parts.{first_stops, second_then}
 use Rattle.btr_walk.proofs.Fetched.{since}
@@ -22,11 +22,11 @@ returns-in-Err-clause-content g c =
     let waits = c.show_tree.new.text in
     let kind = c.kind_in-kind.result in
     let first = named_root 1 (root_root s) in
-    drawn layout (λ B. Writes {A = Unit {0}} is [] (exec B (tree_shown kind c.named_root.result)) text text' waited waits (Err c.in-Err.stop))
-    (λ B. Writes {A = Unit {0}} is [] (exec B (top_trees s)) text text' waited waits (Err c.in-Err.stop))
+    drawn layout (λ B. ShowsText {A = Unit {0}} is [] (exec B (tree_shown kind c.named_root.result)) text text' waited waits (Err c.in-Err.stop))
+    (λ B. ShowsText {A = Unit {0}} is [] (exec B (top_trees s)) text text' waited waits (Err c.in-Err.stop))
     (λ B w. first_stops B (tree_shown (kind_in s) first) (λ u. tree_shown (kind_in s) (named_root 3 (chunk_root s))) is text text' waited waits c.in-Err.stop
-    (subst (λ k. Writes {A = Unit {0}} is [] (exec B (tree_shown k first)) text text' waited waits (Err c.in-Err.stop)) c.kind_in-kind.ensures
-    (subst (λ r. Writes {A = Unit {0}} is [] (exec B (tree_shown kind r)) text text' waited waits (Err c.in-Err.stop))
+    (subst (λ k. ShowsText {A = Unit {0}} is [] (exec B (tree_shown k first)) text text' waited waits (Err c.in-Err.stop)) c.kind_in-kind.ensures
+    (subst (λ r. ShowsText {A = Unit {0}} is [] (exec B (tree_shown kind r)) text text' waited waits (Err c.in-Err.stop))
     (c.named_root.ensures ∙ ap (named_root 1) c.root_root.ensures) w)))
     c.in-Err.ensures.content
 
@@ -54,15 +54,15 @@ returns-in-Ok-clause-content g c =
     let first = named_root 1 (root_root s) in
     let second = named_root 3 (chunk_root s) in
     let result = c.show_tree-in-Ok.result in
-    joined (λ B. Writes {A = Unit {0}} early [] (exec B (tree_shown kind c.named_root.result)) old text waited waiting (Ok tt))
-    (λ B. Writes later [] (exec B (tree_shown kind c.named_root-in-Ok.result)) text new waiting waits result)
-    (λ B. Writes is [] (exec B (top_trees s)) old new waited waits result) c.in-Ok.ensures.loans.layout
+    joined (λ B. ShowsText {A = Unit {0}} early [] (exec B (tree_shown kind c.named_root.result)) old text waited waiting (Ok tt))
+    (λ B. ShowsText later [] (exec B (tree_shown kind c.named_root-in-Ok.result)) text new waiting waits result)
+    (λ B. ShowsText is [] (exec B (top_trees s)) old new waited waits result) c.in-Ok.ensures.loans.layout
     (λ B one two. second_then B (tree_shown (kind_in s) first) (λ u. tree_shown (kind_in s) second) early is later
     (since layout mid c.in-Ok.ensures.loans.layout c.in-Ok.ensures.reads) old text new waited waiting waits result
-    (subst (λ k. Writes {A = Unit {0}} early [] (exec B (tree_shown k first)) old text waited waiting (Ok tt)) c.kind_in-kind.ensures
-    (subst (λ r. Writes {A = Unit {0}} early [] (exec B (tree_shown kind r)) old text waited waiting (Ok tt))
+    (subst (λ k. ShowsText {A = Unit {0}} early [] (exec B (tree_shown k first)) old text waited waiting (Ok tt)) c.kind_in-kind.ensures
+    (subst (λ r. ShowsText {A = Unit {0}} early [] (exec B (tree_shown kind r)) old text waited waiting (Ok tt))
     (c.named_root.ensures ∙ ap (named_root 1) c.root_root.ensures) one))
-    (subst (λ k. Writes later [] (exec B (tree_shown k second)) text new waiting waits result) c.kind_in-kind.ensures
-    (subst (λ r. Writes later [] (exec B (tree_shown kind r)) text new waiting waits result)
+    (subst (λ k. ShowsText later [] (exec B (tree_shown k second)) text new waiting waits result) c.kind_in-kind.ensures
+    (subst (λ r. ShowsText later [] (exec B (tree_shown kind r)) text new waiting waits result)
     (c.named_root-in-Ok.ensures ∙ ap (named_root 3) c.chunk_root.ensures) two)))
     c.in-Ok.ensures.content c.show_tree-in-Ok.ensures.content

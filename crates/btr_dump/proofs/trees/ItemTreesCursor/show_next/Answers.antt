@@ -6,7 +6,7 @@ use Rattle.btr_walk.specs.Going.{IsOn}
 use Rattle.btr_walk.specs.Reading.{unread_by}
 use Rattle.btr_walk.specs.ScanEnds.{left_of}
 use Rattle.btr_dump.specs.Pieces.{item_root, item_trees, tree_if, tree_shown}
-use Rattle.btr_dump.specs.Showing.{GoesOn, Turns, Writes}
+use Rattle.btr_dump.specs.Showing.{GoesOn, Turns, ShowsText}
 use Rattle.btr_dump.specs.Trees.{NextItemBy}
 use Rattle.btr_walk.proofs.Staying.{room_beside, room_same}
 use Rattle.btr_dump.proofs.Loops.{turn_halts, turn_ends}
@@ -101,9 +101,9 @@ returns-in-Err-show_tree-clause-content g c =
     let waits = c.show_tree.new.text in
     joined (λ B. (seen : List Want) → IsOn scan.lo scan.hi B seen scan.place
     → NextItemBy (unread_by old.layout before between) B seen old mid scan next (Ok c.in-Ok-Tree.field-0))
-    (λ B. Writes {A = Unit {0}} later [] (exec B (tree_shown kind root)) text text' waited waits (Err stop))
+    (λ B. ShowsText {A = Unit {0}} later [] (exec B (tree_shown kind root)) text text' waited waits (Err stop))
     (λ B. (seen : List Want) → IsOn scan.lo scan.hi B seen scan.place
-    → Writes {A = Unit {0}} is seen (exec B (item_trees kind (left_of B old scan))) text text' waited waits (Err stop)) same
+    → ShowsText {A = Unit {0}} is seen (exec B (item_trees kind (left_of B old scan))) text text' waited waits (Err stop)) same
     (λ B h w seen on.
     let given = subst (λ r. NextItemBy (unread_by old.layout before between) B seen old mid scan next (Ok r)) c.in-Ok-Tree.field-0-is (h seen on) in
     tree_stops is B kind seen old mid scan next given.0 given.1 root given.2 text text' waited waits stop
@@ -132,7 +132,7 @@ returns-in-Ok-clause-content g c =
     let waits = c.show_tree.new.text in
     joined (λ B. (seen : List Want) → IsOn scan.lo scan.hi B seen scan.place
     → NextItemBy (unread_by old.layout before between) B seen old mid scan next (Ok c.in-Ok-Tree.field-0))
-    (λ B. Writes {A = Unit {0}} later [] (exec B (tree_shown kind root)) text text' waited waits (Ok tt))
+    (λ B. ShowsText {A = Unit {0}} later [] (exec B (tree_shown kind root)) text text' waited waits (Ok tt))
     (λ B. (seen : List Want) → IsOn scan.lo scan.hi B seen scan.place
     → GoesOn (λ ws. IsOn next.lo next.hi B ws next.place) (exec B (item_trees kind (left_of B old scan)))
     (exec B (item_trees kind (left_of B new next))) seen text text' waited waits) same
