@@ -9,7 +9,7 @@ use btr_base::{Sum, sum};
 use btr_chunk::ChunkTable;
 use btr_items::item::ROOT_ITEM;
 use btr_items::{FileExtent, Link, RootItem, Shape};
-use btr_make_blocks::{Body, Form, Items, Tree, bodies};
+use btr_make_blocks::{Block, Body, Form, Items, Tree, bodies};
 use btr_rack::MemRack;
 use std::alloc::Global;
 use std::collections::BTreeMap;
@@ -53,6 +53,8 @@ pub(crate) struct Draft {
     pub(crate) roots: Items,
     /// The blocks of the trees that are written.
     pub(crate) blocks: Vec<BlockPlace>,
+    /// The blocks of these to which a node of another tree points, and that tree.
+    pub(crate) shared: Vec<BlockPlace>,
 }
 
 /// A data extent: its length, the number of references to it, and the inline ones of them.
@@ -136,6 +138,7 @@ impl Draft {
             sums: BTreeMap::new(alloc),
             roots: Items::new(alloc),
             blocks: Vec::new(alloc),
+            shared: Vec::new(alloc),
         })
     }
 
@@ -251,7 +254,29 @@ impl Draft {
     ) -> Result<(), MakeFault>
         ensures { standing rack.new ≡ standing rack.old }
     {
-        self.plant(rack, root, files.finish()?)
+        self.plant_beside(rack, root, files, &[])?;
+        Ok(())
+    }
+
+    /// Writes a tree of files, which shares blocks with one that has these, and its root.
+    pub(crate) fn plant_beside(
+        &mut self,
+        rack: &mut MemRack,
+        root: RootPlan,
+        files: Files,
+        others: &[Block],
+    ) -> Result<Tree, MakeFault>
+        ensures { standing rack.new ≡ standing rack.old }
+    {
+        let form = Form {
+            items: self.plan.items,
+            ..self.form(root.id)
+        };
+        let addr = self.place_of_tree(root.number);
+        let tree = Tree::grow_beside(self.alloc, &form, addr, files.finish()?, others)?;
+        self.write_tree(rack, root.id, &tree)?;
+        self.put_root(root, &tree)?;
+        Ok(tree)
     }
 
     /// Writes the tree of the top subvolume, and a tree without files that the kernel wants.
@@ -297,6 +322,13 @@ impl Draft {
     pub(crate) fn keep_places(&mut self, owner: u64, tree: &Tree) -> Result<(), MakeFault> {
         for block in &tree.blocks {
             self.blocks.push(BlockPlace {
+                addr: block.addr,
+                level: block.level,
+                owner,
+            })?;
+        }
+        for block in &tree.shared {
+            self.shared.push(BlockPlace {
                 addr: block.addr,
                 level: block.level,
                 owner,

@@ -2,7 +2,9 @@
 use crate::chunks::CHUNKS;
 use crate::draft::{BlockPlace, DataExtent, Draft};
 use crate::plan::{ChunkPlan, GENERATION, NODE};
-use btr_items::item::{BLOCK_GROUP_ITEM, EXTENT_DATA_REF, EXTENT_ITEM, METADATA_ITEM};
+use btr_items::item::{
+    BLOCK_GROUP_ITEM, EXTENT_DATA_REF, EXTENT_ITEM, METADATA_ITEM, TREE_BLOCK_REF,
+};
 use btr_items::{BlockGroup, ExtentFlags, ExtentItem, Link};
 use btr_make_blocks::{Body, Items, bodies};
 use std::alloc::{AllocError, Global};
@@ -20,8 +22,12 @@ impl Draft {
             items.put(link.addr, EXTENT_DATA_REF, hash, body)?;
         }
         for block in &self.blocks {
-            let level = u64::from(block.level);
-            items.put(block.addr, METADATA_ITEM, level, block.item(self.alloc)?)?;
+            let body = block.item(self.alloc, self.refs_to(block))?;
+            items.put(block.addr, METADATA_ITEM, u64::from(block.level), body)?;
+        }
+        for block in &self.shared {
+            let body = bodies::loose_ref(self.alloc, &Link::Tree(block.owner), 1)?;
+            items.put(block.addr, TREE_BLOCK_REF, block.owner, body)?;
         }
         for chunk in self.plan.chunks() {
             let group = BlockGroup {
@@ -33,6 +39,12 @@ impl Draft {
             items.put(chunk.start, BLOCK_GROUP_ITEM, chunk.length, body)?;
         }
         Ok(items)
+    }
+
+    // How many trees have a node that points to a block, or have it as their root.
+    fn refs_to(&self, block: &BlockPlace) -> u64 {
+        let others = self.shared.iter().filter(|one| one.addr == block.addr);
+        (others.count() as u64).wrapping_add(1)
     }
 
     /// How many bytes of a chunk lie in extents.
@@ -83,9 +95,9 @@ impl DataExtent {
 
 impl BlockPlace {
     // Its item, with the reference by its tree.
-    fn item(&self, alloc: Global) -> Result<Body, AllocError> {
+    fn item(&self, alloc: Global, refs: u64) -> Result<Body, AllocError> {
         let extent = ExtentItem {
-            refs: 1,
+            refs,
             generation: GENERATION,
             flags: ExtentFlags::TREE_BLOCK.0,
             level: None,

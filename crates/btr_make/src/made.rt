@@ -38,6 +38,7 @@ const MADE: Plan = Plan {
     },
     room: 4194304,
     pointers: 16,
+    items: usize::MAX,
 };
 
 // How many files each directory has.

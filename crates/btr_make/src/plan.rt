@@ -22,6 +22,8 @@ pub(crate) struct Plan {
     pub(crate) room: u64,
     /// At most so many pointers stand in a node.
     pub(crate) pointers: usize,
+    /// At most so many items stand in a leaf of a tree of files.
+    pub(crate) items: usize,
 }
 
 /// A chunk, whose stripes have the id of a device and an offset on it each.

@@ -1,5 +1,6 @@
 // The row volumes.
 mod content;
+mod differing;
 mod plans;
 
 use crate::disks::add_images;
@@ -45,6 +46,11 @@ pub enum RowVolume {
     Rows5,
     /// Five images, all of RAID6, with the same files.
     Rows6,
+    /// Three subvolumes of twelve directories: `files`, which is 256, its snapshot 257, and its snapshot 258, in which two files
+    /// are others. They share most of their blocks.
+    Differing,
+    /// The same, but that a subvolume is named in a leaf that 258 doesn't share.
+    DifferingNames,
 }
 
 /// The images of a small volume, on the shelf of a rack in which nothing is to fail. `Memory`: want of memory.

@@ -28,6 +28,40 @@ pub struct Block {
     pub bytes: Body,
 }
 
+/// Where a block stands, as a pointer to it says.
+#[derive(Clone, Copy, Debug, PartialEq, Eq)]
+pub struct Child {
+    /// Its logical address.
+    pub addr: u64,
+    /// 0 for a leaf, else 1 to 7.
+    pub level: u8,
+    /// The key of its first item or pointer.
+    pub first: Key,
+}
+
+// How many bytes of a block come before the number of its items, which its level and what it holds follow.
+const BEFORE_COUNT: usize = 96;
+
+impl Block {
+    /// Where it stands.
+    pub(crate) fn place(&self) -> Child {
+        Child {
+            addr: self.addr,
+            level: self.level,
+            first: self.first,
+        }
+    }
+
+    /// Whether another block holds the same at the same level.
+    pub(crate) fn says_same(&self, other: &Block) -> bool {
+        self.content() == other.content()
+    }
+
+    fn content(&self) -> &[u8] {
+        self.bytes.as_slice().get(BEFORE_COUNT..).unwrap_or(&[])
+    }
+}
+
 /// What the header says of a block, beside the form of its tree.
 #[derive(Clone, Copy)]
 pub(crate) struct Heading {

@@ -1,6 +1,6 @@
 ghost use Rattle.std.specs.Prelude.{◌≤◌};
 
-use crate::block::{HEADER, Heading, NO_KEY, headed};
+use crate::block::{Child, HEADER, Heading, NO_KEY, headed};
 use crate::{Block, Body, Form};
 use std::alloc::{AllocError, Global};
 
@@ -21,7 +21,7 @@ pub(crate) fn node(
     form: &Form,
     addr: u64,
     level: u8,
-    children: &[Block],
+    children: &[Child],
 ) -> Result<Block, AllocError> {
     let mut content = Body::new(alloc);
     for child in children {

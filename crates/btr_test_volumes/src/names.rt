@@ -19,6 +19,8 @@ pub fn row_of(name: &str) -> Option<RowVolume> {
         "M3" => Some(RowVolume::M3),
         "Rows5" => Some(RowVolume::Rows5),
         "Rows6" => Some(RowVolume::Rows6),
+        "Differing" => Some(RowVolume::Differing),
+        "DifferingNames" => Some(RowVolume::DifferingNames),
         _ => None,
     }
 }

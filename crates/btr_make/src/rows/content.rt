@@ -1,5 +1,6 @@
 // The files of the row volumes.
 use super::RowVolume;
+use super::differing::put_differing;
 use crate::draft::{
     Draft, FREE_SPACE_TREE, LooseLink, RELOCATION_TREE, RootPlan, TOP_TREE, UUID_TREE, regular,
 };
@@ -23,6 +24,8 @@ pub(super) fn put_content(
         RowVolume::P => put_subvolumes(draft, rack, 0),
         RowVolume::Rows5 | RowVolume::Rows6 => put_rows(draft, rack),
         RowVolume::L => put_loop(draft, rack),
+        RowVolume::Differing => put_differing(draft, rack, false),
+        RowVolume::DifferingNames => put_differing(draft, rack, true),
         _ => {
             let mut files = Files::new(draft.alloc, TOP_TREE)?;
             put_listing(draft, rack, &mut files)?;
@@ -155,9 +158,9 @@ fn put_subvolumes(draft: &mut Draft, rack: &mut MemRack, refs: u32) -> Result<()
     let alloc = draft.alloc;
     let mut files = Files::new(alloc, TOP_TREE)?;
     let sub = files.subvolume(TOP, b"sub", 256)?;
-    put_names(draft, 256, sub, b"sub")?;
+    put_names(draft, TOP_TREE, 256, TOP, sub, b"sub")?;
     let snap = files.subvolume(TOP, b"snap", 257)?;
-    put_names(draft, 257, snap, b"snap")?;
+    put_names(draft, TOP_TREE, 257, TOP, snap, b"snap")?;
     draft.plant_files(rack, RootPlan::of_files(TOP_TREE, 3), files)?;
     draft.plant_files(rack, RootPlan::of_files(256, 5), Files::new(alloc, 256)?)?;
     let mut files = Files::new(alloc, 257)?;
@@ -170,12 +173,19 @@ fn put_subvolumes(draft: &mut Draft, rack: &mut MemRack, refs: u32) -> Result<()
     draft.plant_files(rack, root, files)
 }
 
-// The two items of the root tree on a subvolume's name in the top directory.
-fn put_names(draft: &mut Draft, id: u64, index: u64, name: &[u8]) -> Result<(), MakeFault> {
-    let forth = bodies::root_ref(draft.alloc, TOP, index, name)?;
-    draft.roots.put(TOP_TREE, ROOT_REF, id, forth)?;
-    let back = bodies::root_ref(draft.alloc, TOP, index, name)?;
-    draft.roots.put(id, ROOT_BACKREF, TOP_TREE, back)?;
+/// Puts the two items of the root tree on a subvolume's name in a directory of its parent.
+pub(super) fn put_names(
+    draft: &mut Draft,
+    parent: u64,
+    id: u64,
+    dir: u64,
+    index: u64,
+    name: &[u8],
+) -> Result<(), MakeFault> {
+    let forth = bodies::root_ref(draft.alloc, dir, index, name)?;
+    draft.roots.put(parent, ROOT_REF, id, forth)?;
+    let back = bodies::root_ref(draft.alloc, dir, index, name)?;
+    draft.roots.put(id, ROOT_BACKREF, parent, back)?;
     Ok(())
 }
 

@@ -20,6 +20,7 @@ pub(super) fn plan_of(which: RowVolume) -> Plan
         RowVolume::M3 => THREE_COPIES,
         RowVolume::Rows5 => RAID5_ROWS,
         RowVolume::Rows6 => RAID6_ROWS,
+        RowVolume::Differing | RowVolume::DifferingNames => BRANCHED,
         _ => PLAIN,
     }
 }
@@ -57,6 +58,19 @@ const PLAIN: Plan = Plan {
     data: PLAIN_DATA,
     room: NODE,
     pointers: usize::MAX,
+    items: usize::MAX,
+};
+
+// Trees of several levels: each leaf of files has ten items.
+const BRANCHED: Plan = Plan {
+    metadata: ChunkPlan {
+        length: 8388608,
+        ..PLAIN_METADATA
+    },
+    room: 524288,
+    pointers: 4,
+    items: 10,
+    ..PLAIN
 };
 
 const DUPLICATED: Plan = Plan {
