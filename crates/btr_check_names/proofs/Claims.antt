@@ -48,7 +48,12 @@ same_claim a b h =
     let one = then_is (nat_cmp a.dir b.dir) (ordering_then (nat_cmp a.offset b.offset) last) h in
     let two = then_is (nat_cmp a.offset b.offset) last one.1 in
     let three = then_is (target_cmp a.target b.target) (nat_cmp a.kind b.kind) two.1 in
-    λ i. record { dir = number_is a.dir b.dir one.0 i; offset = number_is a.offset b.offset two.0 i; target = same_target a.target b.target three.0 i; kind = number_is a.kind b.kind three.1 i }
+    λ i. record {
+      dir = number_is a.dir b.dir one.0 i;
+      offset = number_is a.offset b.offset two.0 i;
+      target = same_target a.target b.target three.0 i;
+      kind = number_is a.kind b.kind three.1 i;
+    }
 
 target_itself : (a : Target) → is_eq (target_cmp a a) ≡ true
 target_itself a =
@@ -63,7 +68,8 @@ claim_itself a =
     (then_both (target_cmp a.target a.target) (nat_cmp a.kind a.kind) (target_itself a.target) (number_itself a.kind)))
 
 targets_total : IsTotalOrder target_cmp
-targets_total = then_total (on_total (λ (t : Target). t.objectid) nat_cmp_total) (then_total (on_total (λ (t : Target). t.kind) nat_cmp_total) (on_total (λ (t : Target). t.offset) nat_cmp_total))
+targets_total = then_total (on_total (λ (t : Target). t.objectid) nat_cmp_total)
+    (then_total (on_total (λ (t : Target). t.kind) nat_cmp_total) (on_total (λ (t : Target). t.offset) nat_cmp_total))
 
 -- the order of claims
 pub claims_total : IsTotalOrder claim_cmp

@@ -4,10 +4,10 @@ use Rattle.std.proofs.lemmas.List.{take-append-le, drop-append-le, take_all, map
 use Rattle.std.proofs.lemmas.List.Elements.{All-head, All-tail}
 use Rattle.std.proofs.Math.Seq.{drop-append_seam}
 use Rattle.btr_check_names.specs.declared.name_place.NamePlace.{NamePlace}
-use Rattle.btr_check_names.specs.Packed.{IsWithin, name_in}
+use Rattle.btr_check_names.specs.Packed.{HasNameAt, name_in}
 
 -- a name stays where it is as others come behind it
-name_stays : (names more : List ℕ) (place : NamePlace) → IsWithin names place → name_in (names ++ more) place ≡ name_in names place
+name_stays : (names more : List ℕ) (place : NamePlace) → HasNameAt names place → name_in (names ++ more) place ≡ name_in names place
 name_stays names more place within =
     let begins : place.at ≤ length names = omega arith in
     let ends : (place.at + place.len) - place.at ≤ length (drop place.at names) = omega (arith, length-drop place.at names) in
@@ -25,17 +25,17 @@ module _ {R X : Type 0} (place : R → NamePlace) (make : R → List ℕ → X) 
   row_shown names row = make row (name_in names (place row))
 
   -- what rows say stays as more names come behind theirs
-  rows_stay : (names more : List ℕ) (rows : List R) → All (λ row. IsWithin names (place row)) rows → map (row_shown (names ++ more)) rows
+  rows_stay : (names more : List ℕ) (rows : List R) → All (λ row. HasNameAt names (place row)) rows → map (row_shown (names ++ more)) rows
       ≡ map (row_shown names) rows
   rows_stay names more [] within = refl
   rows_stay names more (row ∷ rows) within =
-      let P : R → Type 0 = λ r. IsWithin names (place r) in
+      let P : R → Type 0 = λ r. HasNameAt names (place r) in
       let first : row_shown (names ++ more) row ≡ row_shown names row = ap (make row) (name_stays names more (place row) (All-head P row rows within)) in
       let rest : map (row_shown (names ++ more)) rows ≡ map (row_shown names) rows = rows_stay names more rows (All-tail P row rows within) in
       λ i. first i ∷ rest i
 
   -- one more row, and its name
-  pub rows_more : (names new name : List ℕ) (rows all : List R) (row : R) → All (λ r. IsWithin names (place r)) rows → new ≡ names ++ name → all
+  pub rows_more : (names new name : List ℕ) (rows all : List R) (row : R) → All (λ r. HasNameAt names (place r)) rows → new ≡ names ++ name → all
       ≡ rows ++ row ∷ []
       → (place row).at ≡ length names → (place row).len ≡ length name → map (λ r. make r (name_in new (place r))) all
       ≡ map (λ r. make r (name_in names (place r))) rows ++ make row name ∷ []

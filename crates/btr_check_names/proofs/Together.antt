@@ -45,12 +45,18 @@ module _ (names : Names) (removed : List ℕ) where
       → Adds (findings_but removed names) none of_orphans
   all_added none of_items of_indexes of_refs of_entries of_modes of_links of_sizes of_orphans items indexes refs entries modes links sizes orphans =
       let to_items = adds_rows (entry_item names.tree removed names.hashed) names.indexed none of_items items in
-      let to_indexes = adds_then (rows_items) rows_indexes none of_items of_indexes to_items (adds_rows (entry_index names.tree removed names.indexed) names.hashed of_items of_indexes indexes) in
-      let to_refs = adds_then (rows_items ++ rows_indexes) rows_refs none of_indexes of_refs to_indexes (adds_rows (entry_ref names.tree removed names.refs) names.indexed of_indexes of_refs refs) in
-      let to_entries = adds_then (rows_items ++ rows_indexes ++ rows_refs) rows_entries none of_refs of_entries to_refs (adds_rows (ref_entry names.tree names.dirid names.indexed) names.refs of_refs of_entries entries) in
-      let to_modes = adds_then (rows_items ++ rows_indexes ++ rows_refs ++ rows_entries) rows_modes none of_entries of_modes to_entries (adds_rows (entry_mode names.tree removed names.inodes) names.indexed of_entries of_modes modes) in
-      let to_links = adds_then (rows_items ++ rows_indexes ++ rows_refs ++ rows_entries ++ rows_modes) rows_links none of_modes of_links to_modes (adds_rows (link_count names.tree names.refs) names.inodes of_modes of_links links) in
-      let to_sizes = adds_then (rows_items ++ rows_indexes ++ rows_refs ++ rows_entries ++ rows_modes ++ rows_links) rows_sizes none of_links of_sizes to_links (adds_rows (dir_size names.tree names.orphans names.indexed) names.inodes of_links of_sizes sizes) in
+      let to_indexes = adds_then (rows_items) rows_indexes none of_items of_indexes to_items
+      (adds_rows (entry_index names.tree removed names.indexed) names.hashed of_items of_indexes indexes) in
+      let to_refs = adds_then (rows_items ++ rows_indexes) rows_refs none of_indexes of_refs to_indexes
+      (adds_rows (entry_ref names.tree removed names.refs) names.indexed of_indexes of_refs refs) in
+      let to_entries = adds_then (rows_items ++ rows_indexes ++ rows_refs) rows_entries none of_refs of_entries to_refs
+      (adds_rows (ref_entry names.tree names.dirid names.indexed) names.refs of_refs of_entries entries) in
+      let to_modes = adds_then (rows_items ++ rows_indexes ++ rows_refs ++ rows_entries) rows_modes none of_entries of_modes to_entries
+      (adds_rows (entry_mode names.tree removed names.inodes) names.indexed of_entries of_modes modes) in
+      let to_links = adds_then (rows_items ++ rows_indexes ++ rows_refs ++ rows_entries ++ rows_modes) rows_links none of_modes of_links to_modes
+      (adds_rows (link_count names.tree names.refs) names.inodes of_modes of_links links) in
+      let to_sizes = adds_then (rows_items ++ rows_indexes ++ rows_refs ++ rows_entries ++ rows_modes ++ rows_links) rows_sizes none of_links of_sizes
+      to_links (adds_rows (dir_size names.tree names.orphans names.indexed) names.inodes of_links of_sizes sizes) in
       adds_then (rows_items ++ rows_indexes ++ rows_refs ++ rows_entries ++ rows_modes ++ rows_links ++ rows_sizes) rows_orphans none of_sizes
       of_orphans to_sizes (adds_rows (orphan names.tree names.orphans) names.inodes of_sizes of_orphans orphans)
 

@@ -1,5 +1,6 @@
 -- The names, inodes and entries of one tree of files.
-use Rattle.std.specs.Prelude.{◌≡◌, ℕ, ◌*◌, ◌-◌, ◌^◌, ◌==◌, ◌&&◌, ◌||◌, not, Bool, bit_and, List, [], ◌∷◌, ◌++◌, length, map, filter, filter_map, flat_map, fold, sum_by, count_by, cond, Option, if◌then◌else◌}
+use Rattle.std.specs.Prelude.{◌≡◌, ℕ, ◌*◌, ◌-◌, ◌^◌, ◌==◌, ◌&&◌, ◌||◌, not, Bool, bit_and, List, [], ◌∷◌, ◌++◌, length, map, filter, filter_map, flat_map}
+use Rattle.std.specs.Prelude.{fold, sum_by, count_by, cond, Option, if◌then◌else◌}
 use Rattle.std.specs.List.{list_any}
 use Rattle.std.specs.Str.{bytes_eq}
 use Rattle.btr_base.specs.Crc.{hash_of}
@@ -183,7 +184,8 @@ module _ (tree : ℕ) where
 
   -- a reference has its entry
   abbrev pub ref_entry : ℕ → List Entry → NameRef → Option Finding
-  ref_entry dirid indexed ref = unless (is_free dirid ref || list_any (same_ref ref) (asked indexed)) (found kind.RefEntry (tree ∷ ref.inode ∷ ref.parent ∷ ref.index ∷ []))
+  ref_entry dirid indexed ref =
+      unless (is_free dirid ref || list_any (same_ref ref) (asked indexed)) (found kind.RefEntry (tree ∷ ref.inode ∷ ref.parent ∷ ref.index ∷ []))
 
   -- the inode that an entry leads to is there, and of the entry's kind
   abbrev pub entry_mode : List ℕ → List InodeAt → Entry → Option Finding
@@ -191,7 +193,8 @@ module _ (tree : ℕ) where
 
   -- an inode states how many references it has
   abbrev pub link_count : List NameRef → InodeAt → Option Finding
-  link_count refs at = unless (has_links at (links_of refs at.number)) (found kind.LinkCount (tree ∷ at.number ∷ at.inode.nlink ∷ shown_sum (links_of refs at.number) ∷ []))
+  link_count refs at =
+      unless (has_links at (links_of refs at.number)) (found kind.LinkCount (tree ∷ at.number ∷ at.inode.nlink ∷ shown_sum (links_of refs at.number) ∷ []))
 
   -- a directory is as large as the names in it, twice, unless it is being removed
   abbrev pub dir_size : List ℕ → List Entry → InodeAt → Option Finding

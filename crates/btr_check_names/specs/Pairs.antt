@@ -53,20 +53,23 @@ pub record Pairs : Type 0 where
   pub waiting : FinMap claim_cmp Half
   pub differ : Bool
 
--- as numbers and lists of these
+-- a claim as numbers and lists of these
 abbrev pub coded_claim : Coded Claim
 coded_claim =
     code_by (ℕ × (ℕ × ((ℕ × (ℕ × ℕ)) × ℕ))) (coded× coded_ℕ (coded× coded_ℕ (coded× (coded× coded_ℕ (coded× coded_ℕ coded_ℕ)) coded_ℕ)))
     (λ c. (c.dir, (c.offset, ((c.target.objectid, (c.target.kind, c.target.offset)), c.kind))))
     (λ p. record { dir = p.0; offset = p.1.0; target = record { objectid = p.1.1.0.0; kind = p.1.1.0.1.0; offset = p.1.1.0.1.1 }; kind = p.1.1.1 }) (λ _. refl)
 
+-- the same of a half
 abbrev pub coded_half : Coded Half
 coded_half = code_by (Bool × List ℕ) (coded× coded_bool (coded_list coded_ℕ)) (λ h. (h.is_first, h.name)) (λ p. record { is_first = p.0; name = p.1 })
     (λ _. refl)
 
+-- the same of what waits
 abbrev pub coded_waiting : Coded (FinMap claim_cmp Half)
 coded_waiting = code coded_claim coded_half
 
+-- the same of pairs
 abbrev pub coded_pairs : Coded Pairs
 coded_pairs = code_by (FinMap claim_cmp Half × Bool) (coded× coded_waiting coded_bool) (λ p. (p.waiting, p.differ))
     (λ p. record { waiting = p.0; differ = p.1 }) (λ _. refl)

@@ -21,11 +21,14 @@ target_cmp a b = ordering_then (nat_cmp a.objectid b.objectid) (ordering_then (n
 -- entries are ordered field by field
 abbrev pub entry_cmp : DirEntry → DirEntry → Ordering
 entry_cmp a b =
-    ordering_then (nat_cmp a.dir b.dir) (ordering_then (nat_cmp a.offset b.offset) (ordering_then (target_cmp a.target b.target) (ordering_then (nat_cmp a.kind b.kind) (slice_cmp nat_cmp a.name.now b.name.now))))
+    ordering_then (nat_cmp a.dir b.dir)
+    (ordering_then (nat_cmp a.offset b.offset)
+    (ordering_then (target_cmp a.target b.target) (ordering_then (nat_cmp a.kind b.kind) (slice_cmp nat_cmp a.name.now b.name.now))))
 
 -- references are ordered field by field
 abbrev pub link_cmp : LinkName → LinkName → Ordering
-link_cmp a b = ordering_then (nat_cmp a.inode b.inode) (ordering_then (nat_cmp a.parent b.parent) (ordering_then (nat_cmp a.index b.index) (slice_cmp nat_cmp a.name.now b.name.now)))
+link_cmp a b = ordering_then (nat_cmp a.inode b.inode)
+    (ordering_then (nat_cmp a.parent b.parent) (ordering_then (nat_cmp a.index b.index) (slice_cmp nat_cmp a.name.now b.name.now)))
 
 -- modes are ordered by the inode's number, then the kind
 abbrev pub mode_cmp : ModeAt → ModeAt → Ordering

@@ -5,7 +5,7 @@ use Rattle.std.specs.declared.vec.Vec.{Vec}
 use Rattle.btr_check_names.specs.declared.entry_list.EntryRow.{EntryRow}
 use Rattle.btr_check_names.specs.declared.link_list.LinkRow.{LinkRow}
 use Rattle.btr_check_names.specs.Entry.{Entry, NameRef, location_of}
-use Rattle.btr_check_names.specs.Packed.{IsWithin, name_in}
+use Rattle.btr_check_names.specs.Packed.{HasNameAt, name_in}
 
 -- the entry of a row
 abbrev pub row_entry : List ℕ → EntryRow → Entry
@@ -21,7 +21,7 @@ AddsEntry names rows names' rows' one = row_entries names'.items rows'.items ≡
 
 -- all names of some rows of entries lie within the buffer
 abbrev pub HasEntryNames : List ℕ → List EntryRow → Type 0
-HasEntryNames names rows = All (λ (row : EntryRow). IsWithin names row.name) rows
+HasEntryNames names rows = All (λ (row : EntryRow). HasNameAt names row.name) rows
 
 -- the reference of a row
 abbrev pub row_ref : List ℕ → LinkRow → NameRef
@@ -37,4 +37,4 @@ AddsRef names rows names' rows' one = row_refs names'.items rows'.items ≡ row_
 
 -- all names of some rows of references lie within the buffer
 abbrev pub HasRefNames : List ℕ → List LinkRow → Type 0
-HasRefNames names rows = All (λ (row : LinkRow). IsWithin names row.name) rows
+HasRefNames names rows = All (λ (row : LinkRow). HasNameAt names row.name) rows

@@ -3,7 +3,7 @@ use Rattle.std.specs.Prelude.{◌≡◌, ℕ, List, [], ◌∷◌, ◌++◌, All
 use Rattle.std.specs.declared.alloc.Global.{Global}
 use Rattle.std.specs.declared.vec.Vec.{Vec}
 use Rattle.btr_check_names.specs.declared.subvolume_list.SubvolumeRow.{SubvolumeRow}
-use Rattle.btr_check_names.specs.Packed.{IsWithin, name_in}
+use Rattle.btr_check_names.specs.Packed.{HasNameAt, name_in}
 use Rattle.btr_check_names.specs.Subvolume.{NamedSubvolume}
 
 -- the name of a row
@@ -20,4 +20,4 @@ AddsName names rows names' rows' one = row_names names'.items rows'.items ≡ ro
 
 -- all names of some rows lie within the buffer
 abbrev pub HasSubvolumeNames : List ℕ → List SubvolumeRow → Type 0
-HasSubvolumeNames names rows = All (λ (row : SubvolumeRow). IsWithin names row.name) rows
+HasSubvolumeNames names rows = All (λ (row : SubvolumeRow). HasNameAt names row.name) rows

@@ -68,7 +68,8 @@ no_subvolumes = record { refs = []; backrefs = []; entries = [] }
 
 -- the names of subvolumes after one more item of the root tree
 abbrev pub subvolumes_with : Subvolumes → Key → List ℕ → Subvolumes
-subvolumes_with names key body = record { refs = names.refs ++ root_refs_in key body; backrefs = names.backrefs ++ root_backrefs_in key body; entries = names.entries }
+subvolumes_with names key body =
+    record { refs = names.refs ++ root_refs_in key body; backrefs = names.backrefs ++ root_backrefs_in key body; entries = names.entries }
 
 -- of what a tour of the root tree meets, the items count
 abbrev pub subvolumes_step : Subvolumes → Mark → Subvolumes
@@ -110,7 +111,9 @@ subvolume_findings names = filter_map (name_kept names) (names.refs ++ names.bac
 -- names are ordered field by field
 abbrev pub name_cmp : SubvolumeName → SubvolumeName → Ordering
 name_cmp a b =
-    ordering_then (nat_cmp a.parent b.parent) (ordering_then (nat_cmp a.dirid b.dirid) (ordering_then (nat_cmp a.index b.index) (ordering_then (nat_cmp a.child b.child) (slice_cmp nat_cmp a.name.now b.name.now))))
+    ordering_then (nat_cmp a.parent b.parent)
+    (ordering_then (nat_cmp a.dirid b.dirid)
+    (ordering_then (nat_cmp a.index b.index) (ordering_then (nat_cmp a.child b.child) (slice_cmp nat_cmp a.name.now b.name.now))))
 
 -- a set has just the names of a list
 abbrev pub HasNames : List NamedSubvolume → BTreeSet SubvolumeName → Type 0

@@ -19,7 +19,14 @@ nothing_unpaired dirid = record { dirid = dirid; is_turned = false; inodes = no_
 
 -- an inode comes
 abbrev pub with_inode : Unpaired → InodeAt → Unpaired
-with_inode u at = record { dirid = u.dirid; is_turned = u.is_turned; inodes = begun u.inodes at; entries = u.entries; links = u.links; subvolumes = u.subvolumes }
+with_inode u at = record {
+  dirid = u.dirid;
+  is_turned = u.is_turned;
+  inodes = begun u.inodes at;
+  entries = u.entries;
+  links = u.links;
+  subvolumes = u.subvolumes;
+}
 
 -- what hasn't met its counterpart after an entry at an index
 abbrev pub with_indexed : Unpaired → Entry → Unpaired

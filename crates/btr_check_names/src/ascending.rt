@@ -1,5 +1,6 @@
 // Names that wait, and whose claims came ascending.
-ghost use Rattle.std.specs.Prelude.{◌≡◌, ◌+◌, ◌^◌, ◌<◌, ◌≤◌, ◌==◌, [], ◌∷◌, ◌++◌, All, filter, length, take, drop, true, IfOk, IfSome, IfNone, OnOk, OnErr, if◌then◌else◌, option_map};
+ghost use Rattle.std.specs.Prelude.{◌≡◌, ◌+◌, ◌^◌, ◌<◌, ◌≤◌, ◌==◌, [], ◌∷◌, ◌++◌, All, filter, length, take, drop, true};
+ghost use Rattle.std.specs.Prelude.{IfOk, IfSome, IfNone, OnOk, OnErr, if◌then◌else◌, option_map};
 ghost use Rattle.std.specs.FinMap as map;
 ghost use Rattle.std.specs.FinMap.{find};
 ghost use Rattle.std.specs.List.{list_any};
@@ -92,7 +93,8 @@ impl Ascending {
         is_first: bool,
         name: &[u8],
     ) -> Result<bool, Memory>
-        ensures taken { IfOk result (λ taken. self.new ≡ (if taken then map.insert self.old claim.now (record { is_first = is_first; name = name.now }) else self.old)) }
+        ensures taken { IfOk result (λ taken. self.new
+            ≡ (if taken then map.insert self.old claim.now (record { is_first = is_first; name = name.now }) else self.old)) }
         ensures err { OnErr result (self.new ≡ self.old) }
     {
         let Some(slot) = next_slot(&self.slots, self.names.len(), claim, is_first, name.len())

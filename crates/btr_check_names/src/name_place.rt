@@ -1,7 +1,7 @@
 // The names of many entries in one buffer.
 ghost use Rattle.std.specs.Prelude.{◌≡◌, ◌++◌, length, OnOk, OnErr, IfOk};
 ghost use Rattle.btr_base.specs.Field.{bytes_at};
-ghost use Rattle.btr_check_names.specs.Packed.{IsWithin};
+ghost use Rattle.btr_check_names.specs.Packed.{HasNameAt};
 
 use btr_base::Memory;
 
@@ -15,7 +15,7 @@ pub(crate) struct NamePlace {
 impl NamePlace {
     /// The name at this place of a buffer.
     pub(crate) fn name(self, names: &[u8]) -> &[u8]
-        requires { IsWithin names.now self }
+        requires { HasNameAt names.now self }
         ensures { result.now ≡ bytes_at self.len self.at names.now }
     {
         &names[self.at..self.at + self.len]

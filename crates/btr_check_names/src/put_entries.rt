@@ -97,10 +97,7 @@ pub(crate) fn is_free(dirid: u64, link: &LinkName<'_>) -> bool
 fn of_link(tree: u64, link: &LinkName<'_>) -> Finding
     ensures { result ≡ found kind.RefEntry (tree ∷ link.now.inode ∷ link.now.parent ∷ link.now.index ∷ []) }
 {
-    Finding {
-        kind: Kind::RefEntry,
-        n: [tree, link.inode, link.parent, link.index, 0, 0, 0],
-    }
+    Finding::new(Kind::RefEntry, [tree, link.inode, link.parent, link.index])
 }
 
 /// `RefEntry`: the references that no entry asks for. `Memory`: there is no memory.

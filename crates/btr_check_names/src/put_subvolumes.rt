@@ -37,10 +37,7 @@ fn names_of(alloc: Global, names: &SubvolumeList) -> Result<BTreeSet<SubvolumeNa
 fn of_name(name: &SubvolumeName<'_>) -> Finding
     ensures { result ≡ found kind.RootRef (name.now.parent ∷ name.now.child ∷ []) }
 {
-    Finding {
-        kind: Kind::RootRef,
-        n: [name.parent, name.child, 0, 0, 0, 0, 0],
-    }
+    Finding::new(Kind::RootRef, [name.parent, name.child])
 }
 
 // The names of a list that don't stand everywhere.

@@ -26,7 +26,17 @@ impl Model for Slot {
 
     ghost Value = { slots.Slot };
 
-    ghost view = { λ slot. record { claim = record { dir = slot.dir; offset = slot.offset; target = record { objectid = slot.objectid; kind = 1; offset = 0 }; kind = slot.kind }; is_first = slot.is_first; at = slot.at; len = slot.len } };
+    ghost view = { λ slot. record {
+      claim = record {
+        dir = slot.dir;
+        offset = slot.offset;
+        target = record { objectid = slot.objectid; kind = 1; offset = 0 };
+        kind = slot.kind;
+      };
+      is_first = slot.is_first;
+      at = slot.at;
+      len = slot.len;
+    } };
 }
 
 impl Slot {

@@ -5,7 +5,8 @@ ghost use Rattle.btr_items.specs.ExtRef.{ext_refs_of};
 ghost use Rattle.btr_items.specs.Form.{HasName};
 ghost use Rattle.btr_items.specs.Inode.{inode_of};
 ghost use Rattle.btr_items.specs.InodeRef.{inode_refs_of};
-ghost use Rattle.btr_check_names.specs.Items.{entry_with, entries_read, ref_with, refs_read, ext_ref_with, ext_refs_read, inodes_read, indexed_in, hashed_in, refs_in, inodes_in, orphans_in};
+ghost use Rattle.btr_check_names.specs.Items.{entry_with, entries_read, ref_with, refs_read, ext_ref_with, ext_refs_read, inodes_read};
+ghost use Rattle.btr_check_names.specs.Items.{indexed_in, hashed_in, refs_in, inodes_in, orphans_in};
 
 use crate::parts::{entry_in, ext_ref_in, ref_in};
 use crate::{EntryList, InodeAt, LinkList};

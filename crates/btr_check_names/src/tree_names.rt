@@ -26,7 +26,15 @@ impl Model for TreeNames {
 
     ghost Value = { Names };
 
-    ghost view = { λ names. record { tree = names.tree; dirid = names.dirid; inodes = names.inodes.items; indexed = names.indexed; hashed = names.hashed; refs = names.refs; orphans = names.orphans.items } };
+    ghost view = { λ names. record {
+      tree = names.tree;
+      dirid = names.dirid;
+      inodes = names.inodes.items;
+      indexed = names.indexed;
+      hashed = names.hashed;
+      refs = names.refs;
+      orphans = names.orphans.items;
+    } };
 }
 
 impl TreeNames {

@@ -55,9 +55,12 @@ at_most_one all ended covering e = grind (arith, nat_tests)
 pub summed_once : (sector : ℕ) (runs : List SumRun) (starts ends : List ℕ) → Bounds runs starts ends → leb (rank starts sector) (rank ends sector + 1)
     ≡ leb (count_by (covers sector) runs) 1
 summed_once sector runs starts ends bounds =
-    let first : rank starts sector ≡ count_by (λ run. leb (run_start run) sector) runs = rank_same (map run_start runs) starts sector bounds.of_starts.same ∙ rank_map run_start runs sector in
-    let last : rank ends sector ≡ count_by (λ run. leb (run_end run) sector) runs = rank_same (map run_end runs) ends sector bounds.of_ends.same ∙ rank_map run_end runs sector in
-    let all : count_by (covers sector) runs + rank ends sector ≡ rank starts sector = ap (λ n. count_by (covers sector) runs + n) last ∙ begun sector runs ∙ sym first in
+    let first : rank starts sector ≡ count_by (λ run. leb (run_start run) sector) runs =
+    rank_same (map run_start runs) starts sector bounds.of_starts.same ∙ rank_map run_start runs sector in
+    let last : rank ends sector ≡ count_by (λ run. leb (run_end run) sector) runs =
+    rank_same (map run_end runs) ends sector bounds.of_ends.same ∙ rank_map run_end runs sector in
+    let all : count_by (covers sector) runs + rank ends sector ≡ rank starts sector =
+    ap (λ n. count_by (covers sector) runs + n) last ∙ begun sector runs ∙ sym first in
     at_most_one (rank starts sector) (rank ends sector) (count_by (covers sector) runs) all
 
 -- up to before the next number, as many are at most one

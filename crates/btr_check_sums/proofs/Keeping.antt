@@ -8,14 +8,17 @@ use Rattle.btr_tour.specs.Tour.{Mark}
 use Rattle.btr_check_sums.specs.Items.{runs_step, uses_step, run_in, loose_in, used_in, KeepsRuns, KeepsUses}
 use Rattle.btr_check_sums.specs.declared.used_range.UsedRange.{UsedRange}
 
-runs_kept : (kind : SumKind) (runs : List SumRun) (marks : List Mark) → fold runs_step (record { kind = kind; runs = runs }) marks ≡ record { kind = kind; runs = fold (with_mark (run_in kind)) runs marks }
+runs_kept : (kind : SumKind) (runs : List SumRun) (marks : List Mark)
+    → fold runs_step (record { kind = kind; runs = runs }) marks ≡ record { kind = kind; runs = fold (with_mark (run_in kind)) runs marks }
 runs_kept kind runs [] = refl
 runs_kept kind runs (mark ∷ marks) = runs_kept kind (with_mark (run_in kind) runs mark) marks
 
 pub keeps_runs : KeepsRuns
 keeps_runs kind marks = runs_kept kind [] marks ∙ (λ i. record { kind = kind; runs = collects (run_in kind) marks i })
 
-uses_kept : (loose : List ℕ) (used : List UsedRange) (marks : List Mark) → fold uses_step (record { loose = loose; used = used }) marks ≡ record { loose = fold (with_mark loose_in) loose marks; used = fold (with_mark used_in) used marks }
+uses_kept : (loose : List ℕ) (used : List UsedRange) (marks : List Mark)
+    → fold uses_step (record { loose = loose; used = used }) marks
+    ≡ record { loose = fold (with_mark loose_in) loose marks; used = fold (with_mark used_in) used marks }
 uses_kept loose used [] = refl
 uses_kept loose used (mark ∷ marks) = uses_kept (with_mark loose_in loose mark) (with_mark used_in used mark) marks
 

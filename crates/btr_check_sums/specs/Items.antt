@@ -71,8 +71,11 @@ uses_step met mark = record { loose = with_mark loose_in met.loose mark; used = 
 
 -- what is kept of a tour of the checksum tree is all runs among its items
 abbrev pub KeepsRuns : Type 0
-KeepsRuns = (kind : SumKind) (marks : List Mark) → fold runs_step (record { kind = kind; runs = [] }) marks ≡ record { kind = kind; runs = runs_in kind (items_met marks) }
+KeepsRuns = (kind : SumKind) (marks : List Mark)
+    → fold runs_step (record { kind = kind; runs = [] }) marks ≡ record { kind = kind; runs = runs_in kind (items_met marks) }
 
 -- what is kept of a tour of a tree of files is all such inodes and ranges among its items
 abbrev pub KeepsUses : Type 0
-KeepsUses = (marks : List Mark) → fold uses_step (record { loose = []; used = [] }) marks ≡ record { loose = filter_map loose_in (items_met marks); used = filter_map used_in (items_met marks) }
+KeepsUses = (marks : List Mark)
+    → fold uses_step (record { loose = []; used = [] }) marks
+    ≡ record { loose = filter_map loose_in (items_met marks); used = filter_map used_in (items_met marks) }

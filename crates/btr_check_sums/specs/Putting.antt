@@ -25,9 +25,11 @@ PutsMissing tree range loose chunks sums old new result =
 
 -- by where runs begin and end, those of a run
 abbrev pub PutsOverlaps : SumRun → List ℕ → List ℕ → FoundSet → FoundSet → Result (Unit {0}) Memory → Type 0
-PutsOverlaps run starts ends old new result = (runs : List SumRun) → Bounds runs starts ends → OnOk result (Adds (filter_map (sum_overlap runs) (run_sectors run)) old new)
+PutsOverlaps run starts ends old new result =
+    (runs : List SumRun) → Bounds runs starts ends → OnOk result (Adds (filter_map (sum_overlap runs) (run_sectors run)) old new)
 
 -- by the ranges of addresses of data extents, those of a run
 abbrev pub PutsStrays : SumRun → List Stretch → FoundSet → FoundSet → Result (Unit {0}) Memory → Type 0
 PutsStrays run cover old new result =
-    (extents : List Extent) → HoldSame (map extent_stretch (data_extents extents)) cover → OnOk result (Adds (filter_map (sum_stray extents) (run_sectors run)) old new)
+    (extents : List Extent) → HoldSame (map extent_stretch (data_extents extents)) cover
+    → OnOk result (Adds (filter_map (sum_stray extents) (run_sectors run)) old new)

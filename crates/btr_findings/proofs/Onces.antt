@@ -19,7 +19,7 @@ use Rattle.btr_findings.specs.declared.sector_rule.SectorRule.{SectorRule}
 use Rattle.btr_findings.specs.declared.sector_run.SectorRun.{SectorRun}
 use Rattle.btr_findings.specs.Findings.{finding_cmp, is_one_of, is_same}
 use Rattle.btr_findings.specs.Runs.{IsKept, each_once, is_rule, met_by, no_run, reaching, without}
-use Rattle.btr_findings.specs.Sectors.{IsWithin, run_findings, runs_findings, sector_finding}
+use Rattle.btr_findings.specs.Sectors.{IsRunWithin, run_findings, runs_findings, sector_finding}
 use Rattle.btr_findings.proofs.SectorRuns.{all_lines, is_line, is_line_join, is_line_none, is_line_part, lines, lines_cmp, none_before, rule_cmp, rule_tied}
 use Rattle.btr_findings.proofs.SectorRuns.{same_rule}
 use Rattle.btr_findings.proofs.Sets.{all-weaker, finding_total}
@@ -128,7 +128,8 @@ module _ (earlier run : SectorRun) where
   key_reaching = by_same (key_of (reaching earlier run) ≡ key_of run) (λ e. ap key_of (reaching_same e)) (λ e. ap key_of (reaching_other e))
 
   met_few : met ≤ run.count
-  met_few = by_same (met ≤ run.count) (λ e. let is : met ≡ min run.count (end - run.first) = met_same e in omega (arith, is)) (λ e. let is : met ≡ 0 = met_other e in omega (arith, is))
+  met_few = by_same (met ≤ run.count) (λ e. let is : met ≡ min run.count (end - run.first) = met_same e in omega (arith, is))
+      (λ e. let is : met ≡ 0 = met_other e in omega (arith, is))
 
   -- that it doesn't come before the earlier one says where it begins
   begins : is_lt (finding_cmp (key_of run) (key_of earlier)) ≡ false
@@ -152,8 +153,10 @@ module _ (earlier run : SectorRun) where
 
   rule_behind : same ≡ false → is_lt (finding_cmp (key_of run) (key_of earlier)) ≡ false → rule_cmp earlier.rule run.rule ≡ Less
   rule_behind e up =
-      let turned : rule_cmp run.rule earlier.rule ≡ ordering_reverse (rule_cmp earlier.rule run.rule) = finding_total.antisymm (sector_finding run.rule 0) (sector_finding earlier.rule 0) in
-      let apart : is_eq (rule_cmp run.rule earlier.rule) ≡ false = reverse_is (rule_cmp run.rule earlier.rule) (rule_cmp earlier.rule run.rule) turned ∙ rule_tied earlier.rule run.rule ∙ e in
+      let turned : rule_cmp run.rule earlier.rule ≡ ordering_reverse (rule_cmp earlier.rule run.rule) =
+      finding_total.antisymm (sector_finding run.rule 0) (sector_finding earlier.rule 0) in
+      let apart : is_eq (rule_cmp run.rule earlier.rule) ≡ false =
+      reverse_is (rule_cmp run.rule earlier.rule) (rule_cmp earlier.rule run.rule) turned ∙ rule_tied earlier.rule run.rule ∙ e in
       finding_total.antisymm (sector_finding earlier.rule 0) (sector_finding run.rule 0)
       ∙ ap ordering_reverse (greater_of (rule_cmp run.rule earlier.rule) (nat_cmp run.first earlier.first) apart (begins up))
 
@@ -304,7 +307,8 @@ ascending earlier key (run ∷ runs) is up kept =
     let few : met_by earlier run ≤ run.count = met_few earlier run in
     let behind = all-weaker (Behind longer) (Behind earlier) (λ y h. behind_longer earlier run y up0 kept.0.some h) rest more.0 in
     let apart = all_lines (λ x. AllByRecursion (λ y. finding_cmp x y ≡ Less) rest) run.rule (run.first + met_by earlier run) (run.count - met_by earlier run)
-    (λ j from below. all-weaker (Behind longer) (λ y. finding_cmp (sector_finding run.rule (j * 4096)) y ≡ Less) (λ y h. before_behind earlier run y h j (omega (arith, below, few))) rest more.0) in (
+    (λ j from below. all-weaker (Behind longer) (λ y. finding_cmp (sector_finding run.rule (j * 4096)) y ≡ Less)
+    (λ y h. before_behind earlier run y h j (omega (arith, below, few))) rest more.0) in (
       all_append (Behind earlier) (run_findings (without earlier run)) rest (left_behind earlier run up0) behind,
       sorted_append (run_findings (without earlier run)) rest
           (lines_sorted run.rule (run.first + met_by earlier run) (run.count - met_by earlier run)) more.1 apart,
@@ -315,20 +319,20 @@ pub once_sorted : (runs : List SectorRun) → IsSortedByKey key_of finding_cmp r
 once_sorted runs sorted kept = (ascending no_run (key_of no_run) runs refl (rising runs sorted) (recursion_from_All IsKept runs kept)).1
 
 -- they stay within the addresses
-within_from : (earlier : SectorRun) (runs : List SectorRun) → AllByRecursion IsKept runs → AllByRecursion IsWithin (each_once earlier runs)
+within_from : (earlier : SectorRun) (runs : List SectorRun) → AllByRecursion IsKept runs → AllByRecursion IsRunWithin (each_once earlier runs)
 within_from earlier [] kept = tt
 within_from earlier (run ∷ runs) kept =
     let few : met_by earlier run ≤ run.count = met_few earlier run in
     let all = kept.0.within in
     (omega (arith, few, all), within_from (reaching earlier run) runs kept.1)
 
-pub once_within : (runs : List SectorRun) → All IsKept runs → All IsWithin (each_once no_run runs)
-once_within runs kept = All-from_recursion IsWithin (each_once no_run runs) (within_from no_run runs (recursion_from_All IsKept runs kept))
+pub once_within : (runs : List SectorRun) → All IsKept runs → All IsRunWithin (each_once no_run runs)
+once_within runs kept = All-from_recursion IsRunWithin (each_once no_run runs) (within_from no_run runs (recursion_from_All IsKept runs kept))
 
-pub reaching_within : (earlier run : SectorRun) → IsWithin earlier → IsWithin run → IsWithin (reaching earlier run)
-reaching_within earlier run first second = by_same earlier run (IsWithin (reaching earlier run))
-    (λ e. subst IsWithin (sym (reaching_same earlier run e)) (omega (arith, first, second)))
-    (λ e. subst IsWithin (sym (reaching_other earlier run e)) second)
+pub reaching_within : (earlier run : SectorRun) → IsRunWithin earlier → IsRunWithin run → IsRunWithin (reaching earlier run)
+reaching_within earlier run first second = by_same earlier run (IsRunWithin (reaching earlier run))
+    (λ e. subst IsRunWithin (sym (reaching_same earlier run e)) (omega (arith, first, second)))
+    (λ e. subst IsRunWithin (sym (reaching_other earlier run e)) second)
 
 -- one run more is left
 pub once_more : (earlier d : SectorRun) (list : List SectorRun) (i : ℕ) → i < length list

@@ -213,7 +213,8 @@ same_map f g a b (suc count) same =
     ap f one ∙ same (i + 1) (omega (arith, below)) ∙ ap g other))
 
 -- a run is at the address of its first sector
-pub run_at : (rule : SectorRule) (start first count : ℕ) → first ≡ start / 4096 → start % 4096 ≡ 0 → first + count ≤ 2 ^ 52 → IsRunAt rule start count (record { rule = rule; first = first; count = count })
+pub run_at : (rule : SectorRule) (start first count : ℕ) → first ≡ start / 4096 → start % 4096 ≡ 0 → first + count ≤ 2 ^ 52
+    → IsRunAt rule start count (record { rule = rule; first = first; count = count })
 run_at rule start first count is whole below = record {
   within = below;
   findings =

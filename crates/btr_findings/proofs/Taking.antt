@@ -217,9 +217,12 @@ module _ (single : List Finding) (runs : List SectorRun) (at : ℕ) (place : Run
   next_listed unfinished is is' listed =
       let first = starts_single single at in
       let second = starts_line runs place.run place.done unfinished in
-      let shorter : length (drop (at + more) single) ≤ length front = subst (λ (l : List Finding). length l ≤ length front) (sym (singles_is is)) (no_longer (slice_get single at) front (drop (at + 1) single) step.single first) in
+      let shorter : length (drop (at + more) single) ≤ length front =
+      subst (λ (l : List Finding). length l ≤ length front) (sym (singles_is is))
+      (no_longer (slice_get single at) front (drop (at + 1) single) step.single first) in
       let shorter' : length (runs_left (drop place.run runs) (place.done + next)) ≤ length lines_in =
-      subst (λ (l : List Finding). length l ≤ length lines_in) (sym (lines_is is')) (no_longer (sector_at runs place) lines_in (runs_left (drop place.run runs) (place.done + 1)) step.line second) in
+      subst (λ (l : List Finding). length l ≤ length lines_in) (sym (lines_is is'))
+      (no_longer (sector_at runs place) lines_in (runs_left (drop place.run runs) (place.done + 1)) step.line second) in
       record {
         single_ascend = subst (IsStrictlySortedBy finding_cmp) (sym (singles_is is))
             (ascends (slice_get single at) front (drop (at + 1) single) step.single first listed.single_ascend);
@@ -236,7 +239,9 @@ module _ (single : List Finding) (runs : List SectorRun) (at : ℕ) (place : Run
       let rest = drop (at + 1) single in
       let rest' = runs_left (drop place.run runs) (place.done + 1) in
       let all : Takes front rest lines_in rest' step =
-      subst (Takes front rest lines_in rest') (sym stepped) (takes front rest lines_in rest' (slice_get single at) (sector_at runs place) (starts_single single at) (starts_line runs place.run place.done unfinished) listed.single_ascend listed.lines_ascend) in
+      subst (Takes front rest lines_in rest') (sym stepped)
+      (takes front rest lines_in rest' (slice_get single at) (sector_at runs place) (starts_single single at)
+      (starts_line runs place.run place.done unfinished) listed.single_ascend listed.lines_ascend) in
       subst (λ (l : List Finding). TakesFirst (in_order (front ++ lines_in)) (in_order (l ++ runs_left (drop place.run runs) (place.done + next)))
       step.finding) (sym (singles_is is))
       (subst (λ (l : List Finding). TakesFirst (in_order (front ++ lines_in)) (in_order (cond step.single rest front ++ l)) step.finding)

@@ -1,5 +1,6 @@
 -- Findings, and the order that they are printed in.
-use Rattle.std.specs.Prelude.{◌≡◌, ℕ, ◌^◌, ◌-◌, min, Bool, false, List, [], ◌∷◌, ◌||◌, ◌++◌, take, replicate, Option, Some, None, Result, IfOk, MatchOption, if◌then◌else◌}
+use Rattle.std.specs.Prelude.{◌≡◌, ℕ, ◌^◌, ◌-◌, min, Bool, false, List, [], ◌∷◌, ◌||◌, ◌++◌, take, replicate, Option, Some, None, Result, IfOk}
+use Rattle.std.specs.Prelude.{MatchOption, if◌then◌else◌}
 use Rattle.std.specs.BTreeSet.{insert_key}
 use Rattle.std.specs.List.{list_any}
 use Rattle.std.specs.Ordering.{is_eq, nat_cmp, on, then_cmp}

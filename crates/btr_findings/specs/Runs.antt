@@ -1,5 +1,6 @@
 -- Findings as they are kept: single ones, and runs of sectors.
-use Rattle.std.specs.Prelude.{◌≡◌, ℕ, ◌+◌, ◌-◌, ◌*◌, ◌<◌, ◌^◌, ◌==◌, ◌&&◌, nat_lt, max, min, Bool, true, false, List, [], ◌∷◌, ◌++◌, length, drop, slice_get, slice_index_or, Option, Some, None, if◌then◌else◌}
+use Rattle.std.specs.Prelude.{◌≡◌, ℕ, ◌+◌, ◌-◌, ◌*◌, ◌<◌, ◌^◌, ◌==◌, ◌&&◌, nat_lt, max, min, Bool, true, false, List, [], ◌∷◌, ◌++◌, length, drop}
+use Rattle.std.specs.Prelude.{slice_get, slice_index_or, Option, Some, None, if◌then◌else◌}
 use Rattle.std.specs.BTreeSet.{BTreeSet}
 use Rattle.std.specs.List.{All}
 use Rattle.std.specs.List.Sorted.{IsStrictlySortedBy}
@@ -12,7 +13,7 @@ use Rattle.btr_findings.specs.declared.sector_rule.SectorRule.{SectorRule}
 use Rattle.btr_findings.specs.declared.sector_rule.SectorRule.TheVariants.{Missing, Overlap, Stray, Lost}
 use Rattle.btr_findings.specs.declared.sector_run.SectorRun.{SectorRun}
 use Rattle.btr_findings.specs.Findings.{FoundSet, finding_cmp}
-use Rattle.btr_findings.specs.Sectors.{AreWithin, IsWithin, run_findings, runs_findings, sector_finding}
+use Rattle.btr_findings.specs.Sectors.{AreRunsWithin, IsRunWithin, run_findings, runs_findings, sector_finding}
 
 -- the set of single findings and of runs
 abbrev pub found_set : BTreeSet Finding → List SectorRun → FoundSet
@@ -21,7 +22,7 @@ found_set single runs = single.keys ++ runs_findings runs
 -- a run is kept: it has a sector, and its sectors end at 2^64 at the latest
 pub record IsKept (run : SectorRun) : Type 0 where
   pub some : 0 < run.count
-  pub within : IsWithin run
+  pub within : IsRunWithin run
 
 -- all runs have a sector, and end at 2^64 at the latest
 abbrev pub AreKept : List SectorRun → Type 0
@@ -78,7 +79,7 @@ runs_left (run ∷ runs) done = drop done (run_findings run) ++ runs_findings ru
 pub record AreListed (single lines : List Finding) (runs : List SectorRun) : Type 0 where
   pub single_ascend : IsStrictlySortedBy finding_cmp single
   pub lines_ascend : IsStrictlySortedBy finding_cmp lines
-  pub within : AreWithin runs
+  pub within : AreRunsWithin runs
   pub few : length single + length lines < 2 ^ 64
 
 -- the finding on a run's first sector that isn't done, where so many are, if there is one

@@ -32,15 +32,15 @@ abbrev pub runs_findings : List SectorRun → List Finding
 runs_findings runs = flat_map run_findings runs
 
 -- the sectors of a run end at 2^64 at the latest
-abbrev pub IsWithin : SectorRun → Type 0
-IsWithin run = run.first + run.count ≤ 2 ^ 52
+abbrev pub IsRunWithin : SectorRun → Type 0
+IsRunWithin run = run.first + run.count ≤ 2 ^ 52
 
 -- the sectors of all runs end at 2^64 at the latest
-abbrev pub AreWithin : List SectorRun → Type 0
-AreWithin runs = All IsWithin runs
+abbrev pub AreRunsWithin : List SectorRun → Type 0
+AreRunsWithin runs = All IsRunWithin runs
 
 -- a run has the sectors from an address on
 pub record IsRunAt (rule : SectorRule) (start count : ℕ) (run : SectorRun) : Type 0 where
-  pub within : IsWithin run
+  pub within : IsRunWithin run
   pub findings : run_findings run ≡ sector_findings rule start count
   pub long : run.count ≡ count

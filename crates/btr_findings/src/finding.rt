@@ -8,3 +8,18 @@ pub struct Finding {
     /// What breaks it, as the kind says; the numbers that it has no use for are 0.
     pub n: [u64; 7],
 }
+
+impl Finding {
+    ghost use Rattle.std.specs.Prelude.{◌≡◌, ◌≤◌};
+    ghost use Rattle.btr_findings.specs.Findings.{found};
+
+    /// A finding of a kind with these numbers, which are at most seven; those behind them are 0.
+    pub fn new<const N: usize>(kind: Kind, numbers: [u64; N]) -> Finding
+        requires { N ≤ 7 }
+        ensures { result ≡ found kind numbers.entry }
+    {
+        let mut n = [0; 7];
+        n[..N].copy_from_slice(&numbers);
+        Finding { kind, n }
+    }
+}

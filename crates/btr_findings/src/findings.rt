@@ -3,7 +3,7 @@ ghost use Rattle.std.specs.Prelude.{◌≡◌, ◌+◌, ◌<◌, ◌^◌, ◌++�
 ghost use Rattle.std.specs.List.Sorted.{IsStrictlySortedBy, IsSortedByKey};
 ghost use Rattle.btr_findings.specs.Findings.{finding_cmp, in_order};
 ghost use Rattle.btr_findings.specs.Runs.{each_once, met_by, no_run, reaching, runs_left, sector_at, step_of, without, AreKept, IsSettled};
-ghost use Rattle.btr_findings.specs.Sectors.{runs_findings, AreWithin, IsWithin};
+ghost use Rattle.btr_findings.specs.Sectors.{runs_findings, AreRunsWithin, IsRunWithin};
 
 use crate::sector_run::SectorRun;
 use crate::{Finding, SectorRule, push};
@@ -107,7 +107,7 @@ impl Findings {
 
 // How many sectors of a run an earlier one has.
 fn met_by(earlier: &SectorRun, run: &SectorRun) -> u64
-    requires { IsWithin earlier.now }
+    requires { IsRunWithin earlier.now }
     ensures { result ≡ met_by earlier.now run.now }
 {
     if !earlier.rule.is(run.rule) {
@@ -119,8 +119,8 @@ fn met_by(earlier: &SectorRun, run: &SectorRun) -> u64
 
 // A run without these.
 fn without(earlier: &SectorRun, run: &SectorRun) -> SectorRun
-    requires earlier { IsWithin earlier.now }
-    requires run { IsWithin run.now }
+    requires earlier { IsRunWithin earlier.now }
+    requires run { IsRunWithin run.now }
     ensures { result ≡ without earlier.now run.now }
 {
     let met = met_by(earlier, run);
@@ -133,7 +133,7 @@ fn without(earlier: &SectorRun, run: &SectorRun) -> SectorRun
 
 // A run as far as it or an earlier one of its rule reaches.
 fn reaching(earlier: &SectorRun, run: &SectorRun) -> SectorRun
-    requires { IsWithin earlier.now }
+    requires { IsRunWithin earlier.now }
     ensures { result ≡ reaching earlier.now run.now }
 {
     if !earlier.rule.is(run.rule) {
@@ -193,7 +193,7 @@ fn settled(runs: &[SectorRun], mut place: RunPlace) -> RunPlace
 
 // The finding on a sector of a run, where there is one.
 fn line_at(runs: &[SectorRun], place: RunPlace) -> Option<Finding>
-    requires { AreWithin runs.now }
+    requires { AreRunsWithin runs.now }
     ensures { result ≡ sector_at runs.now place }
 {
     let run = runs.get(place.run)?;

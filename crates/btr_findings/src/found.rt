@@ -5,7 +5,7 @@ ghost use Rattle.std.specs.Option.{option_to_list};
 ghost use Rattle.btr_findings.specs.declared.finding.Finding.{Finding};
 ghost use Rattle.btr_findings.specs.Findings.{finding_cmp, has, is_same, unless, Adds, FoundSet, ListsSet, SetLaw};
 ghost use Rattle.btr_findings.specs.Runs.{AreKept, IsKept};
-ghost use Rattle.btr_findings.specs.Sectors.{run_findings, runs_findings, sector_findings, IsWithin};
+ghost use Rattle.btr_findings.specs.Sectors.{run_findings, runs_findings, sector_findings, IsRunWithin};
 
 use crate::findings::Findings;
 use crate::sector_run::SectorRun;

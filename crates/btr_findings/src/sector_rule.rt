@@ -27,16 +27,15 @@ impl SectorRule {
     pub fn finding(self, addr: u64) -> Finding
         ensures { result ≡ sector_finding self addr }
     {
-        let (kind, n) = match self {
-            SectorRule::Missing { tree, inode } => (
+        match self {
+            SectorRule::Missing { tree, inode } => Finding::new(
                 Kind::SumMissing,
-                [tree, inode, addr, 0, 0, 0, 0],
+                [tree, inode, addr],
             ),
-            SectorRule::Overlap => (Kind::SumOverlap, [addr, 0, 0, 0, 0, 0, 0]),
-            SectorRule::Stray => (Kind::SumStray, [addr, 0, 0, 0, 0, 0, 0]),
-            SectorRule::Lost => (Kind::DataLost, [addr, 0, 0, 0, 0, 0, 0]),
-        };
-        Finding { kind, n }
+            SectorRule::Overlap => Finding::new(Kind::SumOverlap, [addr]),
+            SectorRule::Stray => Finding::new(Kind::SumStray, [addr]),
+            SectorRule::Lost => Finding::new(Kind::DataLost, [addr]),
+        }
     }
 
     /// Whether the two are one rule.

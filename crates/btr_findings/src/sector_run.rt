@@ -10,7 +10,7 @@ pub(crate) struct SectorRun {
 
 impl SectorRun {
     ghost use Rattle.std.specs.Prelude.{◌≡◌, ◌+◌, ◌*◌, ◌<◌, ◌≤◌, ◌^◌, IfSome, OnOk};
-    ghost use Rattle.btr_findings.specs.Sectors.{sector_finding, IsWithin, IsRunAt};
+    ghost use Rattle.btr_findings.specs.Sectors.{sector_finding, IsRunWithin, IsRunAt};
 
     /// So many sectors from an address on, where they begin at a sector's start and end at 2^64 at the latest.
     pub(crate) fn at(rule: SectorRule, start: u128, count: u64) -> Option<SectorRun>
@@ -26,7 +26,7 @@ impl SectorRun {
 
     /// The finding on a sector of a run.
     pub(crate) fn finding(&self, i: u64) -> Finding
-        requires within { IsWithin self.now }
+        requires within { IsRunWithin self.now }
         requires below { i < self.now.count }
         ensures { result ≡ sector_finding self.now.rule ((self.now.first + i) * 4096) }
     {

@@ -16,7 +16,7 @@ use Rattle.std.specs.declared.cmp.Ordering.TheVariants.{Less, Equal, Greater}
 use Rattle.btr_findings.proofs.Sets.{both_equal}
 use Rattle.btr_refs.specs.declared.ref_key.RefKey.{RefKey}
 use Rattle.btr_refs.specs.RefKey.{ref_cmp, same_ref}
-use Rattle.btr_refs.specs.Counts.{CountsLaw, RefCounts, Counts, count_in, sum_of, is_met, counted, counted_all, found_at}
+use Rattle.btr_refs.specs.Counts.{CountsLaw, RefCounts, HasCounts, count_in, sum_of, is_met, counted, counted_all, found_at}
 use Rattle.btr_refs.specs.declared.counted.Counted.{Counted}
 
 pub ref_total : IsTotalOrder ref_cmp
@@ -60,7 +60,7 @@ unmet-zero (ref ∷ refs) one unmet = sum_by-cons (λ (other : Counted). cond (s
     by false is rest = omega (arith, rest is)
 
 -- what a map says of one is how often it is met
-pub count-is : (refs : List Counted) (counts : RefCounts) → Counts refs counts → (one : RefKey) → count_in counts one ≡ sum_of refs one
+pub count-is : (refs : List Counted) (counts : RefCounts) → HasCounts refs counts → (one : RefKey) → count_in counts one ≡ sum_of refs one
 count-is refs counts is one = ap (λ o. unwrap_or o 0) (is one) ∙ by (is_met refs one) refl
   where
     by : (b : Bool) → is_met refs one ≡ b → unwrap_or (cond b (Some (sum_of refs one)) None) 0 ≡ sum_of refs one
@@ -68,10 +68,10 @@ count-is refs counts is one = ap (λ o. unwrap_or o 0) (is one) ∙ by (is_met r
     by false unmet = sym (unmet-zero refs one unmet)
 
 -- one more reference
-pub Counts-more : (refs : List Counted) (old new : RefCounts) (key : RefKey) (count total : ℕ) → Counts refs old → total ≡ count_in old key + count
+pub HasCounts-more : (refs : List Counted) (old new : RefCounts) (key : RefKey) (count total : ℕ) → HasCounts refs old → total ≡ count_in old key + count
     → ((one : RefKey) → found_at new one ≡ cond (is_at (ref_cmp key) one) (Some total) (found_at old one))
-    → Counts (refs ++ record { key = key; count = count } ∷ []) new
-Counts-more refs old new key count total is total-is more one =
+    → HasCounts (refs ++ record { key = key; count = count } ∷ []) new
+HasCounts-more refs old new key count total is total-is more one =
     more one ∙ by (same_ref key one) refl (same_swaps one key)
     ∙ ap (λ b. cond b (Some (sum_of refs one + cond (same_ref one key) count 0)) None) (sym (list_any-append (λ (other : Counted). same_ref one other.key) refs (record { key = key; count = count } ∷ [])))
     ∙ ap (λ n. cond (is_met (refs ++ record { key = key; count = count } ∷ []) one) (Some n) None) (sym (sum_by_push (λ (other : Counted). cond (same_ref one other.key) other.count 0) refs (record { key = key; count = count })))
@@ -153,13 +153,13 @@ found-more counts (ref ∷ refs) one =
     (sym (sum_by-cons (λ (other : Counted). cond (same_ref one other.key) other.count 0) ref refs))
 
 -- some more references
-counts_on : (done refs : List Counted) (counts : RefCounts) → Counts done counts → Counts (done ++ refs) (counted_all counts refs)
-counts_on done [] counts is = subst (λ l. Counts l counts) (sym (append-nil done)) is
+counts_on : (done refs : List Counted) (counts : RefCounts) → HasCounts done counts → HasCounts (done ++ refs) (counted_all counts refs)
+counts_on done [] counts is = subst (λ l. HasCounts l counts) (sym (append-nil done)) is
 counts_on done (ref ∷ refs) counts is =
-    let more : Counts (done ++ ref ∷ []) (counted counts ref) =
-    Counts-more done counts (counted counts ref) ref.key ref.count (count_in counts ref.key + ref.count) is refl
+    let more : HasCounts (done ++ ref ∷ []) (counted counts ref) =
+    HasCounts-more done counts (counted counts ref) ref.key ref.count (count_in counts ref.key + ref.count) is refl
     (λ one. insert-get counts ref.key (count_in counts ref.key + ref.count) one ∙ ap (λ b. cond b (Some (count_in counts ref.key + ref.count)) (found_at counts one)) (same_swaps one ref.key)) in
-    subst (λ l. Counts l (counted_all (counted counts ref) refs)) (append_assoc done (ref ∷ []) refs)
+    subst (λ l. HasCounts l (counted_all (counted counts ref) refs)) (append_assoc done (ref ∷ []) refs)
     (counts_on (done ++ ref ∷ []) refs (counted counts ref) more)
 
 pub counts_law : CountsLaw

@@ -15,7 +15,7 @@ use Rattle.btr_walk.specs.Reading.{Map}
 use Rattle.btr_walk.specs.declared.place.RootPlace.{RootPlace}
 use Rattle.btr_walk.proofs.Folds.{fold_run, exec_fold, fold_go, fold_broken}
 use Rattle.btr_findings.specs.declared.extent.Extent.{Extent}
-use Rattle.btr_refs.specs.Counts.{Counts, RefCounts, counted, counted_all}
+use Rattle.btr_refs.specs.Counts.{HasCounts, RefCounts, counted, counted_all}
 use Rattle.btr_refs.specs.declared.counted.Counted.{Counted}
 use Rattle.btr_refs.specs.Extents.{Kept, KeptRefs, no_refs, ref_kept, refs_kept, nothing_kept, kept_with, kept_step, is_formed, refs_in, extent_in, stored_in, extents_in}
 use Rattle.btr_refs.specs.Collecting.{StoredLaw, stored_of}
@@ -121,9 +121,9 @@ pub refs_wanted : (counts : RefCounts) (refs : List Counted) → refs_kept (reco
 refs_wanted counts [] = refl
 refs_wanted counts (one ∷ refs) = refs_wanted (counted counts one) refs
 
-refs_law : (wanted : Bool) (refs : List Counted) → Counts (if wanted then refs else []) (refs_kept (no_refs wanted) refs).counts
-refs_law true refs = subst (λ (k : KeptRefs). Counts refs k.counts) (sym (refs_wanted [] refs)) (counts_law refs)
-refs_law false refs = subst (λ (k : KeptRefs). Counts [] k.counts) (sym (refs_unwanted [] refs)) (counts_law [])
+refs_law : (wanted : Bool) (refs : List Counted) → HasCounts (if wanted then refs else []) (refs_kept (no_refs wanted) refs).counts
+refs_law true refs = subst (λ (k : KeptRefs). HasCounts refs k.counts) (sym (refs_wanted [] refs)) (counts_law refs)
+refs_law false refs = subst (λ (k : KeptRefs). HasCounts [] k.counts) (sym (refs_unwanted [] refs)) (counts_law [])
 
 pub stored_law : StoredLaw
 stored_law B nodesize wanted root kept is =
@@ -135,7 +135,7 @@ stored_law B nodesize wanted root kept is =
       e.ended,
       record {
         formed = e.formed;
-        refs = subst (λ (k : Kept). Counts (if wanted then stored else []) k.refs.counts) (sym e.all) (refs_law wanted stored);
+        refs = subst (λ (k : Kept). HasCounts (if wanted then stored else []) k.refs.counts) (sym e.all) (refs_law wanted stored);
         extents = ap (λ (k : Kept). k.extents) e.all;
       },
     )

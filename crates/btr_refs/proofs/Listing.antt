@@ -14,7 +14,7 @@ use Rattle.std.specs.declared.cmp.Ordering.{Ordering}
 use Rattle.std.specs.declared.cmp.Ordering.TheVariants.{Less, Equal, Greater}
 use Rattle.btr_refs.proofs.Counting.{ref_total, same_is, same_swaps, unmet-zero}
 use Rattle.btr_refs.proofs.Maps.{counted_alike, counts_are, is_ordered}
-use Rattle.btr_refs.specs.Counts.{Counts, count_of, counted_all, found_at, is_met, sum_of}
+use Rattle.btr_refs.specs.Counts.{HasCounts, count_of, counted_all, found_at, is_met, sum_of}
 use Rattle.btr_refs.specs.declared.counted.Counted.{Counted}
 use Rattle.btr_refs.specs.Differences.{total_at}
 use Rattle.btr_refs.specs.Listed.{Ascends, entries_of}
@@ -30,7 +30,7 @@ pub behind : (one : Counted) (refs : List Counted) → Ascends (one ∷ refs) �
 behind one refs ascends = unmet_behind one.key refs (sorted_head ref_cmp one.key (keys_of (entries_of refs)) ascends)
 
 -- references in order, each once, are their own map
-pub own_counts : (refs : List Counted) → Ascends refs → Counts refs (entries_of refs)
+pub own_counts : (refs : List Counted) → Ascends refs → HasCounts refs (entries_of refs)
 own_counts [] ascends one = refl
 own_counts (ref ∷ refs) ascends one =
     by (same_ref one ref.key) refl (own_counts refs (sorted_tail ref_cmp ref.key (keys_of (entries_of refs)) ascends) one)

@@ -12,7 +12,7 @@ use Rattle.std.specs.Ordering.{is_lt}
 use Rattle.std.specs.declared.cmp.Ordering.{Ordering}
 use Rattle.std.specs.declared.cmp.Ordering.TheVariants.{Less, Equal, Greater}
 use Rattle.btr_refs.proofs.Counting.{counts_law, found-more, ref_exact, ref_total}
-use Rattle.btr_refs.specs.Counts.{Counts, RefCounts, count_in, counted, counted_all, found_at, is_met, sum_of}
+use Rattle.btr_refs.specs.Counts.{HasCounts, RefCounts, count_in, counted, counted_all, found_at, is_met, sum_of}
 use Rattle.btr_refs.specs.declared.counted.Counted.{Counted}
 use Rattle.btr_refs.specs.Listed.{IsOrdered}
 use Rattle.btr_refs.specs.RefKey.{ref_cmp, same_ref}
@@ -55,7 +55,7 @@ pub same_map : (a b : RefCounts) → IsOrdered a → IsOrdered b → ((one : Ref
 same_map a b in_a in_b same = same_entries ref_cmp ref_total ref_exact a b in_a in_b (λ one. same_find a one ∙ same one ∙ sym (same_find b one))
 
 -- a map in order that has just the references that are met is what counting them gives
-pub counts_are : (refs : List Counted) (counts : RefCounts) → IsOrdered counts → Counts refs counts → counts ≡ counted_all [] refs
+pub counts_are : (refs : List Counted) (counts : RefCounts) → IsOrdered counts → HasCounts refs counts → counts ≡ counted_all [] refs
 counts_are refs counts ordered is = same_map counts (counted_all [] refs) ordered (ordered_more [] refs tt) (λ one. is one ∙ sym (counts_law refs one))
 
 -- references that are met as often, in whatever order, are counted alike

@@ -18,7 +18,7 @@ use Rattle.btr_walk.specs.Reading.{Map, UnreadBlock, Tells, FaultCause, unread_b
 use Rattle.btr_walk.specs.declared.place.RootPlace.{RootPlace}
 use Rattle.btr_refs.specs.declared.collect_fault.CollectFault.{CollectFault}
 use Rattle.btr_refs.specs.declared.collect_fault.CollectFault.TheVariants.{Tree, Memory}
-use Rattle.btr_refs.specs.Counts.{Counts}
+use Rattle.btr_refs.specs.Counts.{HasCounts}
 use Rattle.btr_refs.specs.declared.wanted.Wanted.{Wanted}
 use Rattle.btr_refs.specs.Extents.{Kept, nothing_kept, kept_step, is_formed, stored_in, extents_in, wants_refs}
 
@@ -29,7 +29,7 @@ stored_of nodesize wanted root = folded kept_step (λ kept. kept) (nothing_kept 
 -- what was collected is what some items say, and each of these has its form
 pub record IsStored (nodesize : ℕ) (wanted : Bool) (items : List TreeItem) (kept : Kept) : Type 0 where
   pub formed : list_all (λ (item : TreeItem). is_formed item.key item.body) items ≡ true
-  pub refs : Counts (if wanted then stored_in items else []) kept.refs.counts
+  pub refs : HasCounts (if wanted then stored_in items else []) kept.refs.counts
   pub extents : kept.extents ≡ extents_in nodesize items
 
 -- where something is collected, the tree came to its end, and it is what its items say

@@ -28,8 +28,8 @@ abbrev pub found_at : RefCounts → RefKey → Option ℕ
 found_at counts one = lookup (is_at (ref_cmp one)) counts
 
 -- a map has just the references that are met, and how often they are
-abbrev pub Counts : List Counted → RefCounts → Type 0
-Counts refs counts = (one : RefKey) → found_at counts one ≡ count_of refs one
+abbrev pub HasCounts : List Counted → RefCounts → Type 0
+HasCounts refs counts = (one : RefKey) → found_at counts one ≡ count_of refs one
 
 -- what a map says of one: 0 where it has no entry
 abbrev pub count_in : RefCounts → RefKey → ℕ
@@ -45,4 +45,4 @@ counted_all counts refs = fold counted counts refs
 
 -- counting some references gives the map that has just these
 abbrev pub CountsLaw : Type 0
-CountsLaw = (refs : List Counted) → Counts refs (counted_all [] refs)
+CountsLaw = (refs : List Counted) → HasCounts refs (counted_all [] refs)

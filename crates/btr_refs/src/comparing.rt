@@ -19,7 +19,7 @@ use std::collections::BTreeMap;
 fn put_ref_count(found: &mut Found, key: &RefKey, counted: u64, stored: u64) -> Result<(), Memory>
     ensures { OnOk result (Adds (option_to_list (count_row key.now counted stored)) found.old found.new) }
 {
-    let n = [
+    let numbers = [
         key.addr,
         u64::from(key.kind),
         key.root,
@@ -28,8 +28,8 @@ fn put_ref_count(found: &mut Found, key: &RefKey, counted: u64, stored: u64) -> 
         counted,
         stored,
     ];
-    let kind = Kind::RefCount;
-    put_unless(found, counted == stored, Finding { kind, n })
+    let finding = Finding::new(Kind::RefCount, numbers);
+    put_unless(found, counted == stored, finding)
 }
 
 // The references that are stored, and that are counted differently, by the numbers beside them.
@@ -93,10 +93,7 @@ fn has_extent(extents: &[Extent], addr: u64) -> bool
 fn ref_total(addr: u64, refs: u64, sum: u128) -> Finding
     ensures { result ≡ rows.total_row addr refs sum }
 {
-    Finding {
-        kind: Kind::RefTotal,
-        n: [addr, refs, shown(sum), 0, 0, 0, 0],
-    }
+    Finding::new(Kind::RefTotal, [addr, refs, shown(sum)])
 }
 
 // An extent that states another sum than the one of the stored references.

@@ -25,7 +25,7 @@ use Rattle.btr_walk.specs.Showing.{item_of}
 use Rattle.btr_volume.specs.Lookup.{Program}
 use Rattle.btr_volume.specs.declared.root.TreeRoot.{TreeRoot}
 use Rattle.btr_files.proofs.Rows.{rest_is, scan_of}
-use Rattle.btr_resolve.specs.Cursor.{Meets, owners_of, GivesOwner, PassesItem, HaltsOwners, IsTurn, IsFound, owners_left, AreOn, LeadsOn, NextBy}
+use Rattle.btr_resolve.specs.Cursor.{Meets, owners_of, GivesOwner, PassesItem, HaltsOwners, IsTurn, IsFound, owners_left, AreOn, LeadsOn, NextOwnerBy}
 use Rattle.btr_resolve.specs.Owning.{item_met, owners_in}
 use Rattle.btr_resolve.specs.declared.owner.Met.{Met}
 use Rattle.btr_resolve.specs.declared.owner.Owner.{Owner}
@@ -198,12 +198,12 @@ module _ (B : Map) (Is : UnreadBlock → Want → Type 0) (old new : Blocks) (ow
         on = rests.on B (seen ++ g.past) (g.held tt) on';
       }
 
-  pub next_none : (owners' : Owners) → Answer (Ok None) scan → (seen : List Want) → AreOn B seen owners → NextBy Is B seen owners owners' (Ok None)
+  pub next_none : (owners' : Owners) → Answer (Ok None) scan → (seen : List Want) → AreOn B seen owners → NextOwnerBy Is B seen owners owners' (Ok None)
   next_none owners' found seen on =
       subst (λ (r : RunOf Owner (Unit {0})). Follows Is no_part seen r [] (Ok tt)) (sym same_left) (subst (Answer (Ok None)) is found seen on)
 
   pub next_fault : (owners' : Owners) (f : TreeFault) → Answer (Err f) scan → (seen : List Want) → AreOn B seen owners
-      → NextBy Is B seen owners owners' (Err f)
+      → NextOwnerBy Is B seen owners owners' (Err f)
   next_fault owners' f found seen on =
       subst (λ (r : RunOf Owner (Unit {0})). Follows Is no_part seen r [] (Err (halt_of f))) (sym same_left) (subst (Answer (Err f)) is found seen on)
 

@@ -35,7 +35,7 @@ use Rattle.btr_volume.specs.declared.stop.Stop.{Stop as TheStop}
 use Rattle.btr_volume.specs.declared.stop.Stop.TheVariants as stop
 use Rattle.btr_volume.specs.declared.volume.Volume.{Volume}
 use Rattle.btr_resolve.specs.Resolving.{Line}
-use Rattle.btr_resolve.specs.Running.{IsResolveStop, World, world, Ran, StopCause, StopCounts, counted, part, whole}
+use Rattle.btr_resolve.specs.Running.{IsResolveStop, World, world, Ran, ResolveStopCause, StopCounts, counted, part, whole}
 use Rattle.btr_volume.specs.Stops.{ended, stop_halt, stops_out}
 use Rattle.btr_volume.proofs.Onward.{behind_since, reads_on, same_self, same_then, stop_passed}
 
@@ -223,7 +223,7 @@ broke_of : (e : SinkError) → stop_halt (stops_out e) ≡ Broke
 broke_of sink.Failed = refl
 broke_of sink.Memory = refl
 
-cause_of : (A : Type 0) (layout : Layout) (a b : Seen) (e : SinkError) → StopCause {A = A} layout a b (Err (stops_out e))
+cause_of : (A : Type 0) (layout : Layout) (a b : Seen) (e : SinkError) → ResolveStopCause {A = A} layout a b (Err (stops_out e))
 cause_of A layout a b sink.Failed = tt
 cause_of A layout a b sink.Memory = tt
 

@@ -21,10 +21,10 @@ use Rattle.btr_volume.specs.declared.stop.Stop.{Stop as TheStop}
 use Rattle.btr_volume.specs.declared.stop.Stop.TheVariants as stop
 use Rattle.btr_volume.specs.declared.volume.Volume.{Volume}
 use Rattle.btr_files.proofs.Nextward.{rest_more}
-use Rattle.btr_resolve.specs.Cursor.{owners_left, AreOn, LeadsOn, NextBy, TellsNext}
+use Rattle.btr_resolve.specs.Cursor.{owners_left, AreOn, LeadsOn, NextOwnerBy, TellsNext}
 use Rattle.btr_resolve.specs.Owning.{owners}
 use Rattle.btr_resolve.specs.Resolving.{Line, owner_told, tree_told}
-use Rattle.btr_resolve.specs.Running.{IsResolveStop, World, world, Ran, StopCause, StopCounts, part, whole}
+use Rattle.btr_resolve.specs.Running.{IsResolveStop, World, world, Ran, ResolveStopCause, StopCounts, part, whole}
 use Rattle.btr_volume.specs.Stops.{ended, stop_halt}
 use Rattle.btr_volume.proofs.Onward.{behind_since, same_then}
 use Rattle.btr_resolve.specs.declared.owner.Owner.{Owner}
@@ -47,7 +47,7 @@ pub record ToldFrom (count : ℕ) (cursor : Owners) (x y : World) (answer : Resu
       Tells x.vol.store.layout x.rack y.rack
       (λ B. (seen : List Want) → AreOn B seen cursor
       → Follows (unread_by x.vol.store.layout x.rack y.rack) part seen (exec B (left_told B count cursor)) lines (ended answer))
-  pub cause : StopCause x.vol.store.layout x.rack y.rack answer
+  pub cause : ResolveStopCause x.vol.store.layout x.rack y.rack answer
   pub calls : StopCounts x.calls y.calls answer
 
 -- what is told of the owners that are left is told of all of a tree
@@ -100,7 +100,7 @@ module _ (count : ℕ) (cursor cursor' : Owners) (rack rack' : Seen) (vol vol' :
     ready = ready;
     lines = [];
     adds = adds_nothing text;
-    content = drawn layout (λ B. (seen : List Want) → AreOn B seen cursor → NextBy by B seen cursor cursor' (Ok None))
+    content = drawn layout (λ B. (seen : List Want) → AreOn B seen cursor → NextOwnerBy by B seen cursor cursor' (Ok None))
         (λ B. (seen : List Want) → AreOn B seen cursor → Follows by part seen (from B) [] (Ok count))
         (λ B n seen on. turn_ends B (body_of B owner_told) (last_of B owner_told) by part seen count (owners_left B cursor) (n seen on)) next;
     cause = tt;
@@ -116,7 +116,7 @@ module _ (count : ℕ) (cursor cursor' : Owners) (rack rack' : Seen) (vol vol' :
     ready = ready;
     lines = [];
     adds = adds_nothing text;
-    content = drawn layout (λ B. (seen : List Want) → AreOn B seen cursor → NextBy by B seen cursor cursor' (Err f))
+    content = drawn layout (λ B. (seen : List Want) → AreOn B seen cursor → NextOwnerBy by B seen cursor cursor' (Err f))
         (λ B. (seen : List Want) → AreOn B seen cursor → Follows by part seen (from B) [] (Err (halt_of f)))
         (λ B n seen on. turn_halts B (body_of B owner_told) (last_of B owner_told) by part seen count (owners_left B cursor)
         (halt_of f) (n seen on)) next;

@@ -128,13 +128,13 @@ pub record LeadsOn (B : Map) (seen : List Want) (owners owners' : Owners) (owner
   pub on : AreOn B (seen ++ past) owners'
 
 -- the next owner, the end or a fault, by a block map
-abbrev pub NextBy : (UnreadBlock → Want → Type 0) → Map → List Want → Owners → Owners → Result (Option Owner) TreeFault → Type 0
-NextBy Is B seen owners owners' (Ok (Some owner)) = LeadsOn B seen owners owners' owner
-NextBy Is B seen owners owners' (Ok None) = Follows {A = Unit {0}} Is no_part seen (exec B (owners_left B owners)) [] (Ok tt)
-NextBy Is B seen owners owners' (Err f) = Follows Is no_part seen (exec B (owners_left B owners)) [] (Err (halt_of f))
+abbrev pub NextOwnerBy : (UnreadBlock → Want → Type 0) → Map → List Want → Owners → Owners → Result (Option Owner) TreeFault → Type 0
+NextOwnerBy Is B seen owners owners' (Ok (Some owner)) = LeadsOn B seen owners owners' owner
+NextOwnerBy Is B seen owners owners' (Ok None) = Follows {A = Unit {0}} Is no_part seen (exec B (owners_left B owners)) [] (Ok tt)
+NextOwnerBy Is B seen owners owners' (Err f) = Follows Is no_part seen (exec B (owners_left B owners)) [] (Err (halt_of f))
 
 -- the next owner, the end or a fault, so far as the reads were steady
 abbrev pub TellsNext : Volume → Seen → Seen → Owners → Owners → Result (Option Owner) TreeFault → Type 0
 TellsNext vol before now owners owners' result =
     Tells vol.store.layout before now (λ B. (seen : List Want) → AreOn B seen owners
-    → NextBy (unread_by vol.store.layout before now) B seen owners owners' result)
+    → NextOwnerBy (unread_by vol.store.layout before now) B seen owners owners' result)

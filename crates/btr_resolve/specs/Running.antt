@@ -46,8 +46,8 @@ IsResolveStop Memory = Unit {0}
 IsResolveStop stop = ⊥
 
 -- what lies behind an answer
-abbrev pub StopCause : {A : Type 0} → Layout → Seen → Seen → Result A Stop → Type 0
-StopCause layout old new answer = IsBehindAnswer IsResolveStop layout old new answer
+abbrev pub ResolveStopCause : {A : Type 0} → Layout → Seen → Seen → Result A Stop → Type 0
+ResolveStopCause layout old new answer = IsBehindAnswer IsResolveStop layout old new answer
 
 -- the account of the output at a stop: it changed only where a call of it failed
 abbrev pub CountsStop : CallAccount → CallAccount → Stop → Type 0
@@ -70,7 +70,7 @@ pub record Ran {A : Type 0} (p : Program Line A) (x y : World) (answer : Result 
   pub content :
       Tells x.vol.store.layout x.rack y.rack
       (λ B. Follows (unread_by x.vol.store.layout x.rack y.rack) part [] (exec B p) lines (ended answer))
-  pub cause : StopCause x.vol.store.layout x.rack y.rack answer
+  pub cause : ResolveStopCause x.vol.store.layout x.rack y.rack answer
   pub calls : StopCounts x.calls y.calls answer
 
 -- the same of a program by the superblock of the volume

@@ -6,7 +6,8 @@ use Rattle.btr_check_names.proofs.ascending.moved.Goals as goal
 
 pub move_name-requires-clause-inside : goal.move_name-requires-clause-inside
 move_name-requires-clause-inside c =
-    inside_at c.args.names.now c.args.slots.now c.loop-next.slots c.loop-next.next c.index-slots-next.result c.loop-next.invariant.claims c.loop-next.invariant.rest
+    inside_at c.args.names.now c.args.slots.now c.loop-next.slots c.loop-next.next c.index-slots-next.result c.loop-next.invariant.claims
+    c.loop-next.invariant.rest
     c.loop-next-test.true c.requires.inside
 
 pub loop-next-preserved : goal.loop-next-preserved

@@ -6,7 +6,8 @@ use Rattle.btr_check_names.specs.declared.inode_at.InodeAt.{InodeAt}
 use Rattle.btr_check_names.proofs.put_inodes.removed_dirs.Goals as goal
 use Rattle.btr_check_names.proofs.put_inodes.removed_dirs.Goals.{then-is_removed+in_ok-push, else-is_removed}
 
-module _ (orphans : List ℕ) (inodes : List InodeAt) (i : ℕ) (d : InodeAt) (lt : i < length inodes) (removed : List ℕ) (is : removed ≡ removed_dirs orphans (take i inodes)) where
+module _ (orphans : List ℕ) (inodes : List InodeAt) (i : ℕ) (d : InodeAt) (lt : i < length inodes) (removed : List ℕ)
+    (is : removed ≡ removed_dirs orphans (take i inodes)) where
   abbrev number : InodeAt → ℕ
   number at = at.number
 

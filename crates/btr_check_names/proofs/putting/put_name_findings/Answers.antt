@@ -9,13 +9,29 @@ use Rattle.btr_check_names.proofs.putting.put_name_findings.Goals as goal
 pub returns : goal.returns
 returns c =
     let fields = c.names.inside in
-    let names : Names = record { tree = fields.tree; dirid = fields.dirid; inodes = c.as_slice-inodes.result.now; indexed = fields.indexed; hashed = fields.hashed; refs = fields.refs; orphans = c.as_slice-orphans.result.now } in
+    let names : Names = record {
+      tree = fields.tree;
+      dirid = fields.dirid;
+      inodes = c.as_slice-inodes.result.now;
+      indexed = fields.indexed;
+      hashed = fields.hashed;
+      refs = fields.refs;
+      orphans = c.as_slice-orphans.result.now;
+    } in
     let inodes = c.as_slice-inodes.ensures.value in
     let orphans = c.as_slice-orphans.ensures.value in
     let removed = c.as_slice-removed.result.now in
     let are : removed ≡ removed_dirs names.orphans names.inodes = c.as_slice-removed.ensures.value ∙ c.in_ok-gone.ensures in
     let same : names ≡ c.args.names.now =
-    (λ i. record { tree = fields.tree; dirid = fields.dirid; inodes = inodes i; indexed = fields.indexed; hashed = fields.hashed; refs = fields.refs; orphans = orphans i }) ∙ c.names.view_is in
+    (λ i. record {
+      tree = fields.tree;
+      dirid = fields.dirid;
+      inodes = inodes i;
+      indexed = fields.indexed;
+      hashed = fields.hashed;
+      refs = fields.refs;
+      orphans = orphans i;
+    }) ∙ c.names.view_is in
     subst (λ (n : Names). OnOk c.put_orphans.result (Adds (names_findings n) c.args.found.now c.put_orphans.new.found)) same
     (on_ok_weaker c.put_orphans.result
     (λ last. adds_as (findings_but removed names) (names_findings names) c.args.found.now c.put_orphans.new.found

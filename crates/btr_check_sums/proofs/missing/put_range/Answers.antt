@@ -21,7 +21,8 @@ returns c = λ runs same.
     let same_findings : filter_map rule (sectors (c.from.result + c.from-2.result) (c.len_in_chunk-count.result / 4096)) ≡ used_missing chunks runs tree range =
     ap (λ n. filter_map rule (sectors n (c.len_in_chunk-count.result / 4096))) start
     ∙ ap (λ n. filter_map rule (sectors (range.addr + range.skip) n)) count
-    ∙ ap (λ (keeps : ℕ → Bool). filter_map (broken (Missing tree range.inode) keeps) (used_sectors chunks range)) (λ i sector. covered sector runs sums same i) in
+    ∙ ap (λ (keeps : ℕ → Bool). filter_map (broken (Missing tree range.inode) keeps) (used_sectors chunks range))
+    (λ i sector. covered sector runs sums same i) in
     on_ok_weaker c.put_broken.result
     (λ more. adds_as (filter_map rule (sectors (c.from.result + c.from-2.result) (c.len_in_chunk-count.result / 4096)))
     (used_missing chunks runs tree range) c.args.found.now c.put_broken.new.found same_findings more)

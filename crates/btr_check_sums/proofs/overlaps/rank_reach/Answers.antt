@@ -10,5 +10,7 @@ returns c =
     let at = c.args.at in
     let place = c.partition_point-rank.result in
     let clause = c.partition_point-rank.ensures in
-    let point : Parted (λ n. n) numbers at place = IsPartitionPoint-from_clause (λ n. leb n at) numbers place clause.partitioned (IsPartitionedBy-leb (λ n. n) numbers at c.requires.ascend) (λ a r q k. search rules) in
+    let point : Parted (λ n. n) numbers at place =
+    IsPartitionPoint-from_clause (λ n. leb n at) numbers place clause.partitioned (IsPartitionedBy-leb (λ n. n) numbers at c.requires.ascend)
+    (λ a r q k. search rules) in
     rank_stays numbers at place c.number_at-until.result c.requires.ascend clause.bound point c.requires.at c.number_at-until.ensures

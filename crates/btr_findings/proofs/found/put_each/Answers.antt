@@ -7,7 +7,8 @@ use Rattle.btr_findings.proofs.found.put_each.Goals as goal
 pub loop-i-preserved : goal.loop-i-preserved
 loop-i-preserved c =
     let addr : c.shown.result ≡ shown_sum (c.args.start + c.loop-i.i * 4096) = omega (arith, c.shown.ensures, c.saturating_add-addr.ensures, c.from.ensures) in
-    let one : c.finding.result ≡ sector_finding c.args.rule (shown_sum (c.args.start + c.loop-i.i * 4096)) = c.finding.ensures ∙ ap (sector_finding c.args.rule) addr in
+    let one : c.finding.result ≡ sector_finding c.args.rule (shown_sum (c.args.start + c.loop-i.i * 4096)) =
+    c.finding.ensures ∙ ap (sector_finding c.args.rule) addr in
     sectors_more c.args.rule c.args.start c.loop-i.i c.finding.result c.args.found.now c.loop-i.found c.insert.new.found one c.loop-i.invariant
     c.in_ok-insert.ensures
 

@@ -19,8 +19,10 @@ listed_then c = subst (λ (l : List Finding). AreListed (drop c.self.inside.at c
 stepped : (c : goal.After-self-2-1) → IsStep c.self.inside.single.items c.self.inside.runs.items c.self.inside.at c.settled-self-inside.result
     c.step_of-step.result c.from.result c.from-2.result
 stepped c =
-    let single : c.single_at-single.result ≡ slice_get c.self.inside.single.items c.self.inside.at = c.single_at-single.ensures ∙ ap (λ (l : List Finding). slice_get l c.self.inside.at) c.as_slice-2.ensures.value in
-    let line : c.line_at-line.result ≡ sector_at c.self.inside.runs.items c.settled-self-inside.result = c.line_at-line.ensures ∙ ap (λ (l : List SectorRun). sector_at l c.settled-self-inside.result) c.as_slice-3.ensures.value in
+    let single : c.single_at-single.result ≡ slice_get c.self.inside.single.items c.self.inside.at =
+    c.single_at-single.ensures ∙ ap (λ (l : List Finding). slice_get l c.self.inside.at) c.as_slice-2.ensures.value in
+    let line : c.line_at-line.result ≡ sector_at c.self.inside.runs.items c.settled-self-inside.result =
+    c.line_at-line.ensures ∙ ap (λ (l : List SectorRun). sector_at l c.settled-self-inside.result) c.as_slice-3.ensures.value in
     c.step_of-step.ensures ∙ ap (λ (o : Option Finding). step_of o c.line_at-line.result) single
     ∙ ap (step_of (slice_get c.self.inside.single.items c.self.inside.at)) line
 
@@ -36,7 +38,8 @@ returns c =
     let at = c.self.inside.at in
     let place = c.settled-self-inside.result in
     let rest = in_order (drop (at + c.from.result) single ++ runs_left (drop place.run runs) (place.done + c.from-2.result)) in
-    let same : in_order (drop at single ++ runs_left (drop place.run runs) place.done) ≡ c.args.self.now = ap (λ (l : List Finding). in_order (drop at single ++ l)) (settled_is c).same ∙ c.self.view_is in
+    let same : in_order (drop at single ++ runs_left (drop place.run runs) place.done) ≡ c.args.self.now =
+    ap (λ (l : List Finding). in_order (drop at single ++ l)) (settled_is c).same ∙ c.self.view_is in
     subst (λ (l : List Finding). TakesFirst l rest c.step_of-step.result.finding) same
     (next_takes single runs at place c.step_of-step.result c.from.result c.from-2.result (settled_is c).left (stepped c) c.from.ensures
     c.from-2.ensures (listed_then c))

@@ -22,7 +22,9 @@ take_once-requires c = subst (All IsKept) (sym c.deref_mut.ensures.value)
 kept_is : (c : goal.In_ok-are_few) → take c.sort_unstable_by_key.new.self.len
     (c.take_once.new.runs ++ drop (length c.take_once.new.runs) c.sort_unstable_by_key.new.self.items) ≡ each_once no_run c.sort_unstable_by_key.new.self.items
 kept_is c =
-    let whole : take c.sort_unstable_by_key.new.self.len (c.take_once.new.runs ++ drop (length c.take_once.new.runs) c.sort_unstable_by_key.new.self.items) ≡ c.take_once.new.runs = grind (arith, common_steps) in
+    let whole : take c.sort_unstable_by_key.new.self.len
+    (c.take_once.new.runs ++ drop (length c.take_once.new.runs) c.sort_unstable_by_key.new.self.items) ≡ c.take_once.new.runs =
+    grind (arith, common_steps) in
     whole ∙ c.take_once.ensures ∙ ap (each_once no_run) c.deref_mut.ensures.value
 
 sorted_is : (c : goal.In_ok-are_few) → IsSortedByKey key_of finding_cmp c.sort_unstable_by_key.new.self.items

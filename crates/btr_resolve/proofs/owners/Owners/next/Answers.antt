@@ -6,7 +6,7 @@ use Rattle.btr_walk.specs.ScanEnds.{rank_of}
 use Rattle.btr_walk.specs.declared.fault.TreeFault.{TreeFault}
 use Rattle.btr_walk.proofs.Joined.{drawn}
 use Rattle.btr_files.proofs.Rows.{free_is, ready_is, same_through}
-use Rattle.btr_resolve.specs.Cursor.{AreOn, FoundNears, IsFound, NextBy}
+use Rattle.btr_resolve.specs.Cursor.{AreOn, FoundNears, IsFound, NextOwnerBy}
 use Rattle.btr_resolve.specs.declared.owner.Owner.{Owner}
 use Rattle.btr_resolve.specs.declared.owners.Owners.{Owners}
 use Rattle.btr_resolve.proofs.Cursors.{next_fault, next_nears, next_none, next_owner}
@@ -34,7 +34,7 @@ returns-in-Ok-Some-clause-content g c =
     let is = unread_by old.layout (g.R.Rack.seen c.args.rack.now) (g.R.Rack.seen c.find_owner.new.rack) in
     let by = λ (r : Result (Option Owner) TreeFault) (B : Map). IsFound cursor.addr cursor.tree is B old new scan scan' cursor.met met' r in
     let after : Owners = record { addr = cursor.addr; tree = cursor.tree; met = met'; rest = rest } in
-    drawn old.layout (by c.find_owner.result) (λ B. (seen : List Want) → AreOn B seen cursor → NextBy is B seen cursor after (Ok (Some owner)))
+    drawn old.layout (by c.find_owner.result) (λ B. (seen : List Want) → AreOn B seen cursor → NextOwnerBy is B seen cursor after (Ok (Some owner)))
     (λ B h. next_owner B is old new cursor scan scan' met' c.scan-scan.ensures rest owner c.find_owner.ensures.lo
     c.find_owner.ensures.hi c.rest-self.ensures.rests (subst (λ r. by r B) (c.in-Ok-Some.is ∙ ap Ok c.in-Ok-Some.field-0-is) h))
     c.find_owner.ensures.content
@@ -71,7 +71,7 @@ returns-in-Ok-None-clause-content g c =
     let is = unread_by old.layout (g.R.Rack.seen c.args.rack.now) (g.R.Rack.seen c.find_owner.new.rack) in
     let by = λ (r : Result (Option Owner) TreeFault) (B : Map). IsFound cursor.addr cursor.tree is B old new scan scan' cursor.met met' r in
     let after : Owners = record { addr = cursor.addr; tree = cursor.tree; met = met'; rest = cursor.rest } in
-    drawn old.layout (by c.find_owner.result) (λ B. (seen : List Want) → AreOn B seen cursor → NextBy is B seen cursor after (Ok None))
+    drawn old.layout (by c.find_owner.result) (λ B. (seen : List Want) → AreOn B seen cursor → NextOwnerBy is B seen cursor after (Ok None))
     (λ B h. next_none B is old new cursor scan scan' met' c.scan-scan.ensures after
     (subst (λ r. by r B) (c.in-Ok-None.is ∙ ap Ok c.in-Ok-None.field-0-is) h))
     c.find_owner.ensures.content
@@ -87,6 +87,6 @@ returns-in-Err-clause-content g c =
     let is = unread_by old.layout (g.R.Rack.seen c.args.rack.now) (g.R.Rack.seen c.find_owner.new.rack) in
     let by = λ (r : Result (Option Owner) TreeFault) (B : Map). IsFound cursor.addr cursor.tree is B old new scan scan' cursor.met met' r in
     let after : Owners = record { addr = cursor.addr; tree = cursor.tree; met = met'; rest = cursor.rest } in
-    drawn old.layout (by c.find_owner.result) (λ B. (seen : List Want) → AreOn B seen cursor → NextBy is B seen cursor after (Err c.in-Err.fault))
+    drawn old.layout (by c.find_owner.result) (λ B. (seen : List Want) → AreOn B seen cursor → NextOwnerBy is B seen cursor after (Err c.in-Err.fault))
     (λ B h. next_fault B is old new cursor scan scan' met' c.scan-scan.ensures after c.in-Err.fault (subst (λ r. by r B) c.in-Err.is h))
     c.find_owner.ensures.content
