@@ -1,3 +1,4 @@
+mod Between
 pub mod Collecting
 pub mod Elements
 mod Found
@@ -6,4 +7,3 @@ pub mod Prefixes
 pub mod Put
 mod Reaching
 pub mod Standing
-mod Summing

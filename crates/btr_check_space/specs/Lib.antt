@@ -2,6 +2,6 @@ pub mod Cover
 pub mod Orders
 pub mod Groups
 pub mod Devices
-pub mod Sorted
+pub mod Bounds
 pub mod Given
 pub mod Items

@@ -11,7 +11,6 @@ ghost use Rattle.btr_check_space.specs.Given.{Given, Devids, PutsUnstated, PutsU
 use crate::chunks::ranges_of;
 use crate::growing::put_key;
 use crate::keys::{extent_places, extent_set};
-use crate::rows::row;
 use crate::{DeviceExtent, StatedDevice};
 use btr_base::Memory;
 use btr_chunk::{ChunkTable, StripePlace};
@@ -34,7 +33,7 @@ fn put_chunk_devices(
         put_unless(
             found,
             is_kept,
-            row(Kind::ChunkDevice, range.chunk, range.devid, range.offset),
+            Finding::new(Kind::ChunkDevice, [range.chunk, range.devid, range.offset]),
         )?;
     }
     Ok(())
@@ -59,7 +58,7 @@ fn put_device_chunks(
         put_unless(
             found,
             is_kept,
-            row(Kind::DeviceChunk, extent.devid, extent.offset, 0),
+            Finding::new(Kind::DeviceChunk, [extent.devid, extent.offset]),
         )?;
     }
     Ok(())
@@ -124,7 +123,7 @@ fn put_device_used(
         put_unless(
             found,
             is_kept,
-            row(Kind::DeviceUsed, device.devid, device.used, shown(sum)),
+            Finding::new(Kind::DeviceUsed, [device.devid, device.used, shown(sum)]),
         )?;
     }
     Ok(())
@@ -152,7 +151,7 @@ fn put_unstated_used(
         put_unless(
             found,
             is_kept,
-            row(Kind::DeviceUsed, extent.devid, 0, shown(sum)),
+            Finding::new(Kind::DeviceUsed, [extent.devid, 0, shown(sum)]),
         )?;
     }
     Ok(())

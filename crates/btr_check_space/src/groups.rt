@@ -5,10 +5,9 @@ ghost use Rattle.btr_check_space.specs.Cover.{HoldSame};
 ghost use Rattle.btr_check_space.specs.Orders.{group_stretch};
 ghost use Rattle.btr_check_space.specs.Groups.{outside_group, neighbours, overlap, chunk_group, group_chunk, group_used, stated_in, total_used, group_findings};
 
-use crate::begins::{self, sum_within};
+use crate::bounds::{bounds_of, sum_before, sums_before};
 use crate::chunks::spans_of;
 use crate::keys::{group_spans, span_ranges};
-use crate::rows::row;
 use crate::span::{Range, Span};
 use crate::{Cover, Group, Stretch};
 use btr_base::Memory;
@@ -47,7 +46,7 @@ fn put_outside(
         put_unless(
             found,
             is_kept,
-            row(Kind::OutsideGroup, extent.addr, extent.len, 0),
+            Finding::new(Kind::OutsideGroup, [extent.addr, extent.len]),
         )?;
     }
     Ok(())
@@ -72,7 +71,7 @@ fn put_overlaps(found: &mut Found, extents: &[Extent]) -> Result<(), Memory>
         put_unless(
             found,
             is_kept,
-            row(Kind::Overlap, extent.addr, earlier.addr, 0),
+            Finding::new(Kind::Overlap, [extent.addr, earlier.addr]),
         )?;
         earlier = extent;
     }
@@ -93,7 +92,7 @@ fn put_chunk_groups(
         put_unless(
             found,
             spans.contains(chunk),
-            row(Kind::ChunkGroup, chunk.start, 0, 0),
+            Finding::new(Kind::ChunkGroup, [chunk.start]),
         )?;
     }
     Ok(())
@@ -117,7 +116,7 @@ fn put_group_chunks(
         put_unless(
             found,
             ranges.contains(&range),
-            row(Kind::GroupChunk, group.start, 0, 0),
+            Finding::new(Kind::GroupChunk, [group.start]),
         )?;
     }
     Ok(())
@@ -132,15 +131,17 @@ fn put_group_used(
 ) -> Result<(), Memory>
     ensures { OnOk result (Adds (filter_map (group_used extents.now) groups.now) found.old found.new) }
 {
-    let begins = begins::ascending(alloc, extents)?;
-    let sums = begins::sums(alloc, &begins)?;
+    let bounds = bounds_of(alloc, groups)?;
+    let sums = sums_before(alloc, &bounds, extents)?;
     for group in groups {
-        let used = sum_within(group, &begins, &sums);
+        let start = u128::from(group.start);
+        let end = start + u128::from(group.len);
+        let used = sum_before(end, &bounds, &sums) - sum_before(start, &bounds, &sums);
         let is_kept = u128::from(group.used) == used;
         put_unless(
             found,
             is_kept,
-            row(Kind::GroupUsed, group.start, group.used, shown(used)),
+            Finding::new(Kind::GroupUsed, [group.start, group.used, shown(used)]),
         )?;
     }
     Ok(())
@@ -169,7 +170,7 @@ fn put_total_used(found: &mut Found, stated: u64, groups: &[Group]) -> Result<()
     put_unless(
         found,
         u128::from(stated) == sum,
-        row(Kind::TotalUsed, stated, shown(sum), 0),
+        Finding::new(Kind::TotalUsed, [stated, shown(sum)]),
     )
 }
 

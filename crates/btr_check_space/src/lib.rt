@@ -7,10 +7,10 @@
 //! these are exactly the findings of the definitions, whatever the items say: also where groups overlap, or where sums pass 2^64.
 //!
 //! The definitions are in `specs/`: `Items` reads the items, `Groups` has the rules of extents, block groups and chunks, and `Devices` those of
-//! devices. `Orders`, `Cover`, `Sorted` and `Given` say what look-ups go by.
+//! devices. `Orders`, `Cover`, `Bounds` and `Given` say what look-ups go by.
 #![tactic(auto)]
 
-mod begins;
+mod bounds;
 mod chunks;
 mod cover;
 mod device_extent;
@@ -24,7 +24,6 @@ mod growing;
 mod items;
 mod keys;
 mod laws;
-mod rows;
 mod span;
 mod stated_device;
 

@@ -20,6 +20,6 @@ loop-range-preserved c =
     let test = list_any (λ (extent : DeviceExtent). ((eqb extent.devid range.devid && eqb extent.offset range.offset) && eqb extent.chunk range.chunk) && eqb extent.len range.len) extents in
     let tests : c.contains-is_kept.result ≡ test = c.contains-is_kept.ensures ∙ extent_found extents c.in_ok-set.set range c.in_ok-set.ensures in
     adds_row (chunk_device extents) ranges i nothing c.args.found.now c.loop-range.found c.put_unless.new.found
-    (unless c.contains-is_kept.result c.row.result) c.loop-range-test.true
-    (unless_same c.contains-is_kept.result test c.row.result (found kind.ChunkDevice (range.chunk ∷ range.devid ∷ range.offset ∷ [])) tests c.row.ensures)
+    (unless c.contains-is_kept.result c.new.result) c.loop-range-test.true
+    (unless_same c.contains-is_kept.result test c.new.result (found kind.ChunkDevice (range.chunk ∷ range.devid ∷ range.offset ∷ [])) tests c.new.ensures)
     c.loop-range.invariant c.in_ok-put_unless.ensures

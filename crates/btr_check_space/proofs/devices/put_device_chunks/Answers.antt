@@ -20,6 +20,6 @@ loop-extent-preserved c =
     let test = list_any (λ (range : DeviceExtent). eqb range.devid extent.devid && eqb range.offset extent.offset) ranges in
     let tests : c.contains-is_kept.result ≡ test = c.contains-is_kept.ensures ∙ place_found ranges c.in_ok-places.places extent c.in_ok-places.ensures in
     adds_row (device_chunk ranges) extents i nothing c.args.found.now c.loop-extent.found c.put_unless.new.found
-    (unless c.contains-is_kept.result c.row.result) c.loop-extent-test.true
-    (unless_same c.contains-is_kept.result test c.row.result (found kind.DeviceChunk (extent.devid ∷ extent.offset ∷ [])) tests c.row.ensures)
+    (unless c.contains-is_kept.result c.new.result) c.loop-extent-test.true
+    (unless_same c.contains-is_kept.result test c.new.result (found kind.DeviceChunk (extent.devid ∷ extent.offset ∷ [])) tests c.new.ensures)
     c.loop-extent.invariant c.in_ok-put_unless.ensures

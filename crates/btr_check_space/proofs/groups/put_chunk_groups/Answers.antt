@@ -20,7 +20,7 @@ loop-chunk-preserved c =
     let chunk : Span = get_or chunks i nothing in
     let test = list_any (λ (group : Group). (eqb group.start chunk.start && eqb group.len chunk.len) && eqb group.flags chunk.flags) groups in
     let tests : c.contains.result ≡ test = c.contains.ensures ∙ span_found groups c.in_ok-spans.spans chunk c.in_ok-spans.ensures in
-    adds_row (chunk_group groups) chunks i nothing c.args.found.now c.loop-chunk.found c.put_unless.new.found (unless c.contains.result c.row.result)
+    adds_row (chunk_group groups) chunks i nothing c.args.found.now c.loop-chunk.found c.put_unless.new.found (unless c.contains.result c.new.result)
     c.loop-chunk-test.true
-    (unless_same c.contains.result test c.row.result (found kind.ChunkGroup (chunk.start ∷ [])) tests c.row.ensures)
+    (unless_same c.contains.result test c.new.result (found kind.ChunkGroup (chunk.start ∷ [])) tests c.new.ensures)
     c.loop-chunk.invariant c.in_ok-put_unless.ensures

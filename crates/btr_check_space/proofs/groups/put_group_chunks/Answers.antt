@@ -20,7 +20,7 @@ loop-group-preserved c =
     let group : Group = get_or groups i nothing in
     let test = list_any (λ (chunk : Span). eqb chunk.start group.start && eqb chunk.len group.len) chunks in
     let tests : c.contains.result ≡ test = c.contains.ensures ∙ range_found chunks c.in_ok-ranges.ranges group c.in_ok-ranges.ensures in
-    adds_row (group_chunk chunks) groups i nothing c.args.found.now c.loop-group.found c.put_unless.new.found (unless c.contains.result c.row.result)
+    adds_row (group_chunk chunks) groups i nothing c.args.found.now c.loop-group.found c.put_unless.new.found (unless c.contains.result c.new.result)
     c.loop-group-test.true
-    (unless_same c.contains.result test c.row.result (found kind.GroupChunk (group.start ∷ [])) tests c.row.ensures)
+    (unless_same c.contains.result test c.new.result (found kind.GroupChunk (group.start ∷ [])) tests c.new.ensures)
     c.loop-group.invariant c.in_ok-put_unless.ensures

@@ -29,7 +29,7 @@ loop-extent-preserved c =
     ∙ c.in_ok-cover.ensures extent.addr (extent.addr + extent.len)
     ∙ any_map (is_held extent.addr (extent.addr + extent.len)) group_stretch groups in
     adds_row (outside_group groups) extents i nothing c.args.found.now c.loop-extent.found c.put_unless.new.found
-    (unless c.holds-is_kept.result c.row.result) c.loop-extent-test.true
-    (unless_same c.holds-is_kept.result (list_any (lies_in extent) groups) c.row.result
-    (found kind.OutsideGroup (extent.addr ∷ extent.len ∷ [])) tests c.row.ensures)
+    (unless c.holds-is_kept.result c.new.result) c.loop-extent-test.true
+    (unless_same c.holds-is_kept.result (list_any (lies_in extent) groups) c.new.result
+    (found kind.OutsideGroup (extent.addr ∷ extent.len ∷ [])) tests c.new.ensures)
     c.loop-extent.invariant c.in_ok-put_unless.ensures

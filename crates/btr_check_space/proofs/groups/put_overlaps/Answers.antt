@@ -24,16 +24,16 @@ loop-extent-preserved c =
     let extent : Extent = get_or rest i nothing in
     let earlier : c.loop-extent.earlier.now ≡ get_or all i nothing = c.loop-extent.invariant.last nothing in
     let pair : get_or (zip all rest) i (nothing, nothing) ≡ (get_or all i nothing, extent) = get_or-zip all rest i (nothing, nothing) also below in
-    let row : c.row.result ≡ found kind.Overlap (extent.addr ∷ (get_or all i nothing).addr ∷ []) =
-    c.row.ensures ∙ ap (λ (e : Extent). found kind.Overlap (extent.addr ∷ e.addr ∷ [])) earlier in
+    let row : c.new.result ≡ found kind.Overlap (extent.addr ∷ (get_or all i nothing).addr ∷ []) =
+    c.new.ensures ∙ ap (λ (e : Extent). found kind.Overlap (extent.addr ∷ e.addr ∷ [])) earlier in
     let tests : c.ends_by-is_kept.result ≡ leb ((get_or all i nothing).addr + (get_or all i nothing).len) extent.addr = c.ends_by-is_kept.ensures ∙ ap (λ (e : Extent). leb (e.addr + e.len) extent.addr) earlier in
-    let rule : unless c.ends_by-is_kept.result c.row.result ≡ overlap (get_or (zip all rest) i (nothing, nothing)) =
-    unless_same c.ends_by-is_kept.result (leb ((get_or all i nothing).addr + (get_or all i nothing).len) extent.addr) c.row.result
+    let rule : unless c.ends_by-is_kept.result c.new.result ≡ overlap (get_or (zip all rest) i (nothing, nothing)) =
+    unless_same c.ends_by-is_kept.result (leb ((get_or all i nothing).addr + (get_or all i nothing).len) extent.addr) c.new.result
     (found kind.Overlap (extent.addr ∷ (get_or all i nothing).addr ∷ [])) tests row ∙ ap overlap (sym pair) in
     record {
       last = λ d. default_free rest i nothing d below ∙ ap (λ n. get_or all n d) (sym one);
       found = adds_row overlap (zip all rest) i (nothing, nothing) c.args.found.now c.loop-extent.found c.put_unless.new.found
-          (unless c.ends_by-is_kept.result c.row.result) (zip_long all rest i also below) rule c.loop-extent.invariant.found c.in_ok-put_unless.ensures;
+          (unless c.ends_by-is_kept.result c.new.result) (zip_long all rest i also below) rule c.loop-extent.invariant.found c.in_ok-put_unless.ensures;
     }
 
 pub returns : goal.returns
