@@ -36,7 +36,7 @@ use Rattle.btr_check.specs.Before.{block_fault, left_by}
 use Rattle.btr_check.specs.Filesystem.{Filesystem}
 use Rattle.btr_check.specs.Passing.{Known, Opens, OpensGood, Walked, Walks, children_marks, edge_of, edges_of, joined, subtree_marks, with_if, WalksItem}
 use Rattle.btr_check.specs.Passing.{WalksItems, IsAbove, IsKept, Keeps, Passes, kept_if}
-use Rattle.btr_check.specs.Running.{World, IsReady, Ran, StopsOutside, filesystem, is_outside}
+use Rattle.btr_check.specs.Running.{World, CanCheck, Ran, StopsOutside, filesystem, is_outside}
 use Rattle.btr_check.specs.Walking.{WalkSeen, is_nothing, walk_step}
 use Rattle.btr_check.specs.Walks.{range_of, ranges_met}
 use Rattle.btr_check.proofs.Passes.{ran_memory, ran_no_memory}
@@ -143,7 +143,7 @@ module _ (fs : Filesystem) (level : ℕ) (spot : Spot) (old new : WalkSeen) wher
 -- a subtree that is kept was passed
 pub ran_passed : {U : Filesystem → Want → Type 0} (x : World)
     (level : ℕ) (spot : Spot) (old new : WalkSeen) (known : Known) (edges : Option Edges) (r : Result (Option Edges) Stop)
-    → IsReady x → IsKept known level spot edges → Passes old edges new r
+    → CanCheck x → IsKept known level spot edges → Passes old edges new r
     → Ran U (λ fs. Walks fs (subtree_marks fs level spot) old new known known r) x x r
 ran_passed {U} x level spot old new known edges (Ok answer) ready kept h =
     ran_none (λ fs. Walks fs (subtree_marks fs level spot) old new known known (Ok answer)) x answer ready

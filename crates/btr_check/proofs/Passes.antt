@@ -14,7 +14,7 @@ use Rattle.btr_check.proofs.Runs.{nothing, ran_none, ran_value, ran_refused}
 use Rattle.btr_check.specs.Counting.{Unless}
 use Rattle.btr_check.specs.Filesystem.{Filesystem}
 use Rattle.btr_check.specs.Passes.{marks_if, or_memory}
-use Rattle.btr_check.specs.Running.{World, IsReady, filesystem, Ran, is_outside}
+use Rattle.btr_check.specs.Running.{World, CanCheck, filesystem, Ran, is_outside}
 use Rattle.btr_check.specs.Trees.{items_if}
 
 -- the items that a visit meets are the tree's
@@ -51,7 +51,7 @@ ran_put {A} {U = U} P S T x y a done r one is f = subst (λ t. Ran U (λ fs. S f
     by (Err e) f = ran_refused {A = A} {C = Unit {0}} P (λ fs. S fs → is_outside stops.Memory ≡ true) x y a stops.Memory one (λ Q. tt) tt (λ B p s. refl)
 
 -- there was no memory before anything was read
-pub ran_memory : {C : Type 0} {U : Filesystem → Want → Type 0} (S : Filesystem → Type 0) (x : World) → IsReady x → ((B : Map) → S (filesystem x.vol B))
+pub ran_memory : {C : Type 0} {U : Filesystem → Want → Type 0} (S : Filesystem → Type 0) (x : World) → CanCheck x → ((B : Map) → S (filesystem x.vol B))
     → Ran {A = C} U S x x (Err stops.Memory)
 ran_memory {C} S x ready f =
     ran_refused {A = Unit {0}} {C = C} (λ fs. ⊤) S x x tt stops.Memory (ran_none {W = nothing} (λ fs. ⊤) x tt ready (λ B. tt)) (λ Q. tt) tt (λ B p. f B)

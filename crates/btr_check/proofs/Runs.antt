@@ -20,7 +20,7 @@ use Rattle.btr_check.specs.Before.{OfList, fault_stop}
 use Rattle.btr_check.specs.declared.block_fault.BlockFault.{BlockFault}
 use Rattle.btr_check.specs.declared.block_fault.BlockFault.TheVariants as block
 use Rattle.btr_check.specs.Filesystem.{Filesystem}
-use Rattle.btr_check.specs.Running.{World, IsReady, filesystem, FaultUnread, StopUnread, IfUnread, IsUnreadOf, IsAnyUnread, OfReading, StopsReading, Ran}
+use Rattle.btr_check.specs.Running.{World, CanCheck, filesystem, FaultUnread, StopUnread, IfUnread, IsUnreadOf, IsAnyUnread, OfReading, StopsReading, Ran}
 use Rattle.btr_check.specs.Running.{is_unread}
 
 -- a volume is as it was
@@ -78,7 +78,7 @@ abbrev pub nothing : Filesystem → Want → Type 0
 nothing fs want = ⊥
 
 -- nothing was read
-pub ran_none : {A : Type 0} {W : Filesystem → Want → Type 0} (P : Filesystem → Type 0) (x : World) (a : A) → IsReady x
+pub ran_none : {A : Type 0} {W : Filesystem → Want → Type 0} (P : Filesystem → Type 0) (x : World) (a : A) → CanCheck x
     → ((B : Map) → P (filesystem x.vol B)) → Ran W P x x (Ok a)
 ran_none P x a ready h = record {
   reads = reads_none x.rack;

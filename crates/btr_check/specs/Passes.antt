@@ -67,10 +67,10 @@ pub record IsWalked (listed_trees all_trees : List TreeRoot) (walk : WalkSeen) (
 
 -- where something is known of a filesystem, some findings were put into a set, unless a
 -- block could not be read or there was no memory
-abbrev pub Puts : (Filesystem → Type 0) → (Filesystem → List Finding) → FoundSet → FoundSet → Result (Unit {0}) Stop → Filesystem → Type 0
-Puts Known found old new result fs = Known fs → Unless (λ u. Adds (found fs) old new) result
+abbrev pub AddsFindings : (Filesystem → Type 0) → (Filesystem → List Finding) → FoundSet → FoundSet → Result (Unit {0}) Stop → Filesystem → Type 0
+AddsFindings Known found old new result fs = Known fs → Unless (λ u. Adds (found fs) old new) result
 
 -- the same of a call that answers a value
-abbrev pub PutsAnd : {A : Type 0} → (Filesystem → Type 0) → (Filesystem → A → Type 0) → (Filesystem → List Finding) → FoundSet → FoundSet → Result A Stop
+abbrev pub AddsFindingsAnd : {A : Type 0} → (Filesystem → Type 0) → (Filesystem → A → Type 0) → (Filesystem → List Finding) → FoundSet → FoundSet → Result A Stop
     → Filesystem → Type 0
-PutsAnd Known Is found old new result fs = Known fs → Unless (λ a. Is fs a × Adds (found fs) old new) result
+AddsFindingsAnd Known Is found old new result fs = Known fs → Unless (λ a. Is fs a × Adds (found fs) old new) result

@@ -25,7 +25,7 @@ abbrev pub world : Seen → Volume → World
 world rack vol = record { rack = rack; vol = vol }
 
 -- a volume can be read: four slots are free
-pub record IsReady (x : World) : Type 0 where
+pub record CanCheck (x : World) : Type 0 where
   pub serves : Serves x.rack x.vol.store
   pub room : 4 ≤ free_count x.vol.store
 
@@ -119,7 +119,7 @@ pub record Ran {A : Type 0} (W : Filesystem → Want → Type 0) (P : Filesystem
     (answer : Result A Stop) : Type 0 where
   pub reads : OnlyReads x.rack y.rack
   pub volume : SameVolume x.vol y.vol
-  pub ready : IsReady y
+  pub ready : CanCheck y
   pub cause : IfUnread (IsAnyUnread x.vol.store.layout x.rack y.rack) answer
   pub quiet : StopsReading answer
   pub told : Tells x.vol.store.layout x.rack y.rack (λ B. P (filesystem x.vol B))

@@ -45,15 +45,11 @@ impl BlockFault {
     pub(crate) fn finding(self) -> Finding
         ensures { result ≡ fault_finding self }
     {
-        let (kind, addr) = match self {
-            BlockFault::Lost(addr) => (Kind::Lost, addr),
-            BlockFault::Malformed(addr) => (Kind::Malformed, addr),
-            BlockFault::Unmapped(addr) => (Kind::Unmapped, addr),
-            BlockFault::Crosses(addr) => (Kind::Crosses, addr),
-        };
-        Finding {
-            kind,
-            n: [addr, 0, 0, 0, 0, 0, 0],
+        match self {
+            BlockFault::Lost(addr) => Finding::new(Kind::Lost, [addr]),
+            BlockFault::Malformed(addr) => Finding::new(Kind::Malformed, [addr]),
+            BlockFault::Unmapped(addr) => Finding::new(Kind::Unmapped, [addr]),
+            BlockFault::Crosses(addr) => Finding::new(Kind::Crosses, [addr]),
         }
     }
 }

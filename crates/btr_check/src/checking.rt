@@ -5,8 +5,8 @@ ghost use Rattle.btr_check.specs.Before.{refusal};
 ghost use Rattle.btr_check.specs.Counting.{Unless};
 ghost use Rattle.btr_check.specs.Families.{IsRunsOf, found_on_extents, found_on_files};
 ghost use Rattle.btr_check.specs.Findings.{all_findings, data_if, findings, rule_findings};
-ghost use Rattle.btr_check.specs.Passes.{IsWalked, Lists, Puts, PutsAnd};
-ghost use Rattle.btr_check.specs.Running.{world, IsReady, Answers, Ran};
+ghost use Rattle.btr_check.specs.Passes.{IsWalked, Lists, AddsFindings, AddsFindingsAnd};
+ghost use Rattle.btr_check.specs.Running.{world, CanCheck, Answers, Ran};
 ghost use Rattle.btr_check.specs.Wanted.{IfKnown, OfAllTrees, OfCheck};
 
 use crate::file_trees::put_files;
@@ -24,7 +24,7 @@ use btr_rack::Rack;
 use btr_volume::{Stop, TreeRoot, Volume};
 use std::alloc::Global;
 
-// Puts what is wrong with extents, with the references to them, with block groups and with checksums, and answers the runs of checksums.
+// AddsFindings what is wrong with extents, with the references to them, with block groups and with checksums, and answers the runs of checksums.
 fn put_extents<R: Rack>(
     alloc: Global,
     found: &mut Found,
@@ -34,9 +34,9 @@ fn put_extents<R: Rack>(
     rack: &mut R,
     vol: &mut Volume,
 ) -> Result<Runs, Stop>
-    requires ready { IsReady (world (R.seen rack.old) vol.old) }
+    requires ready { CanCheck (world (R.seen rack.old) vol.old) }
     ensures ran { Ran (IfKnown (IsWalked listed.now trees.now walk) OfAllTrees)
-        (PutsAnd
+        (AddsFindingsAnd
         (IsWalked listed.now trees.now walk) IsRunsOf found_on_extents found.old found.new result)
         (world (R.seen rack.old) vol.old) (world (R.seen rack.new) vol.new) result }
 {
@@ -52,7 +52,7 @@ fn put_extents<R: Rack>(
     put_sums(alloc, found, listed, all, rack, vol)
 }
 
-// Puts what is lost of the data, where data is read.
+// AddsFindings what is lost of the data, where data is read.
 fn put_data_if<R: Rack>(
     read_data: bool,
     found: &mut Found,
@@ -61,10 +61,10 @@ fn put_data_if<R: Rack>(
     rack: &mut R,
     vol: &mut Volume,
 ) -> Result<(), Stop>
-    requires ready { IsReady (world (R.seen rack.old) vol.old) }
+    requires ready { CanCheck (world (R.seen rack.old) vol.old) }
     ensures ran { Ran
         (IfKnown (λ fs. Lists listed.now fs × IsRunsOf fs runs.now) (OfCheck read_data))
-        (Puts (λ fs. Lists listed.now fs × IsRunsOf fs runs.now)
+        (AddsFindings (λ fs. Lists listed.now fs × IsRunsOf fs runs.now)
         (data_if read_data) found.old found.new result)
         (world (R.seen rack.old) vol.old) (world (R.seen rack.new) vol.new) result }
 {
@@ -76,7 +76,7 @@ fn put_data_if<R: Rack>(
     }
 }
 
-// Puts what is wrong with files and names, and what is lost of the data, where that is read. These are the runs of checksums.
+// AddsFindings what is wrong with files and names, and what is lost of the data, where that is read. These are the runs of checksums.
 fn put_contents<R: Rack>(
     alloc: Global,
     read_data: bool,
@@ -86,9 +86,9 @@ fn put_contents<R: Rack>(
     rack: &mut R,
     vol: &mut Volume,
 ) -> Result<(), Stop>
-    requires ready { IsReady (world (R.seen rack.old) vol.old) }
+    requires ready { CanCheck (world (R.seen rack.old) vol.old) }
     ensures ran { Ran (IfKnown (λ fs. Lists listed.now fs × IsRunsOf fs runs) (OfCheck read_data))
-        (Puts (λ fs. Lists listed.now fs × IsRunsOf fs runs)
+        (AddsFindings (λ fs. Lists listed.now fs × IsRunsOf fs runs)
         (λ fs. data_if read_data fs ++ found_on_files fs) found.old found.new result)
         (world (R.seen rack.old) vol.old) (world (R.seen rack.new) vol.new) result }
 {
@@ -102,7 +102,7 @@ fn put_contents<R: Rack>(
     }
 }
 
-// Puts what is wrong with what the trees say, where nothing is wrong with the trees themselves.
+// AddsFindings what is wrong with what the trees say, where nothing is wrong with the trees themselves.
 fn put_rules<R: Rack>(
     alloc: Global,
     read_data: bool,
@@ -113,9 +113,9 @@ fn put_rules<R: Rack>(
     rack: &mut R,
     vol: &mut Volume,
 ) -> Result<(), Stop>
-    requires ready { IsReady (world (R.seen rack.old) vol.old) }
+    requires ready { CanCheck (world (R.seen rack.old) vol.old) }
     ensures ran { Ran (IfKnown (IsWalked listed.now trees.now walk) (OfCheck read_data))
-        (Puts (IsWalked listed.now trees.now walk) (rule_findings read_data)
+        (AddsFindings (IsWalked listed.now trees.now walk) (rule_findings read_data)
         found.old found.new result)
         (world (R.seen rack.old) vol.old) (world (R.seen rack.new) vol.new) result }
 {
@@ -137,7 +137,7 @@ fn find_all<R: Rack>(
     rack: &mut R,
     vol: &mut Volume,
 ) -> Result<Found, Stop>
-    requires ready { IsReady (world (R.seen rack.old) vol.old) }
+    requires ready { CanCheck (world (R.seen rack.old) vol.old) }
     ensures ran { Ran (IfKnown (Lists listed.now) (OfCheck read_data))
         (λ fs. Lists listed.now fs → Unless (HasJust (all_findings read_data fs)) result)
         (world (R.seen rack.old) vol.old) (world (R.seen rack.new) vol.new) result }
@@ -179,7 +179,7 @@ pub fn check<R: Rack>(
     rack: &mut R,
     vol: &mut Volume,
 ) -> Result<Findings, Stop>
-    requires ready { IsReady (world (R.seen rack.old) vol.old) }
+    requires ready { CanCheck (world (R.seen rack.old) vol.old) }
     ensures ran { Ran (OfCheck read_data)
         (λ fs. Answers (λ all. (refusal fs ≡ None) × (all ≡ findings read_data fs)) fs result)
         (world (R.seen rack.old) vol.old) (world (R.seen rack.new) vol.new) result }

@@ -2,7 +2,7 @@
 ghost use Rattle.std.specs.Prelude.{◌≡◌, fold, option_to_list};
 ghost use Rattle.btr_check.specs.Counting.{Unless};
 ghost use Rattle.btr_check.specs.Passes.{marks_if, or_memory};
-ghost use Rattle.btr_check.specs.Running.{world, IsReady, Ran};
+ghost use Rattle.btr_check.specs.Running.{world, CanCheck, Ran};
 ghost use Rattle.btr_check.specs.Wanted.{OfTrees};
 
 use crate::visiting::visit_tree;
@@ -18,7 +18,7 @@ pub(crate) fn collect<R: Rack, V: Visitor<Memory> + Drop>(
     rack: &mut R,
     vol: &mut Volume,
 ) -> Result<V, Stop>
-    requires ready { IsReady (world (R.seen rack.old) vol.old) }
+    requires ready { CanCheck (world (R.seen rack.old) vol.old) }
     ensures ran { Ran (OfTrees (option_to_list tree))
         (λ fs. Unless (λ met. met ≡ fold V.step visitor (marks_if fs.blocks tree)) result)
         (world (R.seen rack.old) vol.old) (world (R.seen rack.new) vol.new) result }

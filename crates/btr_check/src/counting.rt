@@ -2,7 +2,7 @@
 ghost use Rattle.std.specs.Prelude.{◌≡◌, fold, map, OnOk, IfOk, Ok};
 ghost use Rattle.std.specs.BTreeSet.{contains};
 ghost use Rattle.btr_refs.specs.Forward.{tally_with, root_use};
-ghost use Rattle.btr_check.specs.Running.{world, IsReady, Ran};
+ghost use Rattle.btr_check.specs.Running.{world, CanCheck, Ran};
 ghost use Rattle.btr_check.specs.Counting.{BlockCounts, BlocksCount, UsesCount, IsFull};
 ghost use Rattle.btr_check.specs.Wanted.{OfPlaces, Only, want_at};
 
@@ -52,7 +52,7 @@ fn count_block<R: Rack>(
     rack: &mut R,
     vol: &mut Volume,
 ) -> Result<(), Stop>
-    requires ready { IsReady (world (R.seen rack.old) vol.old) }
+    requires ready { CanCheck (world (R.seen rack.old) vol.old) }
     ensures ran { Ran (Only (want_at place.now))
         (λ fs. BlockCounts fs.blocks place.now by_address forward.old forward.new result)
         (world (R.seen rack.old) vol.old) (world (R.seen rack.new) vol.new) result }
@@ -84,7 +84,7 @@ fn count_blocks<R: Rack>(
     rack: &mut R,
     vol: &mut Volume,
 ) -> Result<(), Stop>
-    requires ready { IsReady (world (R.seen rack.old) vol.old) }
+    requires ready { CanCheck (world (R.seen rack.old) vol.old) }
     ensures ran { Ran (OfPlaces places.now)
         (λ fs. BlocksCount fs.blocks places.now full.now forward.old forward.new result)
         (world (R.seen rack.old) vol.old) (world (R.seen rack.new) vol.new) result }
@@ -112,7 +112,7 @@ pub fn count_uses<R: Rack>(
     rack: &mut R,
     vol: &mut Volume,
 ) -> Result<Forward, Stop>
-    requires ready { IsReady (world (R.seen rack.old) vol.old) }
+    requires ready { CanCheck (world (R.seen rack.old) vol.old) }
     ensures ran { Ran (OfPlaces places.now)
         (λ fs. UsesCount fs.blocks forward trees.now places.now full.now result)
         (world (R.seen rack.old) vol.old) (world (R.seen rack.new) vol.new) result }

@@ -5,7 +5,7 @@ ghost use Rattle.btr_check_names.specs.Unpaired.{compared, unpaired_step};
 ghost use Rattle.btr_check.specs.Differing.{CanCompare, Differ, IsSoundBy, OfNone, Settle, own_marks};
 ghost use Rattle.btr_check.specs.Families.{IsCoverOf};
 ghost use Rattle.btr_check.specs.FileTrees.{ArePairedHere, IsSoundAlone, file_step, nothing_met};
-ghost use Rattle.btr_check.specs.Running.{world, IsReady, Ran};
+ghost use Rattle.btr_check.specs.Running.{world, CanCheck, Ran};
 
 use crate::file_tree::FileTree;
 use crate::file_trees::are_summed;
@@ -39,7 +39,7 @@ fn find_ranges<R: Rack>(
     rack: &mut R,
     vol: &mut Volume,
 ) -> Option<Vec<InodeRange>>
-    requires ready { IsReady (world (R.seen rack.old) vol.old) }
+    requires ready { CanCheck (world (R.seen rack.old) vol.old) }
     ensures alike { IfSome result (λ ranges. CanCompare before.now after.now) }
     ensures apart { IfSome result (λ ranges. are_apart ranges.items ≡ true) }
     ensures ran { Ran OfNone
@@ -67,7 +67,7 @@ fn meet_own<R: Rack>(
     rack: &mut R,
     vol: &mut Volume,
 ) -> Option<FileTree>
-    requires ready { IsReady (world (R.seen rack.old) vol.old) }
+    requires ready { CanCheck (world (R.seen rack.old) vol.old) }
     ensures ran { Ran OfNone
         (λ fs. IfSome result (λ met. met
         ≡ fold file_step (nothing_met rooted.now.tree.dirid) (own_marks fs rooted.now ranges.now)))
@@ -97,7 +97,7 @@ fn meet_others<R: Rack>(
     rack: &mut R,
     vol: &mut Volume,
 ) -> Option<Unpaired>
-    requires ready { IsReady (world (R.seen rack.old) vol.old) }
+    requires ready { CanCheck (world (R.seen rack.old) vol.old) }
     ensures ran { Ran OfNone
         (λ fs. IfSome result (λ met. met ≡ fold unpaired_step (compared names) (own_marks fs rooted.now ranges.now)))
         (world (R.seen rack.old) vol.old) (world (R.seen rack.new) vol.new) (Ok result) }
@@ -147,7 +147,7 @@ fn settles<R: Rack>(
     rack: &mut R,
     vol: &mut Volume,
 ) -> bool
-    requires ready { IsReady (world (R.seen rack.old) vol.old) }
+    requires ready { CanCheck (world (R.seen rack.old) vol.old) }
     ensures ran { Ran OfNone
         (λ fs. result ≡ true → Settle fs sums.now before.now after.now ranges.now)
         (world (R.seen rack.old) vol.old) (world (R.seen rack.new) vol.new) (Ok result) }
@@ -177,7 +177,7 @@ pub(crate) fn is_sound_by<R: Rack>(
     rack: &mut R,
     vol: &mut Volume,
 ) -> bool
-    requires ready { IsReady (world (R.seen rack.old) vol.old) }
+    requires ready { CanCheck (world (R.seen rack.old) vol.old) }
     ensures ran { Ran OfNone
         (λ fs. IsCoverOf fs sums.now → result ≡ true → IsSoundBy fs before.now after.now)
         (world (R.seen rack.old) vol.old) (world (R.seen rack.new) vol.new) (Ok result) }

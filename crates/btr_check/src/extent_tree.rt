@@ -1,7 +1,7 @@
 // What the extent tree says of extents.
 ghost use Rattle.std.specs.Prelude.{◌≡◌};
 ghost use Rattle.btr_check.specs.ExtentTree.{stop_of, ReadsStored};
-ghost use Rattle.btr_check.specs.Running.{world, IsReady, Ran};
+ghost use Rattle.btr_check.specs.Running.{world, CanCheck, Ran};
 ghost use Rattle.btr_check.specs.Wanted.{OfTree};
 
 use btr_rack::Rack;
@@ -30,7 +30,7 @@ pub(crate) fn read_stored<R: Rack>(
     rack: &mut R,
     vol: &mut Volume,
 ) -> Result<Stored, Stop>
-    requires ready { IsReady (world (R.seen rack.old) vol.old) }
+    requires ready { CanCheck (world (R.seen rack.old) vol.old) }
     ensures ran { Ran (OfTree tree.now.place)
         (λ fs. ReadsStored fs wanted tree.now result)
         (world (R.seen rack.old) vol.old) (world (R.seen rack.new) vol.new) result }

@@ -10,8 +10,8 @@ ghost use Rattle.btr_check.specs.Counting.{Unless};
 ghost use Rattle.btr_check.specs.Filesystem.{is_file_tree, root_items};
 ghost use Rattle.btr_check.specs.Families.{IsCoverOf, found_on_files};
 ghost use Rattle.btr_check.specs.FileTrees.{AddsMissing, AreSummed, KeepsEntries, PutsMissing, TreatsNames};
-ghost use Rattle.btr_check.specs.Passes.{Lists, Puts};
-ghost use Rattle.btr_check.specs.Running.{world, IsReady, Ran};
+ghost use Rattle.btr_check.specs.Passes.{Lists, AddsFindings};
+ghost use Rattle.btr_check.specs.Running.{world, CanCheck, Ran};
 ghost use Rattle.btr_check.specs.SoundTrees.{AreBelow, AreKept, KeepsSound, TreatsAll};
 ghost use Rattle.btr_check.specs.Wanted.{IfKnown, OfAllTrees, OfTree, OfTrees};
 
@@ -75,7 +75,7 @@ pub(crate) fn are_summed(
     is_nothing(alloc, missing)
 }
 
-// Puts what is missing of the checksums of the sectors that a tree's files use. The answer is whether nothing is.
+// AddsFindings what is missing of the checksums of the sectors that a tree's files use. The answer is whether nothing is.
 fn put_missing(
     alloc: Global,
     found: &mut Found,
@@ -92,7 +92,7 @@ fn put_missing(
     Ok(false)
 }
 
-// Puts what is missing of the checksums of what was met of a tree of files, and keeps its names of subvolumes where all names are paired, and
+// AddsFindings what is missing of the checksums of what was met of a tree of files, and keeps its names of subvolumes where all names are paired, and
 // the tree where it is sound. The answer is whether its names are paired.
 fn put_met(
     alloc: Global,
@@ -129,7 +129,7 @@ fn put_met(
     Ok(true)
 }
 
-// Puts what is wrong with the names in a tree of files, and keeps its names of subvolumes.
+// AddsFindings what is wrong with the names in a tree of files, and keeps its names of subvolumes.
 fn put_all_names(
     alloc: Global,
     found: &mut Found,
@@ -152,7 +152,7 @@ fn put_names<R: Rack>(
     rack: &mut R,
     vol: &mut Volume,
 ) -> Result<(), Stop>
-    requires ready { IsReady (world (R.seen rack.old) vol.old) }
+    requires ready { CanCheck (world (R.seen rack.old) vol.old) }
     ensures ran { Ran (OfTree tree.now.place)
         (λ fs. Unless
         (λ u. TreatsNames fs.blocks tree.now found.old found.new subvolumes.old subvolumes.new) result)
@@ -176,7 +176,7 @@ fn put_visited<R: Rack>(
     rack: &mut R,
     vol: &mut Volume,
 ) -> Result<(), Stop>
-    requires ready { IsReady (world (R.seen rack.old) vol.old) }
+    requires ready { CanCheck (world (R.seen rack.old) vol.old) }
     ensures ran { Ran (OfTree rooted.tree.place)
         (λ fs. IsCoverOf fs sums.now → AreKept fs kept.old.sound.items
         → AreBelow fs rooted.tree rooted.children.items
@@ -230,7 +230,7 @@ fn put_unlike<R: Rack>(
     rack: &mut R,
     vol: &mut Volume,
 ) -> Result<(), Stop>
-    requires ready { IsReady (world (R.seen rack.old) vol.old) }
+    requires ready { CanCheck (world (R.seen rack.old) vol.old) }
     ensures ran { Ran (OfTree rooted.tree.place)
         (λ fs. IsCoverOf fs sums.now → AreKept fs kept.old.sound.items
         → AreBelow fs rooted.tree rooted.children.items
@@ -259,7 +259,7 @@ fn put_file_tree<R: Rack>(
     rack: &mut R,
     vol: &mut Volume,
 ) -> Result<(), Stop>
-    requires ready { IsReady (world (R.seen rack.old) vol.old) }
+    requires ready { CanCheck (world (R.seen rack.old) vol.old) }
     ensures ran { Ran (OfTree tree.now.place)
         (λ fs. IsCoverOf fs sums.now → AreKept fs kept.old.sound.items → Unless (λ u. TreatsAll fs
         (tree.now ∷ []) found.old found.new kept.old.subvolumes kept.new.subvolumes kept.new.sound.items) result)
@@ -286,7 +286,7 @@ fn put_file_trees<R: Rack>(
     rack: &mut R,
     vol: &mut Volume,
 ) -> Result<(), Stop>
-    requires ready { IsReady (world (R.seen rack.old) vol.old) }
+    requires ready { CanCheck (world (R.seen rack.old) vol.old) }
     ensures ran { Ran (OfTrees files.now)
         (λ fs. IsCoverOf fs sums.now → AreKept fs kept.old.sound.items → Unless (λ u. TreatsAll fs
         files.now found.old found.new kept.old.subvolumes kept.new.subvolumes kept.new.sound.items) result)
@@ -307,7 +307,7 @@ fn read_subvolumes<R: Rack>(
     rack: &mut R,
     vol: &mut Volume,
 ) -> Result<SubvolumeNames, Stop>
-    requires ready { IsReady (world (R.seen rack.old) vol.old) }
+    requires ready { CanCheck (world (R.seen rack.old) vol.old) }
     ensures ran { Ran OfAllTrees
         (λ fs. Unless (λ met. met ≡ subvolumes_in (root_items fs) []) result)
         (world (R.seen rack.old) vol.old) (world (R.seen rack.new) vol.new) result }
@@ -317,7 +317,7 @@ fn read_subvolumes<R: Rack>(
     collect(Some(tree), SubvolumeNames::new(alloc), rack, vol)
 }
 
-/// Puts what is wrong with the trees of files among those that are listed: each is visited once, and once more where
+/// AddsFindings what is wrong with the trees of files among those that are listed: each is visited once, and once more where
 /// something is wrong with its names; and the root tree for the names of subvolumes. The addresses that have checksums are `sums`.
 ///
 /// `Tree`: a block could not be read, which is `Unread`. `Memory`: there is no memory for what is kept.
@@ -329,9 +329,9 @@ pub(crate) fn put_files<R: Rack>(
     rack: &mut R,
     vol: &mut Volume,
 ) -> Result<(), Stop>
-    requires ready { IsReady (world (R.seen rack.old) vol.old) }
+    requires ready { CanCheck (world (R.seen rack.old) vol.old) }
     ensures ran { Ran (IfKnown (Lists listed.now) OfAllTrees)
-        (Puts (λ fs. Lists listed.now fs
+        (AddsFindings (λ fs. Lists listed.now fs
         × IsCoverOf fs sums.now) found_on_files found.old found.new result)
         (world (R.seen rack.old) vol.old) (world (R.seen rack.new) vol.new) result }
 {

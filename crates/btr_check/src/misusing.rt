@@ -1,5 +1,5 @@
 // Extents that are others than what uses them.
-ghost use Rattle.std.specs.Prelude.{◌≡◌, ◌∷◌, [], OnOk};
+ghost use Rattle.std.specs.Prelude.{◌≡◌, OnOk};
 ghost use Rattle.btr_findings.specs.Findings.{Adds};
 ghost use Rattle.btr_refs.specs.Forward.{TreeBlock, Data};
 ghost use Rattle.btr_check.specs.Misusing.{AddsByUses, AddsIf, HasBlocksAt, HasDataAt, by_blocks, by_data, is_by_block, is_by_data, misused_of};
@@ -13,16 +13,6 @@ use btr_refs::{BlockUse, DataUse, UsedExtents};
 use std::collections::BTreeSet;
 use std::collections::btree_set::Range;
 
-// A finding on an extent: what it states, and what uses it as.
-fn row(kind: Kind, extent: &Extent, stated: u64, found: u64) -> Finding
-    ensures { result ≡ record { kind = kind; n = extent.now.addr ∷ stated ∷ found ∷ 0 ∷ 0 ∷ 0 ∷ 0 ∷ [] } }
-{
-    Finding {
-        kind,
-        n: [extent.addr, stated, found, 0, 0, 0, 0],
-    }
-}
-
 // What is wrong with an extent that is used as a tree block of a level.
 fn put_block_use(found: &mut Found, nodesize: u64, extent: &Extent, level: u8) -> Result<(), Memory>
     ensures { OnOk result (Adds (misused nodesize extent.now (TreeBlock level)) found.old found.new) }
@@ -31,23 +21,19 @@ fn put_block_use(found: &mut Found, nodesize: u64, extent: &Extent, level: u8) -
     put_unless(
         found,
         is_block,
-        row(Kind::ExtentKind, extent, extent.flags, 0),
+        Finding::new(Kind::ExtentKind, [extent.addr, extent.flags]),
     )?;
     let is_node = extent.len == nodesize;
     put_unless(
         found,
         is_node,
-        row(Kind::ExtentLength, extent, extent.len, nodesize),
+        Finding::new(Kind::ExtentLength, [extent.addr, extent.len, nodesize]),
     )?;
     match extent.level {
         None => Ok(()),
         Some(stated) => {
-            let finding = row(
-                Kind::ExtentLevel,
-                extent,
-                u64::from(stated),
-                u64::from(level),
-            );
+            let levels = [extent.addr, u64::from(stated), u64::from(level)];
+            let finding = Finding::new(Kind::ExtentLevel, levels);
             put_unless(found, stated == level, finding)
         }
     }
@@ -61,12 +47,12 @@ fn put_data_use(found: &mut Found, nodesize: u64, extent: &Extent, len: u64) -> 
     put_unless(
         found,
         is_data,
-        row(Kind::ExtentKind, extent, extent.flags, 0),
+        Finding::new(Kind::ExtentKind, [extent.addr, extent.flags]),
     )?;
     put_unless(
         found,
         extent.len == len,
-        row(Kind::ExtentLength, extent, extent.len, len),
+        Finding::new(Kind::ExtentLength, [extent.addr, extent.len, len]),
     )
 }
 

@@ -8,7 +8,7 @@ ghost use Rattle.btr_check.specs.Passing.{IsAbove, Opens, OpensGood, WalksItem, 
 ghost use Rattle.btr_check.specs.Passing.{with_if};
 ghost use Rattle.btr_walk.specs.Le.{want_of};
 ghost use Rattle.btr_walk.specs.Showing.{item_of};
-ghost use Rattle.btr_check.specs.Running.{world, IsReady, Ran, StopsOutside};
+ghost use Rattle.btr_check.specs.Running.{world, CanCheck, Ran, StopsOutside};
 ghost use Rattle.btr_check.specs.Wanted.{Only};
 
 use crate::block_fault::BlockFault;
@@ -148,7 +148,7 @@ pub(crate) fn open_block<R: Rack>(
     rack: &mut R,
     vol: &mut Volume,
 ) -> Result<Opened, Stop>
-    requires ready { IsReady (world (R.seen rack.old) vol.old) }
+    requires ready { CanCheck (world (R.seen rack.old) vol.old) }
     ensures outside { StopsOutside result }
     ensures above { IfOk result (IsAbove level) }
     ensures ran { Ran (Only (want_of level spot.now))

@@ -11,7 +11,7 @@ ghost use Rattle.btr_check_sums.specs.Ranks.{run_end};
 ghost use Rattle.btr_check_sums.specs.Sums.{run_sectors};
 ghost use Rattle.btr_check.specs.Counting.{Unless};
 ghost use Rattle.btr_check.specs.Data.{data_findings, data_lost, is_readable, sum_runs, unread_stop, KeepsSums, ReadsBy};
-ghost use Rattle.btr_check.specs.Running.{world, IsReady, Ran};
+ghost use Rattle.btr_check.specs.Running.{world, CanCheck, Ran};
 ghost use Rattle.btr_check.specs.Trees.{tree_of};
 ghost use Rattle.btr_check.specs.Wanted.{AreSums, IfKnown, OfData, OfSector};
 ghost use Rattle.btr_check.specs.Wanted.{OfSectorBy, OfSectors, Only};
@@ -66,7 +66,7 @@ fn sector_want<R: Rack>(
     rack: &mut R,
     vol: &mut Volume,
 ) -> Result<Option<Want>, Stop>
-    requires ready { IsReady (world (R.seen rack.old) vol.old) }
+    requires ready { CanCheck (world (R.seen rack.old) vol.old) }
     ensures ran { Ran (OfSector (tree_behind sums.entry) sector)
         (λ fs. KeepsSums fs (tree_behind sums.entry) ahead.old ahead.new (Unless (ReadsBy fs
         (tree_behind sums.entry) sector) result))
@@ -86,7 +86,7 @@ fn sector_want<R: Rack>(
 
 // Whether a want comes to bytes, by all that may be read for it.
 fn can_fetch<R: Rack>(want: &Want, rack: &mut R, vol: &mut Volume) -> Result<bool, Stop>
-    requires ready { IsReady (world (R.seen rack.old) vol.old) }
+    requires ready { CanCheck (world (R.seen rack.old) vol.old) }
     ensures ran { Ran (Only want.now)
         (λ fs. Unless (λ can. can ≡ is_ok (fs.blocks want.now)) result)
         (world (R.seen rack.old) vol.old) (world (R.seen rack.new) vol.new) result }
@@ -111,7 +111,7 @@ fn is_ahead<R: Rack>(
     rack: &mut R,
     vol: &Volume,
 ) -> bool
-    requires ready { IsReady (world (R.seen rack.old) vol.now) }
+    requires ready { CanCheck (world (R.seen rack.old) vol.now) }
     requires ahead { IsAhead (R.seen rack.old).held copies.old }
     ensures ahead { IsAhead (R.seen rack.new).held copies.new }
     ensures ran { Ran (Only want.now)
@@ -129,7 +129,7 @@ fn can_read<R: Rack>(
     rack: &mut R,
     vol: &mut Volume,
 ) -> Result<bool, Stop>
-    requires ready { IsReady (world (R.seen rack.old) vol.old) }
+    requires ready { CanCheck (world (R.seen rack.old) vol.old) }
     requires ahead { IsAhead (R.seen rack.old).held copies.old }
     ensures ahead { IsAhead (R.seen rack.new).held copies.new }
     ensures ran { Ran (Only want.now)
@@ -151,7 +151,7 @@ fn is_readable<R: Rack>(
     rack: &mut R,
     vol: &mut Volume,
 ) -> Result<bool, Stop>
-    requires ready { IsReady (world (R.seen rack.old) vol.old) }
+    requires ready { CanCheck (world (R.seen rack.old) vol.old) }
     requires ahead { IsAhead (R.seen rack.old).held copies.old }
     ensures ahead { IsAhead (R.seen rack.new).held copies.new }
     ensures ran { Ran (OfSectorBy (tree_behind sums.entry) ahead.old sector.addr)
@@ -186,7 +186,7 @@ fn put_sector<R: Rack>(
     rack: &mut R,
     vol: &mut Volume,
 ) -> Result<(), Stop>
-    requires ready { IsReady (world (R.seen rack.old) vol.old) }
+    requires ready { CanCheck (world (R.seen rack.old) vol.old) }
     requires ahead { IsAhead (R.seen rack.old).held copies.old }
     ensures ahead { IsAhead (R.seen rack.new).held copies.new }
     ensures ran { Ran (OfSectorBy (tree_behind sums.entry) ahead.old sector.addr)
@@ -222,7 +222,7 @@ fn put_run<R: Rack>(
     rack: &mut R,
     vol: &mut Volume,
 ) -> Result<(), Stop>
-    requires ready { IsReady (world (R.seen rack.old) vol.old) }
+    requires ready { CanCheck (world (R.seen rack.old) vol.old) }
     requires ahead { IsAhead (R.seen rack.old).held copies.old }
     ensures ahead { IsAhead (R.seen rack.new).held copies.new }
     ensures ran { Ran (IfKnown (λ fs. run_end run.now < 2 ^ 64)
@@ -253,7 +253,7 @@ pub(crate) fn put_data_findings<R: Rack>(
     rack: &mut R,
     vol: &mut Volume,
 ) -> Result<(), Stop>
-    requires ready { IsReady (world (R.seen rack.old) vol.old) }
+    requires ready { CanCheck (world (R.seen rack.old) vol.old) }
     ensures ran { Ran (IfKnown (AreSums runs.now (tree_behind sums.entry)) OfData)
         (λ fs. runs.now ≡ sum_runs fs → tree_behind sums.entry ≡ tree_of fs.sup fs.blocks 7
         → Unless (λ u. Adds (data_findings fs) found.old found.new) result)

@@ -4,8 +4,8 @@ ghost use Rattle.btr_findings.specs.Findings.{Adds};
 ghost use Rattle.btr_refs.specs.Differences.{total_findings};
 ghost use Rattle.btr_check.specs.Counting.{IsFull, Unless};
 ghost use Rattle.btr_check.specs.ExtentTree.{AreRefsOf, IsStoredOf};
-ghost use Rattle.btr_check.specs.Passes.{AreExtents, AreUsed, IsCounted, IsWalked, Lists, ListsSound, PutsAnd};
-ghost use Rattle.btr_check.specs.Running.{world, IsReady, Ran};
+ghost use Rattle.btr_check.specs.Passes.{AreExtents, AreUsed, IsCounted, IsWalked, Lists, ListsSound, AddsFindingsAnd};
+ghost use Rattle.btr_check.specs.Running.{world, CanCheck, Ran};
 ghost use Rattle.btr_check.specs.Uses.{difference_findings, found_on_counts, found_on_totals, reference_findings};
 ghost use Rattle.btr_check.specs.Walks.{walk_findings};
 ghost use Rattle.btr_check.specs.Wanted.{IfKnown, OfAllTrees};
@@ -42,7 +42,7 @@ fn read_extents<R: Rack>(
     rack: &mut R,
     vol: &mut Volume,
 ) -> Result<Stored, Stop>
-    requires ready { IsReady (world (R.seen rack.old) vol.old) }
+    requires ready { CanCheck (world (R.seen rack.old) vol.old) }
     ensures ran { Ran (IfKnown (Lists listed.now) OfAllTrees)
         (λ fs. Lists listed.now fs → walk_findings fs ≡ [] → Unless (IsStoredOf fs wanted) result)
         (world (R.seen rack.old) vol.old) (world (R.seen rack.new) vol.new) result }
@@ -72,9 +72,9 @@ fn put_stored<R: Rack>(
     rack: &mut R,
     vol: &mut Volume,
 ) -> Result<StoredRefs, Stop>
-    requires ready { IsReady (world (R.seen rack.old) vol.old) }
+    requires ready { CanCheck (world (R.seen rack.old) vol.old) }
     ensures ran { Ran (IfKnown (Lists listed.now) OfAllTrees)
-        (PutsAnd (ListsSound listed.now) AreRefsOf found_on_totals found.old found.new result)
+        (AddsFindingsAnd (ListsSound listed.now) AreRefsOf found_on_totals found.old found.new result)
         (world (R.seen rack.old) vol.old) (world (R.seen rack.new) vol.new) result }
 {
     match read_extents(alloc, Wanted::All, listed, rack, vol) {
@@ -96,9 +96,9 @@ fn put_counted<R: Rack>(
     rack: &mut R,
     vol: &mut Volume,
 ) -> Result<UsedExtents, Stop>
-    requires ready { IsReady (world (R.seen rack.old) vol.old) }
+    requires ready { CanCheck (world (R.seen rack.old) vol.old) }
     ensures ran { Ran (IfKnown (IsCounted trees.now places.items stored) OfAllTrees)
-        (PutsAnd
+        (AddsFindingsAnd
         (IsCounted trees.now places.items stored) AreUsed found_on_counts found.old found.new result)
         (world (R.seen rack.old) vol.old) (world (R.seen rack.new) vol.new) result }
 {
@@ -126,9 +126,9 @@ fn put_differences<R: Rack>(
     rack: &mut R,
     vol: &mut Volume,
 ) -> Result<UsedExtents, Stop>
-    requires ready { IsReady (world (R.seen rack.old) vol.old) }
+    requires ready { CanCheck (world (R.seen rack.old) vol.old) }
     ensures ran { Ran (IfKnown (IsWalked listed.now trees.now walk) OfAllTrees)
-        (PutsAnd
+        (AddsFindingsAnd
         (IsWalked listed.now trees.now walk) AreUsed difference_findings found.old found.new result)
         (world (R.seen rack.old) vol.old) (world (R.seen rack.new) vol.new) result }
 {
@@ -153,9 +153,9 @@ pub(crate) fn put_references<R: Rack>(
     rack: &mut R,
     vol: &mut Volume,
 ) -> Result<Vec<Extent>, Stop>
-    requires ready { IsReady (world (R.seen rack.old) vol.old) }
+    requires ready { CanCheck (world (R.seen rack.old) vol.old) }
     ensures ran { Ran (IfKnown (IsWalked listed.now trees.now walk) OfAllTrees)
-        (PutsAnd (IsWalked listed.now trees.now walk)
+        (AddsFindingsAnd (IsWalked listed.now trees.now walk)
         (λ fs all. AreExtents all.items fs) reference_findings found.old found.new result)
         (world (R.seen rack.old) vol.old) (world (R.seen rack.new) vol.new) result }
 {

@@ -1,16 +1,16 @@
 // Trees of files in which nothing is wrong.
 ghost use Rattle.std.specs.Prelude.{◌≡◌, IfOk, IsTrue, OnOk};
 ghost use Rattle.btr_check.specs.Filesystem.{Filesystem};
-ghost use Rattle.btr_check.specs.Running.{world, IsReady, Ran};
+ghost use Rattle.btr_check.specs.Running.{world, CanCheck, Ran};
 ghost use Rattle.btr_check.specs.Counting.{Unless};
 ghost use Rattle.btr_check.specs.SoundTrees.{AreBelow, AreKept, IsKeptOf, IsLike, PassesTree};
 ghost use Rattle.btr_check.specs.Wanted.{OfTree};
 
 use crate::form::kind_of;
 use crate::opening::{Opened, open_block};
-use crate::subtrees::same_bound;
 use crate::walk::Walk;
 use btr_base::Memory;
+use btr_check_differences::same_spot;
 use btr_check_names::{SubvolumeNames, Unpaired};
 use btr_findings::push;
 use btr_rack::Rack;
@@ -35,16 +35,6 @@ pub(crate) struct SoundTree {
 
 // So many sound trees are kept.
 const MOST: usize = 16;
-
-// Whether two blocks stand at the same spot.
-fn same_spot(one: &Spot, other: &Spot) -> bool
-    ensures { IsTrue result → one.now ≡ other.now }
-{
-    one.addr == other.addr
-        && one.generation == other.generation
-        && same_bound(one.first, other.first)
-        && same_bound(one.up, other.up)
-}
 
 // Whether a block is among some.
 fn is_among(spot: &Spot, others: &[Spot]) -> bool {
@@ -139,7 +129,7 @@ pub(crate) fn read_rooted<R: Rack>(
     rack: &mut R,
     vol: &mut Volume,
 ) -> Result<RootedTree, Stop>
-    requires ready { IsReady (world (R.seen rack.old) vol.old) }
+    requires ready { CanCheck (world (R.seen rack.old) vol.old) }
     ensures tree { IfOk result (λ rooted. rooted.tree ≡ tree.now) }
     ensures ran { Ran (OfTree tree.now.place)
         (λ fs. Unless (λ rooted. AreBelow fs tree.now rooted.children.items) result)

@@ -1,8 +1,8 @@
 // What is wrong with block groups and devices.
 ghost use Rattle.std.specs.Prelude.{◌≡◌};
 ghost use Rattle.btr_check.specs.Families.{group_tree, found_on_groups, found_on_devices};
-ghost use Rattle.btr_check.specs.Passes.{AreExtents, Lists, Puts};
-ghost use Rattle.btr_check.specs.Running.{world, IsReady, Ran};
+ghost use Rattle.btr_check.specs.Passes.{AreExtents, Lists, AddsFindings};
+ghost use Rattle.btr_check.specs.Running.{world, CanCheck, Ran};
 ghost use Rattle.btr_check.specs.Wanted.{IfKnown, OfAllTrees};
 
 use crate::collecting::{collect, or_memory};
@@ -28,7 +28,7 @@ fn group_tree(trees: &[TreeRoot]) -> Option<TreeRoot>
     }
 }
 
-/// Puts what is wrong with extents, block groups and chunks. Of the listed trees it visits that which
+/// AddsFindings what is wrong with extents, block groups and chunks. Of the listed trees it visits that which
 /// has the block groups.
 ///
 /// `Tree`: a block could not be read, which is `Unread`. `Memory`: there is no memory for what is kept.
@@ -40,9 +40,9 @@ pub(crate) fn put_groups<R: Rack>(
     rack: &mut R,
     vol: &mut Volume,
 ) -> Result<(), Stop>
-    requires ready { IsReady (world (R.seen rack.old) vol.old) }
+    requires ready { CanCheck (world (R.seen rack.old) vol.old) }
     ensures ran { Ran (IfKnown (Lists listed.now) OfAllTrees)
-        (Puts (λ fs. Lists listed.now fs
+        (AddsFindings (λ fs. Lists listed.now fs
         × AreExtents extents.now fs) found_on_groups found.old found.new result)
         (world (R.seen rack.old) vol.old) (world (R.seen rack.new) vol.new) result }
 {
@@ -60,7 +60,7 @@ pub(crate) fn put_groups<R: Rack>(
     }
 }
 
-/// Puts what is wrong with chunks, device extents and devices. It visits the device tree and the chunk tree.
+/// AddsFindings what is wrong with chunks, device extents and devices. It visits the device tree and the chunk tree.
 ///
 /// `Tree`: a block could not be read, which is `Unread`. `Memory`: there is no memory for what is kept.
 pub(crate) fn put_devices<R: Rack>(
@@ -70,9 +70,9 @@ pub(crate) fn put_devices<R: Rack>(
     rack: &mut R,
     vol: &mut Volume,
 ) -> Result<(), Stop>
-    requires ready { IsReady (world (R.seen rack.old) vol.old) }
+    requires ready { CanCheck (world (R.seen rack.old) vol.old) }
     ensures ran { Ran (IfKnown (Lists listed.now) OfAllTrees)
-        (Puts (Lists listed.now) found_on_devices found.old found.new result)
+        (AddsFindings (Lists listed.now) found_on_devices found.old found.new result)
         (world (R.seen rack.old) vol.old) (world (R.seen rack.new) vol.new) result }
 {
     collects_law();

@@ -1,5 +1,5 @@
 // Subtrees that were walked, and are passed where they are met again.
-ghost use Rattle.std.specs.Prelude.{◌≡◌, MatchBool, count_by, nat_lt};
+ghost use Rattle.std.specs.Prelude.{◌≡◌, count_by, nat_lt};
 ghost use Rattle.btr_volume.specs.declared.root.TreeRoot.{TreeRoot};
 ghost use Rattle.btr_check.specs.Filesystem.{is_file_tree};
 ghost use Rattle.btr_check.specs.Passing.{edge_of, joined, place_at};
@@ -8,6 +8,7 @@ use crate::places::Place;
 use crate::refusing::is_file_tree;
 use crate::walk::FileRange;
 use btr_base::{Key, Memory};
+use btr_check_differences::same_bound;
 use btr_volume::TreeRoot;
 use btr_walk::Spot;
 use std::alloc::Global;
@@ -62,19 +63,6 @@ pub(crate) struct Subtrees {
     shares: bool,
     keeps: bool,
     known: BTreeMap<Place, Subtree>,
-}
-
-/// Whether two bounds are the same.
-pub(crate) fn same_bound(one: Option<Key>, other: Option<Key>) -> bool
-    ensures { MatchBool result (one ≡ other) (one ≡ other → ⊥) }
-{
-    match (one, other) {
-        (None, None) => true,
-        (Some(one), Some(other)) => {
-            one.objectid == other.objectid && one.kind == other.kind && one.offset == other.offset
-        }
-        (None, Some(_)) | (Some(_), None) => false,
-    }
 }
 
 // Where the block of a level at a spot stands.

@@ -1,7 +1,7 @@
 // What is wrong with the checksums of data.
 ghost use Rattle.btr_check.specs.Families.{IsRunsOf, found_on_sums};
-ghost use Rattle.btr_check.specs.Passes.{AreExtents, Lists, PutsAnd};
-ghost use Rattle.btr_check.specs.Running.{world, IsReady, Ran};
+ghost use Rattle.btr_check.specs.Passes.{AreExtents, Lists, AddsFindingsAnd};
+ghost use Rattle.btr_check.specs.Running.{world, CanCheck, Ran};
 ghost use Rattle.btr_check.specs.Wanted.{IfKnown, OfAllTrees};
 
 use crate::collecting::collect;
@@ -27,9 +27,9 @@ pub(crate) fn put_sums<R: Rack>(
     rack: &mut R,
     vol: &mut Volume,
 ) -> Result<Runs, Stop>
-    requires ready { IsReady (world (R.seen rack.old) vol.old) }
+    requires ready { CanCheck (world (R.seen rack.old) vol.old) }
     ensures ran { Ran (IfKnown (Lists listed.now) OfAllTrees)
-        (PutsAnd (λ fs. Lists listed.now fs
+        (AddsFindingsAnd (λ fs. Lists listed.now fs
         × AreExtents extents.now fs) IsRunsOf found_on_sums found.old found.new result)
         (world (R.seen rack.old) vol.old) (world (R.seen rack.new) vol.new) result }
 {

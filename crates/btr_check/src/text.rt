@@ -1,7 +1,7 @@
 // How findings are printed.
 ghost use Rattle.std.specs.Prelude.{◌≡◌, ◌≤◌, IfOk, length};
 ghost use Rattle.btr_rack.specs.Out.{Puts, Counts};
-ghost use Rattle.btr_text.specs.Text.{Writes};
+ghost use Rattle.btr_text.specs.Text.{WritesOut};
 ghost use Rattle.btr_check.specs.Text.{printed_of, numbers_text, line_of, lines_of, last_line, findings_text};
 
 use btr_findings::{Finding, Findings, Kind};
@@ -85,13 +85,13 @@ fn count_of(kind: Kind) -> usize
     }
 }
 
-// Writes numbers, each behind a space.
+// WritesOut numbers, each behind a space.
 fn push_numbers<O: Out>(
     buffer: &mut TextBuffer,
     numbers: &[u64],
     out: &mut O,
 ) -> Result<(), SinkError>
-    ensures text { Writes (O.text out.old) (O.text out.new) buffer.old buffer.new (numbers_text numbers.now) result }
+    ensures text { WritesOut (O.text out.old) (O.text out.new) buffer.old buffer.new (numbers_text numbers.now) result }
     ensures account { Counts (O.account out.old) (O.account out.new) result }
 {
     for n in numbers {
@@ -100,13 +100,13 @@ fn push_numbers<O: Out>(
     Ok(())
 }
 
-// Writes the line of a finding.
+// WritesOut the line of a finding.
 fn push_finding<O: Out>(
     buffer: &mut TextBuffer,
     finding: &Finding,
     out: &mut O,
 ) -> Result<(), SinkError>
-    ensures text { Writes (O.text out.old) (O.text out.new) buffer.old buffer.new (line_of finding.now) result }
+    ensures text { WritesOut (O.text out.old) (O.text out.new) buffer.old buffer.new (line_of finding.now) result }
     ensures account { Counts (O.account out.old) (O.account out.new) result }
 {
     buffer.push(Piece::Plain(word_of(finding.kind)), out)?;
@@ -114,13 +114,13 @@ fn push_finding<O: Out>(
     buffer.push(Piece::Plain(b"\n"), out)
 }
 
-// Writes the lines of findings, and answers how many there are.
+// WritesOut the lines of findings, and answers how many there are.
 fn push_findings<O: Out>(
     buffer: &mut TextBuffer,
     mut findings: Findings,
     out: &mut O,
 ) -> Result<u64, SinkError>
-    ensures text { Writes (O.text out.old) (O.text out.new) buffer.old buffer.new (lines_of findings) result }
+    ensures text { WritesOut (O.text out.old) (O.text out.new) buffer.old buffer.new (lines_of findings) result }
     ensures count { IfOk result (λ count. count ≡ length findings) }
     ensures account { Counts (O.account out.old) (O.account out.new) result }
 {
@@ -133,9 +133,9 @@ fn push_findings<O: Out>(
     Ok(count)
 }
 
-// Writes how many findings there are.
+// WritesOut how many findings there are.
 fn push_count<O: Out>(buffer: &mut TextBuffer, count: u64, out: &mut O) -> Result<(), SinkError>
-    ensures text { Writes (O.text out.old) (O.text out.new) buffer.old buffer.new (last_line count) result }
+    ensures text { WritesOut (O.text out.old) (O.text out.new) buffer.old buffer.new (last_line count) result }
     ensures account { Counts (O.account out.old) (O.account out.new) result }
 {
     if count == 0 {

@@ -1,7 +1,7 @@
 // The trees of a filesystem.
 ghost use Rattle.std.specs.Prelude.{◌≡◌, ◌∷◌, ◌++◌, [], None, IfOk, OnOk};
 ghost use Rattle.btr_check.specs.Before.{refusal};
-ghost use Rattle.btr_check.specs.Running.{world, IsReady, Answers, Ran};
+ghost use Rattle.btr_check.specs.Running.{world, CanCheck, Answers, Ran};
 ghost use Rattle.btr_check.specs.Trees.{root_tree, chunk_tree, listed};
 ghost use Rattle.btr_check.specs.Walking.{RootEnds};
 ghost use Rattle.btr_check.specs.Wanted.{OfAllTrees};
@@ -22,7 +22,7 @@ pub(crate) const CHUNK_TREE: u64 = 3;
 
 // The trees that the root tree lists, where nothing is wrong with it.
 fn walk_root<R: Rack>(alloc: Global, rack: &mut R, vol: &mut Volume) -> Result<Vec<TreeRoot>, Stop>
-    requires ready { IsReady (world (R.seen rack.old) vol.old) }
+    requires ready { CanCheck (world (R.seen rack.old) vol.old) }
     ensures ran { Ran OfAllTrees
         (λ fs. RootEnds fs result)
         (world (R.seen rack.old) vol.old) (world (R.seen rack.new) vol.new) result }
@@ -49,7 +49,7 @@ pub fn read_trees<R: Rack>(
     rack: &mut R,
     vol: &mut Volume,
 ) -> Result<Vec<TreeRoot>, Stop>
-    requires ready { IsReady (world (R.seen rack.old) vol.old) }
+    requires ready { CanCheck (world (R.seen rack.old) vol.old) }
     ensures ran { Ran OfAllTrees
         (λ fs. Answers
         (λ trees. (refusal fs ≡ None) × (trees.items ≡ listed fs.sup fs.blocks)) fs result)

@@ -1,7 +1,7 @@
 // Trees that are visited.
 ghost use Rattle.std.specs.Prelude.{◌≡◌, fold, OnOk};
 ghost use Rattle.btr_tour.specs.Tour.{whole};
-ghost use Rattle.btr_check.specs.Running.{world, IsReady, Ran, StopsOutside};
+ghost use Rattle.btr_check.specs.Running.{world, CanCheck, Ran, StopsOutside};
 ghost use Rattle.btr_check.specs.Wanted.{OfTree};
 
 use crate::form::kind_of;
@@ -18,7 +18,7 @@ pub(crate) fn visit_tree<R: Rack, V: Visitor<Memory>>(
     rack: &mut R,
     vol: &mut Volume,
 ) -> Result<(), Stop>
-    requires ready { IsReady (world (R.seen rack.old) vol.old) }
+    requires ready { CanCheck (world (R.seen rack.old) vol.old) }
     ensures outside { StopsOutside result }
     ensures ran { Ran (OfTree place.now)
         (λ fs. OnOk result (visitor.new ≡ fold V.step visitor.old (whole fs.blocks place.now)))

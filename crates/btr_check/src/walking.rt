@@ -3,7 +3,7 @@ ghost use Rattle.std.specs.Prelude.{◌∷◌, ◌++◌, [], ℕ, List, OnOk, If
 ghost use Rattle.btr_volume.specs.declared.root.TreeRoot.{TreeRoot};
 ghost use Rattle.btr_check.specs.Passing.{Keeps, Knows, Passes, Walks, children_marks};
 ghost use Rattle.btr_check.specs.Passing.{subtree_marks};
-ghost use Rattle.btr_check.specs.Running.{world, IsReady, Ran, StopsOutside};
+ghost use Rattle.btr_check.specs.Running.{world, CanCheck, Ran, StopsOutside};
 ghost use Rattle.btr_check.specs.Walking.{HasWalked, IsWalkOf};
 ghost use Rattle.btr_check.specs.Wanted.{OfSubtree, OfSubtrees, OfTree, OfTrees};
 
@@ -56,7 +56,7 @@ fn walk_block<R: Rack>(
     rack: &mut R,
     vol: &mut Volume,
 ) -> Result<Option<Edges>, Stop>
-    requires ready { IsReady (world (R.seen rack.old) vol.old) }
+    requires ready { CanCheck (world (R.seen rack.old) vol.old) }
     ensures outside { StopsOutside result }
     ensures ran { Ran (OfSubtree level spot.now)
         (λ fs. Walks fs (subtree_marks fs level spot.now) walk.old walk.new
@@ -82,7 +82,7 @@ fn walk_below<R: Rack>(
     rack: &mut R,
     vol: &mut Volume,
 ) -> Result<Option<Edges>, Stop>
-    requires ready { IsReady (world (R.seen rack.old) vol.old) }
+    requires ready { CanCheck (world (R.seen rack.old) vol.old) }
     ensures outside { StopsOutside result }
     ensures ran { Ran (OfSubtree level spot.now)
         (λ fs. Walks fs (subtree_marks fs level spot.now) walk.old walk.new
@@ -108,7 +108,7 @@ fn walk_children<R: Rack>(
     rack: &mut R,
     vol: &mut Volume,
 ) -> Result<Option<Edges>, Stop>
-    requires ready { IsReady (world (R.seen rack.old) vol.old) }
+    requires ready { CanCheck (world (R.seen rack.old) vol.old) }
     ensures outside { StopsOutside result }
     ensures ran { Ran (OfSubtrees level spots.now)
         (λ fs. (addr : ℕ) → Walks fs (children_marks fs addr level spots.now)
@@ -133,7 +133,7 @@ fn walk_tree<R: Rack>(
     rack: &mut R,
     vol: &mut Volume,
 ) -> Result<(), Stop>
-    requires ready { IsReady (world (R.seen rack.old) vol.old) }
+    requires ready { CanCheck (world (R.seen rack.old) vol.old) }
     ensures outside { StopsOutside result }
     ensures ran { Ran (OfTree tree.now.place)
         (λ fs. (before : List TreeRoot) → HasWalked fs before walk.old
@@ -164,7 +164,7 @@ fn walk_more<R: Rack>(
     rack: &mut R,
     vol: &mut Volume,
 ) -> Result<(), Stop>
-    requires ready { IsReady (world (R.seen rack.old) vol.old) }
+    requires ready { CanCheck (world (R.seen rack.old) vol.old) }
     ensures outside { StopsOutside result }
     ensures ran { Ran (OfTrees trees.now)
         (λ fs. HasWalked fs [] walk.old → Knows fs walk.old subtrees.old.known.entries
@@ -193,7 +193,7 @@ pub fn walk_trees<R: Rack>(
     rack: &mut R,
     vol: &mut Volume,
 ) -> Result<Walk, Stop>
-    requires ready { IsReady (world (R.seen rack.old) vol.old) }
+    requires ready { CanCheck (world (R.seen rack.old) vol.old) }
     ensures outside { StopsOutside result }
     ensures ran { Ran (OfTrees trees.now)
         (λ fs. IfOk result (IsWalkOf fs trees.now))

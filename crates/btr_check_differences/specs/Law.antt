@@ -60,6 +60,7 @@ pub record AreAlike (B : Map) (dirid : ℕ) (before after : RootPlace) (ranges :
       (tours B after ranges) (tours B before ranges)
   pub plain : list_all is_plain (items_met (whole B after)) ≡ true
 
+-- trees that are so compared are alike
 abbrev pub AlikeLaw : Type 0
 AlikeLaw = (B : Map) (dirid level : ℕ) (before after : RootPlace)
     (old new : List Spot) (ranges : List InodeRange)

@@ -61,13 +61,13 @@ abbrev pub may_have : Spot → Key → Bool
 may_have spot key = is_from spot.first key && (is_below spot.up key && key_le key last_key)
 
 -- a block with this first key has no items of inodes below this one
-abbrev pub Begins : Option Key → ℕ → Type 0
-Begins first inode = (key : Key) → is_from first key ≡ true
+abbrev pub BeginsAt : Option Key → ℕ → Type 0
+BeginsAt first inode = (key : Key) → is_from first key ≡ true
     → key_number (low (record { first = inode; last = inode })) ≤ key_number key
 
 -- a block with this bound has no items of inodes above this one
-abbrev pub Ends : Option Key → ℕ → Type 0
-Ends up inode = (key : Key) → is_below up key ≡ true → key_le key last_key ≡ true
+abbrev pub EndsAt : Option Key → ℕ → Type 0
+EndsAt up inode = (key : Key) → is_below up key ≡ true → key_le key last_key ≡ true
     → key_number key ≤ key_number (high (record { first = inode; last = inode }))
 
 -- a range has each inode of which a block at a spot may have items

@@ -1,7 +1,7 @@
 // Ranges of inodes.
 ghost use Rattle.std.specs.Prelude.{◌≡◌, ◌+◌, ◌<◌, ◌&&◌, drop, length, OnOk};
 ghost use Rattle.std.specs.List.{HoldsAt};
-ghost use Rattle.btr_check_differences.specs.Ranges.{Begins, Ends, Takes, are_apart, is_before};
+ghost use Rattle.btr_check_differences.specs.Ranges.{BeginsAt, EndsAt, Takes, are_apart, is_before};
 ghost use Rattle.btr_check_differences.specs.Ranges.{is_range};
 
 use btr_base::{Key, Memory};
@@ -17,7 +17,7 @@ pub struct InodeRange {
 
 // The inode of the first key of a block, if that is known.
 fn first_inode(first: Option<Key>) -> u64
-    ensures { Begins first result }
+    ensures { BeginsAt first result }
 {
     match first {
         None => 0,
@@ -27,7 +27,7 @@ fn first_inode(first: Option<Key>) -> u64
 
 // The inode of the bound of a block, if there is one.
 fn last_inode(up: Option<Key>) -> u64
-    ensures { Ends up result }
+    ensures { EndsAt up result }
 {
     match up {
         None => u64::MAX,

@@ -27,4 +27,5 @@ mod touring;
 pub use differing::find_differences;
 pub use inode_range::InodeRange;
 pub use laws::{alike_law, missing_law, tours_law};
+pub use shared::{same_bound, same_spot};
 pub use touring::visit_ranges;

@@ -1,5 +1,5 @@
 // Blocks that two trees share.
-ghost use Rattle.std.specs.Prelude.{◌≡◌, IfSome, IsTrue};
+ghost use Rattle.std.specs.Prelude.{◌≡◌, IfSome, IsTrue, MatchBool};
 ghost use Rattle.btr_check_differences.specs.Differing.{IsShared};
 
 use btr_base::Key;
@@ -12,9 +12,9 @@ pub(crate) struct Shared {
     pub(crate) after: usize,
 }
 
-// Whether two bounds are the same.
-fn same_bound(one: Option<Key>, other: Option<Key>) -> bool
-    ensures { IsTrue result → one ≡ other }
+/// Whether two bounds are the same.
+pub fn same_bound(one: Option<Key>, other: Option<Key>) -> bool
+    ensures { MatchBool result (one ≡ other) (one ≡ other → ⊥) }
 {
     match (one, other) {
         (None, None) => true,
@@ -25,8 +25,8 @@ fn same_bound(one: Option<Key>, other: Option<Key>) -> bool
     }
 }
 
-// Whether two blocks stand at the same spot.
-fn same_spot(one: &Spot, other: &Spot) -> bool
+/// Whether two blocks stand at the same spot.
+pub fn same_spot(one: &Spot, other: &Spot) -> bool
     ensures { IsTrue result → one.now ≡ other.now }
 {
     one.addr == other.addr

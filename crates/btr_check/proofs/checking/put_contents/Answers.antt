@@ -6,7 +6,7 @@ use Rattle.btr_check_sums.specs.Sums.{run_stretch}
 use Rattle.btr_volume.specs.declared.stop.Stop.TheVariants.{Memory as NoMemory}
 use Rattle.btr_check.specs.Families.{IsCoverOf, IsRunsOf, found_on_files}
 use Rattle.btr_check.specs.Findings.{data_if}
-use Rattle.btr_check.specs.Passes.{Lists, Puts}
+use Rattle.btr_check.specs.Passes.{Lists, AddsFindings}
 use Rattle.btr_check.specs.Running.{world, filesystem, is_outside}
 use Rattle.btr_check.proofs.Passes.{unless_more, ran_no_memory}
 use Rattle.btr_check.proofs.Runs.{ran_stop, ran_then}
@@ -44,8 +44,8 @@ returns-in-Ok-sum_cover g c =
     let three = c.put_files.new.found in
     record {
       ran = ran_then {A = Unit {0}} {C = Unit {0}} (λ fs. Lists c.args.listed.now fs × IsRunsOf fs c.args.runs → Adds (data_if c.args.read_data fs) one two)
-          (Puts (λ fs. Lists c.args.listed.now fs × IsCoverOf fs sums) found_on_files two three c.put_files.result)
-          (Puts (λ fs. Lists c.args.listed.now fs × IsRunsOf fs c.args.runs)
+          (AddsFindings (λ fs. Lists c.args.listed.now fs × IsCoverOf fs sums) found_on_files two three c.put_files.result)
+          (AddsFindings (λ fs. Lists c.args.listed.now fs × IsRunsOf fs c.args.runs)
           (λ fs. data_if c.args.read_data fs ++ found_on_files fs) one three c.put_files.result) x y z tt c.put_files.result c.in-Ok.ensures.ran
           c.put_files.ensures.ran
           (λ B p q known. unless_more (λ u. Adds (found_on_files (filesystem c.args.vol.now B)) two three)

@@ -6,7 +6,7 @@ use Rattle.btr_check.specs.Counting.{Unless}
 use Rattle.btr_check.specs.Data.{data_findings, sum_runs}
 use Rattle.btr_check.specs.Families.{IsRunsOf}
 use Rattle.btr_check.specs.Findings.{data_if}
-use Rattle.btr_check.specs.Passes.{Lists, Puts}
+use Rattle.btr_check.specs.Passes.{Lists, AddsFindings}
 use Rattle.btr_check.specs.Running.{world, filesystem}
 use Rattle.btr_check.specs.Trees.{last_of, tree_of}
 use Rattle.btr_check.proofs.Passes.{unless_more}
@@ -23,7 +23,7 @@ returns-then-read_data g c =
     record {
       ran = ran_within (λ fs. c.as_slice.result.now ≡ sum_runs fs → tree_behind c.as_ref.result ≡ tree_of fs.sup fs.blocks 7
           → Unless (λ u. Adds (data_findings fs) a b) c.put_data_findings.result)
-          (Puts (λ fs. Lists c.args.listed.now fs × IsRunsOf fs c.args.runs.now)
+          (AddsFindings (λ fs. Lists c.args.listed.now fs × IsRunsOf fs c.args.runs.now)
           (data_if c.args.read_data) a b c.put_data_findings.result) x y c.put_data_findings.result c.put_data_findings.ensures.ran
           (λ B h known. unless_more (λ u. Adds (data_findings (filesystem c.args.vol.now B)) a b)
           (λ u. Adds (data_if c.args.read_data (filesystem c.args.vol.now B)) a b) c.put_data_findings.result
@@ -40,7 +40,7 @@ pub returns-else-read_data : goal.returns-else-read_data
 returns-else-read_data g c =
     let a = c.args.found.now in
     record {
-      ran = ran_none (Puts (λ fs. Lists c.args.listed.now fs × IsRunsOf fs c.args.runs.now) (data_if c.args.read_data) a a (Ok tt))
+      ran = ran_none (AddsFindings (λ fs. Lists c.args.listed.now fs × IsRunsOf fs c.args.runs.now) (data_if c.args.read_data) a a (Ok tt))
           (world (g.R.Rack.seen c.args.rack.now) c.args.vol.now) tt c.requires.ready
           (λ B known. adds_as [] (data_if c.args.read_data (filesystem c.args.vol.now B)) a a
           (ap (λ r. data_if r (filesystem c.args.vol.now B)) (sym c.if-read_data.false)) (adds_none a));

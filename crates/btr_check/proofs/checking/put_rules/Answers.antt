@@ -5,7 +5,7 @@ use Rattle.btr_findings.specs.Findings.{Adds}
 use Rattle.btr_check.specs.Families.{IsRunsOf, found_on_extents, found_on_devices, found_on_files}
 use Rattle.btr_check.specs.Filesystem.{Filesystem}
 use Rattle.btr_check.specs.Findings.{data_if, rule_findings}
-use Rattle.btr_check.specs.Passes.{IsWalked, Lists, Puts}
+use Rattle.btr_check.specs.Passes.{IsWalked, Lists, AddsFindings}
 use Rattle.btr_check.specs.Running.{world, filesystem, is_outside}
 use Rattle.btr_check.proofs.Passes.{unless_more}
 use Rattle.btr_check.proofs.Runs.{nothing, ran_both, ran_stop_within, ran_then}
@@ -61,8 +61,8 @@ returns-in-Ok-put_devices g c =
     )) in
     record {
       ran = ran_then {A = Unit {0}} {C = Unit {0}} (λ fs. known fs → IsRunsOf fs runs × Adds (found_on_extents fs ++ found_on_devices fs) one three)
-          (Puts (λ fs. Lists c.args.listed.now fs × IsRunsOf fs runs) rest three four c.put_contents.result)
-          (Puts known (rule_findings c.args.read_data) one four c.put_contents.result) x z w tt c.put_contents.result to_three c.put_contents.ensures.ran
+          (AddsFindings (λ fs. Lists c.args.listed.now fs × IsRunsOf fs runs) rest three four c.put_contents.result)
+          (AddsFindings known (rule_findings c.args.read_data) one four c.put_contents.result) x z w tt c.put_contents.result to_three c.put_contents.ensures.ran
           (λ B p q k. unless_more (λ u. Adds (rest (filesystem c.args.vol.now B)) three four)
           (λ u. Adds (rule_findings c.args.read_data (filesystem c.args.vol.now B)) one four) c.put_contents.result
           (λ u h. adds_then (found_on_extents (filesystem c.args.vol.now B) ++ found_on_devices (filesystem c.args.vol.now B))

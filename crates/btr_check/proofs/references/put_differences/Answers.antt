@@ -1,7 +1,7 @@
 use Rattle.std.proofs.Common.{◌≡◌, true, ◌∙◌}
 use Rattle.btr_findings.specs.Findings.{Adds}
 use Rattle.btr_check.specs.ExtentTree.{AreRefsOf}
-use Rattle.btr_check.specs.Passes.{AreUsed, IsCounted, IsWalked, ListsSound, PutsAnd}
+use Rattle.btr_check.specs.Passes.{AreUsed, IsCounted, IsWalked, ListsSound, AddsFindingsAnd}
 use Rattle.btr_check.specs.Running.{world, filesystem, is_outside}
 use Rattle.btr_check.specs.Uses.{difference_findings, found_on_counts, found_on_totals}
 use Rattle.btr_check.proofs.Passes.{unless_more}
@@ -32,8 +32,8 @@ returns-in-Ok g c =
     let three = c.put_counted.new.found in
     record {
       ran = ran_then (λ fs. ListsSound c.args.listed.now fs → AreRefsOf fs stored × Adds (found_on_totals fs) one two)
-          (PutsAnd (IsCounted c.args.trees.now places.items stored) AreUsed found_on_counts two three c.put_counted.result)
-          (PutsAnd (IsWalked c.args.listed.now c.args.trees.now c.args.walk) AreUsed difference_findings one three c.put_counted.result) x y z stored
+          (AddsFindingsAnd (IsCounted c.args.trees.now places.items stored) AreUsed found_on_counts two three c.put_counted.result)
+          (AddsFindingsAnd (IsWalked c.args.listed.now c.args.trees.now c.args.walk) AreUsed difference_findings one three c.put_counted.result) x y z stored
           c.put_counted.result c.in-Ok.ensures.ran c.put_counted.ensures.ran
           (λ B p q known.
           let fs = filesystem c.args.vol.now B in
