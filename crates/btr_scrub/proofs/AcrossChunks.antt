@@ -1,10 +1,9 @@
 -- What is written in one chunk leaves the others.
 use Rattle.std.proofs.Common.{◌≡◌, ℕ, zero, suc, ◌+◌, ◌*◌, ◌/◌, ◌<◌, ◌≤◌, Bool, true, false, cond, eqb, List, [], ◌∷◌, map, length, take, slice_get, All}
 use Rattle.std.proofs.Common.{Option, Some, None, is_none, IsSome, is_some, IsSomeAnd, refl, sym, ap, ◌∙◌, subst, inl, inr, arith}
-use Rattle.std.proofs.lemmas.Bool.{false≢true, and_parts, cases_order, eqb-true}
-use Rattle.std.proofs.lemmas.List.Elements.{All-append, All-nil}
+use Rattle.std.proofs.lemmas.Bool.{and_parts, cases_order, eqb-true}
 use Rattle.std.proofs.lemmas.Option.{same_Some}
-use Rattle.std.specs.List.{count_by, flat_map, fold, list_any, range_with_len, sum_by}
+use Rattle.std.specs.List.{count_by, fold, list_any, range_with_len, sum_by}
 use Rattle.btr_chunk.specs.Apart.{LiesIn}
 use Rattle.btr_chunk.specs.Chunk.{IsChunk, mirrors, stripe_length}
 use Rattle.btr_chunk.specs.Mapping.{HasPart, place_at, stripe_of}
@@ -18,7 +17,7 @@ use Rattle.btr_chunk.proofs.Apart.{stripes_apart}
 use Rattle.btr_chunk.proofs.Bytes.{placed_part}
 use Rattle.btr_chunk.proofs.Rule.{data_count-some, facts}
 use Rattle.btr_rack.specs.declared.place.Place.{Place as Range}
-use Rattle.btr_read.specs.Candidates.{Target, range_of, range_on}
+use Rattle.btr_read.specs.Candidates.{Target, range_of}
 use Rattle.btr_read.specs.Layout.{HaveOwnSlots, Layout, device_in}
 use Rattle.btr_read.specs.declared.device.Device.{Device}
 use Rattle.btr_read.specs.declared.want.Want.{Want}
@@ -33,12 +32,12 @@ use Rattle.btr_scrub.specs.BlocksInRows.{In}
 use Rattle.btr_scrub.specs.WrittenRanges.{KeepsOutside}
 use Rattle.btr_scrub.specs.Order.{IsSought, targets}
 use Rattle.btr_scrub.specs.Places.{IsOfElement}
-use Rattle.btr_scrub.specs.Repair.{covers, first_missing, is_in_chunk, is_in_row, is_missing, missing_stripes, row_of, rows_in}
+use Rattle.btr_scrub.specs.Repair.{covers, first_missing, is_in_chunk, is_in_row, row_of, rows_in}
 use Rattle.btr_scrub.specs.Scrubbing.{chunk_count_for, chunk_writes_for, all_writes_for, count_row, count_site}
 use Rattle.btr_scrub.specs.Scrubbing.{count_row_of, rows_count, rows_writes, sites_count, sites_in, sites_writes}
 use Rattle.btr_scrub.specs.declared.tally.Tally.{Tally}
-use Rattle.btr_scrub.proofs.Agreeing.{SiteAlike, of_mapped, site_alike}
-use Rattle.btr_scrub.proofs.Blockwise.{none_first, none_flat, none_passes, of_targets}
+use Rattle.btr_scrub.proofs.Agreeing.{SiteAlike, site_alike}
+use Rattle.btr_scrub.proofs.Blockwise.{of_targets, stripe_stands}
 use Rattle.btr_scrub.proofs.CopyWrites.{same_element, written_byte}
 use Rattle.btr_scrub_row.proofs.Elements.{range_stands, stands_on}
 use Rattle.btr_scrub.proofs.Places.{is_at}
@@ -46,9 +45,10 @@ use Rattle.btr_scrub.proofs.Positions.{IsCopyByte, is_sought, of_range, on_strip
 use Rattle.btr_scrub.proofs.RowAgreeing.{RowAlike, beside, flat_same, fold_same, row_writes_alike}
 use Rattle.btr_scrub.proofs.RowWrites.{IsBlockOf, IsRowIn, row_short, row_stays, written_row}
 use Rattle.btr_scrub.proofs.Scrubbing.{IsUnmoved}
-use Rattle.btr_scrub.proofs.Shorts.{Short, shorts_keep_if, site_short}
-use Rattle.btr_scrub.proofs.Writes.{any_flat, any_map}
+use Rattle.btr_scrub.proofs.Shorts.{site_short, flat_short}
 use Rattle.btr_scrub_copies.specs.Fresh.{Failing}
+use Rattle.btr_scrub.proofs.Pasting.{Short, shorts_keep_if, unwritten}
+use Rattle.btr_scrub.proofs.Lists.{of_mapped, any_flat}
 
 -- ---- which chunk a byte of a device is of
 
@@ -94,11 +94,6 @@ sum_same f g xs h = fold_same (λ a x. a + f x) (λ a x. a + g x) xs 0 (λ x i z
 
 count_same : {X : Type 0} (f g : X → Bool) (xs : List X) → ((x : X) → In x xs → f x ≡ g x) → count_by f xs ≡ count_by g xs
 count_same f g xs h = sum_same (λ x. cond (f x) 1 0) (λ x. cond (g x) 1 0) xs (λ x i. ap (λ b. cond b 1 0) (h x i))
-
-pub flat_short : {X : Type 0} (images : Images) (f : X → List Write) (xs : List X) → ((x : X) → In x xs → All (Short images) (f x))
-    → All (Short images) (flat_map f xs)
-flat_short images f [] h = All-nil (Short images)
-flat_short images f (x ∷ xs) h = All-append (Short images) (f x) (flat_map f xs) (h x (inl refl)) (flat_short images f xs (λ y i. h y (inr i)))
 
 -- one of the first elements has a number below theirs
 in_take : {X : Type 0} (n : ℕ) (xs : List X) (x : X) → In x (take n xs) → (j : ℕ) × (j < n) × (slice_get xs j ≡ Some x)
@@ -172,17 +167,12 @@ module _ (kept : Failing) (layout : Layout) (table : IsTable layout.chunks) (own
       let at0 : Elements = record { row = r; index = 0; rest = 0 } in
       let p = placed_part chunk q at0 sound has (record { index = data_count-some chunk.profile (length chunk.stripes) (facts chunk sound).count; inside = omega (arith, inside) }) in
       let place = place_at chunk q at0 in
-      let chunk_none = none_flat (missing_stripes layout.devices) layout.chunks number chunk (none_first (flat_map (missing_stripes layout.devices) layout.chunks) none) there in
       let k = stripe_of chunk.profile (length chunk.stripes) q at0 in
-      let stripe : is_missing layout.devices (stripe_length chunk) p.stripe ≡ false = none_passes (is_missing layout.devices (stripe_length chunk)) chunk.stripes k p.stripe chunk_none p.there in
-      let stands = stands_on p.stripe.offset (stripe_length chunk) (device_in layout.devices p.stripe.devid) (some_if (range_on p.stripe.offset (stripe_length chunk) (device_in layout.devices p.stripe.devid)) stripe) in
+      let stands = stands_on p.stripe.offset (stripe_length chunk) (device_in layout.devices p.stripe.devid)
+      (stripe_stands layout number k chunk p.stripe none there p.there) in
       let offset : place.offset ≡ p.stripe.offset + r * 65536 + 0 = ap (λ (x : StripePlace). x.offset) p.place in
       let given : device_in layout.devices place.devid ≡ Some stands.device = ap (λ (x : StripePlace). device_in layout.devices x.devid) p.place ∙ stands.there in
       ap is_some (range_stands place.offset 65536 (device_in layout.devices place.devid) stands.device given (omega (arith, stands.within, offset, inside)))
-    where
-      some_if : (o : Option Range) → is_none o ≡ false → IsSome o
-      some_if None e = absurd (false≢true (sym e))
-      some_if (Some r) e = refl
 
   pub row_is : (r : ℕ) → mirrors chunk ≡ None → r * 65536 + 65536 ≤ stripe_length chunk → OfRows (row_of kept (targets layout wants) chunk r)
   row_is r parity inside = record {
@@ -295,19 +285,10 @@ module _ (kept : Failing) (layout : Layout) (table : IsTable layout.chunks) (own
 
   before_free : (slot off : ℕ) → InChunk layout number slot off
       → list_any (covers slot off) (map (λ (w : Write). w.range) (all_writes_for kept layout (take number layout.chunks) wants images)) ≡ false
-  before_free slot off b = by (list_any (covers slot off) (map (λ (w : Write). w.range)
-      (all_writes_for kept layout (take number layout.chunks) wants images))) refl
-    where
-      by : (c : Bool) → list_any (covers slot off) (map (λ (w : Write). w.range) (all_writes_for kept layout (take number layout.chunks) wants images)) ≡ c
-          → list_any (covers slot off) (map (λ (w : Write). w.range) (all_writes_for kept layout (take number layout.chunks) wants images)) ≡ false
-      by false e = e
-      by true e =
-          let any : list_any (λ (w : Write). covers slot off w.range) (all_writes_for kept layout (take number layout.chunks) wants images) ≡ true = sym (any_map (covers slot off) (λ (w : Write). w.range) (all_writes_for kept layout (take number layout.chunks) wants images)) ∙ e in
-          let f = any_flat (λ (w : Write). covers slot off w.range) (λ c. chunk_writes_for kept layout c wants images) (take number layout.chunks) any in
-          let j = in_take number layout.chunks f.0 f.1 in
-          let in_j = chunk_byte kept layout table own none j.0 f.0 j.2 wants images lengths slot off f.2 in
-          let same = one_chunk layout j.0 number slot off table own in_j b in
-          absurd (omega (arith, same, j.1))
+  before_free slot off b = unwritten slot off (λ c. chunk_writes_for kept layout c wants images) (take number layout.chunks) (λ c i h.
+      let j = in_take number layout.chunks c i in
+      let same = one_chunk layout j.0 number slot off table own (chunk_byte kept layout table own none j.0 c j.2 wants images lengths slot off h) b in
+      omega (arith, same, j.1))
 
 -- what was written in the chunks before one leaves what is to be written and counted there
 pub chunk_unmoved : (kept : Failing) (layout : Layout) (write : Bool) (wants : List Want) (held : Option Images) (number : ℕ) (chunk : Chunk)

@@ -1,7 +1,6 @@
 -- What hangs on some bytes of the images stays where they do.
 use Rattle.std.proofs.Common.{◌≡◌, ℕ, ◌<◌, ◌&&◌, Bool, true, false, not, cond, List, [], ◌∷◌, length, map, slice_get, Option, Some, None, is_none, refl, ap, ◌∙◌, subst, inl, inr}
-use Rattle.std.proofs.lemmas.Bool.{and_parts, false≢true}
-use Rattle.std.proofs.lemmas.Option.{same_Some}
+use Rattle.std.proofs.lemmas.Bool.{and_parts, not-true}
 use Rattle.std.specs.List.{cons_option, filter, filter_map, range_with_len}
 use Rattle.std.specs.Option.{option_map, option_map_or}
 use Rattle.std.specs.Str.{bytes_eq}
@@ -24,6 +23,7 @@ use Rattle.btr_scrub_row.specs.Wanted.{mending_writes}
 use Rattle.btr_scrub.specs.BlocksInRows.{In}
 use Rattle.btr_scrub.specs.Scrubbing.{count_site, counted, counted_plain}
 use Rattle.btr_scrub.specs.declared.tally.Tally.{Tally}
+use Rattle.btr_scrub.proofs.Lists.{of_mapped, first_in}
 
 -- two tests that agree on all of a list pass the same
 pub filter_same : {X : Type 0} (p q : X → Bool) (xs : List X) → ((x : X) → In x xs → p x ≡ q x) → filter p xs ≡ filter q xs
@@ -37,11 +37,6 @@ filter_map_same f g [] h = refl
 filter_map_same f g (x ∷ xs) h =
     ap (λ o. cons_option o (filter_map f xs)) (h x (inl refl))
     ∙ ap (cons_option (g x)) (filter_map_same f g xs (λ y i. h y (inr i)))
-
-pub of_mapped : {X Y : Type 0} (f : X → Y) (y : Y) (xs : List X) → In y (map f xs) → (x : X) × In x xs × (f x ≡ y)
-of_mapped f y [] h = absurd h
-of_mapped f y (x ∷ xs) (inl e) = (x, inl refl, e)
-of_mapped f y (x ∷ xs) (inr h) = let r = of_mapped f y xs h in (r.0, inr r.1, r.2)
 
 -- what is told of one block
 pub record Alike (images images' : Images) (t : Target) : Type 0 where
@@ -71,19 +66,11 @@ pub record IsTrusted (fails : Failing) (t : Target) (c : Candidate) : Type 0 whe
   pub stand : stands t c ≡ true
   pub sure : reads_doubtful fails t c ≡ false
 
-pub first_in : {X : Type 0} (xs : List X) (x : X) → slice_get xs 0 ≡ Some x → In x xs
-first_in [] x e = cc
-first_in (y ∷ xs) x e = inl (same_Some y x e)
-
-not_true : (b : Bool) → not b ≡ true → b ≡ false
-not_true true e = absurd (false≢true e)
-not_true false e = refl
-
 pub trusted_from : (fails : Failing) (t : Target) (c : Candidate) → first_trusted fails t ≡ Some c → IsTrusted fails t c
 trusted_from fails t c e =
     let p = passing_filter (is_trusted fails t) c (candidates t) (first_in (filter (is_trusted fails t) (candidates t)) c e) in
     let both = and_parts (stands t c) (not (reads_doubtful fails t c)) p.1 in
-    record { there = p.0; stand = both.0; sure = not_true (reads_doubtful fails t c) both.1 }
+    record { there = p.0; stand = both.0; sure = not-true (reads_doubtful fails t c) both.1 }
 
 -- a plain sector whose candidates give the same, and at whose own places the same bytes stand
 module _ (images images' : Images) (t : Target) (values : (c : Candidate) → In c (candidates t) → value_of images' t c ≡ value_of images t c)

@@ -1,8 +1,8 @@
 -- The blocks of a chunk with copies, one after another.
-use Rattle.std.proofs.Common.{◌≡◌, ◌⊎◌, ℕ, zero, suc, ◌+◌, ◌<◌, ◌≤◌, Bool, true, false, cond, leb, ltb, List, [], ◌∷◌, ◌++◌, map, length, All, get_or}
-use Rattle.std.proofs.Common.{slice_get, Option, Some, None, IsSome, is_none, is_some, Result, Ok, Err, IsOk, refl, sym, ap, ◌∙◌, subst, inl, inr, arith}
+use Rattle.std.proofs.Common.{◌≡◌, ℕ, ◌+◌, ◌<◌, ◌≤◌, Bool, true, false, cond, leb, ltb, List, [], ◌∷◌, ◌++◌, map, length, get_or}
+use Rattle.std.proofs.Common.{slice_get, Option, Some, None, IsSome, is_some, Result, Ok, Err, IsOk, refl, sym, ap, ◌∙◌, subst, inl, inr, arith}
 use Rattle.std.proofs.Common.{append_assoc, append-nil}
-use Rattle.std.proofs.lemmas.Bool.{false≢true, and_parts, cases_order, eq-eqb, eqb-true, leb-true, ltb-true}
+use Rattle.std.proofs.lemmas.Bool.{false≢true, and_parts, cases_order, eq-eqb, eqb-true, leb-true, ltb-true, false_from_ne_true}
 use Rattle.std.proofs.lemmas.List.Elements.{filter-append, filter_map-append}
 use Rattle.std.proofs.lemmas.Grind.{flat_map-append}
 use Rattle.std.proofs.lemmas.List.{get_or-map, length-map}
@@ -15,7 +15,6 @@ use Rattle.btr_chunk.specs.declared.place.Part.TheVariants.{Mirror}
 use Rattle.btr_chunk.specs.Table.{IsTable}
 use Rattle.btr_chunk.specs.declared.chunk.Chunk.{Chunk}
 use Rattle.btr_rack.specs.Rack.{IsRack, Seen, Slot, no_slot}
-use Rattle.btr_rack.specs.declared.place.Place.{Place as Range}
 use Rattle.btr_read.specs.Candidates.{Target, range_of, range_on, size_of}
 use Rattle.btr_read.specs.Fate.{Fault, sought}
 use Rattle.btr_read.specs.Layout.{AreOpen, HaveOwnSlots, Layout, device_in}
@@ -23,7 +22,7 @@ use Rattle.btr_read.specs.Want.{addr_of, len_of}
 use Rattle.btr_read.specs.declared.want.Want.{Want}
 use Rattle.btr_scrub_copies.specs.Mending.{IsCopied}
 use Rattle.btr_scrub_copies.specs.declared.mended.MendFault.{MendFault}
-use Rattle.btr_scrub_copies.specs.Writes.{Images, Write, write_on, writes_if}
+use Rattle.btr_scrub_copies.specs.Writes.{Images, write_on, writes_if}
 use Rattle.btr_scrub_row.specs.Wanted.{mending_writes}
 use Rattle.btr_scrub.specs.BlocksInRows.{In}
 use Rattle.btr_scrub.specs.Order.{AreApart, IsSought, targets}
@@ -31,16 +30,20 @@ use Rattle.btr_scrub_copies.specs.Fresh.{Failing}
 use Rattle.btr_scrub.specs.Repair.{first_missing, is_in_chunk, is_missing, missing_stripes, ok_or_none}
 use Rattle.btr_scrub.specs.Scrubbing.{BeginsBehind, IsPastChunk, Scrubs, count_site, sites_count, sites_in, sites_writes}
 use Rattle.btr_scrub.specs.Devices.{HaveLengths}
-use Rattle.btr_scrub.specs.WrittenRanges.{Fits, KeepsOutside, alone}
+use Rattle.btr_scrub.specs.WrittenRanges.{alone}
 use Rattle.btr_scrub.specs.declared.tally.Tally.{Tally}
 use Rattle.btr_scrub.proofs.Scrubbing.{IsUnmoved, scrubs_as, scrubs_cut, scrubs_none, scrubs_then, told}
 use Rattle.btr_chunk.proofs.Rule.{facts}
 use Rattle.btr_read.proofs.Fates.{sought_of}
 use Rattle.btr_scrub.proofs.Positions.{is_sought, on_stripe}
 use Rattle.btr_scrub_row.proofs.Elements.{range_stands, stands_on}
-use Rattle.btr_scrub.proofs.Survival.{some_of}
-use Rattle.btr_scrub.proofs.CopyWrites.{AreCopied, all_fit, behind_alike}
-use Rattle.btr_scrub.proofs.Pasting.{writes_keep_the_rest}
+use Rattle.btr_scrub.proofs.CopyWrites.{AreCopied, behind_alike}
+use Rattle.btr_scrub.proofs.Shorts.{flat_short, site_short}
+use Rattle.btr_scrub.proofs.Pasting.{shorts_keep_if}
+use Rattle.btr_scrub.proofs.Lists.{some_of, some_if, in_flat, in_some, in_filter}
+use Rattle.btr_read.proofs.Ones.{in_either}
+use Rattle.std.proofs.lemmas.List.Sums.{fold-append}
+use Rattle.btr_chunk.specs.declared.stripe.Stripe.{Stripe}
 
 -- some blocks of a chunk are past, and mended
 pub record IsUnderway (fails : Failing) (layout : Layout) (write : Bool) (chunk : Chunk) (wants left : List Want) (marks marks' : List Bool) (old new : Seen) (tally tally' : Tally) : Type 0 where
@@ -62,15 +65,6 @@ filter_all p (x ∷ xs) h = ap (λ b. cond b (x ∷ filter p xs) (filter p xs)) 
 pub filter_none : {X : Type 0} (p : X → Bool) (xs : List X) → ((x : X) → In x xs → p x ≡ false) → filter p xs ≡ []
 filter_none p [] h = refl
 filter_none p (x ∷ xs) h = ap (λ b. cond b (x ∷ filter p xs) (filter p xs)) (h x (inl refl)) ∙ filter_none p xs (λ y i. h y (inr i))
-
-pub in_append : {X : Type 0} (x : X) (xs ys : List X) → In x (xs ++ ys) → In x xs ⊎ In x ys
-in_append x [] ys i = inr i
-in_append x (y ∷ xs) ys (inl e) = inl (inl e)
-in_append x (y ∷ xs) ys (inr i) = elim (in_append x xs ys i) [ inl j ↦ inl (inr j) | inr j ↦ inr j ]
-
-pub fold_append : {X Y : Type 0} (f : Y → X → Y) (y : Y) (xs ys : List X) → fold f y (xs ++ ys) ≡ fold f (fold f y xs) ys
-fold_append f y [] ys = refl
-fold_append f y (x ∷ xs) ys = fold_append f (f y x) xs ys
 
 -- a target of some wants is that of one of them
 pub of_targets : (layout : Layout) (t : Target) (wants : List Want) → In t (targets layout wants) → (want : Want) × In want wants × (sought layout want ≡ Ok t)
@@ -118,25 +112,21 @@ module _ (layout : Layout) (table : IsTable layout.chunks) (number : ℕ) (chunk
 
   -- one with an address behind it doesn't
   pub behind_not : (t : Target) (is : IsSought layout t) → chunk.start + chunk.length ≤ addr_of t.want → is_in_chunk chunk t ≡ false
-  behind_not t is behind = by (is_in_chunk chunk t) refl
-    where
-      by : (b : Bool) → is_in_chunk chunk t ≡ b → is_in_chunk chunk t ≡ false
-      by false e = e
-      by true e =
-          let start = eqb-true t.chunk.start chunk.start e in
-          elim (cases_order is.number number) [
-            | inl same ↦
-                let chunks : t.chunk ≡ chunk = same_Some t.chunk chunk (sym is.there ∙ ap (slice_get layout.chunks) same ∙ there) in
-                absurd (omega (arith, behind, (inside_of t is).1, start, ap (λ (c : Chunk). c.length) chunks))
-            | inr (inl before) ↦ absurd (omega (
-              arith,
-              (table.apart is.number number t.chunk chunk before is.there there).0,
-              (inside_of t is).0,
-              (inside_of t is).1,
-              start,
-            ))
-            | inr (inr after) ↦ absurd (omega (arith, (table.apart number is.number chunk t.chunk after there is.there).0, some_length, start))
-          ]
+  behind_not t is behind = false_from_ne_true (is_in_chunk chunk t) (λ e.
+      let start = eqb-true t.chunk.start chunk.start e in
+      elim (cases_order is.number number) [
+        | inl same ↦
+            let chunks : t.chunk ≡ chunk = same_Some t.chunk chunk (sym is.there ∙ ap (slice_get layout.chunks) same ∙ there) in
+            absurd (omega (arith, behind, (inside_of t is).1, start, ap (λ (c : Chunk). c.length) chunks))
+        | inr (inl before) ↦ absurd (omega (
+          arith,
+          (table.apart is.number number t.chunk chunk before is.there there).0,
+          (inside_of t is).0,
+          (inside_of t is).1,
+          start,
+        ))
+        | inr (inr after) ↦ absurd (omega (arith, (table.apart number is.number chunk t.chunk after there is.there).0, some_length, start))
+      ])
 
   -- the blocks of the chunk are those that are past
   pub blocks_are : (past left : List Want) → ((t : Target) → In t (targets layout past) → t.chunk ≡ chunk)
@@ -186,12 +176,6 @@ have_lengths rack layout images is open' held devid device given =
     let two : get_or (map (λ (slot : Slot). slot.len) rack.slots) device.slot 0 ≡ (get_or rack.slots device.slot no_slot).len = get_or-map (λ (slot : Slot). slot.len) rack.slots device.slot no_slot 0 o.slot in
     sym one ∙ ap (λ xs. get_or xs device.slot 0) sized ∙ two ∙ o.len
 
--- whether they are done or not, writes that fit keep all but their ranges
-pub keeps_if : (write : Bool) (images : Images) (ws : List Write) → All (Fits images) ws
-    → KeepsOutside (map (λ (w : Write). w.range) ws) images (fold write_on images (writes_if write ws))
-keeps_if true images ws fit = writes_keep_the_rest images ws fit
-keeps_if false images ws fit = record { count = refl; lengths = λ slot. refl; bytes = λ slot off e. refl }
-
 module _ (fails : Failing) (layout : Layout) (write : Bool) (chunk : Chunk) (n : ℕ) (copies : mirrors chunk ≡ Some n) (table : IsTable layout.chunks) (own : HaveOwnSlots layout.devices) where
   -- what is told of a block stays when those before it are mended
   unmoved : (past : List Want) (end : ℕ) (held : Option Images) (t : Target)
@@ -203,33 +187,26 @@ module _ (fails : Failing) (layout : Layout) (write : Bool) (chunk : Chunk) (n :
       let are : AreCopied fails images layout (lengths images e) ts = λ u i. let s = sound u i in (s.0, (n, ap mirrors s.1 ∙ copies)) in
       let ws = sites_writes fails ts images in
       let after = fold write_on images (writes_if write ws) in
-      let alike = behind_alike fails images layout (lengths images e) table own ts t are is n (ap mirrors mine ∙ copies) (λ u i. let s = (sound u i).2 in omega (arith, s, behind)) after (keeps_if write images ws (all_fit fails images layout (lengths images e) ts are)) in
+      let shorts = flat_short images (mending_writes images fails) ts (λ u i. site_short images layout (lengths images e) u (are u i).0 fails) in
+      let alike = behind_alike fails images layout (lengths images e) table own ts t are is n (ap mirrors mine ∙ copies)
+      (λ u i. let s = (sound u i).2 in omega (arith, s, behind)) after (shorts_keep_if write images ws shorts) in
       (alike.writes, alike.counts write)
 
 -- ---- which stripes stand
 
-pub none_first : {X : Type 0} (xs : List X) → slice_get xs 0 ≡ None → xs ≡ []
+none_first : {X : Type 0} (xs : List X) → slice_get xs 0 ≡ None → xs ≡ []
 none_first [] e = refl
 none_first (x ∷ xs) e = absurd (false≢true (sym (ap is_some e)))
 
-left_empty : {X : Type 0} (xs ys : List X) → xs ++ ys ≡ [] → (xs ≡ []) × (ys ≡ [])
-left_empty [] ys e = (refl, e)
-left_empty (x ∷ xs) ys e = cc
-
-pub none_flat : {X Y : Type 0} (g : X → List Y) (xs : List X) (i : ℕ) (x : X) → flat_map g xs ≡ [] → slice_get xs i ≡ Some x → g x ≡ []
-none_flat g [] i x e at = cc
-none_flat g (y ∷ xs) zero x e at = ap g (sym (same_Some y x at)) ∙ (left_empty (g y) (flat_map g xs) e).0
-none_flat g (y ∷ xs) (suc i) x e at = none_flat g xs i x (left_empty (g y) (flat_map g xs) e).1 at
-
-pub none_passes : {X : Type 0} (p : X → Bool) (xs : List X) (i : ℕ) (x : X) → filter p xs ≡ [] → slice_get xs i ≡ Some x → p x ≡ false
-none_passes p [] i x e at = cc
-none_passes p (y ∷ xs) i x e at = by (p y) refl e i at (none_passes p xs)
-  where
-    by : (b : Bool) → p y ≡ b → cond b (y ∷ filter p xs) (filter p xs) ≡ [] → (i : ℕ) → slice_get (y ∷ xs) i ≡ Some x
-        → ((i : ℕ) (x : _) → filter p xs ≡ [] → slice_get xs i ≡ Some x → p x ≡ false) → p x ≡ false
-    by true q e i at rest = cc
-    by false q e zero at rest = ap p (sym (same_Some y x at)) ∙ q
-    by false q e (suc i) at rest = rest i x e at
+-- each stripe stands where no device is missing
+pub stripe_stands : (layout : Layout) (i k : ℕ) (chunk : Chunk) (stripe : Stripe) → first_missing layout ≡ None → slice_get layout.chunks i ≡ Some chunk
+    → slice_get chunk.stripes k ≡ Some stripe → IsSome (range_on stripe.offset (stripe_length chunk) (device_in layout.devices stripe.devid))
+stripe_stands layout i k chunk stripe none there at =
+    let missing = missing_stripes layout.devices in
+    let test = is_missing layout.devices (stripe_length chunk) in
+    some_if (range_on stripe.offset (stripe_length chunk) (device_in layout.devices stripe.devid)) (false_from_ne_true (test stripe) (λ e.
+    subst (In stripe) (none_first (flat_map missing layout.chunks) none)
+    (in_flat missing chunk stripe layout.chunks (in_some chunk layout.chunks i there) (in_filter test stripe chunk.stripes (in_some stripe chunk.stripes k at) e))))
 
 -- each part of a block stands where no device is missing
 pub part_is_given : (layout : Layout) (t : Target) (part : Part) → IsTable layout.chunks → IsSought layout t
@@ -237,15 +214,10 @@ pub part_is_given : (layout : Layout) (t : Target) (part : Part) → IsTable lay
 part_is_given layout t part table is has none =
     let on = on_stripe layout t part table is has in
     let place = place_at t.chunk part t.at in
-    let chunk = none_flat (missing_stripes layout.devices) layout.chunks is.number t.chunk (none_first (flat_map (missing_stripes layout.devices) layout.chunks) none) is.there in
-    let stripe : is_missing layout.devices (stripe_length t.chunk) on.stripe ≡ false = none_passes (is_missing layout.devices (stripe_length t.chunk)) t.chunk.stripes on.number on.stripe chunk on.there in
-    let stands = stands_on on.stripe.offset (stripe_length t.chunk) (device_in layout.devices on.stripe.devid) (there (range_on on.stripe.offset (stripe_length t.chunk) (device_in layout.devices on.stripe.devid)) stripe) in
+    let stands = stands_on on.stripe.offset (stripe_length t.chunk) (device_in layout.devices on.stripe.devid)
+    (stripe_stands layout is.number on.number t.chunk on.stripe none is.there on.there) in
     let given : device_in t.devices place.devid ≡ Some stands.device = ap (λ ds. device_in ds place.devid) is.devices ∙ ap (device_in layout.devices) on.devid ∙ stands.there in
     ap is_some (range_stands place.offset (size_of t) (device_in t.devices place.devid) stands.device given (omega (arith, stands.within, on.end)))
-  where
-    there : (o : Option Range) → is_none o ≡ false → IsSome o
-    there None e = absurd (false≢true (sym e))
-    there (Some r) e = refl
 
 -- ---- the next block
 
@@ -340,7 +312,7 @@ module _ (fails : Failing) (layout : Layout) (write : Bool) (table : IsTable lay
             split = h.split ∙ ap (λ ws. h.past ++ ws) is ∙ sym (append_assoc h.past (want ∷ []) rest);
             end = addr_of want + len_of layout.setting want;
             from = omega (arith, next.from);
-            sound = λ t i. elim (in_append t (targets layout h.past) (next.target ∷ []) (subst (In t) ts i)) [
+            sound = λ t i. elim (in_either t (targets layout h.past) (next.target ∷ []) (subst (In t) ts i)) [
               | inl j ↦ let s = h.sound t j in (s.0, s.1, omega (arith, s.2, next.behind, next.ends))
               | inr (inl e) ↦ subst (λ u. IsSought layout u × (u.chunk ≡ chunk)
                   × (addr_of u.want + size_of u ≤ addr_of want + len_of layout.setting want)) e (next.is, next.mine, omega (arith, next.ends))
@@ -355,7 +327,7 @@ module _ (fails : Failing) (layout : Layout) (write : Bool) (table : IsTable lay
                 (λ images e. (
                   writes_more fails images (targets layout h.past) next.target,
                   sym
-                      (fold_append (count_site fails images write) tally (targets layout h.past) (next.target ∷ [])),
+                      (fold-append (count_site fails images write) tally (targets layout h.past) (next.target ∷ [])),
                 )) (both_done (Ok tt) one));
           }
 

@@ -1,9 +1,6 @@
 -- Where no image of a chunk is behind, nothing is stale there.
-use Rattle.std.proofs.Common.{◌≡◌, ℕ, zero, suc, Bool, true, false, ◌&&◌, ◌||◌, not, List, [], ◌∷◌, length, map, slice_get, Option, Some, None, refl, sym, ap, ◌∙◌}
-use Rattle.std.proofs.Common.{subst}
-use Rattle.std.proofs.lemmas.Bool.{false≢true}
-use Rattle.std.proofs.lemmas.Option.{same_Some}
-use Rattle.std.specs.List.{list_any, range_with_len}
+use Rattle.std.proofs.Common.{◌≡◌, ℕ, Bool, true, false, ◌&&◌, not, List, [], ◌∷◌, length, map, Option, Some, None, refl, sym, ap, ◌∙◌, subst, ◌||◌}
+use Rattle.std.specs.List.{range_with_len}
 use Rattle.std.specs.Option.{option_map_or}
 use Rattle.std.specs.Str.{bytes_eq}
 use Rattle.btr_chunk.specs.Chunk.{mirrors}
@@ -26,20 +23,12 @@ use Rattle.btr_scrub_copies.specs.Fresh.{Failing, fresh, fresh_writes, freshened
 use Rattle.btr_scrub.specs.BlocksInRows.{In}
 use Rattle.btr_scrub.specs.Judged.{has_behind, has_older, is_older}
 use Rattle.btr_scrub.specs.Order.{IsSought}
-use Rattle.btr_scrub.proofs.Agreeing.{of_mapped}
 use Rattle.btr_scrub.proofs.Blockwise.{filter_none}
-use Rattle.btr_scrub.proofs.Keepings.{any_none}
 use Rattle.btr_scrub.proofs.Positions.{on_stripe}
-
-or_false : (a b : Bool) → (a || b) ≡ false → (a ≡ false) × (b ≡ false)
-or_false true b e = absurd (false≢true (sym e))
-or_false false b e = (refl, e)
-
--- no element of a list has what none has
-pub none_of : {X : Type 0} (p : X → Bool) (xs : List X) (i : ℕ) (x : X) → list_any p xs ≡ false → slice_get xs i ≡ Some x → p x ≡ false
-none_of p [] i x none e = cc
-none_of p (y ∷ ys) zero x none e = ap p (sym (same_Some y x e)) ∙ (or_false (p y) (list_any p ys) none).0
-none_of p (y ∷ ys) (suc i) x none e = none_of p ys i x (or_false (p y) (list_any p ys) none).1 e
+use Rattle.btr_chunk.proofs.Searches.{fails-list_any, list_any-false}
+use Rattle.btr_scrub.proofs.Lists.{of_mapped}
+use Rattle.std.proofs.lemmas.Bool.{and_left, or_parts}
+use Rattle.btr_scrub_copies.specs.Fresh.{is_doubtful}
 
 -- an image that isn't older isn't behind
 calm_device : (fails : Failing) (devices : List Member) (devid : ℕ) → is_older devices devid ≡ false → is_behind devices fails devid ≡ false
@@ -50,11 +39,20 @@ calm_device fails devices devid h = by (device_in devices devid) h
     by None h = refl
     by (Some device) h = ap (λ b. b && fails device.slot) h
 
+-- an image that isn't in doubt isn't behind
+pub sure_device : (fails : Failing) (devices : List Member) (devid : ℕ) → is_doubtful devices fails devid ≡ false → is_behind devices fails devid ≡ false
+sure_device fails devices devid h = by (device_in devices devid) h
+  where
+    by : (o : Option Device) → option_map_or (λ device. device.older || fails device.slot) o false ≡ false
+        → option_map_or (λ device. device.older && fails device.slot) o false ≡ false
+    by None h = refl
+    by (Some device) h = and_left device.older (fails device.slot) (or_parts device.older (fails device.slot) h).0
+
 -- nor is one of a chunk without older ones
 pub calm_chunk : (fails : Failing) (devices : List Member) (chunk : Chunk) → has_older devices chunk ≡ false → has_behind devices fails chunk ≡ false
 calm_chunk fails devices chunk h =
-    any_none (λ (stripe : Stripe). is_behind devices fails stripe.devid) chunk.stripes
-    (λ i stripe e. calm_device fails devices stripe.devid (none_of (λ (stripe : Stripe). is_older devices stripe.devid) chunk.stripes i stripe h e))
+    list_any-false (λ (stripe : Stripe). is_behind devices fails stripe.devid) chunk.stripes
+    (λ i stripe e. calm_device fails devices stripe.devid (fails-list_any (λ (stripe : Stripe). is_older devices stripe.devid) chunk.stripes h i stripe e))
 
 -- nothing is done for a sector
 abbrev pub nothing : Mended
@@ -71,7 +69,7 @@ module _ (fails : Failing) (layout : Layout) (t : Target) (n : ℕ) (table : IsT
       ap (is_on_behind fails t) (sym k.2)
       ∙ ap (λ ds. is_behind ds fails (place_at t.chunk (Mirror k.0) t.at).devid) is.devices
       ∙ ap (is_behind layout.devices fails) on.devid
-      ∙ none_of (λ (stripe : Stripe). is_behind layout.devices fails stripe.devid) t.chunk.stripes on.number on.stripe calm on.there
+      ∙ fails-list_any (λ (stripe : Stripe). is_behind layout.devices fails stripe.devid) t.chunk.stripes calm on.number on.stripe on.there
 
   module _ (images : Images) where
     pub none_stale : stale_parts images fails t ≡ []

@@ -1,9 +1,8 @@
 -- A full stripe that holds nothing but plain sectors, in a chunk no image of which is in doubt: nothing is written there, and nothing counted.
-use Rattle.std.proofs.Common.{◌≡◌, ℕ, Bool, true, false, not, cond, ◌&&◌, ◌||◌, List, [], ◌∷◌, ◌++◌, length, map, nat_lt, Option, Some, None}
+use Rattle.std.proofs.Common.{◌≡◌, ℕ, Bool, true, false, not, cond, ◌&&◌, ◌||◌, List, [], ◌∷◌, ◌++◌, length, map, nat_lt, None}
 use Rattle.std.proofs.Common.{IsNone, is_some, Ok, refl, sym, ap, ◌∙◌, subst, inl, inr}
 use Rattle.std.specs.List.{filter_map, flat_map, list_all, list_any, range_with_len}
 use Rattle.std.specs.Option.{option_map_or}
-use Rattle.std.proofs.lemmas.Bool.{false≢true}
 use Rattle.btr_chunk.specs.Chunk.{mirrors}
 use Rattle.btr_chunk.specs.Mapping.{IsPosition, place_at}
 use Rattle.btr_chunk.specs.Table.{IsTable}
@@ -13,13 +12,11 @@ use Rattle.btr_chunk.specs.declared.stripe.Stripe.{Stripe}
 use Rattle.btr_chunk.proofs.Bytes.{IsPosition-position}
 use Rattle.btr_read.specs.Candidates.{Target}
 use Rattle.btr_read.specs.Fate.{is_plain, sought}
-use Rattle.btr_read.specs.Layout.{Layout, device_in}
+use Rattle.btr_read.specs.Layout.{Layout}
 use Rattle.btr_read.specs.Want.{addr_of}
-use Rattle.btr_read.specs.declared.device.Device.{Device}
-use Rattle.btr_read.specs.declared.device.Member.{Member}
 use Rattle.btr_read.specs.declared.want.Want.{Want}
 use Rattle.btr_scrub_copies.specs.Blocks.{accepted, bad_parts, copy_writes, is_lost}
-use Rattle.btr_scrub_copies.specs.Fresh.{Failing, fresh, is_behind, is_doubtful, is_on_behind, is_on_doubtful, stale_parts}
+use Rattle.btr_scrub_copies.specs.Fresh.{fresh, is_behind, is_doubtful, is_on_behind, is_on_doubtful, stale_parts}
 use Rattle.btr_scrub_copies.specs.Writes.{Images}
 use Rattle.btr_scrub_copies.proofs.Freshness.{none_stale}
 use Rattle.btr_scrub_row.specs.Mending.{IsOn, IsRowOf, is_at, mended_row}
@@ -32,10 +29,12 @@ use Rattle.btr_scrub.specs.BlocksInRows.{In}
 use Rattle.btr_scrub.specs.Order.{IsSought}
 use Rattle.btr_scrub.specs.Rowing.{IsCalm, untouched}
 use Rattle.btr_scrub.proofs.Blockwise.{filter_none}
-use Rattle.btr_scrub.proofs.Calm.{none_of}
 use Rattle.btr_scrub.proofs.Lists.{all_in}
 use Rattle.btr_scrub.proofs.Positions.{is_sought, on_stripe}
 use Rattle.btr_scrub.proofs.Sums.{sum_zero}
+use Rattle.btr_chunk.proofs.Searches.{fails-list_any}
+use Rattle.btr_scrub.proofs.Calm.{sure_device}
+use Rattle.std.proofs.Math.Bool.{or-false}
 
 -- ---- lists
 
@@ -53,19 +52,6 @@ none_decided meets sure (t ∷ ts) h = by (meets t) (sure t) (h t (inl refl)) (n
         → ((m || list_any meets ts) && ((not m || s) && list_all (λ t. not (meets t) || sure t) ts)) ≡ false
     by true s e rest = ap (λ s. s && list_all (λ t. not (meets t) || sure t) ts) e
     by false s e rest = rest
-
--- an image that isn't in doubt isn't behind
-sure_device : (fails : Failing) (devices : List Member) (devid : ℕ) → is_doubtful devices fails devid ≡ false → is_behind devices fails devid ≡ false
-sure_device fails devices devid e = by (device_in devices devid) e
-  where
-    both : (a b : Bool) → (a || b) ≡ false → (a && b) ≡ false
-    both true b e = absurd (false≢true (sym e))
-    both false b e = refl
-
-    by : (o : Option Device) → option_map_or (λ device. device.older || fails device.slot) o false ≡ false
-        → option_map_or (λ device. device.older && fails device.slot) o false ≡ false
-    by None e = refl
-    by (Some device) e = both device.older (fails device.slot) e
 
 -- each block of a row is one of its wants, and has a position
 pub sought_of_row : (layout : Layout) (wants : List Want) (ts : List Target) → map (sought layout) wants ≡ map is_at ts → (t : Target) → In t ts
@@ -105,16 +91,12 @@ module _ (layout : Layout) (table : IsTable layout.chunks) (start number : ℕ) 
         ap (λ ds. is_behind ds row.failing (place_at t.chunk (Slice t.at.index) t.at).devid) is.devices
         ∙ ap (is_behind layout.devices row.failing) at.devid
         ∙ sure_device row.failing layout.devices at.stripe.devid
-        (none_of (λ (stripe : Stripe). is_doubtful layout.devices row.failing stripe.devid) t.chunk.stripes at.number at.stripe sure at.there)
-
-    or_false : (b : Bool) → (b || false) ≡ b
-    or_false true = refl
-    or_false false = refl
+        (fails-list_any (λ (stripe : Stripe). is_doubtful layout.devices row.failing stripe.devid) t.chunk.stripes sure at.number at.stripe at.there)
 
     module _ (images : Images) where
       unstale : stale_parts images row.failing t ≡ []
       unstale = none_stale images row.failing t
-          (ap (list_any (is_on_behind row.failing t)) (own_are images t none) ∙ or_false (is_on_behind row.failing t (Slice t.at.index)) ∙ not_behind)
+          (ap (list_any (is_on_behind row.failing t)) (own_are images t none) ∙ or-false (is_on_behind row.failing t (Slice t.at.index)) ∙ not_behind)
 
       none_wrong : wrong_parts images row.failing t ≡ []
       none_wrong = ap (λ b. cond b (stale_parts images row.failing t) (bad_parts images t)) plain ∙ unstale

@@ -1,6 +1,5 @@
 -- The chunks of a table, one after another, and the scan of each.
-use Rattle.std.proofs.Common.{◌≡◌, ℕ, suc, ◌+◌, ◌-◌, List, [], ◌∷◌, drop, slice_get, Contains, Option, Some, None, Result, sym, ap, ◌∙◌, subst, add-one}
-use Rattle.std.proofs.Common.{drop-cons}
+use Rattle.std.proofs.Common.{◌≡◌, ℕ, ◌+◌, ◌-◌, List, [], drop, slice_get, Contains, Option, Some, None, Result, ap, ◌∙◌, subst}
 use Rattle.std.proofs.lemmas.Option.{get_or_from_slice_get, slice_get_within}
 use Rattle.btr_chunk.specs.declared.chunk.Chunk.{Chunk}
 use Rattle.btr_prog.specs.Answers.{Follows, no_part}
@@ -23,19 +22,15 @@ use Rattle.btr_volume.specs.declared.volume.Volume.{Volume}
 use Rattle.btr_walk.proofs.Joined.{drawn}
 use Rattle.btr_walk.proofs.Lending.{same_then}
 use Rattle.btr_scrub.specs.Extents.{span_of}
-use Rattle.btr_scrub.specs.Gathering.{Gathers, Scene, ended, scene}
+use Rattle.btr_scrub.specs.Gathering.{Gathers, Scene, scene}
 use Rattle.btr_scrub.specs.Scanning.{IsSpanAt, IsSpanIn, Scanned}
 use Rattle.btr_scrub.specs.Units.{in_chunk, in_chunks, items_met}
 use Rattle.btr_scrub.specs.declared.extent.Span.{Span}
+use Rattle.btr_volume.specs.Stops.{ended}
+use Rattle.btr_scrub.proofs.Firsts.{drop_one}
 
 pub contains_at : (chunks : List Chunk) (i : ℕ) (chunk : Chunk) → slice_get chunks i ≡ Some chunk → Contains chunks chunk
 contains_at chunks i chunk e = (i, slice_get_within chunks i chunk e, get_or_from_slice_get chunks i chunk chunk e)
-
-pub drop_at : (chunks : List Chunk) (i : ℕ) (chunk : Chunk) → slice_get chunks i ≡ Some chunk → drop i chunks ≡ chunk ∷ drop (i + 1) chunks
-drop_at chunks i chunk e =
-    drop-cons chunks i chunk (slice_get_within chunks i chunk e)
-    ∙ ap (λ c. c ∷ drop (suc i) chunks) (get_or_from_slice_get chunks i chunk chunk e)
-    ∙ ap (λ n. chunk ∷ drop n chunks) (sym (add-one i))
 
 -- the span of the chunk of a number is that of a chunk of the table
 pub span_in : (layout layout' : Layout) (i : ℕ) (span : Span) → layout' ≡ layout → IsSpanAt layout' i span → IsSpanIn layout' span
@@ -44,7 +39,7 @@ span_in layout layout' i span same at = record { chunk = at.chunk; is = at.is; t
 -- what is left from a chunk on begins with it
 pub chunk_first : (s : Super) (sums : Option TreeRoot) (extents : TreeRoot) (chunks : List Chunk) (i : ℕ) (chunk : Chunk) → slice_get chunks i ≡ Some chunk
     → in_chunks s sums extents (drop i chunks) ≡ bind (in_chunk s sums chunk extents) (λ _. in_chunks s sums extents (drop (i + 1) chunks))
-chunk_first s sums extents chunks i chunk e = ap (in_chunks s sums extents) (drop_at chunks i chunk e)
+chunk_first s sums extents chunks i chunk e = ap (in_chunks s sums extents) (drop_one chunks i chunk e)
 
 -- the range of a chunk's extents, by its span
 pub range_of_span : (span : Span) (chunk : Chunk) (root : RootPlace) → span ≡ span_of chunk

@@ -11,7 +11,7 @@ use Rattle.btr_chunk.specs.declared.profile.Profile.{Profile}
 use Rattle.btr_chunk.specs.declared.profile.Profile.TheVariants.{Raid5, Raid6}
 use Rattle.btr_chunk.specs.declared.place.Part.TheVariants.{Mirror, Slice, P, Q}
 use Rattle.btr_chunk.proofs.Rows.{without_copies}
-use Rattle.btr_read.specs.Candidates.{Target, candidates, copies, parts_read, range_of, rebuilt, size_of, slice_count, stands, value_of, ways}
+use Rattle.btr_read.specs.Candidates.{Target, candidates, copies, parts_read, rebuilt, size_of, slice_count, stands, value_of, ways}
 use Rattle.btr_read.specs.Candidates as read
 use Rattle.btr_read.specs.Fate.{is_plain}
 use Rattle.btr_read.specs.Layout.{Layout}
@@ -30,11 +30,10 @@ use Rattle.btr_scrub.specs.BlocksInRows.{In, IsNearly}
 use Rattle.btr_scrub.specs.Right.{StandsFor}
 use Rattle.btr_scrub.specs.Survival.{AreBehind, FewAreFewAt, IsSoundBlock, IsSoundRow, KeepsRight, RightPasses, RowSurvives}
 use Rattle.btr_scrub.proofs.Elements.{block_of_element, part_stands}
-use Rattle.btr_scrub.proofs.Lists.{any_in, in_any}
+use Rattle.btr_scrub.proofs.Lists.{any_in, in_any, in_filter, some_of}
 use Rattle.btr_scrub.proofs.Stripes.{any_of, row_gives_blocks}
 use Rattle.btr_scrub.proofs.OwnPlaces.{wrong_own}
-use Rattle.btr_scrub.proofs.Survival.{at_range, block_there, in_filter, own_slice, range_same, right, right_checked, right_is, right_long, right_part}
-use Rattle.btr_scrub.proofs.Survival.{slice_there, some_of}
+use Rattle.btr_scrub.proofs.Survival.{at_range, block_there, own_slice, range_same, right, right_checked, right_is, right_long, right_part, slice_there}
 use Rattle.btr_scrub.proofs.Wrong.{bad_block_is_wrong}
 
 -- without copies a block's own place is a candidate

@@ -1,8 +1,7 @@
 -- The writes of blocks with copies leave the bytes of the blocks behind them.
-use Rattle.std.proofs.Common.{◌≡◌, ℕ, ◌+◌, ◌<◌, ◌≤◌, Bool, true, false, not, cond, ◌&&◌, List, [], ◌∷◌, map, length, All, slice_get, Option, Some, None, IsSome}
+use Rattle.std.proofs.Common.{◌≡◌, ℕ, ◌+◌, ◌<◌, ◌≤◌, Bool, true, false, not, cond, List, [], ◌∷◌, map, length, slice_get, Option, Some, None, IsSome}
 use Rattle.std.proofs.Common.{is_some, IsSomeAnd, refl, sym, ap, ◌∙◌, subst, inl, inr, arith}
 use Rattle.std.proofs.lemmas.Bool.{false≢true}
-use Rattle.std.proofs.lemmas.List.Elements.{All-append, All-cons, All-nil}
 use Rattle.std.proofs.lemmas.Option.{same_Some}
 use Rattle.std.specs.List.{cons_option, filter, filter_map, flat_map, list_any, range_with_len}
 use Rattle.std.specs.Option.{option_map, option_map_or}
@@ -13,14 +12,12 @@ use Rattle.btr_chunk.specs.declared.place.Part.{Part}
 use Rattle.btr_chunk.specs.declared.place.Part.TheVariants.{Mirror, Slice}
 use Rattle.btr_rack.specs.Rack.{bytes_of, image_of, range_in}
 use Rattle.btr_rack.specs.declared.place.Place.{Place as Range}
-use Rattle.btr_read.specs.Candidates.{Target, candidates, element, range_of, reading, size_of, value_of}
+use Rattle.btr_read.specs.Candidates.{Target, element, range_of, reading, size_of, value_of}
 use Rattle.btr_read.specs.Layout.{HaveOwnSlots, Layout, device_in}
 use Rattle.btr_read.specs.Want.{addr_of, passes}
 use Rattle.btr_read.specs.declared.candidate.Candidate.{Candidate}
-use Rattle.btr_read.specs.declared.candidate.Candidate.TheVariants.{Read}
 use Rattle.btr_read.specs.declared.device.Device.{Device}
 use Rattle.btr_read.proofs.Ones.{in_below}
-use Rattle.btr_read.proofs.Order.{in_ways, with_copies}
 use Rattle.btr_read.proofs.Pieces.{length-slice_range}
 use Rattle.btr_read.specs.Fate.{is_plain}
 use Rattle.btr_scrub_copies.specs.Blocks.{accepted, bad_parts, block_writes, copy_writes, is_sound, own_parts, written_over}
@@ -30,17 +27,18 @@ use Rattle.btr_scrub_copies.proofs.Copied.{has_mirror}
 use Rattle.btr_scrub_row.specs.Wanted.{mending_writes}
 use Rattle.btr_scrub.specs.Devices.{HaveLengths}
 use Rattle.btr_scrub.specs.BlocksInRows.{In}
-use Rattle.btr_scrub.specs.WrittenRanges.{Fits, KeepsOutside}
+use Rattle.btr_scrub.specs.WrittenRanges.{KeepsOutside}
 use Rattle.btr_scrub.specs.Order.{IsSought}
 use Rattle.btr_scrub.specs.Repair.{covers}
 use Rattle.btr_scrub_copies.specs.Fresh.{Failing, first_trusted, fresh, fresh_writes, stale_parts}
-use Rattle.btr_scrub.proofs.Agreeing.{IsTrusted, SiteAlike, of_mapped, site_alike, trusted_from}
+use Rattle.btr_scrub.proofs.Agreeing.{IsTrusted, SiteAlike, site_alike, trusted_from}
 use Rattle.btr_scrub_row.proofs.Elements.{range_stands, stands_on}
 use Rattle.btr_scrub.proofs.Positions.{IsCopyByte, of_range, shares}
 use Rattle.btr_scrub.proofs.OwnPlaces.{stale_own}
 use Rattle.btr_scrub.proofs.Places.{covered}
 use Rattle.btr_scrub.proofs.Survival.{range_same}
-use Rattle.btr_scrub.proofs.Writes.{any_filter_map, any_flat, any_map, mapped}
+use Rattle.btr_scrub.proofs.Lists.{of_mapped, mapped, any_filter_map}
+use Rattle.btr_scrub.proofs.Pasting.{unwritten}
 
 -- ---- a range that stands
 
@@ -150,65 +148,6 @@ module _ (fails : Failing) (images : Images) (layout : Layout) (lengths : HaveLe
     own : own_parts t ≡ map Mirror (range_with_len 0 n)
     own = ap (λ o. option_map_or (λ copies. map Mirror (range_with_len 0 copies)) o (Slice t.at.index ∷ [])) has
 
-    long_reading : (k : ℕ) (bytes : List ℕ) → reading images t (Read (Mirror k)) ≡ Some bytes → length bytes ≡ size_of t
-    long_reading k bytes e = by (is_some (range_of t (Mirror k))) refl e
-      where
-        by : (b : Bool) → is_some (range_of t (Mirror k)) ≡ b → cond (b && true) (Some (element images t (Mirror k))) None ≡ Some bytes → length bytes
-            ≡ size_of t
-        by true s e = ap length (sym (same_Some (element images t (Mirror k)) bytes e)) ∙ long_element images layout t (Mirror k) lengths is s
-        by false s e = cc
-
-    long_accepted : (bytes : List ℕ) → accepted images t ≡ Some bytes → length bytes ≡ size_of t
-    long_accepted bytes e =
-        let f = first_of images t (candidates t) bytes e in
-        let m = of_mapped (λ k. Read (Mirror k)) f.0 (range_with_len 0 n) (subst (In f.0) (with_copies t n has) (in_ways t f.0 f.1)) in
-        long_reading m.0 bytes (ap (reading images t) m.2 ∙ f.2)
-
-    -- the fresh bytes of a plain sector are the reading of a candidate
-    long_fresh : (bytes : List ℕ) → fresh images fails t ≡ Some bytes → length bytes ≡ size_of t
-    long_fresh bytes e =
-        let f = fresh_from fails images t bytes e in
-        let m = of_mapped (λ k. Read (Mirror k)) f.way (range_with_len 0 n) (subst (In f.way) (with_copies t n has) (in_ways t f.way f.trusted.there)) in
-        long_reading m.0 bytes (ap (reading images t) m.2 ∙ f.reads)
-
-    -- the writes over copies fit
-    over_fit : (bytes : List ℕ) (parts : List Part) → length bytes ≡ size_of t → All (Fits images) (copy_writes t bytes parts)
-    over_fit bytes [] long = All-nil (Fits images)
-    over_fit bytes (part ∷ parts) long = by (range_of t part) refl (over_fit bytes parts long)
-      where
-        by : (o : Option Range) → range_of t part ≡ o → All (Fits images) (copy_writes t bytes parts)
-            → All (Fits images) (cons_option (option_map (λ (range : Range). record { range = range; bytes = bytes }) o) (copy_writes t bytes parts))
-        by None e rest = rest
-        by (Some range) e rest =
-            let there = is_there images layout t part range lengths is e in
-            let slot : range.slot ≡ there.device.slot = ap (λ (r : Range). r.slot) there.is in
-            let off : range.off ≡ (place_at t.chunk part t.at).offset = ap (λ (r : Range). r.off) there.is in
-            let len : range.len ≡ size_of t = ap (λ (r : Range). r.len) there.is in
-            let image : length (image_of images range.slot) ≡ length (image_of images there.device.slot) = ap (λ s. length (image_of images s)) slot in
-            All-cons (Fits images) (record { range = range; bytes = bytes }) (copy_writes t bytes parts) (record { long = long ∙ sym len; within = omega (arith, there.within, off, len, image) }) rest
-
-    block_fits : All (Fits images) (block_writes images t)
-    block_fits = by (accepted images t) refl
-      where
-        by : (o : Option (List ℕ)) → accepted images t ≡ o → All (Fits images) (option_map_or (written_over images t) o [])
-        by None e = All-nil (Fits images)
-        by (Some bytes) e = over_fit bytes (bad_parts images t) (long_accepted bytes e)
-
-    fresh_fits : All (Fits images) (fresh_writes images fails t)
-    fresh_fits = by (fresh images fails t) refl
-      where
-        by : (o : Option (List ℕ)) → fresh images fails t ≡ o
-            → All (Fits images) (option_map_or (λ bytes. copy_writes t bytes (stale_parts images fails t)) o [])
-        by None e = All-nil (Fits images)
-        by (Some bytes) e = over_fit bytes (stale_parts images fails t) (long_fresh bytes e)
-
-    pub site_fits : All (Fits images) (mending_writes images fails t)
-    site_fits = by (is_plain t.want)
-      where
-        by : (b : Bool) → All (Fits images) (cond b (fresh_writes images fails t) (block_writes images t))
-        by true = fresh_fits
-        by false = block_fits
-
     -- each byte that is written over some of the copies is one of a copy
     over_byte : (slot off : ℕ) (bytes : List ℕ) (parts : List Part) → ((part : Part) → In part parts → In part (own_parts t))
         → list_any (λ (w : Write). covers slot off w.range) (copy_writes t bytes parts) ≡ true → IsCopyByte layout t slot off
@@ -250,28 +189,15 @@ module _ (fails : Failing) (images : Images) (layout : Layout) (lengths : HaveLe
   abbrev pub AreCopied : List Target → Type 0
   AreCopied ts = (t : Target) → In t ts → IsSought layout t × ((n : ℕ) × (mirrors t.chunk ≡ Some n))
 
-  pub all_fit : (ts : List Target) → AreCopied ts → All (Fits images) (flat_map (mending_writes images fails) ts)
-  all_fit [] are = All-nil (Fits images)
-  all_fit (t ∷ ts) are =
-      let a = are t (inl refl) in
-      All-append (Fits images) (mending_writes images fails t) (flat_map (mending_writes images fails) ts) (site_fits t a.0 a.1.0 a.1.1) (all_fit ts (λ u i. are u (inr i)))
-
   module _ (table : IsTable layout.chunks) (own_slots : HaveOwnSlots layout.devices) where
     -- a byte of a block that lies behind others isn't written for them
     free_byte : (ts : List Target) (u : Target) → AreCopied ts → IsSought layout u
         → ((t : Target) → In t ts → addr_of t.want + size_of t ≤ addr_of u.want) → (slot off : ℕ) → IsCopyByte layout u slot off
         → list_any (covers slot off) (map (λ (w : Write). w.range) (flat_map (mending_writes images fails) ts)) ≡ false
-    free_byte ts u are us before slot off b = by (list_any (covers slot off) (map (λ (w : Write). w.range) (flat_map (mending_writes images fails) ts))) refl
-      where
-        by : (c : Bool) → list_any (covers slot off) (map (λ (w : Write). w.range) (flat_map (mending_writes images fails) ts)) ≡ c
-            → list_any (covers slot off) (map (λ (w : Write). w.range) (flat_map (mending_writes images fails) ts)) ≡ false
-        by false e = e
-        by true e =
-            let any : list_any (λ (w : Write). covers slot off w.range) (flat_map (mending_writes images fails) ts) ≡ true = sym (any_map (covers slot off) (λ (w : Write). w.range) (flat_map (mending_writes images fails) ts)) ∙ e in
-            let f = any_flat (λ (w : Write). covers slot off w.range) (mending_writes images fails) ts any in
-            let a = are f.0 f.1 in
-            let s = shares layout f.0 u slot off table own_slots a.0 us (written_byte f.0 a.0 a.1.0 a.1.1 slot off f.2) b in
-            absurd (omega (arith, s.same, s.below, before f.0 f.1))
+    free_byte ts u are us before slot off b = unwritten slot off (mending_writes images fails) ts (λ t i h.
+        let a = are t i in
+        let s = shares layout t u slot off table own_slots a.0 us (written_byte t a.0 a.1.0 a.1.1 slot off h) b in
+        omega (arith, s.same, s.below, before t i))
 
     -- so what is told of it stays, whatever of those writes is done
     pub behind_alike : (ts : List Target) (u : Target) → AreCopied ts → IsSought layout u → (n : ℕ) → mirrors u.chunk ≡ Some n

@@ -3,8 +3,7 @@ use Rattle.std.proofs.Common.{◌≡◌, ℕ, ◌+◌, ◌<◌, ◌≤◌, Bool,
 use Rattle.std.proofs.Common.{Some, None, IfSome, IsNone, IsOk, IsOkAnd, inl, inr, Result, Ok, Err, refl, sym, ap, ◌∙◌, subst, arith}
 use Rattle.std.proofs.Math.Bool.{or-false}
 use Rattle.std.proofs.lemmas.Bool.{eq-eqb, eqb-true, false≢true}
-use Rattle.std.proofs.lemmas.List.{append_assoc, append-nil}
-use Rattle.std.proofs.lemmas.List.{get_or-set_other, get_or-set_same}
+use Rattle.std.proofs.lemmas.List.{append_assoc, append-nil, get_or-set_other, get_or-set_same}
 use Rattle.std.proofs.lemmas.List.Folds.{list_any-append}
 use Rattle.std.proofs.lemmas.Option.{same_Some}
 use Rattle.std.specs.List.{list_any, range_with_len}
@@ -38,8 +37,9 @@ use Rattle.btr_scrub.specs.WrittenRanges.{LiesInStripe}
 use Rattle.btr_scrub.specs.Listed.{PassesIf}
 use Rattle.btr_scrub.specs.Order.{AreApart, IsSought, targets}
 use Rattle.btr_scrub.proofs.Blockwise.{one_target}
-use Rattle.btr_scrub.proofs.Keepings.{any_none}
 use Rattle.btr_scrub.proofs.Positions.{in_stripe}
+use Rattle.btr_chunk.proofs.Searches.{list_any-false}
+use Rattle.btr_scrub.proofs.Lists.{any_map}
 
 -- ---- one part
 
@@ -76,10 +76,6 @@ module _ (images : Images) (t : Target) (part : Part) (flags : List Bool) where
   -- no flag is needed
   flags_still : ((slot : ℕ) → fails_at images t slot part ≡ false) → Flags flags (λ slot. fails_at images t slot part) flags
   flags_still none slot = sym (ap (λ b. get_or flags slot false || b) (none slot) ∙ or-false (get_or flags slot false))
-
-  -- the part doesn't stand
-  pub part_absent : range_of t part ≡ None → Flags flags (λ slot. fails_at images t slot part) flags
-  part_absent e = flags_still (λ slot. ap (λ o. option_map_or (λ (range : Range). eqb range.slot slot) o false && not (is_good images t part)) e)
 
   -- the block passes there
   pub part_good : is_good images t part ≡ true → Flags flags (λ slot. fails_at images t slot part) flags
@@ -185,10 +181,6 @@ flags_then old mid new a b c one two is slot =
 pub flags_none : (flags : List Bool) (none : ℕ → Bool) → ((slot : ℕ) → none slot ≡ false) → Flags flags none flags
 flags_none flags none is slot = sym (ap (λ b. get_or flags slot false || b) (is slot) ∙ or-false (get_or flags slot false))
 
-any_map : {X Y : Type 0} (p : Y → Bool) (f : X → Y) (xs : List X) → list_any p (map f xs) ≡ list_any (λ x. p (f x)) xs
-any_map p f [] = refl
-any_map p f (x ∷ xs) = ap (λ b. p (f x) || b) (any_map p f xs)
-
 -- the places of a block with copies, and of one in a slice
 pub fails_copies : (images : Images) (t : Target) (n slot : ℕ) → mirrors t.chunk ≡ Some n
     → list_any (λ k. fails_at images t slot (Mirror k)) (range_with_len 0 n) ≡ fails_on images slot t
@@ -218,7 +210,7 @@ pub flags_plain : (layout : Layout) (want : Want) (t : Target) (held : Option Im
     → IfSome held (λ images. Flags flags (λ slot. fails_on images slot t) flags)
 flags_plain layout want t held flags bare e =
     all_of held (λ images. Flags flags (λ slot. fails_on images slot t) flags)
-    (λ images. flags_none flags (λ slot. fails_on images slot t) (λ slot. any_none (fails_at images t slot) (own_parts t) (λ i part there. never images slot part)))
+    (λ images. flags_none flags (λ slot. fails_on images slot t) (λ slot. list_any-false (fails_at images t slot) (own_parts t) (λ i part there. never images slot part)))
   where
     nothing : (b : Bool) → (b && false) ≡ false
     nothing true = refl

@@ -19,18 +19,17 @@ use Rattle.btr_walk.specs.declared.fault.TreeFault.{TreeFault}
 use Rattle.btr_walk.specs.declared.fault.TreeFault.TheVariants as tree
 use Rattle.btr_walk.specs.Reading.{FaultCause, HasCause, halt_of, unread_by}
 use Rattle.btr_walk.proofs.Fetched.{cause_since, since}
-use Rattle.btr_super.specs.declared.superblock.Super.{Super}
 use Rattle.btr_volume.specs.Looking.{Looks, SameVolume}
 use Rattle.btr_volume.specs.Lookup.{Lookup}
 use Rattle.btr_volume.specs.declared.stop.Stop.{Stop as TheStop}
 use Rattle.btr_volume.specs.declared.stop.Stop.TheVariants as stop
 use Rattle.btr_volume.specs.declared.volume.Volume.{Volume}
 use Rattle.btr_walk.proofs.Joined.{drawn, joined, unread_on}
-use Rattle.btr_scrub.specs.Gathering.{Gathers, IsCrossing, Lists, ListsUnits, Reaches, Scene, TreeCause, StopCause, wants_among, count_met, ended, scene}
-use Rattle.btr_scrub.specs.Gathering.{stop_halt}
+use Rattle.btr_scrub.specs.Gathering.{Gathers, IsCrossing, Lists, Reaches, Scene, TreeCause, StopCause, wants_among, count_met, scene}
 use Rattle.btr_scrub.specs.Listed.{AddsTo, IsList, kept_wants}
 use Rattle.btr_scrub.specs.Units.{Checked, Meeting, Met, Unchecked}
 use Rattle.btr_scrub.specs.declared.gathered.Gathered.{Gathered}
+use Rattle.btr_volume.specs.Stops.{ended, stop_halt}
 
 -- ---- what is listed
 
@@ -328,25 +327,3 @@ gathers_no_tree {A} id x serves = record {
       (run [] (Err (fate.NoTree id))) [] (Err (stop_halt (stop.NoTree id)))) (λ B. (refl, refl));
   cause = tt;
 }
-
--- what was listed behind an empty list
-pub lists_units : (p : Meeting (Unit {0})) (x y : Scene) → kept_wants x.list.list ≡ [] → x.list.unchecked ≡ 0
-    → Gathers p x y (Ok tt) → ListsUnits p x.vol.store.layout x.rack y.rack (Ok y.list)
-lists_units p x y none zero g = record {
-  done = g.done;
-  lists = record {
-    is_list = g.lists.is_list;
-    wants = g.lists.wants ∙ ap (λ q. q ++ wants_among g.done) none;
-    unchecked = g.lists.unchecked ∙ ap (λ n. fold count_met n g.done) zero;
-  };
-  content = g.content;
-  cause = tt;
-}
-
-pub lists_no_units : (p : Meeting (Unit {0})) (x y : Scene) (s : TheStop) → Gathers p x y (Err s) → ListsUnits p x.vol.store.layout x.rack y.rack (Err s)
-lists_no_units p x y s g = record { done = g.done; lists = tt; content = g.content; cause = cause_kept (Unit {0}) Gathered x.vol.store.layout x.rack y.rack s g.cause }
-
--- the superblock and the layout as they were before calls that left them
-pub gathers_as : {A : Type 0} (p : Super → Layout → Meeting A) (s t : Super) (layout layout' : Layout) (x y : Scene) (r : Result A TheStop) → t ≡ s
-    → layout' ≡ layout → Gathers (p t layout') x y r → Gathers (p s layout) x y r
-gathers_as p s t layout layout' x y r e h g = subst (λ l. Gathers (p s l) x y r) h (subst (λ u. Gathers (p u layout') x y r) e g)

@@ -12,7 +12,7 @@ use Rattle.btr_read.specs.Want.{addr_of}
 use Rattle.btr_read.specs.declared.want.Want.{Want}
 use Rattle.btr_scrub.specs.BlocksInRows.{In}
 use Rattle.btr_scrub.specs.Rowing.{row_in}
-use Rattle.btr_scrub.proofs.Blockwise.{in_append}
+use Rattle.btr_read.proofs.Ones.{in_either}
 
 -- so far: a first block, and some behind it
 pub record CollectsSoFar (chunk : Chunk) (row : ℕ) (first : Want) (old new wants : List Want) : Type 0 where
@@ -32,7 +32,7 @@ collects_more chunk row first want old new rest wants wants' h is in_row e = rec
   more = h.more ++ want ∷ [];
   are = e ∙ ap (λ ws. ws ++ want ∷ []) h.are;
   split = h.split ∙ ap (λ ws. h.more ++ ws) is ∙ sym (append_assoc h.more (want ∷ []) rest);
-  inside = λ w i. elim (in_append w h.more (want ∷ []) i) [ inl j ↦ h.inside w j | inr (inl same) ↦ subst (λ v. row_in chunk (addr_of v) ≡ Some row) same in_row | inr (inr j) ↦ absurd j ];
+  inside = λ w i. elim (in_either w h.more (want ∷ []) i) [ inl j ↦ h.inside w j | inr (inl same) ↦ subst (λ v. row_in chunk (addr_of v) ≡ Some row) same in_row | inr (inr j) ↦ absurd j ];
 }
 
 -- the position of one byte

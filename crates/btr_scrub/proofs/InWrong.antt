@@ -1,8 +1,8 @@
 -- Each range that is written is a place without the committed bytes, or a column of a parity that isn't right there.
-use Rattle.std.proofs.Common.{◌≡◌, ◌⊎◌, ℕ, ◌+◌, ◌*◌, ◌/◌, ◌<◌, ◌≤◌, Bool, true, false, not, cond, ◌&&◌, List, [], ◌∷◌, map, length, slice_get, Option, Some}
+use Rattle.std.proofs.Common.{◌≡◌, ◌⊎◌, ℕ, ◌+◌, ◌*◌, ◌/◌, ◌<◌, ◌≤◌, Bool, true, false, not, cond, ◌&&◌, List, [], map, length, slice_get, Option, Some}
 use Rattle.std.proofs.Common.{None, is_none, refl, sym, ap, ◌∙◌, subst, inl, inr, arith}
-use Rattle.std.proofs.lemmas.Bool.{false≢true, and_parts}
-use Rattle.std.specs.List.{Any, cons_option, filter_map, flat_map, range_with_len}
+use Rattle.std.proofs.lemmas.Bool.{false≢true, and_parts, not-true}
+use Rattle.std.specs.List.{Any, flat_map, range_with_len}
 use Rattle.std.specs.Option.{option_map, option_map_or}
 use Rattle.btr_chunk.specs.Chunk.{mirrors, stripe_length}
 use Rattle.btr_chunk.specs.Table.{IsTable}
@@ -13,7 +13,7 @@ use Rattle.btr_rack.specs.declared.place.Place.{Place as Range}
 use Rattle.btr_read.specs.Candidates.{Target, element, range_of}
 use Rattle.btr_read.specs.Layout.{HaveOwnSlots, Layout}
 use Rattle.btr_read.specs.declared.want.Want.{Want}
-use Rattle.btr_read.proofs.Ones.{in_below}
+use Rattle.btr_read.proofs.Ones.{in_below, in_either}
 use Rattle.btr_read.specs.Fate.{is_plain}
 use Rattle.btr_scrub_copies.specs.Blocks.{accepted, bad_parts, block_writes, copy_writes, is_sound, own_parts, written_over}
 use Rattle.btr_scrub_copies.proofs.Syncs.{passing_filter}
@@ -30,28 +30,11 @@ use Rattle.btr_scrub.specs.Right.{Committed, IsOfStale, IsOfWrongParity, IsOfWro
 use Rattle.btr_scrub.specs.Scrubbing.{all_writes_for, chunk_writes_for, rows_writes, sites_in, sites_writes}
 use Rattle.btr_scrub.specs.Survival.{IsParity}
 use Rattle.btr_scrub.proofs.AcrossChunks.{of_chunk, row_is}
-use Rattle.btr_scrub.proofs.Agreeing.{of_mapped}
-use Rattle.btr_scrub.proofs.Blockwise.{in_append}
-use Rattle.btr_scrub.proofs.Lists.{any_in, at_in, of_flat}
+use Rattle.btr_scrub.proofs.Lists.{any_in, at_in, of_flat, of_mapped, of_filter_map, mapped}
 use Rattle.btr_scrub.proofs.RowAgreeing.{parity_has}
 use Rattle.btr_scrub.proofs.SoundRows.{CanBeHad, right_is_sound, right_there, sound_row}
 use Rattle.btr_scrub.proofs.Survival.{of_filter}
-use Rattle.btr_scrub.proofs.Writes.{mapped}
 use Rattle.btr_scrub.proofs.Wrong.{differing_parity_is_wrong}
-
-pub of_filter_map : {X Y : Type 0} (g : X → Option Y) (y : Y) (xs : List X) → In y (filter_map g xs) → (x : X) × In x xs × (g x ≡ Some y)
-of_filter_map g y [] i = absurd i
-of_filter_map g y (x ∷ xs) i = by (g x) refl i (of_filter_map g y xs)
-  where
-    by : (o : Option _) → g x ≡ o → In y (cons_option o (filter_map g xs)) → (In y (filter_map g xs) → (z : _) × In z xs × (g z ≡ Some y)) → (z : _)
-        × In z (x ∷ xs) × (g z ≡ Some y)
-    by None e i rest = let r = rest i in (r.0, inr r.1, r.2)
-    by (Some z) e (inl same) rest = (x, inl refl, e ∙ ap Some same)
-    by (Some z) e (inr j) rest = let r = rest j in (r.0, inr r.1, r.2)
-
-pub not_bad : (b : Bool) → not b ≡ true → b ≡ false
-not_bad true e = absurd (false≢true e)
-not_bad false e = refl
 
 is_parity : (q : Part) → (q ≡ part.P) ⊎ (q ≡ part.Q) → IsParity q
 is_parity q (inl e) = subst IsParity (sym e) tt
@@ -75,7 +58,7 @@ over_part images t w i = by (accepted images t) refl i
         let f = of_filter_map (λ q. option_map (λ (range : Range). record { range = range; bytes = bytes }) (range_of t q)) w (bad_parts images t) i in
         let bad = passing_filter (λ q. not (is_sound images t q)) f.0 (own_parts t) f.1 in
         let m = mapped (λ (range : Range). record { range = range; bytes = bytes }) (range_of t f.0) w f.2 in
-        record { bytes = bytes; accepts = e; part = f.0; own = bad.0; unsound = not_bad (is_sound images t f.0) bad.1; range = m.1 ∙ ap Some (ap (λ (v : Write). v.range) m.2) }
+        record { bytes = bytes; accepts = e; part = f.0; own = bad.0; unsound = not-true (is_sound images t f.0) bad.1; range = m.1 ∙ ap Some (ap (λ (v : Write). v.range) m.2) }
 
 -- what a write for a plain sector is: it lies over a stale part
 over_stale : (fails : Failing) (images : Images) (t : Target) (w : Write) → In w (fresh_writes images fails t)
@@ -147,7 +130,7 @@ module _ (kept : Failing) (images : Images) (layout : Layout) (C : Committed) (w
 
     -- what is written in it
     wrong_row : (w : Write) → In w (row_writes images layout row) → IsOfWrongParity images layout C w.range row ⊎ IsWrongSite w.range
-    wrong_row w i = elim (in_append w (flat_map (mending_writes images kept) row.blocks) (flat_map (parity_writes images layout row) (parities chunk.profile)) i) [
+    wrong_row w i = elim (in_either w (flat_map (mending_writes images kept) row.blocks) (flat_map (parity_writes images layout row) (parities chunk.profile)) i) [
       | inl j ↦
           let f = of_flat (mending_writes images kept) w row.blocks j in
           let b = (row_is kept layout table own none number chunk there wants r parity inside).blocks f.0 f.1 in

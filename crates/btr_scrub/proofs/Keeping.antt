@@ -1,7 +1,7 @@
 -- Wherever the mending of a full stripe is cut short, its blocks can be had.
-use Rattle.std.proofs.Common.{◌≡◌, ◌⊎◌, ℕ, ◌+◌, ◌-◌, ◌*◌, ◌<◌, ◌≤◌, Bool, true, false, not, cond, ◌&&◌, ◌||◌, List, [], ◌∷◌, length, get_or, slice_range}
+use Rattle.std.proofs.Common.{◌≡◌, ◌⊎◌, ℕ, ◌+◌, ◌-◌, ◌*◌, ◌<◌, ◌≤◌, Bool, true, false, not, cond, ◌&&◌, List, [], ◌∷◌, length, get_or, slice_range}
 use Rattle.std.proofs.Common.{slice_get, All, Option, Some, None, IsSome, is_some, IsNone, IsSomeAnd, refl, sym, ap, ◌∙◌, subst, inl, inr, arith}
-use Rattle.std.proofs.lemmas.Bool.{cases_lt, false≢true}
+use Rattle.std.proofs.lemmas.Bool.{cases_lt, false≢true, false_from_ne_true}
 use Rattle.std.proofs.lemmas.List.{get_or_past, get_or-set_same}
 use Rattle.std.proofs.lemmas.Option.{same_Some}
 use Rattle.std.specs.List.{Contains, cons_option, flat_map, fold, list_any}
@@ -14,7 +14,7 @@ use Rattle.btr_chunk.specs.declared.place.Part.TheVariants.{Mirror, Slice, P, Q}
 use Rattle.btr_chunk.proofs.Bytes.{IsPosition-position}
 use Rattle.btr_rack.specs.Rack.{bytes_of, image_of, pasted, range_in}
 use Rattle.btr_rack.specs.declared.place.Place.{Place as Range}
-use Rattle.btr_read.specs.Candidates.{Target, candidates, copies, element, parts_read, range_of, rebuilt, size_of, slice_count, stands, value_of, ways}
+use Rattle.btr_read.specs.Candidates.{Target, candidates, element, parts_read, range_of, size_of, slice_count, stands, value_of}
 use Rattle.btr_read.specs.Candidates as read
 use Rattle.btr_read.specs.Fate.{is_plain, passing}
 use Rattle.btr_read.specs.declared.setting.Setting.{Setting}
@@ -27,7 +27,7 @@ use Rattle.btr_read.specs.declared.want.Want.{Want}
 use Rattle.btr_read.proofs.Trials.{fails_where_none}
 use Rattle.btr_read.proofs.Values.{value_by_ranges}
 use Rattle.btr_scrub_copies.specs.Blocks.{accepted, bad_parts, block_writes, copy_writes, is_good}
-use Rattle.btr_scrub_copies.specs.Fresh.{fresh_writes}
+use Rattle.btr_scrub_copies.specs.Fresh.{fresh_writes, Failing}
 use Rattle.btr_scrub_row.specs.Wanted.{mending_writes, new_bytes, wrong_parts}
 use Rattle.btr_scrub_copies.specs.Writes.{AreAmong, Images, IsStopped, Write, ranges_of, write_on}
 use Rattle.btr_scrub_copies.proofs.Syncs.{passing_filter}
@@ -43,51 +43,29 @@ use Rattle.btr_scrub.specs.Order.{targets}
 use Rattle.btr_scrub.specs.Places.{IsOfElement}
 use Rattle.btr_scrub.specs.Repair.{byte_at, covers, is_in_row}
 use Rattle.btr_scrub.proofs.AcrossChunks.{OfRows, row_is}
-use Rattle.btr_scrub.proofs.Blockwise.{fold_append}
 use Rattle.btr_scrub.proofs.Columns.{own_candidate}
 use Rattle.btr_scrub.proofs.CopyWrites.{element_is, is_there, long_element, same_element}
 use Rattle.btr_scrub.proofs.Elements.{HasRanges, has_ranges}
-use Rattle.btr_scrub.proofs.InWrong.{of_filter_map}
 use Rattle.btr_scrub.proofs.Outliving.{same_block}
 use Rattle.btr_scrub.proofs.Outside.{left_short, right_short, stopped_keeps}
 use Rattle.btr_scrub.proofs.Places.{covered, covering, elements_apart}
 use Rattle.btr_scrub.proofs.RowAgreeing.{parity_has}
 use Rattle.btr_scrub.proofs.RowWrites.{IsBlockOf, block_byte, has_own, in_one_element, row_short, written_parity}
-use Rattle.btr_scrub.proofs.Shorts.{Short, shorts_keep, site_short}
-use Rattle.btr_scrub.proofs.SomeCandidate.{in_of}
+use Rattle.btr_scrub.proofs.Shorts.{site_short}
 use Rattle.btr_scrub.proofs.SoundRows.{address_is}
-use Rattle.btr_scrub.proofs.Survival.{of_filter, range_same, some_of}
-use Rattle.btr_scrub.proofs.Writes.{any_filter_map, any_flat, any_map, mapped}
-use Rattle.btr_scrub_copies.specs.Fresh.{Failing}
+use Rattle.btr_scrub.proofs.Survival.{of_filter, range_same}
+use Rattle.btr_scrub.proofs.Pasting.{Short, shorts_keep, written_by}
+use Rattle.btr_scrub.proofs.Lists.{in_of, of_filter_map, some_of, any_map, mapped, any_filter_map, any_is, is_any, first_in}
+use Rattle.std.proofs.lemmas.List.Sums.{fold-append}
 
 -- ---- images that differ in ranges
-
-any_is : {X : Type 0} (f : X → Bool) (xs : List X) → list_any f xs ≡ true → (x : X) × In x xs × (f x ≡ true)
-any_is f [] h = absurd (false≢true h)
-any_is f (x ∷ xs) h = by (f x) refl h (any_is f xs)
-  where
-    by : (b : Bool) → f x ≡ b → (b || list_any f xs) ≡ true → (list_any f xs ≡ true → (y : _) × In y xs × (f y ≡ true)) → (y : _) × In y (x ∷ xs) × (f y ≡ true)
-    by true e h rest = (x, inl refl, e)
-    by false e h rest = let r = rest h in (r.0, inr r.1, r.2)
-
-is_any : {X : Type 0} (f : X → Bool) (x : X) (xs : List X) → In x xs → f x ≡ true → list_any f xs ≡ true
-is_any f x [] i e = absurd i
-is_any f x (y ∷ xs) (inl same) e = ap (λ b. b || list_any f xs) (ap f same ∙ e)
-is_any f x (y ∷ xs) (inr i) e = by (f y) (is_any f x xs i e)
-  where
-    by : (b : Bool) → list_any f xs ≡ true → (b || list_any f xs) ≡ true
-    by true h = refl
-    by false h = h
 
 covers_more : (slot off : ℕ) (rs qs : List Range) → AreAmong rs qs → list_any (covers slot off) rs ≡ true → list_any (covers slot off) qs ≡ true
 covers_more slot off rs qs among h = let a = any_is (covers slot off) rs h in is_any (covers slot off) a.0 qs (among a.0 a.1) a.2
 
 none_fewer : (slot off : ℕ) (rs qs : List Range) → AreAmong rs qs → list_any (covers slot off) qs ≡ false → list_any (covers slot off) rs ≡ false
-none_fewer slot off rs qs among none = by (list_any (covers slot off) rs) refl
-  where
-    by : (b : Bool) → list_any (covers slot off) rs ≡ b → list_any (covers slot off) rs ≡ false
-    by false e = e
-    by true e = absurd (false≢true (sym none ∙ covers_more slot off rs qs among e))
+none_fewer slot off rs qs among none = false_from_ne_true (list_any (covers slot off) rs) (λ e.
+    absurd (false≢true (sym none ∙ covers_more slot off rs qs among e)))
 
 -- images that differ in some ranges, and then again
 keeps_then : (rs qs : List Range) (a b c : Images) → AreAmong qs rs → KeepsOutside rs a b → KeepsOutside qs b c → KeepsOutside rs a c
@@ -115,12 +93,8 @@ had_by images t c i stand pass = by (passing images t) refl
     by [] e = absurd (false≢true (sym (fails_where_none images t c e i stand) ∙ pass))
     by (x ∷ xs) e = ap (λ ys. is_some (slice_get ys 0)) e
 
-head_in : (xs : List (List ℕ)) (x : List ℕ) → slice_get xs 0 ≡ Some x → In x xs
-head_in [] x e = cc
-head_in (y ∷ xs) x e = inl (same_Some y x e)
-
 accepted_passes : (images : Images) (t : Target) (bytes : List ℕ) → accepted images t ≡ Some bytes → passes t.setting t.want bytes ≡ true
-accepted_passes images t bytes e = (passing_filter (passes t.setting t.want) bytes (read.readings images t) (head_in (passing images t) bytes e)).1
+accepted_passes images t bytes e = (passing_filter (passes t.setting t.want) bytes (read.readings images t) (first_in (passing images t) bytes e)).1
 
 -- ---- bytes behind a write
 
@@ -312,8 +286,7 @@ module _ (images : Images) (layout : Layout) (wants : List Want) (row : Row) (he
       → list_any (covers slot off) (ranges_of (rebuilt_writes images layout row)) ≡ true
       → list_any (covers slot off) (ranges_of (mending_writes images row.failing t)) ≡ true
   written_for t i slot off c h =
-      let any : list_any (λ (w : Write). covers slot off w.range) (rebuilt_writes images layout row) ≡ true = sym (any_map (covers slot off) (λ (w : Write). w.range) (rebuilt_writes images layout row)) ∙ h in
-      let f = any_flat (λ (w : Write). covers slot off w.range) (mending_writes images row.failing) row.blocks any in
+      let f = written_by slot off (mending_writes images row.failing) row.blocks h in
       let mine : list_any (covers slot off) (ranges_of (mending_writes images row.failing f.0)) ≡ true = any_map (covers slot off) (λ (w : Write). w.range) (mending_writes images row.failing f.0) ∙ f.2 in
       let same = shared t f.0 i f.1 slot off c (written_there f.0 f.1 slot off mine) in
       subst (λ u. list_any (covers slot off) (ranges_of (mending_writes images row.failing u)) ≡ true) (sym same) mine
@@ -405,7 +378,7 @@ module _ (images : Images) (layout : Layout) (wants : List Want) (row : Row) (he
     all_more now (u ∷ us) each same holds =
         let j = each u (inl refl) in
         let next = fold write_on now (mending_writes images row.failing u) in
-        subst Holds (sym (fold_append write_on now (mending_writes images row.failing u) (flat_map (mending_writes images row.failing) us)))
+        subst Holds (sym (fold-append write_on now (mending_writes images row.failing u) (flat_map (mending_writes images row.failing) us)))
         (all_more next us (λ v k. each v (inr k)) (lengths_then now (mending_writes images row.failing u) same (short_of u j)) (one_more now u j same holds))
 
     -- so they stand there behind all
@@ -415,11 +388,11 @@ module _ (images : Images) (layout : Layout) (wants : List Want) (row : Row) (he
     all_written now (u ∷ us) each (inl e) same is =
         let next = fold write_on now (mending_writes images row.failing u) in
         let first : Holds next = subst (λ v. Holds (fold write_on now (mending_writes images row.failing v))) (sym e) (own_write now same is) in
-        subst Holds (sym (fold_append write_on now (mending_writes images row.failing u) (flat_map (mending_writes images row.failing) us)))
+        subst Holds (sym (fold-append write_on now (mending_writes images row.failing u) (flat_map (mending_writes images row.failing) us)))
         (all_more next us (λ v k. each v (inr k)) (lengths_then now (mending_writes images row.failing u) same (short_of u (each u (inl refl)))) first)
     all_written now (u ∷ us) each (inr j) same is =
         let next = fold write_on now (mending_writes images row.failing u) in
-        subst Holds (sym (fold_append write_on now (mending_writes images row.failing u) (flat_map (mending_writes images row.failing) us)))
+        subst Holds (sym (fold-append write_on now (mending_writes images row.failing u) (flat_map (mending_writes images row.failing) us)))
         (all_written next us (λ v k. each v (inr k)) j (lengths_then now (mending_writes images row.failing u) same (short_of u (each u (inl refl)))) is)
 
     stands_first : f.bytes ≡ element images t (Slice t.at.index) → Holds images
@@ -465,12 +438,8 @@ module _ (images : Images) (layout : Layout) (wants : List Want) (row : Row) (he
 
       free : (slot off : ℕ) → IsSomeAnd (range_of t (Slice t.at.index)) (λ range. covers slot off range ≡ true)
           → list_any (covers slot off) (ranges_of (rebuilt_writes images layout row)) ≡ false
-      free slot off c = by (list_any (covers slot off) (ranges_of (rebuilt_writes images layout row))) refl
-        where
-          by : (b : Bool) → list_any (covers slot off) (ranges_of (rebuilt_writes images layout row)) ≡ b
-              → list_any (covers slot off) (ranges_of (rebuilt_writes images layout row)) ≡ false
-          by false e = e
-          by true e = absurd (none_there slot off (subst (λ o. IsSomeAnd o (λ range. covers slot off range ≡ true)) (own t i).block c) e)
+      free slot off c = false_from_ne_true (list_any (covers slot off) (ranges_of (rebuilt_writes images layout row))) (λ e.
+          absurd (none_there slot off (subst (λ o. IsSomeAnd o (λ range. covers slot off range ≡ true)) (own t i).block c) e))
 
   -- a way beside the writes gives the same
   way_stays : (stored : Images) (t : Target) (i : In t row.blocks) (h : HasWayBeside images layout row t)
@@ -508,8 +477,7 @@ module _ (images : Images) (layout : Layout) (wants : List Want) (row : Row) (he
   apart_from_parities : (t : Target) (i : In t row.blocks) (slot off : ℕ) → covers slot off (place t i) ≡ true
       → list_any (covers slot off) (ranges_of (parities_writes images layout row)) ≡ true → ⊥
   apart_from_parities t i slot off c h =
-      let any : list_any (λ (w : Write). covers slot off w.range) (parities_writes images layout row) ≡ true = sym (any_map (covers slot off) (λ (w : Write). w.range) (parities_writes images layout row)) ∙ h in
-      let f = any_flat (λ (w : Write). covers slot off w.range) (parity_writes images layout row) (parities row.chunk.profile) any in
+      let f = written_by slot off (parity_writes images layout row) (parities row.chunk.profile) h in
       let q = parity_has row.chunk.profile (length row.chunk.stripes) f.0 here.is_row.parity f.1 in
       let e = elements_apart layout row row (Slice t.at.index) f.0 slot off here.table here.own_slots (own_byte t i slot off c) (written_parity layout row here.table of.is images f.0 slot off q.0 f.2) in
       by f.0 (ap is_slice e.2) q.1
@@ -533,12 +501,8 @@ module _ (images : Images) (layout : Layout) (wants : List Want) (row : Row) (he
     where
       free : (slot off : ℕ) → IsSomeAnd (range_of t (Slice t.at.index)) (λ range. covers slot off range ≡ true)
           → list_any (covers slot off) (ranges_of (parities_writes images layout row)) ≡ false
-      free slot off c = by (list_any (covers slot off) (ranges_of (parities_writes images layout row))) refl
-        where
-          by : (b : Bool) → list_any (covers slot off) (ranges_of (parities_writes images layout row)) ≡ b
-              → list_any (covers slot off) (ranges_of (parities_writes images layout row)) ≡ false
-          by false e = e
-          by true e = absurd (apart_from_parities t i slot off (subst (λ o. IsSomeAnd o (λ range. covers slot off range ≡ true)) (place_is t i) c) e)
+      free slot off c = false_from_ne_true (list_any (covers slot off) (ranges_of (parities_writes images layout row))) (λ e.
+          absurd (apart_from_parities t i slot off (subst (λ o. IsSomeAnd o (λ range. covers slot off range ≡ true)) (place_is t i) c) e))
 
   second_keeps : (left stored : Images) (waits : List Range) (t : Target) → IsStopped (parities_writes images layout row) after left
       → AreAmong waits (ranges_of (parities_writes images layout row)) → KeepsOutside waits left stored

@@ -42,7 +42,6 @@ pub mod RowNumbers
 pub mod NextRow
 pub mod Rowwise
 pub mod OneRow
-pub mod Keepings
 pub mod Doubting
 pub mod Told
 pub mod Calm

@@ -1,17 +1,32 @@
--- Members of lists.
+-- Members of lists, and what holds of some of them, or of none.
 use Rattle.std.proofs.Common.{◌≡◌, ℕ, zero, suc, ◌<◌, List, [], ◌∷◌, ◌++◌, map, length, get_or, slice_get, All, Some, refl, sym, ap, subst, inl, inr, arith}
 use Rattle.std.proofs.lemmas.List.Elements.{All-cons, All-nil}
-use Rattle.std.proofs.lemmas.Option.{slice_get_within}
-use Rattle.std.specs.List.{Any, flat_map}
+use Rattle.std.proofs.lemmas.Option.{slice_get_within, same_Some, get_or_from_slice_get}
+use Rattle.std.specs.List.{Any, flat_map, Contains, cons_option, filter, filter_map, list_any}
 use Rattle.btr_scrub.specs.BlocksInRows.{In}
-use Rattle.btr_scrub.proofs.Blockwise.{in_append}
-use Rattle.btr_scrub.proofs.SomeCandidate.{any_at}
+use Rattle.std.proofs.Common.{Bool, true, false, cond, ◌||◌, ◌⊎◌, ◌∙◌, Option, None, IsSome, is_some, is_none}
+use Rattle.std.specs.Option.{option_map}
+use Rattle.std.proofs.lemmas.Bool.{false≢true, both_ways, false_from_ne_true, or_cases}
+use Rattle.std.proofs.lemmas.List.Folds.{Any-from_list_any, list_any-from_Any, list_any-append}
+use Rattle.btr_read.proofs.Ones.{in_either, in_left, in_right}
+
+-- one of a list has it
+pub any_at : {X : Type 0} (P : X → Type 0) (xs : List X) (i : ℕ) (x : X) → i < length xs → slice_get xs i ≡ Some x → P x → Any P xs
+any_at P xs i x within e p = (i, x, within, get_or_from_slice_get xs i x x e, p)
+
+pub in_of : {X : Type 0} (x : X) (xs : List X) → Contains xs x → In x xs
+in_of x [] c = absurd (omega (arith, c.1))
+in_of x (y ∷ xs) (zero, lt, e) = inl e
+in_of x (y ∷ xs) (suc k, lt, e) = inr (in_of x xs (k, omega (arith, lt), e))
 
 -- a member has a number
 pub at_in : {X : Type 0} (x : X) (xs : List X) → In x xs → (i : ℕ) × (slice_get xs i ≡ Some x)
 at_in x [] i = absurd i
 at_in x (y ∷ xs) (inl e) = (0, ap Some e)
 at_in x (y ∷ xs) (inr i) = let r = at_in x xs i in (suc r.0, r.1)
+
+pub in_some : {X : Type 0} (x : X) (xs : List X) (i : ℕ) → slice_get xs i ≡ Some x → In x xs
+in_some x xs i e = in_of x xs (i, slice_get_within xs i x e, get_or_from_slice_get xs i x x e)
 
 -- what holds of all holds of each
 pub all_in : {X : Type 0} (P : X → Type 0) (xs : List X) (x : X) → All P xs → In x xs → P x
@@ -43,21 +58,85 @@ in_map f x (y ∷ xs) (inr i) = inr (in_map f x xs i)
 
 pub of_flat : {X Y : Type 0} (f : X → List Y) (y : Y) (xs : List X) → In y (flat_map f xs) → (x : X) × In x xs × In y (f x)
 of_flat f y [] i = absurd i
-of_flat f y (x ∷ xs) i = elim (in_append y (f x) (flat_map f xs) i) [
+of_flat f y (x ∷ xs) i = elim (in_either y (f x) (flat_map f xs) i) [
   | inl j ↦ (x, inl refl, j)
   | inr j ↦ let r = of_flat f y xs j in (r.0, inr r.1, r.2)
 ]
 
-left_in : {X : Type 0} (x : X) (xs ys : List X) → In x xs → In x (xs ++ ys)
-left_in x [] ys i = absurd i
-left_in x (y ∷ xs) ys (inl e) = inl e
-left_in x (y ∷ xs) ys (inr i) = inr (left_in x xs ys i)
-
-right_in : {X : Type 0} (x : X) (xs ys : List X) → In x ys → In x (xs ++ ys)
-right_in x [] ys i = i
-right_in x (y ∷ xs) ys i = inr (right_in x xs ys i)
-
 pub in_flat : {X Y : Type 0} (f : X → List Y) (x : X) (y : Y) (xs : List X) → In x xs → In y (f x) → In y (flat_map f xs)
 in_flat f x y [] i j = absurd i
-in_flat f x y (z ∷ xs) (inl e) j = left_in y (f z) (flat_map f xs) (subst (λ w. In y (f w)) (sym e) j)
-in_flat f x y (z ∷ xs) (inr i) j = right_in y (f z) (flat_map f xs) (in_flat f x y xs i j)
+in_flat f x y (z ∷ xs) (inl e) j = in_left y (f z) (flat_map f xs) (subst (λ w. In y (f w)) (sym e) j)
+in_flat f x y (z ∷ xs) (inr i) j = in_right y (f z) (flat_map f xs) (in_flat f x y xs i j)
+
+pub of_mapped : {X Y : Type 0} (f : X → Y) (y : Y) (xs : List X) → In y (map f xs) → (x : X) × In x xs × (f x ≡ y)
+of_mapped f y [] h = absurd h
+of_mapped f y (x ∷ xs) (inl e) = (x, inl refl, e)
+of_mapped f y (x ∷ xs) (inr h) = let r = of_mapped f y xs h in (r.0, inr r.1, r.2)
+
+pub of_filter_map : {X Y : Type 0} (g : X → Option Y) (y : Y) (xs : List X) → In y (filter_map g xs) → (x : X) × In x xs × (g x ≡ Some y)
+of_filter_map g y [] i = absurd i
+of_filter_map g y (x ∷ xs) i = by (g x) refl i (of_filter_map g y xs)
+  where
+    by : (o : Option _) → g x ≡ o → In y (cons_option o (filter_map g xs)) → (In y (filter_map g xs) → (z : _) × In z xs × (g z ≡ Some y)) → (z : _)
+        × In z (x ∷ xs) × (g z ≡ Some y)
+    by None e i rest = let r = rest i in (r.0, inr r.1, r.2)
+    by (Some z) e (inl same) rest = (x, inl refl, e ∙ ap Some same)
+    by (Some z) e (inr j) rest = let r = rest j in (r.0, inr r.1, r.2)
+
+pub in_filter : {X : Type 0} (p : X → Bool) (x : X) (xs : List X) → In x xs → p x ≡ true → In x (filter p xs)
+in_filter p x [] i e = absurd i
+in_filter p x (y ∷ xs) i e = by (p y) refl i (λ j. in_filter p x xs j e)
+  where
+    by : (b : Bool) → p y ≡ b → In x (y ∷ xs) → (In x xs → In x (filter p xs)) → In x (cond b (y ∷ filter p xs) (filter p xs))
+    by true q (inl same) rest = inl same
+    by true q (inr j) rest = inr (rest j)
+    by false q (inl same) rest = absurd (false≢true (sym q ∙ ap p same ∙ e))
+    by false q (inr j) rest = rest j
+
+pub first_in : {X : Type 0} (xs : List X) (x : X) → slice_get xs 0 ≡ Some x → In x xs
+first_in [] x e = cc
+first_in (y ∷ xs) x e = inl (same_Some y x e)
+
+pub mapped : {X Y : Type 0} (g : X → Y) (o : Option X) (y : Y) → option_map g o ≡ Some y → (x : X) × (o ≡ Some x) × (g x ≡ y)
+mapped g None y e = absurd (false≢true (ap is_some e))
+mapped g (Some x) y e = (x, refl, same_Some (g x) y e)
+
+pub some_of : {X : Type 0} (o : Option X) → IsSome o → (x : X) × (o ≡ Some x)
+some_of None h = absurd (false≢true h)
+some_of (Some x) h = (x, refl)
+
+pub some_if : {X : Type 0} (o : Option X) → is_none o ≡ false → IsSome o
+some_if None e = absurd (false≢true (sym e))
+some_if (Some x) e = refl
+
+-- ---- tests of some, or of none
+
+pub any_is : {X : Type 0} (f : X → Bool) (xs : List X) → list_any f xs ≡ true → (x : X) × In x xs × (f x ≡ true)
+any_is f xs h = in_any (λ x. f x ≡ true) xs (Any-from_list_any f xs h)
+
+pub is_any : {X : Type 0} (f : X → Bool) (x : X) (xs : List X) → In x xs → f x ≡ true → list_any f xs ≡ true
+is_any f x xs i e = list_any-from_Any f xs (any_in (λ x. f x ≡ true) xs x i e)
+
+pub none_in : {X : Type 0} (p : X → Bool) (xs : List X) (x : X) → list_any p xs ≡ false → In x xs → p x ≡ false
+none_in p xs x none i = false_from_ne_true (p x) (λ e. both_ways (list_any p xs) none (is_any p x xs i e))
+
+pub any_append : {X : Type 0} (f : X → Bool) (xs ys : List X) → list_any f (xs ++ ys) ≡ true → (list_any f xs ≡ true) ⊎ (list_any f ys ≡ true)
+any_append f xs ys h = or_cases (list_any f xs) (list_any f ys) (sym (list_any-append f xs ys) ∙ h)
+
+pub any_map : {X Y : Type 0} (f : Y → Bool) (g : X → Y) (xs : List X) → list_any f (map g xs) ≡ list_any (λ x. f (g x)) xs
+any_map f g [] = refl
+any_map f g (x ∷ xs) = ap (λ b. f (g x) || b) (any_map f g xs)
+
+pub any_flat : {X Y : Type 0} (f : Y → Bool) (g : X → List Y) (xs : List X) → list_any f (flat_map g xs) ≡ true
+    → (x : X) × In x xs × (list_any f (g x) ≡ true)
+any_flat f g xs h =
+    let y = any_is f (flat_map g xs) h in
+    let x = of_flat g y.0 xs y.1 in
+    (x.0, x.1, is_any f y.0 (g x.0) x.2 y.2)
+
+pub any_filter_map : {X Y : Type 0} (f : Y → Bool) (g : X → Option Y) (xs : List X) → list_any f (filter_map g xs) ≡ true
+    → (x : X) × In x xs × ((y : Y) × (g x ≡ Some y) × (f y ≡ true))
+any_filter_map f g xs h =
+    let y = any_is f (filter_map g xs) h in
+    let x = of_filter_map g y.0 xs y.1 in
+    (x.0, x.1, (y.0, x.2, y.2))

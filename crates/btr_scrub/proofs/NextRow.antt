@@ -13,7 +13,7 @@ use Rattle.btr_read.specs.Candidates.{Target}
 use Rattle.btr_read.specs.Fate.{Fault, sought}
 use Rattle.btr_read.specs.Layout.{HaveOwnSlots, Layout}
 use Rattle.btr_read.specs.declared.want.Want.{Want}
-use Rattle.btr_read.proofs.Ones.{in_below}
+use Rattle.btr_read.proofs.Ones.{in_below, in_either}
 use Rattle.btr_scrub_row.specs.Wanted.{mending_writes}
 use Rattle.btr_scrub_copies.specs.Writes.{Images, Write, write_on, writes_if}
 use Rattle.btr_scrub_row.specs.Mending.{IsRowOf, IsOn, is_at, mended_row}
@@ -29,16 +29,16 @@ use Rattle.btr_scrub.specs.Places.{IsOfElement}
 use Rattle.btr_scrub.proofs.Places.{elements_apart}
 use Rattle.btr_scrub.proofs.RowAgreeing.{row_writes_alike}
 use Rattle.btr_scrub.proofs.RowWrites.{row_short, row_stays, written_row}
-use Rattle.btr_scrub.proofs.Shorts.{Short, shorts_keep_if}
-use Rattle.btr_scrub.proofs.Writes.{any_flat, any_map}
-use Rattle.btr_scrub.proofs.AcrossChunks.{element_stands, flat_short, row_counted, row_is}
-use Rattle.btr_scrub.proofs.Blockwise.{filter_none, filter_all, fold_append, in_append, of_targets}
+use Rattle.btr_scrub.proofs.AcrossChunks.{element_stands, row_counted, row_is}
+use Rattle.btr_scrub.proofs.Blockwise.{filter_none, filter_all, of_targets}
 use Rattle.btr_scrub.proofs.RowNumbers.{in_range, range_split, row_is_not, rows_to, start_there}
-use Rattle.btr_scrub.proofs.Lists.{all_from}
-use Rattle.btr_scrub.proofs.Agreeing.{of_mapped}
+use Rattle.btr_scrub.proofs.Lists.{all_from, of_mapped, any_map, any_flat}
 use Rattle.btr_scrub.proofs.Positions.{is_sought}
 use Rattle.btr_scrub.proofs.Scrubbing.{IsUnmoved}
 use Rattle.btr_scrub_copies.specs.Fresh.{Failing}
+use Rattle.btr_scrub.proofs.Pasting.{Short, shorts_keep_if}
+use Rattle.btr_scrub.proofs.Shorts.{flat_short}
+use Rattle.std.proofs.lemmas.List.Sums.{fold-append}
 
 -- ---- empty rows
 
@@ -100,7 +100,7 @@ module _ (kept : Failing) (layout : Layout) (table : IsTable layout.chunks) (own
       let from_q : 0 + q ≡ q = omega arith in
       let parts : rows_to kept (targets layout wants) chunk n ≡ rows_to kept (targets layout wants) chunk q ++ map (row_of kept (targets layout wants) chunk) (range_with_len q d) =
       ap (rows_to kept (targets layout wants) chunk) whole ∙ ap (map (row_of kept (targets layout wants) chunk)) (range_split 0 q d) ∙ map-append (row_of kept (targets layout wants) chunk) (range_with_len 0 q) (range_with_len (0 + q) d) ∙ ap (λ k. rows_to kept (targets layout wants) chunk q ++ map (row_of kept (targets layout wants) chunk) (range_with_len k d)) from_q in
-      ap (λ rs. rows_count layout write rs images x) parts ∙ fold_append (count_row images layout write) x
+      ap (λ rs. rows_count layout write rs images x) parts ∙ fold-append (count_row images layout write) x
       (rows_to kept (targets layout wants) chunk q) (map (row_of kept (targets layout wants) chunk) (range_with_len q d))
       ∙ empties_count images layout write (rows_count layout write (rows_to kept (targets layout wants) chunk q) images x)
       (map (row_of kept (targets layout wants) chunk) (range_with_len q d))
@@ -145,11 +145,11 @@ module _ (kept : Failing) (layout : Layout) (table : IsTable layout.chunks) (own
     between_empty : (k : ℕ) → q ≤ k → k < r → (row_of kept (targets layout wants) chunk k).blocks ≡ []
     between_empty k from to =
         filter_none (is_in_row chunk k) (targets layout wants)
-        (λ t i. by t (in_append t (targets layout past) (targets layout mine ++ targets layout left') (subst (In t) parts i)))
+        (λ t i. by t (in_either t (targets layout past) (targets layout mine ++ targets layout left') (subst (In t) parts i)))
       where
         by : (t : Target) → In t (targets layout past) ⊎ In t (targets layout mine ++ targets layout left') → is_in_row chunk k t ≡ false
         by t (inl i) = row_is_not layout table number chunk there parity k t (sought_is past t i) (λ c e. omega (arith, e, (n.before t i).1, from))
-        by t (inr i) = elim (in_append t (targets layout mine) (targets layout left') i) [
+        by t (inr i) = elim (in_either t (targets layout mine) (targets layout left') i) [
           | inl j ↦ row_is_not layout table number chunk there parity k t (sought_is mine t j) (λ c e. omega (arith, e, (mine_is t j).1, to))
           | inr j ↦ row_is_not layout table number chunk there parity k t (sought_is left' t j) (λ c e. omega (arith, e, n.behind t j c, to))
         ]
@@ -190,7 +190,7 @@ module _ (kept : Failing) (layout : Layout) (table : IsTable layout.chunks) (own
     counts_with write images x =
         let row = row_of kept (targets layout wants) chunk r in
         ap (λ y. count_row images layout write y row) (sym (more_counts write q r n.later between_empty images x))
-        ∙ sym (fold_append (count_row images layout write) x (rows_to kept (targets layout wants) chunk r) (row ∷ []))
+        ∙ sym (fold-append (count_row images layout write) x (rows_to kept (targets layout wants) chunk r) (row ∷ []))
         ∙ ap (λ rs. rows_count layout write rs images x) (sym last_row)
 
     -- ---- the row, as it is to be mended

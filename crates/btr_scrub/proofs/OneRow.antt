@@ -39,8 +39,7 @@ use Rattle.btr_scrub_copies.proofs.Turning.{strands_same}
 use Rattle.btr_scrub_row.proofs.Elements.{range_stands, stands_on}
 use Rattle.btr_scrub.proofs.Positions.{find_at, lies_alone}
 use Rattle.btr_scrub.proofs.Scrubbing.{does_fault, does_value, does_weaker, tell, told, waits_weaker}
-use Rattle.btr_scrub.proofs.Lists.{all_from, all_in}
-use Rattle.btr_scrub.proofs.SomeCandidate.{any_at}
+use Rattle.btr_scrub.proofs.Lists.{all_from, all_in, any_at}
 
 -- the number of its chunk
 pub chunk_number : (layout : Layout) (start number : ℕ) (row : Row) → IsFullStripe layout start number row → (i : ℕ)

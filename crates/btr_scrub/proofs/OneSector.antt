@@ -131,6 +131,3 @@ sectors_all s sums count addr =
     let all : count ≡ count - 0 = omega arith in
     let here : addr ≡ addr + 0 * 4096 = omega arith in
     ap (λ n. sectors s sums n addr) all ∙ ap (λ a. sectors s sums (count - 0) a) here
-
-pub sectors_none : (s : Super) (sums : Option TreeRoot) (count addr i : ℕ) → count ≤ i → sectors s sums (count - i) addr ≡ Return tt
-sectors_none s sums count addr i le = let none : count - i ≡ 0 = omega (arith, le) in ap (λ n. sectors s sums n addr) none

@@ -1,7 +1,7 @@
 -- Whatever stands in the ranges of the writes, each checked block can be had.
 use Rattle.std.proofs.Common.{◌≡◌, ◌⊎◌, ℕ, ◌+◌, ◌*◌, ◌/◌, ◌<◌, ◌≤◌, Bool, true, false, not, cond, ◌&&◌, ◌||◌, eqb, List, [], ◌∷◌, map, slice_get}
 use Rattle.std.proofs.Common.{Option, Some, None, is_none, is_some, IsSome, IsSomeAnd, refl, sym, ap, ◌∙◌, subst, inl, inr, arith, Result, Ok, Err}
-use Rattle.std.proofs.lemmas.Bool.{false≢true, and_from, and_parts, eq-eqb}
+use Rattle.std.proofs.lemmas.Bool.{false≢true, and_from, and_parts, eq-eqb, or_parts, both_ways, not-true, false_from_ne_true}
 use Rattle.std.specs.Str.{bytes_eq}
 use Rattle.std.proofs.lemmas.Option.{same_Some}
 use Rattle.std.specs.List.{cons_option, list_any, range_with_len}
@@ -18,11 +18,10 @@ use Rattle.btr_chunk.proofs.Apart.{copies_apart}
 use Rattle.btr_rack.specs.declared.place.Place.{Place as Range}
 use Rattle.btr_read.specs.Candidates.{Target, candidates, element, range_of, size_of, stands, value_of}
 use Rattle.btr_read.specs.Fate.{is_plain, Fault, sought}
-use Rattle.btr_read.specs.Layout.{HaveOwnSlots, Layout, device_in}
+use Rattle.btr_read.specs.Layout.{HaveOwnSlots, Layout}
 use Rattle.btr_read.specs.Want.{addr_of, len_of}
 use Rattle.btr_read.specs.declared.candidate.Candidate.{Candidate}
 use Rattle.btr_read.specs.declared.candidate.Candidate.TheVariants.{Read}
-use Rattle.btr_read.specs.declared.device.Device.{Device}
 use Rattle.btr_read.specs.declared.want.Want.{Want}
 use Rattle.btr_read.proofs.Fates.{sought_of}
 use Rattle.btr_read.proofs.Ones.{in_below}
@@ -44,31 +43,19 @@ use Rattle.btr_scrub.specs.Right.{Committed, HasFewWrongAt, HasRightPlace, Stand
 use Rattle.btr_scrub.specs.Scrubbing.{all_writes_for, chunk_writes_for, rows_writes, sites_in, sites_writes}
 use Rattle.btr_scrub.specs.Staying.{AvoidRight, IsInCopies, IsInWrong}
 use Rattle.btr_scrub.proofs.AcrossChunks.{copy_in_chunk, element_in_chunk, of_chunk, one_chunk, row_is}
-use Rattle.btr_scrub.proofs.Agreeing.{IsTrusted, of_mapped, trusted_from}
+use Rattle.btr_scrub.proofs.Agreeing.{IsTrusted, trusted_from}
 use Rattle.btr_scrub.proofs.Blockwise.{all_behind, of_targets, part_is_given}
 use Rattle.btr_scrub.proofs.CopyWrites.{same_element, written_byte}
 use Rattle.btr_scrub.proofs.OwnPlaces.{stale_own}
-use Rattle.btr_scrub.proofs.Lists.{any_in, at_in, in_any, in_map}
-use Rattle.btr_scrub.proofs.Positions.{IsCopyByte, copy_of_range, is_of_copy, is_sought, left_false, of_range, shares}
+use Rattle.btr_scrub.proofs.Lists.{any_in, at_in, in_any, in_map, of_mapped, in_filter, some_of, any_map, mapped, any_flat, any_filter_map}
+use Rattle.btr_scrub.proofs.Positions.{IsCopyByte, copy_of_range, is_of_copy, is_sought, of_range, shares}
 use Rattle.btr_scrub.proofs.RowWrites.{written_row}
 use Rattle.btr_scrub.proofs.RowNumbers.{row_fits}
 use Rattle.btr_scrub.proofs.SoundRows.{CanBeHad, is_row, right_is_sound, right_passes, right_there, sound_row}
 use Rattle.btr_scrub.proofs.Staying.{row_outlives_writes}
-use Rattle.btr_scrub.proofs.Survival.{in_filter, some_of}
-use Rattle.btr_scrub.proofs.Writes.{any_filter_map, any_flat, any_map, mapped, row_writes_are_wrong}
-
--- an image that isn't in doubt isn't behind
-sure_not_behind : (fails : Failing) (t : Target) (part : Part) → is_on_doubtful fails t part ≡ false → is_on_behind fails t part ≡ false
-sure_not_behind fails t part e = by (device_in t.devices (place_at t.chunk part t.at).devid) e
-  where
-    both : (a b : Bool) → (a || b) ≡ false → (a && b) ≡ false
-    both true b e = absurd (false≢true (sym e))
-    both false b e = refl
-
-    by : (o : Option Device) → option_map_or (λ device. device.older || fails device.slot) o false ≡ false
-        → option_map_or (λ device. device.older && fails device.slot) o false ≡ false
-    by None e = refl
-    by (Some device) e = both device.older (fails device.slot) e
+use Rattle.btr_scrub.proofs.Writes.{row_writes_are_wrong}
+use Rattle.btr_scrub.proofs.Pasting.{written_by}
+use Rattle.btr_scrub.proofs.Calm.{sure_device}
 
 -- blocks that are apart and have an address in common are the same
 pub same_block : (layout : Layout) (wants : List Want) (end : ℕ) (t u : Target) (one other : ℕ) → AreApart layout end wants
@@ -168,8 +155,7 @@ module _ (kept : Failing) (images : Images) (layout : Layout) (wants : List Want
 
   for_what : (slot off : ℕ) → list_any (covers slot off) ranges ≡ true → ForCopies slot off ⊎ ForRow slot off
   for_what slot off h =
-      let any : list_any (covered_at slot off) ws ≡ true = sym (any_map (covers slot off) (λ (w : Write). w.range) ws) ∙ h in
-      let f = any_flat (covered_at slot off) (λ c. chunk_writes_for kept layout c wants images) layout.chunks any in
+      let f = written_by slot off (λ c. chunk_writes_for kept layout c wants images) layout.chunks h in
       let j = at_in f.0 layout.chunks f.1 in
       for_chunk slot off j.0 f.0 j.1 f.2
 
@@ -195,10 +181,6 @@ module _ (kept : Failing) (images : Images) (layout : Layout) (wants : List Want
   module _ (t : Target) (among : In t ts) (is : IsSought layout t) (n : ℕ) (has : mirrors t.chunk ≡ Some n) where
     own_are : own_parts t ≡ map Mirror (range_with_len 0 n)
     own_are = ap (λ o. option_map_or (λ copies. map Mirror (range_with_len 0 copies)) o (Slice t.at.index ∷ [])) has
-
-    not_bad : (b : Bool) → not b ≡ true → b ≡ true → ⊥
-    not_bad true e f = false≢true e
-    not_bad false e f = false≢true f
 
     module _ (k : ℕ) (lt : k < n) (range : Range) (whole : range_of t (Mirror k) ≡ Some range) where
       abbrev byte : (slot off : ℕ) → covers slot off range ≡ true → IsCopyByte layout t slot off
@@ -242,11 +224,7 @@ module _ (kept : Failing) (images : Images) (layout : Layout) (wants : List Want
             false≢true (sym (ap is_some f.parity) ∙ ap (λ k. is_some (mirrors k)) (sym chunk) ∙ ap is_some has)
 
         free : (slot off : ℕ) → covers slot off range ≡ true → list_any (covers slot off) ranges ≡ false
-        free slot off c = by (list_any (covers slot off) ranges) refl
-          where
-            by : (b : Bool) → list_any (covers slot off) ranges ≡ b → list_any (covers slot off) ranges ≡ false
-            by false e = e
-            by true e = absurd (not_written slot off c (for_what slot off e))
+        free slot off c = false_from_ne_true (list_any (covers slot off) ranges) (λ e. absurd (not_written slot off c (for_what slot off e)))
 
         stays : (left : Images) → KeepsOutside ranges images left → element left t (Mirror k) ≡ element images t (Mirror k)
         stays left keeps = same_element images left layout ranges t (Mirror k) lengths is keeps
@@ -271,7 +249,7 @@ module _ (kept : Failing) (images : Images) (layout : Layout) (wants : List Want
           by None e h = false≢true h
           by (Some bytes) e h =
               not_over k lt range whole bytes (stale_parts images kept t) (stale_own kept images t)
-              (λ i. false≢true (sym (sure_not_behind kept t (Mirror k) sure) ∙ stale (fresh images kept t) i)) slot off c h
+              (λ i. false≢true (sym (sure_device kept t.devices (place_at t.chunk (Mirror k) t.at).devid sure) ∙ stale (fresh images kept t) i)) slot off c h
 
       fresh_stays : (left : Images) → KeepsOutside ranges images left → fresh left kept t ≡ fresh images kept t
       fresh_stays left keeps = by (first_trusted kept t) refl
@@ -285,7 +263,7 @@ module _ (kept : Failing) (images : Images) (layout : Layout) (wants : List Want
               let r = some_of (range_of t (Mirror j.0)) given in
               let sure : (is_on_doubtful kept t (Mirror j.0) || false) ≡ false = ap (reads_doubtful kept t) j.2 ∙ trusted.sure in
               sym (ap (value_of left t) j.2)
-              ∙ stays j.0 lt r.0 r.1 (not_freshened j.0 lt (left_false (is_on_doubtful kept t (Mirror j.0)) false sure) r.0 r.1) left keeps
+              ∙ stays j.0 lt r.0 r.1 (not_freshened j.0 lt (or_parts (is_on_doubtful kept t (Mirror j.0)) false sure).0 r.0 r.1) left keeps
               ∙ ap (value_of images t) j.2
 
           by : (o : Option Candidate) → first_trusted kept t ≡ o → option_map (value_of left t) o ≡ option_map (value_of images t) o
@@ -350,8 +328,8 @@ module _ (kept : Failing) (images : Images) (layout : Layout) (wants : List Want
             by (Some bytes) e h =
                 not_over t among is n has k lt range whole bytes (bad_parts images t)
                 (λ part i. (passing_filter (λ part. not (is_sound images t part)) part (own_parts t) i).0)
-                (λ i. not_bad t among is n has (is_sound images t (Mirror k))
-                (passing_filter (λ part. not (is_sound images t part)) (Mirror k) (own_parts t) i).1
+                (λ i. both_ways (is_sound images t (Mirror k)) (not-true (is_sound images t (Mirror k))
+                (passing_filter (λ part. not (is_sound images t part)) (Mirror k) (own_parts t) i).1)
                 (right_is_sound kept images layout C wants table own none lengths had t among checked is (Mirror k) bytes e right)) slot off c h
 
         copies_outlive : HasRightPlace images C t → (left : Images) → KeepsOutside ranges images left → StandsFor left C t

@@ -4,16 +4,17 @@ use Rattle.std.proofs.Common.{subst, inl, inr, arith}
 use Rattle.std.proofs.lemmas.Option.{same_Some}
 use Rattle.std.specs.List.{fold, list_any}
 use Rattle.btr_rack.specs.declared.place.Place.{Place as Range}
-use Rattle.btr_scrub_copies.specs.Writes.{Images, IsStopped, IsTorn, Leaves, Write, write_on, writes_if}
+use Rattle.btr_scrub_copies.specs.Writes.{Images, IsStopped, IsTorn, LeaveImages, Write, write_on, writes_if}
 use Rattle.btr_scrub_copies.specs.declared.mended.MendFault.{MendFault}
 use Rattle.btr_scrub.specs.WrittenRanges.{KeepsOutside}
 use Rattle.btr_scrub.specs.Repair.{covers}
 use Rattle.btr_scrub.specs.Scrubbing.{chunk_writes_for}
 use Rattle.btr_scrub.specs.Whole.{WorksKeepTheRest, listed_failing, listed_writes_for}
-use Rattle.btr_scrub.proofs.AcrossChunks.{chunk_short, flat_short}
+use Rattle.btr_scrub.proofs.AcrossChunks.{chunk_short}
 use Rattle.btr_scrub.proofs.Lists.{at_in}
-use Rattle.btr_scrub.proofs.Shorts.{Short, one_short, shorts_keep, shorts_keep_if}
 use Rattle.std.proofs.lemmas.Bool.{false≢true}
+use Rattle.btr_scrub.proofs.Pasting.{Short, one_short, shorts_keep, shorts_keep_if}
+use Rattle.btr_scrub.proofs.Shorts.{flat_short}
 
 pub left_short : (images : Images) (xs ys : List Write) → All (Short images) (xs ++ ys) → All (Short images) xs
 left_short images [] ys all i d below = absurd (omega (arith, below))
@@ -82,14 +83,14 @@ works_keep_the_rest layout write wants count old new t u result images left tabl
     shorts : All (Short images) (listed_writes_for layout wants images)
     shorts = flat_short images (λ c. chunk_writes_for (listed_failing layout wants images) layout c wants images) layout.chunks (λ c i. let j = at_in c layout.chunks i in chunk_short (listed_failing layout wants images) layout table own given j.0 c j.1 wants images lengths)
 
-    by : (r : Result (Unit {0}) MendFault) → Leaves (λ images. writes_if write (listed_writes_for layout wants images)) old.held new.held r
+    by : (r : Result (Unit {0}) MendFault) → LeaveImages (λ images. writes_if write (listed_writes_for layout wants images)) old.held new.held r
         → KeepsOutside (ranges (listed_writes_for layout wants images)) images left
     by (Ok x) l =
-        let after : new.held ≡ Some (fold write_on images (writes_if write (listed_writes_for layout wants images))) = subst (λ o. Leaves {A = Unit {0}} {E = MendFault} (λ images. writes_if write (listed_writes_for layout wants images)) o new.held (Ok x)) held l in
+        let after : new.held ≡ Some (fold write_on images (writes_if write (listed_writes_for layout wants images))) = subst (λ o. LeaveImages {A = Unit {0}} {E = MendFault} (λ images. writes_if write (listed_writes_for layout wants images)) o new.held (Ok x)) held l in
         subst (KeepsOutside (ranges (listed_writes_for layout wants images)) images)
         (same_Some (fold write_on images (writes_if write (listed_writes_for layout wants images))) left (sym after ∙ is))
         (shorts_keep_if write images (listed_writes_for layout wants images) shorts)
     by (Err e) l =
-        let stopped : IsSomeAnd new.held (IsStopped (writes_if write (listed_writes_for layout wants images)) images) = subst (λ o. Leaves {A = Unit {0}} {E = MendFault} (λ images. writes_if write (listed_writes_for layout wants images)) o new.held (Err e)) held l in
+        let stopped : IsSomeAnd new.held (IsStopped (writes_if write (listed_writes_for layout wants images)) images) = subst (λ o. LeaveImages {A = Unit {0}} {E = MendFault} (λ images. writes_if write (listed_writes_for layout wants images)) o new.held (Err e)) held l in
         stopped_if write images left (listed_writes_for layout wants images) shorts
         (subst (λ o. IsSomeAnd o (IsStopped (writes_if write (listed_writes_for layout wants images)) images)) is stopped)

@@ -1,6 +1,5 @@
 -- The places at which something is wrong with a block are its own.
-use Rattle.std.proofs.Common.{Bool, true, false, not, cond, List, Option, Some, None, []}
-use Rattle.std.proofs.Common.{ℕ}
+use Rattle.std.proofs.Common.{Bool, true, false, not, cond, List, Option, Some, None, [], ℕ}
 use Rattle.std.specs.Option.{option_map_or}
 use Rattle.btr_chunk.specs.declared.place.Part.{Part}
 use Rattle.btr_read.specs.Candidates.{Target}

@@ -27,9 +27,11 @@ use Rattle.btr_scrub.specs.Order.{IsSought, targets}
 use Rattle.btr_scrub.specs.Repair.{stood}
 use Rattle.btr_scrub.specs.Scrubbing.{IsOfScrub, Scrubs, count_site, counted, counted_plain, sites_count, sites_writes}
 use Rattle.btr_scrub.specs.declared.tally.Tally.{Tally}
-use Rattle.btr_scrub.proofs.Blockwise.{IsNext, IsUnderway, fold_append, in_append, next_block, one_target}
+use Rattle.btr_scrub.proofs.Blockwise.{IsNext, IsUnderway, next_block, one_target}
 use Rattle.btr_scrub.proofs.Calm.{none_fresh, none_freshened, nothing}
 use Rattle.btr_scrub.proofs.Scrubbing.{held_after, scrubs_as, told}
+use Rattle.btr_read.proofs.Ones.{in_either}
+use Rattle.std.proofs.lemmas.List.Sums.{fold-append}
 
 -- ---- what is a plain sector
 
@@ -107,7 +109,7 @@ module _ (fails : Failing) (layout : Layout) (write : Bool) (table : IsTable lay
       counts_same images held =
           let u = sites_count fails write ps images tally in
           let was : tally' ≡ u = told a.held (λ images. tally' ≡ sites_count fails write ps images tally) images held h.done.counts in
-          fold_append (count_site fails images write) tally ps (t ∷ [])
+          fold-append (count_site fails images write) tally ps (t ∷ [])
           ∙ none_counted images u ∙ ap (λ x. counted_plain x nothing) (sym was) ∙ still images held ∙ was
 
       pub one_passed : IsUnderway fails layout write chunk wants rest m m' a b tally tally'
@@ -118,7 +120,7 @@ module _ (fails : Failing) (layout : Layout) (write : Bool) (table : IsTable lay
             split = h.split ∙ sym (append_assoc h.past (want ∷ []) rest);
             end = addr_of want + len_of layout.setting want;
             from = omega (arith, next.from);
-            sound = λ u i. elim (in_append u ps (t ∷ []) (subst (In u) ts i)) [
+            sound = λ u i. elim (in_either u ps (t ∷ []) (subst (In u) ts i)) [
               | inl j ↦ let s = h.sound u j in (s.0, s.1, omega (arith, s.2, here, next.behind, next.ends))
               | inr (inl e) ↦ subst (λ v. IsSought layout v × (v.chunk ≡ chunk)
                   × (addr_of v.want + size_of v ≤ addr_of want + len_of layout.setting want)) e (next.is, next.mine, omega (arith, next.ends))

@@ -1,9 +1,9 @@
 -- Blocks that lie in a chunk of the table have a position.
-use Rattle.std.proofs.Common.{◌≡◌, ℕ, zero, suc, ◌+◌, ◌-◌, ◌*◌, ◌%◌, ◌<◌, ◌≤◌, Bool, true, false, cond, ◌&&◌, ◌||◌, leb, ltb, List, [], ◌∷◌, ◌++◌, Some, Ok, Err}
+use Rattle.std.proofs.Common.{◌≡◌, ℕ, zero, suc, ◌+◌, ◌-◌, ◌*◌, ◌%◌, ◌<◌, ◌≤◌, Bool, true, false, cond, ◌&&◌, leb, ltb, List, [], ◌∷◌, ◌++◌, Some, Ok, Err}
 use Rattle.std.proofs.Common.{IsOk, inr, refl, sym, ap, ◌∙◌, subst, arith}
 use Rattle.std.specs.Prelude.{slice_get}
 use Rattle.std.specs.List.{position_or_len}
-use Rattle.std.proofs.lemmas.Bool.{false≢true, and_from, and_parts, leb-true, ltb-true, le-leb, lt-ltb}
+use Rattle.std.proofs.lemmas.Bool.{and_from, and_parts, leb-true, ltb-true, le-leb, lt-ltb, le-ltb, or_from, and_right, false_from_ne_true}
 use Rattle.std.proofs.lemmas.List.Folds.{find_at}
 use Rattle.btr_chunk.specs.Chunk.{is_striped}
 use Rattle.btr_chunk.specs.Mapping.{crosses, holds, position}
@@ -22,21 +22,6 @@ use Rattle.btr_scrub.specs.Listed.{PassesFrom, plains_from}
 use Rattle.btr_scrub.specs.Order.{AreUpTo}
 use Rattle.btr_walk.specs.declared.fault.TreeFault.{TreeFault}
 
-not_below : (a b : ℕ) → a ≤ b → ltb b a ≡ false
-not_below a b le = by (ltb b a) refl
-  where
-    by : (c : Bool) → ltb b a ≡ c → ltb b a ≡ false
-    by false e = e
-    by true e = absurd (omega (arith, ltb-true b a e, le))
-
-both_false : (a b : Bool) → a ≡ false → b ≡ false → (a || b) ≡ false
-both_false true b e f = absurd (false≢true (sym e))
-both_false false b e f = f
-
-and_false : (a b : Bool) → b ≡ false → (a && b) ≡ false
-and_false true b f = f
-and_false false b f = refl
-
 module _ (layout : Layout) (table : IsTable layout.chunks) (number : ℕ) (chunk : Chunk) (there : slice_get layout.chunks number ≡ Some chunk) where
   -- an address in the chunk is held by it
   held_by : (addr : ℕ) → chunk.start ≤ addr → addr < chunk.start + chunk.length → holds chunk addr ≡ true
@@ -47,13 +32,9 @@ module _ (layout : Layout) (table : IsTable layout.chunks) (number : ℕ) (chunk
   chunk_there addr from to = find-first (λ c. holds c addr) layout.chunks number chunk there (held_by addr from to) (λ j c lt e. before j c lt e)
     where
       before : (j : ℕ) (c : Chunk) → j < number → slice_get layout.chunks j ≡ Some c → holds c addr ≡ false
-      before j c lt e = by (holds c addr) refl
-        where
-          by : (b : Bool) → holds c addr ≡ b → holds c addr ≡ false
-          by false h = h
-          by true h =
-              let p = and_parts (leb c.start addr) (ltb addr (c.start + c.length)) h in
-              absurd (omega (arith, ltb-true addr (c.start + c.length) p.1, (table.apart j number c chunk lt e there).0, from))
+      before j c lt e = false_from_ne_true (holds c addr) (λ h.
+          let p = and_parts (leb c.start addr) (ltb addr (c.start + c.length)) h in
+          absurd (omega (arith, ltb-true addr (c.start + c.length) p.1, (table.apart j number c chunk lt e there).0, from)))
 
   -- a block that doesn't cross has a position
   pub placed : (want : Want) → chunk.start ≤ addr_of want → addr_of want < chunk.start + chunk.length
@@ -68,10 +49,10 @@ module _ (layout : Layout) (table : IsTable layout.chunks) (number : ℕ) (chunk
 
   pub sector_fits : (addr : ℕ) → addr % 4096 ≡ 0 → chunk.start ≤ addr → addr + 4096 ≤ chunk.start + chunk.length → crosses chunk addr 4096 ≡ false
   sector_fits addr aligned from to =
-      both_false (ltb (chunk.start + chunk.length) (addr + 4096)) (is_striped chunk.profile && ltb 65536 ((addr - chunk.start) % 65536 + 4096))
-      (not_below (addr + 4096) (chunk.start + chunk.length) to)
-      (and_false (is_striped chunk.profile) (ltb 65536 ((addr - chunk.start) % 65536 + 4096))
-      (not_below ((addr - chunk.start) % 65536 + 4096) 65536 (omega (arith, aligned, (facts chunk (table.sound number chunk there).0).aligned, from))))
+      or_from (ltb (chunk.start + chunk.length) (addr + 4096)) (is_striped chunk.profile && ltb 65536 ((addr - chunk.start) % 65536 + 4096))
+      (le-ltb (chunk.start + chunk.length) (addr + 4096) to)
+      (and_right (is_striped chunk.profile) (ltb 65536 ((addr - chunk.start) % 65536 + 4096))
+      (le-ltb 65536 ((addr - chunk.start) % 65536 + 4096) (omega (arith, aligned, (facts chunk (table.sound number chunk there).0).aligned, from))))
 
 -- the chunk that holds an address does so
 at_chunk : (addr : ℕ) (chunks : List Chunk) (chunk : Chunk) → chunk_at chunks addr ≡ Some chunk → holds chunk addr ≡ true
@@ -97,10 +78,6 @@ placed_in layout table addr chunk is aligned i lt =
     let same : other % 4096 ≡ 0 = omega (arith, aligned) in
     let within : other + 4096 ≤ chunk.start + chunk.length = omega (arith, lt) in
     placed layout table number chunk there (Plain other) behind (omega (arith, within)) (sector_fits layout table number chunk there other same behind within)
-
--- where nothing begins before the bound
-pub none_placed : (layout : Layout) (addr : ℕ) → ArePlaced layout addr addr
-none_placed layout addr i lt = absurd (omega (arith, lt))
 
 -- ---- plain sectors that are passed
 

@@ -1,6 +1,6 @@
 -- Whether blocks have a position.
 use Rattle.std.proofs.Common.{◌≡◌, ℕ, ◌+◌, ◌-◌, ◌%◌, ◌≤◌, Bool, true, false, cond, ◌&&◌, ltb, Some, None, Result, Ok, Err, IsOk, refl, sym, ap, ◌∙◌, subst}
-use Rattle.std.proofs.lemmas.Bool.{false≢true}
+use Rattle.std.proofs.lemmas.Bool.{false≢true, or_parts, ltb-false}
 use Rattle.btr_chunk.specs.Chunk.{is_striped}
 use Rattle.btr_chunk.specs.Mapping.{crosses, elements_of, holds, position}
 use Rattle.btr_chunk.specs.Table.{chunk_at}
@@ -15,7 +15,6 @@ use Rattle.btr_read.specs.Want.{addr_of, len_of}
 use Rattle.btr_read.specs.declared.want.Want.{Want}
 use Rattle.btr_walk.specs.declared.fault.TreeFault.TheVariants as tree
 use Rattle.btr_scrub.specs.Judging.{JudgedOne}
-use Rattle.btr_scrub.proofs.Positions.{left_false, not_above}
 
 -- a refusal is no value
 pub not_ok : (r : Result Target Fault) (f : Fault) → r ≡ Err f → IsOk r → ⊥
@@ -28,8 +27,8 @@ ends_inside chunk addr len at e = by (holds chunk addr) (crosses chunk addr len)
     by : (h c : Bool) → crosses chunk addr len ≡ c → cond h (cond c (Err map_fault.Crosses) (Ok (position chunk addr))) (Err map_fault.Unmapped)
         ≡ Ok at → addr + len ≤ chunk.start + chunk.length
     by true true fine e = cc
-    by true false fine e = not_above (chunk.start + chunk.length) (addr + len)
-        (left_false (ltb (chunk.start + chunk.length) (addr + len)) (is_striped chunk.profile && ltb 65536 ((addr - chunk.start) % 65536 + len)) fine)
+    by true false fine e = ltb-false (chunk.start + chunk.length) (addr + len)
+        (or_parts (ltb (chunk.start + chunk.length) (addr + len)) (is_striped chunk.profile && ltb 65536 ((addr - chunk.start) % 65536 + len)) fine).0
     by false c fine e = cc
 
 module _ (layout : Layout) (from : ℕ) (want : Want) (addr : ℕ) (is : addr ≡ addr_of want) where
@@ -50,6 +49,3 @@ module _ (layout : Layout) (from : ℕ) (want : Want) (addr : ℕ) (is : addr �
 
     pub crosses_there : Err map_fault.Crosses ≡ elements_of chunk addr len → JudgedOne layout from want (Err (tree.Crosses addr))
     crosses_there e = at_chunk (Err map_fault.Crosses) e ∙ ap (λ a. Err (Crosses a)) (sym is)
-
-    pub is_placed : (at : Elements) → Ok at ≡ elements_of chunk addr len → IsOk (sought layout want)
-    is_placed at e = subst IsOk (sym (at_chunk (Ok at) e)) refl

@@ -1,7 +1,7 @@
 -- Where blocks with copies lie.
 use Rattle.std.proofs.Common.{◌≡◌, ℕ, zero, suc, ◌+◌, ◌-◌, ◌*◌, ◌/◌, ◌%◌, ◌<◌, ◌≤◌, Bool, true, false, cond, ◌&&◌, ◌||◌, leb, ltb, List, [], ◌∷◌, length}
-use Rattle.std.proofs.Common.{get_or, slice_get, Option, Some, None, is_some, IsSomeAnd, IfSome, Ok, Err, refl, sym, ap, ◌∙◌, subst, inl, inr, arith}
-use Rattle.std.proofs.lemmas.Bool.{false≢true, and_from, and_parts, leb-true, ltb-true, le-leb, lt-ltb, cases_lt}
+use Rattle.std.proofs.Common.{get_or, slice_get, Option, Some, None, is_some, IsSomeAnd, IfSome, Ok, Err, refl, sym, ap, ◌∙◌, subst, arith}
+use Rattle.std.proofs.lemmas.Bool.{and_from, and_parts, leb-true, ltb-true, le-leb, lt-ltb, or_parts, ltb-false}
 use Rattle.std.proofs.lemmas.Option.{same_Some, slice_get_within}
 use Rattle.std.specs.List.{Any, cons_option, find}
 use Rattle.btr_chunk.specs.Apart.{IsOfCopy}
@@ -36,7 +36,7 @@ use Rattle.btr_scrub.specs.Order.{IsSought}
 use Rattle.btr_scrub.specs.Repair.{covers}
 use Rattle.btr_scrub_row.proofs.Elements.{range_stands, stands_on}
 use Rattle.btr_scrub.proofs.Places.{covering}
-use Rattle.btr_scrub.proofs.SomeCandidate.{any_at}
+use Rattle.btr_scrub.proofs.Lists.{any_at}
 
 -- ---- what is sought
 
@@ -96,17 +96,6 @@ copy_stripe Raid10 n copy at bt e = ap (λ i. 2 * i + copy) e
 copy_stripe Raid5 n copy at bt e = refl
 copy_stripe Raid6 n copy at bt e = refl
 
-pub left_false : (a b : Bool) → (a || b) ≡ false → a ≡ false
-left_false true b e = e
-left_false false b e = refl
-
-pub right_false : (a b : Bool) → (a || b) ≡ false → b ≡ false
-right_false true b e = absurd (false≢true (sym e))
-right_false false b e = e
-
-pub not_above : (a b : ℕ) → ltb a b ≡ false → b ≤ a
-not_above a b e = elim (cases_lt a b) [ inl lt ↦ absurd (false≢true (sym e ∙ lt-ltb a b lt)) | inr le ↦ le ]
-
 -- a byte behind another in one piece lies in the same element
 record IsBehind (at bt : Elements) (d : ℕ) : Type 0 where
   row : bt.row ≡ at.row
@@ -133,7 +122,7 @@ position_behind chunk addr len d from fine lt = by (is_striped chunk.profile) fi
         → IsBehind (place_in b (data_count chunk.profile (length chunk.stripes)) (addr - chunk.start))
         (place_in b (data_count chunk.profile (length chunk.stripes)) (addr + d - chunk.start)) d
     by true fine =
-        let small : (addr - chunk.start) % 65536 + len ≤ 65536 = not_above 65536 ((addr - chunk.start) % 65536 + len) (right_false (ltb (chunk.start + chunk.length) (addr + len)) (ltb 65536 ((addr - chunk.start) % 65536 + len)) fine) in
+        let small : (addr - chunk.start) % 65536 + len ≤ 65536 = ltb-false 65536 ((addr - chunk.start) % 65536 + len) (or_parts (ltb (chunk.start + chunk.length) (addr + len)) (ltb 65536 ((addr - chunk.start) % 65536 + len)) fine).1 in
         let k = data_count chunk.profile (length chunk.stripes) in
         subst (λ o. IsBehind (place_in true k (addr - chunk.start)) (place_in true k o) d) (sym offset)
         (rows_behind (addr - chunk.start) d k (omega (arith, small, lt)))
@@ -183,7 +172,7 @@ is_of_copy layout t slot off table is b =
     let sound = (table.sound is.number t.chunk is.there).0 in
     let h = and_parts (leb t.chunk.start addr) (ltb addr (t.chunk.start + t.chunk.length)) is.held in
     let from = leb-true t.chunk.start addr h.0 in
-    let ends : addr + size_of t ≤ t.chunk.start + t.chunk.length = not_above (t.chunk.start + t.chunk.length) (addr + size_of t) (left_false (ltb (t.chunk.start + t.chunk.length) (addr + size_of t)) (is_striped t.chunk.profile && ltb 65536 ((addr - t.chunk.start) % 65536 + size_of t)) is.uncrossed) in
+    let ends : addr + size_of t ≤ t.chunk.start + t.chunk.length = ltb-false (t.chunk.start + t.chunk.length) (addr + size_of t) (or_parts (ltb (t.chunk.start + t.chunk.length) (addr + size_of t)) (is_striped t.chunk.profile && ltb 65536 ((addr - t.chunk.start) % 65536 + size_of t)) is.uncrossed).0 in
     let there : holds t.chunk (addr + b.behind) ≡ true = and_from (leb t.chunk.start (addr + b.behind)) (ltb (addr + b.behind) (t.chunk.start + t.chunk.length)) (le-leb t.chunk.start (addr + b.behind) (omega (arith, from))) (lt-ltb (addr + b.behind) (t.chunk.start + t.chunk.length) (omega (arith, ends, b.below))) in
     let one = position t.chunk addr in
     let two = position t.chunk (addr + b.behind) in
@@ -259,10 +248,10 @@ reaches chunk addr len sound held fine = by (is_striped chunk.profile) refl fine
         ((addr - chunk.start) % 65536 + len)) ≡ false → (place_in b (data_count chunk.profile (length chunk.stripes)) (addr - chunk.start)).row *
         65536 + (place_in b (data_count chunk.profile (length chunk.stripes)) (addr - chunk.start)).rest + len ≤ stripe_length chunk
     by true striped fine =
-        let small : (addr - chunk.start) % 65536 + len ≤ 65536 = not_above 65536 ((addr - chunk.start) % 65536 + len) (right_false (ltb (chunk.start + chunk.length) (addr + len)) (ltb 65536 ((addr - chunk.start) % 65536 + len)) fine) in
+        let small : (addr - chunk.start) % 65536 + len ≤ 65536 = ltb-false 65536 ((addr - chunk.start) % 65536 + len) (or_parts (ltb (chunk.start + chunk.length) (addr + len)) (ltb 65536 ((addr - chunk.start) % 65536 + len)) fine).1 in
         (reaches-rows chunk (addr - chunk.start) len sound striped (omega (arith, from, below)) small).inside
     by false mirrored fine =
-        let ends : addr + len ≤ chunk.start + chunk.length = not_above (chunk.start + chunk.length) (addr + len) (left_false (ltb (chunk.start + chunk.length) (addr + len)) false fine) in
+        let ends : addr + len ≤ chunk.start + chunk.length = ltb-false (chunk.start + chunk.length) (addr + len) (or_parts (ltb (chunk.start + chunk.length) (addr + len)) false fine).0 in
         let k = data_count chunk.profile (length chunk.stripes) in
         let one : k ≡ 1 = data_count-mirrored chunk.profile (length chunk.stripes) mirrored in
         let whole : chunk.length / k ≡ chunk.length = ap (λ n. chunk.length / n) one ∙ omega arith in
@@ -359,5 +348,4 @@ pub striped_fits : (chunk : Chunk) (addr len : ℕ) → is_striped chunk.profile
     + len ≤ 65536
 striped_fits chunk addr len striped fine =
     let both : (ltb (chunk.start + chunk.length) (addr + len) || true && ltb 65536 ((addr - chunk.start) % 65536 + len)) ≡ false = ap (λ b. ltb (chunk.start + chunk.length) (addr + len) || b && ltb 65536 ((addr - chunk.start) % 65536 + len)) (sym striped) ∙ fine in
-    not_above 65536 ((addr - chunk.start) % 65536 + len) (right_false (ltb (chunk.start + chunk.length) (addr + len))
-    (ltb 65536 ((addr - chunk.start) % 65536 + len)) both)
+    ltb-false 65536 ((addr - chunk.start) % 65536 + len) (or_parts (ltb (chunk.start + chunk.length) (addr + len)) (ltb 65536 ((addr - chunk.start) % 65536 + len)) both).1

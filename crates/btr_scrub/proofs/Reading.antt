@@ -4,7 +4,6 @@ use Rattle.std.proofs.Common.{ap, ◌∙◌, append_assoc, subst, inl, inr, arit
 use Rattle.std.proofs.Math.Nat.{suc-mul}
 use Rattle.std.proofs.lemmas.Bool.{cases_lt}
 use Rattle.std.proofs.lemmas.List.{drop-drop, length-drop}
-use Rattle.std.proofs.lemmas.Option.{same_Some}
 use Rattle.btr_base.specs.Sum.{sum_size, stored_sum}
 use Rattle.btr_base.specs.declared.kind.SumKind.{SumKind}
 use Rattle.btr_base.specs.declared.kind.SumKind.TheVariants.{Crc32c, Sha256, Xxh64}
@@ -17,9 +16,10 @@ use Rattle.btr_scrub.specs.declared.run.RunKind.{RunKind}
 use Rattle.btr_scrub.specs.declared.run.RunKind.TheVariants.{TreeBlock, Sectors, Unsummed}
 use Rattle.btr_scrub.specs.declared.run.TreeMark.{TreeMark}
 use Rattle.btr_scrub.specs.BlocksInRows.{In}
-use Rattle.btr_scrub.specs.Listed.{AreRuns, Gives, IsNextPlain, IsPast, PassesFrom, PassesPlain, IsPlace, IsRun, Kept, StandsIn, all_sectors, all_trees, first_past, left_in, plains_from, plains_of}
+use Rattle.btr_scrub.specs.Listed.{AreRuns, GivesNext, IsNextPlain, IsPast, PassesFrom, PassesPlain, IsPlace, IsRun, Kept, StandsIn, all_sectors, all_trees, first_past, left_in, plains_from, plains_of}
 use Rattle.btr_scrub.specs.Listed.{run_left, run_wants, sectors_from, sectors_of, sums_past, trees_of, wants_left, wants_of}
 use Rattle.btr_scrub.proofs.Listing.{times_sum}
+use Rattle.btr_scrub.proofs.Firsts.{drop_one}
 
 -- a list from a place on
 pub drop_none : {X : Type 0} (xs : List X) (i : ℕ) → slice_get xs i ≡ None → drop i xs ≡ []
@@ -27,14 +27,6 @@ drop_none [] zero e = refl
 drop_none [] (suc i) e = refl
 drop_none (x ∷ xs) zero e = cc
 drop_none (x ∷ xs) (suc i) e = drop_none xs i e
-
-pub drop_suc : {X : Type 0} (xs : List X) (i : ℕ) (x : X) → slice_get xs i ≡ Some x → drop i xs ≡ x ∷ drop (suc i) xs
-drop_suc [] i x e = cc
-drop_suc (y ∷ ys) zero x e = ap (λ q. q ∷ ys) (same_Some y x e)
-drop_suc (y ∷ ys) (suc i) x e = drop_suc ys i x e
-
-pub drop_some : {X : Type 0} (xs : List X) (i : ℕ) (x : X) → slice_get xs i ≡ Some x → drop i xs ≡ x ∷ drop (i + 1) xs
-drop_some xs i x e = let next : suc i ≡ i + 1 = omega arith in drop_suc xs i x e ∙ ap (λ n. x ∷ drop n xs) next
 
 module _ (kind : SumKind) where
   run_start : (addr : ℕ) (k : RunKind) (sums : List ℕ) (ms : List TreeMark) → run_left kind addr k 0 sums ms ≡ run_wants kind addr k sums ms
@@ -324,7 +316,7 @@ module _ (kept : Kept) (run past sum mark : ℕ) where
 
   module _ (stands : StandsIn kept run past sum mark) (r : Run) (there : slice_get kept.runs run ≡ Some r) where
     runs_are : drop run kept.runs ≡ r ∷ drop (run + 1) kept.runs
-    runs_are = drop_some kept.runs run r there
+    runs_are = drop_one kept.runs run r there
 
     place : IsPlace kept.kind (r ∷ drop (run + 1) kept.runs) past (drop sum kept.sums) (drop mark kept.marks)
     place = subst (λ q. IsPlace kept.kind q past (drop sum kept.sums) (drop mark kept.marks)) runs_are stands
@@ -342,7 +334,7 @@ module _ (kept : Kept) (run past sum mark : ℕ) where
         → (left_in kept run past sum mark ≡ Tree r.addr m.generation m.level ∷ left_in kept (run + 1) past sum (mark + 1))
         × StandsIn kept (run + 1) past sum (mark + 1)
     at_tree m e is =
-        let marks = drop_some kept.marks mark m is in
+        let marks = drop_one kept.marks mark m is in
         let t = tree_left kept.kind r (drop (run + 1) kept.runs) past (drop sum kept.sums) m (drop (mark + 1) kept.marks) e (subst (λ q. IsPlace kept.kind (r ∷ drop (run + 1) kept.runs) past (drop sum kept.sums) q) marks place) in
         (left_here ∙ ap (λ q. wants_left kept.kind (r ∷ drop (run + 1) kept.runs) past (drop sum kept.sums) q) marks ∙ t.0, t.1)
 
@@ -397,7 +389,7 @@ module _ (kept : Kept) (run past sum mark : ℕ) (stands : StandsIn kept run pas
   notes = drop mark kept.marks
 
   at_place : IsPlace kept.kind (r ∷ behind) past bytes notes
-  at_place = subst (λ q. IsPlace kept.kind q past bytes notes) (drop_some kept.runs run r there) stands
+  at_place = subst (λ q. IsPlace kept.kind q past bytes notes) (drop_one kept.runs run r there) stands
 
   pub one_plain : past + 1 ≤ n
   one_plain = plain_left kept.kind r behind past bytes n notes e at_place
@@ -412,12 +404,12 @@ module _ (kept : Kept) (run past sum mark : ℕ) (stands : StandsIn kept run pas
       → (left_in kept run past sum mark ≡ plains_from (r.addr + past * 4096) d ++ left_in kept (run + 1) 0 sum mark) × StandsIn kept (run + 1) 0 sum mark
   at_plain_last d h =
       let t = plain_last kept.kind r behind past bytes n notes e at_place d h in
-      (ap (λ q. wants_left kept.kind q past bytes notes) (drop_some kept.runs run r there) ∙ t.0, t.1)
+      (ap (λ q. wants_left kept.kind q past bytes notes) (drop_one kept.runs run r there) ∙ t.0, t.1)
 
   pub at_plain_next : (d : ℕ) → past + d < n
       → (left_in kept run past sum mark ≡ plains_from (r.addr + past * 4096) d ++ left_in kept run (past + d) sum mark) × StandsIn kept run (past + d) sum mark
   at_plain_next d h =
-      let is = drop_some kept.runs run r there in
+      let is = drop_one kept.runs run r there in
       let t = plain_next kept.kind r behind past bytes n notes e at_place d h in (
         ap (λ q. wants_left kept.kind q past bytes notes) is ∙ t.0
             ∙ ap (λ q. plains_from (r.addr + past * 4096) d ++ wants_left kept.kind q (past + d) bytes notes) (sym is),
@@ -440,5 +432,5 @@ module _ (kept : Kept) (run past sum mark : ℕ) (stands : StandsIn kept run pas
         }
       ]
 
-pub gives_end : (old : List Want) (result : Option Want) → old ≡ [] → result ≡ None → Gives old result old
-gives_end old result e is = subst (λ r. Gives old r old) (sym is) (e, e)
+pub gives_end : (old : List Want) (result : Option Want) → old ≡ [] → result ≡ None → GivesNext old result old
+gives_end old result e is = subst (λ r. GivesNext old r old) (sym is) (e, e)

@@ -6,13 +6,13 @@ use Rattle.btr_read.specs.Want.{addr_of, len_of}
 use Rattle.btr_read.specs.declared.want.Want.{Want}
 use Rattle.btr_walk.specs.declared.fault.TreeFault.{TreeFault}
 use Rattle.btr_walk.specs.declared.fault.TreeFault.TheVariants as tree
-use Rattle.btr_scrub.specs.Judging.{IsBehind, IsFirstRefused, IsRefused}
+use Rattle.btr_scrub.specs.Judging.{BeginsFrom, IsFirstRefused, IsRefused}
 use Rattle.btr_scrub.specs.Order.{AreApart}
 use Rattle.btr_scrub.proofs.Placing.{not_ok}
 
 module _ (layout : Layout) where
   -- a refused block isn't behind the one before it
-  not_behind : (from : ℕ) (want : Want) (fault : TreeFault) → IsRefused layout from want fault → IsBehind layout from want → ⊥
+  not_behind : (from : ℕ) (want : Want) (fault : TreeFault) → IsRefused layout from want fault → BeginsFrom layout from want → ⊥
   not_behind from want (tree.Lost a) r b = r
   not_behind from want (tree.Unread a slot) r b = r
   not_behind from want (tree.Unmapped a) r b = not_ok (sought layout want) (Unmapped a) r b.1

@@ -31,8 +31,9 @@ use Rattle.btr_scrub_row.specs.Rows as rows
 use Rattle.btr_scrub_row.specs.Rows.{Row, blocks_at, column_of, differing, differs, element_with, is_decided, is_sure, is_surer, meets, parities, parity_writes, range_in_element}
 use Rattle.btr_scrub_row.specs.Rows.{row_writes, sector_write, slice_with, slices_with, with_block}
 use Rattle.btr_scrub.specs.BlocksInRows.{In}
-use Rattle.btr_scrub.proofs.Agreeing.{Alike, filter_map_same, filter_same, fresh_same, fresh_writes_same, of_mapped, stale_same, writes_alike}
+use Rattle.btr_scrub.proofs.Agreeing.{Alike, filter_map_same, filter_same, fresh_same, fresh_writes_same, stale_same, writes_alike}
 use Rattle.btr_scrub.proofs.Survival.{of_filter}
+use Rattle.btr_scrub.proofs.Lists.{of_mapped}
 
 -- ---- lists
 

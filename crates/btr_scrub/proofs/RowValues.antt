@@ -15,18 +15,17 @@ use Rattle.btr_read.specs.Candidates.{Target, candidates, copies, element, other
 use Rattle.btr_read.specs.Gathering.{read_slices}
 use Rattle.btr_read.specs.declared.candidate.Candidate.{Candidate}
 use Rattle.btr_read.specs.declared.candidate.Candidate.TheVariants.{Read, ByP, ByQ, ByBoth}
-use Rattle.btr_read.proofs.Ones.{in_below}
+use Rattle.btr_read.proofs.Ones.{in_below, in_either}
 use Rattle.btr_read.proofs.Order.{in_ways}
 use Rattle.btr_read.proofs.Rebuilt.{at_slice, length-rs, by_p, by_q, by_both}
 use Rattle.btr_scrub_copies.specs.Writes.{Images}
 use Rattle.btr_scrub.specs.BlocksInRows.{In}
-use Rattle.btr_scrub.proofs.Agreeing.{of_mapped}
-use Rattle.btr_scrub.proofs.Blockwise.{in_append}
 use Rattle.btr_scrub.proofs.RowNumbers.{in_range}
+use Rattle.btr_scrub.proofs.Lists.{of_mapped}
 
 -- another slice than the one that is sought is one of the row
 other_below : (k i x : ℕ) → i < k → In x (others k i) → (x < k) × (i ≢ x)
-other_below k i x lt among = elim (in_append x (range_with_len 0 i) (range_with_len (i + 1) (k - (i + 1))) among) [
+other_below k i x lt among = elim (in_either x (range_with_len 0 i) (range_with_len (i + 1) (k - (i + 1))) among) [
   | inl j ↦ let b = in_below i x j in (omega (arith, lt, b), λ e. absurd (omega (arith, e, b)))
   | inr j ↦ let b = in_range (i + 1) (k - (i + 1)) x j in (omega (arith, lt, b.1), λ e. absurd (omega (arith, e, b.0)))
 ]

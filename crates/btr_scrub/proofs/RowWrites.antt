@@ -41,10 +41,11 @@ use Rattle.btr_scrub_row.proofs.Elements.{range_stands, stands_on, stripe-row}
 use Rattle.btr_scrub.proofs.Places.{covered, covering}
 use Rattle.btr_scrub.proofs.Positions.{striped_fits, striped_position}
 use Rattle.btr_scrub.proofs.RowAgreeing.{BlockAlike, RowAlike, parity_alike, parity_has, row_alike, sure_same}
-use Rattle.btr_scrub.proofs.Shorts.{Short, site_short}
+use Rattle.btr_scrub.proofs.Shorts.{site_short}
 use Rattle.btr_scrub.proofs.OwnPlaces.{wrong_own}
 use Rattle.btr_scrub.proofs.Survival.{range_same}
-use Rattle.btr_scrub.proofs.Writes.{any_append, any_filter_map, any_flat, mapped}
+use Rattle.btr_scrub.proofs.Pasting.{Short}
+use Rattle.btr_scrub.proofs.Lists.{mapped, any_append, any_flat, any_filter_map}
 
 -- a full stripe of the table, all of whose elements stand
 pub record IsRowIn (layout : Layout) (row : Row) : Type 0 where

@@ -29,13 +29,14 @@ use Rattle.btr_scrub.specs.Repair.{first_missing, is_in_row, ok_or_none, row_of,
 use Rattle.btr_scrub.specs.Rowing.{BeginsElse, Collects, row_in}
 use Rattle.btr_scrub.specs.Scrubbing.{BeginsBehind, IsPastChunk, Scrubs, count_row, counted_row, rows_count, rows_writes}
 use Rattle.btr_scrub.specs.declared.tally.Tally.{Tally}
-use Rattle.btr_scrub.proofs.Blockwise.{all_behind, filter_none, in_append, of_targets}
+use Rattle.btr_scrub.proofs.Blockwise.{all_behind, filter_none, of_targets}
 use Rattle.btr_scrub.proofs.RowNumbers.{all_rows, at_row, held_row, range_split, row_fits, row_is_not, row_of_block, row_there, rows_rise, rows_to, sought_each}
 use Rattle.btr_scrub.proofs.RowNumbers.{tail_apart}
 use Rattle.btr_scrub.proofs.NextRow.{IsNextRow, counts_row, counts_with, mine_is, more_counts, more_rows, unmoved_row, writes_with}
 use Rattle.btr_scrub.proofs.Positions.{is_sought}
 use Rattle.btr_scrub.proofs.Scrubbing.{scrubs_as, scrubs_cut, scrubs_none, scrubs_nothing, scrubs_then}
 use Rattle.btr_scrub_copies.specs.Fresh.{Failing}
+use Rattle.btr_read.proofs.Ones.{in_either}
 
 module _ (kept : Failing) (layout : Layout) (table : IsTable layout.chunks) (own : HaveOwnSlots layout.devices) (given : first_missing layout ≡ None) (number : ℕ) (chunk : Chunk) (there : slice_get layout.chunks number ≡ Some chunk) (parity : mirrors chunk ≡ None) (wants : List Want) where
   -- the rows below q were mended; what is left lies in later rows, or in later chunks
@@ -147,7 +148,7 @@ module _ (kept : Failing) (layout : Layout) (table : IsTable layout.chunks) (own
     none_later : IsPastChunk layout chunk wants left → (k : ℕ) → h.q ≤ k → (row_of kept (targets layout wants) chunk k).blocks ≡ []
     none_later p k from =
         let parts : targets layout wants ≡ targets layout h.past ++ targets layout left = ap (targets layout) h.split ∙ filter_map-append (λ w. ok_or_none (sought layout w)) h.past left in
-        filter_none (is_in_row chunk k) (targets layout wants) (λ t i. by t (in_append t (targets layout h.past) (targets layout left) (subst (In t) parts i)))
+        filter_none (is_in_row chunk k) (targets layout wants) (λ t i. by t (in_either t (targets layout h.past) (targets layout left) (subst (In t) parts i)))
       where
         sought_is : (ws : List Want) (t : Target) → In t (targets layout ws) → IsSought layout t
         sought_is ws t i = let w = of_targets layout t ws i in is_sought layout w.0 t w.2
@@ -237,7 +238,7 @@ module _ (kept : Failing) (layout : Layout) (table : IsTable layout.chunks) (own
         split = n.split ∙ sym (append_assoc h.past mine left');
         q = r + 1;
         below = omega (arith, n.fits);
-        sound = λ t i. elim (in_append t (targets layout h.past) (targets layout mine) (subst (In t) (filter_map-append (λ w. ok_or_none (sought layout w)) h.past mine) i)) [
+        sound = λ t i. elim (in_either t (targets layout h.past) (targets layout mine) (subst (In t) (filter_map-append (λ w. ok_or_none (sought layout w)) h.past mine) i)) [
           | inl j ↦ let s = n.before t j in (s.0, omega (arith, s.1, n.later))
           | inr j ↦ let s = mine_is kept layout table own given number chunk there parity wants h.q h.past left' r mine n t j in (s.0, omega (arith, s.1))
         ];

@@ -21,14 +21,14 @@ use Rattle.btr_scrub.specs.Scrubbing.{all_writes_for}
 use Rattle.btr_scrub.specs.Right.{AreBytes, CanBeSpared, Committed, HasFewWrongAt, HasRightPlace, IsOfStale, IsOfWrongParity, IsOfWrongPlace}
 use Rattle.btr_scrub.specs.Right.{IsCommitted, IsWrongRange, RangesLeaveFresh, RangesLieInWrong, RangesMayHoldAnything, StandsFor}
 use Rattle.btr_scrub_copies.specs.Fresh.{fresh}
-use Rattle.btr_scrub.proofs.InWrong.{IsWrong, not_bad, range_is_wrong}
-use Rattle.btr_scrub.proofs.Lists.{all_from, all_in, any_in, in_flat}
+use Rattle.btr_scrub.proofs.InWrong.{IsWrong, range_is_wrong}
+use Rattle.btr_scrub.proofs.Lists.{all_from, all_in, any_in, in_flat, in_filter}
 use Rattle.btr_scrub.proofs.Outliving.{block_outlives, fresh_outlives}
 use Rattle.btr_scrub.proofs.SoundRows.{CanBeHad}
-use Rattle.btr_scrub.proofs.Survival.{in_filter}
 use Rattle.btr_scrub_copies.proofs.Syncs.{passing_filter}
 use Rattle.btr_scrub.proofs.Told.{writes_beside, targets_met}
 use Rattle.btr_scrub.proofs.Unitwise.{units_apart}
+use Rattle.std.proofs.lemmas.Bool.{not-true}
 
 module _ (images : Images) (fs : Filesystem) (table : IsTable fs.layout.chunks) (own : HaveOwnSlots fs.layout.devices)
     (lengths : HaveLengths images fs.layout) (bytes : AreBytes images)
@@ -49,7 +49,7 @@ module _ (images : Images) (fs : Filesystem) (table : IsTable fs.layout.chunks) 
   of_block : (t : Target) → In t (blocks images fs) → In t (targets layout wants) × (is_plain t.want ≡ false)
   of_block t i =
       let f = passing_filter is_checked t (sites images fs) i in
-      (subst (In t) (sym same) f.0, not_bad (is_plain t.want) f.1)
+      (subst (In t) (sym same) f.0, not-true (is_plain t.want) f.1)
 
   apart : AreApart layout 0 wants
   apart = units_apart fs.sup layout table node some (fate images layout)

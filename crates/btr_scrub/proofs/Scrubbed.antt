@@ -21,17 +21,16 @@ use Rattle.btr_walk.specs.declared.fault.TreeFault.{TreeFault}
 use Rattle.btr_walk.specs.declared.fault.TreeFault.TheVariants as tree
 use Rattle.btr_volume.specs.declared.stop.Stop.{Stop}
 use Rattle.btr_volume.specs.declared.stop.Stop.TheVariants as stop
-use Rattle.btr_scrub_copies.specs.Writes.{AccountsMend, FailsAt, Images, In, IsStopped, Leaves, Write, write_on, writes_if}
+use Rattle.btr_scrub_copies.specs.Writes.{AccountsMend, FailsAt, Images, In, IsStopped, LeaveImages, Write, write_on, writes_if}
 use Rattle.btr_scrub_copies.specs.declared.mended.MendFault.{MendFault}
 use Rattle.btr_scrub_copies.specs.declared.mended.MendFault.TheVariants.{Image, Memory}
 use Rattle.btr_scrub_copies.specs.Turns.{waiting}
 use Rattle.btr_scrub_copies.proofs.Doing.{stopped_first}
 use Rattle.btr_scrub_copies.proofs.Turning.{read_at}
 use Rattle.btr_scrub.specs.Devices.{HaveLengths}
-use Rattle.btr_scrub.specs.Gathering.{StopCause, wants_among, count_met, stop_halt}
+use Rattle.btr_scrub.specs.Gathering.{StopCause, wants_among, count_met}
 use Rattle.btr_scrub.specs.WrittenRanges.{KeepsOutside, LiesInStripe}
-use Rattle.btr_scrub.specs.Repair.{Effect, devid_of, effect, effect_of_ending, effect_unless, first_missing, meeting, stood_tally, stop_of, tally}
-use Rattle.btr_scrub.specs.Repair.{writes}
+use Rattle.btr_scrub.specs.Repair.{Effect, devid_of, effect, effect_of_ending, effect_unless, first_missing, meeting, stood_tally, stop_of, tally, writes}
 use Rattle.btr_scrub.specs.Right.{AreBytes, Committed, IsCommitted, RangesLeaveFresh, RangesLieInWrong, RangesMayHoldAnything, SparedStand}
 use Rattle.btr_scrub.specs.Scrubbed.{AnswersAs, Called, HasEffect, IsImageFault, IsLeftBy, IsSafe, IsScrubbed, IsSure, OfImages, ReadsAt}
 use Rattle.btr_scrub_copies.specs.Syncing.{plain}
@@ -46,6 +45,7 @@ use Rattle.btr_scrub.proofs.Scrubbing.{tell, told}
 use Rattle.btr_scrub.proofs.Tallying.{listed_counts}
 use Rattle.btr_scrub.proofs.Told.{listed_writes}
 use Rattle.btr_scrub.proofs.Working.{some_and, waits_before}
+use Rattle.btr_volume.specs.Stops.{stop_halt}
 
 -- what is said of the images before and behind, where they are told
 of_images : (c : Called) (P : Images → Images → Type 0) → ((images : Images) → c.old.held ≡ Some images → (left : Images) × (c.new.held ≡ Some left))
@@ -265,7 +265,7 @@ module _ (c : Called) where
         module _ (u : Unit {0}) (is : ended ≡ Ok u) where
           done_writes : left ≡ fold write_on images (writes_if c.write (ws images))
           done_writes =
-              let l = subst (λ o. Leaves {A = Unit {0}} {E = MendFault} (λ i. writes_if c.write (ws i)) o c.new.held (Ok u)) (mid_held images e) (subst (λ r. Leaves (λ i. writes_if c.write (ws i)) mid.held c.new.held r) is works.does.held) in
+              let l = subst (λ o. LeaveImages {A = Unit {0}} {E = MendFault} (λ i. writes_if c.write (ws i)) o c.new.held (Ok u)) (mid_held images e) (subst (λ r. LeaveImages (λ i. writes_if c.write (ws i)) mid.held c.new.held r) is works.does.held) in
               same_Some left (fold write_on images (writes_if c.write (ws images))) (sym g ∙ l)
 
           written_or : (b : Bool) (vs : List Write) → fold write_on images (writes_if b vs) ≡ cond b (fold write_on images vs) images
@@ -297,7 +297,7 @@ module _ (c : Called) where
         stopped_at : (r : Result (Unit {0}) MendFault) → ended ≡ r → IsStopped (writes_if c.write (ws images)) images left
         stopped_at (Ok u) is = record { before = writes_if c.write (ws images); behind = []; place = sym (append-nil (writes_if c.write (ws images))); stands = inl (done_writes u is) }
         stopped_at (Err x) is =
-            let l = subst (λ o. Leaves {A = Unit {0}} {E = MendFault} (λ i. writes_if c.write (ws i)) o c.new.held (Err x)) (mid_held images e) (subst (λ r. Leaves (λ i. writes_if c.write (ws i)) mid.held c.new.held r) is works.does.held) in
+            let l = subst (λ o. LeaveImages {A = Unit {0}} {E = MendFault} (λ i. writes_if c.write (ws i)) o c.new.held (Err x)) (mid_held images e) (subst (λ r. LeaveImages (λ i. writes_if c.write (ws i)) mid.held c.new.held r) is works.does.held) in
             subst (λ o. IsSomeAnd o (IsStopped (writes_if c.write (ws images)) images)) g l
 
         rest : KeepsOutside (map (λ (w : Write). w.range) (writes_if c.write (ws images))) images left
@@ -343,9 +343,9 @@ module _ (c : Called) where
 
       -- the images are told still
       told_still : (images : Images) → c.old.held ≡ Some images → (left : Images) × (c.new.held ≡ Some left)
-      told_still images e = by ended (subst (λ o. Leaves (λ i. writes_if c.write (ws i)) o c.new.held ended) (mid_held images e) works.does.held)
+      told_still images e = by ended (subst (λ o. LeaveImages (λ i. writes_if c.write (ws i)) o c.new.held ended) (mid_held images e) works.does.held)
         where
-          by : (r : Result (Unit {0}) MendFault) → Leaves (λ i. writes_if c.write (ws i)) (Some images) c.new.held r → (left : Images)
+          by : (r : Result (Unit {0}) MendFault) → LeaveImages (λ i. writes_if c.write (ws i)) (Some images) c.new.held r → (left : Images)
               × (c.new.held ≡ Some left)
           by (Ok u) l = (fold write_on images (writes_if c.write (ws images)), l)
           by (Err x) l = let k = some_and c.new.held (IsStopped (writes_if c.write (ws images)) images) l in (k.0, k.1)

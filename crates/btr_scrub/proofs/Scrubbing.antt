@@ -14,7 +14,7 @@ use Rattle.btr_read.specs.Serves.{Serves}
 use Rattle.btr_read.specs.Store.{Blocks, SameLoans}
 use Rattle.btr_scrub_copies.specs.Mending.{IsOfCopy}
 use Rattle.btr_scrub_copies.specs.declared.mended.Mended.{Mended}
-use Rattle.btr_scrub_copies.specs.Writes.{AccountsMend, AreWritable, Does, Images, In, Leaves, Write, writes_if, write_on}
+use Rattle.btr_scrub_copies.specs.Writes.{AccountsMend, AreWritable, Does, Images, In, LeaveImages, Write, writes_if, write_on}
 use Rattle.btr_scrub_copies.specs.declared.mended.MendFault.{MendFault}
 use Rattle.btr_scrub_copies.specs.declared.mended.MendFault.TheVariants.{Image, Memory}
 use Rattle.btr_scrub_copies.specs.Syncing.{Strands, plain}
@@ -49,19 +49,6 @@ pub does_weaker : {A : Type 0} (P Q : Range → Type 0) (f : Images → List Wri
     → ((range : Range) → P range → Q range) → Does P f m n a b r → Does Q f m n a b r
 does_weaker P Q f m n a b r weak h = record { ranges = h.ranges; only = h.only; own = h.own; lie = λ range i. weak range (h.lie range i); marked = h.marked; held = h.held; account = account_weaker P Q a b r weak h.account }
 
-account_other : (A B : Type 0) (P : Range → Type 0) (a b : Seen) (f : MendFault) → AccountsMend {A = A} P a b (Err f) → AccountsMend {A = B} P a b (Err f)
-account_other A B P a b (Image slot) h = h
-account_other A B P a b Memory h = h
-
-leaves_other : (A B : Type 0) (f : Images → List Write) (a b : Option Images) (e : MendFault) → Leaves {A = A} f a b (Err e) → Leaves {A = B} f a b (Err e)
-leaves_other A B f None b e h = h
-leaves_other A B f (Some images) b e h = h
-
-leaves_value : {A B : Type 0} (f : Images → List Write) (a b : Option Images) (x : A) (y : B) → Leaves {A = A} {E = MendFault} f a b (Ok x)
-    → Leaves {A = B} {E = MendFault} f a b (Ok y)
-leaves_value f None b x y h = h
-leaves_value f (Some images) b x y h = h
-
 -- what waits at some places
 pub waits_weaker : (P Q : Range → Type 0) (a b : Seen) → ((range : Range) → P range → Q range) → WaitsAt P a b → WaitsAt Q a b
 waits_weaker P Q a b weak h range i = elim (h range i) as (λ _. In range (waiting a) ⊎ Q range) [
@@ -72,11 +59,11 @@ waits_weaker P Q a b weak h range i = elim (h range i) as (λ _. In range (waiti
 -- with another value
 pub does_value : {A B : Type 0} (P : Range → Type 0) (f : Images → List Write) (m n : List Bool) (a b : Seen) (x : A) (y : B)
     → Does P f m n a b (Ok x) → Does P f m n a b (Ok y)
-does_value P f m n a b x y h = record { ranges = h.ranges; only = h.only; own = h.own; lie = h.lie; marked = h.marked; held = leaves_value f a.held b.held x y h.held; account = h.account }
+does_value P f m n a b x y h = does_as P f f m n a b x y (λ images e. refl) h
 
 pub does_fault : {A B : Type 0} (P : Range → Type 0) (f : Images → List Write) (m n : List Bool) (a b : Seen) (e : MendFault)
     → Does {A = A} P f m n a b (Err e) → Does {A = B} P f m n a b (Err e)
-does_fault {A = A} {B = B} P f m n a b e h = record { ranges = h.ranges; only = h.only; own = h.own; lie = h.lie; marked = h.marked; held = leaves_other A B f a.held b.held e h.held; account = account_other A B P a b e h.account }
+does_fault {A = A} {B = B} P f m n a b e h = does_as_halt P A B f f m n a b e (λ images same. refl) h
 
 -- the same writes, said otherwise
 pub recast : {A : Type 0} (P : Range → Type 0) (f g : Images → List Write) (m n : List Bool) (a b : Seen) (r : Result A MendFault)
@@ -87,11 +74,11 @@ recast {A = A} P f g m n a b (Err x) e h = does_as_halt P A A f g m n a b x e h
 -- the images after writes
 pub held_after : {U : Type 0} (P : Range → Type 0) (f : Images → List Write) (m n : List Bool) (a b : Seen) (u : U) (images : Images) → a.held
     ≡ Some images → Does P f m n a b (Ok u) → b.held ≡ Some (fold write_on images (f images))
-held_after {U = U} P f m n a b u images e h = subst (λ o. Leaves {A = U} {E = MendFault} f o b.held (Ok u)) e h.held
+held_after {U = U} P f m n a b u images e h = subst (λ o. LeaveImages {A = U} {E = MendFault} f o b.held (Ok u)) e h.held
 
 held_none : {U : Type 0} (P : Range → Type 0) (f : Images → List Write) (m n : List Bool) (a b : Seen) (u : U) → a.held ≡ None
     → Does P f m n a b (Ok u) → b.held ≡ None
-held_none {U = U} P f m n a b u e h = subst (λ o. Leaves {A = U} {E = MendFault} f o b.held (Ok u)) e h.held
+held_none {U = U} P f m n a b u e h = subst (λ o. LeaveImages {A = U} {E = MendFault} f o b.held (Ok u)) e h.held
 
 -- two works, of which the other's writes are the same over the images as they were before
 pub does_next : (A U : Type 0) (P : Range → Type 0) (f g : Images → List Write) (m n o : List Bool) (a b c : Seen) (u : U) (r : Result A MendFault)

@@ -1,15 +1,13 @@
--- Writes that have at most as many bytes as their ranges change nothing but those.
-use Rattle.std.proofs.Common.{◌≡◌, ◌⊎◌, ℕ, suc, ◌+◌, ◌-◌, ◌<◌, ◌≤◌, Bool, true, false, cond, ◌||◌, List, [], ◌∷◌, map, length, get_or, set, drop, All, Option}
-use Rattle.std.proofs.Common.{Some, None, refl, sym, ap, ◌∙◌, subst, inl, inr, arith, length-take}
-use Rattle.std.proofs.lemmas.Bool.{cases_eq, cases_lt}
-use Rattle.std.proofs.lemmas.List.{length-set, get_or-set_same, get_or-set_other, set_past}
-use Rattle.std.proofs.lemmas.List.Elements.{All-cons, All-nil}
+-- The writes for a block have at most as many bytes as their ranges.
+use Rattle.std.proofs.Common.{◌≡◌, ℕ, ◌+◌, ◌-◌, ◌≤◌, Bool, true, false, cond, List, [], ◌∷◌, length, drop, All, Option}
+use Rattle.std.proofs.Common.{Some, None, refl, ap, subst, inl, inr, arith, length-take}
+use Rattle.std.proofs.lemmas.List.Elements.{All-cons, All-nil, All-append}
 use Rattle.std.proofs.lemmas.Option.{same_Some}
-use Rattle.std.specs.List.{cons_option, find, fold}
+use Rattle.std.specs.List.{cons_option, find, flat_map}
 use Rattle.std.specs.Option.{option_map, option_map_or, unwrap_or}
 use Rattle.btr_chunk.specs.Mapping.{place_at}
 use Rattle.btr_chunk.specs.declared.place.Part.{Part}
-use Rattle.btr_rack.specs.Rack.{bytes_of, image_of, pasted, range_in, written}
+use Rattle.btr_rack.specs.Rack.{bytes_of, image_of, range_in}
 use Rattle.btr_rack.specs.declared.place.Place.{Place as Range}
 use Rattle.btr_read.specs.Candidates.{Target, candidates, element, range_of, range_on, size_of, stands, value_of}
 use Rattle.btr_read.specs.Layout.{Layout, device_in}
@@ -19,69 +17,14 @@ use Rattle.btr_read.specs.declared.candidate.Candidate.TheVariants.{Read, ByP, B
 use Rattle.btr_read.proofs.Ones.{all_slices}
 use Rattle.btr_read.specs.Fate.{is_plain}
 use Rattle.btr_scrub_copies.specs.Blocks.{accepted, bad_parts, block_writes, copy_writes, written_over}
-use Rattle.btr_scrub_copies.specs.Writes.{Images, Write, write_on, writes_if}
+use Rattle.btr_scrub_copies.specs.Writes.{Images, Write}
 use Rattle.btr_scrub_row.specs.Wanted.{mending_writes}
 use Rattle.btr_scrub.specs.Devices.{HaveLengths}
 use Rattle.btr_scrub.specs.BlocksInRows.{In}
-use Rattle.btr_scrub.specs.WrittenRanges.{KeepsOutside}
 use Rattle.btr_scrub.specs.Order.{IsSought}
-use Rattle.btr_scrub.specs.Repair.{covers}
 use Rattle.btr_scrub_copies.specs.Fresh.{Failing, fresh, fresh_writes, stale_parts}
 use Rattle.btr_scrub.proofs.CopyWrites.{first_of, fresh_from, is_there}
-use Rattle.btr_scrub_row.proofs.Pasted.{length-pasted, pasted-outside}
-use Rattle.btr_scrub.proofs.Pasting.{image_set, keeps_more, keeps_none, not_covered}
-
--- a write lies in its image, and has at most as many bytes as its range
-pub record Short (images : Images) (write : Write) : Type 0 where
-  pub short : length write.bytes ≤ write.range.len
-  pub within : write.range.off + write.range.len ≤ length (image_of images write.range.slot)
-
-pub one_short : (images : Images) (range : Range) (bytes : List ℕ) → length bytes ≤ range.len → range.off
-    + range.len ≤ length (image_of images range.slot) → KeepsOutside (range ∷ []) images (written images range.slot range.off bytes)
-one_short images range bytes short within =
-    let image = image_of images range.slot in
-    let new = pasted image range.off bytes in
-    let fits : range.off + length bytes ≤ length image = omega (arith, short, within) in
-    record {
-      count = length-set images range.slot new;
-      lengths = λ slot. image_set images range.slot slot new (length-pasted image range.off bytes fits);
-      bytes = λ slot off e. elim (cases_eq slot range.slot) [
-        | inl same ↦ elim (cases_lt range.slot (length images)) [
-          | inl lt ↦
-              ap (λ k. get_or (get_or (set images range.slot new) k []) off 0) same
-              ∙ ap (λ xs. get_or xs off 0) (get_or-set_same images range.slot new [] lt)
-              ∙ pasted-outside image range.off bytes fits off 0 (outside off (not_covered slot off range (first_false (covers slot off range) e) (sym same)))
-              ∙ ap (λ k. get_or (get_or images k []) off 0) (sym same)
-          | inr le ↦ ap (λ xs. get_or (get_or xs slot []) off 0) (set_past images range.slot new le)
-        ]
-        | inr ne ↦ ap (λ xs. get_or xs off 0) (get_or-set_other images range.slot slot new [] ne)
-      ];
-    }
-  where
-    first_false : (b : Bool) → (b || false) ≡ false → b ≡ false
-    first_false true e = e
-    first_false false e = e
-
-    outside : (off : ℕ) → (off < range.off) ⊎ (range.off + range.len ≤ off) → (off < range.off) ⊎ (range.off + length bytes ≤ off)
-    outside off (inl lt) = inl lt
-    outside off (inr le) = inr (omega (arith, le, short))
-
-pub shorts_keep : (images : Images) (writes : List Write) → All (Short images) writes
-    → KeepsOutside (map (λ (write : Write). write.range) writes) images (fold write_on images writes)
-shorts_keep images [] fit = keeps_none images
-shorts_keep images (write ∷ writes) fit =
-    let f = fit 0 write (omega arith) in
-    let one = one_short images write.range write.bytes f.short f.within in
-    keeps_more write.range (map (λ (w : Write). w.range) writes) images (write_on images write) (fold write_on (write_on images write) writes) one
-    (shorts_keep (write_on images write) writes (λ i d below.
-    let g = fit (suc i) d (omega (arith, below)) in
-    record { short = g.short; within = omega (arith, g.within, one.lengths (get_or writes i d).range.slot) }))
-
--- whether they are done or not
-pub shorts_keep_if : (write : Bool) (images : Images) (ws : List Write) → All (Short images) ws
-    → KeepsOutside (map (λ (w : Write). w.range) ws) images (fold write_on images (writes_if write ws))
-shorts_keep_if true images ws fit = shorts_keep images ws fit
-shorts_keep_if false images ws fit = record { count = refl; lengths = λ slot. refl; bytes = λ slot off e. refl }
+use Rattle.btr_scrub.proofs.Pasting.{Short}
 
 -- ---- what is accepted is no longer than what is sought
 
@@ -169,3 +112,8 @@ module _ (images : Images) (layout : Layout) (lengths : HaveLengths images layou
       by : (b : Bool) → All (Short images) (cond b (fresh_writes images fails t) (block_writes images t))
       by true = fresh_short fails
       by false = block_short
+
+pub flat_short : {X : Type 0} (images : Images) (f : X → List Write) (xs : List X) → ((x : X) → In x xs → All (Short images) (f x))
+    → All (Short images) (flat_map f xs)
+flat_short images f [] h = All-nil (Short images)
+flat_short images f (x ∷ xs) h = All-append (Short images) (f x) (flat_map f xs) (h x (inl refl)) (flat_short images f xs (λ y i. h y (inr i)))

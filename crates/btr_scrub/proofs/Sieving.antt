@@ -51,8 +51,8 @@ use Rattle.btr_scrub.specs.Repair.{first_missing, ok_or_none, stood}
 use Rattle.btr_scrub.specs.Sifting.{AreSifted, IsBehind, Judges, PassesCalm, Sifts, Stands, is_left_out, is_needed, is_unsound, kept_of, left_out, needs}
 use Rattle.btr_scrub.proofs.Blockwise.{chunk_same, part_is_given}
 use Rattle.btr_scrub.proofs.Positions.{alone_lies, copy_in_stripe, find_at, is_sought}
-use Rattle.btr_scrub.proofs.SomeCandidate.{any_at}
 use Rattle.std.proofs.lemmas.Option.{slice_get_within}
+use Rattle.btr_scrub.proofs.Lists.{any_at}
 
 -- a block with copies all of which are given can be looked at
 pub sought_copied : (layout : Layout) (want : Want) (t : Target) → IsTable layout.chunks → first_missing layout ≡ None → sought layout want ≡ Ok t
@@ -72,10 +72,6 @@ copies_in_stripe layout want t a b (Err Memory) table e h = h
 copies_in_stripe layout want t a b (Err (Image slot)) table e h =
     let is = is_sought layout want t e in
     record { place = h.place; failed = h.failed; on_slot = h.on_slot; lies = any_at (λ chunk. LiesInChunk layout chunk h.place) layout.chunks is.number t.chunk (slice_get_within layout.chunks is.number t.chunk is.there) is.there (alone_lies layout t.chunk h.place (copy_in_stripe layout t h.place table is h.lies)) }
-
-pub some_if : {X : Type 0} (o : Option X) → is_none o ≡ false → IsSome o
-some_if None e = absurd (false≢true (sym e))
-some_if (Some x) e = refl
 
 -- what is needed, by what was found
 module _ (images : Images) (layout : Layout) (t : Target) where

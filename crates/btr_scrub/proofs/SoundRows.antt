@@ -37,10 +37,10 @@ use Rattle.btr_scrub.specs.Staying.{IsRowOf}
 use Rattle.btr_scrub.specs.Survival.{AcceptsRight, AreBehind, GetsRight, IsSoundRow, RightPasses}
 use Rattle.btr_scrub.proofs.AcrossChunks.{OfRows, row_is}
 use Rattle.btr_scrub.proofs.Blockwise.{of_targets}
-use Rattle.btr_scrub.proofs.Lists.{all_in}
+use Rattle.btr_scrub.proofs.Lists.{all_in, in_filter, some_of}
 use Rattle.btr_scrub.proofs.Positions.{striped_position}
 use Rattle.btr_scrub.proofs.RowWrites.{IsBlockOf, in_one_element}
-use Rattle.btr_scrub.proofs.Survival.{elements_are_slices, in_filter, of_filter, right_checked, right_plain, some_of}
+use Rattle.btr_scrub.proofs.Survival.{elements_are_slices, of_filter, right_checked, right_plain}
 use Rattle.btr_scrub.proofs.CopyWrites.{fresh_from}
 use Rattle.btr_scrub.proofs.Elements.{block_of_element}
 use Rattle.btr_scrub.proofs.RowValues.{value_whole}

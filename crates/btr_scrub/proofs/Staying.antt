@@ -1,7 +1,7 @@
 -- What isn't wrong stays.
 use Rattle.std.proofs.Common.{◌≡◌, ◌⊎◌, ℕ, ◌+◌, ◌-◌, ◌<◌, ◌≤◌, Bool, true, false, List, [], length, get_or, slice_get}
 use Rattle.std.proofs.Common.{Option, Some, None, IsSome, IsSomeAnd, is_some, refl, sym, ap, ◌∙◌, subst, inl, inr, arith}
-use Rattle.std.proofs.lemmas.Bool.{false≢true}
+use Rattle.std.proofs.lemmas.Bool.{false≢true, false_from_ne_true}
 use Rattle.std.proofs.lemmas.Option.{same_Some}
 use Rattle.std.specs.List.{filter, list_any}
 use Rattle.std.specs.Option.{option_map_or}
@@ -72,11 +72,8 @@ module _ (images : Images) (layout : Layout) (C : Committed) (fails : Failing) (
       false≢true (sym (ap (λ k. is_some (mirrors k)) (sym chunk) ∙ ap is_some is_row.parity) ∙ c.copies)
 
   not_in_ranges : (ranges : List Range) → AvoidRight images layout C fails blocks ranges → list_any (covers slot off) ranges ≡ false
-  not_in_ranges ranges avoid = by (list_any (covers slot off) ranges) refl
-    where
-      by : (b : Bool) → list_any (covers slot off) ranges ≡ b → list_any (covers slot off) ranges ≡ false
-      by true e = elim (avoid slot off e) [ inl w ↦ absurd (not_wrong w) | inr c ↦ absurd (not_copies c) ]
-      by false e = e
+  not_in_ranges ranges avoid = false_from_ne_true (list_any (covers slot off) ranges) (λ e.
+      elim (avoid slot off e) [ inl w ↦ absurd (not_wrong w) | inr c ↦ absurd (not_copies c) ])
 
 none_or : (o : Option Range) → (IsSome o → (x : Range) × (o ≡ Some x)) × ((b : Bool) → is_some o ≡ b → (o ≡ None) ⊎ IsSome o)
 none_or None = ((λ h. absurd (false≢true h)), λ b e. inl refl)

@@ -39,11 +39,12 @@ use Rattle.btr_scrub.specs.Whole.{listed_count_for, listed_failing, listed_write
 use Rattle.btr_scrub.specs.declared.tally.Tally.{Tally}
 use Rattle.btr_scrub.proofs.AcrossChunks.{of_chunk, row_counted}
 use Rattle.btr_scrub.proofs.Blockwise.{of_targets}
-use Rattle.btr_scrub.proofs.Calm.{calm_chunk, none_fresh, none_freshened, none_of}
-use Rattle.btr_scrub.proofs.Lists.{at_in}
+use Rattle.btr_scrub.proofs.Calm.{calm_chunk, none_fresh, none_freshened}
+use Rattle.btr_scrub.proofs.Lists.{at_in, none_in}
 use Rattle.btr_scrub.proofs.RowAgreeing.{RowAlike, checked_row, flat_same, fold_same, row_writes_alike}
 use Rattle.btr_scrub.proofs.Scrubbing.{told}
 use Rattle.btr_scrub.proofs.Working.{waits_before, works_as}
+use Rattle.btr_chunk.proofs.Searches.{fails-list_any}
 
 -- ---- what is written and counted alike
 
@@ -131,10 +132,6 @@ no_parity chunk (c ∷ chunks) e i none = by (is_none (mirrors c)) refl e i (λ 
     by false is e (inl same) rest = false≢true (sym is ∙ ap (λ (k : Chunk). is_none (mirrors k)) same ∙ ap is_none none)
     by false is e (inr j) rest = rest e j
 
--- no element of a list has what none has
-none_in : {X : Type 0} (p : X → Bool) (xs : List X) (x : X) → list_any p xs ≡ false → In x xs → p x ≡ false
-none_in p xs x none i = let j = at_in x xs i in none_of p xs j.0 x none j.1
-
 -- a checked block is mended alike
 checked_alike : (fails also : Failing) (images : Images) (t : Target) → is_plain t.want ≡ false → SameBeside fails also images t
 checked_alike fails also images t e = record {
@@ -190,7 +187,7 @@ module _ (layout : Layout) (wants : List Want) (rack : Seen) (flags : List Bool)
         sites = λ n has t i.
             let of = of_chunk by_flags layout table own given at.0 chunk at.1 wants t i in
             calm_alike by_flags by_images layout t n images table of.is (ap mirrors of.chunk_is ∙ has) (λ f.
-            ap (has_behind layout.devices f) of.chunk_is ∙ calm_chunk f layout.devices chunk (none_of (has_older layout.devices) layout.chunks at.0 chunk young at.1));
+            ap (has_behind layout.devices f) of.chunk_is ∙ calm_chunk f layout.devices chunk (fails-list_any (has_older layout.devices) layout.chunks young at.0 chunk at.1));
       }
 
   all_idle : IsIdle layout wants → (chunk : Chunk) → In chunk layout.chunks → Alike by_flags by_images layout wants images chunk

@@ -6,6 +6,7 @@ use Rattle.std.proofs.lemmas.Option.{same_Some}
 use Rattle.std.specs.List.{filter, flat_map, sum_by}
 use Rattle.btr_scrub.specs.BlocksInRows.{In}
 use Rattle.btr_scrub.proofs.AcrossChunks.{sum_same}
+use Rattle.btr_scrub.proofs.Lists.{at_in}
 
 pub sum_zero : {X : Type 0} (f : X → ℕ) (xs : List X) → ((x : X) → In x xs → f x ≡ 0) → sum_by f xs ≡ 0
 sum_zero f [] h = refl
@@ -49,17 +50,12 @@ sum_swap g (k ∷ ks) xs =
 abbrev pub IsOnce : {K : Type 0} → (K → Bool) → List K → Type 0
 IsOnce {K} p ks = (i : ℕ) × ((k : K) × (slice_get ks i ≡ Some k) × (p k ≡ true) × ((j : ℕ) (other : K) → j ≢ i → slice_get ks j ≡ Some other → p other ≡ false))
 
-at_zero : {K : Type 0} (ks : List K) (k : K) → In k ks → (i : ℕ) × (slice_get ks i ≡ Some k)
-at_zero [] k i = absurd i
-at_zero (l ∷ ks) k (inl e) = (0, ap Some e)
-at_zero (l ∷ ks) k (inr i) = let r = at_zero ks k i in (suc r.0, r.1)
-
 once_sum : {K : Type 0} (n : ℕ) (p : K → Bool) (ks : List K) (i : ℕ) (k : K) → slice_get ks i ≡ Some k → p k ≡ true
     → ((j : ℕ) (other : K) → j ≢ i → slice_get ks j ≡ Some other → p other ≡ false) → sum_by (λ k. cond (p k) n 0) ks ≡ n
 once_sum n p [] i k at is others = cc
 once_sum n p (l ∷ ks) zero k at is others =
     let same : l ≡ k = same_Some l k at in
-    sum_by-cons (λ k. cond (p k) n 0) l ks ∙ omega (arith, ap (λ b. cond b n 0) (ap p same ∙ is), sum_zero (λ k. cond (p k) n 0) ks (λ x j. let r = at_zero ks x j in ap (λ b. cond b n 0) (others (suc r.0) x (λ e. omega (arith, e)) r.1)))
+    sum_by-cons (λ k. cond (p k) n 0) l ks ∙ omega (arith, ap (λ b. cond b n 0) (ap p same ∙ is), sum_zero (λ k. cond (p k) n 0) ks (λ x j. let r = at_in x ks j in ap (λ b. cond b n 0) (others (suc r.0) x (λ e. omega (arith, e)) r.1)))
 once_sum n p (l ∷ ks) (suc i) k at is others =
     sum_by-cons (λ k. cond (p k) n 0) l ks ∙ omega (
       arith,

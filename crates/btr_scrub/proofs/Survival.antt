@@ -1,8 +1,7 @@
 -- The blocks of a full stripe as they should be.
 use Rattle.std.proofs.Common.{◌≡◌, ℕ, ◌+◌, ◌-◌, ◌<◌, ◌≤◌, Bool, true, false, cond, eqb, List, [], ◌∷◌, ◌++◌, length, map, get_or, take, drop, slice_range}
-use Rattle.std.proofs.Common.{Option}
-use Rattle.std.proofs.Common.{Some, None, IsSome, IfSome, IsNone, All, refl, sym, ap, ◌∙◌, subst, inl, inr, arith}
-use Rattle.std.proofs.lemmas.Bool.{false≢true, eq-eqb, cases_lt}
+use Rattle.std.proofs.Common.{Option, Some, None, IfSome, IsNone, All, refl, sym, ap, ◌∙◌, subst, inl, inr, arith}
+use Rattle.std.proofs.lemmas.Bool.{eq-eqb, cases_lt}
 use Rattle.std.proofs.lemmas.List.{ext_get_or, get_or-take, get_or-drop, get_or_past, same_lists}
 use Rattle.std.proofs.lemmas.List.Elements.{All-append, All-nil, All-take, All-drop}
 use Rattle.std.proofs.lemmas.List.FromFn.{length-map-range_with_len, get_or-map-range_with_len}
@@ -32,6 +31,8 @@ use Rattle.btr_scrub_row.proofs.Pasted.{length-pasted, pasted-below, pasted-with
 use Rattle.btr_scrub.proofs.Stripes.{no_mirror}
 use Rattle.btr_scrub_copies.specs.Blocks.{own_parts}
 use Rattle.btr_scrub_copies.specs.Writes.{Images}
+use Rattle.btr_scrub.proofs.Lists.{in_filter}
+use Rattle.btr_scrub_copies.proofs.Syncs.{passing_filter}
 
 -- ---- ranges by their bytes
 
@@ -165,28 +166,8 @@ own_slice t q none i = by (subst (λ o. In q (option_map_or (λ n. map part.Mirr
     by (inl e) = e
     by (inr h) = absurd h
 
-pub in_filter : {X : Type 0} (p : X → Bool) (x : X) (xs : List X) → In x xs → p x ≡ true → In x (filter p xs)
-in_filter p x [] i e = absurd i
-in_filter p x (y ∷ xs) i e = by (p y) refl i (λ j. in_filter p x xs j e)
-  where
-    by : (b : Bool) → p y ≡ b → In x (y ∷ xs) → (In x xs → In x (filter p xs)) → In x (cond b (y ∷ filter p xs) (filter p xs))
-    by true q (inl same) rest = inl same
-    by true q (inr j) rest = inr (rest j)
-    by false q (inl same) rest = absurd (false≢true (sym q ∙ ap p same ∙ e))
-    by false q (inr j) rest = rest j
-
 pub of_filter : {X : Type 0} (p : X → Bool) (x : X) (xs : List X) → In x (filter p xs) → In x xs
-of_filter p x [] i = absurd i
-of_filter p x (y ∷ xs) i = by (p y) i (λ j. of_filter p x xs j)
-  where
-    by : (b : Bool) → In x (cond b (y ∷ filter p xs) (filter p xs)) → (In x (filter p xs) → In x xs) → In x (y ∷ xs)
-    by true (inl same) rest = inl same
-    by true (inr j) rest = inr (rest j)
-    by false j rest = inr (rest j)
-
-pub some_of : {X : Type 0} (o : Option X) → IsSome o → (x : X) × (o ≡ Some x)
-some_of None h = absurd (false≢true h)
-some_of (Some x) h = (x, refl)
+of_filter p x xs i = (passing_filter p x xs i).0
 
 -- the right bytes of a checked block are the committed ones, and those of a plain sector what it gets
 pub right_checked : (images : Images) (C : Committed) (row : Row) (t : Target) → is_plain t.want ≡ false → right_for images C row t ≡ C t.want

@@ -1,5 +1,5 @@
 -- A scan of extents, call by call.
-use Rattle.std.proofs.Common.{◌≡◌, ℕ, ◌<◌, List, [], ◌++◌, Option, Some, None, Result, Ok, Err, refl, ◌∙◌}
+use Rattle.std.proofs.Common.{◌≡◌, ℕ, List, [], ◌++◌, Option, Some, None, Result, Ok, Err, refl, ◌∙◌}
 use Rattle.btr_chunk.specs.declared.chunk.Chunk.{Chunk}
 use Rattle.btr_prog.specs.Answers.{Follows, no_part}
 use Rattle.btr_prog.specs.Prog.{exec, wants_of}
@@ -24,29 +24,24 @@ use Rattle.btr_volume.specs.declared.root.TreeRoot.{TreeRoot}
 use Rattle.btr_volume.specs.declared.stop.Stop.{Stop as TheStop}
 use Rattle.btr_volume.specs.declared.stop.Stop.TheVariants as stop
 use Rattle.btr_volume.specs.declared.volume.Volume.{Volume}
-use Rattle.btr_scrub.specs.Gathering.{Gathers, Scene, scene, stop_halt}
+use Rattle.btr_scrub.specs.Gathering.{Gathers, Scene, scene}
 use Rattle.btr_scrub.specs.Listed.{IsList}
-use Rattle.btr_scrub.specs.Scanning.{Between, GivesExtent, ItemNears, NextBy, Scanned, Underway}
+use Rattle.btr_scrub.specs.Scanning.{Between, GivesExtent, NextExtentBy, Scanned, Underway}
 use Rattle.btr_scrub.specs.Units.{Meeting, extent_met, items_met}
 use Rattle.btr_scrub.specs.declared.extent.Extent.{Extent}
 use Rattle.btr_scrub.specs.declared.collecting.NextExtent.{NextExtent}
 use Rattle.btr_scrub.specs.declared.collecting.NextExtent.TheVariants.{End, Other, Broken, Found}
 use Rattle.btr_scrub.proofs.Gathering.{lists_none, lists_then, stop_cause_since, tree_cause}
 use Rattle.btr_scrub.proofs.Scanning.{between_ends, between_extent, between_halts, between_none, between_other, between_stops, same_layout, without_same}
+use Rattle.btr_volume.specs.Stops.{stop_halt}
 
 -- what an item says is what comes next
 pub next_by : (s : Super) (Is : UnreadBlock → Want → Type 0) (B : Map) (seen : List Want) (old new : Blocks) (scan scan' : Scan) (next : NextExtent)
-    → GivesExtent s B seen old new scan scan' next → NextBy s Is B seen old new scan scan' (Ok next)
+    → GivesExtent s B seen old new scan scan' next → NextExtentBy s Is B seen old new scan scan' (Ok next)
 next_by s Is B seen old new scan scan' End c = absurd c.says
 next_by s Is B seen old new scan scan' Other c = c
 next_by s Is B seen old new scan scan' (Broken leaf) c = c
 next_by s Is B seen old new scan scan' (Found extent leaf) c = c
-
-pub item_nears : (old new : ℕ) (next : NextExtent) → new < old → ItemNears old new (Ok next)
-item_nears old new End h = tt
-item_nears old new Other h = h
-item_nears old new (Broken leaf) h = h
-item_nears old new (Found extent leaf) h = h
 
 module _ (s : Super) (sums : Option TreeRoot) (chunk : Chunk) (x : Scene) (scan : Scan) where
   -- nothing was met yet
@@ -73,7 +68,7 @@ module _ (s : Super) (sums : Option TreeRoot) (chunk : Chunk) (x : Scene) (scan 
     Is = unread_by y.vol.store.layout y.rack rack
 
     abbrev Next : Result NextExtent TreeFault → Map → Type 0
-    Next next B = (seen : List Want) → IsOn at.lo at.hi B seen at.place → NextBy s Is B seen y.vol.store vol.store at at' next
+    Next next B = (seen : List Want) → IsOn at.lo at.hi B seen at.place → NextExtentBy s Is B seen y.vol.store vol.store at at' next
 
     abbrev Was : Map → Type 0
     Was B = Between s sums chunk B x.vol.store y.vol.store scan at end u.done

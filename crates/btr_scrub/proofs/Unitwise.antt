@@ -1,8 +1,7 @@
 -- The checked blocks that are met have a position, and are apart.
-use Rattle.std.proofs.Common.{◌≡◌, ◌⊎◌, ℕ, zero, suc, ◌+◌, ◌-◌, ◌*◌, ◌/◌, ◌%◌, ◌^◌, ◌<◌, ◌≤◌, Bool, true, false, not, cond, ◌&&◌, ◌||◌, eqb, leb, ltb, is_some}
-use Rattle.std.proofs.Common.{List, [], ◌∷◌, ◌++◌, map, drop, slice_get, Option, Some, None, Result, Ok, Err, IsOk, refl, sym, ap, ◌∙◌, subst, inl, inr, arith}
-use Rattle.std.proofs.Common.{append-nil}
-use Rattle.std.proofs.lemmas.Bool.{false≢true, and_parts, eqb-true, leb-true}
+use Rattle.std.proofs.Common.{◌≡◌, ℕ, zero, suc, ◌+◌, ◌-◌, ◌*◌, ◌/◌, ◌%◌, ◌^◌, ◌<◌, ◌≤◌, Bool, true, false, not, cond, ◌&&◌, eqb, leb, ltb, is_some, List, []}
+use Rattle.std.proofs.Common.{◌∷◌, ◌++◌, map, drop, slice_get, Option, Some, None, Result, Ok, Err, refl, sym, ap, ◌∙◌, subst, inl, inr, arith, append-nil}
+use Rattle.std.proofs.lemmas.Bool.{false≢true, and_parts, eqb-true, leb-true, or_parts, or_cases, not-false, ltb-false}
 use Rattle.std.proofs.lemmas.List.{drop-drop}
 use Rattle.std.proofs.lemmas.Option.{same_Some}
 use Rattle.std.specs.List.{filter}
@@ -25,7 +24,6 @@ use Rattle.btr_chunk.specs.Table.{IsTable}
 use Rattle.btr_chunk.specs.declared.chunk.Chunk.{Chunk}
 use Rattle.btr_chunk.proofs.Rule.{Facts, facts}
 use Rattle.btr_files.specs.Sums.{kind_in, sum_at}
-use Rattle.btr_read.specs.Fate.{sought}
 use Rattle.btr_read.specs.Layout.{Layout}
 use Rattle.btr_read.specs.Want.{addr_of, len_of}
 use Rattle.btr_read.specs.declared.want.Want.TheVariants.{Plain, Sector, Tree}
@@ -34,8 +32,7 @@ use Rattle.btr_volume.specs.declared.root.TreeRoot.{TreeRoot}
 use Rattle.btr_walk.specs.Reading.{Map}
 use Rattle.btr_scrub.specs.Gathering.{wants_among}
 use Rattle.btr_scrub.specs.Order.{AreApart, AreBetween}
-use Rattle.btr_scrub.specs.Units.{Checked, Meeting, Met, Unchecked, blocks_of, extent_met, extent_of, if_stated, in_chunk, in_chunks}
-use Rattle.btr_scrub.specs.Units.{units_in, with_extents}
+use Rattle.btr_scrub.specs.Units.{Checked, Meeting, Met, Unchecked, blocks_of, extent_met, extent_of, if_stated, in_chunk, in_chunks, units_in, with_extents}
 use Rattle.btr_scrub.specs.Units.{is_crossing, is_extent, is_malformed, item_met, sector, sector_met, sectors, stated_extent}
 use Rattle.btr_scrub.specs.declared.extent.Extent.{Extent}
 use Rattle.btr_items.specs.ExtentItem.{extent_item_of}
@@ -46,7 +43,6 @@ use Rattle.btr_items.specs.declared.extent_item.ExtentItem.{ExtentItem}
 use Rattle.btr_items.specs.declared.fault.ItemFault.{ItemFault}
 use Rattle.btr_volume.specs.Tree.{key, last, tree_of}
 use Rattle.btr_scrub.proofs.Placed.{placed, sector_fits}
-use Rattle.btr_scrub.proofs.Positions.{not_above}
 use Rattle.btr_scrub.proofs.Ends.{Ends, Yields, each_ends, ends_as, ends_bind, ends_looks, holds_of}
 
 module _ (lo hi : Key) where
@@ -126,21 +122,9 @@ wants_more (Unchecked a ∷ xs) ys = ap (λ ws. Plain a ∷ ws) (wants_more xs y
 
 -- ---- one chunk
 
-or_parts : (a b : Bool) → (a || b) ≡ false → (a ≡ false) × (b ≡ false)
-or_parts true b e = absurd (false≢true (sym e))
-or_parts false b e = (refl, e)
-
-either : (a b : Bool) → (a || b) ≡ true → (a ≡ true) ⊎ (b ≡ true)
-either true b e = inl refl
-either false b e = inr e
-
 left_true : (a b : Bool) → a ≡ true → (a && b) ≡ false → b ≡ false
 left_true true b e f = f
 left_true false b e f = absurd (false≢true e)
-
-not_not : (b : Bool) → not b ≡ false → b ≡ true
-not_not true e = refl
-not_not false e = absurd (false≢true (sym e))
 
 module _ (s : Super) (layout : Layout) (table : IsTable layout.chunks) (node : s.nodesize ≡ layout.setting.nodesize) (some : 0 < s.nodesize) (B : Map) (sums : Option TreeRoot) (number : ℕ) (chunk : Chunk) (there : slice_get layout.chunks number ≡ Some chunk) where
   f : Facts chunk
@@ -298,7 +282,7 @@ module _ (s : Super) (layout : Layout) (table : IsTable layout.chunks) (node : s
           (is_some extent.level && crosses chunk extent.addr extent.len) uncrossed
 
       ends : extent.addr + extent.len ≤ chunk.start + chunk.length
-      ends = not_above (chunk.start + chunk.length) (extent.addr + extent.len) crossings.0
+      ends = ltb-false (chunk.start + chunk.length) (extent.addr + extent.len) crossings.0
 
       sound_at : extent.addr % 4096 ≡ 0 → chunk.start ≤ extent.addr → IsSound extent × (end ≤ extent.addr)
       sound_at aligned from = (
@@ -306,11 +290,11 @@ module _ (s : Super) (layout : Layout) (table : IsTable layout.chunks) (node : s
           aligned = aligned;
           from = from;
           to = ends;
-          node_long = λ l. eqb-true extent.len s.nodesize (not_not (eqb extent.len s.nodesize)
+          node_long = λ l. eqb-true extent.len s.nodesize (not-false (eqb extent.len s.nodesize)
               (left_true (is_some extent.level) (not (eqb extent.len s.nodesize)) l parts.1));
           uncrossed = λ l. left_true (is_some extent.level) (crosses chunk extent.addr extent.len) l crossings.1;
         },
-        not_above extent.addr end parts.0,
+        ltb-false extent.addr end parts.0,
       )
 
       by_read : (r : Result ExtentItem ItemFault) → if_stated s.nodesize item.key r ≡ Some extent → key_fits item.key ≡ true → IsSound extent
@@ -318,7 +302,7 @@ module _ (s : Super) (layout : Layout) (table : IsTable layout.chunks) (node : s
       by_read (Err x) e fit = cc
       by_read (Ok x) e fit =
           let same : stated_extent s.nodesize item.key x ≡ extent = same_Some (stated_extent s.nodesize item.key x) extent e in
-          elim (either (eqb item.key.kind extent_item) (eqb item.key.kind metadata_item) is) [
+          elim (or_cases (eqb item.key.kind extent_item) (eqb item.key.kind metadata_item) is) [
             | inl plain_one ↦
                 let k = eqb-true item.key.kind 168 plain_one in
                 let as_key = key_of 168 item.key k in

@@ -29,7 +29,7 @@ use Rattle.btr_scrub_copies.specs.Turns.{WaitsAt, waiting}
 use Rattle.btr_scrub_copies.specs.Writes.{AreAmong, AreWritable, Images, Write, writes_if, write_on}
 use Rattle.btr_scrub_copies.specs.declared.mended.MendFault.{MendFault}
 use Rattle.btr_scrub_copies.specs.declared.mended.MendFault.TheVariants.{Image, Memory}
-use Rattle.btr_scrub_copies.proofs.Doing.{does_failed, does_reads}
+use Rattle.btr_scrub_copies.proofs.Doing.{does_reads}
 use Rattle.btr_scrub_copies.proofs.Syncs.{sync_held, sync_slots}
 use Rattle.btr_scrub_copies.proofs.Turning.{among_synced, does_sync, marked_below}
 use Rattle.btr_scrub.specs.BlocksInRows.{In}
@@ -39,14 +39,15 @@ use Rattle.btr_scrub.specs.Repair.{is_in_chunk, is_in_row, ok_or_none, row_of, r
 use Rattle.btr_scrub.specs.Scrubbing.{CanMend, IsOfScrub, IsPastChunk, Scrubs, Works, all_count_for, all_writes_for, sites_count, sites_in, sites_writes}
 use Rattle.btr_scrub.specs.Scrubbing.{chunk_count_for, chunk_writes_for, rows_count, rows_writes}
 use Rattle.btr_scrub.specs.declared.tally.Tally.{Tally}
-use Rattle.btr_scrub.proofs.Blockwise.{filter_none, fold_append, in_append, ok_of}
+use Rattle.btr_scrub.proofs.Blockwise.{filter_none, ok_of}
 use Rattle.btr_scrub.proofs.Firsts.{drop_one}
 use Rattle.btr_scrub.proofs.Positions.{alone_lies, is_sought}
 use Rattle.btr_scrub.proofs.RowAgreeing.{map_same}
 use Rattle.btr_scrub.proofs.Scrubbing.{IsUnmoved, does_cut, does_next, does_weaker, held_after, if_append, recast, tell, told, waits_weaker}
-use Rattle.btr_scrub.proofs.SomeCandidate.{any_at}
 use Rattle.btr_scrub.proofs.Stripes.{any_of}
 use Rattle.btr_scrub_copies.specs.Fresh.{Failing}
+use Rattle.btr_scrub.proofs.Lists.{any_at}
+use Rattle.std.proofs.lemmas.List.Sums.{fold-append}
 
 -- ---- one chunk
 
@@ -348,7 +349,7 @@ module _ (kept : Failing) (layout : Layout) (table : IsTable layout.chunks) (wan
       chunks_more p one = record {
         past = h.past ++ p.past;
         split = h.split ∙ ap (λ ws. h.past ++ ws) p.split ∙ sym (append_assoc h.past p.past left');
-        outside = λ t k c i le e. elim (in_append t (targets layout h.past) (targets layout p.past) (subst (In t) (filter_map-append (λ w. ok_or_none (sought layout w)) h.past p.past) i)) [
+        outside = λ t k c i le e. elim (in_either t (targets layout h.past) (targets layout p.past) (subst (In t) (filter_map-append (λ w. ok_or_none (sought layout w)) h.past p.past) i)) [
           | inl j ↦ h.outside t k c j (omega (arith, le)) e
           | inr j ↦ not_later t k c le e (p.inside t j)
         ];
@@ -393,7 +394,7 @@ module _ (kept : Failing) (layout : Layout) (table : IsTable layout.chunks) (wan
               ≡ chunk_count_for kept layout write chunk wants images (all_count_for kept layout write (take number layout.chunks) wants images x)
           counts_one images x =
               ap (λ cs. all_count_for kept layout write cs wants images x) (take_one layout.chunks number chunk there)
-              ∙ fold_append (λ tally c. chunk_count_for kept layout write c wants images tally) x (take number layout.chunks) (chunk ∷ [])
+              ∙ fold-append (λ tally c. chunk_count_for kept layout write c wants images tally) x (take number layout.chunks) (chunk ∷ [])
 
       -- a halt in it
       pub chunks_cut : (e : MendFault) → Works {A = Unit {0}} layout write (chunk_writes_for kept layout chunk left)
@@ -440,15 +441,3 @@ can_mend_synced write a b store m n can only long =
 -- the chunk of a number below their count
 pub at_number : (layout : Layout) (i : ℕ) → i < length layout.chunks → (chunk : Chunk) × (slice_get layout.chunks i ≡ Some chunk)
 at_number layout i lt = at-below layout.chunks i lt
-
--- nothing was done, as there was no memory
-pub works_nothing : (layout : Layout) (write : Bool) (f : Images → List Write) (c : Images → Tally → Tally) (a : Seen) (t : Tally)
-    → Works {A = Unit {0}} layout write f c a a t t (Err Memory)
-works_nothing layout write f c a t = record {
-  does = does_failed (IsOfScrub layout) (Unit {0}) (Unit {0}) (λ i. writes_if write (f i)) [] (plain a) (plain a) Memory (record { same = refl; later = omega arith; same_shut = refl }) (record { faults = refl; fresh = refl; missed = refl; last = refl; opening = refl; shut = refl });
-  counts = tt;
-  synced = tt;
-  waits = λ none. inl (λ range i. inl i);
-  stranded = refl;
-  unwritten = λ w. record { same = refl; later = omega arith; same_shut = refl };
-}

@@ -1,10 +1,9 @@
 -- The writes of a full stripe lie where it is wrong.
-use Rattle.std.proofs.Common.{◌≡◌, ◌⊎◌, ℕ, ◌+◌, ◌-◌, ◌*◌, ◌<◌, ◌≤◌, Bool, true, false, ◌&&◌, ◌||◌, List, [], ◌∷◌, ◌++◌, map, length, slice_get, Option}
-use Rattle.std.proofs.Common.{Some, None}
-use Rattle.std.proofs.Common.{IsNone, IsSomeAnd, is_some, refl, sym, ap, ◌∙◌, subst, inl, inr, arith}
+use Rattle.std.proofs.Common.{◌≡◌, ℕ, ◌+◌, ◌-◌, ◌*◌, ◌<◌, ◌≤◌, true, false, ◌&&◌, List, [], ◌∷◌, length, slice_get, Option, Some, None, IsNone, IsSomeAnd}
+use Rattle.std.proofs.Common.{refl, sym, ap, ◌∙◌, subst, inl, inr, arith}
 use Rattle.std.proofs.lemmas.Bool.{false≢true, and_parts}
 use Rattle.std.proofs.lemmas.Option.{same_Some}
-use Rattle.std.specs.List.{filter_map, cons_option, flat_map, list_any, range_with_len}
+use Rattle.std.specs.List.{flat_map, list_any, range_with_len}
 use Rattle.std.specs.Option.{option_map, option_map_or}
 use Rattle.btr_chunk.specs.Chunk.{IsChunk, mirror_count}
 use Rattle.btr_chunk.specs.Mapping.{HasPart, place_at, place_on}
@@ -41,49 +40,9 @@ use Rattle.btr_scrub.proofs.Places.{covered, covering}
 use Rattle.btr_scrub.proofs.Wrong.{differing_parity_is_wrong}
 use Rattle.btr_scrub_copies.proofs.Syncs.{passing_filter}
 use Rattle.btr_scrub_copies.specs.Writes.{Images, Write}
+use Rattle.btr_scrub.proofs.Lists.{any_map, mapped, any_append, any_flat, any_filter_map}
 
 -- ---- lists
-
-pub any_append : {X : Type 0} (f : X → Bool) (xs ys : List X) → list_any f (xs ++ ys) ≡ true → (list_any f xs ≡ true) ⊎ (list_any f ys ≡ true)
-any_append f [] ys h = inr h
-any_append f (x ∷ xs) ys h = by (f x) (list_any f xs) (any_append f xs ys) h
-  where
-    by : (b c : Bool) → (list_any f (xs ++ ys) ≡ true → (c ≡ true) ⊎ (list_any f ys ≡ true)) → (b || list_any f (xs ++ ys)) ≡ true → ((b || c) ≡ true)
-        ⊎ (list_any f ys ≡ true)
-    by true c rest h = inl refl
-    by false c rest h = rest h
-
-pub any_map : {X Y : Type 0} (f : Y → Bool) (g : X → Y) (xs : List X) → list_any f (map g xs) ≡ list_any (λ x. f (g x)) xs
-any_map f g [] = refl
-any_map f g (x ∷ xs) = ap (λ b. f (g x) || b) (any_map f g xs)
-
-pub any_flat : {X Y : Type 0} (f : Y → Bool) (g : X → List Y) (xs : List X) → list_any f (flat_map g xs) ≡ true → (x : X) × In x xs × (list_any f (g x) ≡ true)
-any_flat f g [] h = absurd (false≢true h)
-any_flat f g (x ∷ xs) h = elim (any_append f (g x) (flat_map g xs) h) [
-  | inl here ↦ (x, inl refl, here)
-  | inr later ↦ let r = any_flat f g xs later in (r.0, inr r.1, r.2)
-]
-
-pub any_filter_map : {X Y : Type 0} (f : Y → Bool) (g : X → Option Y) (xs : List X) → list_any f (filter_map g xs) ≡ true → (x : X) × In x xs
-    × ((y : Y) × (g x ≡ Some y) × (f y ≡ true))
-any_filter_map f g [] h = absurd (false≢true h)
-any_filter_map f g (x ∷ xs) h = by (g x) refl h (any_filter_map f g xs)
-  where
-    by : (o : Option _) → g x ≡ o → list_any f (cons_option o (filter_map g xs)) ≡ true
-        → (list_any f (filter_map g xs) ≡ true → (z : _) × In z xs × ((y : _) × (g z ≡ Some y) × (f y ≡ true)))
-        → (z : _) × In z (x ∷ xs) × ((y : _) × (g z ≡ Some y) × (f y ≡ true))
-    by None e h rest = let r = rest h in (r.0, inr r.1, r.2)
-    by (Some y) e h rest = or (f y) refl h rest
-      where
-        or : (b : Bool) → f y ≡ b → (b || list_any f (filter_map g xs)) ≡ true
-            → (list_any f (filter_map g xs) ≡ true → (z : _) × In z xs × ((y : _) × (g z ≡ Some y) × (f y ≡ true)))
-            → (z : _) × In z (x ∷ xs) × ((y : _) × (g z ≡ Some y) × (f y ≡ true))
-        or true t h rest = (x, inl refl, (y, e, t))
-        or false t h rest = let r = rest h in (r.0, inr r.1, r.2)
-
-pub mapped : {X Y : Type 0} (g : X → Y) (o : Option X) (y : Y) → option_map g o ≡ Some y → (x : X) × (o ≡ Some x) × (g x ≡ y)
-mapped g None y e = absurd (false≢true (ap is_some e))
-mapped g (Some x) y e = (x, refl, same_Some (g x) y e)
 
 -- ---- one row
 

@@ -1,7 +1,7 @@
 -- What is to be written lies in wrong elements.
 use Rattle.std.proofs.Common.{◌≡◌, ◌⊎◌, ℕ, suc, ◌+◌, ◌-◌, ◌*◌, ◌<◌, ◌≤◌, Bool, true, false, not, cond, ◌&&◌, ◌||◌, eqb, ltb, nat_lt, List, [], ◌∷◌, map, length, get_or}
 use Rattle.std.proofs.Common.{slice_range, Option, Some, None, IfSome, is_some, refl, sym, ap, ◌∙◌, subst, inl, inr, arith}
-use Rattle.std.proofs.lemmas.Bool.{false≢true, and_parts, cases_lt, lt-ltb}
+use Rattle.std.proofs.lemmas.Bool.{false≢true, and_parts, cases_lt, lt-ltb, not-true}
 use Rattle.std.proofs.lemmas.List.{same_lists, length-map, get_or-map}
 use Rattle.std.proofs.lemmas.List.FromFn.{length-map-range_with_len, get_or-map-range_with_len}
 use Rattle.std.proofs.lemmas.Slice.Eq.{bytes_eq-Decides}
@@ -32,18 +32,15 @@ use Rattle.btr_scrub.specs.Survival.{BadBlockIsWrong, DifferingParityIsWrong, Is
 use Rattle.btr_scrub.proofs.Elements.{block_of_element}
 use Rattle.btr_parity.proofs.Ranges.{parity_of_ranges}
 use Rattle.btr_scrub_row.proofs.Pasted.{length-pasted, pasted-above, pasted-below, pasted-within}
-use Rattle.btr_scrub.proofs.Survival.{block_there, at_slice, right_checked, right_plain, slice_there, some_of, of_filter, range_ext}
+use Rattle.btr_scrub.proofs.Survival.{block_there, at_slice, right_checked, right_plain, slice_there, of_filter, range_ext}
 use Rattle.btr_scrub_copies.specs.Writes.{Images}
+use Rattle.btr_scrub.proofs.Lists.{some_of}
 
 -- what is known of a stale place of a plain sector
 record IsStaleAt (images : Images) (fails : Failing) (t : Target) (q : Part) : Type 0 where
   bytes : List ℕ
   gets : new_bytes images fails t ≡ Some bytes
   differs : bytes_eq (read.element images t q) bytes ≡ false
-
-not_so : (b : Bool) → not b ≡ true → b ≡ false
-not_so true e = absurd (false≢true e)
-not_so false e = refl
 
 stale_at : (images : Images) (fails : Failing) (t : Target) (q : Part) → is_plain t.want ≡ true → In q (stale_parts images fails t) → IsStaleAt images fails t q
 stale_at images fails t q plain i = by (fresh images fails t) refl i
@@ -60,7 +57,7 @@ stale_at images fails t q plain i = by (fresh images fails t) refl i
           bytes = bytes;
           gets = ap (λ b. cond b (renewed images fails t) (accepted images t)) plain
               ∙ ap (λ b. cond b (fresh images fails t) None) (some_long (stale_parts images fails t) i) ∙ e;
-          differs = not_so (bytes_eq (read.element images t q) bytes)
+          differs = not-true (bytes_eq (read.element images t q) bytes)
               (and_parts (is_on_behind fails t q) (not (bytes_eq (read.element images t q) bytes)) p.1).1;
         }
 
@@ -95,7 +92,7 @@ bad_block_is_wrong images layout C row t sound among pass bad right = by (is_pla
         let b = some_of (C t.want) ((sound.blocks t among).committed checked) in
         let value = right_value images layout C row t sound among b.0 (right_checked images C row t checked ∙ b.1) right in
         let passing : passes t.setting t.want b.0 ≡ true = subst (λ o. IfSome o (λ bytes. passes t.setting t.want bytes ≡ true)) b.1 pass in
-        let unsound = not_so (is_good images t q) (passing_filter (λ part. not (is_sound images t part)) q (own_parts t) i).1 in
+        let unsound = not-true (is_good images t q) (passing_filter (λ part. not (is_sound images t part)) q (own_parts t) i).1 in
         false≢true (sym unsound ∙ ap (passes t.setting t.want) value ∙ passing)
 
 -- ---- decided columns

@@ -1,15 +1,13 @@
 -- What calls that list the checked blocks did, and how they answered.
-use Rattle.std.specs.Prelude.{◌≡◌, ◌⊎◌, ℕ, zero, suc, ◌+◌, true, Contains, ◌≤◌, List, [], ◌∷◌, ◌++◌, fold}
-use Rattle.std.specs.Prelude.{Option, Result, Ok, Err, OnOk}
-use Rattle.btr_prog.specs.Answers.{Halt, Fault as halt_fault, Broke, Follows, no_part}
+use Rattle.std.specs.Prelude.{◌≡◌, ◌⊎◌, ℕ, zero, suc, ◌+◌, true, Contains, ◌≤◌, List, [], ◌∷◌, ◌++◌, fold, Option, Result, Ok, Err, OnOk}
+use Rattle.btr_prog.specs.Answers.{Follows, no_part}
 use Rattle.btr_prog.specs.Prog.{Mark, exec, prepend, steps_of}
 use Rattle.btr_rack.specs.Rack.{Seen, OnlyReads, next_count}
-use Rattle.btr_read.specs.Fate as fate
 use Rattle.btr_read.specs.Layout.{Layout}
 use Rattle.btr_read.specs.Serves.{Serves}
 use Rattle.btr_read.specs.declared.want.Want.{Want}
 use Rattle.btr_read.specs.declared.want.Want.TheVariants.{Plain}
-use Rattle.btr_walk.specs.Reading.{FaultCause, Tells, UnreadBlock, halt_of, unread_by}
+use Rattle.btr_walk.specs.Reading.{FaultCause, Tells, unread_by}
 use Rattle.btr_walk.specs.declared.fault.TreeFault.{TreeFault}
 use Rattle.btr_walk.specs.declared.fault.TreeFault.TheVariants as tree
 use Rattle.btr_chunk.specs.declared.chunk.Chunk.{Chunk}
@@ -23,6 +21,7 @@ use Rattle.btr_scrub.specs.Listed.{IsList, kept_wants}
 use Rattle.btr_scrub.specs.Units.{Meeting, Met, Checked, Unchecked, is_crossing, sector, sectors}
 use Rattle.btr_scrub.specs.declared.extent.Extent.{Extent}
 use Rattle.btr_scrub.specs.declared.gathered.Gathered.{Gathered}
+use Rattle.btr_volume.specs.Stops.{ended}
 
 -- the wants of the checked blocks and of the plain sectors among what was met
 abbrev pub wants_among : List Met → List Want
@@ -46,23 +45,6 @@ pub record Lists (old new : Gathered) (done : List Met) : Type 0 where
   pub kind : new.list.kind ≡ old.list.kind
   pub wants : kept_wants new.list ≡ kept_wants old.list ++ wants_among done
   pub unchecked : new.unchecked ≡ fold count_met old.unchecked done
-
--- how a stop ends a run: by its fault, or at any place
-abbrev pub stop_halt : Stop → Halt fate.Fault UnreadBlock
-stop_halt (NoTree id) = halt_fault (fate.NoTree id)
-stop_halt (Tree f) = halt_of f
-stop_halt (Deletion id) = Broke
-stop_halt Balance = Broke
-stop_halt (Missing id) = Broke
-stop_halt (Image slot) = Broke
-stop_halt Sink = Broke
-stop_halt Out = Broke
-stop_halt Memory = Broke
-
--- the answer of a call as the answer of its program
-abbrev pub ended : {A : Type 0} → Result A Stop → Result A (Halt fate.Fault UnreadBlock)
-ended (Ok a) = Ok a
-ended (Err stop) = Err (stop_halt stop)
 
 -- an extent at an address passes the end of a chunk of the table, or is a tree block that crosses an element of it
 pub record IsCrossing (layout : Layout) (addr : ℕ) : Type 0 where
@@ -129,27 +111,3 @@ pub record Reaches {A : Type 0} (p q : Meeting A) (x y : Scene) : Type 0 where
   pub done : List Met
   pub lists : Lists x.list y.list done
   pub content : Tells x.vol.store.layout x.rack y.rack (λ B. (before : List (Mark Want Met)) × (exec B p ≡ prepend before (exec B q)) × (done ≡ steps_of before))
-
--- blocks were listed: their wants, and the count of the sectors without a checksum
-pub record AreListed (gathered : Gathered) (done : List Met) : Type 0 where
-  pub is_list : IsList gathered.list
-  pub wants : kept_wants gathered.list ≡ wants_among done
-  pub unchecked : gathered.unchecked ≡ fold count_met 0 done
-
--- what was listed, if the call came to its end
-abbrev pub ListsDone : Result Gathered Stop → List Met → Type 0
-ListsDone (Ok gathered) done = AreListed gathered done
-ListsDone (Err stop) done = Unit {0}
-
--- an answer without its list
-abbrev pub without_list : Result Gathered Stop → Result (Unit {0}) Stop
-without_list (Ok gathered) = Ok tt
-without_list (Err stop) = Err stop
-
--- The blocks that a program meets were listed: what was done follows it, and was
--- answered as it ends; a stop has its cause.
-pub record ListsUnits (p : Meeting (Unit {0})) (layout : Layout) (old new : Seen) (result : Result Gathered Stop) : Type 0 where
-  pub done : List Met
-  pub lists : ListsDone result done
-  pub content : Tells layout old new (λ B. Follows (unread_by layout old new) no_part [] (exec B p) done (ended (without_list result)))
-  pub cause : StopCause layout old new result

@@ -11,8 +11,8 @@ use Rattle.btr_walk.specs.declared.fault.TreeFault.TheVariants.{Lost, Unread, Un
 use Rattle.btr_scrub.specs.Order.{AreUpTo}
 
 -- a block has a position, and begins at or behind an address
-abbrev pub IsBehind : Layout → ℕ → Want → Type 0
-IsBehind layout from want = (from ≤ addr_of want) × IsOk (sought layout want)
+abbrev pub BeginsFrom : Layout → ℕ → Want → Type 0
+BeginsFrom layout from want = (from ≤ addr_of want) × IsOk (sought layout want)
 
 -- why one doesn't: it has no position, or it has one and begins before that address
 abbrev pub IsRefused : Layout → ℕ → Want → TreeFault → Type 0
@@ -24,7 +24,7 @@ IsRefused layout from want (Malformed a) = (a ≡ addr_of want) × IsOk (sought 
 
 -- where a block ends that is so, or why it isn't
 abbrev pub JudgedOne : Layout → ℕ → Want → Result ℕ TreeFault → Type 0
-JudgedOne layout from want (Ok end) = IsBehind layout from want × (end ≡ addr_of want + len_of layout.setting want)
+JudgedOne layout from want (Ok end) = BeginsFrom layout from want × (end ≡ addr_of want + len_of layout.setting want)
 JudgedOne layout from want (Err fault) = IsRefused layout from want fault
 
 -- plain sectors one behind another from an address on, which begin before a bound, have a position
@@ -36,7 +36,7 @@ ArePlaced layout addr bound =
 abbrev pub IsFirstRefused : Layout → ℕ → List Want → TreeFault → Type 0
 IsFirstRefused layout end [] fault = ⊥
 IsFirstRefused layout end (want ∷ wants) fault =
-    IsRefused layout end want fault ⊎ (IsBehind layout end want × IsFirstRefused layout (addr_of want + len_of layout.setting want) wants fault)
+    IsRefused layout end want fault ⊎ (BeginsFrom layout end want × IsFirstRefused layout (addr_of want + len_of layout.setting want) wants fault)
 
 -- all blocks of a list have a position and are apart, from an address on, and where they end; or why one doesn't
 abbrev pub Judged : Layout → ℕ → List Want → Result ℕ TreeFault → Type 0

@@ -206,14 +206,14 @@ abbrev pub StandsIn : Kept → ℕ → ℕ → ℕ → ℕ → Type 0
 StandsIn kept run past sum mark = IsPlace kept.kind (drop run kept.runs) past (drop sum kept.sums) (drop mark kept.marks)
 
 -- what a reader gives: the next block, or nothing at the end
-abbrev pub Gives : List Want → Option Want → List Want → Type 0
-Gives old None new = (old ≡ []) × (new ≡ [])
-Gives old (Some want) new = old ≡ want ∷ new
+abbrev pub GivesNext : List Want → Option Want → List Want → Type 0
+GivesNext old None new = (old ≡ []) × (new ≡ [])
+GivesNext old (Some want) new = old ≡ want ∷ new
 
 -- the sectors that are past behind the next one of so many, if another follows
-abbrev pub IsBehind : ℕ → ℕ → Option ℕ → Type 0
-IsBehind past count None = past + 1 ≡ count
-IsBehind past count (Some next) = (next ≡ past + 1) × (past + 1 ≢ count)
+abbrev pub PassesNext : ℕ → ℕ → Option ℕ → Type 0
+PassesNext past count None = past + 1 ≡ count
+PassesNext past count (Some next) = (next ≡ past + 1) × (past + 1 ≢ count)
 
 -- a reader passes over plain sectors, all of which begin before an address
 pub record PassesPlain (old : List Want) (end : ℕ) (new : List Want) : Type 0 where

@@ -1,7 +1,6 @@
 -- All of it: the writes in order, the images that they make, the ranges, and the counts.
 use Rattle.std.specs.Prelude.{ℕ, ◌+◌, ◌/◌, ◌-◌, ◌^◌, min, Bool, true, false, ◌&&◌, ◌==◌, nat_le, nat_lt, List, [], length, map, Option, Some, None, Result, Ok, Err, is_none, slice_get, slice_index, if◌then◌else◌, count_by}
-use Rattle.std.specs.List.{filter, filter_map, flat_map, fold, find, range_with_len, sum_by}
-use Rattle.std.specs.Option.{option_map_or}
+use Rattle.std.specs.List.{filter, filter_map, flat_map, fold, range_with_len, sum_by}
 use Rattle.btr_chunk.specs.Chunk.{stripe_length, mirrors}
 use Rattle.btr_chunk.specs.declared.chunk.Chunk.{Chunk}
 use Rattle.btr_chunk.specs.declared.stripe.Stripe.{Stripe}
@@ -83,10 +82,6 @@ byte_at images slot off = slice_index (image_of images slot) off
 -- a range has a byte
 abbrev pub covers : ℕ → ℕ → Range → Bool
 covers slot off range = (range.slot == slot) && nat_le range.off off && nat_lt off (range.off + range.len)
-
--- the byte at a place after writes that have no byte in common
-abbrev pub byte_after : List (List ℕ) → List Write → ℕ → ℕ → ℕ
-byte_after images writes slot off = option_map_or (λ (write : Write). slice_index write.bytes (off - write.range.off)) (find (λ (write : Write). covers slot off write.range) writes) (byte_at images slot off)
 
 module _ (images : List (List ℕ)) (fs : Filesystem) where
   -- what is met on the way through a filesystem, and how it ends

@@ -18,10 +18,11 @@ use Rattle.btr_volume.specs.declared.root.TreeRoot.{TreeRoot}
 use Rattle.btr_volume.specs.declared.stop.Stop.{Stop}
 use Rattle.btr_scrub.specs.Extents.{span_of}
 use Rattle.btr_scrub.specs.declared.extent.Span.{Span}
-use Rattle.btr_scrub.specs.Gathering.{Lists, Scene, StopCause, ended}
+use Rattle.btr_scrub.specs.Gathering.{Lists, Scene, StopCause}
 use Rattle.btr_scrub.specs.Units.{Met, extent_of, is_extent, items_met}
 use Rattle.btr_scrub.specs.declared.collecting.NextExtent.{NextExtent}
 use Rattle.btr_scrub.specs.declared.collecting.NextExtent.TheVariants.{End, Other, Broken, Found}
+use Rattle.btr_volume.specs.Stops.{ended}
 
 -- some wants, and then an item; what is left comes behind
 pub record GivesItem (B : Map) (seen : List Want) (old new : Blocks) (scan scan' : Scan) (item : TreeItem) : Type 0 where
@@ -43,12 +44,12 @@ pub record GivesExtent (s : Super) (B : Map) (seen : List Want) (old new : Block
   pub says : Says s item next
 
 -- the next item of a scan, or its end
-abbrev pub NextBy : Super → (UnreadBlock → Want → Type 0) → Map → List Want → Blocks → Blocks → Scan → Scan → Result NextExtent TreeFault → Type 0
-NextBy s Is B seen old new scan scan' (Ok End) = Follows Is no_part seen (exec B (left_of B old scan)) [] (Ok tt)
-NextBy s Is B seen old new scan scan' (Ok Other) = GivesExtent s B seen old new scan scan' Other
-NextBy s Is B seen old new scan scan' (Ok (Broken leaf)) = GivesExtent s B seen old new scan scan' (Broken leaf)
-NextBy s Is B seen old new scan scan' (Ok (Found extent leaf)) = GivesExtent s B seen old new scan scan' (Found extent leaf)
-NextBy s Is B seen old new scan scan' (Err f) = Follows Is no_part seen (exec B (left_of B old scan)) [] (Err (halt_of f))
+abbrev pub NextExtentBy : Super → (UnreadBlock → Want → Type 0) → Map → List Want → Blocks → Blocks → Scan → Scan → Result NextExtent TreeFault → Type 0
+NextExtentBy s Is B seen old new scan scan' (Ok End) = Follows Is no_part seen (exec B (left_of B old scan)) [] (Ok tt)
+NextExtentBy s Is B seen old new scan scan' (Ok Other) = GivesExtent s B seen old new scan scan' Other
+NextExtentBy s Is B seen old new scan scan' (Ok (Broken leaf)) = GivesExtent s B seen old new scan scan' (Broken leaf)
+NextExtentBy s Is B seen old new scan scan' (Ok (Found extent leaf)) = GivesExtent s B seen old new scan scan' (Found extent leaf)
+NextExtentBy s Is B seen old new scan scan' (Err f) = Follows Is no_part seen (exec B (left_of B old scan)) [] (Err (halt_of f))
 
 -- a scan that gave an item comes nearer to its end
 abbrev pub ItemNears : ℕ → ℕ → Result NextExtent TreeFault → Type 0
@@ -97,7 +98,7 @@ pub record IsSpanIn (layout : Layout) (span : Span) : Type 0 where
 -- so far as a scan's step was steady, this came next
 abbrev pub NextTold : Super → Seen → Seen → Blocks → Blocks → Scan → Scan → Result NextExtent TreeFault → Type 0
 NextTold s old new store store' scan scan' next =
-    Tells store.layout old new (λ B. (seen : List Want) → IsOn scan.lo scan.hi B seen scan.place → NextBy s (unread_by store.layout old new) B seen store store' scan scan' next)
+    Tells store.layout old new (λ B. (seen : List Want) → IsOn scan.lo scan.hi B seen scan.place → NextExtentBy s (unread_by store.layout old new) B seen store store' scan scan' next)
 
 -- a span is that of the chunk of a number, which has an address, and ends below 2^64
 pub record IsSpanAt (layout : Layout) (i : ℕ) (span : Span) : Type 0 where

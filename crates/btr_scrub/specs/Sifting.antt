@@ -10,7 +10,7 @@ use Rattle.btr_read.specs.Fate.{is_plain, sought}
 use Rattle.btr_read.specs.Layout.{Layout}
 use Rattle.btr_read.specs.declared.want.Want.{Want}
 use Rattle.btr_scrub_copies.specs.Blocks.{bad_parts, is_lost}
-use Rattle.btr_scrub_copies.specs.Writes.{Images}
+use Rattle.btr_scrub_copies.specs.Writes.{Images, FailsAt}
 use Rattle.btr_scrub_row.specs.Wanted.{is_checked}
 use Rattle.btr_read.specs.Want.{addr_of}
 use Rattle.btr_scrub.specs.BlocksInRows.{In}
@@ -20,7 +20,6 @@ use Rattle.btr_scrub.specs.Repair.{ok_or_none, stood}
 use Rattle.btr_scrub.specs.Whole.{first_tally, listed_count_for, listed_writes_for}
 use Rattle.btr_rack.specs.Rack.{OnlyReads, Seen}
 use Rattle.btr_read.specs.Serves.{Serves}
-use Rattle.btr_scrub_copies.specs.Writes.{FailsAt}
 use Rattle.btr_volume.specs.Looking.{SameVolume}
 use Rattle.btr_volume.specs.declared.stop.Stop.{Stop}
 use Rattle.btr_volume.specs.declared.stop.Stop.TheVariants as stop
@@ -29,7 +28,7 @@ use Rattle.btr_walk.specs.declared.fault.TreeFault.{TreeFault}
 use Rattle.btr_prog.specs.Answers.{Follows, no_part}
 use Rattle.btr_prog.specs.Prog.{exec}
 use Rattle.btr_walk.specs.Reading.{Tells, unread_by}
-use Rattle.btr_scrub.specs.Gathering.{Gathers, Scene, StopCause, count_met, scene, stop_halt, wants_among}
+use Rattle.btr_scrub.specs.Gathering.{Gathers, Scene, StopCause, count_met, scene, wants_among}
 use Rattle.btr_scrub.specs.Judging.{IsFirstRefused}
 use Rattle.btr_scrub.specs.WrittenRanges.{LiesInStripe}
 use Rattle.btr_scrub.specs.Listed.{IsList, kept_wants}
@@ -38,6 +37,7 @@ use Rattle.btr_scrub.specs.declared.gathered.Gathered.{Gathered}
 use Rattle.btr_scrub.specs.declared.sieve.Sieve.{Sieve}
 use Rattle.btr_scrub.specs.declared.sieve.Sifted.{Sifted}
 use Rattle.btr_scrub.specs.declared.tally.Tally.{Tally}
+use Rattle.btr_volume.specs.Stops.{stop_halt}
 
 -- a block isn't sound: one of its copies is bad, or all are lost
 abbrev pub is_unsound : Images → Target → Bool

@@ -12,7 +12,7 @@ use Rattle.btr_volume.specs.declared.stop.Stop.{Stop}
 use Rattle.btr_volume.specs.declared.stop.Stop.TheVariants as stop
 use Rattle.btr_scrub_copies.specs.declared.mended.MendFault.{MendFault}
 use Rattle.btr_scrub_copies.specs.declared.mended.MendFault.TheVariants.{Image, Memory}
-use Rattle.btr_scrub.specs.Gathering.{StopCause, wants_among, count_met, stop_halt}
+use Rattle.btr_scrub.specs.Gathering.{StopCause, wants_among, count_met}
 use Rattle.btr_scrub_copies.specs.Writes.{FailsAt, Images, Write}
 use Rattle.btr_scrub.specs.Filesystem.{Filesystem}
 use Rattle.btr_scrub.specs.Judging.{IsFirstRefused}
@@ -27,6 +27,7 @@ use Rattle.btr_scrub.specs.Repair.{first_missing, met, stood_tally, tally, write
 use Rattle.btr_scrub.specs.Scrubbing.{Works, all_count_for, all_writes_for}
 use Rattle.btr_scrub.specs.Units.{Met, units_in}
 use Rattle.btr_scrub.specs.declared.tally.Tally.{Tally}
+use Rattle.btr_volume.specs.Stops.{stop_halt}
 
 -- the counts before the first block
 abbrev pub first_tally : ℕ → Tally

@@ -2,7 +2,7 @@ use crate::listed::Listed;
 
 /// What was met of a filesystem's blocks (`docs/FORMAT.md`, "Checked blocks").
 #[derive(Drop)]
-pub struct Gathered {
+pub(crate) struct Gathered {
     /// The checked blocks, and the sectors without a checksum.
     pub list: Listed,
     /// How many sectors of data have no checksum.

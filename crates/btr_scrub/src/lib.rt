@@ -33,7 +33,6 @@ mod task;
 mod units;
 mod whole;
 
-pub use gathered::Gathered;
 pub use laws::{
     bad_block_is_wrong, block_of_element, differing_parity_is_wrong, elements_apart,
     elements_are_slices, few_are_few_at, few_bytes, first_turn_keeps_blocks, kept_counts,
@@ -41,8 +40,6 @@ pub use laws::{
     row_outlives_writes, row_survives, row_writes_are_wrong, second_turn_keeps_blocks,
     some_candidate_is_right, works_keep_the_rest, writes_keep_the_rest,
 };
-pub use listed::Listed;
 pub use missing::missing_device;
-pub use reader::{Reader, read_all};
 pub use tally::Tally;
 pub use whole::scrub;

@@ -1,6 +1,6 @@
 // A reader of the list of blocks.
 ghost use Rattle.std.specs.Prelude.{◌≡◌, ◌<◌};
-ghost use Rattle.btr_scrub.specs.Listed.{IsBehind, IsList, kept_wants};
+ghost use Rattle.btr_scrub.specs.Listed.{PassesNext, IsList, kept_wants};
 
 use crate::listed::Listed;
 use crate::run::RunKind;
@@ -9,7 +9,7 @@ use std::marker::Model;
 
 /// A place in a list of blocks (`docs/FORMAT.md`, "Checked blocks"), seen as those that come behind it.
 #[derive(Drop)]
-pub struct Reader<'a> {
+pub(crate) struct Reader<'a> {
     listed: &'a Listed,
     // The run, and how many of its sectors are past.
     run: usize,
@@ -34,7 +34,7 @@ impl<'a> Model for Reader<'a> {
 // How many sectors of a run are past behind the next one, if that isn't the last.
 fn behind(past: u32, count: u32) -> Option<u32>
     requires { past < count }
-    ensures { IsBehind past count result }
+    ensures { PassesNext past count result }
 {
     if count - past == 1 {
         None
@@ -44,7 +44,7 @@ fn behind(past: u32, count: u32) -> Option<u32>
 }
 
 /// A reader before all blocks of a list.
-pub fn read_all(listed: &Listed) -> Reader<'_>
+pub(crate) fn read_all(listed: &Listed) -> Reader<'_>
     requires { IsList listed.now }
     ensures { result ≡ kept_wants listed.now }
 {
@@ -59,7 +59,7 @@ pub fn read_all(listed: &Listed) -> Reader<'_>
 
 impl<'a> Reader<'a> {
     ghost use Rattle.std.specs.Prelude.{◌≡◌, IfSome};
-    ghost use Rattle.btr_scrub.specs.Listed.{Gives, IsNextPlain, PassesFrom, PassesPlain};
+    ghost use Rattle.btr_scrub.specs.Listed.{GivesNext, IsNextPlain, PassesFrom, PassesPlain};
 
     /// Another reader at the same place.
     pub fn again(&self) -> Reader<'a>
@@ -76,7 +76,7 @@ impl<'a> Reader<'a> {
 
     /// The next block, if there is one.
     pub fn next(&mut self) -> Option<Want>
-        ensures { Gives self.old result self.new }
+        ensures { GivesNext self.old result self.new }
     {
         let run = self.listed.run_at(self.run)?;
         match run.kind {

@@ -33,7 +33,7 @@ use std::alloc::Global;
 
 /// What is kept of some blocks, and how many others there are.
 #[derive(Drop)]
-pub struct Sifted {
+pub(crate) struct Sifted {
     /// The blocks for which something may have to be written.
     pub kept: Listed,
     /// How many other checked blocks there are, which are sound.
@@ -42,7 +42,7 @@ pub struct Sifted {
 
 /// What is kept of the blocks that were listed so far.
 #[derive(Drop)]
-pub struct Sieve {
+pub(crate) struct Sieve {
     /// What is kept of them.
     pub sifted: Sifted,
     /// How many sectors of data have no checksum.

@@ -8,16 +8,13 @@ use Rattle.btr_rack.specs.declared.place.Place.{Place as Range}
 use Rattle.btr_read.proofs.Keeping.{none_more, one_after}
 use Rattle.btr_read.proofs.ReadsOn.{same_held, same_sure}
 use Rattle.btr_read.proofs.Ones.{in_either, in_left, in_right}
-use Rattle.btr_scrub_copies.specs.Writes.{AccountsMend, AreAmong, Does, FailsAt, Images, In, IsMarked, IsStopped, IsTorn, Leaves, Marks, OnlyWrites, Write}
+use Rattle.btr_scrub_copies.specs.Writes.{AccountsMend, AreAmong, Does, FailsAt, Images, In, IsMarked, IsStopped, IsTorn, LeaveImages, Marks, OnlyWrites, Write}
 use Rattle.btr_scrub_copies.specs.Writes.{ranges_of, write_on}
 use Rattle.btr_scrub_copies.specs.declared.mended.MendFault.{MendFault}
 use Rattle.btr_scrub_copies.specs.declared.mended.MendFault.TheVariants.{Image, Memory}
+use Rattle.std.proofs.lemmas.List.Sums.{fold-append}
 
 -- ---- images
-
-fold-append : (images : Images) (ws vs : List Write) → fold write_on images (ws ++ vs) ≡ fold write_on (fold write_on images ws) vs
-fold-append images [] vs = refl
-fold-append images (w ∷ ws) vs = fold-append (write_on images w) ws vs
 
 torn_at : (behind : List Write) (old old' new : Images) → old ≡ old' → IsTorn behind old new → IsTorn behind old' new
 torn_at behind old old' new e t = subst (λ o. IsTorn behind o new) e t
@@ -29,9 +26,9 @@ stopped_behind ws vs images new h = record {
   behind = h.behind;
   place = ap (λ q. ws ++ q) h.place ∙ sym (append_assoc ws h.before h.behind);
   stands = elim h.stands as (λ _. (new ≡ fold write_on images (ws ++ h.before)) ⊎ IsTorn h.behind (fold write_on images (ws ++ h.before)) new) [
-    | inl e ↦ inl (e ∙ sym (fold-append images ws h.before))
+    | inl e ↦ inl (e ∙ sym (fold-append write_on images ws h.before))
     | inr t ↦ inr (torn_at h.behind (fold write_on (fold write_on images ws) h.before) (fold write_on images (ws ++ h.before)) new
-        (sym (fold-append images ws h.before)) t)
+        (sym (fold-append write_on images ws h.before)) t)
   ];
 }
 
@@ -55,42 +52,42 @@ stopped_before ws vs images new h = record {
 pub stopped_first : (ws : List Write) (images : Images) → IsStopped ws images images
 stopped_first ws images = record { before = []; behind = ws; place = refl; stands = inl refl }
 
-some_and : {X : Type 0} (P Q : X → Type 0) (o : Option X) → ((x : X) → P x → Q x) → IsSomeAnd o P → IsSomeAnd o Q
+pub some_and : {X : Type 0} (P Q : X → Type 0) (o : Option X) → ((x : X) → P x → Q x) → IsSomeAnd o P → IsSomeAnd o Q
 some_and P Q None f h = h
 some_and P Q (Some x) f h = f x h
 
 leaves_then : (A U : Type 0) (ws vs : List Write) (a b c : Option Images) (u : U) (r : Result A MendFault)
-    → Leaves {A = U} {E = MendFault} (λ i. ws) a b (Ok u) → Leaves (λ i. vs) b c r → Leaves (λ i. ws ++ vs) a c r
-leaves_then A U ws vs None b c u r h g = subst (λ o. Leaves (λ i. vs) o c r) h g
+    → LeaveImages {A = U} {E = MendFault} (λ i. ws) a b (Ok u) → LeaveImages (λ i. vs) b c r → LeaveImages (λ i. ws ++ vs) a c r
+leaves_then A U ws vs None b c u r h g = subst (λ o. LeaveImages (λ i. vs) o c r) h g
 leaves_then A U ws vs (Some images) b c u (Ok x) h g =
-    let later : c ≡ Some (fold write_on (fold write_on images ws) vs) = subst (λ o. Leaves {A = A} {E = MendFault} (λ i. vs) o c (Ok x)) h g in
-    later ∙ ap Some (sym (fold-append images ws vs))
+    let later : c ≡ Some (fold write_on (fold write_on images ws) vs) = subst (λ o. LeaveImages {A = A} {E = MendFault} (λ i. vs) o c (Ok x)) h g in
+    later ∙ ap Some (sym (fold-append write_on images ws vs))
 leaves_then A U ws vs (Some images) b c u (Err e) h g =
     some_and (IsStopped vs (fold write_on images ws)) (IsStopped (ws ++ vs) images) c (λ new s. stopped_behind ws vs images new s)
-    (subst (λ o. Leaves {A = A} {E = MendFault} (λ i. vs) o c (Err e)) h g)
+    (subst (λ o. LeaveImages {A = A} {E = MendFault} (λ i. vs) o c (Err e)) h g)
 
-leaves_halt : (A B : Type 0) (ws vs : List Write) (a b : Option Images) (e : MendFault) → Leaves {A = A} (λ i. ws) a b (Err e)
-    → Leaves {A = B} (λ i. ws ++ vs) a b (Err e)
+leaves_halt : (A B : Type 0) (ws vs : List Write) (a b : Option Images) (e : MendFault) → LeaveImages {A = A} (λ i. ws) a b (Err e)
+    → LeaveImages {A = B} (λ i. ws ++ vs) a b (Err e)
 leaves_halt A B ws vs None b e h = h
 leaves_halt A B ws vs (Some images) b e h = some_and (IsStopped ws images) (IsStopped (ws ++ vs) images) b (λ new s. stopped_before ws vs images new s) h
 
 -- the same writes, said otherwise, and another value
 leaves_as : {A B : Type 0} (f g : Images → List Write) (a b : Option Images) (x : A) (y : B)
-    → ((images : Images) → a ≡ Some images → f images ≡ g images) → Leaves {A = A} {E = MendFault} f a b (Ok x) → Leaves {A = B} {E = MendFault} g a b (Ok y)
+    → ((images : Images) → a ≡ Some images → f images ≡ g images) → LeaveImages {A = A} {E = MendFault} f a b (Ok x) → LeaveImages {A = B} {E = MendFault} g a b (Ok y)
 leaves_as f g None b x y e h = h
 leaves_as f g (Some images) b x y e h = h ∙ ap (λ ws. Some (fold write_on images ws)) (e images refl)
 
 leaves_as_halt : (A B : Type 0) (f g : Images → List Write) (a b : Option Images) (x : MendFault)
-    → ((images : Images) → a ≡ Some images → f images ≡ g images) → Leaves {A = A} f a b (Err x) → Leaves {A = B} g a b (Err x)
+    → ((images : Images) → a ≡ Some images → f images ≡ g images) → LeaveImages {A = A} f a b (Err x) → LeaveImages {A = B} g a b (Err x)
 leaves_as_halt A B f g None b x e h = h
 leaves_as_halt A B f g (Some images) b x e h = some_and (IsStopped (f images) images) (IsStopped (g images) images) b
     (λ new s. subst (λ ws. IsStopped ws images new) (e images refl) s) h
 
-leaves_none : {A : Type 0} (a b : Option Images) (x : A) → b ≡ a → Leaves {A = A} {E = MendFault} (λ i. []) a b (Ok x)
+leaves_none : {A : Type 0} (a b : Option Images) (x : A) → b ≡ a → LeaveImages {A = A} {E = MendFault} (λ i. []) a b (Ok x)
 leaves_none None b x e = e
 leaves_none (Some images) b x e = e
 
-leaves_failed : (A : Type 0) (f : Images → List Write) (a b : Option Images) (x : MendFault) → b ≡ a → Leaves {A = A} f a b (Err x)
+leaves_failed : (A : Type 0) (f : Images → List Write) (a b : Option Images) (x : MendFault) → b ≡ a → LeaveImages {A = A} f a b (Err x)
 leaves_failed A f None b x e = e
 leaves_failed A f (Some images) b x e = subst (λ o. IsSomeAnd o (IsStopped (f images) images)) (sym e) (stopped_first (f images) images)
 
@@ -112,7 +109,7 @@ pub own_none : (held : Option Images) (f : Images → List Write) → IfSome hel
 own_none None f = tt
 own_none (Some images) f = λ range i. absurd i
 
-own_then : {U : Type 0} (ws vs : List Write) (rs qs : List Range) (a b : Option Images) (u : U) → Leaves {A = U} {E = MendFault} (λ i. ws) a b (Ok u)
+own_then : {U : Type 0} (ws vs : List Write) (rs qs : List Range) (a b : Option Images) (u : U) → LeaveImages {A = U} {E = MendFault} (λ i. ws) a b (Ok u)
     → IfSome a (λ i. AreAmong rs (ranges_of ws)) → IfSome b (λ i. AreAmong qs (ranges_of vs)) → IfSome a (λ i. AreAmong (rs ++ qs) (ranges_of (ws ++ vs)))
 own_then ws vs rs qs None b u left h g = tt
 own_then ws vs rs qs (Some images) b u left h g = λ range i. elim (in_either range rs qs i) [
@@ -252,6 +249,6 @@ module _ (P : Range → Type 0) where
     own = subst (λ o. IfSome o (λ images. AreAmong h.ranges (ranges_of (f images)))) (same_held reads) h.own;
     lie = h.lie;
     marked = h.marked;
-    held = subst (λ o. Leaves f o c.held r) (same_held reads) h.held;
+    held = subst (λ o. LeaveImages f o c.held r) (same_held reads) h.held;
     account = account_then P a b c r (same_sure reads) none h.account;
   }

@@ -39,13 +39,6 @@ module _ (images : Images) (t : Target) where
   pub unsound : (m : ℕ) → good m ≡ false → sound m ≡ false
   unsound m fails = ap (λ b. b && are_accepted images t (element images t (Mirror m))) fails
 
-  -- one that does is, exactly where it has the bytes of the first that does
-  pub sound_as_first : (m first : ℕ) → IsFirst images t first → good m ≡ true
-      → bytes_eq (element images t (Mirror m)) (element images t (Mirror first)) ≡ sound m
-  sound_as_first m first is passes =
-      sym (ap (λ b. b && are_accepted images t (element images t (Mirror m))) passes
-      ∙ ap (λ o. option_map_or (bytes_eq (element images t (Mirror m))) o false) is.accepts)
-
   -- a place that has what is accepted is sound
   pub sound_place : (part : Part) (bytes : List ℕ) → accepted images t ≡ Some bytes → is_good images t part ≡ true → element images t part ≡ bytes
       → is_sound images t part ≡ true
@@ -55,10 +48,6 @@ module _ (images : Images) (t : Target) where
   sound_place (Slice i) bytes is passes same = passes
   sound_place P bytes is passes same = passes
   sound_place Q bytes is passes same = passes
-
-  -- so the first is sound
-  pub first_sound : (first : ℕ) → IsFirst images t first → sound first ≡ true
-  first_sound first is = sound_place (Mirror first) (element images t (Mirror first)) is.accepts is.good refl
 
   -- ---- the candidate at a place in the order
 

@@ -21,7 +21,7 @@ use Rattle.btr_read.proofs.ReadsOn.{same_held}
 use Rattle.btr_scrub_copies.specs.Blocks.{block_writes, copy_writes}
 use Rattle.btr_scrub_copies.specs.Fresh.{Failing, fresh, fresh_writes, freshened, is_stale, stale_parts}
 use Rattle.btr_scrub_copies.specs.Freshening.{Freshens}
-use Rattle.btr_scrub_copies.specs.Mending.{AreBad, AreFlagged, Counts, IsFirst, IsOfCopy, Mends, Overwrites, Repairs, flagged_copies, mended_of}
+use Rattle.btr_scrub_copies.specs.Mending.{AreBad, AreFlagged, CountsMended, IsFirst, IsOfCopy, Mends, Overwrites, Repairs, flagged_copies, mended_of}
 use Rattle.btr_scrub_copies.specs.Writes.{AccountsMend, Does, Images, Write, writes_if}
 use Rattle.btr_scrub_copies.specs.declared.mended.MendFault.{MendFault}
 use Rattle.btr_scrub_copies.specs.declared.mended.Mended.{Mended}
@@ -88,7 +88,7 @@ pub repairs_behind : (t : Target) (write : Bool) (W : Images → List Write) (C 
     → NoneFailed a.account b.account → Repairs t write W C marks marks' b d r → Repairs t write W C marks marks' a d r
 repairs_behind t write W C marks marks' a b d r reads none h = record {
   does = does_behind (IsOfCopy t) (λ images. writes_if write (W images)) marks marks' a b d r reads none h.does;
-  counts = subst (λ o. Counts o C r) (same_held reads) h.counts;
+  counts = subst (λ o. CountsMended o C r) (same_held reads) h.counts;
   unwritten = λ w. reads_more reads (h.unwritten w);
 }
 

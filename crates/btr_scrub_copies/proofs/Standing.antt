@@ -24,7 +24,7 @@ use Rattle.btr_read.specs.declared.want.Want.{Want}
 use Rattle.btr_read.proofs.Fates.{sought_of}
 use Rattle.btr_scrub_copies.specs.Blocks.{copy_writes}
 use Rattle.btr_scrub_copies.specs.Mending.{IsOfCopy, Overwrites}
-use Rattle.btr_scrub_copies.specs.Writes.{AreAmong, Does, Images, In, IsMarked, IsStopped, Leaves, Marks, Write, ranges_of}
+use Rattle.btr_scrub_copies.specs.Writes.{AreAmong, Does, Images, In, IsMarked, IsStopped, LeaveImages, Marks, Write, ranges_of}
 use Rattle.btr_scrub_copies.specs.declared.mended.MendFault.{MendFault}
 use Rattle.btr_scrub_copies.specs.declared.mended.MendFault.TheVariants.{Image, Memory}
 
@@ -103,12 +103,12 @@ module _ (t : Target) (m : ℕ) (bytes : List ℕ) (place : Range) (marks : List
 
   module _ (A : Type 0) where
     leaves_ok : (held left : Option Images) (x : Unit {0}) (y : A) → Writes {T = Unit {0}} place.slot place.off bytes held left (Ok x)
-        → Leaves {A = A} {E = MendFault} (λ i. the_write ∷ []) held left (Ok y)
+        → LeaveImages {A = A} {E = MendFault} (λ i. the_write ∷ []) held left (Ok y)
     leaves_ok None left x y h = h
     leaves_ok (Some images) left x y h = h
 
     leaves_err : (held left : Option Images) (x : RackError) (e : MendFault) → Writes {T = Unit {0}} place.slot place.off bytes held left (Err x)
-        → Leaves {A = A} {E = MendFault} (λ i. the_write ∷ []) held left (Err e)
+        → LeaveImages {A = A} {E = MendFault} (λ i. the_write ∷ []) held left (Err e)
     leaves_err None left x e h = h
     leaves_err (Some images) left x e h =
         subst (λ o. IsSomeAnd o (IsStopped (the_write ∷ []) images)) (sym h.2) (record { before = []; behind = the_write ∷ []; place = refl; stands = inr (h.0, h.1, refl) })

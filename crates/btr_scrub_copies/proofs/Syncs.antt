@@ -4,15 +4,13 @@ use Rattle.std.proofs.Common.{refl, sym, ap, ◌∙◌, subst, inl, inr, arith}
 use Rattle.std.proofs.lemmas.Bool.{false≢true, cases_eq, cases_lt, eq-eqb, eqb-true}
 use Rattle.std.proofs.lemmas.List.{get_or_past, get_or-set_other, get_or-set_same}
 use Rattle.std.specs.List.{filter}
-use Rattle.btr_rack.specs.Rack.{Accounts, NoneFailed, Seen, Syncs, in_others, in_slot}
-use Rattle.btr_rack.specs.declared.error.RackError.TheVariants as error
+use Rattle.btr_rack.specs.Rack.{NoneFailed, Seen, in_others, in_slot}
 use Rattle.btr_rack.specs.declared.place.Place.{Place as Range}
-use Rattle.btr_rack.specs.Rack.{range_in}
 use Rattle.btr_read.proofs.Keeping.{none_more, one_after}
 use Rattle.btr_scrub_copies.specs.Writes.{AccountsMend, In}
 use Rattle.btr_scrub_copies.specs.declared.mended.MendFault.{MendFault}
 use Rattle.btr_scrub_copies.specs.declared.mended.MendFault.TheVariants.{Image, Memory}
-use Rattle.btr_scrub_copies.specs.Syncing.{AreSynced, IsSync, OnlySyncs, SyncsOne, WaitsBehind, WaitsBehindAll, plain}
+use Rattle.btr_scrub_copies.specs.Syncing.{AreSynced, IsSync, OnlySyncs, SyncsOne, WaitsBehind, WaitsBehindAll}
 
 pub passing_filter : {X : Type 0} (p : X → Bool) (x : X) (xs : List X) → In x (filter p xs) → In x xs × (p x ≡ true)
 passing_filter p x [] h = absurd h
@@ -25,9 +23,6 @@ passing_filter p x (y ∷ xs) h = by (p y) refl h (passing_filter p x xs)
 
 pub none_failed : (a : Seen) → NoneFailed a.account a.account
 none_failed a = record { faults = refl; fresh = refl; missed = refl; last = refl; opening = refl; shut = refl }
-
-pub only_none : (a : Seen) → OnlySyncs a a
-only_none a = record { same = refl; later = omega arith; same_shut = refl }
 
 pub only_more : (a b c : Seen) → OnlySyncs a b → OnlySyncs b c → OnlySyncs a c
 only_more a b c h k = record {
@@ -45,26 +40,6 @@ sync_slots a b h = ap (λ (s : Seen). s.slots) h.same
 pub sync_held : (a b : Seen) → OnlySyncs a b → b.held ≡ a.held
 sync_held a b h = ap (λ (s : Seen). s.held) h.same
 
--- one image was synced
-pub synced_one : (slot : ℕ) (a b : Seen) → Syncs {T = Unit {0}} slot a b (Ok tt)
-    → Accounts {T = Unit {0}} (range_in slot 0 0) a.account b.account (Ok tt) → SyncsOne true slot a b (Ok tt)
-synced_one slot a b same account = record {
-  only = record { same = ap plain same; later = omega (arith, account.faults); same_shut = account.shut };
-  account = account;
-  synced = (ap (λ (s : Seen). s.unsynced) same, ap (λ (s : Seen). s.never_synced) same);
-}
-
-pub synced_not : (slot : ℕ) (a b : Seen) → Syncs {T = Unit {0}} slot a b (Err error.Failed)
-    → Accounts {T = Unit {0}} (range_in slot 0 0) a.account b.account (Err error.Failed) → a.sure ≡ false → SyncsOne true slot a b (Err (Image slot))
-synced_not slot a b same account unsure = record {
-  only = record { same = ap plain same; later = account.0.faults.0; same_shut = account.2 };
-  account = record { place = range_in slot 0 0; failed = record { one = account.0; read = account.1; shut = account.2; unsure = unsure }; on_slot = refl; lies = refl };
-  synced = (refl, ap (λ (s : Seen). s.unsynced) same, ap (λ (s : Seen). s.never_synced) same);
-}
-
-pub synced_none : (slot : ℕ) (a : Seen) → SyncsOne false slot a a (Ok tt)
-synced_none slot a = record { only = only_none a; account = none_failed a; synced = (refl, refl) }
-
 -- so far the first n marks
 pub record SyncedSoFar (marks now : List Bool) (n : ℕ) (a b : Seen) : Type 0 where
   pub only : OnlySyncs a b
@@ -75,18 +50,6 @@ pub record SyncedSoFar (marks now : List Bool) (n : ℕ) (a b : Seen) : Type 0 w
   pub long : length now ≡ length marks
   pub behind : (k : ℕ) → n ≤ k → in_slot k b.unsynced ≡ in_slot k a.unsynced
   pub stranded : b.never_synced ≡ a.never_synced
-
-pub synced_first : (marks : List Bool) (a : Seen) → SyncedSoFar marks marks 0 a a
-synced_first marks a = record {
-  only = only_none a;
-  account = none_failed a;
-  synced = record { among = λ range i. (i, λ lt. absurd (omega (arith, lt))) };
-  left = λ k le. refl;
-  taken = λ k lt. absurd (omega (arith, lt));
-  long = refl;
-  behind = λ k le. refl;
-  stranded = refl;
-}
 
 not_same : (a b : ℕ) → not (eqb a b) ≡ true → a ≡ b → ⊥
 not_same a b e same = false≢true (sym (ap not (eq-eqb a b same)) ∙ e)

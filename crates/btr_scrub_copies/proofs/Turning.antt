@@ -11,10 +11,10 @@ use Rattle.btr_read.proofs.Ones.{in_either, in_left, in_right}
 use Rattle.btr_read.proofs.ReadsOn.{same_held}
 use Rattle.btr_scrub_copies.specs.Syncing.{AreMarked, IsSync, IsSyncOr, OnlySyncs, Strands, SyncsIf, SyncsMarked, WaitsBehindAll, plain}
 use Rattle.btr_scrub_copies.specs.Turns.{IsInTurn, TakesTurns, WaitsAt, WaitsInTurn, waiting}
-use Rattle.btr_scrub_copies.specs.Writes.{AccountsMend, AreAmong, Does, Images, In, IsMarked, IsStopped, IsTorn, Leaves, Marks, Write, ranges_of, write_on}
+use Rattle.btr_scrub_copies.specs.Writes.{AccountsMend, AreAmong, Does, Images, In, IsMarked, IsStopped, IsTorn, LeaveImages, Marks, Write, ranges_of, write_on}
 use Rattle.btr_scrub_copies.specs.declared.mended.MendFault.{MendFault}
 use Rattle.btr_scrub_copies.specs.declared.mended.MendFault.TheVariants.{Image, Memory}
-use Rattle.btr_scrub_copies.proofs.Doing.{does_behind, does_failed, does_halt, does_reads, does_then, own_none, stopped_first}
+use Rattle.btr_scrub_copies.proofs.Doing.{does_behind, does_failed, does_halt, does_reads, does_then, own_none, stopped_first, some_and}
 use Rattle.btr_scrub_copies.proofs.Syncs.{passing_filter, sync_held}
 
 -- ---- a rack, whatever waits for a sync
@@ -146,10 +146,6 @@ among_synced m n a b (Err Memory) h range i = absurd h.synced
 
 -- ---- the images
 
-some_map : {X : Type 0} (P Q : X → Type 0) (o : Option X) → ((x : X) → P x → Q x) → IsSomeAnd o P → IsSomeAnd o Q
-some_map P Q None f h = h
-some_map P Q (Some x) f h = f x h
-
 pub stopped_whole : (ws : List Write) (images : Images) → IsStopped ws images (fold write_on images ws)
 stopped_whole ws images = record { before = ws; behind = []; place = sym (append-nil ws); stands = inl refl }
 
@@ -165,7 +161,7 @@ stopped_none images left h = by h.before h.behind h.place h.stands
     by (w ∷ before) behind e s = cc
 
 -- the images behind writes, whatever became of them
-stopped_by : {A : Type 0} (ws : List Write) (images : Images) (held : Option Images) (r : Result A MendFault) → Leaves (λ i. ws) (Some images) held r
+stopped_by : {A : Type 0} (ws : List Write) (images : Images) (held : Option Images) (r : Result A MendFault) → LeaveImages (λ i. ws) (Some images) held r
     → IsSomeAnd held (IsStopped ws images)
 stopped_by ws images held (Ok x) h = subst (λ o. IsSomeAnd o (IsStopped ws images)) (sym h) (stopped_whole ws images)
 stopped_by ws images held (Err e) h = h
@@ -232,9 +228,9 @@ module _ (P : Range → Type 0) (ws vs : List Write) (m n : List Bool) (a b : Se
     waits = tell a.held (λ images. WaitsInTurn ws vs images a b) (λ images is. record {
       own = h.ranges;
       among = among_after P (λ i. ws) m n a b (Err e) h;
-      turn = some_map (IsStopped ws images) (λ left. IsInTurn ws vs images left h.ranges) b.held
+      turn = some_and (IsStopped ws images) (λ left. IsInTurn ws vs images left h.ranges) b.held
           (λ left s. inl (s, told_of a.held (λ i. AreAmong h.ranges (ranges_of ws)) images is h.own))
-          (stopped_by {A = A} ws images b.held (Err e) (subst (λ o. Leaves {A = A} (λ i. ws) o b.held (Err e)) is h.held));
+          (stopped_by {A = A} ws images b.held (Err e) (subst (λ o. LeaveImages {A = A} (λ i. ws) o b.held (Err e)) is h.held));
     });
     lie = waits_at P (λ i. ws) m n a b (Err e) h;
     marked = marked_after P (λ i. ws) m n a b (Err e) h;
@@ -243,7 +239,7 @@ module _ (P : Range → Type 0) (ws vs : List Write) (m n : List Bool) (a b : Se
 
   module _ {U : Type 0} (u : U) (first : Does P (λ i. ws) m n a b (Ok u)) (o : List Bool) (d : Seen) where
     done : (images : Images) → a.held ≡ Some images → b.held ≡ Some (fold write_on images ws)
-    done images is = subst (λ o. Leaves {A = U} {E = MendFault} (λ i. ws) o b.held (Ok u)) is first.held
+    done images is = subst (λ o. LeaveImages {A = U} {E = MendFault} (λ i. ws) o b.held (Ok u)) is first.held
 
     first_own : (images : Images) → a.held ≡ Some images → AreAmong first.ranges (ranges_of ws)
     first_own images is = told_of a.held (λ i. AreAmong first.ranges (ranges_of ws)) images is first.own
@@ -293,7 +289,7 @@ module _ (P : Range → Type 0) (ws vs : List Write) (m n : List Bool) (a b : Se
       second_own images is = told_of d.held (λ i. AreAmong second.ranges (ranges_of vs)) images is second.own
 
       second_stopped : (images : Images) → d.held ≡ Some images → IsSomeAnd z.held (IsStopped vs images)
-      second_stopped images is = stopped_by vs images z.held r (subst (λ o. Leaves (λ i. vs) o z.held r) is second.held)
+      second_stopped images is = stopped_by vs images z.held r (subst (λ o. LeaveImages (λ i. vs) o z.held r) is second.held)
 
       -- behind the sync
       pub turns_synced : SyncsMarked n o b d (Ok tt) → TakesTurns P ws vs m q a z r
@@ -307,7 +303,7 @@ module _ (P : Range → Type 0) (ws vs : List Write) (m n : List Bool) (a b : Se
                 | inl j ↦ in_left range (waiting a) second.ranges (before range j)
                 | inr j ↦ in_right range (waiting a) second.ranges j
               ];
-              turn = some_map (IsStopped vs (fold write_on images ws)) (λ left. IsInTurn ws vs images left second.ranges) z.held
+              turn = some_and (IsStopped vs (fold write_on images ws)) (λ left. IsInTurn ws vs images left second.ranges) z.held
                   (λ left t. inr (t, second_own (fold write_on images ws) now)) (second_stopped (fold write_on images ws) now);
             });
         lie = λ range i. elim (waits_at P (λ i. vs) o q d z r second range i) as (λ _. In range (waiting a) ⊎ P range) [
@@ -340,7 +336,7 @@ module _ (P : Range → Type 0) (ws vs : List Write) (m n : List Bool) (a b : Se
             record {
               own = first.ranges ++ second.ranges;
               among = among;
-              turn = some_map (IsStopped vs (fold write_on images ws)) (λ left. IsInTurn ws vs images left (first.ranges ++ second.ranges)) z.held
+              turn = some_and (IsStopped vs (fold write_on images ws)) (λ left. IsInTurn ws vs images left (first.ranges ++ second.ranges)) z.held
                   (λ left t. one_turn images left (first_own images is) (second_own (fold write_on images ws) now) t empty)
                   (second_stopped (fold write_on images ws) now);
             });

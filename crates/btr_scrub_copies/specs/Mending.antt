@@ -45,15 +45,15 @@ mended_of images t write = record {
 }
 
 -- the count of what came of it
-abbrev pub Counts : Option Images → (Images → Mended) → Result Mended MendFault → Type 0
-Counts held count (Ok mended) = IfSome held (λ images. mended ≡ count images)
-Counts held count (Err fault) = Unit {0}
+abbrev pub CountsMended : Option Images → (Images → Mended) → Result Mended MendFault → Type 0
+CountsMended held count (Ok mended) = IfSome held (λ images. mended ≡ count images)
+CountsMended held count (Err fault) = Unit {0}
 
 -- A block was read, and written by its copies: exactly these writes, or those up to one that failed. What was written is
 -- marked by its slot. Where it was only to be read, it was.
 pub record Repairs (t : Target) (write : Bool) (writes : Images → List Write) (count : Images → Mended) (marks marks' : List Bool) (old new : Seen) (result : Result Mended MendFault) : Type 0 where
   pub does : Does (IsOfCopy t) (λ images. writes_if write (writes images)) marks marks' old new result
-  pub counts : Counts old.held count result
+  pub counts : CountsMended old.held count result
   pub unwritten : write ≡ false → OnlyReads old new
 
 -- a block was mended: the writes are those that mend it

@@ -49,10 +49,10 @@ pub record IsStopped (writes : List Write) (old new : Images) : Type 0 where
   pub stands : (new ≡ fold write_on old before) ⊎ IsTorn behind (fold write_on old before) new
 
 -- what writes leave of the images, where they are told: all of them are done at Ok, and else they were stopped at one
-abbrev pub Leaves : {A E : Type 0} → (Images → List Write) → Option Images → Option Images → Result A E → Type 0
-Leaves writes None left result = left ≡ None
-Leaves writes (Some images) left (Ok a) = left ≡ Some (fold write_on images (writes images))
-Leaves writes (Some images) left (Err e) = IsSomeAnd left (IsStopped (writes images) images)
+abbrev pub LeaveImages : {A E : Type 0} → (Images → List Write) → Option Images → Option Images → Result A E → Type 0
+LeaveImages writes None left result = left ≡ None
+LeaveImages writes (Some images) left (Ok a) = left ≡ Some (fold write_on images (writes images))
+LeaveImages writes (Some images) left (Err e) = IsSomeAnd left (IsStopped (writes images) images)
 
 -- each image was opened for writing
 abbrev pub AreWritable : List Slot → Type 0
@@ -95,5 +95,5 @@ pub record Does {A : Type 0} (P : Range → Type 0) (writes : Images → List Wr
   pub own : IfSome old.held (λ images. AreAmong ranges (ranges_of (writes images)))
   pub lie : (range : Range) → In range ranges → P range
   pub marked : Marks ranges marks marks'
-  pub held : Leaves writes old.held new.held result
+  pub held : LeaveImages writes old.held new.held result
   pub account : AccountsMend P old new result

@@ -10,7 +10,7 @@ use Rattle.btr_rack.specs.Rack.{Accounts, Seen, Unsyncs, Writes, range_in}
 use Rattle.btr_rack.specs.declared.error.RackError.{RackError}
 use Rattle.btr_rack.specs.declared.error.RackError.TheVariants as error
 use Rattle.btr_rack.specs.declared.place.Place.{Place as Range}
-use Rattle.btr_scrub_copies.specs.Writes.{AreAmong, Does, Images, In, IsMarked, IsStopped, Leaves, Marks, Write, ranges_of}
+use Rattle.btr_scrub_copies.specs.Writes.{AreAmong, Does, Images, In, IsMarked, IsStopped, LeaveImages, Marks, Write, ranges_of}
 use Rattle.btr_scrub_copies.proofs.Doing.{does_halt, does_then}
 use Rattle.btr_scrub_copies.specs.declared.mended.MendFault.{MendFault}
 use Rattle.btr_scrub_copies.specs.declared.mended.MendFault.TheVariants.{Image, Memory}
@@ -42,12 +42,12 @@ module _ (P : Range → Type 0) (slot off : ℕ) (bytes : List ℕ) (marks : Lis
 
   module _ (A : Type 0) where
     leaves_ok : (held left : Option Images) (x : Unit {0}) (y : A) → Writes {T = Unit {0}} slot off bytes held left (Ok x)
-        → Leaves {A = A} {E = MendFault} (λ i. write_at slot off bytes ∷ []) held left (Ok y)
+        → LeaveImages {A = A} {E = MendFault} (λ i. write_at slot off bytes ∷ []) held left (Ok y)
     leaves_ok None left x y h = h
     leaves_ok (Some images) left x y h = h
 
     leaves_err : (held left : Option Images) (x : RackError) (e : MendFault) → Writes {T = Unit {0}} slot off bytes held left (Err x)
-        → Leaves {A = A} {E = MendFault} (λ i. write_at slot off bytes ∷ []) held left (Err e)
+        → LeaveImages {A = A} {E = MendFault} (λ i. write_at slot off bytes ∷ []) held left (Err e)
     leaves_err None left x e h = h
     leaves_err (Some images) left x e h =
         subst (λ o. IsSomeAnd o (IsStopped (write_at slot off bytes ∷ []) images)) (sym h.2) (record { before = []; behind = write_at slot off bytes ∷ []; place = refl; stands = inr (h.0, h.1, refl) })
@@ -118,7 +118,7 @@ does_untold P f g marks marks' a b r none h = record {
         some_none : (x : Images) → Some x ≡ None → ⊥
         some_none x e = cc
 
-    untold : (old new : Option Images) → old ≡ None → Leaves f old new r → Leaves g old new r
+    untold : (old new : Option Images) → old ≡ None → LeaveImages f old new r → LeaveImages g old new r
     untold None new e h = h
     untold (Some images) new e h = absurd (some_none images e)
       where
@@ -130,7 +130,7 @@ pub still_untold : {A : Type 0} (P : Range → Type 0) (f : Images → List Writ
     → Does P f marks marks' a b r → a.held ≡ None → b.held ≡ None
 still_untold P f marks marks' a b r h none = of a.held none h.held
   where
-    of : (old : Option Images) → old ≡ None → Leaves f old b.held r → b.held ≡ None
+    of : (old : Option Images) → old ≡ None → LeaveImages f old b.held r → b.held ≡ None
     of None e h = h
     of (Some images) e h = absurd (some_none images e)
       where

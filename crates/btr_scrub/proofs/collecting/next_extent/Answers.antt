@@ -5,7 +5,7 @@ use Rattle.btr_walk.specs.Reading.{unread_by}
 use Rattle.btr_walk.specs.ScanEnds.{IsNextOn}
 use Rattle.btr_walk.specs.Showing.{item_of}
 use Rattle.btr_walk.proofs.Joined.{drawn}
-use Rattle.btr_scrub.specs.Scanning.{NextBy}
+use Rattle.btr_scrub.specs.Scanning.{NextExtentBy}
 use Rattle.btr_scrub.proofs.Underways.{next_by}
 use Rattle.btr_scrub.proofs.collecting.next_extent.Goals as goal
 
@@ -18,7 +18,7 @@ returns-in-Ok-Some-clause-content g c =
     let new = c.next.follows.lender-at-none in
     let is = unread_by old.layout (g.R.Rack.seen c.args.rack.now) (g.R.Rack.seen c.next.new.rack) in
     drawn old.layout (λ B. IsNextOn is B old new scan next c.next.result)
-    (λ B. (seen : List Want) → IsOn scan.lo scan.hi B seen scan.place → NextBy s is B seen old new scan next (Ok c.extent_in.result))
+    (λ B. (seen : List Want) → IsOn scan.lo scan.hi B seen scan.place → NextExtentBy s is B seen old new scan next (Ok c.extent_in.result))
     (λ B h seen on.
     let gives = subst (λ r. IsNextOn is B old new scan next r) (c.in-Ok-Some.is ∙ ap Ok c.in-Ok-Some.field-0-is) h seen on in
     next_by s is B seen old new scan next c.extent_in.result (record { item = item_of c.in-Ok-Some.found; gives = record { past = gives.past; is = gives.is; on = gives.on }; says = c.extent_in.ensures }))

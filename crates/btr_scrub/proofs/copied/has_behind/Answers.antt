@@ -2,15 +2,15 @@ use Rattle.std.proofs.Common.{sym, ◌∙◌, arith}
 use Rattle.std.proofs.lemmas.Option.{slice_get_within}
 use Rattle.btr_chunk.specs.declared.stripe.Stripe.{Stripe}
 use Rattle.btr_scrub_copies.specs.Fresh.{flagged, is_behind}
-use Rattle.btr_scrub.proofs.Keepings.{any_none, any_there}
 use Rattle.btr_scrub.proofs.copied.has_behind.Goals as goal
+use Rattle.btr_chunk.proofs.Searches.{list_any-true, list_any-false}
 
 pub returns-then-is_behind : goal.returns-then-is_behind
 returns-then-is_behind c =
-    sym (any_there (λ (stripe : Stripe). is_behind c.args.store.now.layout.devices (flagged c.args.failing.now) stripe.devid) c.args.chunk.now.stripes
+    sym (list_any-true (λ (stripe : Stripe). is_behind c.args.store.now.layout.devices (flagged c.args.failing.now) stripe.devid) c.args.chunk.now.stripes
     c.loop-i.i c.at.result c.at.ensures (sym c.is_behind.ensures ∙ c.if-is_behind.true))
 
 pub returns : goal.returns
 returns c =
-    sym (any_none (λ (stripe : Stripe). is_behind c.args.store.now.layout.devices (flagged c.args.failing.now) stripe.devid) c.args.chunk.now.stripes (λ j stripe e.
+    sym (list_any-false (λ (stripe : Stripe). is_behind c.args.store.now.layout.devices (flagged c.args.failing.now) stripe.devid) c.args.chunk.now.stripes (λ j stripe e.
     c.loop-i.invariant j stripe (omega (arith, slice_get_within c.args.chunk.now.stripes j stripe e, c.loop-i-test.false, c.len-i-end.ensures)) e))

@@ -1,5 +1,5 @@
 use Rattle.std.proofs.Common.{◌≡◌, ◌+◌, ◌∷◌, ◌<◌, true, false, not, Ok, Err, Some, IsSome, IsSomeAnd, slice_get, sym, ap, ◌∙◌, subst, refl}
-use Rattle.std.proofs.lemmas.Bool.{and_parts}
+use Rattle.std.proofs.lemmas.Bool.{and_parts, not-true}
 use Rattle.std.proofs.lemmas.Option.{same_Some}
 use Rattle.btr_chunk.specs.Chunk.{mirrors}
 use Rattle.btr_chunk.specs.declared.chunk.Chunk.{Chunk}
@@ -17,10 +17,9 @@ use Rattle.btr_scrub.specs.Order.{AreApart, targets}
 use Rattle.btr_scrub_copies.specs.Fresh.{flagged}
 use Rattle.btr_scrub.specs.Scrubbing.{BeginsBehind, IsPastChunk, Scrubs, count_site, sites_count, sites_writes}
 use Rattle.btr_scrub.proofs.Blockwise.{chunk_mended, have_lengths, next_block, next_copied, past_chunk, underway_cut, underway_first, underway_more}
-use Rattle.btr_scrub.proofs.InWrong.{not_bad}
 use Rattle.btr_scrub.proofs.Passing.{passed_if, settled}
-use Rattle.btr_scrub.proofs.Survival.{some_of}
 use Rattle.btr_scrub.proofs.copied.mend_blocks.Goals as goal
+use Rattle.btr_scrub.proofs.Lists.{some_of}
 
 pub loop-want-init : goal.loop-want-init
 loop-want-init g c =
@@ -78,7 +77,7 @@ loop-want-preserved g c = record {
       next c.mend_site.new.marks z c.mend_site.new.tally one in
       let n = some_of (mirrors chunk) is.0 in
       let calm : not c.has_behind-behind.result ≡ true → has_behind layout.devices fails chunk ≡ false =
-      λ e. ap (has_behind layout.devices fails) (sym same) ∙ sym c.has_behind-behind.ensures ∙ not_bad c.has_behind-behind.result e in
+      λ e. ap (has_behind layout.devices fails) (sym same) ∙ sym c.has_behind-behind.ensures ∙ not-true c.has_behind-behind.result e in
       passed_if fails layout c.args.task.write c.requires.ready.table c.args.task.number chunk there n.0 n.1
       c.is_calm.result c.args.blocks.now c.next_below.new.blocks c.pass_if.new.blocks
       (c.at-chunk.result.now.start + c.at-chunk.result.now.length) c.args.marks.now c.mend_site.new.marks a z c.args.tally.now c.mend_site.new.tally

@@ -1,6 +1,6 @@
-use Rattle.std.proofs.Common.{◌+◌, ◌||◌, false, get_or, IfSome, Err, take, refl, sym, ap, ◌∙◌, subst, arith}
+use Rattle.std.proofs.Common.{◌+◌, ◌||◌, false, get_or, IfSome, Err, take, refl, sym, ap, ◌∙◌, subst, arith, ◌≡◌, ℕ, Bool, ◌<◌}
 use Rattle.std.proofs.lemmas.List.{take_all}
-use Rattle.std.proofs.lemmas.List.FromFn.{length-range_with_len}
+use Rattle.std.proofs.lemmas.List.FromFn.{length-range_with_len, get_or-range_with_len}
 use Rattle.std.specs.List.{list_any, range_with_len}
 use Rattle.btr_chunk.specs.declared.place.Part.TheVariants.{Mirror}
 use Rattle.btr_rack.proofs.Reading.{reads_more}
@@ -11,8 +11,14 @@ use Rattle.btr_scrub_copies.proofs.Doing.{account_then}
 use Rattle.btr_scrub.specs.Doubts.{fails_at, fails_on}
 use Rattle.btr_scrub.specs.Judged.{Flags, IsOfPart}
 use Rattle.btr_scrub.proofs.Doubting.{all_of, both_of, fails_copies, flags_none, flags_then, own_copy, some_of, the_sought}
-use Rattle.btr_scrub.proofs.Keepings.{slice_more}
 use Rattle.btr_scrub.proofs.doubts.flag_copies.Goals as goal
+use Rattle.std.proofs.lemmas.List.Folds.{list_any_more}
+
+-- one more slice, of n
+slice_more : (f : ℕ → Bool) (n i : ℕ) → i < n → list_any f (take (i + 1) (range_with_len 0 n)) ≡ (list_any f (take i (range_with_len 0 n)) || f i)
+slice_more f n i lt =
+    list_any_more f (range_with_len 0 n) i 0 (omega (arith, lt, length-range_with_len 0 n))
+    ∙ ap (λ j. list_any f (take i (range_with_len 0 n)) || f j) (get_or-range_with_len 0 n i 0 lt ∙ omega arith)
 
 pub loop-mirror-init : goal.loop-mirror-init
 loop-mirror-init g c = record {

@@ -3,15 +3,15 @@ use Rattle.std.proofs.lemmas.Bool.{cases_lt}
 use Rattle.std.proofs.lemmas.Option.{same_Some, slice_get_within}
 use Rattle.btr_chunk.specs.Chunk.{mirrors}
 use Rattle.btr_chunk.specs.declared.chunk.Chunk.{Chunk}
-use Rattle.btr_scrub.proofs.Keepings.{any_none, any_there}
 use Rattle.btr_scrub.proofs.Working.{some_and}
 use Rattle.btr_scrub.proofs.doubts.some_parity.Goals as goal
+use Rattle.btr_chunk.proofs.Searches.{list_any-true, list_any-false}
 
 pub returns-then-has_parity : goal.returns-then-has_parity
 returns-then-has_parity c =
     let chunks = c.args.store.now.layout.chunks in
     let f = some_and (slice_get chunks c.loop-i.i) (λ (chunk : Chunk). c.has_parity.result ≡ is_none (mirrors chunk)) c.has_parity.ensures in
-    sym (any_there (λ (chunk : Chunk). is_none (mirrors chunk)) chunks c.loop-i.i f.0 f.1 (sym f.2 ∙ c.if-has_parity.true))
+    sym (list_any-true (λ (chunk : Chunk). is_none (mirrors chunk)) chunks c.loop-i.i f.0 f.1 (sym f.2 ∙ c.if-has_parity.true))
 
 pub loop-i-preserved : goal.loop-i-preserved
 loop-i-preserved c = λ j chunk lt e. elim (cases_lt j c.loop-i.i) [
@@ -26,7 +26,7 @@ loop-i-preserved c = λ j chunk lt e. elim (cases_lt j c.loop-i.i) [
 
 pub returns : goal.returns
 returns c =
-    sym (any_none (λ (chunk : Chunk). is_none (mirrors chunk)) c.args.store.now.layout.chunks (λ j chunk e.
+    sym (list_any-false (λ (chunk : Chunk). is_none (mirrors chunk)) c.args.store.now.layout.chunks (λ j chunk e.
     c.loop-i.invariant j chunk
     (omega (
       arith,

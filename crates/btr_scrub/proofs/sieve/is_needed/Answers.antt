@@ -8,8 +8,9 @@ use Rattle.btr_scrub_copies.specs.declared.mended.Mended.{Mended}
 use Rattle.btr_scrub.specs.Sifting.{is_needed}
 use Rattle.btr_scrub.proofs.Doubting.{the_sought}
 use Rattle.btr_scrub.proofs.Scrubbing.{can_mend_then, tell, told}
-use Rattle.btr_scrub.proofs.Sieving.{copies_in_stripe, needed_block, some_if, sought_copied}
+use Rattle.btr_scrub.proofs.Sieving.{copies_in_stripe, needed_block, sought_copied}
 use Rattle.btr_scrub.proofs.sieve.is_needed.Goals as goal
+use Rattle.btr_scrub.proofs.Lists.{some_if}
 
 pub mend_copies-requires-clause-copied : goal.mend_copies-requires-clause-copied
 mend_copies-requires-clause-copied g c =

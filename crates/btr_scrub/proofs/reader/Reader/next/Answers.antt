@@ -1,6 +1,5 @@
-use Rattle.std.proofs.Common.{◌+◌, ◌*◌, ◌∷◌, ◌∙◌, sym, ap, subst, arith}
+use Rattle.std.proofs.Common.{◌+◌, ◌*◌, ◌∷◌, ◌∙◌, sym, ap, subst, arith, drop}
 use Rattle.std.proofs.lemmas.Option.{slice_get_within}
-use Rattle.std.proofs.Common.{drop}
 use Rattle.btr_base.specs.Sum.{sum_size, stored_sum}
 use Rattle.btr_scrub.specs.Listed.{StandsIn, left_in}
 use Rattle.btr_read.specs.declared.want.Want.TheVariants.{Plain, Sector}
