@@ -9,7 +9,7 @@ use Rattle.btr_prog.specs.Stages.{renamed}
 use Rattle.btr_prog.specs.Thread.{thread, go_on}
 use Rattle.btr_rack.specs.Sink.{Sink}
 use Rattle.btr_listing.proofs.Decidings.{Gives}
-use Rattle.btr_restore.specs.Orderly.{counted, Takes, TakesAll}
+use Rattle.btr_restore.specs.Orderly.{counted, SinkTakes, TakesAll}
 use Rattle.btr_restore.specs.Restoring.{sink_after}
 use Rattle.btr_listing.specs.Step.{Step}
 
@@ -23,7 +23,7 @@ module _ {W F : Type 0} where
   Leads K s c (Return a) = K s c a
   Leads K s c (Stop f) = Unit {0}
   Leads K s c (Need w k) = (bytes : List ℕ) → Leads K s c (k bytes)
-  Leads K s c (Emit step p) = Takes s step × Leads K (sink_after s step) (counted c step) p
+  Leads K s c (Emit step p) = SinkTakes s step × Leads K (sink_after s step) (counted c step) p
 
   pub leads_bind : {A C : Type 0} (J : Claim A) (K : Claim C) (s : Sink) (c : Counts) (p : Prog W F Step A) (k : A → Prog W F Step C) → Leads J s c p
       → ((t : Sink) (d : Counts) (a : A) → J t d a → Leads K t d (k a)) → Leads K s c (bind p k)

@@ -7,7 +7,7 @@ use Rattle.btr_rack.specs.declared.error.SinkError.TheVariants.{Failed, Memory a
 use Rattle.btr_read.specs.Layout.{Layout}
 use Rattle.btr_volume.specs.declared.stop.Stop.{Stop as TheStop}
 use Rattle.btr_volume.specs.declared.stop.Stop.TheVariants as stop
-use Rattle.btr_restore.specs.Restoring.{StopCause, SinkCounts, OutCounts}
+use Rattle.btr_restore.specs.Restoring.{RestoreStopCause, SinkCounts, OutCounts}
 use Rattle.btr_volume.specs.Stops.{stops_out, stops_sink}
 use Rattle.btr_restore.specs.Running.{StopsOutside}
 
@@ -19,7 +19,7 @@ pub outs_then : {A C : Type 0} (a b c : CallAccount) (v : A) (r : Result C TheSt
 outs_then a b c v r e h = subst (λ (x : CallAccount). OutCounts x c r) e h
 
 -- a call that reads nothing has no other stop than those outside
-pub no_cause : {A : Type 0} (layout : Layout) (old new : Seen) (r : Result A TheStop) → StopsOutside r → StopCause layout old new r
+pub no_cause : {A : Type 0} (layout : Layout) (old new : Seen) (r : Result A TheStop) → StopsOutside r → RestoreStopCause layout old new r
 no_cause layout old new (Ok v) h = tt
 no_cause layout old new (Err (stop.NoTree id)) h = tt
 no_cause layout old new (Err (stop.Tree f)) h = absurd h

@@ -24,6 +24,7 @@ use Rattle.btr_walk.specs.Reading.{Map, UnreadBlock, unread_by, halt_of, HasCaus
 use Rattle.btr_walk.specs.Rests.{rest_left, met_last}
 use Rattle.btr_walk.proofs.Turns.{base_layout}
 use Rattle.btr_walk.proofs.Fetched.{since, cause_since}
+use Rattle.btr_walk.proofs.Marks.{steps_back, wants_back}
 use Rattle.btr_volume.specs.Lookup.{Program, each}
 use Rattle.btr_volume.specs.Looking.{SameVolume}
 use Rattle.btr_volume.specs.Readable.{CanRead}
@@ -34,7 +35,7 @@ use Rattle.btr_files.specs.declared.file.FileBytes.{FileBytes}
 use Rattle.btr_files.specs.declared.piece.Piece.{Piece as Lending}
 use Rattle.btr_files.specs.Content.{Piece}
 use Rattle.btr_files.specs.Maps.{TellsAll}
-use Rattle.btr_files.specs.Streaming.{Begins, FileGoes, GivesPiece, EndsBy, IsFileOn, IsNextPiece, IsReading, Streamed, inline_of, piece_of, todo_prog}
+use Rattle.btr_files.specs.Streaming.{BeginsFile, FileGoes, GivesPiece, EndsBy, IsFileOn, IsNextPiece, IsReading, Streamed, inline_of, piece_of, todo_prog}
 use Rattle.btr_files.specs.Streaming.{without_file}
 use Rattle.btr_files.specs.Sums.{kind_in}
 use Rattle.btr_files.proofs.Nextward.{rest_more}
@@ -51,14 +52,6 @@ use Rattle.btr_restore.proofs.Doing.{fold-append, text_then}
 use Rattle.btr_restore.proofs.Emitting.{text_none}
 use Rattle.btr_restore.proofs.Goings.{if_some, if_map, if_both}
 use Rattle.btr_restore.proofs.Stopping.{no_cause}
-
-wants_back : {W : Type 0} (ws : List W) → wants_of {S = Step} (want_marks ws) ≡ ws
-wants_back [] = refl
-wants_back (w ∷ ws) = ap (λ x. w ∷ x) (wants_back ws)
-
-steps_back : {W : Type 0} (ws : List W) → steps_of {S = Step} (want_marks ws) ≡ []
-steps_back [] = refl
-steps_back (w ∷ ws) = steps_back ws
 
 module _ {St : Type 0} (put : St → Piece → Program Step St) (Bs : ℕ → Map) where
   abbrev Body : St → Piece → Run Want Fault Step (Result St St) → Type 0
@@ -87,7 +80,7 @@ module _ {St : Type 0} (put : St → Piece → Program Step St) (Bs : ℕ → Ma
       let p = file.progress in
       then_some kind file.source Bs (todo_prog kind file.source p.at p.end (inline_of (met_last (Bs 0) p.rest)) p.todo) (exec (Bs 0) (rest_left (Bs 0) p.rest))
 
-  pub left_first : (kind : SumKind) (file : FileBytes) (st : St) (p : Program Piece (Unit {0})) → Begins kind file p → IsFileOn (Bs 0) [] file
+  pub left_first : (kind : SumKind) (file : FileBytes) (st : St) (p : Program Piece (Unit {0})) → BeginsFile kind file p → IsFileOn (Bs 0) [] file
       → LeftToWrite put (each put st p) kind Bs st file []
   left_first kind file st p begins on = record {
     seen = [];
@@ -109,7 +102,7 @@ module _ {St : Type 0} (put : St → Piece → Program Step St) (Bs : ℕ → Ma
         (λ r h. (prepend (want_marks g.past) (first (Does piece) h.0), g.goes h.0 h.1, past_in g.past st (first (Does piece) h.0) r h.2)) l.so_far in
         record {
           seen = l.seen ++ g.past;
-          so_far = subst (λ (x : List Want). SoFar Whole (WritesFrom put kind Bs st piece file') (l.seen ++ x) done) (wants_back g.past)
+          so_far = subst (λ (x : List Want). SoFar Whole (WritesFrom put kind Bs st piece file') (l.seen ++ x) done) (wants_back Step g.past)
               (subst (λ (x : List Step). SoFar Whole (WritesFrom put kind Bs st piece file') (l.seen ++ wants_of ws) x) (ap (λ (x : List Step). done ++ x)
               (steps_back g.past) ∙ append-nil done) more);
           on = g.on;
@@ -344,7 +337,7 @@ module _ {St : Type 0} (put : St → Piece → Program Step St) (whole : Program
 
 -- a file begins
 pub writing_first : {St : Type 0} (put : St → Piece → Program Step St) (st : St) (x : World) (file : FileBytes) (p : Program Piece (Unit {0}))
-    → IsReading x.rack x.vol.store file → without_file x.vol.store file ≡ x.vol.store → Begins (kind_in x.vol.sup) file p → ((B : Map) → IsFileOn B [] file)
+    → IsReading x.rack x.vol.store file → without_file x.vol.store file ≡ x.vol.store → BeginsFile (kind_in x.vol.sup) file p → ((B : Map) → IsFileOn B [] file)
     → IsWriting put (each put st p) x x st file
 writing_first {St} put st x file p reading same begins on = record {
   reads = reads_none x.rack;

@@ -9,3 +9,4 @@ pub mod Orderly
 pub mod Running
 pub mod Listing
 pub mod Writing
+pub mod Ends

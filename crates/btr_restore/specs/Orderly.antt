@@ -24,20 +24,20 @@ use Rattle.btr_listing.specs.Step.{Step, Start, Dir, Up, File, Bytes, Zeros, Don
 
 -- a sink may take the call of a step: it stands where the call asks it to; no bad name comes to it, and
 -- it is never more than 512 directories deep
-abbrev pub Takes : Sink → Step → Type 0
-Takes s (Start name) = s.stage ≡ NotStarted
-Takes s (Dir name) = (s.stage ≡ BetweenFiles) × (is_bad name ≡ false) × (s.depth < 512)
-Takes s Up = (s.stage ≡ BetweenFiles) × (0 < s.depth)
-Takes s (File name) = (s.stage ≡ BetweenFiles) × (is_bad name ≡ false)
-Takes s (Bytes bytes) = s.stage ≡ InFile
-Takes s (Zeros count) = s.stage ≡ InFile
-Takes s Done = s.stage ≡ InFile
-Takes s (Line text) = Unit {0}
+abbrev pub SinkTakes : Sink → Step → Type 0
+SinkTakes s (Start name) = s.stage ≡ NotStarted
+SinkTakes s (Dir name) = (s.stage ≡ BetweenFiles) × (is_bad name ≡ false) × (s.depth < 512)
+SinkTakes s Up = (s.stage ≡ BetweenFiles) × (0 < s.depth)
+SinkTakes s (File name) = (s.stage ≡ BetweenFiles) × (is_bad name ≡ false)
+SinkTakes s (Bytes bytes) = s.stage ≡ InFile
+SinkTakes s (Zeros count) = s.stage ≡ InFile
+SinkTakes s Done = s.stage ≡ InFile
+SinkTakes s (Line text) = Unit {0}
 
 -- it may take some steps one after another
 abbrev pub TakesAll : Sink → List Step → Type 0
 TakesAll s [] = Unit {0}
-TakesAll s (step ∷ steps) = Takes s step × TakesAll (sink_after s step) steps
+TakesAll s (step ∷ steps) = SinkTakes s step × TakesAll (sink_after s step) steps
 
 -- a text begins with some bytes
 abbrev pub begins_with : List ℕ → List ℕ → Bool

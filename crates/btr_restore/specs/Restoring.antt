@@ -66,8 +66,8 @@ IsRestoreStop Memory = Unit {0}
 IsRestoreStop stop = ⊥
 
 -- what lies behind an answer
-abbrev pub StopCause : {A : Type 0} → Layout → Seen → Seen → Result A Stop → Type 0
-StopCause layout old new answer = IsBehindAnswer IsRestoreStop layout old new answer
+abbrev pub RestoreStopCause : {A : Type 0} → Layout → Seen → Seen → Result A Stop → Type 0
+RestoreStopCause layout old new answer = IsBehindAnswer IsRestoreStop layout old new answer
 
 -- the account of the sink at a stop: it changed only where a call of it failed
 abbrev pub SinkStops : CallAccount → CallAccount → Stop → Type 0

@@ -17,7 +17,7 @@ use Rattle.btr_files.specs.Content.{Piece}
 use Rattle.btr_files.specs.Maps.{TellsAll}
 use Rattle.btr_files.specs.Streaming.{FileGoes, IsFileOn, IsReading, without_file}
 use Rattle.btr_files.specs.Sums.{kind_in}
-use Rattle.btr_restore.specs.Restoring.{sink_after, text_after, Does as Did, StopCause, SinkCounts, OutCounts}
+use Rattle.btr_restore.specs.Restoring.{sink_after, text_after, Does as Did, RestoreStopCause, SinkCounts, OutCounts}
 use Rattle.btr_volume.specs.Stops.{ended}
 use Rattle.btr_restore.specs.Running.{World, scene_of}
 use Rattle.btr_listing.specs.Step.{Step}
@@ -78,7 +78,7 @@ module _ {St : Type 0} (put : St → Piece → Program Step St) where
       pub others : SameLoans x.vol.store (without_file y.vol.store file)
       pub reading : IsReading y.rack y.vol.store file
       pub did : Did x.vol.store.layout whole (scene_of x) (scene_of y) (ended answer)
-      pub cause : StopCause x.vol.store.layout x.rack y.rack answer
+      pub cause : RestoreStopCause x.vol.store.layout x.rack y.rack answer
       pub sink_calls : SinkCounts x.out.sink_calls y.out.sink_calls answer
       pub out_calls : OutCounts x.out.out_calls y.out.out_calls answer
 

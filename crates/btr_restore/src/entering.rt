@@ -4,10 +4,12 @@ ghost use Rattle.btr_rack.specs.Name.{IsGoodName};
 ghost use Rattle.btr_rack.specs.Sink.{BetweenFiles, InFile};
 ghost use Rattle.btr_restore.specs.Journey.{closed, empty, entered};
 ghost use Rattle.btr_volume.specs.Readable.{CanRead};
-ghost use Rattle.btr_restore.specs.Running.{KeepsSink, KeepsStanding, RanFor, Wrote, outside_of, world};
+ghost use Rattle.btr_restore.specs.Ends.{SameEnds, world_of};
+ghost use Rattle.btr_restore.specs.Running.{KeepsSink, KeepsStanding, RanFor, Wrote, outside_of};
 ghost use Rattle.btr_restore.specs.Treating.{IsOver, came, written_for};
 
-use crate::job::Job;
+use crate::endpoints::Endpoints;
+use crate::job::{DirJob, Job};
 use crate::rows::{close_file, leave_dir, make_dir, make_file};
 use crate::telling::{more, tell, tell_unverified};
 use crate::treated::Treated;
@@ -16,33 +18,35 @@ use btr_files::Counts;
 use btr_items::Inode;
 use btr_listing::Entry;
 use btr_rack::{Out, Rack, TreeSink};
-use btr_volume::{Stop, TreeRoot, Volume};
+use btr_volume::Stop;
 
 /// Enters a directory of a tree.
 pub(crate) fn enter<T: TreeSink, O: Out>(
-    job: &Job,
+    dir: &DirJob<'_>,
     name: &str,
     path: &[u8],
-    inner: TreeRoot,
-    dirid: u64,
     counts: &mut Counts,
     tree: &mut T,
     out: &mut O,
 ) -> Result<Treated, Stop>
-    requires between { job.now.plan.dry ≡ false → (T.sink tree.old).stage ≡ BetweenFiles }
+    requires between { dir.now.job.now.plan.dry ≡ false → (T.sink tree.old).stage ≡ BetweenFiles }
     requires good { IsGoodName name.now }
-    requires above { job.now.plan.dry ≡ false → (T.sink tree.old).depth < 512 }
-    ensures wrote { Wrote (entered job.now.plan name.now path.now inner dirid counts.old)
+    requires above { dir.now.job.now.plan.dry ≡ false → (T.sink tree.old).depth < 512 }
+    ensures wrote { Wrote (entered dir.now.job.now.plan name.now path.now dir.now.tree dir.now.dirid counts.old)
         (outside_of T.sink T.account O.text O.account tree.old out.old)
         (outside_of T.sink T.account O.text O.account tree.new out.new)
         (came counts.new result) }
-    ensures stands { KeepsStanding job.now.plan.dry (T.sink tree.old) (T.sink tree.new) result }
-    ensures dry { KeepsSink job.now.plan.dry tree.old tree.new }
+    ensures stands { KeepsStanding dir.now.job.now.plan.dry (T.sink tree.old) (T.sink tree.new) result }
+    ensures dry { KeepsSink dir.now.job.now.plan.dry tree.old tree.new }
 {
-    make_dir(&job.plan, name, tree)?;
-    tell(&job.plan, b"dir", path, out)?;
+    let plan = &dir.job.plan;
+    make_dir(plan, name, tree)?;
+    tell(plan, b"dir", path, out)?;
     counts.dirs = more(counts.dirs);
-    Ok(Treated::Within { tree: inner, dirid })
+    Ok(Treated::Within {
+        tree: dir.tree,
+        dirid: dir.dirid,
+    })
 }
 
 /// Makes a directory that stays empty.
@@ -105,24 +109,21 @@ pub(crate) fn write_file<R: Rack, T: TreeSink, O: Out>(
     name: &str,
     found: &Inode,
     counts: &mut Counts,
-    rack: &mut R,
-    vol: &mut Volume,
-    tree: &mut T,
-    out: &mut O,
+    ends: &mut Endpoints<'_, '_, R, T, O>,
 ) -> Result<Treated, Stop>
-    requires ready { CanRead 6 (R.seen rack.old) vol.old }
-    requires between { job.now.plan.dry ≡ false → (T.sink tree.old).stage ≡ BetweenFiles }
+    requires ready { CanRead 6 (R.seen ends.old.rack.now) ends.old.vol.now }
+    requires between { job.now.plan.dry ≡ false → (T.sink ends.old.tree.now).stage ≡ BetweenFiles }
     requires good { IsGoodName name.now }
     ensures ran { RanFor (written_for job.now entry.now name.now found.now counts.old)
-        (world (R.seen rack.old) vol.old (outside_of T.sink T.account O.text O.account tree.old out.old))
-        (world (R.seen rack.new) vol.new (outside_of T.sink T.account O.text O.account tree.new out.new))
+        (world_of R.seen T.sink T.account O.text O.account ends.old)
+        (world_of R.seen T.sink T.account O.text O.account ends.new)
         (came counts.new result) }
-    ensures stands { KeepsStanding job.now.plan.dry (T.sink tree.old) (T.sink tree.new) result }
+    ensures stands { KeepsStanding job.now.plan.dry (T.sink ends.old.tree.now) (T.sink ends.new.tree.now) result }
     ensures over { IsOver result }
-    ensures dry { KeepsSink job.now.plan.dry tree.old tree.new }
+    ensures dry { KeepsSink job.now.plan.dry ends.old.tree.now ends.new.tree.now }
+    ensures same { SameEnds ends.old ends.new }
 {
-    make_file(&job.plan, name, tree)?;
-    let ino = entry.row.location.objectid;
-    let plain = write_bytes(job, &entry.tree, ino, found, rack, vol, tree)?;
-    finish_file(job, entry.path, plain, counts, tree, out)
+    make_file(&job.plan, name, ends.tree)?;
+    let plain = write_bytes(job, entry, found, ends.rack, ends.vol, ends.tree)?;
+    finish_file(job, entry.path, plain, counts, ends.tree, ends.out)
 }

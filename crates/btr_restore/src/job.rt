@@ -7,3 +7,11 @@ pub struct Job {
     pub plan: RestorePlan,
     pub sums: Option<TreeRoot>,
 }
+
+/// A directory of a tree that is restored.
+#[derive(Clone, Copy)]
+pub struct DirJob<'a> {
+    pub job: &'a Job,
+    pub tree: TreeRoot,
+    pub dirid: u64,
+}

@@ -4,6 +4,7 @@
 //! listings: one that goes on after such blocks, and one into a stream.
 #![tactic(auto)]
 
+mod endpoints;
 mod entering;
 mod job;
 mod laws;
@@ -16,9 +17,10 @@ mod treated;
 mod treating;
 mod writing;
 
-pub use job::Job;
+pub use endpoints::Endpoints;
+pub use job::{DirJob, Job};
 pub use laws::{committed_order, each_told, headline, opened_then, orderly, settled};
-pub use listing::OpenDir;
+pub use listing::{NamedRow, OpenDir};
 pub use lookups::find_tree;
 pub use restoring::{free_dirs, restore, settle, store_waiting, tell_counts};
 pub use rows::{leave_dir, start_in};

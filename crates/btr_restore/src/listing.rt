@@ -3,16 +3,18 @@ ghost use Rattle.std.specs.Prelude.{◌≡◌, ◌<◌, false, OnOk, length, tak
 ghost use Rattle.btr_rack.specs.Sink.{BetweenFiles};
 ghost use Rattle.btr_restore.specs.Listing.{ended_with, listing_for, entry_for, within_for, KeepsDepth, LeavesDepth};
 ghost use Rattle.btr_volume.specs.Readable.{CanRead};
-ghost use Rattle.btr_restore.specs.Running.{KeepsSink, world, RanFor, outside_of};
+ghost use Rattle.btr_restore.specs.Ends.{SameEnds, world_of};
+ghost use Rattle.btr_restore.specs.Running.{KeepsSink, RanFor};
 
-use crate::job::Job;
+use crate::endpoints::Endpoints;
+use crate::job::DirJob;
 use crate::rows::leave_dir;
 use crate::treated::Treated;
 use crate::treating::treat;
 use btr_files::{Counts, Dir, DirRow, NameBuf};
 use btr_listing::{Entry, Path};
 use btr_rack::{Out, Rack, TreeSink};
-use btr_volume::{Stop, TreeRoot, Volume};
+use btr_volume::Stop;
 
 /// Where a directory is listed: how far that has come, and a place for the name of an entry.
 #[derive(Clone, Copy, Debug)]
@@ -21,85 +23,86 @@ pub struct OpenDir {
     pub name: NameBuf,
 }
 
+/// An entry that was met, and its name.
+#[derive(Clone, Copy)]
+pub struct NamedRow<'a> {
+    pub row: DirRow,
+    pub name: &'a NameBuf,
+}
+
 // What is in a directory that was entered, and the way up. The first of `dirs` is its own.
 #[cycle(listing)]
 fn list_within<R: Rack, T: TreeSink, O: Out>(
-    job: &Job,
-    inner: TreeRoot,
-    dirid: u64,
+    dir: &DirJob<'_>,
     dirs: &mut [OpenDir],
     path: &mut Path,
     counts: &mut Counts,
-    rack: &mut R,
-    vol: &mut Volume,
-    tree: &mut T,
-    out: &mut O,
+    ends: &mut Endpoints<'_, '_, R, T, O>,
 ) -> Result<(), Stop>
-    requires ready { CanRead 6 (R.seen rack.old) vol.old }
-    requires between { job.now.plan.dry ≡ false → (T.sink tree.old).stage ≡ BetweenFiles }
+    requires ready { CanRead 6 (R.seen ends.old.rack.now) ends.old.vol.now }
+    requires between { dir.now.job.now.plan.dry ≡ false → (T.sink ends.old.tree.now).stage ≡ BetweenFiles }
     requires some { 0 < length dirs.old }
-    requires below { job.now.plan.dry ≡ false → 0 < (T.sink tree.old).depth }
-    requires room { job.now.plan.dry ≡ false → (T.sink tree.old).depth + length dirs.old ≤ 513 }
-    ensures ran { RanFor (within_for job.now (length dirs.old) path.old inner dirid counts.old)
-        (world (R.seen rack.old) vol.old (outside_of T.sink T.account O.text O.account tree.old out.old))
-        (world (R.seen rack.new) vol.new (outside_of T.sink T.account O.text O.account tree.new out.new))
+    requires below { dir.now.job.now.plan.dry ≡ false → 0 < (T.sink ends.old.tree.now).depth }
+    requires room { dir.now.job.now.plan.dry ≡ false → (T.sink ends.old.tree.now).depth + length dirs.old ≤ 513 }
+    ensures ran { RanFor (within_for dir.now.job.now (length dirs.old) path.old dir.now.tree dir.now.dirid counts.old)
+        (world_of R.seen T.sink T.account O.text O.account ends.old)
+        (world_of R.seen T.sink T.account O.text O.account ends.new)
         (ended_with counts.new result) }
     ensures path { OnOk result (path.new ≡ path.old) }
-    ensures stands { LeavesDepth job.now.plan.dry (T.sink tree.old) (T.sink tree.new) result }
-    ensures dry { KeepsSink job.now.plan.dry tree.old tree.new }
+    ensures stands { LeavesDepth dir.now.job.now.plan.dry (T.sink ends.old.tree.now) (T.sink ends.new.tree.now) result }
+    ensures dry { KeepsSink dir.now.job.now.plan.dry ends.old.tree.now ends.new.tree.now }
+    ensures same { SameEnds ends.old ends.new }
 {
     let Some((here, below)) = dirs.split_first_mut() else {
         unreachable!();
     };
-    list(
-        job, inner, dirid, here, below, path, counts, rack, vol, tree, out,
-    )?;
-    leave_dir(&job.plan, tree)
+    list(dir, here, below, path, counts, ends)?;
+    leave_dir(&dir.job.plan, ends.tree)
 }
 
 // An entry of a directory, and what is in it. There is a place below for each that may be entered.
 #[cycle(listing)]
 fn list_entry<R: Rack, T: TreeSink, O: Out>(
-    job: &Job,
-    root: &TreeRoot,
-    dirid: u64,
-    row: DirRow,
-    name: &NameBuf,
+    dir: &DirJob<'_>,
+    named: &NamedRow<'_>,
     below: &mut [OpenDir],
     path: &mut Path,
     counts: &mut Counts,
-    rack: &mut R,
-    vol: &mut Volume,
-    tree: &mut T,
-    out: &mut O,
+    ends: &mut Endpoints<'_, '_, R, T, O>,
 ) -> Result<(), Stop>
-    requires ready { CanRead 6 (R.seen rack.old) vol.old }
-    requires between { job.now.plan.dry ≡ false → (T.sink tree.old).stage ≡ BetweenFiles }
-    requires room { job.now.plan.dry ≡ false → (T.sink tree.old).depth + length below.old ≤ 512 }
-    ensures ran { RanFor (entry_for job.now (length below.old) root.now dirid path.old counts.old row name.now)
-        (world (R.seen rack.old) vol.old (outside_of T.sink T.account O.text O.account tree.old out.old))
-        (world (R.seen rack.new) vol.new (outside_of T.sink T.account O.text O.account tree.new out.new))
+    requires ready { CanRead 6 (R.seen ends.old.rack.now) ends.old.vol.now }
+    requires between { dir.now.job.now.plan.dry ≡ false → (T.sink ends.old.tree.now).stage ≡ BetweenFiles }
+    requires room { dir.now.job.now.plan.dry ≡ false → (T.sink ends.old.tree.now).depth + length below.old ≤ 512 }
+    ensures ran { RanFor (entry_for dir.now.job.now (length below.old) dir.now.tree dir.now.dirid path.old counts.old named.now.row named.now.name.now)
+        (world_of R.seen T.sink T.account O.text O.account ends.old)
+        (world_of R.seen T.sink T.account O.text O.account ends.new)
         (ended_with counts.new result) }
     ensures path { OnOk result (take (length path.old) path.new ≡ path.old) }
-    ensures stands { KeepsDepth job.now.plan.dry (T.sink tree.old) (T.sink tree.new) result }
-    ensures dry { KeepsSink job.now.plan.dry tree.old tree.new }
+    ensures stands { KeepsDepth dir.now.job.now.plan.dry (T.sink ends.old.tree.now) (T.sink ends.new.tree.now) result }
+    ensures dry { KeepsSink dir.now.job.now.plan.dry ends.old.tree.now ends.new.tree.now }
+    ensures same { SameEnds ends.old ends.new }
 {
-    match path.push(name.as_bytes()) {
+    match path.push(named.name.as_bytes()) {
         Ok(()) => {}
         Err(_) => return Err(Stop::Memory),
     }
     let entry = Entry {
-        tree: *root,
-        dirid,
+        tree: dir.tree,
+        dirid: dir.dirid,
         deep: below.is_empty(),
-        row,
-        name,
+        row: named.row,
+        name: named.name,
         path: path.as_bytes(),
     };
-    match treat(job, &entry, counts, rack, vol, tree, out)? {
+    match treat(dir.job, &entry, counts, ends)? {
         Treated::Over => Ok(()),
-        Treated::Within { tree: inner, dirid } => {
-            list_within(job, inner, dirid, below, path, counts, rack, vol, tree, out)
+        Treated::Within { tree, dirid } => {
+            let inner = DirJob {
+                job: dir.job,
+                tree,
+                dirid,
+            };
+            list_within(&inner, below, path, counts, ends)
         }
     }
 }
@@ -108,39 +111,37 @@ fn list_entry<R: Rack, T: TreeSink, O: Out>(
 /// `below` for each directory that may be entered.
 #[cycle(listing)]
 pub(crate) fn list<R: Rack, T: TreeSink, O: Out>(
-    job: &Job,
-    root: TreeRoot,
-    dirid: u64,
+    dir: &DirJob<'_>,
     here: &mut OpenDir,
     below: &mut [OpenDir],
     path: &mut Path,
     counts: &mut Counts,
-    rack: &mut R,
-    vol: &mut Volume,
-    tree: &mut T,
-    out: &mut O,
+    ends: &mut Endpoints<'_, '_, R, T, O>,
 ) -> Result<(), Stop>
-    requires ready { CanRead 6 (R.seen rack.old) vol.old }
-    requires between { job.now.plan.dry ≡ false → (T.sink tree.old).stage ≡ BetweenFiles }
-    requires room { job.now.plan.dry ≡ false → (T.sink tree.old).depth + length below.old ≤ 512 }
-    ensures ran { RanFor (listing_for job.now (length below.old) root dirid path.old counts.old)
-        (world (R.seen rack.old) vol.old (outside_of T.sink T.account O.text O.account tree.old out.old))
-        (world (R.seen rack.new) vol.new (outside_of T.sink T.account O.text O.account tree.new out.new))
+    requires ready { CanRead 6 (R.seen ends.old.rack.now) ends.old.vol.now }
+    requires between { dir.now.job.now.plan.dry ≡ false → (T.sink ends.old.tree.now).stage ≡ BetweenFiles }
+    requires room { dir.now.job.now.plan.dry ≡ false → (T.sink ends.old.tree.now).depth + length below.old ≤ 512 }
+    ensures ran { RanFor (listing_for dir.now.job.now (length below.old) dir.now.tree dir.now.dirid path.old counts.old)
+        (world_of R.seen T.sink T.account O.text O.account ends.old)
+        (world_of R.seen T.sink T.account O.text O.account ends.new)
         (ended_with counts.new result) }
     ensures path { OnOk result (path.new ≡ path.old) }
-    ensures stands { KeepsDepth job.now.plan.dry (T.sink tree.old) (T.sink tree.new) result }
-    ensures dry { KeepsSink job.now.plan.dry tree.old tree.new }
+    ensures stands { KeepsDepth dir.now.job.now.plan.dry (T.sink ends.old.tree.now) (T.sink ends.new.tree.now) result }
+    ensures dry { KeepsSink dir.now.job.now.plan.dry ends.old.tree.now ends.new.tree.now }
+    ensures same { SameEnds ends.old ends.new }
 {
-    here.dir = Dir::new(root, dirid);
+    here.dir = Dir::new(dir.tree, dir.dirid);
     let len = path.len();
     loop {
-        match here.dir.next(rack, vol, &mut here.name) {
+        match here.dir.next(ends.rack, ends.vol, &mut here.name) {
             Err(fault) => return Err(Stop::Tree(fault)),
             Ok(None) => return Ok(()),
             Ok(Some(row)) => {
-                list_entry(
-                    job, &root, dirid, row, &here.name, below, path, counts, rack, vol, tree, out,
-                )?;
+                let named = NamedRow {
+                    row,
+                    name: &here.name,
+                };
+                list_entry(dir, &named, below, path, counts, ends)?;
                 path.cut(len);
             }
         }

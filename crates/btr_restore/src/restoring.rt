@@ -6,10 +6,12 @@ ghost use Rattle.btr_restore.specs.Journey.{from_root, listing, restored};
 ghost use Rattle.btr_listing.specs.Lines.{counts_line};
 ghost use Rattle.btr_restore.specs.Restoring.{Settles};
 ghost use Rattle.btr_volume.specs.Readable.{CanRead};
-ghost use Rattle.btr_restore.specs.Running.{KeepsSink, Ran, world, RanFor, WroteLines, outside_of};
+ghost use Rattle.btr_restore.specs.Ends.{SameEnds, world_of};
+ghost use Rattle.btr_restore.specs.Running.{KeepsSink, Ran, RanFor, WroteLines, outside_of, world};
 ghost use Rattle.btr_listing.specs.Step.{Line};
 
-use crate::job::Job;
+use crate::endpoints::Endpoints;
+use crate::job::{DirJob, Job};
 use crate::listing::{OpenDir, list};
 use crate::lookups::{find_sums, find_tree};
 use crate::rows::start_in;
@@ -74,22 +76,20 @@ fn list_into<R: Rack, T: TreeSink, O: Out>(
     root: &TreeRoot,
     dirs: &mut [OpenDir],
     path: &mut Path,
-    rack: &mut R,
-    vol: &mut Volume,
-    tree: &mut T,
-    out: &mut O,
+    ends: &mut Endpoints<'_, '_, R, T, O>,
 ) -> Result<Counts, Stop>
-    requires ready { CanRead 6 (R.seen rack.old) vol.old }
-    requires fresh { job.now.plan.dry ≡ false → (T.sink tree.old).stage ≡ NotStarted }
+    requires ready { CanRead 6 (R.seen ends.old.rack.now) ends.old.vol.now }
+    requires fresh { job.now.plan.dry ≡ false → (T.sink ends.old.tree.now).stage ≡ NotStarted }
     requires dirs { length dirs.old ≡ 513 }
     requires path { path.old ≡ [] }
     ensures ran { RanFor (λ s. restored job.now.plan dest.now s root.now job.now.sums)
-        (world (R.seen rack.old) vol.old (outside_of T.sink T.account O.text O.account tree.old out.old))
-        (world (R.seen rack.new) vol.new (outside_of T.sink T.account O.text O.account tree.new out.new))
+        (world_of R.seen T.sink T.account O.text O.account ends.old)
+        (world_of R.seen T.sink T.account O.text O.account ends.new)
         result }
-    ensures dry { KeepsSink job.now.plan.dry tree.old tree.new }
+    ensures dry { KeepsSink job.now.plan.dry ends.old.tree.now ends.new.tree.now }
+    ensures same { SameEnds ends.old ends.new }
 {
-    start_in(&job.plan, dest, tree)?;
+    start_in(&job.plan, dest, ends.tree)?;
     let mut counts = Counts {
         dirs: 0,
         files: 0,
@@ -98,20 +98,13 @@ fn list_into<R: Rack, T: TreeSink, O: Out>(
     let Some((here, below)) = dirs.split_first_mut() else {
         unreachable!();
     };
-    list(
+    let top = DirJob {
         job,
-        *root,
-        root.dirid,
-        here,
-        below,
-        path,
-        &mut counts,
-        rack,
-        vol,
-        tree,
-        out,
-    )?;
-    tell_counts(&counts, out)
+        tree: *root,
+        dirid: root.dirid,
+    };
+    list(&top, here, below, path, &mut counts, ends)?;
+    tell_counts(&counts, ends.out)
 }
 
 // A tree into the destination, once its checksums are found.
@@ -121,24 +114,22 @@ fn restore_tree<R: Rack, T: TreeSink, O: Out>(
     root: &TreeRoot,
     dirs: &mut [OpenDir],
     path: &mut Path,
-    rack: &mut R,
-    vol: &mut Volume,
-    tree: &mut T,
-    out: &mut O,
+    ends: &mut Endpoints<'_, '_, R, T, O>,
 ) -> Result<Counts, Stop>
-    requires ready { CanRead 6 (R.seen rack.old) vol.old }
-    requires fresh { plan.now.dry ≡ false → (T.sink tree.old).stage ≡ NotStarted }
+    requires ready { CanRead 6 (R.seen ends.old.rack.now) ends.old.vol.now }
+    requires fresh { plan.now.dry ≡ false → (T.sink ends.old.tree.now).stage ≡ NotStarted }
     requires dirs { length dirs.old ≡ 513 }
     requires path { path.old ≡ [] }
     ensures ran { RanFor (λ s. from_root plan.now dest.now s (Some root.now))
-        (world (R.seen rack.old) vol.old (outside_of T.sink T.account O.text O.account tree.old out.old))
-        (world (R.seen rack.new) vol.new (outside_of T.sink T.account O.text O.account tree.new out.new))
+        (world_of R.seen T.sink T.account O.text O.account ends.old)
+        (world_of R.seen T.sink T.account O.text O.account ends.new)
         result }
-    ensures dry { KeepsSink plan.now.dry tree.old tree.new }
+    ensures dry { KeepsSink plan.now.dry ends.old.tree.now ends.new.tree.now }
+    ensures same { SameEnds ends.old ends.new }
 {
-    let sums = find_sums(plan, rack, vol)?;
+    let sums = find_sums(plan, ends.rack, ends.vol)?;
     let job = Job { plan: *plan, sums };
-    list_into(&job, dest, root, dirs, path, rack, vol, tree, out)
+    list_into(&job, dest, root, dirs, path, ends)
 }
 
 // Restores the subvolume of a plan. What waits in the sink then isn't stored yet.
@@ -146,18 +137,16 @@ fn restore_unsettled<R: Rack, T: TreeSink, O: Out>(
     alloc: Global,
     plan: &RestorePlan,
     dest: &str,
-    rack: &mut R,
-    vol: &mut Volume,
-    tree: &mut T,
-    out: &mut O,
+    ends: &mut Endpoints<'_, '_, R, T, O>,
 ) -> Result<Counts, Stop>
-    requires ready { CanRead 6 (R.seen rack.old) vol.old }
-    requires fresh { plan.now.dry ≡ false → (T.sink tree.old).stage ≡ NotStarted }
-    ensures ran { Ran (listing plan.now dest.now vol.old.sup)
-        (world (R.seen rack.old) vol.old (outside_of T.sink T.account O.text O.account tree.old out.old))
-        (world (R.seen rack.new) vol.new (outside_of T.sink T.account O.text O.account tree.new out.new))
+    requires ready { CanRead 6 (R.seen ends.old.rack.now) ends.old.vol.now }
+    requires fresh { plan.now.dry ≡ false → (T.sink ends.old.tree.now).stage ≡ NotStarted }
+    ensures ran { Ran (listing plan.now dest.now ends.old.vol.now.sup)
+        (world_of R.seen T.sink T.account O.text O.account ends.old)
+        (world_of R.seen T.sink T.account O.text O.account ends.new)
         result }
-    ensures dry { KeepsSink plan.now.dry tree.old tree.new }
+    ensures dry { KeepsSink plan.now.dry ends.old.tree.now ends.new.tree.now }
+    ensures same { SameEnds ends.old ends.new }
 {
     let mut path = match Path::new(alloc) {
         Ok(path) => path,
@@ -167,11 +156,11 @@ fn restore_unsettled<R: Rack, T: TreeSink, O: Out>(
         Ok(dirs) => dirs,
         Err(_) => return Err(Stop::Memory),
     };
-    match find_tree(plan.root, rack, vol)? {
+    match find_tree(plan.root, ends.rack, ends.vol)? {
         None => Err(Stop::NoTree(plan.root)),
         Some(root) => {
             let dirs = dirs.as_mut_slice();
-            restore_tree(plan, dest, &root, dirs, &mut path, rack, vol, tree, out)
+            restore_tree(plan, dest, &root, dirs, &mut path, ends)
         }
     }
 }
@@ -204,6 +193,29 @@ pub fn settle<T: TreeSink>(plan: &RestorePlan, stop: Stop, tree: &mut T) -> Stop
     store_waiting(stop, tree)
 }
 
+// Restores the subvolume of a plan, and stores what waits in the sink before another stop than the sink's own.
+fn restore_settled<R: Rack, T: TreeSink, O: Out>(
+    alloc: Global,
+    plan: &RestorePlan,
+    dest: &str,
+    ends: &mut Endpoints<'_, '_, R, T, O>,
+) -> Result<Counts, Stop>
+    requires ready { CanRead 6 (R.seen ends.old.rack.now) ends.old.vol.now }
+    requires fresh { plan.now.dry ≡ false → (T.sink ends.old.tree.now).stage ≡ NotStarted }
+    ensures ran { Ran (listing plan.now dest.now ends.old.vol.now.sup)
+        (world_of R.seen T.sink T.account O.text O.account ends.old)
+        (world_of R.seen T.sink T.account O.text O.account ends.new)
+        result }
+    ensures stored { plan.now.dry ≡ false → IfErr result (λ stop. stop ≢ Stop.Sink → T.waits ends.new.tree.now ≡ false) }
+    ensures dry { KeepsSink plan.now.dry ends.old.tree.now ends.new.tree.now }
+    ensures same { SameEnds ends.old ends.new }
+{
+    match restore_unsettled(alloc, plan, dest, ends) {
+        Ok(counts) => Ok(counts),
+        Err(stop) => Err(settle(plan, stop, ends.tree)),
+    }
+}
+
 /// Restores the subvolume of a plan into the destination of this name: its directories, the bytes of its files, and a line of what was restored. Entries that
 /// can't be restored are left out, and named.
 ///
@@ -231,8 +243,11 @@ pub fn restore<R: Rack, T: TreeSink, O: Out>(
     ensures stored { plan.now.dry ≡ false → IfErr result (λ stop. stop ≢ Stop.Sink → T.waits tree.new ≡ false) }
     ensures dry { KeepsSink plan.now.dry tree.old tree.new }
 {
-    match restore_unsettled(alloc, plan, dest, rack, vol, tree, out) {
-        Ok(counts) => Ok(counts),
-        Err(stop) => Err(settle(plan, stop, tree)),
-    }
+    let mut ends = Endpoints {
+        rack,
+        vol,
+        tree,
+        out,
+    };
+    restore_settled(alloc, plan, dest, &mut ends)
 }

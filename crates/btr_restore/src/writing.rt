@@ -13,8 +13,9 @@ use crate::telling::sink_stop;
 use bitflags::Flags;
 use btr_files::{FileBytes, Piece, next_piece};
 use btr_items::{Inode, InodeFlags};
+use btr_listing::Entry;
 use btr_rack::{Rack, TreeSink};
-use btr_volume::{Stop, TreeRoot, Volume};
+use btr_volume::{Stop, Volume};
 
 /// Whether some piece was read without a checksum, this one included.
 pub fn is_plain(plain: bool, verified: bool) -> bool
@@ -114,8 +115,7 @@ pub fn has_no_sums(inode: &Inode) -> bool
 /// Writes the bytes of a file, unless the run is dry. Answers whether some piece was read without a checksum.
 pub(crate) fn write_bytes<R: Rack, T: TreeSink>(
     job: &Job,
-    root: &TreeRoot,
-    ino: u64,
+    entry: &Entry<'_>,
     inode: &Inode,
     rack: &mut R,
     vol: &mut Volume,
@@ -123,7 +123,7 @@ pub(crate) fn write_bytes<R: Rack, T: TreeSink>(
 ) -> Result<bool, Stop>
     requires ready { CanRead 6 (R.seen rack.old) vol.old }
     requires begun { job.now.plan.dry ≡ false → (T.sink tree.old).stage ≡ InFile }
-    ensures ran { RanBeside vol.old.sup (λ s. pieces job.now.plan s job.now.sums root.now ino inode.now)
+    ensures ran { RanBeside vol.old.sup (λ s. pieces job.now.plan s job.now.sums entry.now.tree entry.now.row.location.objectid inode.now)
         (beside R.seen T.sink T.account rack.old vol.old tree.old)
         (beside R.seen T.sink T.account rack.new vol.new tree.new) result }
     ensures stage { job.now.plan.dry ≡ false → (T.sink tree.new).stage ≡ InFile }
@@ -134,7 +134,8 @@ pub(crate) fn write_bytes<R: Rack, T: TreeSink>(
         return Ok(false);
     }
     let nosum = has_no_sums(inode);
-    let mut file = FileBytes::new(*root, ino, inode.size, nosum, job.sums);
+    let ino = entry.row.location.objectid;
+    let mut file = FileBytes::new(entry.tree, ino, inode.size, nosum, job.sums);
     let plain = put_pieces(&mut file, rack, vol, tree);
     file.finish(vol);
     plain

@@ -18,7 +18,7 @@ use Rattle.btr_salvage.specs.declared.salvaged.Salvaged.{Salvaged}
 use Rattle.btr_salvage.specs.Listing.{listing_in, treat_in}
 use Rattle.btr_salvage.specs.Running.{Ran}
 use Rattle.btr_salvage.specs.Salvaging as salvaging
-use Rattle.btr_salvage.specs.Salvaging.{Attempt, Listing, Treated, directory, listed_in}
+use Rattle.btr_salvage.specs.Salvaging.{Attempt, SalvageListing, Treated, directory, listed_in}
 use Rattle.btr_salvage.specs.Treating.{counted}
 use Rattle.btr_salvage.proofs.Rans.{ran_halt, ran_then, ran_value, ran_writes}
 
@@ -85,7 +85,7 @@ module _ (plan : RestorePlan) (s : Super) (sums : Option TreeRoot) (folders belo
 
   as_listed : (r : Result Salvaged TheStop) → Ran (directory plan s sums below inner dirid path so_far) x y r
       → Ran (listing_in plan s sums folders inner dirid path so_far) x y r
-  as_listed r h = subst (λ (l : Listing). Ran (l inner dirid path so_far) x y r) (sym (listing_is plan s sums folders below is)) h
+  as_listed r h = subst (λ (l : SalvageListing). Ran (l inner dirid path so_far) x y r) (sym (listing_is plan s sums folders below is)) h
 
   pub within_halts : (t : TheStop) → Ran (directory plan s sums below inner dirid path so_far) x y (Err t)
       → Ran (listed_in plan s sums (listing_in plan s sums folders) path (salvaging.Within inner dirid so_far)) x y (Err t)

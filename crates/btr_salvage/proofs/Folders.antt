@@ -15,7 +15,7 @@ use Rattle.btr_tour.specs.Rests.{rank_left, GoesOn, IsRestOn, RestCause, Rests, 
 use Rattle.btr_tour.specs.Steps.{reason, Meets}
 use Rattle.btr_tour.specs.Tour as marks
 use Rattle.btr_tour.specs.Tour.{Mark}
-use Rattle.btr_tour.specs.TourEnds.{left_of, rank_of, NextBy, NextCause}
+use Rattle.btr_tour.specs.TourEnds.{left_of, rank_of, TourNextBy, NextCause}
 use Rattle.btr_tour.specs.Visits.{Shows}
 use Rattle.btr_tour.specs.declared.met.Met.{Met}
 use Rattle.btr_tour.specs.declared.met.Met.TheVariants as met
@@ -45,20 +45,20 @@ module _ (Is : UnreadBlock → Want → Type 0) (B : Map) (seen : List Want) (ol
   By result = NextMetBy Is B seen old new tour tour' name result
 
   -- a mark was met, which says what was found
-  pub met_by : (m : Met) (f : Found) → ((mark : Mark) → Shows m mark → mark_in mark ≡ found_in f name) → NextBy Is B seen old new tour tour' (Ok (Some m))
+  pub met_by : (m : Met) (f : Found) → ((mark : Mark) → Shows m mark → mark_in mark ≡ found_in f name) → TourNextBy Is B seen old new tour tour' (Ok (Some m))
       → By (Ok (Some f))
   met_by m f says h =
       let n = next_is Is B seen old new tour tour' same m h in
       record { mark = n.mark; says = says n.mark n.shown; meets = record { past = n.past; is = n.first; on = n.on; held = n.held } }
 
-  pub met_block : (place : RootPlace) (header : Header) → NextBy Is B seen old new tour tour' (Ok (Some (met.Block place header)))
+  pub met_block : (place : RootPlace) (header : Header) → TourNextBy Is B seen old new tour tour' (Ok (Some (met.Block place header)))
       → By (Ok (Some found.Passing))
   met_block place header h = met_by (met.Block place header) found.Passing (λ mark shown. ap mark_in shown.1.2) h
 
-  pub met_child : (block : ℕ) (place : RootPlace) → NextBy Is B seen old new tour tour' (Ok (Some (met.Child block place))) → By (Ok (Some found.Passing))
+  pub met_child : (block : ℕ) (place : RootPlace) → TourNextBy Is B seen old new tour tour' (Ok (Some (met.Child block place))) → By (Ok (Some found.Passing))
   met_child block place h = met_by (met.Child block place) found.Passing (λ mark shown. ap mark_in shown) h
 
-  pub met_item : (item : FoundItem) (f : Found) → IsItemFound (item_of item) name f → NextBy Is B seen old new tour tour' (Ok (Some (met.Item item)))
+  pub met_item : (item : FoundItem) (f : Found) → IsItemFound (item_of item) name f → TourNextBy Is B seen old new tour tour' (Ok (Some (met.Item item)))
       → By (Ok (Some f))
   met_item item f is h = met_by (met.Item item) f (λ mark shown. ap mark_in shown ∙ is) h
 
@@ -70,14 +70,14 @@ module _ (Is : UnreadBlock → Want → Type 0) (B : Map) (seen : List Want) (ol
   left_says None f mark e h = absurd h
   left_says (Some x) f mark e h = ap mark_in h ∙ same_part x (found_in f name) e
 
-  none_left : (fault : TreeFault) → reason fault ≡ None → NextBy Is B seen old new tour tour' (Ok (Some (met.Fault fault))) → ⊥
+  none_left : (fault : TreeFault) → reason fault ≡ None → TourNextBy Is B seen old new tour tour' (Ok (Some (met.Fault fault))) → ⊥
   none_left fault e h = subst
       (λ (o : Option fate.Fault). IsSomeAnd o (λ x. Meets tour.scope.lo tour.scope.hi B seen (left_of B old tour) new tour'.place tour'.leaf (marks.Left x))) e
       h
 
   -- a block is left out
   pub met_left : (fault : TreeFault) (result : Result (Option Found) TreeFault) → IsLeftOut fault name result
-      → NextBy Is B seen old new tour tour' (Ok (Some (met.Fault fault))) → By result
+      → TourNextBy Is B seen old new tour tour' (Ok (Some (met.Fault fault))) → By result
   met_left fault (Ok (Some f)) e h = met_by (met.Fault fault) f (λ mark shown. left_says (reason fault) f mark e shown) h
   met_left fault (Ok None) e h = absurd e
   met_left fault (Err f) e h = absurd (none_left fault e.0 h)

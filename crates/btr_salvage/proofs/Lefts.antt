@@ -35,7 +35,7 @@ use Rattle.btr_salvage.specs.Attempts.{came_of, on_value, tried_run, value_then}
 use Rattle.btr_salvage.specs.Laws.{HonestSalvage}
 use Rattle.btr_salvage.specs.Left.{ByDecision, IsEntered, IsKept, IsLeft, IsMissing, IsTreated, NeedsLost, OfDirectory, way_up}
 use Rattle.btr_salvage.specs.Lines.{missing_line, nothing_yet, salvaged, salvaged_line, with_broken}
-use Rattle.btr_salvage.specs.Salvaging.{Attempt, Listing, Treated, Over, Within, begun, beside, broken, by_lookup, by_reading, carried_out, directory}
+use Rattle.btr_salvage.specs.Salvaging.{Attempt, SalvageListing, Treated, Over, Within, begun, beside, broken, by_lookup, by_reading, carried_out, directory}
 use Rattle.btr_salvage.specs.Salvaging.{from_root, from_tree, listed, listed_in, on_decision, reading, salvage_run, salvaging, summed_up, treat, treated, tries}
 use Rattle.btr_salvage.specs.Salvaging as salvaging
 use Rattle.btr_salvage.proofs.Countless.{EachCountless, closing, directory_free, empty_did, entered_did, nothing_free, pieces_value, treat_free}
@@ -52,7 +52,7 @@ not_ok x fault i g = cc
 -- ---- an entry
 
 module _ (plan : RestorePlan) (wet : plan.dry ≡ false) (s : Super) (sums : Option TreeRoot) (B C : Map) (keeps : Keeps B C)
-    (deep : Bool) (below : journey.Listing) (free : EachCountless C below) (here : Listing)
+    (deep : Bool) (below : journey.Listing) (free : EachCountless C below) (here : SalvageListing)
     (Inside : TreeRoot → ℕ → List ℕ → List Step → List Step → Type 0) where
   -- what is left of a directory that is entered
   pub record BelowLeft (tree : TreeRoot) (dirid : ℕ) (path : List ℕ) (so_far : Salvaged) (whole : List Step) : Type 0 where

@@ -38,7 +38,7 @@ use Rattle.btr_salvage.specs.Attempts.{treat_each, value_then}
 use Rattle.btr_salvage.specs.Left.{InTurn, Joined, IsMissing, IsPart, IsThere, IsTreated, OfBlock, OfItem, OfListed, OfNode, treat_entry, treat_items}
 use Rattle.btr_salvage.specs.Lines.{folder_path, missing_line, with_broken}
 use Rattle.btr_salvage.specs.Marks.{folder_tour, item_in, mark_in}
-use Rattle.btr_salvage.specs.Salvaging.{Attempt, Listing, listed, meet, treat}
+use Rattle.btr_salvage.specs.Salvaging.{Attempt, SalvageListing, listed, meet, treat}
 use Rattle.btr_salvage.proofs.Countless.{Countless, EntryCountless, each_free}
 use Rattle.btr_salvage.proofs.Endings.{Came, Did, came_value, did_first, each_same, each_value, first_value}
 use Rattle.btr_salvage.proofs.Keeping.{Keeps}
@@ -163,7 +163,7 @@ module _ (C : Map) {St : Type 0} (treat_one : St → DirEntry → Program Step S
 -- ---- a directory of which the images may lack blocks
 
 module _ (plan : RestorePlan) (s : Super) (sums : Option TreeRoot) (B C : Map) (keeps : Keeps B C)
-    (deep : Bool) (below : journey.Listing) (here : Listing) (Inside : TreeRoot → ℕ → List ℕ → List Step → List Step → Type 0)
+    (deep : Bool) (below : journey.Listing) (here : SalvageListing) (Inside : TreeRoot → ℕ → List ℕ → List Step → List Step → Type 0)
     (tree : TreeRoot) (dirid : ℕ) (path : List ℕ) where
   abbrev lo : Key
   lo = key dirid dir_index 0

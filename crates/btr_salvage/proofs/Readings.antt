@@ -26,7 +26,7 @@ use Rattle.btr_volume.specs.Lookup.{Program}
 use Rattle.btr_volume.specs.declared.volume.Volume.{Volume}
 use Rattle.btr_files.specs.Content.{Piece}
 use Rattle.btr_files.specs.Maps.{TellsAll}
-use Rattle.btr_files.specs.Streaming.{Begins, FileGoes, EndsBy, GivesPiece, IsFileOn, IsNextPiece, IsReading, Streamed, piece_of, without_file}
+use Rattle.btr_files.specs.Streaming.{BeginsFile, FileGoes, EndsBy, GivesPiece, IsFileOn, IsNextPiece, IsReading, Streamed, piece_of, without_file}
 use Rattle.btr_files.specs.Sums.{kind_in}
 use Rattle.btr_files.specs.declared.file.FileBytes.{FileBytes}
 use Rattle.btr_files.specs.declared.piece.Piece.{Piece as Lending}
@@ -35,7 +35,7 @@ use Rattle.btr_rack.proofs.Reading.{reads_none, reads_more}
 use Rattle.btr_volume.proofs.Onward.{room_kept}
 use Rattle.btr_volume.specs.Stops.{ended}
 use Rattle.btr_restore.specs.Listing.{maps_of}
-use Rattle.btr_restore.specs.Restoring.{OutCounts, SinkCounts, StopCause}
+use Rattle.btr_restore.specs.Restoring.{OutCounts, SinkCounts, RestoreStopCause}
 use Rattle.btr_restore.specs.Running.{Outside, world}
 use Rattle.btr_restore.proofs.Emitting.{text_none}
 use Rattle.btr_restore.proofs.Goings.{if_map, if_some}
@@ -50,7 +50,7 @@ module _ (Bs : ℕ → Map) (whole : Program Piece (Unit {0})) (kind : SumKind) 
   Whole = GoesTo Bs whole
 
   -- nothing is read yet
-  pub left_first : (file : FileBytes) → Begins kind file whole → IsFileOn (Bs 0) [] file → LeftToRead whole kind Bs file
+  pub left_first : (file : FileBytes) → BeginsFile kind file whole → IsFileOn (Bs 0) [] file → LeftToRead whole kind Bs file
   left_first file begins on = record {
     seen = [];
     past = [];
@@ -176,7 +176,7 @@ module _ (whole : Program Piece (Unit {0})) (start : Seen) (began : Volume) (old
 
 -- a file begins
 pub passing_first : (rack : Seen) (vol : Volume) (file : FileBytes) (p : Program Piece (Unit {0})) → IsReading rack vol.store file
-    → without_file vol.store file ≡ vol.store → Begins (kind_in vol.sup) file p → ((B : Map) → IsFileOn B [] file) → IsPassing p rack vol rack vol file
+    → without_file vol.store file ≡ vol.store → BeginsFile (kind_in vol.sup) file p → ((B : Map) → IsFileOn B [] file) → IsPassing p rack vol rack vol file
 passing_first rack vol file p reading same begins on = record {
   reads = reads_none rack;
   sup = refl;
@@ -194,7 +194,7 @@ module _ (p : Program Piece (Unit {0})) (rack : Seen) (vol : Volume) (now : Seen
   ended_so (Ok u) = refl
   ended_so (Err f) = refl
 
-  cause_so : (layout : Layout) (r : Result (Unit {0}) TreeFault) → HasCause layout rack now r → StopCause layout rack now (stopped r)
+  cause_so : (layout : Layout) (r : Result (Unit {0}) TreeFault) → HasCause layout rack now r → RestoreStopCause layout rack now (stopped r)
   cause_so layout (Ok u) h = tt
   cause_so layout (Err f) h = h
 

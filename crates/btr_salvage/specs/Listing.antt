@@ -29,11 +29,11 @@ use Rattle.btr_salvage.specs.declared.salvaged.Salvaged.{Salvaged}
 use Rattle.btr_salvage.specs.Attempts.{TriesTo, treat_each}
 use Rattle.btr_salvage.specs.Folders.{IsFolder, IsFolderOn, folder_left, found_in}
 use Rattle.btr_salvage.specs.Marks.{InFolder, folder_tour, mark_in}
-use Rattle.btr_salvage.specs.Salvaging.{Attempt, Listing, Within, directory, listed_in, meet, treat}
+use Rattle.btr_salvage.specs.Salvaging.{Attempt, SalvageListing, Within, directory, listed_in, meet, treat}
 
 module _ (plan : RestorePlan) (s : Super) (sums : Option TreeRoot) where
   -- the listing of a directory that has one of so many places: none is listed that has no place
-  abbrev pub listing_in : ℕ → Listing
+  abbrev pub listing_in : ℕ → SalvageListing
   listing_in zero = λ tree dirid path so_far. Done (Ok so_far)
   listing_in (suc n) = directory plan s sums n
 

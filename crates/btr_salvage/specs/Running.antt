@@ -13,7 +13,7 @@ use Rattle.btr_volume.specs.declared.stop.Stop.{Stop}
 use Rattle.btr_volume.specs.declared.stop.Stop.TheVariants.{Tree}
 use Rattle.btr_volume.specs.declared.volume.Volume.{Volume}
 use Rattle.btr_listing.specs.Step.{part}
-use Rattle.btr_restore.specs.Restoring.{Scene, Did, StopCause, SinkCounts, OutCounts}
+use Rattle.btr_restore.specs.Restoring.{Scene, Did, RestoreStopCause, SinkCounts, OutCounts}
 use Rattle.btr_volume.specs.Stops.{ended}
 use Rattle.btr_restore.specs.Running.{Outside, World, scene_of, world}
 use Rattle.btr_salvage.specs.Attempts.{Tries}
@@ -29,7 +29,7 @@ pub record Ran {A : Type 0} (p : Attempt A) (x y : World) (answer : Result A Sto
   pub volume : SameVolume x.vol y.vol
   pub ready : CanRead 6 y.rack y.vol
   pub did : Does x.vol.store.layout p (scene_of x) (scene_of y) (ended answer)
-  pub cause : StopCause x.vol.store.layout x.rack y.rack answer
+  pub cause : RestoreStopCause x.vol.store.layout x.rack y.rack answer
   pub sink_calls : SinkCounts x.out.sink_calls y.out.sink_calls answer
   pub out_calls : OutCounts x.out.out_calls y.out.out_calls answer
 

@@ -31,8 +31,8 @@ abbrev pub Attempt : Type 0 → Type 0
 Attempt A = Trying Want Fault Step (Result A Fault)
 
 -- the listing of a directory of a tree, by its path and what was salvaged before it
-abbrev pub Listing : Type 0
-Listing = TreeRoot → ℕ → List ℕ → Salvaged → Attempt Salvaged
+abbrev pub SalvageListing : Type 0
+SalvageListing = TreeRoot → ℕ → List ℕ → Salvaged → Attempt Salvaged
 
 -- what an entry came to: it was treated wholly, or a directory of a tree was entered, in which is to be listed
 pub data Treated : Type 0 where
@@ -96,30 +96,30 @@ module _ (plan : RestorePlan) (s : Super) (sums : Option TreeRoot) where
   treated met so_far = try_then (tries (decided (rules_of plan) s met)) (by_lookup met so_far)
 
   -- what is in a directory that was entered, and the way up
-  abbrev pub listed_in : Listing → List ℕ → Treated → Attempt Salvaged
+  abbrev pub listed_in : SalvageListing → List ℕ → Treated → Attempt Salvaged
   listed_in below path (Over so_far) = Done (Ok so_far)
   listed_in below path (Within tree dirid so_far) =
       value_then (below tree dirid path so_far) (λ after. attempt (row plan Up (Return after)))
 
   -- an entry, and what is in it
-  abbrev pub treat : Bool → Listing → TreeRoot → ℕ → List ℕ → Salvaged → DirEntry → Attempt Salvaged
+  abbrev pub treat : Bool → SalvageListing → TreeRoot → ℕ → List ℕ → Salvaged → DirEntry → Attempt Salvaged
   treat deep below tree dirid path so_far entry =
       let met = met_in deep tree dirid path entry in
       value_then (treated met so_far) (listed_in below met.path)
 
   -- what is met in a directory
-  abbrev pub meet : Bool → Listing → TreeRoot → ℕ → List ℕ → Salvaged → InFolder → Attempt Salvaged
+  abbrev pub meet : Bool → SalvageListing → TreeRoot → ℕ → List ℕ → Salvaged → InFolder → Attempt Salvaged
   meet deep below tree dirid path so_far Passing = Done (Ok so_far)
   meet deep below tree dirid path so_far (Entry entry) = treat deep below tree dirid path so_far entry
   meet deep below tree dirid path so_far (Part fault) = attempt (part_missing fault path so_far)
 
   -- each mark of its tour is treated wholly before the next block is sought, also behind one that can't be had
-  abbrev pub listed : Bool → Listing → Listing
+  abbrev pub listed : Bool → SalvageListing → SalvageListing
   listed deep below tree dirid path so_far =
       treat_each (λ before mark. meet deep below tree dirid path before (mark_in mark)) so_far (folder_tour tree dirid)
 
   -- a directory, below which so many more may be entered
-  abbrev pub directory : ℕ → Listing
+  abbrev pub directory : ℕ → SalvageListing
   directory zero = listed true (λ tree dirid path so_far. Done (Ok so_far))
   directory (suc n) = listed false (directory n)
 

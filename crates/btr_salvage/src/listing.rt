@@ -3,7 +3,7 @@ ghost use Rattle.std.specs.Prelude.{◌≡◌, ◌<◌, false, OnOk, length, tak
 ghost use Rattle.btr_rack.specs.Sink.{BetweenFiles};
 ghost use Rattle.btr_restore.specs.Listing.{KeepsDepth, LeavesDepth};
 ghost use Rattle.btr_volume.specs.Readable.{CanRead};
-ghost use Rattle.btr_restore.specs.Running.{world, outside_of};
+ghost use Rattle.btr_restore.specs.Ends.{SameEnds, world_of};
 ghost use Rattle.btr_salvage.specs.Listing.{entry_for, found_for, listing_for, within_for};
 ghost use Rattle.btr_salvage.specs.Running.{RanFor};
 ghost use Rattle.btr_salvage.specs.Treating.{counted};
@@ -12,11 +12,11 @@ use crate::folder::{Folder, Found};
 use crate::salvaged::Salvaged;
 use crate::telling::tell_part;
 use crate::treating::treat;
-use btr_files::{DirRow, NameBuf};
+use btr_files::NameBuf;
 use btr_listing::{Entry, Path};
 use btr_rack::{Out, Rack, TreeSink};
-use btr_restore::{Job, Treated, leave_dir};
-use btr_volume::{Stop, TreeRoot, Volume};
+use btr_restore::{DirJob, Endpoints, NamedRow, Treated, leave_dir};
+use btr_volume::Stop;
 
 /// Where a directory is listed: how far that has come, and a place for the name of an entry.
 #[derive(Clone, Copy)]
@@ -25,85 +25,84 @@ pub(crate) struct OpenFolder {
     pub(crate) name: NameBuf,
 }
 
+// What was found, and its name if it is an entry.
+#[derive(Clone, Copy)]
+struct NamedFound<'a> {
+    found: Found,
+    name: &'a NameBuf,
+}
+
 // What is in a directory that was entered, and the way up. The first of `folders` is its own.
 #[cycle(listing)]
 fn list_within<R: Rack, T: TreeSink, O: Out>(
-    job: &Job,
-    inner: TreeRoot,
-    dirid: u64,
+    dir: &DirJob<'_>,
     folders: &mut [OpenFolder],
     path: &mut Path,
     salvaged: &mut Salvaged,
-    rack: &mut R,
-    vol: &mut Volume,
-    tree: &mut T,
-    out: &mut O,
+    ends: &mut Endpoints<'_, '_, R, T, O>,
 ) -> Result<(), Stop>
-    requires ready { CanRead 6 (R.seen rack.old) vol.old }
-    requires between { job.now.plan.dry ≡ false → (T.sink tree.old).stage ≡ BetweenFiles }
+    requires ready { CanRead 6 (R.seen ends.old.rack.now) ends.old.vol.now }
+    requires between { dir.now.job.now.plan.dry ≡ false → (T.sink ends.old.tree.now).stage ≡ BetweenFiles }
     requires some { 0 < length folders.old }
-    requires below { job.now.plan.dry ≡ false → 0 < (T.sink tree.old).depth }
-    requires room { job.now.plan.dry ≡ false → (T.sink tree.old).depth + length folders.old ≤ 513 }
-    ensures ran { RanFor (within_for job.now (length folders.old) path.old inner dirid salvaged.old)
-        (world (R.seen rack.old) vol.old (outside_of T.sink T.account O.text O.account tree.old out.old))
-        (world (R.seen rack.new) vol.new (outside_of T.sink T.account O.text O.account tree.new out.new))
+    requires below { dir.now.job.now.plan.dry ≡ false → 0 < (T.sink ends.old.tree.now).depth }
+    requires room { dir.now.job.now.plan.dry ≡ false → (T.sink ends.old.tree.now).depth + length folders.old ≤ 513 }
+    ensures ran { RanFor (within_for dir.now.job.now (length folders.old) path.old dir.now.tree dir.now.dirid salvaged.old)
+        (world_of R.seen T.sink T.account O.text O.account ends.old)
+        (world_of R.seen T.sink T.account O.text O.account ends.new)
         (counted salvaged.new result) }
     ensures path { OnOk result (path.new ≡ path.old) }
-    ensures stands { LeavesDepth job.now.plan.dry (T.sink tree.old) (T.sink tree.new) result }
+    ensures stands { LeavesDepth dir.now.job.now.plan.dry (T.sink ends.old.tree.now) (T.sink ends.new.tree.now) result }
+    ensures same { SameEnds ends.old ends.new }
 {
     let Some((here, below)) = folders.split_first_mut() else {
         unreachable!();
     };
-    list(
-        job, inner, dirid, here, below, path, salvaged, rack, vol, tree, out,
-    )?;
-    leave_dir(&job.plan, tree)
+    list(dir, here, below, path, salvaged, ends)?;
+    leave_dir(&dir.job.plan, ends.tree)
 }
 
 // An entry of a directory, and what is in it. There is a place below for each that may be entered.
 #[cycle(listing)]
 fn list_entry<R: Rack, T: TreeSink, O: Out>(
-    job: &Job,
-    root: &TreeRoot,
-    dirid: u64,
-    row: DirRow,
-    name: &NameBuf,
+    dir: &DirJob<'_>,
+    named: &NamedRow<'_>,
     below: &mut [OpenFolder],
     path: &mut Path,
     salvaged: &mut Salvaged,
-    rack: &mut R,
-    vol: &mut Volume,
-    tree: &mut T,
-    out: &mut O,
+    ends: &mut Endpoints<'_, '_, R, T, O>,
 ) -> Result<(), Stop>
-    requires ready { CanRead 6 (R.seen rack.old) vol.old }
-    requires between { job.now.plan.dry ≡ false → (T.sink tree.old).stage ≡ BetweenFiles }
-    requires room { job.now.plan.dry ≡ false → (T.sink tree.old).depth + length below.old ≤ 512 }
-    ensures ran { RanFor (entry_for job.now (length below.old) root.now dirid path.old salvaged.old row name.now)
-        (world (R.seen rack.old) vol.old (outside_of T.sink T.account O.text O.account tree.old out.old))
-        (world (R.seen rack.new) vol.new (outside_of T.sink T.account O.text O.account tree.new out.new))
+    requires ready { CanRead 6 (R.seen ends.old.rack.now) ends.old.vol.now }
+    requires between { dir.now.job.now.plan.dry ≡ false → (T.sink ends.old.tree.now).stage ≡ BetweenFiles }
+    requires room { dir.now.job.now.plan.dry ≡ false → (T.sink ends.old.tree.now).depth + length below.old ≤ 512 }
+    ensures ran { RanFor (entry_for dir.now.job.now (length below.old) dir.now.tree dir.now.dirid path.old salvaged.old named.now.row named.now.name.now)
+        (world_of R.seen T.sink T.account O.text O.account ends.old)
+        (world_of R.seen T.sink T.account O.text O.account ends.new)
         (counted salvaged.new result) }
     ensures path { OnOk result (take (length path.old) path.new ≡ path.old) }
-    ensures stands { KeepsDepth job.now.plan.dry (T.sink tree.old) (T.sink tree.new) result }
+    ensures stands { KeepsDepth dir.now.job.now.plan.dry (T.sink ends.old.tree.now) (T.sink ends.new.tree.now) result }
+    ensures same { SameEnds ends.old ends.new }
 {
-    match path.push(name.as_bytes()) {
+    match path.push(named.name.as_bytes()) {
         Ok(()) => {}
         Err(_) => return Err(Stop::Memory),
     }
     let entry = Entry {
-        tree: *root,
-        dirid,
+        tree: dir.tree,
+        dirid: dir.dirid,
         deep: below.is_empty(),
-        row,
-        name,
+        row: named.row,
+        name: named.name,
         path: path.as_bytes(),
     };
-    match treat(job, &entry, salvaged, rack, vol, tree, out)? {
+    match treat(dir.job, &entry, salvaged, ends)? {
         Treated::Over => Ok(()),
-        Treated::Within { tree: inner, dirid } => {
-            list_within(
-                job, inner, dirid, below, path, salvaged, rack, vol, tree, out,
-            )
+        Treated::Within { tree, dirid } => {
+            let inner = DirJob {
+                job: dir.job,
+                tree,
+                dirid,
+            };
+            list_within(&inner, below, path, salvaged, ends)
         }
     }
 }
@@ -111,35 +110,34 @@ fn list_entry<R: Rack, T: TreeSink, O: Out>(
 // What is found in a directory.
 #[cycle(listing)]
 fn list_found<R: Rack, T: TreeSink, O: Out>(
-    job: &Job,
-    root: &TreeRoot,
-    dirid: u64,
-    found: Found,
-    name: &NameBuf,
+    dir: &DirJob<'_>,
+    named: &NamedFound<'_>,
     below: &mut [OpenFolder],
     path: &mut Path,
     salvaged: &mut Salvaged,
-    rack: &mut R,
-    vol: &mut Volume,
-    tree: &mut T,
-    out: &mut O,
+    ends: &mut Endpoints<'_, '_, R, T, O>,
 ) -> Result<(), Stop>
-    requires ready { CanRead 6 (R.seen rack.old) vol.old }
-    requires between { job.now.plan.dry ≡ false → (T.sink tree.old).stage ≡ BetweenFiles }
-    requires room { job.now.plan.dry ≡ false → (T.sink tree.old).depth + length below.old ≤ 512 }
-    ensures ran { RanFor (found_for job.now (length below.old) root.now dirid path.old salvaged.old found name.now)
-        (world (R.seen rack.old) vol.old (outside_of T.sink T.account O.text O.account tree.old out.old))
-        (world (R.seen rack.new) vol.new (outside_of T.sink T.account O.text O.account tree.new out.new))
+    requires ready { CanRead 6 (R.seen ends.old.rack.now) ends.old.vol.now }
+    requires between { dir.now.job.now.plan.dry ≡ false → (T.sink ends.old.tree.now).stage ≡ BetweenFiles }
+    requires room { dir.now.job.now.plan.dry ≡ false → (T.sink ends.old.tree.now).depth + length below.old ≤ 512 }
+    ensures ran { RanFor (found_for dir.now.job.now (length below.old) dir.now.tree dir.now.dirid path.old salvaged.old named.now.found named.now.name.now)
+        (world_of R.seen T.sink T.account O.text O.account ends.old)
+        (world_of R.seen T.sink T.account O.text O.account ends.new)
         (counted salvaged.new result) }
     ensures path { OnOk result (take (length path.old) path.new ≡ path.old) }
-    ensures stands { KeepsDepth job.now.plan.dry (T.sink tree.old) (T.sink tree.new) result }
+    ensures stands { KeepsDepth dir.now.job.now.plan.dry (T.sink ends.old.tree.now) (T.sink ends.new.tree.now) result }
+    ensures same { SameEnds ends.old ends.new }
 {
-    match found {
+    match named.found {
         Found::Passing => Ok(()),
-        Found::Part(damage) => tell_part(damage, path.as_bytes(), salvaged, out),
-        Found::Entry(row) => list_entry(
-            job, root, dirid, row, name, below, path, salvaged, rack, vol, tree, out,
-        ),
+        Found::Part(damage) => tell_part(damage, path.as_bytes(), salvaged, ends.out),
+        Found::Entry(row) => {
+            let entry = NamedRow {
+                row,
+                name: named.name,
+            };
+            list_entry(dir, &entry, below, path, salvaged, ends)
+        }
     }
 }
 
@@ -147,39 +145,36 @@ fn list_found<R: Rack, T: TreeSink, O: Out>(
 /// its place, and there is one in `below` for each directory that may be entered.
 #[cycle(listing)]
 pub(crate) fn list<R: Rack, T: TreeSink, O: Out>(
-    job: &Job,
-    root: TreeRoot,
-    dirid: u64,
+    dir: &DirJob<'_>,
     here: &mut OpenFolder,
     below: &mut [OpenFolder],
     path: &mut Path,
     salvaged: &mut Salvaged,
-    rack: &mut R,
-    vol: &mut Volume,
-    tree: &mut T,
-    out: &mut O,
+    ends: &mut Endpoints<'_, '_, R, T, O>,
 ) -> Result<(), Stop>
-    requires ready { CanRead 6 (R.seen rack.old) vol.old }
-    requires between { job.now.plan.dry ≡ false → (T.sink tree.old).stage ≡ BetweenFiles }
-    requires room { job.now.plan.dry ≡ false → (T.sink tree.old).depth + length below.old ≤ 512 }
-    ensures ran { RanFor (listing_for job.now (length below.old) root dirid path.old salvaged.old)
-        (world (R.seen rack.old) vol.old (outside_of T.sink T.account O.text O.account tree.old out.old))
-        (world (R.seen rack.new) vol.new (outside_of T.sink T.account O.text O.account tree.new out.new))
+    requires ready { CanRead 6 (R.seen ends.old.rack.now) ends.old.vol.now }
+    requires between { dir.now.job.now.plan.dry ≡ false → (T.sink ends.old.tree.now).stage ≡ BetweenFiles }
+    requires room { dir.now.job.now.plan.dry ≡ false → (T.sink ends.old.tree.now).depth + length below.old ≤ 512 }
+    ensures ran { RanFor (listing_for dir.now.job.now (length below.old) dir.now.tree dir.now.dirid path.old salvaged.old)
+        (world_of R.seen T.sink T.account O.text O.account ends.old)
+        (world_of R.seen T.sink T.account O.text O.account ends.new)
         (counted salvaged.new result) }
     ensures path { OnOk result (path.new ≡ path.old) }
-    ensures stands { KeepsDepth job.now.plan.dry (T.sink tree.old) (T.sink tree.new) result }
+    ensures stands { KeepsDepth dir.now.job.now.plan.dry (T.sink ends.old.tree.now) (T.sink ends.new.tree.now) result }
+    ensures same { SameEnds ends.old ends.new }
 {
-    here.folder = Folder::new(&root, dirid);
+    here.folder = Folder::new(&dir.tree, dir.dirid);
     let len = path.len();
     loop {
-        match here.folder.next(rack, vol, &mut here.name) {
+        match here.folder.next(ends.rack, ends.vol, &mut here.name) {
             Err(fault) => return Err(Stop::Tree(fault)),
             Ok(None) => return Ok(()),
             Ok(Some(found)) => {
-                list_found(
-                    job, &root, dirid, found, &here.name, below, path, salvaged, rack, vol, tree,
-                    out,
-                )?;
+                let named = NamedFound {
+                    found,
+                    name: &here.name,
+                };
+                list_found(dir, &named, below, path, salvaged, ends)?;
                 path.cut(len);
             }
         }

@@ -2,7 +2,8 @@
 ghost use Rattle.std.specs.Prelude.{◌≡◌, ◌≢◌, false, IfErr, IfOk, [], length, Some};
 ghost use Rattle.btr_rack.specs.Sink.{NotStarted};
 ghost use Rattle.btr_volume.specs.Readable.{CanRead};
-ghost use Rattle.btr_restore.specs.Running.{world, outside_of};
+ghost use Rattle.btr_restore.specs.Ends.{SameEnds, world_of};
+ghost use Rattle.btr_restore.specs.Running.{outside_of, world};
 ghost use Rattle.btr_salvage.specs.Running.{Ran, RanFor};
 ghost use Rattle.btr_salvage.specs.Salvaging.{from_root, from_tree, salvaging};
 
@@ -14,7 +15,7 @@ use btr_base::Memory;
 use btr_files::{Counts, NameBuf, RestorePlan};
 use btr_listing::Path;
 use btr_rack::{Out, Rack, TreeSink};
-use btr_restore::{Job, find_tree, settle, start_in};
+use btr_restore::{DirJob, Endpoints, Job, find_tree, settle, start_in};
 use btr_volume::{Stop, TreeRoot, Volume};
 use btr_walk::RootPlace;
 use std::alloc::Global;
@@ -62,21 +63,19 @@ fn list_into<R: Rack, T: TreeSink, O: Out>(
     root: &TreeRoot,
     folders: &mut [OpenFolder],
     path: &mut Path,
-    rack: &mut R,
-    vol: &mut Volume,
-    tree: &mut T,
-    out: &mut O,
+    ends: &mut Endpoints<'_, '_, R, T, O>,
 ) -> Result<Salvaged, Stop>
-    requires ready { CanRead 6 (R.seen rack.old) vol.old }
-    requires fresh { job.now.plan.dry ≡ false → (T.sink tree.old).stage ≡ NotStarted }
+    requires ready { CanRead 6 (R.seen ends.old.rack.now) ends.old.vol.now }
+    requires fresh { job.now.plan.dry ≡ false → (T.sink ends.old.tree.now).stage ≡ NotStarted }
     requires folders { length folders.old ≡ 513 }
     requires path { path.old ≡ [] }
-    ensures { RanFor (λ s. from_tree job.now.plan dest.now s root.now job.now.sums)
-        (world (R.seen rack.old) vol.old (outside_of T.sink T.account O.text O.account tree.old out.old))
-        (world (R.seen rack.new) vol.new (outside_of T.sink T.account O.text O.account tree.new out.new))
+    ensures ran { RanFor (λ s. from_tree job.now.plan dest.now s root.now job.now.sums)
+        (world_of R.seen T.sink T.account O.text O.account ends.old)
+        (world_of R.seen T.sink T.account O.text O.account ends.new)
         result }
+    ensures same { SameEnds ends.old ends.new }
 {
-    start_in(&job.plan, dest, tree)?;
+    start_in(&job.plan, dest, ends.tree)?;
     let mut salvaged = Salvaged {
         counts: Counts {
             dirs: 0,
@@ -88,20 +87,13 @@ fn list_into<R: Rack, T: TreeSink, O: Out>(
     let Some((here, below)) = folders.split_first_mut() else {
         unreachable!();
     };
-    list(
+    let top = DirJob {
         job,
-        *root,
-        root.dirid,
-        here,
-        below,
-        path,
-        &mut salvaged,
-        rack,
-        vol,
-        tree,
-        out,
-    )?;
-    tell_salvaged(&salvaged, out)
+        tree: *root,
+        dirid: root.dirid,
+    };
+    list(&top, here, below, path, &mut salvaged, ends)?;
+    tell_salvaged(&salvaged, ends.out)
 }
 
 // A tree into the destination, once its checksums are found.
@@ -111,23 +103,21 @@ fn salvage_tree<R: Rack, T: TreeSink, O: Out>(
     root: &TreeRoot,
     folders: &mut [OpenFolder],
     path: &mut Path,
-    rack: &mut R,
-    vol: &mut Volume,
-    tree: &mut T,
-    out: &mut O,
+    ends: &mut Endpoints<'_, '_, R, T, O>,
 ) -> Result<Salvaged, Stop>
-    requires ready { CanRead 6 (R.seen rack.old) vol.old }
-    requires fresh { plan.now.dry ≡ false → (T.sink tree.old).stage ≡ NotStarted }
+    requires ready { CanRead 6 (R.seen ends.old.rack.now) ends.old.vol.now }
+    requires fresh { plan.now.dry ≡ false → (T.sink ends.old.tree.now).stage ≡ NotStarted }
     requires folders { length folders.old ≡ 513 }
     requires path { path.old ≡ [] }
-    ensures { RanFor (λ s. from_root plan.now dest.now s (Some root.now))
-        (world (R.seen rack.old) vol.old (outside_of T.sink T.account O.text O.account tree.old out.old))
-        (world (R.seen rack.new) vol.new (outside_of T.sink T.account O.text O.account tree.new out.new))
+    ensures ran { RanFor (λ s. from_root plan.now dest.now s (Some root.now))
+        (world_of R.seen T.sink T.account O.text O.account ends.old)
+        (world_of R.seen T.sink T.account O.text O.account ends.new)
         result }
+    ensures same { SameEnds ends.old ends.new }
 {
-    let sums = find_tree(SUM_TREE, rack, vol)?;
+    let sums = find_tree(SUM_TREE, ends.rack, ends.vol)?;
     let job = Job { plan: *plan, sums };
-    list_into(&job, dest, root, folders, path, rack, vol, tree, out)
+    list_into(&job, dest, root, folders, path, ends)
 }
 
 // Salvages the subvolume of a plan. What waits in the sink then isn't stored yet.
@@ -135,17 +125,15 @@ fn salvage_unsettled<R: Rack, T: TreeSink, O: Out>(
     alloc: Global,
     plan: &RestorePlan,
     dest: &str,
-    rack: &mut R,
-    vol: &mut Volume,
-    tree: &mut T,
-    out: &mut O,
+    ends: &mut Endpoints<'_, '_, R, T, O>,
 ) -> Result<Salvaged, Stop>
-    requires ready { CanRead 6 (R.seen rack.old) vol.old }
-    requires fresh { plan.now.dry ≡ false → (T.sink tree.old).stage ≡ NotStarted }
-    ensures { Ran (salvaging plan.now dest.now vol.old.sup)
-        (world (R.seen rack.old) vol.old (outside_of T.sink T.account O.text O.account tree.old out.old))
-        (world (R.seen rack.new) vol.new (outside_of T.sink T.account O.text O.account tree.new out.new))
+    requires ready { CanRead 6 (R.seen ends.old.rack.now) ends.old.vol.now }
+    requires fresh { plan.now.dry ≡ false → (T.sink ends.old.tree.now).stage ≡ NotStarted }
+    ensures ran { Ran (salvaging plan.now dest.now ends.old.vol.now.sup)
+        (world_of R.seen T.sink T.account O.text O.account ends.old)
+        (world_of R.seen T.sink T.account O.text O.account ends.new)
         result }
+    ensures same { SameEnds ends.old ends.new }
 {
     let mut path = match Path::new(alloc) {
         Ok(path) => path,
@@ -155,12 +143,35 @@ fn salvage_unsettled<R: Rack, T: TreeSink, O: Out>(
         Ok(folders) => folders,
         Err(_) => return Err(Stop::Memory),
     };
-    match find_tree(plan.root, rack, vol)? {
+    match find_tree(plan.root, ends.rack, ends.vol)? {
         None => Err(Stop::NoTree(plan.root)),
         Some(root) => {
             let folders = folders.as_mut_slice();
-            salvage_tree(plan, dest, &root, folders, &mut path, rack, vol, tree, out)
+            salvage_tree(plan, dest, &root, folders, &mut path, ends)
         }
+    }
+}
+
+// Salvages the subvolume of a plan, and stores what waits in the sink before another stop than the sink's own.
+fn salvage_settled<R: Rack, T: TreeSink, O: Out>(
+    alloc: Global,
+    plan: &RestorePlan,
+    dest: &str,
+    ends: &mut Endpoints<'_, '_, R, T, O>,
+) -> Result<Salvaged, Stop>
+    requires ready { CanRead 6 (R.seen ends.old.rack.now) ends.old.vol.now }
+    requires wet { plan.now.dry ≡ false }
+    requires fresh { (T.sink ends.old.tree.now).stage ≡ NotStarted }
+    ensures ran { Ran (salvaging plan.now dest.now ends.old.vol.now.sup)
+        (world_of R.seen T.sink T.account O.text O.account ends.old)
+        (world_of R.seen T.sink T.account O.text O.account ends.new)
+        result }
+    ensures stored { IfErr result (λ stop. stop ≢ Stop.Sink → T.waits ends.new.tree.now ≡ false) }
+    ensures same { SameEnds ends.old ends.new }
+{
+    match salvage_unsettled(alloc, plan, dest, ends) {
+        Ok(salvaged) => Ok(salvaged),
+        Err(stop) => Err(settle(plan, stop, ends.tree)),
     }
 }
 
@@ -194,8 +205,11 @@ pub fn salvage<R: Rack, T: TreeSink, O: Out>(
         result }
     ensures stored { IfErr result (λ stop. stop ≢ Stop.Sink → T.waits tree.new ≡ false) }
 {
-    match salvage_unsettled(alloc, plan, dest, rack, vol, tree, out) {
-        Ok(salvaged) => Ok(salvaged),
-        Err(stop) => Err(settle(plan, stop, tree)),
-    }
+    let mut ends = Endpoints {
+        rack,
+        vol,
+        tree,
+        out,
+    };
+    salvage_settled(alloc, plan, dest, &mut ends)
 }

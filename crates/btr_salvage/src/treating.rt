@@ -7,7 +7,8 @@ ghost use Rattle.btr_rack.specs.Name.{IsGoodName};
 ghost use Rattle.btr_rack.specs.Sink.{BetweenFiles};
 ghost use Rattle.btr_restore.specs.Journey.{rules_of};
 ghost use Rattle.btr_volume.specs.Readable.{CanRead};
-ghost use Rattle.btr_restore.specs.Running.{KeepsStanding, outside_of, world};
+ghost use Rattle.btr_restore.specs.Ends.{SameEnds, world_of};
+ghost use Rattle.btr_restore.specs.Running.{KeepsStanding};
 ghost use Rattle.btr_restore.specs.Treating.{IsOver};
 ghost use Rattle.btr_salvage.specs.Running.{RanFor};
 ghost use Rattle.btr_salvage.specs.Treating.{came, decided_for, file_for, file_in, treated_for, Misses};
@@ -19,8 +20,8 @@ use crate::telling::leave_broken;
 use btr_items::Inode;
 use btr_listing::{Decision, Entry, decide};
 use btr_rack::{Out, Rack, TreeSink};
-use btr_restore::{Job, Treated, carry_out, rules_of};
-use btr_volume::{Stop, Volume};
+use btr_restore::{Endpoints, Job, Treated, carry_out, rules_of};
+use btr_volume::Stop;
 use btr_walk::TreeFault;
 
 // Names an entry of which a block can't be had. A block that could not be read ends the run.
@@ -45,37 +46,26 @@ fn treat_file<R: Rack, T: TreeSink, O: Out>(
     entry: &Entry<'_>,
     inode: Inode,
     salvaged: &mut Salvaged,
-    rack: &mut R,
-    vol: &mut Volume,
-    tree: &mut T,
-    out: &mut O,
+    ends: &mut Endpoints<'_, '_, R, T, O>,
 ) -> Result<Treated, Stop>
-    requires ready { CanRead 6 (R.seen rack.old) vol.old }
-    requires between { job.now.plan.dry ≡ false → (T.sink tree.old).stage ≡ BetweenFiles }
+    requires ready { CanRead 6 (R.seen ends.old.rack.now) ends.old.vol.now }
+    requires between { job.now.plan.dry ≡ false → (T.sink ends.old.tree.now).stage ≡ BetweenFiles }
     requires good { IsGoodName (name_in entry.now.name.now) }
-    requires above { entry.now.deep ≡ false → job.now.plan.dry ≡ false → (T.sink tree.old).depth < 512 }
+    requires above { entry.now.deep ≡ false → job.now.plan.dry ≡ false → (T.sink ends.old.tree.now).depth < 512 }
     ensures ran { RanFor (file_for job.now entry.now inode salvaged.old)
-        (world (R.seen rack.old) vol.old (outside_of T.sink T.account O.text O.account tree.old out.old))
-        (world (R.seen rack.new) vol.new (outside_of T.sink T.account O.text O.account tree.new out.new))
+        (world_of R.seen T.sink T.account O.text O.account ends.old)
+        (world_of R.seen T.sink T.account O.text O.account ends.new)
         (came salvaged.new result) }
-    ensures stands { KeepsStanding job.now.plan.dry (T.sink tree.old) (T.sink tree.new) result }
+    ensures stands { KeepsStanding job.now.plan.dry (T.sink ends.old.tree.now) (T.sink ends.new.tree.now) result }
     ensures flat { entry.now.deep ≡ true → IsOver result }
+    ensures same { SameEnds ends.old ends.new }
 {
     let ino = entry.row.location.objectid;
-    match read_through(job, &entry.tree, ino, &inode, rack, vol) {
-        Err(fault) => miss(fault, entry.path, salvaged, out),
+    match read_through(job, &entry.tree, ino, &inode, ends.rack, ends.vol) {
+        Err(fault) => miss(fault, entry.path, salvaged, ends.out),
         Ok(()) => {
             let decision = Decision::File(inode);
-            carry_out(
-                job,
-                entry,
-                decision,
-                &mut salvaged.counts,
-                rack,
-                vol,
-                tree,
-                out,
-            )
+            carry_out(job, entry, decision, &mut salvaged.counts, ends)
         }
     }
 }
@@ -96,34 +86,23 @@ fn treat_decided<R: Rack, T: TreeSink, O: Out>(
     entry: &Entry<'_>,
     decision: Decision,
     salvaged: &mut Salvaged,
-    rack: &mut R,
-    vol: &mut Volume,
-    tree: &mut T,
-    out: &mut O,
+    ends: &mut Endpoints<'_, '_, R, T, O>,
 ) -> Result<Treated, Stop>
-    requires ready { CanRead 6 (R.seen rack.old) vol.old }
-    requires between { job.now.plan.dry ≡ false → (T.sink tree.old).stage ≡ BetweenFiles }
+    requires ready { CanRead 6 (R.seen ends.old.rack.now) ends.old.vol.now }
+    requires between { job.now.plan.dry ≡ false → (T.sink ends.old.tree.now).stage ≡ BetweenFiles }
     requires fits { Fits (rules_of job.now.plan) (met_by entry.now) decision }
-    requires above { entry.now.deep ≡ false → job.now.plan.dry ≡ false → (T.sink tree.old).depth < 512 }
+    requires above { entry.now.deep ≡ false → job.now.plan.dry ≡ false → (T.sink ends.old.tree.now).depth < 512 }
     ensures ran { RanFor (decided_for job.now entry.now decision salvaged.old)
-        (world (R.seen rack.old) vol.old (outside_of T.sink T.account O.text O.account tree.old out.old))
-        (world (R.seen rack.new) vol.new (outside_of T.sink T.account O.text O.account tree.new out.new))
+        (world_of R.seen T.sink T.account O.text O.account ends.old)
+        (world_of R.seen T.sink T.account O.text O.account ends.new)
         (came salvaged.new result) }
-    ensures stands { KeepsStanding job.now.plan.dry (T.sink tree.old) (T.sink tree.new) result }
+    ensures stands { KeepsStanding job.now.plan.dry (T.sink ends.old.tree.now) (T.sink ends.new.tree.now) result }
     ensures flat { entry.now.deep ≡ true → IsOver result }
+    ensures same { SameEnds ends.old ends.new }
 {
     match file_of(decision) {
-        Some(inode) => treat_file(job, entry, inode, salvaged, rack, vol, tree, out),
-        None => carry_out(
-            job,
-            entry,
-            decision,
-            &mut salvaged.counts,
-            rack,
-            vol,
-            tree,
-            out,
-        ),
+        Some(inode) => treat_file(job, entry, inode, salvaged, ends),
+        None => carry_out(job, entry, decision, &mut salvaged.counts, ends),
     }
 }
 
@@ -132,24 +111,22 @@ pub(crate) fn treat<R: Rack, T: TreeSink, O: Out>(
     job: &Job,
     entry: &Entry<'_>,
     salvaged: &mut Salvaged,
-    rack: &mut R,
-    vol: &mut Volume,
-    tree: &mut T,
-    out: &mut O,
+    ends: &mut Endpoints<'_, '_, R, T, O>,
 ) -> Result<Treated, Stop>
-    requires ready { CanRead 6 (R.seen rack.old) vol.old }
-    requires between { job.now.plan.dry ≡ false → (T.sink tree.old).stage ≡ BetweenFiles }
-    requires above { entry.now.deep ≡ false → job.now.plan.dry ≡ false → (T.sink tree.old).depth < 512 }
+    requires ready { CanRead 6 (R.seen ends.old.rack.now) ends.old.vol.now }
+    requires between { job.now.plan.dry ≡ false → (T.sink ends.old.tree.now).stage ≡ BetweenFiles }
+    requires above { entry.now.deep ≡ false → job.now.plan.dry ≡ false → (T.sink ends.old.tree.now).depth < 512 }
     ensures ran { RanFor (treated_for job.now entry.now salvaged.old)
-        (world (R.seen rack.old) vol.old (outside_of T.sink T.account O.text O.account tree.old out.old))
-        (world (R.seen rack.new) vol.new (outside_of T.sink T.account O.text O.account tree.new out.new))
+        (world_of R.seen T.sink T.account O.text O.account ends.old)
+        (world_of R.seen T.sink T.account O.text O.account ends.new)
         (came salvaged.new result) }
-    ensures stands { KeepsStanding job.now.plan.dry (T.sink tree.old) (T.sink tree.new) result }
+    ensures stands { KeepsStanding job.now.plan.dry (T.sink ends.old.tree.now) (T.sink ends.new.tree.now) result }
     ensures flat { entry.now.deep ≡ true → IsOver result }
+    ensures same { SameEnds ends.old ends.new }
 {
     let rules = rules_of(&job.plan);
-    match decide(&rules, entry, rack, vol) {
-        Err(fault) => miss(fault, entry.path, salvaged, out),
-        Ok(decision) => treat_decided(job, entry, decision, salvaged, rack, vol, tree, out),
+    match decide(&rules, entry, ends.rack, ends.vol) {
+        Err(fault) => miss(fault, entry.path, salvaged, ends.out),
+        Ok(decision) => treat_decided(job, entry, decision, salvaged, ends),
     }
 }

@@ -53,7 +53,7 @@ pub(crate) fn finish_file<T: TreeSink>(tree: &mut T) -> Result<(), Stop>
     }
 }
 
-// WritesPieces a command, or the header.
+// Writes a command, or the header.
 fn put_bytes<T: TreeSink>(bytes: &[u8], tree: &mut T) -> Result<(), Stop>
     requires begun { (T.sink tree.old).stage ≡ InFile }
     requires some { bytes.now ≢ [] }
@@ -66,7 +66,7 @@ fn put_bytes<T: TreeSink>(bytes: &[u8], tree: &mut T) -> Result<(), Stop>
     }
 }
 
-/// WritesPieces the header.
+/// Writes the header.
 pub(crate) fn put_header<T: TreeSink>(tree: &mut T) -> Result<(), Stop>
     requires begun { (T.sink tree.old).stage ≡ InFile }
     ensures wrote { WroteIn (tells header (Return tt)) T.sink T.account tree.old tree.new result }
@@ -75,7 +75,7 @@ pub(crate) fn put_header<T: TreeSink>(tree: &mut T) -> Result<(), Stop>
     put_bytes(HEADER, tree)
 }
 
-/// WritesPieces the subvolume.
+/// Writes the subvolume.
 pub(crate) fn put_subvol<T: TreeSink>(
     name: &str,
     source: &Source,

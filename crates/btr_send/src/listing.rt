@@ -3,93 +3,101 @@ ghost use Rattle.std.specs.Prelude.{◌≡◌, ◌<◌, OnOk, length, take};
 ghost use Rattle.btr_rack.specs.Sink.{InFile};
 ghost use Rattle.btr_restore.specs.Listing.{ended_with};
 ghost use Rattle.btr_volume.specs.Readable.{CanRead};
-ghost use Rattle.btr_restore.specs.Running.{RanFor, outside_of, world};
+ghost use Rattle.btr_restore.specs.Ends.{SameEnds, world_of};
+ghost use Rattle.btr_restore.specs.Running.{RanFor};
 ghost use Rattle.btr_send.specs.Listing.{entry_for, listing_for, within_for};
 
 use crate::buffer::Buffer;
 use crate::treating::treat;
-use btr_files::{Counts, Dir, DirRow, NameBuf};
+use btr_files::{Counts, Dir};
 use btr_listing::{Entry, Path};
 use btr_rack::{Out, Rack, TreeSink};
-use btr_restore::{OpenDir, Treated};
-use btr_volume::{Stop, TreeRoot, Volume};
+use btr_restore::{Endpoints, NamedRow, OpenDir, Treated};
+use btr_volume::{Stop, TreeRoot};
+
+/// A directory that is sent, and where the checksums of its files' data stand.
+#[derive(Clone, Copy)]
+pub(crate) struct SentDir {
+    pub(crate) sums: Option<TreeRoot>,
+    pub(crate) tree: TreeRoot,
+    pub(crate) dirid: u64,
+}
+
+/// Memory that is taken once: for the path of an entry, and for a command.
+#[derive(Drop)]
+pub(crate) struct Scratch {
+    pub(crate) path: Path,
+    pub(crate) buffer: Buffer,
+}
 
 // What is in a directory that was entered. The first of `dirs` is its own.
 #[cycle(listing)]
 fn list_within<R: Rack, T: TreeSink, O: Out>(
-    sums: Option<TreeRoot>,
-    inner: TreeRoot,
-    dirid: u64,
+    dir: &SentDir,
     dirs: &mut [OpenDir],
-    path: &mut Path,
-    buffer: &mut Buffer,
+    scratch: &mut Scratch,
     counts: &mut Counts,
-    rack: &mut R,
-    vol: &mut Volume,
-    tree: &mut T,
-    out: &mut O,
+    ends: &mut Endpoints<'_, '_, R, T, O>,
 ) -> Result<(), Stop>
-    requires ready { CanRead 6 (R.seen rack.old) vol.old }
-    requires begun { (T.sink tree.old).stage ≡ InFile }
+    requires ready { CanRead 6 (R.seen ends.old.rack.now) ends.old.vol.now }
+    requires begun { (T.sink ends.old.tree.now).stage ≡ InFile }
     requires some { 0 < length dirs.old }
-    ensures ran { RanFor (within_for sums (length dirs.old) path.old inner dirid counts.old)
-        (world (R.seen rack.old) vol.old (outside_of T.sink T.account O.text O.account tree.old out.old))
-        (world (R.seen rack.new) vol.new (outside_of T.sink T.account O.text O.account tree.new out.new))
+    ensures ran { RanFor (within_for dir.now.sums (length dirs.old) scratch.old.path dir.now.tree dir.now.dirid counts.old)
+        (world_of R.seen T.sink T.account O.text O.account ends.old)
+        (world_of R.seen T.sink T.account O.text O.account ends.new)
         (ended_with counts.new result) }
-    ensures path { OnOk result (path.new ≡ path.old) }
-    ensures stage { (T.sink tree.new).stage ≡ InFile }
+    ensures path { OnOk result (scratch.new.path ≡ scratch.old.path) }
+    ensures stage { (T.sink ends.new.tree.now).stage ≡ InFile }
+    ensures same { SameEnds ends.old ends.new }
 {
     let Some((here, below)) = dirs.split_first_mut() else {
         unreachable!();
     };
-    list(
-        sums, inner, dirid, here, below, path, buffer, counts, rack, vol, tree, out,
-    )
+    list(dir, here, below, scratch, counts, ends)
 }
 
 // An entry of a directory, and what is in it. There is a place below for each that may be entered.
 #[cycle(listing)]
 fn list_entry<R: Rack, T: TreeSink, O: Out>(
-    sums: Option<TreeRoot>,
-    root: &TreeRoot,
-    dirid: u64,
-    row: DirRow,
-    name: &NameBuf,
+    dir: &SentDir,
+    named: &NamedRow<'_>,
     below: &mut [OpenDir],
-    path: &mut Path,
-    buffer: &mut Buffer,
+    scratch: &mut Scratch,
     counts: &mut Counts,
-    rack: &mut R,
-    vol: &mut Volume,
-    tree: &mut T,
-    out: &mut O,
+    ends: &mut Endpoints<'_, '_, R, T, O>,
 ) -> Result<(), Stop>
-    requires ready { CanRead 6 (R.seen rack.old) vol.old }
-    requires begun { (T.sink tree.old).stage ≡ InFile }
-    ensures ran { RanFor (entry_for sums (length below.old) root.now dirid path.old counts.old row name.now)
-        (world (R.seen rack.old) vol.old (outside_of T.sink T.account O.text O.account tree.old out.old))
-        (world (R.seen rack.new) vol.new (outside_of T.sink T.account O.text O.account tree.new out.new))
+    requires ready { CanRead 6 (R.seen ends.old.rack.now) ends.old.vol.now }
+    requires begun { (T.sink ends.old.tree.now).stage ≡ InFile }
+    ensures ran { RanFor (entry_for dir.now.sums (length below.old) dir.now.tree dir.now.dirid scratch.old.path counts.old named.now.row named.now.name.now)
+        (world_of R.seen T.sink T.account O.text O.account ends.old)
+        (world_of R.seen T.sink T.account O.text O.account ends.new)
         (ended_with counts.new result) }
-    ensures path { OnOk result (take (length path.old) path.new ≡ path.old) }
-    ensures stage { (T.sink tree.new).stage ≡ InFile }
+    ensures path { OnOk result (take (length scratch.old.path) scratch.new.path ≡ scratch.old.path) }
+    ensures stage { (T.sink ends.new.tree.now).stage ≡ InFile }
+    ensures same { SameEnds ends.old ends.new }
 {
-    match path.push(name.as_bytes()) {
+    match scratch.path.push(named.name.as_bytes()) {
         Ok(()) => {}
         Err(_) => return Err(Stop::Memory),
     }
     let entry = Entry {
-        tree: *root,
-        dirid,
+        tree: dir.tree,
+        dirid: dir.dirid,
         deep: below.is_empty(),
-        row,
-        name,
-        path: path.as_bytes(),
+        row: named.row,
+        name: named.name,
+        path: scratch.path.as_bytes(),
     };
-    match treat(sums, &entry, buffer, counts, rack, vol, tree, out)? {
+    match treat(dir.sums, &entry, &mut scratch.buffer, counts, ends)? {
         Treated::Over => Ok(()),
-        Treated::Within { tree: inner, dirid } => list_within(
-            sums, inner, dirid, below, path, buffer, counts, rack, vol, tree, out,
-        ),
+        Treated::Within { tree, dirid } => {
+            let inner = SentDir {
+                sums: dir.sums,
+                tree,
+                dirid,
+            };
+            list_within(&inner, below, scratch, counts, ends)
+        }
     }
 }
 
@@ -97,40 +105,36 @@ fn list_entry<R: Rack, T: TreeSink, O: Out>(
 /// `below` for each directory that may be entered.
 #[cycle(listing)]
 pub(crate) fn list<R: Rack, T: TreeSink, O: Out>(
-    sums: Option<TreeRoot>,
-    root: TreeRoot,
-    dirid: u64,
+    dir: &SentDir,
     here: &mut OpenDir,
     below: &mut [OpenDir],
-    path: &mut Path,
-    buffer: &mut Buffer,
+    scratch: &mut Scratch,
     counts: &mut Counts,
-    rack: &mut R,
-    vol: &mut Volume,
-    tree: &mut T,
-    out: &mut O,
+    ends: &mut Endpoints<'_, '_, R, T, O>,
 ) -> Result<(), Stop>
-    requires ready { CanRead 6 (R.seen rack.old) vol.old }
-    requires begun { (T.sink tree.old).stage ≡ InFile }
-    ensures ran { RanFor (listing_for sums (length below.old) root dirid path.old counts.old)
-        (world (R.seen rack.old) vol.old (outside_of T.sink T.account O.text O.account tree.old out.old))
-        (world (R.seen rack.new) vol.new (outside_of T.sink T.account O.text O.account tree.new out.new))
+    requires ready { CanRead 6 (R.seen ends.old.rack.now) ends.old.vol.now }
+    requires begun { (T.sink ends.old.tree.now).stage ≡ InFile }
+    ensures ran { RanFor (listing_for dir.now.sums (length below.old) dir.now.tree dir.now.dirid scratch.old.path counts.old)
+        (world_of R.seen T.sink T.account O.text O.account ends.old)
+        (world_of R.seen T.sink T.account O.text O.account ends.new)
         (ended_with counts.new result) }
-    ensures path { OnOk result (path.new ≡ path.old) }
-    ensures stage { (T.sink tree.new).stage ≡ InFile }
+    ensures path { OnOk result (scratch.new.path ≡ scratch.old.path) }
+    ensures stage { (T.sink ends.new.tree.now).stage ≡ InFile }
+    ensures same { SameEnds ends.old ends.new }
 {
-    here.dir = Dir::new(root, dirid);
-    let len = path.len();
+    here.dir = Dir::new(dir.tree, dir.dirid);
+    let len = scratch.path.len();
     loop {
-        match here.dir.next(rack, vol, &mut here.name) {
+        match here.dir.next(ends.rack, ends.vol, &mut here.name) {
             Err(fault) => return Err(Stop::Tree(fault)),
             Ok(None) => return Ok(()),
             Ok(Some(row)) => {
-                list_entry(
-                    sums, &root, dirid, row, &here.name, below, path, buffer, counts, rack, vol,
-                    tree, out,
-                )?;
-                path.cut(len);
+                let named = NamedRow {
+                    row,
+                    name: &here.name,
+                };
+                list_entry(dir, &named, below, scratch, counts, ends)?;
+                scratch.path.cut(len);
             }
         }
     }

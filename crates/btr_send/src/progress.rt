@@ -6,3 +6,10 @@ pub(crate) struct Progress {
     /// Some sector was read without a checksum.
     pub(crate) plain: bool,
 }
+
+/// A file of a path, and how much of it was sent.
+#[derive(Clone, Copy)]
+pub(crate) struct SentFile<'a> {
+    pub(crate) path: &'a [u8],
+    pub(crate) sent: Progress,
+}

@@ -3,7 +3,8 @@ ghost use Rattle.std.specs.Prelude.{◌≡◌, ◌≢◌, IfErr, OnOk, [], false
 ghost use Rattle.btr_rack.specs.Sink.{NotStarted, InFile};
 ghost use Rattle.btr_restore.specs.Restoring.{Settles};
 ghost use Rattle.btr_volume.specs.Readable.{CanRead};
-ghost use Rattle.btr_restore.specs.Running.{Ran, RanFor, Wrote, outside_of, world, WroteIn};
+ghost use Rattle.btr_restore.specs.Ends.{SameEnds, world_of};
+ghost use Rattle.btr_restore.specs.Running.{Ran, RanFor, Wrote, WroteIn, outside_of, world};
 ghost use Rattle.btr_volume.specs.Lookup.{looks};
 ghost use Rattle.btr_volume.specs.Tree.{tree_of};
 ghost use Rattle.btr_send.specs.Names.{IsStreamName};
@@ -11,13 +12,13 @@ ghost use Rattle.btr_send.specs.Sending.{ended, opened, sending, sent, sent_belo
 
 use crate::buffer::Buffer;
 use crate::commands::{begin_file, finish_file, put_end, put_header, put_subvol, start_in};
-use crate::listing::list;
-use crate::plan::SendPlan;
+use crate::listing::{Scratch, SentDir, list};
+use crate::plan::{SendPlan, Target};
 use crate::source::{Source, find_source};
 use btr_files::Counts;
 use btr_listing::Path;
 use btr_rack::{Out, Rack, TreeSink};
-use btr_restore::{OpenDir, find_tree, free_dirs, store_waiting, tell_counts};
+use btr_restore::{Endpoints, OpenDir, find_tree, free_dirs, store_waiting, tell_counts};
 use btr_volume::{Stop, TreeRoot, Volume};
 use std::alloc::Global;
 
@@ -65,21 +66,18 @@ fn send_below<R: Rack, T: TreeSink, O: Out>(
     source: &Source,
     sums: Option<TreeRoot>,
     dirs: &mut [OpenDir],
-    path: &mut Path,
-    buffer: &mut Buffer,
-    rack: &mut R,
-    vol: &mut Volume,
-    tree: &mut T,
-    out: &mut O,
+    scratch: &mut Scratch,
+    ends: &mut Endpoints<'_, '_, R, T, O>,
 ) -> Result<Counts, Stop>
-    requires ready { CanRead 6 (R.seen rack.old) vol.old }
-    requires begun { (T.sink tree.old).stage ≡ InFile }
+    requires ready { CanRead 6 (R.seen ends.old.rack.now) ends.old.vol.now }
+    requires begun { (T.sink ends.old.tree.now).stage ≡ InFile }
     requires dirs { length dirs.old ≡ 513 }
-    requires path { path.old ≡ [] }
-    ensures { RanFor (λ s. sent_below s source.now sums)
-        (world (R.seen rack.old) vol.old (outside_of T.sink T.account O.text O.account tree.old out.old))
-        (world (R.seen rack.new) vol.new (outside_of T.sink T.account O.text O.account tree.new out.new))
+    requires path { scratch.old.path ≡ [] }
+    ensures ran { RanFor (λ s. sent_below s source.now sums)
+        (world_of R.seen T.sink T.account O.text O.account ends.old)
+        (world_of R.seen T.sink T.account O.text O.account ends.new)
         result }
+    ensures same { SameEnds ends.old ends.new }
 {
     let mut counts = Counts {
         dirs: 0,
@@ -89,78 +87,66 @@ fn send_below<R: Rack, T: TreeSink, O: Out>(
     let Some((here, below)) = dirs.split_first_mut() else {
         unreachable!();
     };
-    list(
+    let top = SentDir {
         sums,
-        source.root,
-        source.root.dirid,
-        here,
-        below,
-        path,
-        buffer,
-        &mut counts,
-        rack,
-        vol,
-        tree,
-        out,
-    )?;
-    finish(&counts, buffer, tree, out)
+        tree: source.root,
+        dirid: source.root.dirid,
+    };
+    list(&top, here, below, scratch, &mut counts, ends)?;
+    finish(&counts, &mut scratch.buffer, ends.tree, ends.out)
 }
 
 // A subvolume as one file of the destination.
 fn send_source<R: Rack, T: TreeSink, O: Out>(
-    dest: &str,
-    name: &str,
+    target: &Target<'_>,
     source: &Source,
     sums: Option<TreeRoot>,
     dirs: &mut [OpenDir],
-    path: &mut Path,
-    buffer: &mut Buffer,
-    rack: &mut R,
-    vol: &mut Volume,
-    tree: &mut T,
-    out: &mut O,
+    scratch: &mut Scratch,
+    ends: &mut Endpoints<'_, '_, R, T, O>,
 ) -> Result<Counts, Stop>
-    requires ready { CanRead 6 (R.seen rack.old) vol.old }
-    requires fresh { (T.sink tree.old).stage ≡ NotStarted }
-    requires good { IsStreamName name.now }
+    requires ready { CanRead 6 (R.seen ends.old.rack.now) ends.old.vol.now }
+    requires fresh { (T.sink ends.old.tree.now).stage ≡ NotStarted }
+    requires good { IsStreamName target.now.name.now }
     requires dirs { length dirs.old ≡ 513 }
-    requires path { path.old ≡ [] }
-    ensures { RanFor (λ s. sent dest.now name.now s source.now sums)
-        (world (R.seen rack.old) vol.old (outside_of T.sink T.account O.text O.account tree.old out.old))
-        (world (R.seen rack.new) vol.new (outside_of T.sink T.account O.text O.account tree.new out.new))
+    requires path { scratch.old.path ≡ [] }
+    ensures ran { RanFor (λ s. sent target.now.dest.now target.now.name.now s source.now sums)
+        (world_of R.seen T.sink T.account O.text O.account ends.old)
+        (world_of R.seen T.sink T.account O.text O.account ends.new)
         result }
+    ensures same { SameEnds ends.old ends.new }
 {
-    begin(dest, name, source, buffer, tree)?;
-    send_below(source, sums, dirs, path, buffer, rack, vol, tree, out)
+    begin(
+        target.dest,
+        target.name,
+        source,
+        &mut scratch.buffer,
+        ends.tree,
+    )?;
+    send_below(source, sums, dirs, scratch, ends)
 }
 
 // A subvolume, once its checksums are found.
 fn send_found<R: Rack, T: TreeSink, O: Out>(
-    dest: &str,
-    name: &str,
+    target: &Target<'_>,
     source: &Source,
     dirs: &mut [OpenDir],
-    path: &mut Path,
-    buffer: &mut Buffer,
-    rack: &mut R,
-    vol: &mut Volume,
-    tree: &mut T,
-    out: &mut O,
+    scratch: &mut Scratch,
+    ends: &mut Endpoints<'_, '_, R, T, O>,
 ) -> Result<Counts, Stop>
-    requires ready { CanRead 6 (R.seen rack.old) vol.old }
-    requires fresh { (T.sink tree.old).stage ≡ NotStarted }
-    requires good { IsStreamName name.now }
+    requires ready { CanRead 6 (R.seen ends.old.rack.now) ends.old.vol.now }
+    requires fresh { (T.sink ends.old.tree.now).stage ≡ NotStarted }
+    requires good { IsStreamName target.now.name.now }
     requires dirs { length dirs.old ≡ 513 }
-    requires path { path.old ≡ [] }
-    ensures { RanFor (λ s. looks (tree_of s 7) (sent dest.now name.now s source.now))
-        (world (R.seen rack.old) vol.old (outside_of T.sink T.account O.text O.account tree.old out.old))
-        (world (R.seen rack.new) vol.new (outside_of T.sink T.account O.text O.account tree.new out.new))
+    requires path { scratch.old.path ≡ [] }
+    ensures ran { RanFor (λ s. looks (tree_of s 7) (sent target.now.dest.now target.now.name.now s source.now))
+        (world_of R.seen T.sink T.account O.text O.account ends.old)
+        (world_of R.seen T.sink T.account O.text O.account ends.new)
         result }
+    ensures same { SameEnds ends.old ends.new }
 {
-    let sums = find_tree(SUM_TREE, rack, vol)?;
-    send_source(
-        dest, name, source, sums, dirs, path, buffer, rack, vol, tree, out,
-    )
+    let sums = find_tree(SUM_TREE, ends.rack, ends.vol)?;
+    send_source(target, source, sums, dirs, scratch, ends)
 }
 
 // Sends the subvolume of a plan. What waits in the sink then isn't stored yet.
@@ -169,24 +155,22 @@ fn send_unsettled<R: Rack, T: TreeSink, O: Out>(
     plan: &SendPlan,
     dest: &str,
     name: &str,
-    rack: &mut R,
-    vol: &mut Volume,
-    tree: &mut T,
-    out: &mut O,
+    ends: &mut Endpoints<'_, '_, R, T, O>,
 ) -> Result<Counts, Stop>
-    requires ready { CanRead 6 (R.seen rack.old) vol.old }
-    requires fresh { (T.sink tree.old).stage ≡ NotStarted }
+    requires ready { CanRead 6 (R.seen ends.old.rack.now) ends.old.vol.now }
+    requires fresh { (T.sink ends.old.tree.now).stage ≡ NotStarted }
     requires good { IsStreamName name.now }
-    ensures { Ran (sending dest.now name.now vol.old.sup plan.now)
-        (world (R.seen rack.old) vol.old (outside_of T.sink T.account O.text O.account tree.old out.old))
-        (world (R.seen rack.new) vol.new (outside_of T.sink T.account O.text O.account tree.new out.new))
+    ensures ran { Ran (sending dest.now name.now ends.old.vol.now.sup plan.now)
+        (world_of R.seen T.sink T.account O.text O.account ends.old)
+        (world_of R.seen T.sink T.account O.text O.account ends.new)
         result }
+    ensures same { SameEnds ends.old ends.new }
 {
-    let mut path = match Path::new(alloc) {
+    let path = match Path::new(alloc) {
         Ok(path) => path,
         Err(_) => return Err(Stop::Memory),
     };
-    let mut buffer = match Buffer::new(alloc) {
+    let buffer = match Buffer::new(alloc) {
         Ok(buffer) => buffer,
         Err(_) => return Err(Stop::Memory),
     };
@@ -194,23 +178,38 @@ fn send_unsettled<R: Rack, T: TreeSink, O: Out>(
         Ok(dirs) => dirs,
         Err(_) => return Err(Stop::Memory),
     };
-    match find_source(plan.root, rack, vol)? {
+    match find_source(plan.root, ends.rack, ends.vol)? {
         None => Err(Stop::NoTree(plan.root)),
         Some(source) => {
+            let target = Target { dest, name };
+            let mut scratch = Scratch { path, buffer };
             let dirs = dirs.as_mut_slice();
-            send_found(
-                dest,
-                name,
-                &source,
-                dirs,
-                &mut path,
-                &mut buffer,
-                rack,
-                vol,
-                tree,
-                out,
-            )
+            send_found(&target, &source, dirs, &mut scratch, ends)
         }
+    }
+}
+
+// Sends the subvolume of a plan, and stores what waits in the sink before another stop than the sink's own.
+fn send_settled<R: Rack, T: TreeSink, O: Out>(
+    alloc: Global,
+    plan: &SendPlan,
+    dest: &str,
+    name: &str,
+    ends: &mut Endpoints<'_, '_, R, T, O>,
+) -> Result<Counts, Stop>
+    requires ready { CanRead 6 (R.seen ends.old.rack.now) ends.old.vol.now }
+    requires fresh { (T.sink ends.old.tree.now).stage ≡ NotStarted }
+    requires good { IsStreamName name.now }
+    ensures ran { Ran (sending dest.now name.now ends.old.vol.now.sup plan.now)
+        (world_of R.seen T.sink T.account O.text O.account ends.old)
+        (world_of R.seen T.sink T.account O.text O.account ends.new)
+        result }
+    ensures stored { IfErr result (λ stop. stop ≢ Stop.Sink → T.waits ends.new.tree.now ≡ false) }
+    ensures same { SameEnds ends.old ends.new }
+{
+    match send_unsettled(alloc, plan, dest, name, ends) {
+        Ok(counts) => Ok(counts),
+        Err(stop) => Err(store_waiting(stop, ends.tree)),
     }
 }
 
@@ -243,8 +242,11 @@ pub fn send<R: Rack, T: TreeSink, O: Out>(
         result }
     ensures stored { IfErr result (λ stop. stop ≢ Stop.Sink → T.waits tree.new ≡ false) }
 {
-    match send_unsettled(alloc, plan, dest, name, rack, vol, tree, out) {
-        Ok(counts) => Ok(counts),
-        Err(stop) => Err(store_waiting(stop, tree)),
-    }
+    let mut ends = Endpoints {
+        rack,
+        vol,
+        tree,
+        out,
+    };
+    send_settled(alloc, plan, dest, name, &mut ends)
 }

@@ -33,7 +33,7 @@ impl SectorShift {
     }
 
     // The register behind a sector of zeros.
-    fn behind_zeros(&self, reg: u32) -> u32
+    fn append_zeros(&self, reg: u32) -> u32
         ensures { result ≡ shifted_by 32768 reg }
     {
         let mut sum = 0;
@@ -50,6 +50,6 @@ impl SectorShift {
         ensures { (bytes : List ℕ) → ((i : ℕ) → slice_index bytes i < 2 ^ 8) → length bytes ≡ 4096 → crc ≡ crc32c bytes
             → result ≡ register reg bytes }
     {
-        self.behind_zeros(reg ^ u32::MAX) ^ !crc
+        self.append_zeros(reg ^ u32::MAX) ^ !crc
     }
 }

@@ -10,12 +10,22 @@ ghost use Rattle.btr_restore.specs.Writing.{WritesNext, WritesRest};
 
 use crate::buffer::Buffer;
 use crate::commands::{behind, put_writes};
-use crate::progress::Progress;
+use crate::progress::{Progress, SentFile};
 use btr_files::{FileBytes, Piece, next_piece};
 use btr_items::Inode;
 use btr_rack::{Rack, TreeSink};
 use btr_restore::{has_no_sums, is_plain};
 use btr_volume::{Stop, TreeRoot, Volume};
+
+/// A file that is to be sent: where its inode and its checksums stand.
+#[derive(Clone, Copy)]
+pub(crate) struct FileToSend<'a> {
+    pub(crate) path: &'a [u8],
+    pub(crate) tree: TreeRoot,
+    pub(crate) ino: u64,
+    pub(crate) inode: &'a Inode,
+    pub(crate) sums: Option<TreeRoot>,
+}
 
 // Writes a piece of a file, behind those before it.
 fn put_piece<T: TreeSink>(
@@ -54,9 +64,8 @@ fn put_piece<T: TreeSink>(
 
 // Gives the next piece of a file, and puts it: how much was sent then, or `None` exactly after the last.
 fn put_next<R: Rack, T: TreeSink>(
-    path: &[u8],
+    so_far: &SentFile<'_>,
     file: &mut FileBytes,
-    now: Progress,
     buffer: &mut Buffer,
     rack: &mut R,
     vol: &mut Volume,
@@ -65,8 +74,8 @@ fn put_next<R: Rack, T: TreeSink>(
     requires ready { IsReading (R.seen rack.old) vol.old.store file.old }
     requires room { 5 ≤ free_count (without_file vol.old.store file.old) }
     requires begun { (T.sink tree.old).stage ≡ InFile }
-    requires short { length path.now ≤ 4096 }
-    ensures writes { WritesNext (put path.now) now file.old file.new
+    requires short { length so_far.now.path.now ≤ 4096 }
+    ensures writes { WritesNext (put so_far.now.path.now) so_far.now.sent file.old file.new
         (beside R.seen T.sink T.account rack.old vol.old tree.old)
         (beside R.seen T.sink T.account rack.new vol.new tree.new) result }
     ensures ready { IsReading (R.seen rack.new) vol.new.store file.new }
@@ -77,7 +86,7 @@ fn put_next<R: Rack, T: TreeSink>(
     match next_piece(vol, file, rack) {
         Err(fault) => Err(Stop::Tree(fault)),
         Ok(None) => Ok(None),
-        Ok(Some(piece)) => match put_piece(path, now, piece, buffer, tree) {
+        Ok(Some(piece)) => match put_piece(so_far.path, so_far.sent, piece, buffer, tree) {
             Ok(after) => Ok(Some(after)),
             Err(stop) => Err(stop),
         },
@@ -108,7 +117,8 @@ fn put_pieces<R: Rack, T: TreeSink>(
         plain: false,
     };
     loop {
-        match put_next(path, file, now, buffer, rack, vol, tree) {
+        let so_far = SentFile { path, sent: now };
+        match put_next(&so_far, file, buffer, rack, vol, tree) {
             Err(stop) => return Err(stop),
             Ok(None) => return Ok(now),
             Ok(Some(after)) => now = after,
@@ -118,11 +128,7 @@ fn put_pieces<R: Rack, T: TreeSink>(
 
 /// Writes the bytes of a file, by its inode. Answers how much was sent.
 pub(crate) fn write_bytes<R: Rack, T: TreeSink>(
-    sums: Option<TreeRoot>,
-    root: &TreeRoot,
-    ino: u64,
-    path: &[u8],
-    inode: &Inode,
+    which: &FileToSend<'_>,
     buffer: &mut Buffer,
     rack: &mut R,
     vol: &mut Volume,
@@ -130,15 +136,15 @@ pub(crate) fn write_bytes<R: Rack, T: TreeSink>(
 ) -> Result<Progress, Stop>
     requires ready { CanRead 6 (R.seen rack.old) vol.old }
     requires begun { (T.sink tree.old).stage ≡ InFile }
-    requires short { length path.now ≤ 4096 }
-    ensures ran { RanBeside vol.old.sup (λ s. pieces s sums root.now ino path.now inode.now)
+    requires short { length which.now.path.now ≤ 4096 }
+    ensures ran { RanBeside vol.old.sup (λ s. pieces s which.now.sums which.now.tree which.now.ino which.now.path.now which.now.inode.now)
         (beside R.seen T.sink T.account rack.old vol.old tree.old)
         (beside R.seen T.sink T.account rack.new vol.new tree.new) result }
     ensures stage { (T.sink tree.new).stage ≡ InFile }
 {
-    let nosum = has_no_sums(inode);
-    let mut file = FileBytes::new(*root, ino, inode.size, nosum, sums);
-    let sent = put_pieces(path, &mut file, buffer, rack, vol, tree);
+    let nosum = has_no_sums(which.inode);
+    let mut file = FileBytes::new(which.tree, which.ino, which.inode.size, nosum, which.sums);
+    let sent = put_pieces(which.path, &mut file, buffer, rack, vol, tree);
     file.finish(vol);
     sent
 }

@@ -16,4 +16,4 @@ returns-in-Empty-clause-ran g c s e = done_empty c.args.job.now c.args.entry.now
 
 pub returns-in-Folder-clause-ran : goal.returns-in-Folder-clause-ran
 returns-in-Folder-clause-ran g c s e = done_folder c.args.job.now c.args.entry.now c.args.counts.now s _ _ _ _ _ c.name_of-name-in-Folder.ensures
-    c.in-Folder.inner c.in-Folder.dirid c.in-Folder.is (ran_wrote _ _ _ _ _ _ c.requires.ready c.enter.ensures.wrote)
+    c.in-Folder.tree c.in-Folder.dirid c.in-Folder.is (ran_wrote _ _ _ _ _ _ c.requires.ready c.enter.ensures.wrote)

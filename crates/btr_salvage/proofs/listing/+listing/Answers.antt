@@ -4,7 +4,8 @@ use Rattle.btr_volume.specs.declared.stop.Stop.TheVariants.{Tree}
 use Rattle.btr_files.specs.Listing.{named_row}
 use Rattle.btr_listing.specs.Deciding.{met_in}
 use Rattle.btr_listing.specs.Lines.{path_in}
-use Rattle.btr_restore.specs.Running.{Wrote, outside, world}
+use Rattle.btr_restore.specs.Ends.{world_of}
+use Rattle.btr_restore.specs.Running.{Wrote, outside, outside_of, world}
 use Rattle.btr_restore.specs.declared.treated.Treated.{Treated}
 use Rattle.btr_restore.proofs.Cycles.{deep_is, room_above, room_below, room_left, room_within, some_place, stands_over, stands_up, stands_within}
 use Rattle.btr_volume.proofs.Onward.{reads_on}
@@ -25,72 +26,75 @@ use Rattle.btr_salvage.proofs.Rans.{ran_memory, ran_passed, ran_value, ran_write
 use Rattle.btr_salvage.proofs.listing.+listing.Goals as goal
 
 pub list-loop-fault-init : goal.list-loop-fault-init
-list-loop-fault-init g t c = record {
-  ready = c.requires.ready;
-  reads_on = c.new-here.ensures.folder;
-  same_path = refl;
-  same_below = refl;
-  stands = λ n h. h;
-  listed = λ s e. listed_first (meet_in c.args.job.now.plan s c.args.job.now.sums (length c.args.below.now) c.args.root c.args.dirid c.args.path.now)
-      (world (g.R.Rack.seen c.args.rack.now) c.args.vol.now (outside (g.T.TreeSink.sink c.args.tree.now) (g.T.TreeSink.account c.args.tree.now)
-      (g.O.Out.text c.args.out.now) (g.O.Out.account c.args.out.now))) c.args.salvaged.now c.new-here.result
-      (folder_tour c.args.root c.args.dirid) c.requires.ready c.new-here.ensures.program c.new-here.ensures.on;
-}
+list-loop-fault-init g t c = (
+  record { rack = refl; vol = refl; tree = refl; out = refl },
+  record {
+    ready = c.requires.ready;
+    reads_on = c.new-here.ensures.folder;
+    same_path = refl;
+    same_below = refl;
+    stands = λ n h. h;
+    listed = λ s e. listed_first (meet_in c.args.dir.now.job.now.plan s c.args.dir.now.job.now.sums (length c.args.below.now) c.args.dir.now.tree
+        c.args.dir.now.dirid c.args.path.now)
+        (world_of g.R.Rack.seen g.T.TreeSink.sink g.T.TreeSink.account g.O.Out.text g.O.Out.account c.args.ends.now) c.args.salvaged.now c.new-here.result
+        (folder_tour c.args.dir.now.tree c.args.dir.now.dirid) c.requires.ready c.new-here.ensures.program c.new-here.ensures.on;
+  },
+)
 
 pub list-next-requires-clause-serves : goal.list-next-requires-clause-serves
-list-next-requires-clause-serves g t c = c.loop-fault.invariant.ready.serves
+list-next-requires-clause-serves g t c = c.loop-fault.invariant.1.ready.serves
 
 pub list-next-requires-clause-room : goal.list-next-requires-clause-room
-list-next-requires-clause-room g t c = omega (arith, c.loop-fault.invariant.ready.room)
+list-next-requires-clause-room g t c = omega (arith, c.loop-fault.invariant.1.ready.room)
 
 pub list-next-requires-clause-folder : goal.list-next-requires-clause-folder
-list-next-requires-clause-folder g t c = c.loop-fault.invariant.reads_on
+list-next-requires-clause-folder g t c = c.loop-fault.invariant.1.reads_on
 
 pub list-returns-in-Err-clause-ran : goal.list-returns-in-Err-clause-ran
 list-returns-in-Err-clause-ran g t c s e =
-    subst (λ (p : Attempt Salvaged). Ran p (world (g.R.Rack.seen c.args.rack.now) c.args.vol.now
-    (outside (g.T.TreeSink.sink c.args.tree.now) (g.T.TreeSink.account c.args.tree.now) (g.O.Out.text c.args.out.now) (g.O.Out.account c.args.out.now)))
-    (world (g.R.Rack.seen c.next.new.rack) c.next.new.vol (outside (g.T.TreeSink.sink c.loop-fault.tree) (g.T.TreeSink.account c.loop-fault.tree)
-    (g.O.Out.text c.loop-fault.out) (g.O.Out.account c.loop-fault.out))) (Err (Tree c.in-Err.fault)))
-    (directory_is c.args.job.now.plan s c.args.job.now.sums (length c.args.below.now) c.args.root c.args.dirid c.args.path.now c.args.salvaged.now)
-    (listed_fault (meet_in c.args.job.now.plan s c.args.job.now.sums (length c.args.below.now) c.args.root c.args.dirid c.args.path.now)
-    (world (g.R.Rack.seen c.args.rack.now) c.args.vol.now (outside (g.T.TreeSink.sink c.args.tree.now) (g.T.TreeSink.account c.args.tree.now)
-    (g.O.Out.text c.args.out.now) (g.O.Out.account c.args.out.now)))
-    (treat_each (by_mark (meet_in c.args.job.now.plan s c.args.job.now.sums (length c.args.below.now) c.args.root c.args.dirid c.args.path.now))
-    c.args.salvaged.now (folder_tour c.args.root c.args.dirid)) (world (g.R.Rack.seen c.loop-fault.rack) c.loop-fault.vol
-    (outside (g.T.TreeSink.sink c.loop-fault.tree) (g.T.TreeSink.account c.loop-fault.tree) (g.O.Out.text c.loop-fault.out)
-    (g.O.Out.account c.loop-fault.out))) c.loop-fault.salvaged c.loop-fault.here.folder c.next.new.self c.next.new.name
-    (g.R.Rack.seen c.next.new.rack) c.next.new.vol (c.loop-fault.invariant.listed s e) c.in-Err.ensures.reads c.in-Err.ensures.volume
-    (reads_on _ _ _ c.loop-fault.invariant.ready c.in-Err.ensures.serves c.in-Err.ensures.volume) c.in-Err.fault c.in-Err.ensures.cause
+    subst (λ (p : Attempt Salvaged). Ran p (world_of g.R.Rack.seen g.T.TreeSink.sink g.T.TreeSink.account g.O.Out.text g.O.Out.account c.args.ends.now)
+    (world (g.R.Rack.seen c.next.new.rack) c.next.new.vol (outside_of g.T.TreeSink.sink g.T.TreeSink.account g.O.Out.text g.O.Out.account
+    c.loop-fault.ends.tree.now c.loop-fault.ends.out.now)) (Err (Tree c.in-Err.fault)))
+    (directory_is c.args.dir.now.job.now.plan s c.args.dir.now.job.now.sums (length c.args.below.now) c.args.dir.now.tree c.args.dir.now.dirid
+    c.args.path.now c.args.salvaged.now)
+    (listed_fault (meet_in c.args.dir.now.job.now.plan s c.args.dir.now.job.now.sums (length c.args.below.now) c.args.dir.now.tree c.args.dir.now.dirid
+    c.args.path.now)
+    (world_of g.R.Rack.seen g.T.TreeSink.sink g.T.TreeSink.account g.O.Out.text g.O.Out.account c.args.ends.now)
+    (treat_each (by_mark (meet_in c.args.dir.now.job.now.plan s c.args.dir.now.job.now.sums (length c.args.below.now) c.args.dir.now.tree
+    c.args.dir.now.dirid c.args.path.now))
+    c.args.salvaged.now (folder_tour c.args.dir.now.tree c.args.dir.now.dirid)) (world_of g.R.Rack.seen g.T.TreeSink.sink g.T.TreeSink.account g.O.Out.text
+    g.O.Out.account c.loop-fault.ends) c.loop-fault.salvaged c.loop-fault.here.folder c.next.new.self c.next.new.name
+    (g.R.Rack.seen c.next.new.rack) c.next.new.vol (c.loop-fault.invariant.1.listed s e) c.in-Err.ensures.reads c.in-Err.ensures.volume
+    (reads_on _ _ _ c.loop-fault.invariant.1.ready c.in-Err.ensures.serves c.in-Err.ensures.volume) c.in-Err.fault c.in-Err.ensures.cause
     c.in-Err.ensures.content)
 
 pub list-returns-in-Ok-None-clause-ran : goal.list-returns-in-Ok-None-clause-ran
 list-returns-in-Ok-None-clause-ran g t c s e =
-    subst (λ (p : Attempt Salvaged). Ran p (world (g.R.Rack.seen c.args.rack.now) c.args.vol.now
-    (outside (g.T.TreeSink.sink c.args.tree.now) (g.T.TreeSink.account c.args.tree.now) (g.O.Out.text c.args.out.now) (g.O.Out.account c.args.out.now)))
-    (world (g.R.Rack.seen c.next.new.rack) c.next.new.vol (outside (g.T.TreeSink.sink c.loop-fault.tree) (g.T.TreeSink.account c.loop-fault.tree)
-    (g.O.Out.text c.loop-fault.out) (g.O.Out.account c.loop-fault.out))) (Ok c.loop-fault.salvaged))
-    (directory_is c.args.job.now.plan s c.args.job.now.sums (length c.args.below.now) c.args.root c.args.dirid c.args.path.now c.args.salvaged.now)
-    (listed_end (meet_in c.args.job.now.plan s c.args.job.now.sums (length c.args.below.now) c.args.root c.args.dirid c.args.path.now)
-    (world (g.R.Rack.seen c.args.rack.now) c.args.vol.now (outside (g.T.TreeSink.sink c.args.tree.now) (g.T.TreeSink.account c.args.tree.now)
-    (g.O.Out.text c.args.out.now) (g.O.Out.account c.args.out.now)))
-    (treat_each (by_mark (meet_in c.args.job.now.plan s c.args.job.now.sums (length c.args.below.now) c.args.root c.args.dirid c.args.path.now))
-    c.args.salvaged.now (folder_tour c.args.root c.args.dirid)) (world (g.R.Rack.seen c.loop-fault.rack) c.loop-fault.vol
-    (outside (g.T.TreeSink.sink c.loop-fault.tree) (g.T.TreeSink.account c.loop-fault.tree) (g.O.Out.text c.loop-fault.out)
-    (g.O.Out.account c.loop-fault.out))) c.loop-fault.salvaged c.loop-fault.here.folder c.next.new.self c.next.new.name
-    (g.R.Rack.seen c.next.new.rack) c.next.new.vol (c.loop-fault.invariant.listed s e) c.in-Ok-None.ensures.reads c.in-Ok-None.ensures.volume
-    (reads_on _ _ _ c.loop-fault.invariant.ready c.in-Ok-None.ensures.serves c.in-Ok-None.ensures.volume) c.next.result
+    subst (λ (p : Attempt Salvaged). Ran p (world_of g.R.Rack.seen g.T.TreeSink.sink g.T.TreeSink.account g.O.Out.text g.O.Out.account c.args.ends.now)
+    (world (g.R.Rack.seen c.next.new.rack) c.next.new.vol (outside_of g.T.TreeSink.sink g.T.TreeSink.account g.O.Out.text g.O.Out.account
+    c.loop-fault.ends.tree.now c.loop-fault.ends.out.now)) (Ok c.loop-fault.salvaged))
+    (directory_is c.args.dir.now.job.now.plan s c.args.dir.now.job.now.sums (length c.args.below.now) c.args.dir.now.tree c.args.dir.now.dirid
+    c.args.path.now c.args.salvaged.now)
+    (listed_end (meet_in c.args.dir.now.job.now.plan s c.args.dir.now.job.now.sums (length c.args.below.now) c.args.dir.now.tree c.args.dir.now.dirid
+    c.args.path.now)
+    (world_of g.R.Rack.seen g.T.TreeSink.sink g.T.TreeSink.account g.O.Out.text g.O.Out.account c.args.ends.now)
+    (treat_each (by_mark (meet_in c.args.dir.now.job.now.plan s c.args.dir.now.job.now.sums (length c.args.below.now) c.args.dir.now.tree
+    c.args.dir.now.dirid c.args.path.now))
+    c.args.salvaged.now (folder_tour c.args.dir.now.tree c.args.dir.now.dirid)) (world_of g.R.Rack.seen g.T.TreeSink.sink g.T.TreeSink.account g.O.Out.text
+    g.O.Out.account c.loop-fault.ends) c.loop-fault.salvaged c.loop-fault.here.folder c.next.new.self c.next.new.name
+    (g.R.Rack.seen c.next.new.rack) c.next.new.vol (c.loop-fault.invariant.1.listed s e) c.in-Ok-None.ensures.reads c.in-Ok-None.ensures.volume
+    (reads_on _ _ _ c.loop-fault.invariant.1.ready c.in-Ok-None.ensures.serves c.in-Ok-None.ensures.volume) c.next.result
     (c.in-Ok-None.is ∙ ap Ok c.in-Ok-None.field-0-is) c.next.ensures.content)
 
 pub list-returns-in-Ok-None-clause-path : goal.list-returns-in-Ok-None-clause-path
-list-returns-in-Ok-None-clause-path g t c = c.loop-fault.invariant.same_path
+list-returns-in-Ok-None-clause-path g t c = c.loop-fault.invariant.1.same_path
 
 pub list-returns-in-Ok-None-clause-stands : goal.list-returns-in-Ok-None-clause-stands
-list-returns-in-Ok-None-clause-stands g t c n h = c.loop-fault.invariant.stands n h
+list-returns-in-Ok-None-clause-stands g t c n h = c.loop-fault.invariant.1.stands n h
 
 pub list-list_found-requires : goal.list-list_found-requires
 list-list_found-requires g t c κs within = (
-  omega (arith, c.decreases, c.loop-fault.invariant.same_below),
+  omega (arith, c.decreases, c.loop-fault.invariant.1.same_below),
   (
     within.0,
     (
@@ -98,11 +102,12 @@ list-list_found-requires g t c κs within = (
       (
         within.1.1,
         (
-          reads_on _ _ _ c.loop-fault.invariant.ready c.in-Ok-Some.ensures.serves c.in-Ok-Some.ensures.volume,
+          reads_on _ _ _ c.loop-fault.invariant.1.ready c.in-Ok-Some.ensures.serves c.in-Ok-Some.ensures.volume,
           (
-            λ dry. (c.loop-fault.invariant.stands (g.T.TreeSink.sink c.args.tree.now).depth (λ d. (c.requires.between d, refl)) dry).0,
-            λ dry. room_left _ _ _ _ 512 (c.loop-fault.invariant.stands (g.T.TreeSink.sink c.args.tree.now).depth (λ d. (c.requires.between d, refl)) dry).1
-                c.loop-fault.invariant.same_below (c.requires.room dry),
+            λ dry. (c.loop-fault.invariant.1.stands (g.T.TreeSink.sink c.args.ends.now.tree.now).depth (λ d. (c.requires.between d, refl)) dry).0,
+            λ dry. room_left _ _ _ _ 512 (c.loop-fault.invariant.1.stands (g.T.TreeSink.sink c.args.ends.now.tree.now).depth (λ d.
+                (c.requires.between d, refl)) dry).1
+                c.loop-fault.invariant.1.same_below (c.requires.room dry),
           ),
         ),
       ),
@@ -115,78 +120,79 @@ list-loop-fault-smaller g t c = subst (λ (r : Option Found). FolderNears c.loop
     c.in-Ok-Some.ensures.nears
 
 pub list-loop-fault-preserved : goal.list-loop-fault-preserved
-list-loop-fault-preserved g t c =
-    record {
-      ready = (c.in_ok-list_found-in-Ok-Some.ensures.ran c.next.new.vol.sup refl).ready;
-      reads_on = c.in-Ok-Some.ensures.folder;
-      same_path = c.cut.ensures ∙ (ap (λ (n : ℕ). take n c.list_found.new.path) (c.len-len.ensures ∙ ap length (sym c.loop-fault.invariant.same_path))
-          ∙ (c.in_ok-list_found-in-Ok-Some.ensures.path ∙ c.loop-fault.invariant.same_path));
-      same_below = c.list_found.auto.below ∙ c.loop-fault.invariant.same_below;
-      stands = λ n h. c.in_ok-list_found-in-Ok-Some.ensures.stands n (c.loop-fault.invariant.stands n h);
-      listed = λ s e. listed_step (meet_in c.args.job.now.plan s c.args.job.now.sums (length c.args.below.now) c.args.root c.args.dirid c.args.path.now)
-          (world (g.R.Rack.seen c.args.rack.now) c.args.vol.now (outside (g.T.TreeSink.sink c.args.tree.now) (g.T.TreeSink.account c.args.tree.now)
-          (g.O.Out.text c.args.out.now) (g.O.Out.account c.args.out.now)))
-          (treat_each (by_mark (meet_in c.args.job.now.plan s c.args.job.now.sums (length c.args.below.now) c.args.root c.args.dirid c.args.path.now))
-          c.args.salvaged.now (folder_tour c.args.root c.args.dirid)) (world (g.R.Rack.seen c.loop-fault.rack) c.loop-fault.vol
-          (outside (g.T.TreeSink.sink c.loop-fault.tree) (g.T.TreeSink.account c.loop-fault.tree) (g.O.Out.text c.loop-fault.out)
-          (g.O.Out.account c.loop-fault.out))) c.loop-fault.salvaged c.loop-fault.here.folder c.next.new.self c.next.new.name
-          (g.R.Rack.seen c.next.new.rack) c.next.new.vol (c.loop-fault.invariant.listed s e) c.in-Ok-Some.ensures.reads c.in-Ok-Some.ensures.volume
-          (reads_on _ _ _ c.loop-fault.invariant.ready c.in-Ok-Some.ensures.serves c.in-Ok-Some.ensures.volume) c.in-Ok-Some.found c.next.result
-          (c.in-Ok-Some.is ∙ ap Ok c.in-Ok-Some.field-0-is) c.next.ensures.content
-          (world (g.R.Rack.seen c.list_found.new.rack) c.list_found.new.vol
-          (outside (g.T.TreeSink.sink c.list_found.new.tree) (g.T.TreeSink.account c.list_found.new.tree) (g.O.Out.text c.list_found.new.out)
-          (g.O.Out.account c.list_found.new.out))) c.list_found.new.salvaged
-          (subst (λ (k : ℕ). Ran (meet_in c.args.job.now.plan s c.args.job.now.sums k c.args.root c.args.dirid c.args.path.now c.loop-fault.salvaged
-          (found_in c.in-Ok-Some.found c.next.new.name)) (world (g.R.Rack.seen c.next.new.rack) c.next.new.vol
-          (outside (g.T.TreeSink.sink c.loop-fault.tree) (g.T.TreeSink.account c.loop-fault.tree) (g.O.Out.text c.loop-fault.out)
-          (g.O.Out.account c.loop-fault.out))) (world (g.R.Rack.seen c.list_found.new.rack) c.list_found.new.vol
-          (outside (g.T.TreeSink.sink c.list_found.new.tree) (g.T.TreeSink.account c.list_found.new.tree) (g.O.Out.text c.list_found.new.out)
-          (g.O.Out.account c.list_found.new.out))) (Ok c.list_found.new.salvaged)) c.loop-fault.invariant.same_below
-          (subst (λ (p : List ℕ). Ran (meet_in c.args.job.now.plan s c.args.job.now.sums
-          (length c.loop-fault.below) c.args.root c.args.dirid p c.loop-fault.salvaged (found_in c.in-Ok-Some.found c.next.new.name))
-          (world (g.R.Rack.seen c.next.new.rack) c.next.new.vol (outside (g.T.TreeSink.sink c.loop-fault.tree) (g.T.TreeSink.account c.loop-fault.tree)
-          (g.O.Out.text c.loop-fault.out) (g.O.Out.account c.loop-fault.out)))
-          (world (g.R.Rack.seen c.list_found.new.rack) c.list_found.new.vol
-          (outside (g.T.TreeSink.sink c.list_found.new.tree) (g.T.TreeSink.account c.list_found.new.tree) (g.O.Out.text c.list_found.new.out)
-          (g.O.Out.account c.list_found.new.out))) (Ok c.list_found.new.salvaged)) c.loop-fault.invariant.same_path
-          (c.in_ok-list_found-in-Ok-Some.ensures.ran s (e ∙ (sym (c.loop-fault.invariant.listed s e).volume.sup ∙ sym c.in-Ok-Some.ensures.volume.sup)))));
-    }
+list-loop-fault-preserved g t c = (
+  record {
+    rack = c.in_ok-list_found-in-Ok-Some.ensures.same.rack ∙ c.loop-fault.invariant.0.rack;
+    vol = c.in_ok-list_found-in-Ok-Some.ensures.same.vol ∙ c.loop-fault.invariant.0.vol;
+    tree = c.in_ok-list_found-in-Ok-Some.ensures.same.tree ∙ c.loop-fault.invariant.0.tree;
+    out = c.in_ok-list_found-in-Ok-Some.ensures.same.out ∙ c.loop-fault.invariant.0.out;
+  },
+  record {
+    ready = (c.in_ok-list_found-in-Ok-Some.ensures.ran c.next.new.vol.sup refl).ready;
+    reads_on = c.in-Ok-Some.ensures.folder;
+    same_path = c.cut.ensures ∙ (ap (λ (n : ℕ). take n c.list_found.new.path) (c.len-len.ensures ∙ ap length (sym c.loop-fault.invariant.1.same_path))
+        ∙ (c.in_ok-list_found-in-Ok-Some.ensures.path ∙ c.loop-fault.invariant.1.same_path));
+    same_below = c.list_found.auto.below ∙ c.loop-fault.invariant.1.same_below;
+    stands = λ n h. c.in_ok-list_found-in-Ok-Some.ensures.stands n (c.loop-fault.invariant.1.stands n h);
+    listed = λ s e. listed_step (meet_in c.args.dir.now.job.now.plan s c.args.dir.now.job.now.sums
+        (length c.args.below.now) c.args.dir.now.tree c.args.dir.now.dirid c.args.path.now)
+        (world_of g.R.Rack.seen g.T.TreeSink.sink g.T.TreeSink.account g.O.Out.text g.O.Out.account c.args.ends.now)
+        (treat_each (by_mark (meet_in c.args.dir.now.job.now.plan s c.args.dir.now.job.now.sums (length c.args.below.now) c.args.dir.now.tree
+        c.args.dir.now.dirid c.args.path.now))
+        c.args.salvaged.now (folder_tour c.args.dir.now.tree c.args.dir.now.dirid)) (world_of g.R.Rack.seen g.T.TreeSink.sink g.T.TreeSink.account
+        g.O.Out.text g.O.Out.account c.loop-fault.ends) c.loop-fault.salvaged c.loop-fault.here.folder c.next.new.self c.next.new.name
+        (g.R.Rack.seen c.next.new.rack) c.next.new.vol (c.loop-fault.invariant.1.listed s e) c.in-Ok-Some.ensures.reads c.in-Ok-Some.ensures.volume
+        (reads_on _ _ _ c.loop-fault.invariant.1.ready c.in-Ok-Some.ensures.serves c.in-Ok-Some.ensures.volume) c.in-Ok-Some.found c.next.result
+        (c.in-Ok-Some.is ∙ ap Ok c.in-Ok-Some.field-0-is) c.next.ensures.content
+        (world_of g.R.Rack.seen g.T.TreeSink.sink g.T.TreeSink.account g.O.Out.text g.O.Out.account c.list_found.new.ends) c.list_found.new.salvaged
+        (subst (λ (k : ℕ). Ran (meet_in c.args.dir.now.job.now.plan s c.args.dir.now.job.now.sums k c.args.dir.now.tree c.args.dir.now.dirid
+        c.args.path.now c.loop-fault.salvaged
+        (found_in c.in-Ok-Some.found c.next.new.name)) (world (g.R.Rack.seen c.next.new.rack) c.next.new.vol
+        (outside_of g.T.TreeSink.sink g.T.TreeSink.account g.O.Out.text g.O.Out.account c.loop-fault.ends.tree.now c.loop-fault.ends.out.now))
+        (world_of g.R.Rack.seen g.T.TreeSink.sink g.T.TreeSink.account g.O.Out.text g.O.Out.account c.list_found.new.ends)
+        (Ok c.list_found.new.salvaged)) c.loop-fault.invariant.1.same_below
+        (subst (λ (p : List ℕ). Ran (meet_in c.args.dir.now.job.now.plan s c.args.dir.now.job.now.sums
+        (length c.loop-fault.below) c.args.dir.now.tree c.args.dir.now.dirid p c.loop-fault.salvaged (found_in c.in-Ok-Some.found c.next.new.name))
+        (world (g.R.Rack.seen c.next.new.rack) c.next.new.vol (outside_of g.T.TreeSink.sink g.T.TreeSink.account g.O.Out.text g.O.Out.account
+        c.loop-fault.ends.tree.now c.loop-fault.ends.out.now))
+        (world_of g.R.Rack.seen g.T.TreeSink.sink g.T.TreeSink.account g.O.Out.text g.O.Out.account c.list_found.new.ends)
+        (Ok c.list_found.new.salvaged)) c.loop-fault.invariant.1.same_path
+        (c.in_ok-list_found-in-Ok-Some.ensures.ran s (e ∙ (sym (c.loop-fault.invariant.1.listed s e).volume.sup ∙ sym c.in-Ok-Some.ensures.volume.sup)))));
+  },
+)
 
 pub list-returns-in_err-list_found-in-Ok-Some-clause-ran : goal.list-returns-in_err-list_found-in-Ok-Some-clause-ran
 list-returns-in_err-list_found-in-Ok-Some-clause-ran g t c s e =
     ran_passed _ (counted_passed _ _ _ c.from_residual.ensures.1)
-    (subst (λ (p : Attempt Salvaged). Ran p (world (g.R.Rack.seen c.args.rack.now) c.args.vol.now
-    (outside (g.T.TreeSink.sink c.args.tree.now) (g.T.TreeSink.account c.args.tree.now) (g.O.Out.text c.args.out.now) (g.O.Out.account c.args.out.now)))
-    (world (g.R.Rack.seen c.list_found.new.rack) c.list_found.new.vol
-    (outside (g.T.TreeSink.sink c.list_found.new.tree) (g.T.TreeSink.account c.list_found.new.tree) (g.O.Out.text c.list_found.new.out)
-    (g.O.Out.account c.list_found.new.out))) (Err c.in_err-list_found-in-Ok-Some.field-0.0))
-    (directory_is c.args.job.now.plan s c.args.job.now.sums (length c.args.below.now) c.args.root c.args.dirid c.args.path.now c.args.salvaged.now)
-    (listed_halt (meet_in c.args.job.now.plan s c.args.job.now.sums (length c.args.below.now) c.args.root c.args.dirid c.args.path.now)
-    (world (g.R.Rack.seen c.args.rack.now) c.args.vol.now (outside (g.T.TreeSink.sink c.args.tree.now) (g.T.TreeSink.account c.args.tree.now)
-    (g.O.Out.text c.args.out.now) (g.O.Out.account c.args.out.now)))
-    (treat_each (by_mark (meet_in c.args.job.now.plan s c.args.job.now.sums (length c.args.below.now) c.args.root c.args.dirid c.args.path.now))
-    c.args.salvaged.now (folder_tour c.args.root c.args.dirid)) (world (g.R.Rack.seen c.loop-fault.rack) c.loop-fault.vol
-    (outside (g.T.TreeSink.sink c.loop-fault.tree) (g.T.TreeSink.account c.loop-fault.tree) (g.O.Out.text c.loop-fault.out)
-    (g.O.Out.account c.loop-fault.out))) c.loop-fault.salvaged c.loop-fault.here.folder c.next.new.self c.next.new.name
-    (g.R.Rack.seen c.next.new.rack) c.next.new.vol (c.loop-fault.invariant.listed s e) c.in-Ok-Some.ensures.reads c.in-Ok-Some.ensures.volume
-    (reads_on _ _ _ c.loop-fault.invariant.ready c.in-Ok-Some.ensures.serves c.in-Ok-Some.ensures.volume) c.in-Ok-Some.found c.next.result
+    (subst (λ (p : Attempt Salvaged). Ran p (world_of g.R.Rack.seen g.T.TreeSink.sink g.T.TreeSink.account g.O.Out.text g.O.Out.account c.args.ends.now)
+    (world_of g.R.Rack.seen g.T.TreeSink.sink g.T.TreeSink.account g.O.Out.text g.O.Out.account c.list_found.new.ends)
+    (Err c.in_err-list_found-in-Ok-Some.field-0.0))
+    (directory_is c.args.dir.now.job.now.plan s c.args.dir.now.job.now.sums (length c.args.below.now) c.args.dir.now.tree c.args.dir.now.dirid
+    c.args.path.now c.args.salvaged.now)
+    (listed_halt (meet_in c.args.dir.now.job.now.plan s c.args.dir.now.job.now.sums (length c.args.below.now) c.args.dir.now.tree c.args.dir.now.dirid
+    c.args.path.now)
+    (world_of g.R.Rack.seen g.T.TreeSink.sink g.T.TreeSink.account g.O.Out.text g.O.Out.account c.args.ends.now)
+    (treat_each (by_mark (meet_in c.args.dir.now.job.now.plan s c.args.dir.now.job.now.sums (length c.args.below.now) c.args.dir.now.tree
+    c.args.dir.now.dirid c.args.path.now))
+    c.args.salvaged.now (folder_tour c.args.dir.now.tree c.args.dir.now.dirid)) (world_of g.R.Rack.seen g.T.TreeSink.sink g.T.TreeSink.account g.O.Out.text
+    g.O.Out.account c.loop-fault.ends) c.loop-fault.salvaged c.loop-fault.here.folder c.next.new.self c.next.new.name
+    (g.R.Rack.seen c.next.new.rack) c.next.new.vol (c.loop-fault.invariant.1.listed s e) c.in-Ok-Some.ensures.reads c.in-Ok-Some.ensures.volume
+    (reads_on _ _ _ c.loop-fault.invariant.1.ready c.in-Ok-Some.ensures.serves c.in-Ok-Some.ensures.volume) c.in-Ok-Some.found c.next.result
     (c.in-Ok-Some.is ∙ ap Ok c.in-Ok-Some.field-0-is) c.next.ensures.content
-    (world (g.R.Rack.seen c.list_found.new.rack) c.list_found.new.vol
-    (outside (g.T.TreeSink.sink c.list_found.new.tree) (g.T.TreeSink.account c.list_found.new.tree) (g.O.Out.text c.list_found.new.out)
-    (g.O.Out.account c.list_found.new.out))) c.in_err-list_found-in-Ok-Some.field-0.0
-    (subst (λ (k : ℕ). Ran (meet_in c.args.job.now.plan s c.args.job.now.sums k c.args.root c.args.dirid c.args.path.now c.loop-fault.salvaged
+    (world_of g.R.Rack.seen g.T.TreeSink.sink g.T.TreeSink.account g.O.Out.text g.O.Out.account c.list_found.new.ends) c.in_err-list_found-in-Ok-Some.field-0.0
+    (subst (λ (k : ℕ). Ran (meet_in c.args.dir.now.job.now.plan s c.args.dir.now.job.now.sums k c.args.dir.now.tree c.args.dir.now.dirid c.args.path.now
+    c.loop-fault.salvaged
     (found_in c.in-Ok-Some.found c.next.new.name)) (world (g.R.Rack.seen c.next.new.rack) c.next.new.vol
-    (outside (g.T.TreeSink.sink c.loop-fault.tree) (g.T.TreeSink.account c.loop-fault.tree) (g.O.Out.text c.loop-fault.out)
-    (g.O.Out.account c.loop-fault.out))) (world (g.R.Rack.seen c.list_found.new.rack) c.list_found.new.vol
-    (outside (g.T.TreeSink.sink c.list_found.new.tree) (g.T.TreeSink.account c.list_found.new.tree) (g.O.Out.text c.list_found.new.out)
-    (g.O.Out.account c.list_found.new.out))) (Err c.in_err-list_found-in-Ok-Some.field-0.0)) c.loop-fault.invariant.same_below
-    (subst (λ (p : List ℕ). Ran (meet_in c.args.job.now.plan s c.args.job.now.sums (length c.loop-fault.below) c.args.root c.args.dirid p c.loop-fault.salvaged
+    (outside_of g.T.TreeSink.sink g.T.TreeSink.account g.O.Out.text g.O.Out.account c.loop-fault.ends.tree.now c.loop-fault.ends.out.now))
+    (world_of g.R.Rack.seen g.T.TreeSink.sink g.T.TreeSink.account g.O.Out.text g.O.Out.account c.list_found.new.ends)
+    (Err c.in_err-list_found-in-Ok-Some.field-0.0)) c.loop-fault.invariant.1.same_below
+    (subst (λ (p : List ℕ). Ran (meet_in c.args.dir.now.job.now.plan s c.args.dir.now.job.now.sums (length c.loop-fault.below) c.args.dir.now.tree
+    c.args.dir.now.dirid p c.loop-fault.salvaged
     (found_in c.in-Ok-Some.found c.next.new.name)) (world (g.R.Rack.seen c.next.new.rack) c.next.new.vol
-    (outside (g.T.TreeSink.sink c.loop-fault.tree) (g.T.TreeSink.account c.loop-fault.tree) (g.O.Out.text c.loop-fault.out)
-    (g.O.Out.account c.loop-fault.out))) (world (g.R.Rack.seen c.list_found.new.rack) c.list_found.new.vol
-    (outside (g.T.TreeSink.sink c.list_found.new.tree) (g.T.TreeSink.account c.list_found.new.tree) (g.O.Out.text c.list_found.new.out)
-    (g.O.Out.account c.list_found.new.out))) (Err c.in_err-list_found-in-Ok-Some.field-0.0)) c.loop-fault.invariant.same_path
-    (c.in_err-list_found-in-Ok-Some.ensures.ran s (e ∙ (sym (c.loop-fault.invariant.listed s e).volume.sup ∙ sym c.in-Ok-Some.ensures.volume.sup)))))))
+    (outside_of g.T.TreeSink.sink g.T.TreeSink.account g.O.Out.text g.O.Out.account c.loop-fault.ends.tree.now c.loop-fault.ends.out.now))
+    (world_of g.R.Rack.seen g.T.TreeSink.sink g.T.TreeSink.account g.O.Out.text g.O.Out.account c.list_found.new.ends)
+    (Err c.in_err-list_found-in-Ok-Some.field-0.0)) c.loop-fault.invariant.1.same_path
+    (c.in_err-list_found-in-Ok-Some.ensures.ran s (e ∙ (sym (c.loop-fault.invariant.1.listed s e).volume.sup ∙ sym c.in-Ok-Some.ensures.volume.sup)))))))
 
 pub list_entry-returns-in-Err-clause-ran : goal.list_entry-returns-in-Err-clause-ran
 list_entry-returns-in-Err-clause-ran g t c s e =
@@ -202,22 +208,23 @@ list_entry-list_within-requires g t c κs within = (
       (
         within.1.1,
         (
-          (c.treat.ensures.ran c.args.vol.now.sup refl).ready,
+          (c.treat.ensures.ran c.args.ends.now.vol.now.sup refl).ready,
           (
-            λ dry. (stands_within c.args.job.now.plan.dry (g.T.TreeSink.sink c.args.tree.now).depth
-                (g.T.TreeSink.sink c.treat.new.tree) c.in_ok-treat.field-0 c.in-Within.inner c.in-Within.dirid c.in-Within.is
-                (c.in_ok-treat.ensures.stands (g.T.TreeSink.sink c.args.tree.now).depth (λ d. (c.requires.between d, refl))) dry).0,
+            λ dry. (stands_within c.args.dir.now.job.now.plan.dry (g.T.TreeSink.sink c.args.ends.now.tree.now).depth
+                (g.T.TreeSink.sink c.treat.new.ends.tree.now) c.in_ok-treat.field-0 c.in-Within.tree c.in-Within.dirid c.in-Within.is
+                (c.in_ok-treat.ensures.stands (g.T.TreeSink.sink c.args.ends.now.tree.now).depth (λ d. (c.requires.between d, refl))) dry).0,
             (
-              some_place (length c.args.below.now) c.is_empty.result c.in_ok-treat.field-0 c.in-Within.inner c.in-Within.dirid
+              some_place (length c.args.below.now) c.is_empty.result c.in_ok-treat.field-0 c.in-Within.tree c.in-Within.dirid
                   (λ z. c.is_empty.ensures ∙ ap (λ (k : ℕ). k == 0) z) c.in-Within.is c.in_ok-treat.ensures.flat,
               (
                 λ dry. subst (λ (d : ℕ). 0 < d)
-                    (sym (stands_within c.args.job.now.plan.dry (g.T.TreeSink.sink c.args.tree.now).depth
-                    (g.T.TreeSink.sink c.treat.new.tree) c.in_ok-treat.field-0 c.in-Within.inner c.in-Within.dirid c.in-Within.is
-                    (c.in_ok-treat.ensures.stands (g.T.TreeSink.sink c.args.tree.now).depth (λ d. (c.requires.between d, refl))) dry).1) (omega arith),
-                λ dry. room_within _ _ _ 512 (stands_within c.args.job.now.plan.dry (g.T.TreeSink.sink c.args.tree.now).depth
-                    (g.T.TreeSink.sink c.treat.new.tree) c.in_ok-treat.field-0 c.in-Within.inner c.in-Within.dirid c.in-Within.is
-                    (c.in_ok-treat.ensures.stands (g.T.TreeSink.sink c.args.tree.now).depth (λ d. (c.requires.between d, refl))) dry).1 (c.requires.room dry),
+                    (sym (stands_within c.args.dir.now.job.now.plan.dry (g.T.TreeSink.sink c.args.ends.now.tree.now).depth
+                    (g.T.TreeSink.sink c.treat.new.ends.tree.now) c.in_ok-treat.field-0 c.in-Within.tree c.in-Within.dirid c.in-Within.is
+                    (c.in_ok-treat.ensures.stands (g.T.TreeSink.sink c.args.ends.now.tree.now).depth (λ d. (c.requires.between d, refl))) dry).1) (omega arith),
+                λ dry. room_within _ _ _ 512 (stands_within c.args.dir.now.job.now.plan.dry (g.T.TreeSink.sink c.args.ends.now.tree.now).depth
+                    (g.T.TreeSink.sink c.treat.new.ends.tree.now) c.in_ok-treat.field-0 c.in-Within.tree c.in-Within.dirid c.in-Within.is
+                    (c.in_ok-treat.ensures.stands (g.T.TreeSink.sink c.args.ends.now.tree.now).depth (λ d. (c.requires.between d, refl))) dry).1
+                    (c.requires.room dry),
               ),
             ),
           ),
@@ -233,76 +240,69 @@ list_entry-treat-requires-clause-above g t c = λ shallow dry. room_above _ _ 51
 pub list_entry-returns-in_err-treat-clause-ran : goal.list_entry-returns-in_err-treat-clause-ran
 list_entry-returns-in_err-treat-clause-ran g t c s e =
     ran_passed _ (counted_passed _ _ _ c.from_residual.ensures.1)
-    (entry_halts c.args.job.now.plan s c.args.job.now.sums (length c.args.below.now) c.is_empty.result
-    (c.is_empty.ensures ∙ deep_is (length c.args.below.now)) c.args.root.now c.args.dirid c.args.path.now c.args.salvaged.now
-    (named_row c.args.row c.args.name.now) (world (g.R.Rack.seen c.args.rack.now) c.args.vol.now
-    (outside (g.T.TreeSink.sink c.args.tree.now) (g.T.TreeSink.account c.args.tree.now) (g.O.Out.text c.args.out.now) (g.O.Out.account c.args.out.now)))
-    (world (g.R.Rack.seen c.treat.new.rack) c.treat.new.vol (outside (g.T.TreeSink.sink c.treat.new.tree) (g.T.TreeSink.account c.treat.new.tree)
-    (g.O.Out.text c.treat.new.out) (g.O.Out.account c.treat.new.out)))
-    (world (g.R.Rack.seen c.treat.new.rack) c.treat.new.vol (outside (g.T.TreeSink.sink c.treat.new.tree) (g.T.TreeSink.account c.treat.new.tree)
-    (g.O.Out.text c.treat.new.out) (g.O.Out.account c.treat.new.out))) c.in_err-treat.field-0.0
-    (treated_in c.args.job.now.plan s c.args.job.now.sums c.is_empty.result c.args.root.now c.args.dirid c.args.path.now _ c.args.salvaged.now
-    (named_row c.args.row c.args.name.now) _ _ _ (c.as_bytes-2.ensures ∙ (c.in-Ok.ensures ∙ ap (path_in c.args.path.now) c.as_bytes.ensures))
+    (entry_halts c.args.dir.now.job.now.plan s c.args.dir.now.job.now.sums (length c.args.below.now) c.is_empty.result
+    (c.is_empty.ensures ∙ deep_is (length c.args.below.now)) c.args.dir.now.tree c.args.dir.now.dirid c.args.path.now c.args.salvaged.now
+    (named_row c.args.named.now.row c.args.named.now.name.now) (world_of g.R.Rack.seen g.T.TreeSink.sink g.T.TreeSink.account g.O.Out.text g.O.Out.account
+    c.args.ends.now)
+    (world_of g.R.Rack.seen g.T.TreeSink.sink g.T.TreeSink.account g.O.Out.text g.O.Out.account c.treat.new.ends)
+    (world_of g.R.Rack.seen g.T.TreeSink.sink g.T.TreeSink.account g.O.Out.text g.O.Out.account c.treat.new.ends) c.in_err-treat.field-0.0
+    (treated_in c.args.dir.now.job.now.plan s c.args.dir.now.job.now.sums c.is_empty.result c.args.dir.now.tree c.args.dir.now.dirid c.args.path.now _
+    c.args.salvaged.now
+    (named_row c.args.named.now.row c.args.named.now.name.now) _ _ _ (c.as_bytes-2.ensures ∙ (c.in-Ok.ensures ∙ ap (path_in c.args.path.now) c.as_bytes.ensures))
     (c.in_err-treat.ensures.ran s e)))
 
 pub list_entry-returns-in-Over-clause-ran : goal.list_entry-returns-in-Over-clause-ran
 list_entry-returns-in-Over-clause-ran g t c s e =
-    entry_over c.args.job.now.plan s c.args.job.now.sums (length c.args.below.now) c.is_empty.result
-    (c.is_empty.ensures ∙ deep_is (length c.args.below.now)) c.args.root.now c.args.dirid c.args.path.now c.args.salvaged.now
-    (named_row c.args.row c.args.name.now) (world (g.R.Rack.seen c.args.rack.now) c.args.vol.now
-    (outside (g.T.TreeSink.sink c.args.tree.now) (g.T.TreeSink.account c.args.tree.now) (g.O.Out.text c.args.out.now) (g.O.Out.account c.args.out.now)))
-    (world (g.R.Rack.seen c.treat.new.rack) c.treat.new.vol (outside (g.T.TreeSink.sink c.treat.new.tree) (g.T.TreeSink.account c.treat.new.tree)
-    (g.O.Out.text c.treat.new.out) (g.O.Out.account c.treat.new.out)))
-    (world (g.R.Rack.seen c.treat.new.rack) c.treat.new.vol (outside (g.T.TreeSink.sink c.treat.new.tree) (g.T.TreeSink.account c.treat.new.tree)
-    (g.O.Out.text c.treat.new.out) (g.O.Out.account c.treat.new.out))) c.treat.new.salvaged
-    (subst (λ (r : Treated). Ran (treated c.args.job.now.plan s c.args.job.now.sums
-    (met_in c.is_empty.result c.args.root.now c.args.dirid c.args.path.now (named_row c.args.row c.args.name.now)) c.args.salvaged.now)
-    (world (g.R.Rack.seen c.args.rack.now) c.args.vol.now (outside (g.T.TreeSink.sink c.args.tree.now) (g.T.TreeSink.account c.args.tree.now)
-    (g.O.Out.text c.args.out.now) (g.O.Out.account c.args.out.now)))
-    (world (g.R.Rack.seen c.treat.new.rack) c.treat.new.vol (outside (g.T.TreeSink.sink c.treat.new.tree) (g.T.TreeSink.account c.treat.new.tree)
-    (g.O.Out.text c.treat.new.out) (g.O.Out.account c.treat.new.out))) (Ok (came_to c.treat.new.salvaged r))) c.in-Over.is
-    (treated_in c.args.job.now.plan s c.args.job.now.sums c.is_empty.result c.args.root.now c.args.dirid c.args.path.now _ c.args.salvaged.now
-    (named_row c.args.row c.args.name.now) _ _ _ (c.as_bytes-2.ensures ∙ (c.in-Ok.ensures ∙ ap (path_in c.args.path.now) c.as_bytes.ensures))
+    entry_over c.args.dir.now.job.now.plan s c.args.dir.now.job.now.sums (length c.args.below.now) c.is_empty.result
+    (c.is_empty.ensures ∙ deep_is (length c.args.below.now)) c.args.dir.now.tree c.args.dir.now.dirid c.args.path.now c.args.salvaged.now
+    (named_row c.args.named.now.row c.args.named.now.name.now) (world_of g.R.Rack.seen g.T.TreeSink.sink g.T.TreeSink.account g.O.Out.text g.O.Out.account
+    c.args.ends.now)
+    (world_of g.R.Rack.seen g.T.TreeSink.sink g.T.TreeSink.account g.O.Out.text g.O.Out.account c.treat.new.ends)
+    (world_of g.R.Rack.seen g.T.TreeSink.sink g.T.TreeSink.account g.O.Out.text g.O.Out.account c.treat.new.ends) c.treat.new.salvaged
+    (subst (λ (r : Treated). Ran (treated c.args.dir.now.job.now.plan s c.args.dir.now.job.now.sums
+    (met_in c.is_empty.result c.args.dir.now.tree c.args.dir.now.dirid c.args.path.now (named_row c.args.named.now.row c.args.named.now.name.now)) c.args.salvaged.now)
+    (world_of g.R.Rack.seen g.T.TreeSink.sink g.T.TreeSink.account g.O.Out.text g.O.Out.account c.args.ends.now)
+    (world_of g.R.Rack.seen g.T.TreeSink.sink g.T.TreeSink.account g.O.Out.text g.O.Out.account c.treat.new.ends) (Ok
+    (came_to c.treat.new.salvaged r))) c.in-Over.is
+    (treated_in c.args.dir.now.job.now.plan s c.args.dir.now.job.now.sums c.is_empty.result c.args.dir.now.tree c.args.dir.now.dirid c.args.path.now _
+    c.args.salvaged.now
+    (named_row c.args.named.now.row c.args.named.now.name.now) _ _ _ (c.as_bytes-2.ensures ∙ (c.in-Ok.ensures ∙ ap (path_in c.args.path.now) c.as_bytes.ensures))
     (c.in_ok-treat.ensures.ran s e)))
 
 pub list_entry-returns-in-Over-clause-stands : goal.list_entry-returns-in-Over-clause-stands
 list_entry-returns-in-Over-clause-stands g t c n h =
-    stands_over _ n (g.T.TreeSink.sink c.treat.new.tree) c.in_ok-treat.field-0 c.in-Over.is (c.in_ok-treat.ensures.stands n h)
+    stands_over _ n (g.T.TreeSink.sink c.treat.new.ends.tree.now) c.in_ok-treat.field-0 c.in-Over.is (c.in_ok-treat.ensures.stands n h)
 
 pub list_entry-returns-in-Within-clause-ran : goal.list_entry-returns-in-Within-clause-ran
 list_entry-returns-in-Within-clause-ran g t c s e =
-    let h = subst (λ (r : Treated). Ran (treated c.args.job.now.plan s c.args.job.now.sums
-    (met_in c.is_empty.result c.args.root.now c.args.dirid c.args.path.now (named_row c.args.row c.args.name.now)) c.args.salvaged.now)
-    (world (g.R.Rack.seen c.args.rack.now) c.args.vol.now (outside (g.T.TreeSink.sink c.args.tree.now) (g.T.TreeSink.account c.args.tree.now)
-    (g.O.Out.text c.args.out.now) (g.O.Out.account c.args.out.now)))
-    (world (g.R.Rack.seen c.treat.new.rack) c.treat.new.vol (outside (g.T.TreeSink.sink c.treat.new.tree) (g.T.TreeSink.account c.treat.new.tree)
-    (g.O.Out.text c.treat.new.out) (g.O.Out.account c.treat.new.out))) (Ok (came_to c.treat.new.salvaged r))) c.in-Within.is
-    (treated_in c.args.job.now.plan s c.args.job.now.sums c.is_empty.result c.args.root.now c.args.dirid c.args.path.now _ c.args.salvaged.now
-    (named_row c.args.row c.args.name.now) _ _ _ (c.as_bytes-2.ensures ∙ (c.in-Ok.ensures ∙ ap (path_in c.args.path.now) c.as_bytes.ensures))
+    let h = subst (λ (r : Treated). Ran (treated c.args.dir.now.job.now.plan s c.args.dir.now.job.now.sums
+    (met_in c.is_empty.result c.args.dir.now.tree c.args.dir.now.dirid c.args.path.now (named_row c.args.named.now.row c.args.named.now.name.now)) c.args.salvaged.now)
+    (world_of g.R.Rack.seen g.T.TreeSink.sink g.T.TreeSink.account g.O.Out.text g.O.Out.account c.args.ends.now)
+    (world_of g.R.Rack.seen g.T.TreeSink.sink g.T.TreeSink.account g.O.Out.text g.O.Out.account c.treat.new.ends) (Ok
+    (came_to c.treat.new.salvaged r))) c.in-Within.is
+    (treated_in c.args.dir.now.job.now.plan s c.args.dir.now.job.now.sums c.is_empty.result c.args.dir.now.tree c.args.dir.now.dirid c.args.path.now _
+    c.args.salvaged.now
+    (named_row c.args.named.now.row c.args.named.now.name.now) _ _ _ (c.as_bytes-2.ensures ∙ (c.in-Ok.ensures ∙ ap (path_in c.args.path.now) c.as_bytes.ensures))
     (c.in_ok-treat.ensures.ran s e)) in
-    entry_within c.args.job.now.plan s c.args.job.now.sums (length c.args.below.now) c.is_empty.result
-    (c.is_empty.ensures ∙ deep_is (length c.args.below.now)) c.args.root.now c.args.dirid c.args.path.now c.args.salvaged.now
-    (named_row c.args.row c.args.name.now) (world (g.R.Rack.seen c.args.rack.now) c.args.vol.now
-    (outside (g.T.TreeSink.sink c.args.tree.now) (g.T.TreeSink.account c.args.tree.now) (g.O.Out.text c.args.out.now) (g.O.Out.account c.args.out.now)))
-    (world (g.R.Rack.seen c.treat.new.rack) c.treat.new.vol (outside (g.T.TreeSink.sink c.treat.new.tree) (g.T.TreeSink.account c.treat.new.tree)
-    (g.O.Out.text c.treat.new.out) (g.O.Out.account c.treat.new.out)))
-    (world (g.R.Rack.seen c.list_within.new.rack) c.list_within.new.vol
-    (outside (g.T.TreeSink.sink c.list_within.new.tree) (g.T.TreeSink.account c.list_within.new.tree) (g.O.Out.text c.list_within.new.out)
-    (g.O.Out.account c.list_within.new.out))) c.in-Within.inner c.in-Within.dirid c.treat.new.salvaged _ h
-    (subst (λ (p : List ℕ). Ran (listed_in c.args.job.now.plan s c.args.job.now.sums
-    (listing_in c.args.job.now.plan s c.args.job.now.sums (length c.args.below.now)) p
-    (salvaging.Within c.in-Within.inner c.in-Within.dirid c.treat.new.salvaged))
-    (world (g.R.Rack.seen c.treat.new.rack) c.treat.new.vol (outside (g.T.TreeSink.sink c.treat.new.tree) (g.T.TreeSink.account c.treat.new.tree)
-    (g.O.Out.text c.treat.new.out) (g.O.Out.account c.treat.new.out)))
-    (world (g.R.Rack.seen c.list_within.new.rack) c.list_within.new.vol
-    (outside (g.T.TreeSink.sink c.list_within.new.tree) (g.T.TreeSink.account c.list_within.new.tree) (g.O.Out.text c.list_within.new.out)
-    (g.O.Out.account c.list_within.new.out))) (counted c.list_within.new.salvaged c.list_within.result))
+    entry_within c.args.dir.now.job.now.plan s c.args.dir.now.job.now.sums (length c.args.below.now) c.is_empty.result
+    (c.is_empty.ensures ∙ deep_is (length c.args.below.now)) c.args.dir.now.tree c.args.dir.now.dirid c.args.path.now c.args.salvaged.now
+    (named_row c.args.named.now.row c.args.named.now.name.now) (world_of g.R.Rack.seen g.T.TreeSink.sink g.T.TreeSink.account g.O.Out.text g.O.Out.account
+    c.args.ends.now)
+    (world_of g.R.Rack.seen g.T.TreeSink.sink g.T.TreeSink.account g.O.Out.text g.O.Out.account c.treat.new.ends)
+    (world_of g.R.Rack.seen g.T.TreeSink.sink g.T.TreeSink.account g.O.Out.text g.O.Out.account c.list_within.new.ends) c.in-Within.tree c.in-Within.dirid
+    c.treat.new.salvaged _ h
+    (subst (λ (p : List ℕ). Ran (listed_in c.args.dir.now.job.now.plan s c.args.dir.now.job.now.sums
+    (listing_in c.args.dir.now.job.now.plan s c.args.dir.now.job.now.sums (length c.args.below.now)) p
+    (salvaging.Within c.in-Within.tree c.in-Within.dirid c.treat.new.salvaged))
+    (world_of g.R.Rack.seen g.T.TreeSink.sink g.T.TreeSink.account g.O.Out.text g.O.Out.account c.treat.new.ends)
+    (world_of g.R.Rack.seen g.T.TreeSink.sink g.T.TreeSink.account g.O.Out.text g.O.Out.account c.list_within.new.ends)
+    (counted c.list_within.new.salvaged c.list_within.result))
     (c.in-Ok.ensures ∙ ap (path_in c.args.path.now) c.as_bytes.ensures)
     (c.list_within.ensures.ran s (e ∙ sym h.volume.sup)))
 
 pub list_entry-returns-in-Within-clause-stands : goal.list_entry-returns-in-Within-clause-stands
 list_entry-returns-in-Within-clause-stands g t c n h =
-    c.list_within.ensures.stands n (stands_within _ n (g.T.TreeSink.sink c.treat.new.tree) c.in_ok-treat.field-0 c.in-Within.inner c.in-Within.dirid
+    c.list_within.ensures.stands n (stands_within _ n (g.T.TreeSink.sink c.treat.new.ends.tree.now) c.in_ok-treat.field-0 c.in-Within.tree c.in-Within.dirid
     c.in-Within.is (c.in_ok-treat.ensures.stands n h))
 
 pub list_within-list-requires : goal.list_within-list-requires
@@ -319,69 +319,67 @@ list_within-list-requires g t c κs within = (
 
 pub list_within-leave_dir-requires-clause-between : goal.list_within-leave_dir-requires-clause-between
 list_within-leave_dir-requires-clause-between g t c =
-    λ dry. (c.in_ok-list.ensures.stands (g.T.TreeSink.sink c.args.tree.now).depth (λ d. (c.requires.between d, refl)) dry).0
+    λ dry. (c.in_ok-list.ensures.stands (g.T.TreeSink.sink c.args.ends.now.tree.now).depth (λ d. (c.requires.between d, refl)) dry).0
 
 pub list_within-leave_dir-requires-clause-below : goal.list_within-leave_dir-requires-clause-below
 list_within-leave_dir-requires-clause-below g t c =
-    λ dry. subst (λ (d : ℕ). 0 < d) (sym (c.in_ok-list.ensures.stands (g.T.TreeSink.sink c.args.tree.now).depth (λ d. (c.requires.between d, refl)) dry).1)
+    λ dry. subst (λ (d : ℕ). 0 < d) (sym (c.in_ok-list.ensures.stands (g.T.TreeSink.sink c.args.ends.now.tree.now).depth (λ d.
+    (c.requires.between d, refl)) dry).1)
     (c.requires.below dry)
 
 pub list_within-returns-in_err-list-clause-ran : goal.list_within-returns-in_err-list-clause-ran
 list_within-returns-in_err-list-clause-ran g t c s e =
     ran_passed _ (counted_passed _ _ _ c.from_residual.ensures.1)
-    (within_halts c.args.job.now.plan s c.args.job.now.sums (length c.args.folders.now) (length c.in-Some.below.now)
-    (sym c.in-Some.ensures.cases.1) c.args.inner c.args.dirid c.args.path.now c.args.salvaged.now
-    (world (g.R.Rack.seen c.args.rack.now) c.args.vol.now (outside (g.T.TreeSink.sink c.args.tree.now) (g.T.TreeSink.account c.args.tree.now)
-    (g.O.Out.text c.args.out.now) (g.O.Out.account c.args.out.now)))
-    (world (g.R.Rack.seen c.list.new.rack) c.list.new.vol (outside (g.T.TreeSink.sink c.list.new.tree) (g.T.TreeSink.account c.list.new.tree)
-    (g.O.Out.text c.list.new.out) (g.O.Out.account c.list.new.out))) c.in_err-list.field-0.0 (c.in_err-list.ensures.ran s e))
+    (within_halts c.args.dir.now.job.now.plan s c.args.dir.now.job.now.sums (length c.args.folders.now) (length c.in-Some.below.now)
+    (sym c.in-Some.ensures.cases.1) c.args.dir.now.tree c.args.dir.now.dirid c.args.path.now c.args.salvaged.now
+    (world_of g.R.Rack.seen g.T.TreeSink.sink g.T.TreeSink.account g.O.Out.text g.O.Out.account c.args.ends.now)
+    (world_of g.R.Rack.seen g.T.TreeSink.sink g.T.TreeSink.account g.O.Out.text g.O.Out.account c.list.new.ends) c.in_err-list.field-0.0
+    (c.in_err-list.ensures.ran s e))
 
 pub list_within-returns-clause-ran : goal.list_within-returns-clause-ran
 list_within-returns-clause-ran g t c s e =
-    within_up c.args.job.now.plan s c.args.job.now.sums (length c.args.folders.now) (length c.in-Some.below.now)
-    (sym c.in-Some.ensures.cases.1) c.args.inner c.args.dirid c.args.path.now c.args.salvaged.now
-    (world (g.R.Rack.seen c.args.rack.now) c.args.vol.now (outside (g.T.TreeSink.sink c.args.tree.now) (g.T.TreeSink.account c.args.tree.now)
-    (g.O.Out.text c.args.out.now) (g.O.Out.account c.args.out.now)))
-    (world (g.R.Rack.seen c.list.new.rack) c.list.new.vol (outside (g.T.TreeSink.sink c.list.new.tree) (g.T.TreeSink.account c.list.new.tree)
-    (g.O.Out.text c.list.new.out) (g.O.Out.account c.list.new.out))) c.list.new.salvaged _ c.leave_dir.result (c.in_ok-list.ensures.ran s e)
-    (c.leave_dir.ensures.wrote (g.O.Out.text c.list.new.out) (g.O.Out.account c.list.new.out))
+    within_up c.args.dir.now.job.now.plan s c.args.dir.now.job.now.sums (length c.args.folders.now) (length c.in-Some.below.now)
+    (sym c.in-Some.ensures.cases.1) c.args.dir.now.tree c.args.dir.now.dirid c.args.path.now c.args.salvaged.now
+    (world_of g.R.Rack.seen g.T.TreeSink.sink g.T.TreeSink.account g.O.Out.text g.O.Out.account c.args.ends.now)
+    (world_of g.R.Rack.seen g.T.TreeSink.sink g.T.TreeSink.account g.O.Out.text g.O.Out.account c.list.new.ends) c.list.new.salvaged _ c.leave_dir.result
+    (c.in_ok-list.ensures.ran s e)
+    (c.leave_dir.ensures.wrote (g.O.Out.text c.list.new.ends.out.now) (g.O.Out.account c.list.new.ends.out.now))
 
 pub list_within-returns-clause-stands : goal.list_within-returns-clause-stands
 list_within-returns-clause-stands g t c n h =
-    stands_up c.args.job.now.plan.dry n (g.T.TreeSink.sink c.list.new.tree)
+    stands_up c.args.dir.now.job.now.plan.dry n (g.T.TreeSink.sink c.list.new.ends.tree.now)
     (g.T.TreeSink.sink c.leave_dir.new.tree) c.leave_dir.result c.leave_dir.ensures.after (c.in_ok-list.ensures.stands (n + 1) h)
 
 pub list_found-returns-in-Passing-clause-ran : goal.list_found-returns-in-Passing-clause-ran
 list_found-returns-in-Passing-clause-ran g t c s e =
-    let x = world (g.R.Rack.seen c.args.rack.now) c.args.vol.now (outside (g.T.TreeSink.sink c.args.tree.now) (g.T.TreeSink.account c.args.tree.now)
-    (g.O.Out.text c.args.out.now) (g.O.Out.account c.args.out.now)) in
-    subst (λ (f : Found). Ran (meet_in c.args.job.now.plan s c.args.job.now.sums
-    (length c.args.below.now) c.args.root.now c.args.dirid c.args.path.now c.args.salvaged.now (found_in f c.args.name.now)) x x (Ok c.args.salvaged.now))
+    let x = world_of g.R.Rack.seen g.T.TreeSink.sink g.T.TreeSink.account g.O.Out.text g.O.Out.account c.args.ends.now in
+    subst (λ (f : Found). Ran (meet_in c.args.dir.now.job.now.plan s c.args.dir.now.job.now.sums
+    (length c.args.below.now) c.args.dir.now.tree c.args.dir.now.dirid c.args.path.now c.args.salvaged.now (found_in f c.args.named.now.name.now)) x x
+    (Ok c.args.salvaged.now))
     (sym c.in-Passing.is)
     (ran_value c.args.salvaged.now x c.requires.ready)
 
 pub list_found-returns-in-Part-clause-ran : goal.list_found-returns-in-Part-clause-ran
 list_found-returns-in-Part-clause-ran g t c s e =
-    let sink = g.T.TreeSink.sink c.args.tree.now in
-    let calls = g.T.TreeSink.account c.args.tree.now in
-    let x = outside sink calls (g.O.Out.text c.args.out.now) (g.O.Out.account c.args.out.now) in
+    let sink = g.T.TreeSink.sink c.args.ends.now.tree.now in
+    let calls = g.T.TreeSink.account c.args.ends.now.tree.now in
+    let x = outside sink calls (g.O.Out.text c.args.ends.now.out.now) (g.O.Out.account c.args.ends.now.out.now) in
     let y = outside sink calls (g.O.Out.text c.tell_part.new.out) (g.O.Out.account c.tell_part.new.out) in
-    subst (λ (f : Found). Ran (meet_in c.args.job.now.plan s c.args.job.now.sums
-    (length c.args.below.now) c.args.root.now c.args.dirid c.args.path.now c.args.salvaged.now (found_in f c.args.name.now))
-    (world (g.R.Rack.seen c.args.rack.now) c.args.vol.now x) (world (g.R.Rack.seen c.args.rack.now) c.args.vol.now y)
+    subst (λ (f : Found). Ran (meet_in c.args.dir.now.job.now.plan s c.args.dir.now.job.now.sums
+    (length c.args.below.now) c.args.dir.now.tree c.args.dir.now.dirid c.args.path.now c.args.salvaged.now (found_in f c.args.named.now.name.now))
+    (world (g.R.Rack.seen c.args.ends.now.rack.now) c.args.ends.now.vol.now x) (world (g.R.Rack.seen c.args.ends.now.rack.now) c.args.ends.now.vol.now y)
     (counted c.tell_part.new.salvaged c.tell_part.result)) (sym c.in-Part.is)
-    (ran_writes (part_missing (fault_by c.in-Part.damage) c.args.path.now c.args.salvaged.now) (g.R.Rack.seen c.args.rack.now) c.args.vol.now x y
+    (ran_writes (part_missing (fault_by c.in-Part.damage) c.args.path.now c.args.salvaged.now) (g.R.Rack.seen c.args.ends.now.rack.now)
+    c.args.ends.now.vol.now x y
     (counted c.tell_part.new.salvaged c.tell_part.result) c.requires.ready
     (subst (λ (p : List ℕ). Wrote (part_missing (fault_by c.in-Part.damage) p c.args.salvaged.now) x y (counted c.tell_part.new.salvaged c.tell_part.result))
     c.as_bytes.ensures (c.tell_part.ensures sink calls)))
 
 pub list_found-returns-in-Entry-clause-ran : goal.list_found-returns-in-Entry-clause-ran
 list_found-returns-in-Entry-clause-ran g t c s e =
-    subst (λ (f : Found). Ran (meet_in c.args.job.now.plan s c.args.job.now.sums
-    (length c.args.below.now) c.args.root.now c.args.dirid c.args.path.now c.args.salvaged.now (found_in f c.args.name.now))
-    (world (g.R.Rack.seen c.args.rack.now) c.args.vol.now (outside (g.T.TreeSink.sink c.args.tree.now) (g.T.TreeSink.account c.args.tree.now)
-    (g.O.Out.text c.args.out.now) (g.O.Out.account c.args.out.now)))
-    (world (g.R.Rack.seen c.list_entry.new.rack) c.list_entry.new.vol
-    (outside (g.T.TreeSink.sink c.list_entry.new.tree) (g.T.TreeSink.account c.list_entry.new.tree) (g.O.Out.text c.list_entry.new.out)
-    (g.O.Out.account c.list_entry.new.out))) (counted c.list_entry.new.salvaged c.list_entry.result)) (sym c.in-Entry.is)
+    subst (λ (f : Found). Ran (meet_in c.args.dir.now.job.now.plan s c.args.dir.now.job.now.sums
+    (length c.args.below.now) c.args.dir.now.tree c.args.dir.now.dirid c.args.path.now c.args.salvaged.now (found_in f c.args.named.now.name.now))
+    (world_of g.R.Rack.seen g.T.TreeSink.sink g.T.TreeSink.account g.O.Out.text g.O.Out.account c.args.ends.now)
+    (world_of g.R.Rack.seen g.T.TreeSink.sink g.T.TreeSink.account g.O.Out.text g.O.Out.account c.list_entry.new.ends)
+    (counted c.list_entry.new.salvaged c.list_entry.result)) (sym c.in-Entry.is)
     (c.list_entry.ensures.ran s e)

@@ -1,5 +1,5 @@
 use Rattle.std.proofs.Common.{◌+◌, ◌*◌, length}
-use Rattle.btr_restore.specs.Running.{outside, world}
+use Rattle.btr_restore.specs.Ends.{SameEnds, world_of}
 use Rattle.btr_salvage.specs.Folders.{rank_of_folder}
 use Rattle.btr_salvage.specs.Listing.{IsUnderway}
 use Rattle.btr_salvage.proofs.listing.+listing.Given as goal
@@ -18,10 +18,9 @@ decreases-list_within g l = 4 * length l.folders.now
 
 abbrev pub invariant-list-loop-fault : goal.invariant-list-loop-fault
 invariant-list-loop-fault g l =
-    IsUnderway l.job.plan l.job.sums (length l.initial.below) l.root l.dirid l.initial.path l.initial.salvaged
-    (world (g.R.Rack.seen l.initial.rack) l.initial.vol (outside (g.T.TreeSink.sink l.initial.tree) (g.T.TreeSink.account l.initial.tree)
-    (g.O.Out.text l.initial.out) (g.O.Out.account l.initial.out)))
-    (world (g.R.Rack.seen l.rack) l.vol (outside (g.T.TreeSink.sink l.tree) (g.T.TreeSink.account l.tree) (g.O.Out.text l.out) (g.O.Out.account l.out)))
+    SameEnds l.initial.ends l.ends × IsUnderway l.dir.job.now.plan l.dir.job.now.sums (length l.initial.below) l.dir.tree l.dir.dirid l.initial.path l.initial.salvaged
+    (world_of g.R.Rack.seen g.T.TreeSink.sink g.T.TreeSink.account g.O.Out.text g.O.Out.account l.initial.ends)
+    (world_of g.R.Rack.seen g.T.TreeSink.sink g.T.TreeSink.account g.O.Out.text g.O.Out.account l.ends)
     l.salvaged l.here.folder l.path (length l.below)
 
 abbrev pub decreases-list-loop-fault : goal.decreases-list-loop-fault

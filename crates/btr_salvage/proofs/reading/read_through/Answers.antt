@@ -1,7 +1,7 @@
 use Rattle.std.proofs.Common.{Bool, sym, subst}
 use Rattle.btr_super.specs.declared.superblock.Super.{Super}
 use Rattle.btr_files.specs.Content.{content}
-use Rattle.btr_files.specs.Streaming.{Begins}
+use Rattle.btr_files.specs.Streaming.{BeginsFile}
 use Rattle.btr_files.specs.Sums.{kind_in}
 use Rattle.btr_restore.specs.Journey.{has_no_sums}
 use Rattle.btr_salvage.proofs.Readings.{passing_first, passing_over}
@@ -9,10 +9,10 @@ use Rattle.btr_salvage.proofs.reading.read_through.Goals as goal
 
 pub returns : goal.returns
 returns g c x s e =
-    let begins = subst (λ (b : Bool). Begins (kind_in c.args.vol.now.sup) c.new-file.result
+    let begins = subst (λ (b : Bool). BeginsFile (kind_in c.args.vol.now.sup) c.new-file.result
     (content (kind_in c.args.vol.now.sup) c.args.job.now.sums b c.args.inode.now.size c.args.root.now c.args.ino)) c.has_no_sums-nosum.ensures
     (c.new-file.ensures.program (kind_in c.args.vol.now.sup)) in
-    let begins_so = subst (λ (t : Super). Begins (kind_in c.args.vol.now.sup) c.new-file.result
+    let begins_so = subst (λ (t : Super). BeginsFile (kind_in c.args.vol.now.sup) c.new-file.result
     (content (kind_in t) c.args.job.now.sums (has_no_sums c.args.inode.now) c.args.inode.now.size c.args.root.now c.args.ino)) (sym e) begins in
     passing_over (content (kind_in s) c.args.job.now.sums (has_no_sums c.args.inode.now) c.args.inode.now.size c.args.root.now c.args.ino)
     (g.R.Rack.seen c.args.rack.now) c.args.vol.now (g.R.Rack.seen c.pass_pieces-read.new.rack) c.pass_pieces-read.new.vol c.finish.new.vol

@@ -19,12 +19,12 @@ returns-in-Err-clause-ran g c s e =
     let job = c.args.job.now in
     let met = met_by c.args.entry.now in
     missed (tries (decided (rules_of job.plan) s met)) (by_lookup job.plan s job.sums met c.args.salvaged.now) met.path c.args.salvaged.now c.miss.new.salvaged
-    (λ f. refl) c.in-Err.fault _ _ _ (g.T.TreeSink.sink c.args.tree.now)
-    (g.T.TreeSink.account c.args.tree.now) g.O.Out.text g.O.Out.account c.args.out.now c.miss.new.out c.miss.result c.miss.ensures.told
+    (λ f. refl) c.in-Err.fault _ _ _ (g.T.TreeSink.sink c.args.ends.now.tree.now)
+    (g.T.TreeSink.account c.args.ends.now.tree.now) g.O.Out.text g.O.Out.account c.args.ends.now.out.now c.miss.new.out c.miss.result c.miss.ensures.told
     (looked_fault job c.args.entry.now c.args.salvaged.now s _ c.rules_of-rules.ensures _ _ e _ _ _ c.requires.ready _ c.in-Err.ensures.looked)
 
 pub returns-in-Err-clause-stands : goal.returns-in-Err-clause-stands
-returns-in-Err-clause-stands g c = stands_over c.args.job.now.plan.dry (g.T.TreeSink.sink c.args.tree.now) c.miss.result c.miss.ensures.over
+returns-in-Err-clause-stands g c = stands_over c.args.job.now.plan.dry (g.T.TreeSink.sink c.args.ends.now.tree.now) c.miss.result c.miss.ensures.over
 
 pub returns-in-Ok-clause-ran : goal.returns-in-Ok-clause-ran
 returns-in-Ok-clause-ran g c s e = looked_then c.args.job.now c.args.entry.now c.args.salvaged.now s _ c.rules_of-rules.ensures _ _ e _ _ _ c.requires.ready _

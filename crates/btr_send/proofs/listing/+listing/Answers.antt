@@ -15,7 +15,8 @@ use Rattle.btr_listing.specs.Lines.{path_in}
 use Rattle.btr_restore.specs.Treating.{came_to}
 use Rattle.btr_restore.specs.Listing.{ended_with}
 use Rattle.btr_send.specs.Listing.{listing_in, treat_in}
-use Rattle.btr_restore.specs.Running.{Ran, outside, world}
+use Rattle.btr_restore.specs.Ends.{world_of}
+use Rattle.btr_restore.specs.Running.{Ran, outside_of, world}
 use Rattle.btr_listing.specs.Step.{Step}
 use Rattle.btr_restore.proofs.Listings.{listed_first, listed_fault, listed_end, listed_step, listed_halt}
 use Rattle.btr_restore.proofs.Cycles.{deep_is, ended_passed, some_place}
@@ -25,67 +26,67 @@ use Rattle.btr_volume.proofs.Onward.{reads_on}
 use Rattle.btr_send.proofs.listing.+listing.Goals as goal
 
 pub list-loop-fault-init : goal.list-loop-fault-init
-list-loop-fault-init g t c = record {
-  ready = c.requires.ready;
-  reads_on = c.new-here.ensures.dir;
-  same_path = refl;
-  same_below = refl;
-  stage = c.requires.begun;
-  listed = λ s e. listed_first (treat_in c.args.sums s (length c.args.below.now) c.args.root c.args.dirid c.args.path.now) (world
-      (g.R.Rack.seen c.args.rack.now) c.args.vol.now (outside (g.T.TreeSink.sink c.args.tree.now) (g.T.TreeSink.account c.args.tree.now)
-      (g.O.Out.text c.args.out.now) (g.O.Out.account c.args.out.now))) c.args.counts.now c.new-here.result
-      (entries c.args.root c.args.dirid) c.requires.ready c.new-here.ensures.program c.new-here.ensures.on;
-}
+list-loop-fault-init g t c = (
+  record { rack = refl; vol = refl; tree = refl; out = refl },
+  record {
+    ready = c.requires.ready;
+    reads_on = c.new-here.ensures.dir;
+    same_path = refl;
+    same_below = refl;
+    stage = c.requires.begun;
+    listed = λ s e. listed_first (treat_in c.args.dir.now.sums s (length c.args.below.now) c.args.dir.now.tree c.args.dir.now.dirid c.args.scratch.now.path)
+        (world_of g.R.Rack.seen g.T.TreeSink.sink g.T.TreeSink.account g.O.Out.text g.O.Out.account c.args.ends.now) c.args.counts.now c.new-here.result
+        (entries c.args.dir.now.tree c.args.dir.now.dirid) c.requires.ready c.new-here.ensures.program c.new-here.ensures.on;
+  },
+)
 
 pub list-next-requires-clause-serves : goal.list-next-requires-clause-serves
-list-next-requires-clause-serves g t c = c.loop-fault.invariant.ready.serves
+list-next-requires-clause-serves g t c = c.loop-fault.invariant.1.ready.serves
 
 pub list-next-requires-clause-room : goal.list-next-requires-clause-room
-list-next-requires-clause-room g t c = omega (arith, c.loop-fault.invariant.ready.room)
+list-next-requires-clause-room g t c = omega (arith, c.loop-fault.invariant.1.ready.room)
 
 pub list-next-requires-clause-dir : goal.list-next-requires-clause-dir
-list-next-requires-clause-dir g t c = c.loop-fault.invariant.reads_on
+list-next-requires-clause-dir g t c = c.loop-fault.invariant.1.reads_on
 
 pub list-returns-in-Err-clause-ran : goal.list-returns-in-Err-clause-ran
 list-returns-in-Err-clause-ran g t c s e =
-    subst (λ (p : Program Step Counts). Ran p (world (g.R.Rack.seen c.args.rack.now) c.args.vol.now (outside (g.T.TreeSink.sink c.args.tree.now)
-    (g.T.TreeSink.account c.args.tree.now) (g.O.Out.text c.args.out.now) (g.O.Out.account c.args.out.now))) (world
-    (g.R.Rack.seen c.next.new.rack) c.next.new.vol (outside (g.T.TreeSink.sink c.loop-fault.tree) (g.T.TreeSink.account c.loop-fault.tree)
-    (g.O.Out.text c.loop-fault.out) (g.O.Out.account c.loop-fault.out))) (Err (Tree c.in-Err.fault))) (directory_is s c.args.sums
-    (length c.args.below.now) c.args.root c.args.dirid c.args.path.now c.args.counts.now)
-    (listed_fault (treat_in c.args.sums s (length c.args.below.now) c.args.root c.args.dirid c.args.path.now) (world
-    (g.R.Rack.seen c.args.rack.now) c.args.vol.now (outside (g.T.TreeSink.sink c.args.tree.now) (g.T.TreeSink.account c.args.tree.now)
-    (g.O.Out.text c.args.out.now) (g.O.Out.account c.args.out.now))) (each (treat_in c.args.sums s
-    (length c.args.below.now) c.args.root c.args.dirid c.args.path.now) c.args.counts.now (entries c.args.root c.args.dirid)) (world
-    (g.R.Rack.seen c.loop-fault.rack) c.loop-fault.vol (outside (g.T.TreeSink.sink c.loop-fault.tree) (g.T.TreeSink.account c.loop-fault.tree)
-    (g.O.Out.text c.loop-fault.out) (g.O.Out.account c.loop-fault.out))) c.loop-fault.counts c.loop-fault.here.dir c.next.new.self c.next.new.name
-    (g.R.Rack.seen c.next.new.rack) c.next.new.vol (c.loop-fault.invariant.listed s e) c.in-Err.ensures.reads c.in-Err.ensures.volume
-    (reads_on _ _ _ c.loop-fault.invariant.ready c.in-Err.ensures.serves c.in-Err.ensures.volume) c.in-Err.fault c.in-Err.ensures.cause
+    subst (λ (p : Program Step Counts). Ran p (world_of g.R.Rack.seen g.T.TreeSink.sink g.T.TreeSink.account g.O.Out.text g.O.Out.account c.args.ends.now)
+    (world
+    (g.R.Rack.seen c.next.new.rack) c.next.new.vol (outside_of g.T.TreeSink.sink g.T.TreeSink.account g.O.Out.text g.O.Out.account
+    c.loop-fault.ends.tree.now c.loop-fault.ends.out.now)) (Err (Tree c.in-Err.fault))) (directory_is s c.args.dir.now.sums
+    (length c.args.below.now) c.args.dir.now.tree c.args.dir.now.dirid c.args.scratch.now.path c.args.counts.now)
+    (listed_fault (treat_in c.args.dir.now.sums s (length c.args.below.now) c.args.dir.now.tree c.args.dir.now.dirid c.args.scratch.now.path)
+    (world_of g.R.Rack.seen g.T.TreeSink.sink g.T.TreeSink.account g.O.Out.text g.O.Out.account c.args.ends.now) (each (treat_in c.args.dir.now.sums s
+    (length c.args.below.now) c.args.dir.now.tree c.args.dir.now.dirid c.args.scratch.now.path) c.args.counts.now
+    (entries c.args.dir.now.tree c.args.dir.now.dirid)) (world_of g.R.Rack.seen g.T.TreeSink.sink g.T.TreeSink.account g.O.Out.text g.O.Out.account
+    c.loop-fault.ends) c.loop-fault.counts c.loop-fault.here.dir c.next.new.self c.next.new.name
+    (g.R.Rack.seen c.next.new.rack) c.next.new.vol (c.loop-fault.invariant.1.listed s e) c.in-Err.ensures.reads c.in-Err.ensures.volume
+    (reads_on _ _ _ c.loop-fault.invariant.1.ready c.in-Err.ensures.serves c.in-Err.ensures.volume) c.in-Err.fault c.in-Err.ensures.cause
     c.in-Err.ensures.content)
 
 pub list-returns-in-Ok-None-clause-ran : goal.list-returns-in-Ok-None-clause-ran
 list-returns-in-Ok-None-clause-ran g t c s e =
-    subst (λ (p : Program Step Counts). Ran p (world (g.R.Rack.seen c.args.rack.now) c.args.vol.now (outside (g.T.TreeSink.sink c.args.tree.now)
-    (g.T.TreeSink.account c.args.tree.now) (g.O.Out.text c.args.out.now) (g.O.Out.account c.args.out.now))) (world
-    (g.R.Rack.seen c.next.new.rack) c.next.new.vol (outside (g.T.TreeSink.sink c.loop-fault.tree) (g.T.TreeSink.account c.loop-fault.tree)
-    (g.O.Out.text c.loop-fault.out) (g.O.Out.account c.loop-fault.out))) (Ok c.loop-fault.counts)) (directory_is s c.args.sums
-    (length c.args.below.now) c.args.root c.args.dirid c.args.path.now c.args.counts.now)
-    (listed_end (treat_in c.args.sums s (length c.args.below.now) c.args.root c.args.dirid c.args.path.now) (world
-    (g.R.Rack.seen c.args.rack.now) c.args.vol.now (outside (g.T.TreeSink.sink c.args.tree.now) (g.T.TreeSink.account c.args.tree.now)
-    (g.O.Out.text c.args.out.now) (g.O.Out.account c.args.out.now))) (each (treat_in c.args.sums s
-    (length c.args.below.now) c.args.root c.args.dirid c.args.path.now) c.args.counts.now (entries c.args.root c.args.dirid)) (world
-    (g.R.Rack.seen c.loop-fault.rack) c.loop-fault.vol (outside (g.T.TreeSink.sink c.loop-fault.tree) (g.T.TreeSink.account c.loop-fault.tree)
-    (g.O.Out.text c.loop-fault.out) (g.O.Out.account c.loop-fault.out))) c.loop-fault.counts c.loop-fault.here.dir c.next.new.self c.next.new.name
-    (g.R.Rack.seen c.next.new.rack) c.next.new.vol (c.loop-fault.invariant.listed s e) c.in-Ok-None.ensures.reads c.in-Ok-None.ensures.volume
-    (reads_on _ _ _ c.loop-fault.invariant.ready c.in-Ok-None.ensures.serves c.in-Ok-None.ensures.volume) c.next.result (c.in-Ok-None.is
+    subst (λ (p : Program Step Counts). Ran p (world_of g.R.Rack.seen g.T.TreeSink.sink g.T.TreeSink.account g.O.Out.text g.O.Out.account c.args.ends.now)
+    (world
+    (g.R.Rack.seen c.next.new.rack) c.next.new.vol (outside_of g.T.TreeSink.sink g.T.TreeSink.account g.O.Out.text g.O.Out.account
+    c.loop-fault.ends.tree.now c.loop-fault.ends.out.now)) (Ok c.loop-fault.counts)) (directory_is s c.args.dir.now.sums
+    (length c.args.below.now) c.args.dir.now.tree c.args.dir.now.dirid c.args.scratch.now.path c.args.counts.now)
+    (listed_end (treat_in c.args.dir.now.sums s (length c.args.below.now) c.args.dir.now.tree c.args.dir.now.dirid c.args.scratch.now.path)
+    (world_of g.R.Rack.seen g.T.TreeSink.sink g.T.TreeSink.account g.O.Out.text g.O.Out.account c.args.ends.now) (each (treat_in c.args.dir.now.sums s
+    (length c.args.below.now) c.args.dir.now.tree c.args.dir.now.dirid c.args.scratch.now.path) c.args.counts.now
+    (entries c.args.dir.now.tree c.args.dir.now.dirid)) (world_of g.R.Rack.seen g.T.TreeSink.sink g.T.TreeSink.account g.O.Out.text g.O.Out.account
+    c.loop-fault.ends) c.loop-fault.counts c.loop-fault.here.dir c.next.new.self c.next.new.name
+    (g.R.Rack.seen c.next.new.rack) c.next.new.vol (c.loop-fault.invariant.1.listed s e) c.in-Ok-None.ensures.reads c.in-Ok-None.ensures.volume
+    (reads_on _ _ _ c.loop-fault.invariant.1.ready c.in-Ok-None.ensures.serves c.in-Ok-None.ensures.volume) c.next.result (c.in-Ok-None.is
     ∙ ap Ok c.in-Ok-None.field-0-is) c.next.ensures.content)
 
 pub list-returns-in-Ok-None-clause-path : goal.list-returns-in-Ok-None-clause-path
-list-returns-in-Ok-None-clause-path g t c = c.loop-fault.invariant.same_path
+list-returns-in-Ok-None-clause-path g t c = c.loop-fault.invariant.1.same_path
 
 pub list-list_entry-requires : goal.list-list_entry-requires
 list-list_entry-requires g t c κs within = (
-  omega (arith, c.decreases, c.loop-fault.invariant.same_below),
+  omega (arith, c.decreases, c.loop-fault.invariant.1.same_below),
   (
     within.0,
     (
@@ -93,8 +94,8 @@ list-list_entry-requires g t c κs within = (
       (
         within.1.1,
         (
-          reads_on _ _ _ c.loop-fault.invariant.ready c.in-Ok-Some.ensures.serves c.in-Ok-Some.ensures.volume,
-          c.loop-fault.invariant.stage,
+          reads_on _ _ _ c.loop-fault.invariant.1.ready c.in-Ok-Some.ensures.serves c.in-Ok-Some.ensures.volume,
+          c.loop-fault.invariant.1.stage,
         ),
       ),
     ),
@@ -106,73 +107,71 @@ list-loop-fault-smaller g t c = subst (λ (r : Option DirRow). DirNears c.loop-f
     (Ok r)) c.in-Ok-Some.field-0-is c.in-Ok-Some.ensures.nears
 
 pub list-loop-fault-preserved : goal.list-loop-fault-preserved
-list-loop-fault-preserved g t c =
-    record {
-      ready = (c.in_ok-list_entry-in-Ok-Some.ensures.ran c.next.new.vol.sup refl).ready;
-      reads_on = c.in-Ok-Some.ensures.dir;
-      same_path = c.cut.ensures ∙ (ap (λ (n : ℕ). take n c.list_entry.new.path) (c.len-len.ensures ∙ ap length (sym c.loop-fault.invariant.same_path))
-          ∙ (c.in_ok-list_entry-in-Ok-Some.ensures.path ∙ c.loop-fault.invariant.same_path));
-      same_below = c.list_entry.auto.below ∙ c.loop-fault.invariant.same_below;
-      stage = c.list_entry.ensures.stage;
-      listed = λ s e. listed_step (treat_in c.args.sums s (length c.args.below.now) c.args.root c.args.dirid c.args.path.now) (world
-          (g.R.Rack.seen c.args.rack.now) c.args.vol.now (outside (g.T.TreeSink.sink c.args.tree.now) (g.T.TreeSink.account c.args.tree.now)
-          (g.O.Out.text c.args.out.now) (g.O.Out.account c.args.out.now))) (each (treat_in c.args.sums s
-          (length c.args.below.now) c.args.root c.args.dirid c.args.path.now) c.args.counts.now (entries c.args.root c.args.dirid)) (world
-          (g.R.Rack.seen c.loop-fault.rack) c.loop-fault.vol (outside (g.T.TreeSink.sink c.loop-fault.tree) (g.T.TreeSink.account c.loop-fault.tree)
-          (g.O.Out.text c.loop-fault.out) (g.O.Out.account c.loop-fault.out))) c.loop-fault.counts c.loop-fault.here.dir c.next.new.self c.next.new.name
-          (g.R.Rack.seen c.next.new.rack) c.next.new.vol (c.loop-fault.invariant.listed s e) c.in-Ok-Some.ensures.reads c.in-Ok-Some.ensures.volume
-          (reads_on _ _ _ c.loop-fault.invariant.ready c.in-Ok-Some.ensures.serves c.in-Ok-Some.ensures.volume) c.in-Ok-Some.row c.next.result
-          (c.in-Ok-Some.is ∙ ap Ok c.in-Ok-Some.field-0-is) c.next.ensures.content (world (g.R.Rack.seen c.list_entry.new.rack) c.list_entry.new.vol (outside
-          (g.T.TreeSink.sink c.list_entry.new.tree) (g.T.TreeSink.account c.list_entry.new.tree) (g.O.Out.text c.list_entry.new.out)
-          (g.O.Out.account c.list_entry.new.out))) c.list_entry.new.counts
-          (subst (λ (k : ℕ). Ran (treat_in c.args.sums s k c.args.root c.args.dirid c.args.path.now c.loop-fault.counts
-          (named_row c.in-Ok-Some.row c.next.new.name)) (world (g.R.Rack.seen c.next.new.rack) c.next.new.vol (outside
-          (g.T.TreeSink.sink c.loop-fault.tree) (g.T.TreeSink.account c.loop-fault.tree) (g.O.Out.text c.loop-fault.out)
-          (g.O.Out.account c.loop-fault.out))) (world (g.R.Rack.seen c.list_entry.new.rack) c.list_entry.new.vol (outside
-          (g.T.TreeSink.sink c.list_entry.new.tree) (g.T.TreeSink.account c.list_entry.new.tree) (g.O.Out.text c.list_entry.new.out)
-          (g.O.Out.account c.list_entry.new.out))) (Ok c.list_entry.new.counts)) c.loop-fault.invariant.same_below
-          (subst (λ (p : List ℕ). Ran (treat_in c.args.sums s (length c.loop-fault.below) c.args.root c.args.dirid p c.loop-fault.counts
-          (named_row c.in-Ok-Some.row c.next.new.name)) (world (g.R.Rack.seen c.next.new.rack) c.next.new.vol (outside
-          (g.T.TreeSink.sink c.loop-fault.tree) (g.T.TreeSink.account c.loop-fault.tree) (g.O.Out.text c.loop-fault.out)
-          (g.O.Out.account c.loop-fault.out))) (world (g.R.Rack.seen c.list_entry.new.rack) c.list_entry.new.vol (outside
-          (g.T.TreeSink.sink c.list_entry.new.tree) (g.T.TreeSink.account c.list_entry.new.tree) (g.O.Out.text c.list_entry.new.out)
-          (g.O.Out.account c.list_entry.new.out))) (Ok c.list_entry.new.counts)) c.loop-fault.invariant.same_path
-          (c.in_ok-list_entry-in-Ok-Some.ensures.ran s (e ∙ (sym (c.loop-fault.invariant.listed s e).volume.sup ∙ sym c.in-Ok-Some.ensures.volume.sup)))));
-    }
+list-loop-fault-preserved g t c = (
+  record {
+    rack = c.in_ok-list_entry-in-Ok-Some.ensures.same.rack ∙ c.loop-fault.invariant.0.rack;
+    vol = c.in_ok-list_entry-in-Ok-Some.ensures.same.vol ∙ c.loop-fault.invariant.0.vol;
+    tree = c.in_ok-list_entry-in-Ok-Some.ensures.same.tree ∙ c.loop-fault.invariant.0.tree;
+    out = c.in_ok-list_entry-in-Ok-Some.ensures.same.out ∙ c.loop-fault.invariant.0.out;
+  },
+  record {
+    ready = (c.in_ok-list_entry-in-Ok-Some.ensures.ran c.next.new.vol.sup refl).ready;
+    reads_on = c.in-Ok-Some.ensures.dir;
+    same_path = c.cut.ensures ∙ (ap (λ (n : ℕ). take n c.list_entry.new.scratch.path) (c.len-len.ensures ∙ ap length (sym c.loop-fault.invariant.1.same_path))
+        ∙ (c.in_ok-list_entry-in-Ok-Some.ensures.path ∙ c.loop-fault.invariant.1.same_path));
+    same_below = c.list_entry.auto.below ∙ c.loop-fault.invariant.1.same_below;
+    stage = c.list_entry.ensures.stage;
+    listed = λ s e. listed_step (treat_in c.args.dir.now.sums s (length c.args.below.now) c.args.dir.now.tree c.args.dir.now.dirid
+        c.args.scratch.now.path) (world_of g.R.Rack.seen g.T.TreeSink.sink g.T.TreeSink.account g.O.Out.text g.O.Out.account c.args.ends.now) (each
+        (treat_in c.args.dir.now.sums s
+        (length c.args.below.now) c.args.dir.now.tree c.args.dir.now.dirid c.args.scratch.now.path) c.args.counts.now
+        (entries c.args.dir.now.tree c.args.dir.now.dirid)) (world_of g.R.Rack.seen g.T.TreeSink.sink g.T.TreeSink.account g.O.Out.text
+        g.O.Out.account c.loop-fault.ends) c.loop-fault.counts c.loop-fault.here.dir c.next.new.self c.next.new.name
+        (g.R.Rack.seen c.next.new.rack) c.next.new.vol (c.loop-fault.invariant.1.listed s e) c.in-Ok-Some.ensures.reads c.in-Ok-Some.ensures.volume
+        (reads_on _ _ _ c.loop-fault.invariant.1.ready c.in-Ok-Some.ensures.serves c.in-Ok-Some.ensures.volume) c.in-Ok-Some.row c.next.result
+        (c.in-Ok-Some.is ∙ ap Ok c.in-Ok-Some.field-0-is) c.next.ensures.content (world_of g.R.Rack.seen g.T.TreeSink.sink g.T.TreeSink.account
+        g.O.Out.text g.O.Out.account c.list_entry.new.ends) c.list_entry.new.counts
+        (subst (λ (k : ℕ). Ran (treat_in c.args.dir.now.sums s k c.args.dir.now.tree c.args.dir.now.dirid c.args.scratch.now.path c.loop-fault.counts
+        (named_row c.in-Ok-Some.row c.next.new.name)) (world (g.R.Rack.seen c.next.new.rack) c.next.new.vol
+        (outside_of g.T.TreeSink.sink g.T.TreeSink.account g.O.Out.text g.O.Out.account c.loop-fault.ends.tree.now c.loop-fault.ends.out.now))
+        (world_of g.R.Rack.seen g.T.TreeSink.sink g.T.TreeSink.account g.O.Out.text g.O.Out.account c.list_entry.new.ends)
+        (Ok c.list_entry.new.counts)) c.loop-fault.invariant.1.same_below
+        (subst (λ (p : List ℕ). Ran (treat_in c.args.dir.now.sums s (length c.loop-fault.below) c.args.dir.now.tree c.args.dir.now.dirid p c.loop-fault.counts
+        (named_row c.in-Ok-Some.row c.next.new.name)) (world (g.R.Rack.seen c.next.new.rack) c.next.new.vol
+        (outside_of g.T.TreeSink.sink g.T.TreeSink.account g.O.Out.text g.O.Out.account c.loop-fault.ends.tree.now c.loop-fault.ends.out.now))
+        (world_of g.R.Rack.seen g.T.TreeSink.sink g.T.TreeSink.account g.O.Out.text g.O.Out.account c.list_entry.new.ends)
+        (Ok c.list_entry.new.counts)) c.loop-fault.invariant.1.same_path
+        (c.in_ok-list_entry-in-Ok-Some.ensures.ran s (e ∙ (sym (c.loop-fault.invariant.1.listed s e).volume.sup ∙ sym c.in-Ok-Some.ensures.volume.sup)))));
+  },
+)
 
 pub list-returns-in_err-list_entry-in-Ok-Some-clause-ran : goal.list-returns-in_err-list_entry-in-Ok-Some-clause-ran
 list-returns-in_err-list_entry-in-Ok-Some-clause-ran g t c s e =
     ran_passed _ (ended_passed _ _ _ c.from_residual.ensures.1)
-    (subst (λ (p : Program Step Counts). Ran p (world (g.R.Rack.seen c.args.rack.now) c.args.vol.now (outside (g.T.TreeSink.sink c.args.tree.now)
-    (g.T.TreeSink.account c.args.tree.now) (g.O.Out.text c.args.out.now) (g.O.Out.account c.args.out.now))) (world
-    (g.R.Rack.seen c.list_entry.new.rack) c.list_entry.new.vol (outside (g.T.TreeSink.sink c.list_entry.new.tree)
-    (g.T.TreeSink.account c.list_entry.new.tree) (g.O.Out.text c.list_entry.new.out) (g.O.Out.account c.list_entry.new.out)))
+    (subst (λ (p : Program Step Counts). Ran p (world_of g.R.Rack.seen g.T.TreeSink.sink g.T.TreeSink.account g.O.Out.text g.O.Out.account c.args.ends.now)
+    (world_of g.R.Rack.seen g.T.TreeSink.sink g.T.TreeSink.account g.O.Out.text g.O.Out.account c.list_entry.new.ends)
     (Err c.in_err-list_entry-in-Ok-Some.field-0.0))
-    (directory_is s c.args.sums (length c.args.below.now) c.args.root c.args.dirid c.args.path.now c.args.counts.now)
-    (listed_halt (treat_in c.args.sums s (length c.args.below.now) c.args.root c.args.dirid c.args.path.now) (world
-    (g.R.Rack.seen c.args.rack.now) c.args.vol.now (outside (g.T.TreeSink.sink c.args.tree.now) (g.T.TreeSink.account c.args.tree.now)
-    (g.O.Out.text c.args.out.now) (g.O.Out.account c.args.out.now))) (each (treat_in c.args.sums s
-    (length c.args.below.now) c.args.root c.args.dirid c.args.path.now) c.args.counts.now (entries c.args.root c.args.dirid)) (world
-    (g.R.Rack.seen c.loop-fault.rack) c.loop-fault.vol (outside (g.T.TreeSink.sink c.loop-fault.tree) (g.T.TreeSink.account c.loop-fault.tree)
-    (g.O.Out.text c.loop-fault.out) (g.O.Out.account c.loop-fault.out))) c.loop-fault.counts c.loop-fault.here.dir c.next.new.self c.next.new.name
-    (g.R.Rack.seen c.next.new.rack) c.next.new.vol (c.loop-fault.invariant.listed s e) c.in-Ok-Some.ensures.reads c.in-Ok-Some.ensures.volume
-    (reads_on _ _ _ c.loop-fault.invariant.ready c.in-Ok-Some.ensures.serves c.in-Ok-Some.ensures.volume) c.in-Ok-Some.row c.next.result
-    (c.in-Ok-Some.is ∙ ap Ok c.in-Ok-Some.field-0-is) c.next.ensures.content (world (g.R.Rack.seen c.list_entry.new.rack) c.list_entry.new.vol (outside
-    (g.T.TreeSink.sink c.list_entry.new.tree) (g.T.TreeSink.account c.list_entry.new.tree) (g.O.Out.text c.list_entry.new.out)
-    (g.O.Out.account c.list_entry.new.out))) c.in_err-list_entry-in-Ok-Some.field-0.0
-    (subst (λ (k : ℕ). Ran (treat_in c.args.sums s k c.args.root c.args.dirid c.args.path.now c.loop-fault.counts
-    (named_row c.in-Ok-Some.row c.next.new.name)) (world (g.R.Rack.seen c.next.new.rack) c.next.new.vol (outside (g.T.TreeSink.sink c.loop-fault.tree)
-    (g.T.TreeSink.account c.loop-fault.tree) (g.O.Out.text c.loop-fault.out) (g.O.Out.account c.loop-fault.out))) (world
-    (g.R.Rack.seen c.list_entry.new.rack) c.list_entry.new.vol (outside (g.T.TreeSink.sink c.list_entry.new.tree)
-    (g.T.TreeSink.account c.list_entry.new.tree) (g.O.Out.text c.list_entry.new.out) (g.O.Out.account c.list_entry.new.out)))
-    (Err c.in_err-list_entry-in-Ok-Some.field-0.0)) c.loop-fault.invariant.same_below
-    (subst (λ (p : List ℕ). Ran (treat_in c.args.sums s (length c.loop-fault.below) c.args.root c.args.dirid p c.loop-fault.counts
-    (named_row c.in-Ok-Some.row c.next.new.name)) (world (g.R.Rack.seen c.next.new.rack) c.next.new.vol (outside (g.T.TreeSink.sink c.loop-fault.tree)
-    (g.T.TreeSink.account c.loop-fault.tree) (g.O.Out.text c.loop-fault.out) (g.O.Out.account c.loop-fault.out))) (world
-    (g.R.Rack.seen c.list_entry.new.rack) c.list_entry.new.vol (outside (g.T.TreeSink.sink c.list_entry.new.tree)
-    (g.T.TreeSink.account c.list_entry.new.tree) (g.O.Out.text c.list_entry.new.out) (g.O.Out.account c.list_entry.new.out)))
-    (Err c.in_err-list_entry-in-Ok-Some.field-0.0)) c.loop-fault.invariant.same_path
-    (c.in_err-list_entry-in-Ok-Some.ensures.ran s (e ∙ (sym (c.loop-fault.invariant.listed s e).volume.sup ∙ sym c.in-Ok-Some.ensures.volume.sup)))))))
+    (directory_is s c.args.dir.now.sums (length c.args.below.now) c.args.dir.now.tree c.args.dir.now.dirid c.args.scratch.now.path c.args.counts.now)
+    (listed_halt (treat_in c.args.dir.now.sums s (length c.args.below.now) c.args.dir.now.tree c.args.dir.now.dirid c.args.scratch.now.path)
+    (world_of g.R.Rack.seen g.T.TreeSink.sink g.T.TreeSink.account g.O.Out.text g.O.Out.account c.args.ends.now) (each (treat_in c.args.dir.now.sums s
+    (length c.args.below.now) c.args.dir.now.tree c.args.dir.now.dirid c.args.scratch.now.path) c.args.counts.now
+    (entries c.args.dir.now.tree c.args.dir.now.dirid)) (world_of g.R.Rack.seen g.T.TreeSink.sink g.T.TreeSink.account g.O.Out.text g.O.Out.account
+    c.loop-fault.ends) c.loop-fault.counts c.loop-fault.here.dir c.next.new.self c.next.new.name
+    (g.R.Rack.seen c.next.new.rack) c.next.new.vol (c.loop-fault.invariant.1.listed s e) c.in-Ok-Some.ensures.reads c.in-Ok-Some.ensures.volume
+    (reads_on _ _ _ c.loop-fault.invariant.1.ready c.in-Ok-Some.ensures.serves c.in-Ok-Some.ensures.volume) c.in-Ok-Some.row c.next.result
+    (c.in-Ok-Some.is ∙ ap Ok c.in-Ok-Some.field-0-is) c.next.ensures.content (world_of g.R.Rack.seen g.T.TreeSink.sink g.T.TreeSink.account g.O.Out.text
+    g.O.Out.account c.list_entry.new.ends) c.in_err-list_entry-in-Ok-Some.field-0.0
+    (subst (λ (k : ℕ). Ran (treat_in c.args.dir.now.sums s k c.args.dir.now.tree c.args.dir.now.dirid c.args.scratch.now.path c.loop-fault.counts
+    (named_row c.in-Ok-Some.row c.next.new.name)) (world (g.R.Rack.seen c.next.new.rack) c.next.new.vol
+    (outside_of g.T.TreeSink.sink g.T.TreeSink.account g.O.Out.text g.O.Out.account c.loop-fault.ends.tree.now c.loop-fault.ends.out.now))
+    (world_of g.R.Rack.seen g.T.TreeSink.sink g.T.TreeSink.account g.O.Out.text g.O.Out.account c.list_entry.new.ends)
+    (Err c.in_err-list_entry-in-Ok-Some.field-0.0)) c.loop-fault.invariant.1.same_below
+    (subst (λ (p : List ℕ). Ran (treat_in c.args.dir.now.sums s (length c.loop-fault.below) c.args.dir.now.tree c.args.dir.now.dirid p c.loop-fault.counts
+    (named_row c.in-Ok-Some.row c.next.new.name)) (world (g.R.Rack.seen c.next.new.rack) c.next.new.vol
+    (outside_of g.T.TreeSink.sink g.T.TreeSink.account g.O.Out.text g.O.Out.account c.loop-fault.ends.tree.now c.loop-fault.ends.out.now))
+    (world_of g.R.Rack.seen g.T.TreeSink.sink g.T.TreeSink.account g.O.Out.text g.O.Out.account c.list_entry.new.ends)
+    (Err c.in_err-list_entry-in-Ok-Some.field-0.0)) c.loop-fault.invariant.1.same_path
+    (c.in_err-list_entry-in-Ok-Some.ensures.ran s (e ∙ (sym (c.loop-fault.invariant.1.listed s e).volume.sup ∙ sym c.in-Ok-Some.ensures.volume.sup)))))))
 
 pub list_entry-returns-in-Err-clause-ran : goal.list_entry-returns-in-Err-clause-ran
 list_entry-returns-in-Err-clause-ran g t c s e =
@@ -188,10 +187,10 @@ list_entry-list_within-requires g t c κs within = (
       (
         within.1.1,
         (
-          (c.treat.ensures.ran c.args.vol.now.sup refl).ready,
+          (c.treat.ensures.ran c.args.ends.now.vol.now.sup refl).ready,
           (
             c.treat.ensures.stage,
-            some_place (length c.args.below.now) c.is_empty.result c.in_ok-treat.field-0 c.in-Within.inner c.in-Within.dirid (λ z. c.is_empty.ensures
+            some_place (length c.args.below.now) c.is_empty.result c.in_ok-treat.field-0 c.in-Within.tree c.in-Within.dirid (λ z. c.is_empty.ensures
                 ∙ ap (λ (k : ℕ). k == 0) z) c.in-Within.is c.in_ok-treat.ensures.flat,
           ),
         ),
@@ -203,59 +202,50 @@ list_entry-list_within-requires g t c κs within = (
 pub list_entry-returns-in_err-treat-clause-ran : goal.list_entry-returns-in_err-treat-clause-ran
 list_entry-returns-in_err-treat-clause-ran g t c s e =
     ran_passed _ (ended_passed _ _ _ c.from_residual.ensures.1)
-    (entry_halts s c.args.sums (length c.args.below.now) c.is_empty.result (c.is_empty.ensures
-    ∙ deep_is (length c.args.below.now)) c.args.root.now c.args.dirid c.args.path.now c.args.counts.now (named_row c.args.row c.args.name.now) (world
-    (g.R.Rack.seen c.args.rack.now) c.args.vol.now (outside (g.T.TreeSink.sink c.args.tree.now) (g.T.TreeSink.account c.args.tree.now)
-    (g.O.Out.text c.args.out.now) (g.O.Out.account c.args.out.now))) (world (g.R.Rack.seen c.treat.new.rack) c.treat.new.vol (outside
-    (g.T.TreeSink.sink c.treat.new.tree) (g.T.TreeSink.account c.treat.new.tree) (g.O.Out.text c.treat.new.out) (g.O.Out.account c.treat.new.out))) (world
-    (g.R.Rack.seen c.treat.new.rack) c.treat.new.vol (outside (g.T.TreeSink.sink c.treat.new.tree) (g.T.TreeSink.account c.treat.new.tree)
-    (g.O.Out.text c.treat.new.out) (g.O.Out.account c.treat.new.out))) c.in_err-treat.field-0.0
-    (treated_in s c.args.sums c.is_empty.result c.args.root.now c.args.dirid c.args.path.now _ c.args.counts.now
-    (named_row c.args.row c.args.name.now) _ _ _ (c.as_bytes-2.ensures ∙ (c.in-Ok.ensures
-    ∙ ap (path_in c.args.path.now) c.as_bytes.ensures)) (c.in_err-treat.ensures.ran s e)))
+    (entry_halts s c.args.dir.now.sums (length c.args.below.now) c.is_empty.result (c.is_empty.ensures
+    ∙ deep_is (length c.args.below.now)) c.args.dir.now.tree c.args.dir.now.dirid c.args.scratch.now.path c.args.counts.now
+    (named_row c.args.named.now.row c.args.named.now.name.now) (world_of g.R.Rack.seen g.T.TreeSink.sink g.T.TreeSink.account g.O.Out.text g.O.Out.account
+    c.args.ends.now) (world_of g.R.Rack.seen g.T.TreeSink.sink g.T.TreeSink.account g.O.Out.text g.O.Out.account c.treat.new.ends)
+    (world_of g.R.Rack.seen g.T.TreeSink.sink g.T.TreeSink.account g.O.Out.text g.O.Out.account c.treat.new.ends) c.in_err-treat.field-0.0
+    (treated_in s c.args.dir.now.sums c.is_empty.result c.args.dir.now.tree c.args.dir.now.dirid c.args.scratch.now.path _ c.args.counts.now
+    (named_row c.args.named.now.row c.args.named.now.name.now) _ _ _ (c.as_bytes-2.ensures ∙ (c.in-Ok.ensures
+    ∙ ap (path_in c.args.scratch.now.path) c.as_bytes.ensures)) (c.in_err-treat.ensures.ran s e)))
 
 pub list_entry-returns-in-Over-clause-ran : goal.list_entry-returns-in-Over-clause-ran
 list_entry-returns-in-Over-clause-ran g t c s e =
-    entry_over s c.args.sums (length c.args.below.now) c.is_empty.result (c.is_empty.ensures
-    ∙ deep_is (length c.args.below.now)) c.args.root.now c.args.dirid c.args.path.now c.args.counts.now (named_row c.args.row c.args.name.now) (world
-    (g.R.Rack.seen c.args.rack.now) c.args.vol.now (outside (g.T.TreeSink.sink c.args.tree.now) (g.T.TreeSink.account c.args.tree.now)
-    (g.O.Out.text c.args.out.now) (g.O.Out.account c.args.out.now))) (world (g.R.Rack.seen c.treat.new.rack) c.treat.new.vol (outside
-    (g.T.TreeSink.sink c.treat.new.tree) (g.T.TreeSink.account c.treat.new.tree) (g.O.Out.text c.treat.new.out) (g.O.Out.account c.treat.new.out))) (world
-    (g.R.Rack.seen c.treat.new.rack) c.treat.new.vol (outside (g.T.TreeSink.sink c.treat.new.tree) (g.T.TreeSink.account c.treat.new.tree)
-    (g.O.Out.text c.treat.new.out) (g.O.Out.account c.treat.new.out))) c.treat.new.counts
-    (subst (λ (r : Treated). Ran (treated s c.args.sums (met_in c.is_empty.result c.args.root.now c.args.dirid c.args.path.now
-    (named_row c.args.row c.args.name.now)) c.args.counts.now) (world (g.R.Rack.seen c.args.rack.now) c.args.vol.now (outside
-    (g.T.TreeSink.sink c.args.tree.now) (g.T.TreeSink.account c.args.tree.now) (g.O.Out.text c.args.out.now) (g.O.Out.account c.args.out.now))) (world
-    (g.R.Rack.seen c.treat.new.rack) c.treat.new.vol (outside (g.T.TreeSink.sink c.treat.new.tree) (g.T.TreeSink.account c.treat.new.tree)
-    (g.O.Out.text c.treat.new.out) (g.O.Out.account c.treat.new.out))) (Ok (came_to c.treat.new.counts r))) c.in-Over.is
-    (treated_in s c.args.sums c.is_empty.result c.args.root.now c.args.dirid c.args.path.now _ c.args.counts.now
-    (named_row c.args.row c.args.name.now) _ _ _ (c.as_bytes-2.ensures ∙ (c.in-Ok.ensures
-    ∙ ap (path_in c.args.path.now) c.as_bytes.ensures)) (c.in_ok-treat.ensures.ran s e)))
+    entry_over s c.args.dir.now.sums (length c.args.below.now) c.is_empty.result (c.is_empty.ensures
+    ∙ deep_is (length c.args.below.now)) c.args.dir.now.tree c.args.dir.now.dirid c.args.scratch.now.path c.args.counts.now
+    (named_row c.args.named.now.row c.args.named.now.name.now) (world_of g.R.Rack.seen g.T.TreeSink.sink g.T.TreeSink.account g.O.Out.text g.O.Out.account
+    c.args.ends.now) (world_of g.R.Rack.seen g.T.TreeSink.sink g.T.TreeSink.account g.O.Out.text g.O.Out.account c.treat.new.ends)
+    (world_of g.R.Rack.seen g.T.TreeSink.sink g.T.TreeSink.account g.O.Out.text g.O.Out.account c.treat.new.ends) c.treat.new.counts
+    (subst (λ (r : Treated). Ran (treated s c.args.dir.now.sums (met_in c.is_empty.result c.args.dir.now.tree c.args.dir.now.dirid c.args.scratch.now.path
+    (named_row c.args.named.now.row c.args.named.now.name.now)) c.args.counts.now) (world_of g.R.Rack.seen g.T.TreeSink.sink g.T.TreeSink.account g.O.Out.text
+    g.O.Out.account c.args.ends.now) (world_of g.R.Rack.seen g.T.TreeSink.sink g.T.TreeSink.account g.O.Out.text g.O.Out.account c.treat.new.ends) (Ok
+    (came_to c.treat.new.counts r))) c.in-Over.is
+    (treated_in s c.args.dir.now.sums c.is_empty.result c.args.dir.now.tree c.args.dir.now.dirid c.args.scratch.now.path _ c.args.counts.now
+    (named_row c.args.named.now.row c.args.named.now.name.now) _ _ _ (c.as_bytes-2.ensures ∙ (c.in-Ok.ensures
+    ∙ ap (path_in c.args.scratch.now.path) c.as_bytes.ensures)) (c.in_ok-treat.ensures.ran s e)))
 
 pub list_entry-returns-in-Within-clause-ran : goal.list_entry-returns-in-Within-clause-ran
 list_entry-returns-in-Within-clause-ran g t c s e =
-    let h = subst (λ (r : Treated). Ran (treated s c.args.sums (met_in c.is_empty.result c.args.root.now c.args.dirid c.args.path.now
-    (named_row c.args.row c.args.name.now)) c.args.counts.now) (world (g.R.Rack.seen c.args.rack.now) c.args.vol.now (outside
-    (g.T.TreeSink.sink c.args.tree.now) (g.T.TreeSink.account c.args.tree.now) (g.O.Out.text c.args.out.now) (g.O.Out.account c.args.out.now))) (world
-    (g.R.Rack.seen c.treat.new.rack) c.treat.new.vol (outside (g.T.TreeSink.sink c.treat.new.tree) (g.T.TreeSink.account c.treat.new.tree)
-    (g.O.Out.text c.treat.new.out) (g.O.Out.account c.treat.new.out))) (Ok (came_to c.treat.new.counts r))) c.in-Within.is
-    (treated_in s c.args.sums c.is_empty.result c.args.root.now c.args.dirid c.args.path.now _ c.args.counts.now
-    (named_row c.args.row c.args.name.now) _ _ _ (c.as_bytes-2.ensures ∙ (c.in-Ok.ensures
-    ∙ ap (path_in c.args.path.now) c.as_bytes.ensures)) (c.in_ok-treat.ensures.ran s e)) in
-    entry_within s c.args.sums (length c.args.below.now) c.is_empty.result (c.is_empty.ensures
-    ∙ deep_is (length c.args.below.now)) c.args.root.now c.args.dirid c.args.path.now c.args.counts.now (named_row c.args.row c.args.name.now) (world
-    (g.R.Rack.seen c.args.rack.now) c.args.vol.now (outside (g.T.TreeSink.sink c.args.tree.now) (g.T.TreeSink.account c.args.tree.now)
-    (g.O.Out.text c.args.out.now) (g.O.Out.account c.args.out.now))) (world (g.R.Rack.seen c.treat.new.rack) c.treat.new.vol (outside
-    (g.T.TreeSink.sink c.treat.new.tree) (g.T.TreeSink.account c.treat.new.tree) (g.O.Out.text c.treat.new.out) (g.O.Out.account c.treat.new.out))) (world
-    (g.R.Rack.seen c.list_within.new.rack) c.list_within.new.vol (outside (g.T.TreeSink.sink c.list_within.new.tree)
-    (g.T.TreeSink.account c.list_within.new.tree) (g.O.Out.text c.list_within.new.out) (g.O.Out.account c.list_within.new.out))) c.in-Within.inner
+    let h = subst (λ (r : Treated). Ran (treated s c.args.dir.now.sums (met_in c.is_empty.result c.args.dir.now.tree c.args.dir.now.dirid
+    c.args.scratch.now.path
+    (named_row c.args.named.now.row c.args.named.now.name.now)) c.args.counts.now) (world_of g.R.Rack.seen g.T.TreeSink.sink g.T.TreeSink.account g.O.Out.text
+    g.O.Out.account c.args.ends.now) (world_of g.R.Rack.seen g.T.TreeSink.sink g.T.TreeSink.account g.O.Out.text g.O.Out.account c.treat.new.ends) (Ok
+    (came_to c.treat.new.counts r))) c.in-Within.is
+    (treated_in s c.args.dir.now.sums c.is_empty.result c.args.dir.now.tree c.args.dir.now.dirid c.args.scratch.now.path _ c.args.counts.now
+    (named_row c.args.named.now.row c.args.named.now.name.now) _ _ _ (c.as_bytes-2.ensures ∙ (c.in-Ok.ensures
+    ∙ ap (path_in c.args.scratch.now.path) c.as_bytes.ensures)) (c.in_ok-treat.ensures.ran s e)) in
+    entry_within s c.args.dir.now.sums (length c.args.below.now) c.is_empty.result (c.is_empty.ensures
+    ∙ deep_is (length c.args.below.now)) c.args.dir.now.tree c.args.dir.now.dirid c.args.scratch.now.path c.args.counts.now
+    (named_row c.args.named.now.row c.args.named.now.name.now) (world_of g.R.Rack.seen g.T.TreeSink.sink g.T.TreeSink.account g.O.Out.text g.O.Out.account
+    c.args.ends.now) (world_of g.R.Rack.seen g.T.TreeSink.sink g.T.TreeSink.account g.O.Out.text g.O.Out.account c.treat.new.ends)
+    (world_of g.R.Rack.seen g.T.TreeSink.sink g.T.TreeSink.account g.O.Out.text g.O.Out.account c.list_within.new.ends) c.in-Within.tree
     c.in-Within.dirid c.treat.new.counts _ h
-    (subst (λ (p : List ℕ). Ran (listed_in s c.args.sums (listing_in c.args.sums s (length c.args.below.now)) p
-    (journey.Within c.in-Within.inner c.in-Within.dirid c.treat.new.counts)) (world (g.R.Rack.seen c.treat.new.rack) c.treat.new.vol (outside
-    (g.T.TreeSink.sink c.treat.new.tree) (g.T.TreeSink.account c.treat.new.tree) (g.O.Out.text c.treat.new.out) (g.O.Out.account c.treat.new.out))) (world
-    (g.R.Rack.seen c.list_within.new.rack) c.list_within.new.vol (outside (g.T.TreeSink.sink c.list_within.new.tree)
-    (g.T.TreeSink.account c.list_within.new.tree) (g.O.Out.text c.list_within.new.out) (g.O.Out.account c.list_within.new.out)))
-    (ended_with c.list_within.new.counts c.list_within.result)) (c.in-Ok.ensures ∙ ap (path_in c.args.path.now) c.as_bytes.ensures)
+    (subst (λ (p : List ℕ). Ran (listed_in s c.args.dir.now.sums (listing_in c.args.dir.now.sums s (length c.args.below.now)) p
+    (journey.Within c.in-Within.tree c.in-Within.dirid c.treat.new.counts)) (world_of g.R.Rack.seen g.T.TreeSink.sink g.T.TreeSink.account g.O.Out.text
+    g.O.Out.account c.treat.new.ends) (world_of g.R.Rack.seen g.T.TreeSink.sink g.T.TreeSink.account g.O.Out.text g.O.Out.account c.list_within.new.ends)
+    (ended_with c.list_within.new.counts c.list_within.result)) (c.in-Ok.ensures ∙ ap (path_in c.args.scratch.now.path) c.as_bytes.ensures)
     (c.list_within.ensures.ran s (e ∙ sym h.volume.sup)))
 
 pub list_within-list-requires : goal.list_within-list-requires
@@ -266,5 +256,6 @@ list_within-list-requires g t c κs within = (
 
 pub list_within-returns-clause-ran : goal.list_within-returns-clause-ran
 list_within-returns-clause-ran g t c s e =
-    within_listed s c.args.sums (length c.args.dirs.now) (length c.in-Some.below.now) (sym c.in-Some.ensures.cases.1) c.args.inner c.args.dirid
-    c.args.path.now c.args.counts.now _ _ _ (c.list.ensures.ran s e)
+    within_listed s c.args.dir.now.sums (length c.args.dirs.now) (length c.in-Some.below.now) (sym c.in-Some.ensures.cases.1) c.args.dir.now.tree
+    c.args.dir.now.dirid
+    c.args.scratch.now.path c.args.counts.now _ _ _ (c.list.ensures.ran s e)

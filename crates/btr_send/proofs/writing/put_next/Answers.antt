@@ -4,22 +4,25 @@ use Rattle.btr_restore.proofs.Writings.{writing_end, writing_fault, writing_halt
 use Rattle.btr_send.proofs.writing.put_next.Goals as goal
 
 pub returns-in-Err-clause-writes : goal.returns-in-Err-clause-writes
-returns-in-Err-clause-writes g c whole x text calls l = writing_fault (put c.args.path.now) whole x _ c.args.now c.args.file.now c.next_piece.new.file
+returns-in-Err-clause-writes g c whole x text calls l = writing_fault (put c.args.so_far.now.path.now) whole x _ c.args.so_far.now.sent c.args.file.now
+    c.next_piece.new.file
     (g.R.Rack.seen c.next_piece.new.rack) c.next_piece.follows.lender-at-none l c.next_piece.ensures.reads c.in-Err.fault c.next_piece.result c.in-Err.is
     c.next_piece.follows.holds-at-none c.in-Err.ensures.cause
 
 pub returns-in-Ok-None-clause-writes : goal.returns-in-Ok-None-clause-writes
-returns-in-Ok-None-clause-writes g c whole x text calls l = writing_end (put c.args.path.now) whole x _ c.args.now c.args.file.now c.next_piece.new.file
+returns-in-Ok-None-clause-writes g c whole x text calls l = writing_end (put c.args.so_far.now.path.now) whole x _ c.args.so_far.now.sent c.args.file.now
+    c.next_piece.new.file
     (g.R.Rack.seen c.next_piece.new.rack) c.next_piece.follows.lender-at-none l c.next_piece.ensures.reads c.next_piece.result (c.in-Ok-None.is
     ∙ ap Ok c.in-Ok-None.field-0-is) c.next_piece.follows.holds-at-none
 
 pub returns-in-Ok-clause-writes : goal.returns-in-Ok-clause-writes
-returns-in-Ok-clause-writes g c whole x text calls l = writing_on (put c.args.path.now) whole x _ c.args.now c.args.file.now c.next_piece.new.file
+returns-in-Ok-clause-writes g c whole x text calls l = writing_on (put c.args.so_far.now.path.now) whole x _ c.args.so_far.now.sent c.args.file.now
+    c.next_piece.new.file
     (g.R.Rack.seen c.next_piece.new.rack) c.next_piece.follows.lender-at-none l c.next_piece.ensures.reads c.in-Ok-Some.piece c.next_piece.result
     (c.in-Ok-Some.is ∙ ap Ok c.in-Ok-Some.field-0-is) c.next_piece.follows.holds-at-none _ c.in-Ok.after (c.in-Ok.ensures.wrote text calls)
 
 pub returns-in-Err-put_piece-clause-writes : goal.returns-in-Err-put_piece-clause-writes
-returns-in-Err-put_piece-clause-writes g c whole x text calls l = writing_halt (put c.args.path.now) whole x _ c.args.now c.args.file.now
+returns-in-Err-put_piece-clause-writes g c whole x text calls l = writing_halt (put c.args.so_far.now.path.now) whole x _ c.args.so_far.now.sent c.args.file.now
     c.next_piece.new.file (g.R.Rack.seen c.next_piece.new.rack) c.next_piece.follows.lender-at-none l c.next_piece.ensures.reads c.in-Ok-Some.piece
     c.next_piece.result (c.in-Ok-Some.is ∙ ap Ok c.in-Ok-Some.field-0-is) c.next_piece.follows.holds-at-none _ c.in-Err-put_piece.stop
     (c.in-Err-put_piece.ensures.wrote text calls)

@@ -2,8 +2,8 @@ use Rattle.std.proofs.Common.{◌≡◌, ◌%◌, ◌∙◌, ap, sym, arith}
 use Rattle.btr_base.specs.Crc.{shifted_by}
 use Rattle.btr_base.proofs.Linear.{shifted_by-zero}
 use Rattle.btr_send.proofs.Shifting.{bit_in, bit_out}
-use Rattle.btr_send.proofs.shift.SectorShift.behind_zeros.Goals as goal
-use Rattle.btr_send.proofs.shift.SectorShift.behind_zeros.Goals.{then-reg-bit-eq1, else-reg-bit-eq1}
+use Rattle.btr_send.proofs.shift.SectorShift.append_zeros.Goals as goal
+use Rattle.btr_send.proofs.shift.SectorShift.append_zeros.Goals.{then-reg-bit-eq1, else-reg-bit-eq1}
 
 pub loop-bit-init : goal.loop-bit-init
 loop-bit-init c =
