@@ -7,7 +7,7 @@ use Rattle.std.specs.Str.{bytes_eq}
 use Rattle.std.proofs.Math.Nat.{eq-or-lt_of_le}
 use Rattle.std.proofs.lemmas.Slice.Eq.{bytes_eq-Decides}
 use Rattle.btr_run.specs.Restores.{OneOption, Root, Snapshots, Verbose, Dry, Salvage, options_words}
-use Rattle.btr_run.specs.Words.{Destination, File, IsRead, IsSentence, Number, Part, Reads, TakesDestination, Volume, Word, Words, is_name, nothing_of}
+use Rattle.btr_run.specs.Words.{Destination, File, IsRead, IsSentence, Number, Part, ReadsParts, TakesDestination, Volume, Word, Words, is_name, nothing_of}
 use Rattle.btr_run.specs.Words.{parts_of, plan_for}
 use Rattle.btr_run.specs.declared.place.Read.{Read}
 use Rattle.btr_run.specs.declared.plan.Plan.{Plan}
@@ -61,7 +61,7 @@ destination_begins left (Verbose ∷ options) name rest is = record { word = cod
 destination_begins left (Dry ∷ options) name rest is = record { word = codes "-D"; more = _; are = refl; may = refl }
 destination_begins left (Salvage ∷ options) name rest is = record { word = codes "-i"; more = _; are = refl; may = refl }
 
-pub begins_so : (parts : List Part) (at : ℕ) (words : Words) (old new : Read) → Reads parts at words old new → BeginsSo parts words
+pub begins_so : (parts : List Part) (at : ℕ) (words : Words) (old new : Read) → ReadsParts parts at words old new → BeginsSo parts words
 begins_so [] at [] old new reads = absurd reads.0
 begins_so [] at (first ∷ more) old new reads = record { word = first; more = more; are = refl; may = reads.0 0 first (omega arith) }
 begins_so (Word this ∷ left) at words old new reads =
@@ -89,7 +89,7 @@ first_apart a rest q words are begins none = of (may_begin q a) (ap (may_begin q
     of false e f = absurd (cc e)
 
 never_both : (p q : List Part) → apart p q ≡ true → (at other : ℕ) (words : Words) (old new old' new' : Read)
-    → Reads p at words old new → Reads q other words old' new' → ⊥
+    → ReadsParts p at words old new → ReadsParts q other words old' new' → ⊥
 never_both [] q is at other words old new old' new' a b = absurd (cc is)
 never_both (Number ∷ p) q is at other words old new old' new' a b = absurd (cc is)
 never_both (File ∷ p) q is at other words old new old' new' a b = absurd (cc is)
@@ -105,7 +105,7 @@ never_both (Word this ∷ p) (Destination ∷ q) is at other words old new old' 
 never_both (Word this ∷ p) (Word that ∷ q) is at other words old new old' new' a b =
     of (bytes_eq this that) (bytes_eq-Decides this that) is
     (λ e. never_both p q e (at + length a.0) (other + length b.0) a.1 a.2 new b.2 new' a.5
-    (subst (λ l. Reads q (other + length b.0) l b.2 new') (sym rests) b.5))
+    (subst (λ l. ReadsParts q (other + length b.0) l b.2 new') (sym rests) b.5))
   where
     both : this ∷ a.1 ≡ that ∷ b.1
     both = sym (a.3 ∙ ap (λ t. t ++ a.1) a.4.0) ∙ b.3 ∙ ap (λ t. t ++ b.1) b.4.0

@@ -2,7 +2,7 @@
 use Rattle.std.proofs.Common.{ℕ, ◌+◌, ◌<◌, ◌≤◌, List, [], ◌∷◌, length, refl, sym, ap, subst, arith}
 use Rattle.std.proofs.lemmas.List.{length-append, length-drop}
 use Rattle.btr_run.specs.Restores.{options_words}
-use Rattle.btr_run.specs.Words.{Destination, File, IsSentence, Number, Part, Reads, TakesDestination, Volume, Word, Words, command_of, images_of, nothing_of}
+use Rattle.btr_run.specs.Words.{Destination, File, IsSentence, Number, Part, ReadsParts, TakesDestination, Volume, Word, Words, command_of, images_of, nothing_of}
 use Rattle.btr_run.specs.SelfTested.{TakesImages}
 use Rattle.btr_run.specs.Words.{parts_of}
 use Rattle.btr_run.specs.declared.place.Read.{Read}
@@ -18,7 +18,7 @@ NamesImages (Volume ∷ left) = ⊥
 NamesImages (part ∷ left) = NamesImages left
 
 -- the word of the first image
-images_there : (left : List Part) (at : ℕ) (words : Words) (old new : Read) → NamesImages left → Reads left at words old new → new.images < at + length words
+images_there : (left : List Part) (at : ℕ) (words : Words) (old new : Read) → NamesImages left → ReadsParts left at words old new → new.images < at + length words
 images_there [] at [] old new named reads = absurd reads.0
 images_there [] at (first ∷ more) old new named reads = omega (arith, ap (λ (r : Read). r.images) reads.1)
 images_there (Volume ∷ left) at words old new named reads = absurd named
@@ -56,7 +56,7 @@ images_there (File ∷ left) at words old new named reads =
     )
 
 -- or the end of the words
-images_within : (left : List Part) (at : ℕ) (words : Words) (old new : Read) → Reads left at words old new → new.images ≤ at + length words
+images_within : (left : List Part) (at : ℕ) (words : Words) (old new : Read) → ReadsParts left at words old new → new.images ≤ at + length words
 images_within [] at words old new reads = omega (arith, ap (λ (r : Read). r.images) reads.1)
 images_within (Volume ∷ left) at words old new reads = omega (arith, ap (λ (r : Read). r.images) reads.5, ap (λ (l : Words). length l) reads.4)
 images_within (Word this ∷ left) at words old new reads =
@@ -72,7 +72,7 @@ images_within (File ∷ left) at words old new reads =
 abbrev pub AreThere : Read → ℕ → Type 0
 AreThere read bound = (read.name < bound) × (read.file < bound)
 
-names_there : (left : List Part) (at : ℕ) (words : Words) (old new : Read) (bound : ℕ) → Reads left at words old new → AreThere old bound
+names_there : (left : List Part) (at : ℕ) (words : Words) (old new : Read) (bound : ℕ) → ReadsParts left at words old new → AreThere old bound
     → at + length words ≤ bound
     → AreThere new bound
 names_there [] at words old new bound reads before within = subst (λ r. AreThere r bound) (sym reads.1) before

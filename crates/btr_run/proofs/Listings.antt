@@ -12,7 +12,7 @@ use Rattle.btr_read.specs.Fate.{Agreed, Fault}
 use Rattle.btr_read.specs.Fate as fault
 use Rattle.btr_read.specs.Layout.{Layout}
 use Rattle.btr_read.specs.declared.want.Want.{Want}
-use Rattle.btr_restore.specs.Restoring.{StopCause, SinkCounts, OutCounts}
+use Rattle.btr_restore.specs.Restoring.{RestoreStopCause, SinkCounts, OutCounts}
 use Rattle.btr_volume.specs.Stops.{ended}
 use Rattle.btr_restore.specs.Running.{Outside}
 use Rattle.btr_volume.specs.Start.{Images}
@@ -96,7 +96,7 @@ module _ (May : Type 0) (answer result : Answer) (is : result ≡ answer) (refus
 -- The filesystem is open, and a call did these steps.
 module _ {A : Type 0} (left_out : A → ℕ) (layout : Layout) (mid new : Seen) (x y : Outside) (done : List Step) (stands : Stands x y done [])
     (result : Result A Stop)
-    (cause : StopCause layout mid new result) (sink_calls : SinkCounts x.sink_calls y.sink_calls result)
+    (cause : RestoreStopCause layout mid new result) (sink_calls : SinkCounts x.sink_calls y.sink_calls result)
     (out_calls : OutCounts x.out_calls y.out_calls result) where
   abbrev answered : Result A Stop → Answer
   answered r = stopped_answer left_out r
@@ -142,7 +142,7 @@ module _ {A : Type 0} (left_out : A → ℕ) (layout : Layout) (mid new : Seen) 
     pub follows_come : Follows Is part [] r done (ended result) → Comes (Unit {0}) IsOne x y (answered result)
     follows_come = of result cause sink_calls out_calls
       where
-        of : (e : Result A Stop) → StopCause layout mid new e → SinkCounts x.sink_calls y.sink_calls e → OutCounts x.out_calls y.out_calls e
+        of : (e : Result A Stop) → RestoreStopCause layout mid new e → SinkCounts x.sink_calls y.sink_calls e → OutCounts x.out_calls y.out_calls e
             → Follows Is part [] r done (ended e) → Comes (Unit {0}) IsOne x y (answered e)
         of (Ok a) cause sc oc follows = wholly (Ok a) (Done (left_out a)) refl follows sc oc
         of (Err (stop.NoTree id)) cause sc oc follows = wholly (Err (fault.NoTree id)) (NoTree id) refl follows sc oc
@@ -186,7 +186,7 @@ module _ {A : Type 0} (left_out : A → ℕ) (layout : Layout) (mid new : Seen) 
     pub some_come : Comes (Unit {0}) (OrBare IsOne) x y (answered result)
     some_come = of result refl cause sink_calls out_calls
       where
-        of : (e : Result A Stop) → result ≡ e → StopCause layout mid new e → SinkCounts x.sink_calls y.sink_calls e → OutCounts x.out_calls y.out_calls e
+        of : (e : Result A Stop) → result ≡ e → RestoreStopCause layout mid new e → SinkCounts x.sink_calls y.sink_calls e → OutCounts x.out_calls y.out_calls e
             → Comes (Unit {0}) (OrBare IsOne) x y (answered e)
         of (Ok a) is cause sc oc = by_answer (Done (left_out a)) (by_value a) (done_no_fault (left_out a)) sc oc
         of (Err (stop.NoTree id)) is cause sc oc = by_answer (NoTree id) (by_none id is) (record { no_out = λ e. cc; no_sink = λ e. cc }) sc oc
@@ -200,7 +200,7 @@ module _ {A : Type 0} (left_out : A → ℕ) (layout : Layout) (mid new : Seen) 
   no_image : (slot : ℕ) → answered result ≢ ImageFault slot
   no_image slot = of result cause
     where
-      of : (r : Result A Stop) → StopCause layout mid new r → answered r ≢ ImageFault slot
+      of : (r : Result A Stop) → RestoreStopCause layout mid new r → answered r ≢ ImageFault slot
       of (Err (stop.Tree (tree.Lost a))) cause e = cc
       of (Err (stop.Image other)) cause e = absurd cause
       of r cause e = cc
@@ -218,7 +218,7 @@ module _ {A : Type 0} (left_out : A → ℕ) (layout : Layout) (mid new : Seen) 
     tree_cause : IsLayoutOf old new layout → HasTreeCause old new (answered result)
     tree_cause own fault is = (layout, own, of result cause (ap tree_in is ∙ tree_back fault))
       where
-        of : (r : Result A Stop) → StopCause layout mid new r → tree_in (answered r) ≡ Some fault → FaultCause layout old new fault
+        of : (r : Result A Stop) → RestoreStopCause layout mid new r → tree_in (answered r) ≡ Some fault → FaultCause layout old new fault
         of (Ok a) cause e = absurd (cc e)
         of (Err (stop.Tree f)) cause e = let same : f ≡ fault = cc (sym (tree_back f) ∙ e) in subst (FaultCause layout old new) same
             (cause_since new layout layout f refl first cause)

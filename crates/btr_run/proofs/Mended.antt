@@ -11,7 +11,7 @@ use Rattle.btr_read.specs.Fate.{Agreed, Fault}
 use Rattle.btr_read.specs.Fate as fault
 use Rattle.btr_read.specs.Layout.{Layout}
 use Rattle.btr_scrub.specs.Filesystem as scrubbed
-use Rattle.btr_scrub.specs.Gathering.{stop_halt, wants_among}
+use Rattle.btr_scrub.specs.Gathering.{wants_among}
 use Rattle.btr_read.specs.declared.want.Want.{Want}
 use Rattle.btr_scrub.specs.Judging.{IsFirstRefused, IsRefused}
 use Rattle.btr_scrub.proofs.Refusing.{refused_one}
@@ -38,6 +38,7 @@ use Rattle.btr_run.specs.declared.answer.Answer.TheVariants.{Unread}
 use Rattle.btr_run.proofs.Agreements.{agreeing_opened, at_map}
 use Rattle.btr_run.proofs.Mendings.{answered, outcome_by}
 use Rattle.btr_run.proofs.Wanted.{names_wanted}
+use Rattle.btr_volume.specs.Stops.{stop_halt}
 
 -- what an answer of the call comes to
 abbrev pub shown_of : Result Tally Stop → Outcome

@@ -4,7 +4,7 @@ use Rattle.std.proofs.Common.{subst, arith}
 use Rattle.std.specs.Option.{IfSome}
 use Rattle.std.proofs.lemmas.List.{append-nil}
 use Rattle.btr_scrub_copies.specs.Turns.{waiting}
-use Rattle.btr_scrub_copies.specs.Writes.{In, IsStopped, IsTorn, Leaves, Write, write_on}
+use Rattle.btr_scrub_copies.specs.Writes.{In, IsStopped, IsTorn, LeaveImages, Write, write_on}
 use Rattle.btr_scrub_copies.specs.declared.mended.MendFault.{MendFault}
 use Rattle.btr_rack.specs.Rack.{NoneFailed, OnlyReads, Rose, Seen, Steady}
 use Rattle.btr_scrub.specs.declared.tally.Tally.{Tally}
@@ -113,7 +113,7 @@ not_opened write old new answer result is refusal reads image cause hidden count
     (λ want. inr want) (opens steady)) content))
 
 -- where nothing is to be written, nothing was
-pub left_nothing : (held left : Option Images) (e : Result (Unit {0}) MendFault) → Leaves (λ images. []) held left e → left ≡ held
+pub left_nothing : (held left : Option Images) (e : Result (Unit {0}) MendFault) → LeaveImages (λ images. []) held left e → left ≡ held
 left_nothing None left e leaves = leaves
 left_nothing (Some images) left (Ok u) leaves = leaves
 left_nothing (Some images) None (Err e) leaves = absurd leaves
@@ -126,7 +126,7 @@ left_nothing (Some images) (Some left) (Err e) leaves = ap (λ (i : Images). Som
     of (w ∷ before) behind place stands = absurd (cc place)
 
 -- all writes up to the last
-pub stop_place : (ws : Images → List Write) (images left : Images) (e : Result (Unit {0}) MendFault) → Leaves ws (Some images) (Some left) e
+pub stop_place : (ws : Images → List Write) (images left : Images) (e : Result (Unit {0}) MendFault) → LeaveImages ws (Some images) (Some left) e
     → IsStopped (ws images) images left
 stop_place ws images left (Ok u) leaves = record
     { before = ws images; behind = []; place = sym (append-nil (ws images)); stands = inl (the_images left (fold write_on images (ws images)) leaves) }

@@ -11,7 +11,7 @@ use Rattle.btr_send.specs.Names.{IsStreamName}
 use Rattle.btr_run.specs.Commands.{IsFit}
 use Rattle.btr_run.specs.Queries.{IsQueryFit}
 use Rattle.btr_run.specs.Restores.{plan_by}
-use Rattle.btr_run.specs.Words.{Destination, File, IsSentence, Number, Part, Reads, TakesDestination, Word, Words, command_of, is_file, is_name, nothing_of}
+use Rattle.btr_run.specs.Words.{Destination, File, IsSentence, Number, Part, ReadsParts, TakesDestination, Word, Words, command_of, is_file, is_name, nothing_of}
 use Rattle.btr_run.specs.Words.{Volume, images_of, is_volume, parts_of, restore_of}
 use Rattle.btr_run.specs.Images.{most_images}
 use Rattle.btr_run.specs.declared.plan.Command.TheVariants as command
@@ -51,7 +51,7 @@ word_there whole before word rest at place is = ap (λ n. get_or whole n []) pla
     ∙ get_or-append_seam before word rest []
 
 file_named : (whole before : Words) (left : List Part) (at : ℕ) (words : Words) (old new : Read) → at ≡ length before → whole ≡ before ++ words
-    → Reads left at words old new
+    → ReadsParts left at words old new
     → IsNamed whole left old → IsFileAt whole new.file
 file_named whole before [] at words old new place is reads named =
     ⊎_elim (λ none. absurd none) (λ there. subst (IsFileAt whole) (sym (ap (λ (r : Read). r.file) reads.1)) there) named
@@ -97,7 +97,7 @@ volume_size : (n : ℕ) → is_volume n ≡ true → (1 ≤ n) × (n ≤ 1000)
 volume_size n is = let tests = both (nat_le 1 n) (nat_le n 1000) is in (grind (arith, nat_tests, tests.0), grind (arith, nat_tests, tests.1))
 
 named : (sentence : Sentence) (words : Words) (read : Read) → AreThere read (length words)
-    → Reads (parts_of sentence) 0 words (nothing_of sentence) read → IsFit (command_of sentence read) words
+    → ReadsParts (parts_of sentence) 0 words (nothing_of sentence) read → IsFit (command_of sentence read) words
 named Restore words read there is = of read.options.salvage
   where
     of : (salvage : Bool) → IsQueryFit (restore_of salvage read.name (plan_by read.options)) words
@@ -120,7 +120,7 @@ its_form SelfTest read number e = refl
 its_form sentence read number e = absurd (cc e)
 
 -- no word of it names an image
-all_read : (words : Words) (read : Read) → Reads (parts_of SelfTest) 0 words (nothing_of SelfTest) read → length words ≤ read.images
+all_read : (words : Words) (read : Read) → ReadsParts (parts_of SelfTest) 0 words (nothing_of SelfTest) read → length words ≤ read.images
 all_read words read is = omega (
   arith,
   ap (λ (r : Read). r.images) is.5.5,
@@ -133,5 +133,5 @@ pub none_named : (plan : Plan) (words : Words) (number : ℕ) → IsSentence pla
     → most_images < length (images_of plan words) → ⊥
 none_named plan words number s is many =
     let form = its_form s.sentence s.read number (sym (ap (λ (p : Plan). p.command) s.plan_is) ∙ is) in
-    let read = subst (λ t. Reads (parts_of t) 0 words (nothing_of t) s.read) form s.is_read in
+    let read = subst (λ t. ReadsParts (parts_of t) 0 words (nothing_of t) s.read) form s.is_read in
     omega (arith, many, all_read words s.read read, ap (λ (p : Plan). p.images) s.plan_is, length-drop plan.images words)

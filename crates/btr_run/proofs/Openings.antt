@@ -8,7 +8,7 @@ use Rattle.std.specs.List.{All}
 use Rattle.std.proofs.lemmas.List.Elements.{All-nil, All-cons, All-append}
 use Rattle.std.proofs.lemmas.List.{append_assoc, append-nil, nil_from_length, length-map, length-append, map-append, take_more, take_all}
 use Rattle.std.proofs.lemmas.Slice.Eq.{bytes_eq-Decides}
-use Rattle.btr_rack.specs.Rack.{Slot, Shelf, Takes, TakesImage}
+use Rattle.btr_rack.specs.Rack.{Slot, Shelf, ShelfTakes, TakesImage}
 use Rattle.btr_run.specs.Words.{Words}
 use Rattle.btr_rack.specs.declared.error.RackError.{RackError}
 use Rattle.btr_run.specs.Images.{without, taken, AreOpenedAs}
@@ -37,7 +37,7 @@ record Told (name : List ℕ) (at : Shelf) (shelf' : Option Shelf) (held held' :
   held_is : held' ≡ Some images'
   takes : TakesImage name at now images images'
 
-told : (name : List ℕ) (at : Shelf) (shelf shelf' : Option Shelf) (held held' : Option Images) (slot : ℕ) → Takes name shelf shelf' held held' (Ok slot)
+told : (name : List ℕ) (at : Shelf) (shelf shelf' : Option Shelf) (held held' : Option Images) (slot : ℕ) → ShelfTakes name shelf shelf' held held' (Ok slot)
     → shelf ≡ Some at → Told name at shelf' held held'
 told name at None shelf' held held' slot takes e = absurd (cc)
 told name at (Some x) None held held' slot takes e = absurd (cc takes.0)
@@ -88,7 +88,7 @@ same_some o a b e f = cc
 -- one name more
 pub open_more : (at : Option Shelf) (before after : Words) (name : List ℕ) (shelf shelf' : Option Shelf) (held held' : Option Images) (slots : List Slot)
     (slot : ℕ) → after ≡ before ++ name ∷ []
-    → OpenSoFar before at shelf held → Takes name shelf shelf' held held' (Ok slot) → Sized held slots → length slots ≡ length before
+    → OpenSoFar before at shelf held → ShelfTakes name shelf shelf' held held' (Ok slot) → Sized held slots → length slots ≡ length before
     → OpenSoFar after at shelf' held'
 open_more None before after name shelf shelf' held held' slots slot more so takes sized many = tt
 open_more (Some at) before after name shelf shelf' held held' slots slot more so takes sized many =
@@ -154,7 +154,7 @@ so_far_opened write (Some at) shelf held slots closed sized so = (
 )
 
 -- a refused opening takes nothing
-takes_none : (name : List ℕ) (shelf shelf' : Option Shelf) (held held' : Option Images) (e : RackError) → Takes name shelf shelf' held held' (Err e)
+takes_none : (name : List ℕ) (shelf shelf' : Option Shelf) (held held' : Option Images) (e : RackError) → ShelfTakes name shelf shelf' held held' (Err e)
     → held' ≡ held
 takes_none name None shelf' held held' e takes = takes.1
 takes_none name (Some x) None held held' e takes = takes.1
@@ -164,7 +164,7 @@ takes_none name (Some x) (Some y) (Some z) (Some w) e takes = takes.1
 
 pub refused_opened : (write : Bool) (name : List ℕ) (at shelf shelf' : Option Shelf) (held held' : Option Images) (slots slots' : List Slot) (e : RackError)
     → All (λ (s : Slot). s.write ≡ write) slots → Sized held slots
-    → OpenSoFar (map (λ s. s.name) slots) at shelf held → Takes name shelf shelf' held held' (Err e) → slots' ≡ slots → AreOpenedAs write at slots' held'
+    → OpenSoFar (map (λ s. s.name) slots) at shelf held → ShelfTakes name shelf shelf' held held' (Err e) → slots' ≡ slots → AreOpenedAs write at slots' held'
 refused_opened write name at shelf shelf' held held' slots slots' e closed sized so takes same =
     subst (λ l. AreOpenedAs write at l held') (sym same)
     (subst (AreOpenedAs write at slots) (sym (takes_none name shelf shelf' held held' e takes)) (so_far_opened write at shelf held slots closed sized so))

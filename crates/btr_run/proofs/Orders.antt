@@ -24,7 +24,7 @@ use Rattle.btr_restore.specs.InOrder as journey
 use Rattle.btr_restore.specs.Journey.{listing}
 use Rattle.btr_restore.specs.Journey as whole
 use Rattle.btr_restore.specs.Outcome.{text_of}
-use Rattle.btr_restore.specs.Restoring.{Did, StopCause, text_after}
+use Rattle.btr_restore.specs.Restoring.{Did, RestoreStopCause, text_after}
 use Rattle.btr_volume.specs.Stops.{ended}
 use Rattle.btr_restore.specs.Running.{Outside, Ran, scene_of, world}
 use Rattle.btr_listing.specs.Step.{Step, part}
@@ -138,7 +138,7 @@ goes_since layout old mid new first r done (Err (halt_unread u)) f =
 goes_since layout old mid new first r done (Err Broke) f = f
 
 -- the answer of a call, as that of the journey
-listed_as : (layout : Layout) (old new : Seen) (result : Result Counts Stop) → StopCause layout old new result
+listed_as : (layout : Layout) (old new : Seen) (result : Result Counts Stop) → RestoreStopCause layout old new result
     → AnswersAs (journey.opened (ended result)) (stopped_answer skipped_in result)
 listed_as layout old new (Err (stop.Tree (tree.Lost a))) cause = refl
 listed_as layout old new (Err stop.Sink) cause = inr (inl refl)

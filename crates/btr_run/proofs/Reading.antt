@@ -16,7 +16,7 @@ use Rattle.btr_run.specs.Numbers.{IsNumber, number_of}
 use Rattle.btr_run.specs.Restores.{AreFree, IsFree, OneOption, Root, Snapshots, Verbose, Dry, Salvage, is_subvolume, option_words, options_words, with_option}
 use Rattle.btr_run.specs.Restores.{with_options, with_root}
 use Rattle.btr_run.specs.Walk.{Stage, behind, behind_id, behind_number, behind_option, behind_part, read_by, stage, with_given}
-use Rattle.btr_run.specs.Words.{Destination, File, IsName, Number, Part, Reads, TakesDestination, Volume, Word, Words, is_file, is_name, is_volume}
+use Rattle.btr_run.specs.Words.{Destination, File, IsName, Number, Part, ReadsParts, TakesDestination, Volume, Word, Words, is_file, is_name, is_volume}
 use Rattle.btr_run.specs.declared.options.Options.{Options}
 use Rattle.btr_run.specs.declared.place.Next.{Next}
 use Rattle.btr_run.specs.declared.place.Next.TheVariants as next
@@ -30,10 +30,10 @@ Accepts s at words new = option_and_then (λ (t : Stage). read_by t.next t.read)
 
 -- what is still to be read from a place on
 abbrev pub Rest : Next → List Part → Read → ℕ → Words → Read → Type 0
-Rest next.Part left old at words new = Reads left at words old new
+Rest next.Part left old at words new = ReadsParts left at words old new
 Rest next.Id left old at words new =
     (id : ℕ) × (word : List ℕ) × (more : Words) × IsNumber id word × (is_subvolume id ≡ true) × (words ≡ word ∷ more)
-    × Reads left (at + 1) more (record old { options = with_option old.options (Root id) }) new
+    × ReadsParts left (at + 1) more (record old { options = with_option old.options (Root id) }) new
 Rest next.Image left old at words new = All IsName words × (new ≡ old)
 Rest next.End left old at words new = (words ≡ []) × (new ≡ old)
 
@@ -90,7 +90,7 @@ rooted (Some id) s t e = absurd (cc e)
 -- options and a destination behind one option more
 one_option : (option : OneOption) (left : List Part) (old new : Read) → IsFree old.options option → (words more : Words) (at end : ℕ)
     → words ≡ option_words option ++ more → at + length (option_words option) ≡ end
-    → Reads (Destination ∷ left) end more (record old { options = with_option old.options option }) new → Reads (Destination ∷ left) at words old new
+    → ReadsParts (Destination ∷ left) end more (record old { options = with_option old.options option }) new → ReadsParts (Destination ∷ left) at words old new
 one_option option left old new free words more at end are count reads = (
   option_words option ++ took,
   reads.1,
@@ -104,7 +104,7 @@ one_option option left old new free words more at end are count reads = (
     words_are = ap (λ l. option_words option ++ l) d.words_are ∙ sym (append_assoc (option_words option) (options_words d.options) (d.name ∷ []));
     read_is = d.read_is ∙ ap (λ n. record old { options = with_options (with_option old.options option) d.options; name = n }) named_at;
   },
-  subst (λ n. Reads left n reads.1 reads.2 new) (omega (arith, count, length-append (option_words option) took)) reads.5,
+  subst (λ n. ReadsParts left n reads.1 reads.2 new) (omega (arith, count, length-append (option_words option) took)) reads.5,
 )
   where
     took : Words
@@ -118,7 +118,7 @@ one_option option left old new free words more at end are count reads = (
 
 -- behind an option, or the destination
 option_led : (left : List Part) (old : Read) (at : ℕ) (word : List ℕ) (words : Words) (new : Read) (t : Stage)
-    → behind_option left old at word ≡ Some t → Rest t.next t.left t.read (at + 1) words new → Reads (Destination ∷ left) at (word ∷ words) old new
+    → behind_option left old at word ≡ Some t → Rest t.next t.left t.read (at + 1) words new → ReadsParts (Destination ∷ left) at (word ∷ words) old new
 option_led left old at word words new t e rest =
     ⊎_elim (λ one. by_root one.0 (rooted old.options.root (stage (Destination ∷ left) next.Id old) t one.1))
     (λ other.
@@ -142,22 +142,22 @@ option_led left old at word words new t e rest =
     at_stage s is = subst (λ (s : Stage). Rest s.next s.left s.read (at + 1) words new) (sym is) rest
 
     by_root : word ≡ codes "-r" → (old.options.root ≡ None) × (stage (Destination ∷ left) next.Id old ≡ t)
-        → Reads (Destination ∷ left) at (word ∷ words) old new
+        → ReadsParts (Destination ∷ left) at (word ∷ words) old new
     by_root is one = of (at_stage (stage (Destination ∷ left) next.Id old) one.1)
       where
-        of : Rest next.Id (Destination ∷ left) old (at + 1) words new → Reads (Destination ∷ left) at (word ∷ words) old new
+        of : Rest next.Id (Destination ∷ left) old (at + 1) words new → ReadsParts (Destination ∷ left) at (word ∷ words) old new
         of r =
             one_option (Root r.0) left old new (one.0, r.4) (word ∷ words) r.2 at (at + 1 + 1)
             (ap (λ w. w ∷ words) is ∙ ap (λ l. codes "-r" ∷ l) r.5 ∙ ap (λ w. codes "-r" ∷ w ∷ r.2) r.3.1) (omega arith) r.6
 
     by_flag : (option : OneOption) → word ∷ [] ≡ option_words option → IsFree old.options option
         × (with_given (Destination ∷ left) old (with_option old.options option) ≡ t)
-        → Reads (Destination ∷ left) at (word ∷ words) old new
+        → ReadsParts (Destination ∷ left) at (word ∷ words) old new
     by_flag option is one =
         one_option option left old new one.0 (word ∷ words) words at (at + 1) (ap (λ l. l ++ words) is)
         (omega (arith, ap (λ (l : Words). length l) is)) (at_stage (with_given (Destination ∷ left) old (with_option old.options option)) one.1)
 
-    by_name : (is_name word ≡ true) × (stage left next.Part (record old { name = at }) ≡ t) → Reads (Destination ∷ left) at (word ∷ words) old new
+    by_name : (is_name word ≡ true) × (stage left next.Part (record old { name = at }) ≡ t) → ReadsParts (Destination ∷ left) at (word ∷ words) old new
     by_name one = (
       word ∷ [],
       words,
@@ -169,14 +169,14 @@ option_led left old at word words new t e rest =
 
 -- behind one more word
 part_led : (left : List Part) (old : Read) (at : ℕ) (word : List ℕ) (words : Words) (new : Read) (t : Stage)
-    → behind_part left old at word ≡ Some t → Rest t.next t.left t.read (at + 1) words new → Reads left at (word ∷ words) old new
+    → behind_part left old at word ≡ Some t → Rest t.next t.left t.read (at + 1) words new → ReadsParts left at (word ∷ words) old new
 part_led [] old at word words new t e rest =
     let one = taken (is_name word) (stage [] next.Image (record old { images = at })) t e in
     let names = subst (λ (s : Stage). Rest s.next s.left s.read (at + 1) words new) (sym one.1) rest in
     (All-cons IsName word words one.0 names.0, names.1)
 part_led (Word this ∷ left) old at word words new t e rest = of (bytes_eq word this) (bytes_eq-Decides word this) e
   where
-    of : (b : Bool) → Decides b (word ≡ this) → cond b (Some (stage left next.Part old)) None ≡ Some t → Reads (Word this ∷ left) at (word ∷ words) old new
+    of : (b : Bool) → Decides b (word ≡ this) → cond b (Some (stage left next.Part old)) None ≡ Some t → ReadsParts (Word this ∷ left) at (word ∷ words) old new
     of true d e = (
       word ∷ [],
       words,
@@ -210,7 +210,7 @@ part_led (Volume ∷ left) old at word words new t e rest = of (number_of word) 
     from : Read
     from = record old { images = at + 1 }
 
-    of : (o : Option ℕ) → number_of word ≡ o → option_and_then (behind_number left from) o ≡ Some t → Reads (Volume ∷ left) at (word ∷ words) old new
+    of : (o : Option ℕ) → number_of word ≡ o → option_and_then (behind_number left from) o ≡ Some t → ReadsParts (Volume ∷ left) at (word ∷ words) old new
     of None is e = absurd (cc e)
     of (Some n) is e =
         let one = taken (is_volume n) (stage left next.End (record from { number = n })) t e in
@@ -350,7 +350,7 @@ names_accepted left old at (word ∷ names) all =
     ap (λ b. at_end (option_and_then (λ s. reached s (at + 1) names) (cond b (Some (stage left next.Image old)) None))) (all 0 word (omega arith))
     ∙ names_accepted left old (at + 1) names (λ k d lt. all (suc k) d (omega (arith, lt)))
 
-pub accepted : (left : List Part) (at : ℕ) (words : Words) (old new : Read) → Reads left at words old new → Accepts (stage left next.Part old) at words new
+pub accepted : (left : List Part) (at : ℕ) (words : Words) (old new : Read) → ReadsParts left at words old new → Accepts (stage left next.Part old) at words new
 accepted [] at [] old new reads = absurd reads.0
 accepted [] at (first ∷ more) old new reads =
     ap (λ b. at_end (option_and_then (λ s. reached s (at + 1) more) (cond b (Some (stage [] next.Image (record old { images = at }))) None)))
@@ -360,20 +360,20 @@ accepted (Word this ∷ left) at words old new reads =
     ap (λ l. at_end (reached (stage (Word this ∷ left) next.Part old) at l)) (reads.3 ∙ ap (λ t. t ++ reads.1) reads.4.0)
     ∙ ap (λ b. at_end (option_and_then (λ s. reached s (at + 1) reads.1) (cond b (Some (stage left next.Part old)) None))) (same_word this)
     ∙ accepted left (at + 1) reads.1 old new
-    (subst (λ m. Reads left (at + 1) reads.1 m new) reads.4.1 (subst (λ t. Reads left (at + length t) reads.1 reads.2 new) reads.4.0 reads.5))
+    (subst (λ m. ReadsParts left (at + 1) reads.1 m new) reads.4.1 (subst (λ t. ReadsParts left (at + length t) reads.1 reads.2 new) reads.4.0 reads.5))
 accepted (Number ∷ left) at words old new reads =
     ap (λ l. at_end (reached (stage (Number ∷ left) next.Part old) at l)) (reads.3 ∙ ap (λ t. t ++ reads.1) reads.4.3)
     ∙ ap (λ o. at_end (option_and_then (λ s. reached s (at + 1) reads.1) (option_map (λ n. stage left next.Part (record old { number = n })) o)))
     (number_read reads.4.0 reads.4.1 reads.4.2)
     ∙ accepted left (at + 1) reads.1 (record old { number = reads.4.0 }) new
-    (subst (λ m. Reads left (at + 1) reads.1 m new) reads.4.4 (subst (λ t. Reads left (at + length t) reads.1 reads.2 new) reads.4.3 reads.5))
+    (subst (λ m. ReadsParts left (at + 1) reads.1 m new) reads.4.4 (subst (λ t. ReadsParts left (at + length t) reads.1 reads.2 new) reads.4.3 reads.5))
 accepted (Destination ∷ left) at words old new reads =
     ap (λ l. at_end (reached (stage (Destination ∷ left) next.Part old) at l))
     (reads.3 ∙ ap (λ t. t ++ reads.1) d.words_are ∙ append_assoc (options_words d.options) (d.name ∷ []) reads.1)
     ∙ ap at_end (walked left old d.options (d.name ∷ reads.1) at end d.free refl)
     ∙ ap (λ o. at_end (option_and_then (λ s. reached s (end + 1) reads.1) o)) (named_on left given end d.name d.named)
     ∙ accepted left (end + 1) reads.1 (record given { name = end }) new
-    (subst (λ m. Reads left (end + 1) reads.1 m new) d.read_is (subst (λ n. Reads left n reads.1 reads.2 new) count reads.5))
+    (subst (λ m. ReadsParts left (end + 1) reads.1 m new) d.read_is (subst (λ n. ReadsParts left n reads.1 reads.2 new) count reads.5))
   where
     d : TakesDestination at reads.0 old reads.2
     d = reads.4
@@ -390,7 +390,7 @@ accepted (File ∷ left) at words old new reads =
     ap (λ l. at_end (reached (stage (File ∷ left) next.Part old) at l)) (reads.3 ∙ ap (λ t. t ++ reads.1) reads.4.2)
     ∙ ap (λ b. at_end (option_and_then (λ s. reached s (at + 1) reads.1) (cond b (Some (stage left next.Part (record old { file = at }))) None))) reads.4.1
     ∙ accepted left (at + 1) reads.1 (record old { file = at }) new
-    (subst (λ m. Reads left (at + 1) reads.1 m new) reads.4.3 (subst (λ t. Reads left (at + length t) reads.1 reads.2 new) reads.4.2 reads.5))
+    (subst (λ m. ReadsParts left (at + 1) reads.1 m new) reads.4.3 (subst (λ t. ReadsParts left (at + length t) reads.1 reads.2 new) reads.4.2 reads.5))
 accepted (Volume ∷ left) at words old new reads =
     ap (λ l. at_end (reached (stage (Volume ∷ left) next.Part old) at l)) reads.4
     ∙ ap (λ o. at_end (option_and_then (λ s. reached s (at + 1) []) (option_and_then (behind_number left (record old { images = at + 1 })) o)))
@@ -430,7 +430,7 @@ five_is = (omega arith, sym (decimal_digit 5 (omega arith)))
 one_is : IsNumber 1 (codes "1")
 one_is = (omega arith, sym (decimal_digit 1 (omega arith)))
 
-some_words : (left : List Part) (at : ℕ) (old : Read) → (words : Words) × (new : Read) × Reads left at words old new
+some_words : (left : List Part) (at : ℕ) (old : Read) → (words : Words) × (new : Read) × ReadsParts left at words old new
 some_words [] at old = (some_name ∷ [], record old { images = at }, (All-cons IsName some_name [] refl (All-nil IsName), refl))
 some_words (Word this ∷ left) at old =
     let more = some_words left (at + 1) old in (this ∷ more.0, more.1, (this ∷ [], more.0, old, refl, (refl, refl), more.2))

@@ -12,7 +12,7 @@ use Rattle.btr_rack.specs.Rack.{NoneFailed, OnlyReads, Seen, Steady}
 use Rattle.btr_read.specs.Fate.{Agreed, Fault, choices, fate}
 use Rattle.btr_read.specs.Layout.{Layout}
 use Rattle.btr_read.specs.declared.want.Want.{Want}
-use Rattle.btr_restore.specs.Restoring.{Did, OutCounts, SinkCounts, StopCause}
+use Rattle.btr_restore.specs.Restoring.{Did, OutCounts, SinkCounts, RestoreStopCause}
 use Rattle.btr_volume.specs.Stops.{ended}
 use Rattle.btr_restore.specs.Running.{Outside, Ran, scene_of, world}
 use Rattle.btr_volume.specs.Lookup.{Program}
@@ -90,7 +90,7 @@ module _ {A : Type 0} (CallsSink : Type 0) (left_out : A → ℕ) (run_by : File
     (old mid new : Seen) (first : OnlyReads old mid) (volume after : Volume) (x y : Outside) (answer : Answer) (result : Result A Stop)
     (is : answer ≡ stopped_answer left_out result) (reads : OnlyReads mid new)
     (did : Did volume.store.layout (scene_of (world mid volume x)) (scene_of (world new after y)) (Follows_by (IsRun (filesystem_in volume)) result))
-    (cause : StopCause volume.store.layout mid new result) (sink_calls : SinkCounts x.sink_calls y.sink_calls result)
+    (cause : RestoreStopCause volume.store.layout mid new result) (sink_calls : SinkCounts x.sink_calls y.sink_calls result)
     (out_calls : OutCounts x.out_calls y.out_calls result) where
   abbrev layout : Layout
   layout = volume.store.layout

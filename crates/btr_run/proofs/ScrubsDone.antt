@@ -4,7 +4,7 @@ use Rattle.std.proofs.Common.{arith}
 use Rattle.std.specs.Option.{IfSome}
 use Rattle.std.specs.Prelude.{IsSomeAnd, OnOk}
 use Rattle.btr_check.specs.Running.{OfReading}
-use Rattle.btr_scrub_copies.specs.Writes.{AccountsMend, FailsAt, IsStopped, Leaves, Write, write_on, writes_if}
+use Rattle.btr_scrub_copies.specs.Writes.{AccountsMend, FailsAt, IsStopped, LeaveImages, Write, write_on, writes_if}
 use Rattle.btr_scrub_copies.specs.declared.mended.MendFault.{MendFault}
 use Rattle.btr_scrub_copies.specs.declared.mended.MendFault.TheVariants as mend
 use Rattle.btr_prog.specs.Answers.{Follows, no_part}
@@ -16,7 +16,7 @@ use Rattle.btr_read.specs.Fate as fault
 use Rattle.btr_read.specs.Layout.{Layout}
 use Rattle.btr_read.specs.Reading.{AgreedOn}
 use Rattle.btr_scrub.specs.Filesystem as scrubbed
-use Rattle.btr_scrub.specs.Gathering.{StopCause, TreeCause, wants_among, count_met, stop_halt}
+use Rattle.btr_scrub.specs.Gathering.{StopCause, TreeCause, wants_among, count_met}
 use Rattle.btr_read.specs.declared.want.Want.{Want}
 use Rattle.btr_scrub.specs.Judging.{IsFirstRefused, IsRefused}
 use Rattle.btr_scrub.proofs.Refusing.{refused_one}
@@ -65,6 +65,7 @@ use Rattle.btr_run.proofs.Faulting.{no_tree, tree_back, tree_in}
 use Rattle.btr_run.proofs.TreesShown.{NoneOf, mends_of, none_unread, steadily}
 use Rattle.btr_run.proofs.Mendings.{answered, each_told, images_by, the_images, left_nothing, outcome_by, steady_not_rose, stop_place, left_alone, told_at, unwritten}
 use Rattle.btr_run.proofs.Mendings.{writes_by}
+use Rattle.btr_volume.specs.Stops.{stop_halt}
 
 -- an answer that has a line isn't that of a scrub that was finished
 no_line : (answer : Answer) → (error_line answer ≡ [] → ⊥) → (lost : ℕ) → answer ≡ found lost → ⊥
@@ -317,13 +318,13 @@ module _ (write : Bool) (old mid : Seen) (first : OnlyReads old mid) (volume : V
         }
 
         held_as : (e : Result (Unit {0}) MendFault) → ended ≡ e → (images : Images) → old.held ≡ Some images
-            → Leaves (λ i. writes_if write (ws i)) (Some images) new.held e
-        held_as e is images told = subst (λ (o : Option Images). Leaves (λ i. writes_if write (ws i)) o new.held e) (at_images images told)
-            (subst (λ r. Leaves (λ i. writes_if write (ws i)) at.held new.held r) is works.does.held)
+            → LeaveImages (λ i. writes_if write (ws i)) (Some images) new.held e
+        held_as e is images told = subst (λ (o : Option Images). LeaveImages (λ i. writes_if write (ws i)) o new.held e) (at_images images told)
+            (subst (λ r. LeaveImages (λ i. writes_if write (ws i)) at.held new.held r) is works.does.held)
 
         unheld : write ≡ false → new.held ≡ old.held
         unheld is =
-            left_nothing at.held new.held ended (subst (λ b. Leaves (λ i. writes_if b (ws i)) at.held new.held ended) is works.does.held)
+            left_nothing at.held new.held ended (subst (λ b. LeaveImages (λ i. writes_if b (ws i)) at.held new.held ended) is works.does.held)
             ∙ ap (λ (s : Seen). s.held) all.same
 
         leaves : (answer : Answer) → MayWrite answer
@@ -351,7 +352,7 @@ module _ (write : Bool) (old mid : Seen) (first : OnlyReads old mid) (volume : V
                 ∙ ap (λ r. (effect_of_ending true images fs r).writes) h.1.1) in
                 subst (λ w. IsStopped w images left) mending
                 (stop_place (λ i. writes_if write (ws i)) images left ended
-                (subst (λ (o : Option Images). Leaves (λ i. writes_if write (ws i)) (Some images) o ended) told' (held_as ended refl images told)))
+                (subst (λ (o : Option Images). LeaveImages (λ i. writes_if write (ws i)) (Some images) o ended) told' (held_as ended refl images told)))
 
         unmended : (slot : ℕ) → FailsAt (IsOfScrub layout) slot (plain at) (plain new) → ScrubFails old new slot
         unmended slot f = record {

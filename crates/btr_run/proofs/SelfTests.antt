@@ -11,7 +11,7 @@ use Rattle.btr_rack.specs.declared.error.SinkError.{SinkError}
 use Rattle.btr_rack.specs.declared.error.SinkError.TheVariants.{Failed}
 use Rattle.btr_restore.specs.Running.{Outside, outside}
 use Rattle.btr_text.proofs.Writing.{adds_nothing, adds_twice}
-use Rattle.btr_trial.specs.Shown.{Ends, differing, trial_text}
+use Rattle.btr_trial.specs.Shown.{EndsTrial, differing, trial_text}
 use Rattle.btr_trial.specs.Trial.{trial_of}
 use Rattle.btr_volume.specs.Start.{Images}
 use Rattle.btr_volume.specs.declared.stop.Stop.{Stop}
@@ -114,11 +114,11 @@ module _ (volume : Option Images) (number : ℕ) (sink : Sink) (calls : CallAcco
 
   -- they were put, and a trial ended
   pub tried : (t : Images) → IsTrialOf volume number (showing (tried_shown number t)) → (old mid new : Option (List ℕ)) (before between after : CallAccount)
-      → Adds old mid (volume_text number) → between ≡ before → (r : Result ℕ Stop) → Ends (trial_of t number) mid new between after r
+      → Adds old mid (volume_text number) → between ≡ before → (r : Result ℕ Stop) → EndsTrial (trial_of t number) mid new between after r
       → (answer : Answer) → AnswersTo r answer → TriesTo old new before after answer
   tried t is old mid new before between after lines same r ends answer due = of r ends due
     where
-      of : (r : Result ℕ Stop) → Ends (trial_of t number) mid new between after r → AnswersTo r answer → TriesTo old new before after answer
+      of : (r : Result ℕ Stop) → EndsTrial (trial_of t number) mid new between after r → AnswersTo r answer → TriesTo old new before after answer
       of (Ok count) ends due =
           put_so t is old new before after (Ok tt) (adds_twice old mid new (volume_text number) (trial_text (trial_of t number)) lines ends.1)
           (ends.2 ∙ same) answer

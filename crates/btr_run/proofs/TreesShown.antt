@@ -5,7 +5,7 @@ use Rattle.std.specs.Option.{IfSome}
 use Rattle.std.proofs.lemmas.List.{take_all}
 use Rattle.btr_dump.specs.Pieces.{Text}
 use Rattle.btr_dump.specs.Showing.{Grows, TextRun, TellsBlock, PutsText, PutsAsked}
-use Rattle.btr_dump.specs.Stops.{StopCause, StopCounts}
+use Rattle.btr_dump.specs.Stops.{DumpStopCause, StopCounts}
 use Rattle.btr_walk.proofs.Fetched.{cause_since}
 use Rattle.btr_prog.specs.Answers.{Names}
 use Rattle.btr_prog.specs.Calls.{Any, First}
@@ -259,16 +259,16 @@ module _ (old mid new : Seen) (first : OnlyReads old mid) (second : OnlyReads mi
       of (Err (stop.Tree (tree.Lost a))) = tt
       of r = tt
 
-  tree_cause : (layout : Layout) → IsLayoutOf old new layout → StopCause layout mid new result → HasTreeCause old new (call_answer result)
+  tree_cause : (layout : Layout) → IsLayoutOf old new layout → DumpStopCause layout mid new result → HasTreeCause old new (call_answer result)
   tree_cause layout own cause fault is = (layout, own, of result cause (ap tree_in is ∙ tree_back fault))
     where
-      of : (r : Result (Unit {0}) Stop) → StopCause layout mid new r → tree_in (call_answer r) ≡ Some fault → FaultCause layout old new fault
+      of : (r : Result (Unit {0}) Stop) → DumpStopCause layout mid new r → tree_in (call_answer r) ≡ Some fault → FaultCause layout old new fault
       of (Ok u) cause e = absurd (cc e)
       of (Err (stop.Tree f)) cause e = let same : f ≡ fault = cc (sym (tree_back f) ∙ e) in subst (FaultCause layout old new) same
           (cause_since new layout layout f refl first cause)
       of (Err other) cause e = absurd (cc e)
 
-  pub shown_behind : (layout : Layout) → IsLayoutOf old new layout → StopCause layout mid new result → IsBehind MayMend AnyFault old new answer
+  pub shown_behind : (layout : Layout) → IsLayoutOf old new layout → DumpStopCause layout mid new result → IsBehind MayMend AnyFault old new answer
   shown_behind layout own cause = subst (IsBehind MayMend AnyFault old new) (sym is) (record {
     reads = reads_more first second;
     image = λ slot is. absurd (no_image slot is);

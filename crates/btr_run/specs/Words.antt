@@ -125,26 +125,26 @@ pub record TakesDestination (at : ℕ) (words : Words) (old new : Read) : Type 0
 
 -- one part of a sentence takes these words, the first of which has this number, and more is read
 -- then than before
-abbrev pub Takes : Part → ℕ → Words → Read → Read → Type 0
-Takes (Word this) at words old new = (words ≡ this ∷ []) × (new ≡ old)
-Takes Number at words old new =
+abbrev pub PartTakes : Part → ℕ → Words → Read → Read → Type 0
+PartTakes (Word this) at words old new = (words ≡ this ∷ []) × (new ≡ old)
+PartTakes Number at words old new =
     (n : ℕ) × (word : List ℕ) × IsNumber n word × (words ≡ word ∷ [])
     × (new ≡ record old { number = n })
-Takes Destination at words old new = TakesDestination at words old new
-Takes File at words old new =
+PartTakes Destination at words old new = TakesDestination at words old new
+PartTakes File at words old new =
     (word : List ℕ) × IsTrue (is_file word) × (words ≡ word ∷ []) × (new ≡ record old { file = at })
-Takes Volume at words old new =
+PartTakes Volume at words old new =
     (n : ℕ) × (word : List ℕ) × IsNumber n word × IsTrue (is_volume n) × (words ≡ word ∷ [])
     × (new ≡ record old { number = n; images = at + 1 })
 
 -- the parts of a sentence take these words, one behind another, and a volume or the images' names
 -- come last
-abbrev pub Reads : List Part → ℕ → Words → Read → Read → Type 0
-Reads [] at words old new = AreImages words × (new ≡ record old { images = at })
-Reads (Volume ∷ parts) at words old new = Takes Volume at words old new
-Reads (part ∷ parts) at words old new =
+abbrev pub ReadsParts : List Part → ℕ → Words → Read → Read → Type 0
+ReadsParts [] at words old new = AreImages words × (new ≡ record old { images = at })
+ReadsParts (Volume ∷ parts) at words old new = PartTakes Volume at words old new
+ReadsParts (part ∷ parts) at words old new =
     (taken : Words) × (rest : Words) × (mid : Read) × (words ≡ taken ++ rest)
-    × Takes part at taken old mid × Reads parts (at + length taken) rest mid new
+    × PartTakes part at taken old mid × ReadsParts parts (at + length taken) rest mid new
 
 -- before the first word nothing is read
 abbrev pub nothing : Read
@@ -166,7 +166,7 @@ plan_for sentence read = record { command = command_of sentence read; images = r
 
 -- the words are a sentence of this form, and this is read of them
 abbrev pub IsRead : Sentence → Words → Read → Type 0
-IsRead sentence words read = Reads (parts_of sentence) 0 words (nothing_of sentence) read
+IsRead sentence words read = ReadsParts (parts_of sentence) 0 words (nothing_of sentence) read
 
 -- the words are no sentence of this form, and so many of them, and no more, begin one
 pub record IsShort (sentence : Sentence) (words : Words) (at : ℕ) : Type 0 where

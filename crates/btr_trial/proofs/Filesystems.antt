@@ -22,7 +22,7 @@ use Rattle.btr_walk.specs.Reading.{UnreadBlock, halt_of, unread_by}
 use Rattle.btr_walk.specs.declared.fault.TreeFault.{TreeFault}
 use Rattle.btr_walk.specs.declared.fault.TreeFault.TheVariants as tree
 use Rattle.btr_trial.specs.Opened.{filesystem_of, with_roots, with_start, with_table}
-use Rattle.btr_trial.specs.Opening.{filesystem_in, Opens as OpensAs}
+use Rattle.btr_trial.specs.Opening.{filesystem_in, OpensOrRefuses as OpensAs}
 use Rattle.btr_trial.specs.Sure.{KeepsOpen, sure_seen}
 
 -- no call of a rack failed that is sure

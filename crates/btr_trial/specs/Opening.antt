@@ -12,6 +12,6 @@ abbrev pub filesystem_in : Volume → Filesystem
 filesystem_in volume = record { layout = volume.store.layout; sup = volume.sup }
 
 -- the open images are those of the filesystem of a volume, which can be read; or they are refused
-abbrev pub Opens : MemoryRack → Option Volume → Type 0
-Opens rack (Some volume) = IsFresh (sure_seen rack) volume × (filesystem_of (held_of rack) ≡ Some (filesystem_in volume))
-Opens rack None = filesystem_of (held_of rack) ≡ None
+abbrev pub OpensOrRefuses : MemoryRack → Option Volume → Type 0
+OpensOrRefuses rack (Some volume) = IsFresh (sure_seen rack) volume × (filesystem_of (held_of rack) ≡ Some (filesystem_in volume))
+OpensOrRefuses rack None = filesystem_of (held_of rack) ≡ None

@@ -53,15 +53,15 @@ differing t = if_count t.findings + if_other t.first + if_count t.lost + if_othe
 -- What a trial did with its output, and what it answers: all four lines were put, and so many of them
 -- differ; or the output failed, and a first part of them stands; or memory was wanted, and a first
 -- part of them stands. Nothing else is answered.
-abbrev pub Ends : Tried → Option (List ℕ) → Option (List ℕ) → CallAccount → CallAccount → Result ℕ Stop → Type 0
-Ends t old new before after (Ok count) = (count ≡ differing t) × Puts {T = Unit {0}} old new (trial_text t) (Ok tt) × (after ≡ before)
-Ends t old new before after (Err Out) =
+abbrev pub EndsTrial : Tried → Option (List ℕ) → Option (List ℕ) → CallAccount → CallAccount → Result ℕ Stop → Type 0
+EndsTrial t old new before after (Ok count) = (count ≡ differing t) × Puts {T = Unit {0}} old new (trial_text t) (Ok tt) × (after ≡ before)
+EndsTrial t old new before after (Err Out) =
     Puts {T = Unit {0}} old new (trial_text t) (Err Failed) × Counts {T = Unit {0}} before after (Err Failed)
-Ends t old new before after (Err Memory) = Puts {T = Unit {0}} old new (trial_text t) (Err memory_fault) × (after ≡ before)
-Ends t old new before after (Err (NoTree id)) = ⊥
-Ends t old new before after (Err (Tree fault)) = ⊥
-Ends t old new before after (Err (Deletion id)) = ⊥
-Ends t old new before after (Err Balance) = ⊥
-Ends t old new before after (Err (Missing devid)) = ⊥
-Ends t old new before after (Err (Image slot)) = ⊥
-Ends t old new before after (Err Sink) = ⊥
+EndsTrial t old new before after (Err Memory) = Puts {T = Unit {0}} old new (trial_text t) (Err memory_fault) × (after ≡ before)
+EndsTrial t old new before after (Err (NoTree id)) = ⊥
+EndsTrial t old new before after (Err (Tree fault)) = ⊥
+EndsTrial t old new before after (Err (Deletion id)) = ⊥
+EndsTrial t old new before after (Err Balance) = ⊥
+EndsTrial t old new before after (Err (Missing devid)) = ⊥
+EndsTrial t old new before after (Err (Image slot)) = ⊥
+EndsTrial t old new before after (Err Sink) = ⊥

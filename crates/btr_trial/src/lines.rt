@@ -1,7 +1,7 @@
 // The lines of a trial.
 ghost use Rattle.std.specs.Prelude.{◌≡◌, ◌≤◌};
 ghost use Rattle.btr_text.specs.Pieces.{text_of};
-ghost use Rattle.btr_trial.specs.Shown.{Ends, differing, findings_text, if_count, if_other, lost_text, restore_text, said_text, trial_text};
+ghost use Rattle.btr_trial.specs.Shown.{EndsTrial, differing, findings_text, if_count, if_other, lost_text, restore_text, said_text, trial_text};
 
 use crate::tried::Tried;
 use btr_rack::{Out, SinkError};
@@ -17,7 +17,7 @@ const FAILED: Said = Said {
 /// Puts the four lines, and answers how many of them aren't those of a sound volume. `Out` and `Memory` are the output's; a first part of the
 /// lines stands there then.
 pub(crate) fn put_lines<O: Out>(tried: &Tried, out: &mut O) -> Result<u64, Stop>
-    ensures { Ends tried.now (O.text out.old) (O.text out.new) (O.account out.old) (O.account out.new) result }
+    ensures { EndsTrial tried.now (O.text out.old) (O.text out.new) (O.account out.old) (O.account out.new) result }
 {
     match put_pieces(&pieces_of(tried), out) {
         Ok(()) => Ok(differing(tried)),

@@ -1,6 +1,6 @@
 // Opening the filesystem of the open images.
 ghost use Rattle.std.specs.Prelude.{◌≡◌, IfOk, OnOk};
-ghost use Rattle.btr_trial.specs.Opening.{Opens};
+ghost use Rattle.btr_trial.specs.Opening.{OpensOrRefuses};
 ghost use Rattle.btr_trial.specs.Sure.{HasImages, KeepsOpen};
 ghost use Rattle.btr_volume.specs.declared.fault.OpenFault.TheVariants as opening;
 ghost use Rattle.btr_volume.specs.declared.stop.Stop.TheVariants as stops;
@@ -14,7 +14,7 @@ use std::alloc::Global;
 pub(crate) fn open_filesystem(alloc: Global, rack: &mut SureRack) -> Result<Option<Volume>, Memory>
     requires { HasImages rack.old }
     ensures kept { KeepsOpen rack.old rack.new }
-    ensures opened { IfOk result (Opens rack.new) }
+    ensures opened { IfOk result (OpensOrRefuses rack.new) }
 {
     match Volume::open(alloc, rack) {
         Ok(volume) => Ok(Some(volume)),

@@ -1,7 +1,7 @@
 // The whole trial.
 ghost use Rattle.std.specs.Prelude.{◌≡◌, ◌≤◌, IfOk};
 ghost use Rattle.btr_make.specs.Shelf.{IsShelved, volume_of};
-ghost use Rattle.btr_trial.specs.Shown.{Ends};
+ghost use Rattle.btr_trial.specs.Shown.{EndsTrial};
 ghost use Rattle.btr_trial.specs.Trial.{trial_of};
 
 use crate::checking::try_check;
@@ -33,7 +33,7 @@ pub fn trial<O: Out>(
     requires least { 1 ≤ number }
     requires most { number ≤ 1000 }
     requires ready { IsShelved rack.old }
-    ensures { Ends (trial_of (volume_of rack.old) number)
+    ensures { EndsTrial (trial_of (volume_of rack.old) number)
         (O.text out.old) (O.text out.new) (O.account out.old) (O.account out.new) result }
 {
     let mut sure = SureRack::new(replace(rack, MemRack::new(alloc)));

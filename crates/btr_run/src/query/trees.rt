@@ -1,7 +1,7 @@
 // The commands that show trees of a filesystem.
 ghost use Rattle.std.specs.Prelude.{◌≡◌, ◌<◌, ◌≤◌, length, IfSome, Some};
 ghost use Rattle.btr_dump.specs.Showing.{Grows};
-ghost use Rattle.btr_dump.specs.Stops.{StopCause, StopCounts};
+ghost use Rattle.btr_dump.specs.Stops.{DumpStopCause, StopCounts};
 ghost use Rattle.btr_rack.specs.Rack.{OnlyReads};
 ghost use Rattle.btr_read.specs.Fate.{Agreed, fate};
 ghost use Rattle.btr_read.specs.Serves.{Serves};
@@ -53,7 +53,7 @@ fn show<R: Rack, O: Out>(
     requires room { 5 ≤ free_count volume.old.store }
     ensures reads { OnlyReads (R.seen rack.old) (R.seen rack.new) }
     ensures account { StopCounts (O.account out.old) (O.account out.new) result }
-    ensures cause { StopCause volume.old.store.layout (R.seen rack.old) (R.seen rack.new) result }
+    ensures cause { DumpStopCause volume.old.store.layout (R.seen rack.old) (R.seen rack.new) result }
     ensures grows { Grows (O.text out.old) (O.text out.new) }
     ensures content { IfSteady (R.seen rack.old).held (R.seen rack.old).account (R.seen rack.new).account (λ images.
         Shows (λ outcome. outcome ≡ showing (trees_shown choice (fate images volume.old.store.layout) volume.old.sup))

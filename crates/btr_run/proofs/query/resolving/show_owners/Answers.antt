@@ -15,7 +15,7 @@ use Rattle.btr_read.specs.declared.want.Want.{Want}
 use Rattle.btr_resolve.specs.Resolving.{resolved}
 use Rattle.btr_resolve.specs.Running as call
 use Rattle.btr_restore.specs.Outcome.{text_of}
-use Rattle.btr_restore.specs.Restoring.{StopCause, SinkCounts, OutCounts, sink_after}
+use Rattle.btr_restore.specs.Restoring.{RestoreStopCause, SinkCounts, OutCounts, sink_after}
 use Rattle.btr_volume.specs.Stops.{ended}
 use Rattle.btr_restore.specs.Running.{Outside, outside}
 use Rattle.btr_volume.specs.Start.{Images}
@@ -118,7 +118,7 @@ module _ {A : Type 0} (Is : UnreadBlock → Want → Type 0) (r : Run Want Fault
 
 -- its causes and counts, in the words of a listing
 module _ (layout : Layout) (old new : Seen) where
-  cause_is : (e : Result ℕ Stop) → call.StopCause layout old new e → StopCause layout old new e
+  cause_is : (e : Result ℕ Stop) → call.ResolveStopCause layout old new e → RestoreStopCause layout old new e
   cause_is (Ok n) cause = tt
   cause_is (Err (stop.NoTree id)) cause = absurd cause
   cause_is (Err stop.Sink) cause = absurd cause
@@ -126,16 +126,16 @@ module _ (layout : Layout) (old new : Seen) where
   cause_is (Err stop.Memory) cause = tt
   cause_is (Err other) cause = cause
 
-  no_sink : (c : CallAccount) (e : Result ℕ Stop) → call.StopCause layout old new e → SinkCounts c c e
+  no_sink : (c : CallAccount) (e : Result ℕ Stop) → call.ResolveStopCause layout old new e → SinkCounts c c e
   no_sink c (Err stop.Sink) cause = absurd cause
   no_sink c e cause = refl
 
-  counts_are : (calls calls' : CallAccount) (e : Result ℕ Stop) → call.StopCause layout old new e → call.StopCounts calls calls' e → OutCounts calls calls' e
+  counts_are : (calls calls' : CallAccount) (e : Result ℕ Stop) → call.ResolveStopCause layout old new e → call.StopCounts calls calls' e → OutCounts calls calls' e
   counts_are calls calls' (Err stop.Sink) cause counts = absurd cause
   counts_are calls calls' e cause counts = counts
 
-  no_tree : (id : ℕ) (e : Result ℕ Stop) → e ≡ Err (stop.NoTree id) → call.StopCause layout old new e → ⊥
-  no_tree id e is cause = subst (call.StopCause layout old new) is cause
+  no_tree : (id : ℕ) (e : Result ℕ Stop) → e ≡ Err (stop.NoTree id) → call.ResolveStopCause layout old new e → ⊥
+  no_tree id e is cause = subst (call.ResolveStopCause layout old new) is cause
 
 -- The filesystem is open, and the address was resolved.
 module _ (addr : ℕ) (old mid new : Seen) (first : OnlyReads old mid) (volume after : Volume) (text text' : Option (List ℕ)) (calls calls' : CallAccount)

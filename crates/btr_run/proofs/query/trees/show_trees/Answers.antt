@@ -8,7 +8,7 @@ use Rattle.std.proofs.lemmas.List.Sums.{AllPass-from_list_all, list_all-from_All
 use Rattle.std.proofs.lemmas.Slice.Eq.{bytes_eq-Decides}
 use Rattle.std.specs.Option.{IfSome}
 use Rattle.btr_dump.specs.Showing.{Grows}
-use Rattle.btr_dump.specs.Stops.{StopCause, StopCounts}
+use Rattle.btr_dump.specs.Stops.{DumpStopCause, StopCounts}
 use Rattle.btr_rack.specs.Out.{CallAccount}
 use Rattle.btr_rack.specs.Rack.{OnlyReads, Seen}
 use Rattle.btr_read.specs.Fate.{Agreed, fate, passing_for, sought}
@@ -117,7 +117,7 @@ module _ (choice : DumpChoice) (old mid new : Seen) (first : OnlyReads old mid) 
       → IfSteady mid.held mid.account new.account (λ images. Shows (IsShown images) text text' before after (call_answer result))
       → IfSome mid.held (λ images. Agreed images layout → AgreesOn choice images layout → Shows
       (ShowsUpTo choice (fate images layout) volume.sup) text text' before after (call_answer result))
-      → StopCounts before after result → Grows text text' → StopCause layout mid new result
+      → StopCounts before after result → Grows text text' → DumpStopCause layout mid new result
       → BesideSinks text before text' after (λ x y. IsRowDone row old new x y answer)
   dumped_done content opened shows agreed counts grows cause s c = record {
     effect = when_told old.held _ _ (λ images shown steady. comes (OrMemory (IsWhole images)) (shown steady))
