@@ -1,14 +1,15 @@
 #!/bin/bash
-# Kills a scrub at random moments, over damaged images of filesystems that mkfs.btrfs and the kernel made:
+# Kills a scrub as it writes, over damaged images of filesystems that mkfs.btrfs and the kernel made:
 #
 #     tests/kills.sh PROGRAM [FOLDER]
 #
-# For each profile a filesystem of 300 MB of files is written, and sectors of one copy are spoiled (of one device in RAID5 and RAID6). One scrub runs to its end.
-# Then, twenty times, a scrub of the same images is killed (SIGKILL) at some moment, each time at another; a `restore` of what it left has to write every
-# file as it was, and a second scrub has to leave the images that the one without a kill left, byte for byte.
+# For each profile a filesystem of 300 MB of files is written, and sectors of one copy are spoiled (of one device in RAID5 and RAID6). One scrub runs to its
+# end, and its writes are counted. Then, twenty times, a scrub of the same images is killed (SIGKILL, by strace) at some write, each time at another: a
+# moment in time rarely meets one, since most of a scrub reads. A `restore` of what it left has to write every file as it was, and a second scrub has to
+# leave the images that the one without a kill left, byte for byte.
 #
 # ONLY="NAME.." takes these profiles alone, TIMES=N kills N times, SIZE=M writes M MB, and KEEP=1 keeps the images. It needs root, loop devices, a kernel with
-# btrfs, btrfs-progs and some 4 GB. The gate doesn't run it.
+# btrfs, btrfs-progs, strace and some 4 GB. The gate doesn't run it.
 set -u
 program=$(readlink -f "${1:?tests/kills.sh PROGRAM [FOLDER]}")
 room=${2:-$(mktemp -d)}
@@ -32,7 +33,7 @@ detach() {
     for device in "${devices[@]}"; do btrfs device scan --forget "$device" >/dev/null 2>&1; losetup -d "$device"; done
 }
 
-# Makes the filesystem of a profile, with files of different sizes, and keeps the sums of the files.
+# Makes the filesystem of a profile, with files of different sizes, and keeps a copy of the files.
 make() {
     local count=$1 profile=$2
     images=()
@@ -41,7 +42,7 @@ make() {
     attach "${images[@]}"
     mount "${devices[0]}" "$at/mount"
     for i in $(seq 1 "${SIZE:-300}"); do head -c $((1000000 + i * 137)) /dev/urandom >"$at/mount/$i"; done
-    (cd "$at/mount" && sha256sum -- * | sort -k2) >"$at/sums"
+    cp -a "$at/mount" "$at/files"
     umount "$at/mount"
     detach
 }
@@ -73,7 +74,7 @@ damage() {
 whole() {
     rm -rf "$at/restored" && mkdir "$at/restored"
     "$program" restore "$at/restored" "$@" >"$at/said" 2>&1 || { echo "restore: $(tail -n 1 "$at/said")" && return; }
-    (cd "$at/restored" && sha256sum -- * | sort -k2) | cmp -s - "$at/sums" && echo whole || echo "other files"
+    diff -rq "$at/files" "$at/restored" >/dev/null && echo whole || echo "other files"
 }
 
 copy() {
@@ -89,7 +90,7 @@ differing() {
 
 one() {
     case " ${ONLY:-$1} " in *" $1 "*) ;; *) return ;; esac
-    local name=$1 count=$2 profile=$3 began took set begun=0
+    local name=$1 count=$2 profile=$3 set writes write killed=0 begun=0 between=0
     at="$room/$name"
     rm -rf "$at" && mkdir -p "$at/mount"
     make "$count" "$profile" || { echo "$name: not made here" && return; }
@@ -97,29 +98,33 @@ one() {
     for i in "${!images[@]}"; do mv "${images[i]}" "$at/bad$i"; done
     copy "$at/bad" "$at/whole"
     set=() && for i in "${!images[@]}"; do set+=("$at/whole$i"); done
-    began=$(date +%s%N)
-    "$program" scrub start "${set[@]}" >"$at/scrubbed"
+    strace -f -qq -o "$at/calls" -e trace=pwrite64 "$program" scrub start "${set[@]}" >"$at/scrubbed"
     holds "$name: a scrub without a kill, status" "$?" 0
-    took=$(($(date +%s%N) - began))
     holds "$name: behind it" "$(whole "${set[@]}")" whole
-    echo "$name: $(tail -n 1 "$at/scrubbed"), $((took / 1000000)) ms"
+    writes=$(wc -l <"$at/calls")
+    echo "$name: $(tail -n 1 "$at/scrubbed"), $writes writes"
     set=() && for i in "${!images[@]}"; do set+=("$at/cut$i"); done
     for turn in $(seq 1 "${TIMES:-20}"); do
         copy "$at/bad" "$at/cut"
-        moment=$((took * turn / (${TIMES:-20} + 1) / 1000 + RANDOM % 5000))
-        "$program" scrub start "${set[@]}" >/dev/null &
-        worker=$!
-        sleep "$(printf '%d.%06d' $((moment / 1000000)) $((moment % 1000000)))"
-        kill -KILL "$worker" 2>/dev/null
-        wait "$worker" 2>/dev/null
-        written=$(differing "$at/bad" "$at/cut")
-        holds "$name: killed after $moment us, restore" "$(whole "${set[@]}")" whole
+        write=$((1 + (writes * turn - RANDOM % (writes + 1)) / ${TIMES:-20}))
+        [ "$write" -le "$writes" ] || write=$writes
+        strace -f -qq -o "$at/calls" -e trace=pwrite64 -e inject=pwrite64:signal=KILL:when="$write" \
+            "$program" scrub start "${set[@]}" >/dev/null 2>&1 &
+        wait "$!" 2>/dev/null
+        if [ "$?" = 137 ]; then
+            killed=$((killed + 1))
+            if [ "$(differing "$at/bad" "$at/cut")" != 0 ]; then
+                begun=$((begun + 1))
+                [ "$(differing "$at/whole" "$at/cut")" = 0 ] || between=$((between + 1))
+            fi
+        fi
+        holds "$name: killed at write $write, restore" "$(whole "${set[@]}")" whole
         "$program" scrub start "${set[@]}" >"$at/again"
-        holds "$name: killed after $moment us, a second scrub, status" "$?" 0
-        holds "$name: killed after $moment us, images that differ from those of one scrub" "$(differing "$at/whole" "$at/cut")" 0
-        [ "$written" = 0 ] || begun=$((begun + 1))
+        holds "$name: killed at write $write, a second scrub, status" "$?" 0
+        holds "$name: killed at write $write, images that differ from those of one scrub" "$(differing "$at/whole" "$at/cut")" 0
     done
-    echo "$name: $begun of ${TIMES:-20} were killed with something written"
+    holds "$name: how many were killed" "$killed" "${TIMES:-20}"
+    echo "$name: $killed killed, $begun of them with something written, $between of these with something left to write"
     [ -n "${KEEP:-}" ] || rm -rf "$at"
 }
 
