@@ -55,11 +55,15 @@ module _ (kind : SumKind) (source : Source) (at : ℕ) (item : TreeItem) where
   start = item.key.offset
 
   module _ (end : ℕ) where
-    by_len : (len : ℕ) (b : Bool) → bind (cond b (Return (Ok at)) (gap (start - at) (Emit (Bytes (take (source.size - start) (inline_data item.body)) true) (Return (on_at source.size end))))) (on end) ≡ todo_prog kind source at end (inline_data item.body) (cond b Next (Inline (record { start = start; leaf = item.leaf; len = len })))
+    by_len : (len : ℕ) (b : Bool) → bind (cond b (Return (Ok at)) (gap (start - at)
+        (Emit (Bytes (take (source.size - start) (inline_data item.body)) true) (Return (on_at source.size end))))) (on end) ≡ todo_prog kind source at end
+        (inline_data item.body) (cond b Next (Inline (record { start = start; leaf = item.leaf; len = len })))
     by_len len true = refl
     by_len len false = gap_bind (start - at) (Emit (Bytes (take (source.size - start) (inline_data item.body)) true) (Return (on_at source.size end))) (on end)
 
-    by_addr : (addr count : ℕ) (b : Bool) → bind (cond b (Return (Ok at)) (gap (start - at) (bind (sectors kind source.sums source.nosum count addr (source.size - start)) (λ u. Return (on_at source.size end))))) (on end) ≡ todo_prog kind source at end (inline_data item.body) (cond b Next (Sectors (record { start = start; addr = addr; count = count })))
+    by_addr : (addr count : ℕ) (b : Bool) → bind (cond b (Return (Ok at)) (gap (start - at)
+        (bind (sectors kind source.sums source.nosum count addr (source.size - start)) (λ u. Return (on_at source.size end)))))
+        (on end) ≡ todo_prog kind source at end (inline_data item.body) (cond b Next (Sectors (record { start = start; addr = addr; count = count })))
     by_addr addr count true = refl
     by_addr addr count false =
         let s = sectors kind source.sums source.nosum count addr (source.size - start) in
@@ -104,7 +108,7 @@ module _ (kind : SumKind) (source : Source) (at : ℕ) (item : TreeItem) where
 
 -- ---- what is known of a clear extent
 
-both : (a b : Bool) → (a && b) ≡ true → (a ≡ true) × (b ≡ true)
+pub both : (a b : Bool) → (a && b) ≡ true → (a ≡ true) × (b ≡ true)
 both true b h = (refl, h)
 both false b h = let z : ⊥ = cc in absurd z
 
@@ -112,11 +116,11 @@ other : (a b : Bool) → (a || b) ≡ true → a ≡ false → b ≡ true
 other true b h e = let z : ⊥ = cc in absurd z
 other false b h e = h
 
-of_fields : {T : Type 0} (b : Bool) (x y : T) → fields_if b x ≡ Ok y → (b ≡ true) × (x ≡ y)
+pub of_fields : {T : Type 0} (b : Bool) (x y : T) → fields_if b x ≡ Ok y → (b ≡ true) × (x ≡ y)
 of_fields true x y h = (refl, cc)
 of_fields false x y h = let z : ⊥ = cc in absurd z
 
-of_map : {T U : Type 0} (f : T → U) (r : Result T ItemFault) (y : U) → map_ok f r ≡ Ok y → (x : T) × (r ≡ Ok x) × (f x ≡ y)
+pub of_map : {T U : Type 0} (f : T → U) (r : Result T ItemFault) (y : U) → map_ok f r ≡ Ok y → (x : T) × (r ≡ Ok x) × (f x ≡ y)
 of_map f (Ok x) y h = (x, refl, cc)
 of_map f (Err fault) y h = let z : ⊥ = cc in absurd z
 
@@ -129,7 +133,7 @@ some_test n h = grind (arith, nat_tests)
 zero_test : (n : ℕ) → (n == 0) ≡ true → n ≡ 0
 zero_test n h = grind (arith, nat_tests)
 
-below : (m n : ℕ) → nat_lt m n ≡ true → m < n
+pub below : (m n : ℕ) → nat_lt m n ≡ true → m < n
 below m n h = grind (arith, nat_tests)
 
 -- a place of a clear extent: whole sectors of it that end below 2^64
@@ -157,7 +161,8 @@ placed offset addr disk_len skip len whole compressed clear h some =
     let b = both whole (is_range offset len) c.0 in
     let of_len = both (is_aligned offset && is_aligned len) (nat_lt (offset + len) (2 ^ 64)) b.1 in
     let of_addr = both (is_aligned addr && is_aligned disk_len) (nat_lt (addr + disk_len) (2 ^ 64)) d.1 in
-    let of_skip = both (is_aligned skip) (compressed || holds disk_len skip len) (other (addr == 0) (is_aligned skip && (compressed || holds disk_len skip len)) e.1 (some_test addr some)) in
+    let of_skip = both (is_aligned skip) (compressed || holds disk_len skip len) (other (addr == 0)
+    (is_aligned skip && (compressed || holds disk_len skip len)) e.1 (some_test addr some)) in
     let within : skip + len ≤ disk_len = is_le (skip + len) disk_len (other compressed (holds disk_len skip len) of_skip.1 clear) in
     let last : addr + disk_len < 2 ^ 64 = below (addr + disk_len) (2 ^ 64) of_addr.1 in
     record {
@@ -194,11 +199,13 @@ module _ (offset : ℕ) (body : List ℕ) (clear : not (slice_index body 16 == 0
   by_two s true h = known_prealloc s h
   by_two s false h = let z : ⊥ = cc in absurd z
 
-  by_one : (s : Shape) (b c : Bool) → cond b (fields_if (place_fits offset body) regular) (cond c (fields_if (place_fits offset body) prealloc) (Err (record {}))) ≡ Ok s → Known body s
+  by_one : (s : Shape) (b c : Bool) → cond b (fields_if (place_fits offset body) regular)
+      (cond c (fields_if (place_fits offset body) prealloc) (Err (record {}))) ≡ Ok s → Known body s
   by_one s true c h = known_regular s h
   by_one s false c h = by_two s c h
 
-  by_kind : (s : Shape) (a b c : Bool) → cond a inline (cond b (fields_if (place_fits offset body) regular) (cond c (fields_if (place_fits offset body) prealloc) (Err (record {})))) ≡ Ok s → Known body s
+  by_kind : (s : Shape) (a b c : Bool) → cond a inline (cond b (fields_if (place_fits offset body) regular)
+      (cond c (fields_if (place_fits offset body) prealloc) (Err (record {})))) ≡ Ok s → Known body s
   by_kind s true b c h = known_inline s h
   by_kind s false b c h = by_one s b c h
 
@@ -226,7 +233,8 @@ module _ (offset : ℕ) (body : List ℕ) (fields : FileExtent) (clear : judged 
     shape = s;
   }
 
-  of_test : (b : Bool) → (nat_le 21 (length body) && is_aligned offset) ≡ b → cond b (map_ok of_shape (shape_of offset body)) (Err (record {})) ≡ Ok fields → Known body fields.shape
+  of_test : (b : Bool) → (nat_le 21 (length body) && is_aligned offset) ≡ b → cond b (map_ok of_shape (shape_of offset body)) (Err (record {})) ≡ Ok fields
+      → Known body fields.shape
   of_test true e h =
       let m = of_map of_shape (shape_of offset body) fields h in
       let same : slice_index body 16 ≡ fields.compression = ap (λ (x : FileExtent). x.compression) m.2 in
@@ -256,7 +264,8 @@ module _ (size before : ℕ) (item : TreeItem) (fields : FileExtent) (clear : ju
   inline_len : (len : ℕ) → file_len fields (shape.Inline len) ≡ len
   inline_len len = ap (λ (b : Bool). cond b len fields.ram) (plain fields clear)
 
-  fits_inline : (len : ℕ) (b : Bool) → (len == 0) ≡ b → begin < size → FitsTodo size before (begin + file_len fields (shape.Inline len)) (cond b Next (Inline (record { start = begin; leaf = item.leaf; len = len })))
+  fits_inline : (len : ℕ) (b : Bool) → (len == 0) ≡ b → begin < size → FitsTodo size before (begin + file_len fields (shape.Inline len))
+      (cond b Next (Inline (record { start = begin; leaf = item.leaf; len = len })))
   fits_inline len true e lt = omega (arith, order)
   fits_inline len false e lt =
       let some : 0 < len = grind (arith, nat_tests) in
@@ -281,7 +290,8 @@ module _ (size before : ℕ) (item : TreeItem) (fields : FileExtent) (clear : ju
           omega (arith, p.addr_whole, p.skip_whole),
         )
 
-  fits_regular : (addr disk_len skip len : ℕ) (b : Bool) → (addr == 0) ≡ b → (0 < addr → IsPlaced addr skip len) → begin < size → FitsTodo size before (begin + len) (cond b Next (Sectors (record { start = begin; addr = addr + skip; count = sector_count size begin len })))
+  fits_regular : (addr disk_len skip len : ℕ) (b : Bool) → (addr == 0) ≡ b → (0 < addr → IsPlaced addr skip len) → begin < size → FitsTodo size before
+      (begin + len) (cond b Next (Sectors (record { start = begin; addr = addr + skip; count = sector_count size begin len })))
   fits_regular addr disk_len skip len true e p lt = omega (arith, order)
   fits_regular addr disk_len skip len false e p lt = let some : 0 < addr = grind (arith, nat_tests) in fits_sectors addr skip len (p some) lt
 
@@ -295,7 +305,8 @@ module _ (size before : ℕ) (item : TreeItem) (fields : FileExtent) (clear : ju
   fits_size true e k = tt
   fits_size false e k = fits_shape fields.shape k (is_lt size begin e)
 
-  inline_at : (len : ℕ) (b : Bool) → length item.body ≡ 21 + len → IsInline (Some item) (cond b Next (Inline (record { start = begin; leaf = item.leaf; len = len })))
+  inline_at : (len : ℕ) (b : Bool) → length item.body ≡ 21 + len → IsInline (Some item)
+      (cond b Next (Inline (record { start = begin; leaf = item.leaf; len = len })))
   inline_at len true k = tt
   inline_at len false k = k
 

@@ -1,5 +1,5 @@
 -- A file goes on to its next extent, and gives a piece.
-use Rattle.std.proofs.Common.{ℕ, List, [], ◌++◌, Option, Some, None, Result, Ok, Err, subst, append_assoc}
+use Rattle.std.proofs.Common.{ℕ, List, [], ◌++◌, Option, Some, None, Result, Ok, Err, refl, subst, append_assoc}
 use Rattle.btr_base.specs.declared.kind.SumKind.{SumKind}
 use Rattle.btr_prog.specs.Answers.{Halt, no_part}
 use Rattle.btr_prog.specs.Prog.{Does, first, prepend, want_marks}
@@ -9,14 +9,13 @@ use Rattle.btr_read.specs.Store.{Blocks}
 use Rattle.btr_read.specs.declared.want.Want.{Want}
 use Rattle.btr_walk.specs.declared.fault.TreeFault.{TreeFault}
 use Rattle.btr_walk.specs.Reading.{Map, UnreadBlock, halt_of}
+use Rattle.btr_walk.proofs.Marks.{behind_wants, past_both}
 use Rattle.btr_files.specs.declared.progress.Progress.{Progress}
 use Rattle.btr_files.specs.declared.progress.Source.{Source}
 use Rattle.btr_files.specs.declared.streaming.Shown.{Shown}
 use Rattle.btr_files.specs.Ahead.{LooksOn, IsLooked}
 use Rattle.btr_files.specs.Giving.{shown_piece, GivesStep, EndsIn, IsNextStep}
 use Rattle.btr_files.specs.Streaming.{LeftBy, IsGoing}
-use Rattle.btr_files.proofs.Onwards.{follows_past}
-use Rattle.btr_files.proofs.Passed.{past_both}
 
 module _ (kind : SumKind) (source : Source) (Bs : ℕ → Map) (p : Progress) where
   -- no extent could be had
@@ -30,7 +29,8 @@ module _ (kind : SumKind) (source : Source) (Bs : ℕ → Map) (p : Progress) wh
     ends_on seen l answer e = (
       prepend (want_marks l.past) e.0,
       l.goes kind Bs e.0 e.1,
-      follows_past Is seen l.past e.0 answer (follows_as Was' Is weaker no_part (seen ++ l.past) e.0 [] answer e.2),
+      behind_wants Is seen l.past (prepend (want_marks l.past) e.0) no_part e.0 [] answer refl
+          (follows_as Was' Is weaker no_part (seen ++ l.past) e.0 [] answer e.2),
     )
 
     gives_on : (seen : List Want) (l : LooksOn source (Bs 0) seen p p') (store : Blocks) (given : Shown)

@@ -1,13 +1,13 @@
 -- The runs of what is left of a file.
 use Rattle.std.proofs.Common.{◌≡◌, ℕ, List, [], ◌∷◌, ◌++◌, Result, Ok, Err, refl, sym, ap, ◌∙◌, subst, append-nil}
 use Rattle.btr_base.specs.declared.kind.SumKind.{SumKind}
-use Rattle.btr_prog.specs.Prog.{Mark, Wants, Does, Return, Run, run, first, prepend, exec, after, and_then, steps_of, wants_of, want_marks}
+use Rattle.btr_prog.specs.Prog.{Mark, Wants, Does, Return, Run, run, first, prepend, exec, after, and_then, want_marks}
 use Rattle.btr_prog.specs.Thread.{go_on_run, thread_run}
 use Rattle.btr_prog.specs.Answers.{Halt, Follows, no_part}
 use Rattle.btr_prog.specs.Goes.{GoesTo, Goes, AfterTo, GoOnTo, ThreadsTo}
 use Rattle.btr_prog.proofs.Choices.{goes_map}
 use Rattle.btr_prog.proofs.Cursors.{cursor_halts}
-use Rattle.btr_prog.proofs.Follow.{follows_halt, follows_behind}
+use Rattle.btr_prog.proofs.Follow.{follows_halt}
 use Rattle.btr_prog.proofs.Runs.{prepend-prepend}
 use Rattle.btr_read.specs.Fate as fate
 use Rattle.btr_read.specs.declared.want.Want.{Want}
@@ -24,23 +24,6 @@ Items = Run Want fate.Fault TreeItem (Unit {0})
 
 abbrev pub Pieces : Type 0
 Pieces = Run Want fate.Fault Piece (Unit {0})
-
--- wants, which are no steps
-pub wants_back : (ws : List Want) → wants_of {S = Piece} (want_marks ws) ≡ ws
-wants_back [] = refl
-wants_back (w ∷ ws) = ap (λ x. w ∷ x) (wants_back ws)
-
-pub steps_back : (ws : List Want) → steps_of {S = Piece} (want_marks ws) ≡ []
-steps_back [] = refl
-steps_back (w ∷ ws) = steps_back ws
-
-pub no_steps : (ws : List Want) → [] ≡ steps_of {S = Piece} (want_marks ws ++ [])
-no_steps [] = refl
-no_steps (w ∷ ws) = no_steps ws
-
-pub marks-append : (xs ys : List Want) → want_marks {S = Piece} (xs ++ ys) ≡ want_marks xs ++ want_marks ys
-marks-append [] ys = refl
-marks-append (w ∷ xs) ys = ap (λ x. Wants w ∷ x) (marks-append xs ys)
 
 -- marks before what comes after
 pub after_past : {S A C : Type 0} (ns ms : List (Mark Want S)) (e : Result A fate.Fault) (K : A → Run Want fate.Fault S C → Type 0)
@@ -184,10 +167,3 @@ module _ (kind : SumKind) (source : Source) (Bs : ℕ → Map) where
           follows_halt Is no_part seen r
               (λ y. (some_behind items y).0) [] h g.2,
         )
-
--- an answer behind some wants
-pub follows_past : (Is : UnreadBlock → Want → Type 0) (seen ws : List Want) (q : Pieces) (answer : Result (Unit {0}) (Halt fate.Fault UnreadBlock))
-    → Follows Is no_part (seen ++ ws) q [] answer → Follows Is no_part seen (prepend (want_marks ws) q) [] answer
-follows_past Is seen ws q answer f =
-    subst (λ (done : List Piece). Follows Is no_part seen (prepend (want_marks ws) q) done answer) (append-nil (steps_of (want_marks ws)) ∙ steps_back ws)
-    (follows_behind Is no_part seen (want_marks ws) q [] answer (subst (λ (x : List Want). Follows Is no_part (seen ++ x) q [] answer) (sym (wants_back ws)) f))

@@ -1,13 +1,11 @@
 -- How far a scan of a file's items has come, past extents that have no bytes.
-use Rattle.std.proofs.Common.{◌≡◌, ℕ, ◌≤◌, List, [], ◌++◌, Some, None, Ok, Err, sym, ap, ◌∙◌, subst, append-nil, append_assoc, arith}
+use Rattle.std.proofs.Common.{◌≡◌, ℕ, ◌≤◌, List, [], ◌++◌, Some, None, Ok, Err, refl, sym, subst, append-nil, append_assoc, arith}
 use Rattle.btr_base.specs.declared.key.Key.{Key}
 use Rattle.btr_base.specs.declared.kind.SumKind.{SumKind}
 use Rattle.btr_items.specs.FileExtent.{inline_data}
-use Rattle.btr_prog.specs.Prog.{Run, prepend, exec, want_marks}
+use Rattle.btr_prog.specs.Prog.{prepend, exec, want_marks}
 use Rattle.btr_prog.specs.Answers.{no_part}
 use Rattle.btr_prog.proofs.Follow.{follows_as}
-use Rattle.btr_prog.proofs.Runs.{prepend-prepend}
-use Rattle.btr_read.specs.Fate as fate
 use Rattle.btr_read.specs.Store.{Blocks}
 use Rattle.btr_read.specs.declared.want.Want.{Want}
 use Rattle.btr_walk.specs.declared.fault.TreeFault.{TreeFault}
@@ -15,19 +13,14 @@ use Rattle.btr_walk.specs.declared.scan.Scan.{Scan}
 use Rattle.btr_walk.specs.Going.{IsOn}
 use Rattle.btr_walk.specs.Reading.{Map, UnreadBlock, halt_of}
 use Rattle.btr_walk.specs.ScanEnds.{left_of, HoldsLeaf}
+use Rattle.btr_walk.proofs.Marks.{behind_wants, past_both}
 use Rattle.btr_files.specs.declared.extent.Ahead.{Ahead}
 use Rattle.btr_files.specs.declared.progress.Source.{Source}
 use Rattle.btr_files.specs.declared.progress.Todo.{Todo}
 use Rattle.btr_files.specs.declared.progress.Todo.TheVariants.{Next, Inline, Sectors, Over}
-use Rattle.btr_files.specs.Content.{Piece}
 use Rattle.btr_files.specs.Streaming.{todo_prog, Then, FitsTodo}
 use Rattle.btr_files.specs.Ahead.{Onward, IsNextExtent}
-use Rattle.btr_files.proofs.Onwards.{Pieces, marks-append, follows_past}
-
--- two parts of the wants that are past
-pub past_both : {A : Type 0} (xs ys : List Want) (q : Run Want fate.Fault Piece A) → prepend (want_marks xs) (prepend (want_marks ys) q)
-    ≡ prepend (want_marks (xs ++ ys)) q
-past_both xs ys q = prepend-prepend (want_marks xs) (want_marks ys) q ∙ ap (λ ms. prepend ms q) (sym (marks-append xs ys))
+use Rattle.btr_files.proofs.Onwards.{Pieces}
 
 -- what is left behind an extent leads on to what is left behind a later one
 pub record Passes (source : Source) (B : Map) (seen : List Want) (old new : Blocks) (scan scan' : Scan) (end end' : ℕ) : Type 0 where
@@ -50,7 +43,8 @@ module _ (source : Source) (B : Map) (first : Blocks) (scan0 : Scan) (end0 : ℕ
     held = λ h. subst (λ (x : List Want). HoldsLeaf B x first scan0) (sym (append-nil seen)) h;
   }
 
-  module _ (Was Is : UnreadBlock → Want → Type 0) (store : Blocks) (scan : Scan) (end : ℕ) (lo : scan.lo ≡ scan0.lo) (hi : scan.hi ≡ scan0.hi) (gone : Gone store scan end) where
+  module _ (Was Is : UnreadBlock → Want → Type 0) (store : Blocks) (scan : Scan) (end : ℕ) (lo : scan.lo ≡ scan0.lo) (hi : scan.hi ≡ scan0.hi)
+      (gone : Gone store scan end) where
     on_here : (seen : List Want) → IsOn scan0.lo scan0.hi B seen scan.place → IsOn scan.lo scan.hi B seen scan.place
     on_here seen on = subst (λ (k : Key). IsOn k scan.hi B seen scan.place) (sym lo) (subst (λ (k : Key). IsOn scan0.lo k B seen scan.place) (sym hi) on)
 
@@ -73,7 +67,9 @@ module _ (source : Source) (B : Map) (first : Blocks) (scan0 : Scan) (end0 : ℕ
           record {
             past = x.past ++ y.past;
             goes = λ kind Bs at q h.
-                let h' : Then kind source Bs (todo_prog kind source at ahead.end (inline_data y.item.body) ahead.todo) (exec B (left_of B new scan')) q = subst (λ (t : Todo). Then kind source Bs (todo_prog kind source at ahead.end (inline_data y.item.body) t) (exec B (left_of B new scan')) q) (sym is) h in
+                let h' : Then kind source Bs (todo_prog kind source at ahead.end (inline_data y.item.body) ahead.todo) (exec B (left_of B new scan')) q = subst
+                (λ (t : Todo). Then kind source Bs (todo_prog kind source at ahead.end (inline_data y.item.body) t) (exec B (left_of B new scan')) q)
+                (sym is) h in
                 subst (Onward kind source Bs at end0 (exec B (left_of B first scan0))) (past_both x.past y.past q)
                 (x.goes kind Bs at (prepend (want_marks y.past) q) (y.goes kind Bs at q h'));
             on = on_there seen x.past y.past scan' y.on;
@@ -115,7 +111,8 @@ module _ (source : Source) (B : Map) (first : Blocks) (scan0 : Scan) (end0 : ℕ
           let y = n (seen ++ x.past) (on_here (seen ++ x.past) x.on) kind Bs at in (
             prepend (want_marks x.past) y.0,
             x.goes kind Bs at y.0 y.1,
-            follows_past Is seen x.past y.0 (Err (halt_of f)) (follows_as Was Is weaker no_part (seen ++ x.past) y.0 [] (Err (halt_of f)) y.2),
+            behind_wants Is seen x.past (prepend (want_marks x.past) y.0) no_part y.0 [] (Err (halt_of f)) refl
+                (follows_as Was Is weaker no_part (seen ++ x.past) y.0 [] (Err (halt_of f)) y.2),
           )
 
 -- an extent begins behind the end of an earlier one too

@@ -17,12 +17,13 @@ use Rattle.btr_walk.specs.Reading.{Map, UnreadBlock, FaultCause, halt_of}
 use Rattle.btr_walk.specs.Scans.{wants}
 use Rattle.btr_walk.specs.ScanEnds.{left_of, Gives, IsNextOn}
 use Rattle.btr_walk.specs.Showing.{item_of}
+use Rattle.btr_walk.proofs.Marks.{wants_fault}
 use Rattle.btr_files.specs.declared.extent.Ahead.{Ahead}
 use Rattle.btr_files.specs.declared.progress.Source.{Source}
 use Rattle.btr_files.specs.Streaming.{given, Then}
 use Rattle.btr_files.specs.Ahead.{ahead_of, Onward, LeadsOn, HaltsAt, IsNextExtent}
 use Rattle.btr_files.proofs.Extending.{ahead_prog, pieces_are, found_good, found_fault}
-use Rattle.btr_files.proofs.Onwards.{Items, Pieces, no_steps, treats_past, treats_item, treats_end, treats_halts, then_of}
+use Rattle.btr_files.proofs.Onwards.{Items, Pieces, treats_past, treats_item, treats_end, treats_halts, then_of}
 
 -- marks without steps are wants
 all_wants : (ms : List (Mark Want TreeItem)) → [] ≡ steps_of ms → ms ≡ wants (wants_of ms)
@@ -66,7 +67,8 @@ module _ (source : Source) (Is : UnreadBlock → Want → Type 0) (B : Map) (old
     onward : (r : Result Ahead TreeFault) → ahead_of source.size end item ≡ r → (kind : SumKind) (Bs : ℕ → Map) (at : ℕ) (q : Pieces)
         → Then kind source Bs (ahead_prog kind source at item r) behind q → Onward kind source Bs at end items (prepend (want_marks g.past) q)
     onward r e kind Bs at q h =
-        let t = treats_item kind source Bs (given at end) item behind (ahead_prog kind source at item r) q (pieces_are kind source at item end ∙ ap (ahead_prog kind source at item) e) h in
+        let t = treats_item kind source Bs (given at end) item behind (ahead_prog kind source at item r) q
+        (pieces_are kind source at item end ∙ ap (ahead_prog kind source at item) e) h in
         subst (λ x. Onward kind source Bs at end x (prepend (want_marks g.past) q)) (sym g.is)
         (then_of kind source Bs (Ok (given at end)) _ (prepend (want_marks g.past) q)
         (treats_past kind source Bs g.past (given at end) (first (Does item) behind) q t))
@@ -88,7 +90,8 @@ module _ (source : Source) (Is : UnreadBlock → Want → Type 0) (B : Map) (old
           prepend (want_marks g.past) broken,
           onward (Err f) e kind Bs at broken (run [] (Err (fate.Malformed item.leaf)), refl, refl),
           subst (λ (x : TreeFault). Follows Is no_part seen (prepend (want_marks g.past) broken) [] (Err (halt_of x)))
-              (sym (found_fault source.size end item f e)) (no_steps g.past, refl),
+              (sym (found_fault source.size end item f e))
+              (wants_fault Is seen g.past (prepend (want_marks g.past) broken) (fate.Malformed item.leaf) refl),
         )
 
   pub extent_some : (found : Found) (ahead : Ahead) → ahead_of source.size end (item_of found) ≡ Ok ahead

@@ -11,7 +11,7 @@ use Rattle.btr_items.specs.declared.entry.Entry.{Entry}
 use Rattle.btr_items.specs.declared.fault.ItemFault.{ItemFault}
 use Rattle.btr_prog.specs.Prog.{Mark, Wants, Does, Return, Emit, Run, run, first, prepend, exec, bind, after, steps_of, want_marks}
 use Rattle.btr_prog.specs.Thread.{go_on_run, thread_run, end_of}
-use Rattle.btr_prog.specs.Answers.{Halt, Fault, Follows, no_part}
+use Rattle.btr_prog.specs.Answers.{Halt, Follows, no_part}
 use Rattle.btr_prog.specs.Goes.{AfterTo, GoOnTo, ThreadsTo}
 use Rattle.btr_prog.proofs.Threads.{exec-thread}
 use Rattle.btr_prog.proofs.SoFars.{threads_exec}
@@ -39,6 +39,7 @@ use Rattle.btr_walk.specs.Rests.{kept_prog, rest_left, rank_left, Rests}
 use Rattle.btr_walk.specs.Scans.{wants}
 use Rattle.btr_walk.specs.ScanEnds.{left_of, rank_of, without_leaf, Gives, IsNextOn, IsScanReady}
 use Rattle.btr_walk.specs.Showing.{item_of}
+use Rattle.btr_walk.proofs.Marks.{wants_fault}
 use Rattle.btr_volume.specs.Lookup.{Program, formed}
 use Rattle.btr_files.specs.declared.dir_row.DirRow.{DirRow}
 use Rattle.btr_files.specs.declared.name.NameBuf.{NameBuf}
@@ -137,10 +138,6 @@ module _ (B : Map) where
       → exec B (entries_in p) ≡ prepend (want_marks ws) (rows_of (first (Does item) r))
   rows_step p ws item r e = exec_rows p ∙ ap rows_of e ∙ rows_past ws (first (Does item) r)
 
-  no_steps : (ws : List Want) → [] ≡ steps_of {S = DirEntry} (want_marks ws ++ [])
-  no_steps [] = refl
-  no_steps (w ∷ ws) = no_steps ws
-
   -- an item was met, and holds an entry
   row_gives : (seen : List Want) (old new : Blocks) (scan scan' : Scan) (found : Found) (name : NameBuf) (row : DirRow) (entry : Entry)
       → index_entry_of found.body.now ≡ Ok entry → named_row row name ≡ entry_of (item_of found) entry → Gives B seen old new scan scan' found
@@ -163,9 +160,9 @@ module _ (B : Map) where
       → EndsRows Is B seen (left_of B old scan) (Err f)
   row_breaks Is seen old new scan scan' found fault f h n g =
       let behind = exec B (left_of B new scan') in
-      let e = rows_step (left_of B old scan) g.past (item_of found) behind g.is ∙ ap (prepend (want_marks g.past)) (row_broken (item_of found) fault behind h) in
       subst (λ (x : TreeFault). EndsRows Is B seen (left_of B old scan) (Err x)) (sym n)
-      (subst (λ q. Follows Is no_part seen q [] (Err (Fault (fate.Malformed found.block)))) (sym e) (no_steps g.past, refl))
+      (wants_fault Is seen g.past (exec B (entries_in (left_of B old scan))) (fate.Malformed found.block)
+      (rows_step (left_of B old scan) g.past (item_of found) behind g.is ∙ ap (prepend (want_marks g.past)) (row_broken (item_of found) fault behind h)))
 
   by_entry : (Is : UnreadBlock → Want → Type 0) (seen : List Want) (old new : Blocks) (scan scan' : Scan) (found : Found) (name : NameBuf)
       (r : Result Entry ItemFault) (result : Result (Option DirRow) TreeFault) → index_entry_of found.body.now ≡ r
@@ -269,12 +266,16 @@ same_through a b c scan scan' rest e one two =
     record { layout = two.layout ∙ first'.layout; loans = two.loans ∙ first'.loans }
 
 -- what is still to come of a directory is what is of its scan
-pub dir_some : (B : Map) (Is : UnreadBlock → Want → Type 0) (old new : Blocks) (dir : Dir) (scan scan' : Scan) (rest : Rest) (name : NameBuf) (row : DirRow) → scan ≡ scan_of dir.rest → scan'.lo ≡ scan.lo → scan'.hi ≡ scan.hi → Rests new scan' rest → IsNextRow Is B old new scan scan' name (Ok (Some row)) → IsNextEntry Is B dir (record { rest = rest }) name (Ok (Some row))
+pub dir_some : (B : Map) (Is : UnreadBlock → Want → Type 0) (old new : Blocks) (dir : Dir) (scan scan' : Scan) (rest : Rest) (name : NameBuf) (row : DirRow)
+    → scan ≡ scan_of dir.rest → scan'.lo ≡ scan.lo → scan'.hi ≡ scan.hi → Rests new scan' rest → IsNextRow Is B old new scan scan' name (Ok (Some row))
+    → IsNextEntry Is B dir (record { rest = rest }) name (Ok (Some row))
 dir_some B Is old new dir scan scan' rest name row e lo hi r h seen on =
-    let g : GivesRow B seen old new (scan_of dir.rest) scan' (named_row row name) = (subst (λ (s : Scan). IsNextRow Is B old new s scan' name (Ok (Some row))) e h) seen on in
+    let g : GivesRow B seen old new (scan_of dir.rest) scan' (named_row row name) =
+    (subst (λ (s : Scan). IsNextRow Is B old new s scan' name (Ok (Some row))) e h) seen on in
     let lo' : scan'.lo ≡ dir.rest.lo = lo ∙ ap (λ (s : Scan). s.lo) e in
     let hi' : scan'.hi ≡ dir.rest.hi = hi ∙ ap (λ (s : Scan). s.hi) e in
-    let on' : IsOn scan'.lo scan'.hi B (seen ++ g.past) scan'.place = subst (λ (k : Key). IsOn k scan'.hi B (seen ++ g.past) scan'.place) (sym lo') (subst (λ (k : Key). IsOn dir.rest.lo k B (seen ++ g.past) scan'.place) (sym hi') g.on) in
+    let on' : IsOn scan'.lo scan'.hi B (seen ++ g.past) scan'.place = subst (λ (k : Key). IsOn k scan'.hi B (seen ++ g.past) scan'.place) (sym lo')
+    (subst (λ (k : Key). IsOn dir.rest.lo k B (seen ++ g.past) scan'.place) (sym hi') g.on) in
     record {
       past = g.past;
       is = ap (λ p. exec B (entries_in p)) (rest_is B old dir.rest) ∙ g.is

@@ -18,6 +18,7 @@ use Rattle.btr_read.specs.declared.want.Want.{Want}
 use Rattle.btr_walk.specs.declared.fault.TreeFault.{TreeFault}
 use Rattle.btr_walk.specs.declared.fault.TreeFault.TheVariants as tree
 use Rattle.btr_walk.specs.Reading.{Map, UnreadBlock, halt_of}
+use Rattle.btr_walk.proofs.Marks.{past_both}
 use Rattle.btr_volume.specs.Lookup.{Program, Lookup, looks}
 use Rattle.btr_files.specs.declared.progress.Progress.{Progress}
 use Rattle.btr_files.specs.declared.progress.SectorPart.{SectorPart}
@@ -31,7 +32,6 @@ use Rattle.btr_files.specs.Giving.{given_to, behind_end, behind_sector, SectorCo
 use Rattle.btr_files.proofs.Binds.{bind_assoc}
 use Rattle.btr_files.proofs.Nextward.{rest_more}
 use Rattle.btr_files.proofs.Onwards.{Pieces, then_past, then_halts}
-use Rattle.btr_files.proofs.Passed.{past_both}
 use Rattle.btr_files.proofs.Stepping.{no_zeros, goes_first, ahead, inline, left_as, left_end, going_end}
 
 -- a lookup's marks are wants

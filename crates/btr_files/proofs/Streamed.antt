@@ -52,7 +52,8 @@ gives kind Is Bs file store ahead p' given loan piece e h seen on =
 pub served_back : (rack : Seen) (old new : Blocks) (loan : Option Lent) → new ≡ base old loan → Serves rack old → Serves rack new
 served_back rack old new loan back serves = subst (Serves rack) (sym back) (served_base rack old loan serves)
 
-module _ (old new : Volume) (mid : Blocks) (file : FileBytes) (taken : Option Lent) (is_taken : taken ≡ file.loan) (back : mid ≡ base old.store taken) (before now : Seen) where
+module _ (old new : Volume) (mid : Blocks) (file : FileBytes) (taken : Option Lent) (is_taken : taken ≡ file.loan) (back : mid ≡ base old.store taken)
+    (before now : Seen) where
   pub layout_is : mid.layout ≡ old.store.layout
   layout_is = ap (λ (s : Blocks). s.layout) back ∙ base_layout old.store taken
 
@@ -87,7 +88,12 @@ module _ (old new : Volume) (mid : Blocks) (file : FileBytes) (taken : Option Le
     sup = sup;
     others = subst (λ (s : Blocks). SameLoans s (base new.store file'.loan)) (back ∙ ap (base old.store) is_taken)
         (subst (λ l. SameLoans mid (base new.store l)) (sym loan) same);
-    reading = record { serves = serves; held = subst (λ l. IfSome l (IsLiveIn new.store)) (sym loan) tt; underway = subst (λ (s : Source). IsUnderway s file'.progress) (sym source) (subst (IsUnderway file.source) (sym progress) underway) };
+    reading = record {
+      serves = serves;
+      held = subst (λ l. IfSome l (IsLiveIn new.store)) (sym loan) tt;
+      underway = subst
+          (λ (s : Source). IsUnderway s file'.progress) (sym source) (subst (IsUnderway file.source) (sym progress) underway);
+    };
     content = all_drawn old.store.layout (λ Bs. NextWithSums (kind_in old.sup) file.source (unread_by old.store.layout before now) Bs file.progress p'
         new.store file.ahead ahead step)
         (λ Bs. IsNextPiece (kind_in old.sup) (unread_by old.store.layout before now) Bs file file' result)
@@ -138,9 +144,6 @@ some_back mid new place loan e h = subst (λ l. SameLoans mid (base new l)) (sym
 
 pub some_live : (new : Blocks) (place : Option Lent) (loan : Lent) → place ≡ Some loan → IsLiveIn new loan → IfSome place (IsLiveIn new)
 some_live new place loan e h = subst (λ l. IfSome l (IsLiveIn new)) (sym e) h
-
-pub same_loan : (place : Option Lent) (held loan : Lent) → place ≡ Some held → place ≡ Some loan → held ≡ loan
-same_loan place held loan e f = cc
 
 pub span_shown : (store : Blocks) (loan held : Lent) (place : Span) (bytes : List ℕ) (piece : Piece) → held ≡ loan → block_of store held ≡ Some bytes
     → piece ≡ span_piece bytes place → shown_piece store (shown.Bytes loan place) ≡ piece

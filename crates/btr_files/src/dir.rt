@@ -57,10 +57,9 @@ fn read_row<R: Rack>(
     ensures content { TellsRow store.old store.new (R.seen rack.old) (R.seen rack.new)
         scan.old scan.new name.new result }
 {
-    match next(store, scan, rack) {
-        Err(fault) => Err(fault),
-        Ok(None) => Ok(None),
-        Ok(Some(found)) => row_found(&found, name),
+    match next(store, scan, rack)? {
+        None => Ok(None),
+        Some(found) => row_found(&found, name),
     }
 }
 

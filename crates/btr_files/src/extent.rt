@@ -112,13 +112,9 @@ fn next_extent<R: Rack>(
     ensures content { TellsExtent source.now store.old store.new (R.seen rack.old) (R.seen rack.new)
         scan.old scan.new end result }
 {
-    match next(store, scan, rack) {
-        Err(fault) => Err(fault),
-        Ok(None) => Ok(None),
-        Ok(Some(found)) => match ahead_of(source.size, end, &found) {
-            Err(fault) => Err(fault),
-            Ok(ahead) => Ok(Some(ahead)),
-        },
+    match next(store, scan, rack)? {
+        None => Ok(None),
+        Some(found) => Ok(Some(ahead_of(source.size, end, &found)?)),
     }
 }
 
@@ -146,10 +142,9 @@ fn find_extent<R: Rack>(
 {
     let mut end = end;
     loop {
-        match next_extent(source, end, scan, rack, store) {
-            Err(fault) => return Err(fault),
-            Ok(None) => return Ok(None),
-            Ok(Some(ahead)) => match ahead.todo {
+        match next_extent(source, end, scan, rack, store)? {
+            None => return Ok(None),
+            Some(ahead) => match ahead.todo {
                 Todo::Next => end = ahead.end,
                 _ => return Ok(Some(ahead)),
             },

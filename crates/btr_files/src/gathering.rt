@@ -103,11 +103,6 @@ pub fn names<R: Rack>(
 {
     let lo = key_of(ino, item::INODE_REF, 0);
     let hi = key_of(ino, item::INODE_EXTREF, u64::MAX);
-    match fold(&tree.place, lo, hi, rack, &mut vol.store, list.emptied()) {
-        Ok(found) => {
-            *list = found;
-            Ok(())
-        }
-        Err(fault) => Err(fault),
-    }
+    *list = fold(&tree.place, lo, hi, rack, &mut vol.store, list.emptied())?;
+    Ok(())
 }

@@ -11,8 +11,11 @@ use std::mem;
 /// A name of an inode: the inode of its directory, its index there, and its bytes.
 #[derive(Clone, Copy, Debug)]
 pub struct NameRef<'a> {
+    /// The inode of its directory.
     pub parent: u64,
+    /// Its index there.
     pub index: u64,
+    /// Its bytes.
     pub name: &'a [u8],
 }
 

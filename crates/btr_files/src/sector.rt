@@ -68,10 +68,9 @@ pub(crate) fn want_of<R: Rack>(
     if let Some(sum) = ahead.get(kind_of(&vol.sup), addr) {
         return Ok(Want::Sector { addr, sum });
     }
-    match sum_ahead(source.sums.as_ref(), addr, ahead, rack, vol) {
-        Err(fault) => Err(fault),
-        Ok(None) => Ok(Want::Plain { addr }),
-        Ok(Some(sum)) => Ok(Want::Sector { addr, sum }),
+    match sum_ahead(source.sums.as_ref(), addr, ahead, rack, vol)? {
+        None => Ok(Want::Plain { addr }),
+        Some(sum) => Ok(Want::Sector { addr, sum }),
     }
 }
 

@@ -198,14 +198,8 @@ fn give<R: Rack>(
     match progress.todo {
         Todo::Next => unreachable!(),
         Todo::Over => Ok(None),
-        Todo::Inline(part) => match give_inline(source, progress, &part, rack, vol) {
-            Err(fault) => Err(fault),
-            Ok(shown) => Ok(Some(shown)),
-        },
-        Todo::Sectors(part) => match give_sector(source, progress, &part, ahead, rack, vol) {
-            Err(fault) => Err(fault),
-            Ok(shown) => Ok(Some(shown)),
-        },
+        Todo::Inline(part) => Ok(Some(give_inline(source, progress, &part, rack, vol)?)),
+        Todo::Sectors(part) => Ok(Some(give_sector(source, progress, &part, ahead, rack, vol)?)),
     }
 }
 
@@ -230,19 +224,12 @@ fn next_step<R: Rack>(
         ahead.old ahead.new progress.old progress.new vol.new.store result }
 {
     match progress.todo {
-        Todo::Next => match find_next(source, progress, rack, &mut vol.store) {
-            Err(fault) => Err(fault),
-            Ok(found) => {
-                let mut next = found;
-                match give(source, &mut next, ahead, rack, vol) {
-                    Err(fault) => Err(fault),
-                    Ok(shown) => {
-                        *progress = next;
-                        Ok(shown)
-                    }
-                }
-            }
-        },
+        Todo::Next => {
+            let mut next = find_next(source, progress, rack, &mut vol.store)?;
+            let shown = give(source, &mut next, ahead, rack, vol)?;
+            *progress = next;
+            Ok(shown)
+        }
         _ => give(source, progress, ahead, rack, vol),
     }
 }

@@ -88,10 +88,9 @@ fn summed(kind: SumKind, addr: u64, reach: &Reach<'_>) -> Result<Summed, TreeFau
     ensures some { IfOk result HasFirst }
     ensures gap { IsReadGap kind addr reach.now result }
 {
-    match sum_reached(kind, addr, reach) {
-        Err(fault) => Err(fault),
-        Ok(Some(sum)) => Ok(Summed::Sum(sum)),
-        Ok(None) => Ok(Summed::Gap(sectors_below(addr, reach.until).max(1))),
+    match sum_reached(kind, addr, reach)? {
+        Some(sum) => Ok(Summed::Sum(sum)),
+        None => Ok(Summed::Gap(sectors_below(addr, reach.until).max(1))),
     }
 }
 

@@ -83,20 +83,18 @@ fn is_root_of(id: u64, key: Key) -> bool
 pub fn root_at(key: Key, body: &[u8]) -> Result<TreeRoot, ItemFault>
     ensures { result ≡ map_ok (described key) (root_item_of body.now) }
 {
-    match RootItem::read(body) {
-        Err(ItemFault) => Err(ItemFault),
-        Ok(root) => Ok(TreeRoot {
-            id: key.objectid,
-            offset: key.offset,
-            place: RootPlace {
-                addr: root.bytenr,
-                generation: root.generation,
-                level: body[238],
-            },
-            dirid: root.dirid,
-            refs: root.refs,
-        }),
-    }
+    let root = RootItem::read(body)?;
+    Ok(TreeRoot {
+        id: key.objectid,
+        offset: key.offset,
+        place: RootPlace {
+            addr: root.bytenr,
+            generation: root.generation,
+            level: body[238],
+        },
+        dirid: root.dirid,
+        refs: root.refs,
+    })
 }
 
 // The root that was found for an id: none where it is another one's item.

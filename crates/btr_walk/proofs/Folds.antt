@@ -1,8 +1,8 @@
 -- A fold goes on as its scan does.
-use Rattle.std.proofs.Common.{◌≡◌, ℕ, List, [], ◌∷◌, ◌++◌, Result, Ok, Err, refl, sym, ap, subst}
+use Rattle.std.proofs.Common.{◌≡◌, ℕ, List, [], ◌∷◌, Result, Ok, Err, refl, sym, ap, subst}
 use Rattle.btr_prog.specs.Prog.{Prog, Mark, Wants, Does, Run, run, first, prepend, exec, after, steps_of, want_marks}
 use Rattle.btr_prog.specs.Thread.{go_on_run, thread_run, end_of}
-use Rattle.btr_prog.specs.Answers.{Halt, Fault, Follows, no_part}
+use Rattle.btr_prog.specs.Answers.{Halt, Follows, no_part}
 use Rattle.btr_prog.specs.Goes.{AfterTo, GoOnTo, ThreadsTo}
 use Rattle.btr_prog.proofs.Threads.{exec-thread}
 use Rattle.btr_prog.proofs.SoFars.{threads_exec}
@@ -97,16 +97,3 @@ module _ {St R : Type 0} (step : St → TreeItem → Next St R) (answer : St →
       → Follows Is no_part seen (exec B (folded_over step answer st p)) [] (Ok (answer st))
   fold_ends Is seen st p f = subst (λ q. Follows Is no_part seen q [] (Ok (answer st))) (sym (exec_fold st p))
       (fold_all st (exec B p).marks (exec B p).ending f.0 f.1)
-
-no_steps : (ws : List Want) → [] ≡ steps_of {S = ⊥} (want_marks ws ++ [])
-no_steps [] = refl
-no_steps (w ∷ ws) = no_steps ws
-
--- some wants, and then nothing
-pub wants_value : {R : Type 0} (Is : UnreadBlock → Want → Type 0) (seen ws : List Want) (r : Run Want fate.Fault ⊥ R) (out : R) → r
-    ≡ prepend (want_marks ws) (run [] (Ok out)) → Follows Is no_part seen r [] (Ok out)
-wants_value Is seen ws r out e = subst (λ q. Follows Is no_part seen q [] (Ok out)) (sym e) (no_steps ws, refl)
-
-pub wants_fault : {R : Type 0} (Is : UnreadBlock → Want → Type 0) (seen ws : List Want) (r : Run Want fate.Fault ⊥ R) (f : fate.Fault) → r
-    ≡ prepend (want_marks ws) (run [] (Err f)) → Follows Is no_part seen r [] (Err (Fault f))
-wants_fault Is seen ws r f e = subst (λ q. Follows Is no_part seen q [] (Err (Fault f))) (sym e) (no_steps ws, refl)

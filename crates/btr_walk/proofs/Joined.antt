@@ -88,7 +88,10 @@ module _ (key : Key) (root : RootPlace) (level : ℕ) (spot : Spot) where
     same_some : (x y : Item) → Some x ≡ Some y → x ≡ y
     same_some x y e = cc
 
-    pub finds_some : (Is : UnreadBlock → Want → Type 0) (at : ℕ) (until : Option Key) → IsLeafAt level spot block → at < length (items block) → until ≡ next_key (drop (at + 1) (items block)) spot.up → ((d : Item) → le_item key (items block) ≡ Some (get_or (items block) at d)) → (B : Map) → WayOn B → Reads Is B level spot store (Ok loan) → FindsAndReaches Is B root key store (Ok (record { spotted = Some (record { leaf = spot.addr; at = at; loan = loan }); until = until }))
+    pub finds_some : (Is : UnreadBlock → Want → Type 0) (at : ℕ) (until : Option Key) → IsLeafAt level spot block → at < length (items block) → until ≡ next_key
+        (drop (at + 1) (items block)) spot.up → ((d : Item) → le_item key (items block) ≡ Some (get_or (items block) at d)) → (B : Map) → WayOn B
+        → Reads Is B level spot store (Ok loan) → FindsAndReaches Is B root key store
+        (Ok (record { spotted = Some (record { leaf = spot.addr; at = at; loan = loan }); until = until }))
     finds_some Is at until leaf lt until_is some B way reads =
         let d : Item = record { key = key; offset = 0; size = 0; body = [] } in
         let item : Item = get_or (items block) at d in (
@@ -123,7 +126,8 @@ module _ (key : Key) (root : RootPlace) (level : ℕ) (spot : Spot) where
       carries_down B key root level spot child block way.1 inner some (came Is B reads),
     )
 
-    pub lends_leaf : (old old' : Blocks) (want : Want) (at : ℕ) → SameLoans old old' → IsLentBy old' store want loan → IsLeafAt level spot block → at < length (items block) → LendsItemAt old store loan at
+    pub lends_leaf : (old old' : Blocks) (want : Want) (at : ℕ) → SameLoans old old' → IsLentBy old' store want loan → IsLeafAt level spot block → at < length
+        (items block) → LendsItemAt old store loan at
     lends_leaf old old' want at e t leaf lt = record {
       others = same_then e (given_back old' store (base store (Some loan)) want loan t refl);
       large = t.large;
@@ -140,13 +144,14 @@ on_one layout P Q f sure (Some images) p = f (fate.fate images layout) p
 pub drawn : (layout : Layout) {a b : Seen} (P Q : Map → Type 0) → ((B : Map) → P B → Q B) → Tells layout a b P → Tells layout a b Q
 drawn layout P Q f one = record { calls = calls_as (λ sure h p. on_one layout P Q f sure h p) one.calls }
 
+-- what holds on each map
+pub on_all : (layout : Layout) (Q : Map → Type 0) → ((B : Map) → Q B) → (sure : Sure) (h : Option (List (List ℕ))) → OnMap layout Q sure h
+on_all layout Q f sure None = tt
+on_all layout Q f sure (Some images) = f (fate.fate images layout)
+
 -- what holds with no call
 pub unread_on : (layout : Layout) {a : Seen} (Q : Map → Type 0) → ((B : Map) → Q B) → Tells layout a a Q
 unread_on layout {a} Q f = record { calls = calls_none (λ sure. on_all layout Q f sure a.held) }
-  where
-    on_all : (layout : Layout) (Q : Map → Type 0) → ((B : Map) → Q B) → (sure : Sure) (h : Option (List (List ℕ))) → OnMap layout Q sure h
-    on_all layout Q f sure None = tt
-    on_all layout Q f sure (Some images) = f (fate.fate images layout)
 
 -- less may be said of a block that could not be read
 pub finds_as : (B : Map) (Is Less : UnreadBlock → Want → Type 0) (root : RootPlace) (key : Key) (store : Blocks) (result : Result _ TreeFault)

@@ -1,10 +1,10 @@
 -- How far a scan has come on its way to the next leaf.
-use Rattle.std.proofs.Common.{◌≡◌, ℕ, ◌<◌, ◌≤◌, List, [], ◌++◌, Option, Some, None, IsSomeAnd, Result, Ok, Err, sym, ap, ◌∙◌, subst, append-nil}
+use Rattle.std.proofs.Common.{◌≡◌, ℕ, ◌<◌, ◌≤◌, List, [], ◌++◌, Option, Some, None, IsSomeAnd, Result, Ok, Err, ap, ◌∙◌, subst}
 use Rattle.std.proofs.Common.{append_assoc}
 use Rattle.btr_base.specs.declared.key.Key.{Key}
-use Rattle.btr_prog.specs.Prog.{run, prepend, exec, steps_of}
+use Rattle.btr_prog.specs.Prog.{prepend, exec}
 use Rattle.btr_prog.specs.Answers.{Halt, Follows, no_part}
-use Rattle.btr_prog.proofs.Follow.{follows_as, follows_behind}
+use Rattle.btr_prog.proofs.Follow.{follows_as}
 use Rattle.btr_read.specs.Fate as fate
 use Rattle.btr_read.specs.Store.{Blocks, SameLoans, block_of}
 use Rattle.btr_walk.specs.Ranks.{IsShaped, Nears, rank}
@@ -19,7 +19,7 @@ use Rattle.btr_walk.specs.Scans.{wants, part_items}
 use Rattle.btr_walk.specs.Going.{place_prog, IsAlong, Comes, ComesTo, IsGone, LendsGone}
 use Rattle.btr_walk.specs.Leaving.{IsReached}
 use Rattle.btr_walk.proofs.Items.{part_none}
-use Rattle.btr_walk.proofs.Marks.{marks-append, steps_back, wants_back}
+use Rattle.btr_walk.proofs.Marks.{behind_wants, past_both}
 use Rattle.btr_walk.specs.declared.leaf_at.LeafAt.{LeafAt}
 use Rattle.btr_walk.specs.Hand.{IsHeld, LendsHand}
 
@@ -33,9 +33,7 @@ module _ (lo hi : Key) (B : Map) where
       → Comes lo hi B (seen ++ x.past) at c after → Comes lo hi B seen from c after
   comes_then seen from at c after x y = record {
     past = x.past ++ y.past;
-    is = x.is ∙ ap (prepend (wants x.past)) y.is
-        ∙ ap (λ ms. run ms (exec B c).ending) (sym (append_assoc (wants x.past) (wants y.past) (exec B c).marks)
-        ∙ ap (λ ms. ms ++ (exec B c).marks) (sym (marks-append x.past y.past)));
+    is = x.is ∙ ap (prepend (wants x.past)) y.is ∙ past_both x.past y.past (exec B c);
     on = subst (λ (z : List Want). IsAlong lo hi B z after) (append_assoc seen x.past y.past) y.on;
   }
 
@@ -85,12 +83,7 @@ module _ (lo hi : Key) (B : Map) where
       → (x : Comes lo hi B seen from (place_prog lo hi B at) at) → Follows Is no_part (seen ++ x.past) (exec B (place_prog lo hi B at)) [] ans
       → Follows Is no_part seen (exec B (place_prog lo hi B from)) [] ans
   follows_from Is seen from at ans x h =
-      let b : RangeProg = place_prog lo hi B at in
-      subst (λ r. Follows Is no_part seen r [] ans) (sym x.is)
-      (subst (λ (done : List TreeItem). Follows Is no_part seen (prepend (wants x.past) (exec B b)) done ans)
-      (append-nil (steps_of (wants x.past)) ∙ steps_back x.past)
-      (follows_behind Is no_part seen (wants x.past) (exec B b) [] ans
-      (subst (λ (ws : List Want). Follows Is no_part (seen ++ ws) (exec B b) [] ans) (sym (wants_back TreeItem x.past)) h)))
+      behind_wants Is seen x.past (exec B (place_prog lo hi B from)) no_part (exec B (place_prog lo hi B at)) [] ans x.is h
 
   pub leads_end : (Is : UnreadBlock → Want → Type 0) (from at after : Where) (store store' : Blocks) → Leads from at
       → IsGone lo hi Is B at after store (Ok gone.End) → IsReached lo hi Is B from after store' (Ok None)

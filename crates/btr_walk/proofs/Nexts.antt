@@ -53,7 +53,8 @@ free_leaf : (place : Where) (leaf : Option LeafAt) → IfSome leaf (λ l. (in_ha
 free_leaf place None = tt
 free_leaf place (Some l) = refl
 
-module _ (store new : Blocks) (scan : Scan) (taken : Option LeafAt) (is_taken : taken ≡ scan.leaf) (after : Where) (a : Advanced) (leaf : Option LeafAt) (is_leaf : leaf ≡ a.leaf) (before now : Seen) (serves : Serves now new) where
+module _ (store new : Blocks) (scan : Scan) (taken : Option LeafAt) (is_taken : taken ≡ scan.leaf) (after : Where) (a : Advanced) (leaf : Option LeafAt)
+    (is_leaf : leaf ≡ a.leaf) (before now : Seen) (serves : Serves now new) where
   abbrev Is : UnreadBlock → Want → Type 0
   Is = unread_by store.layout before now
 
@@ -96,12 +97,14 @@ module _ (store new : Blocks) (scan : Scan) (taken : Option LeafAt) (is_taken : 
       (λ B h seen on. of_end B (HoldsLeaf B seen store scan) seen (left_of B store scan) a.leaf
       (subst (λ m. AdvancesBy scan.lo scan.hi (HoldsLeaf B seen store scan) Is B seen (left_of B store scan) new after a.leaf m) e (h seen on))) c
 
-  module _ (l : LeafAt) (there : leaf ≡ Some l) (found : Found) (block : List ℕ) (is : block_of new l.loan ≡ Some block) (at : (d : Item) → tree_item l.spot.addr (get_or (items block) (l.next - 1) d) ≡ item_of found) where
+  module _ (l : LeafAt) (there : leaf ≡ Some l) (found : Found) (block : List ℕ) (is : block_of new l.loan ≡ Some block)
+      (at : (d : Item) → tree_item l.spot.addr (get_or (items block) (l.next - 1) d) ≡ item_of found) where
     gives : (B : Map) (seen : List Want) → Meets scan.lo scan.hi (HoldsLeaf B seen store scan) B seen (left_of B store scan) new l after
         → Gives B seen store new scan (scan_at scan (in_hand after) leaf) found
     gives B seen m =
         let d : Item = record { key = scan.lo; offset = 0; size = 0; body = [] } in
-        let here = block_is new l.loan block (λ b. (l.next ≤ length (items b)) × ((e : Item) → tree_item l.spot.addr (get_or (items b) (l.next - 1) e) ≡ m.item)) is m.at in
+        let here = block_is new l.loan block (λ b. (l.next ≤ length (items b)) × ((e : Item) → tree_item l.spot.addr
+        (get_or (items b) (l.next - 1) e) ≡ m.item)) is m.at in
         let same : m.item ≡ item_of found = sym (here.1 d) ∙ at d in
         record {
           past = m.past;
@@ -171,7 +174,8 @@ near_none scan leaf' after e on h =
     omega (arith, x, on, leaf_gone scan.place scan.leaf h)
 
 -- a scan gives its leaf back
-module _ (store after : Blocks) (scan : Scan) (leaf' : Option LeafAt) (l : LeafAt) (is : scan.leaf ≡ Some l) (hand : IfSome scan.leaf (IsInHand store)) (none : leaf' ≡ None) where
+module _ (store after : Blocks) (scan : Scan) (leaf' : Option LeafAt) (l : LeafAt) (is : scan.leaf ≡ Some l) (hand : IfSome scan.leaf (IsInHand store))
+    (none : leaf' ≡ None) where
   abbrev kept : Frame
   kept = record { spot = l.spot; next = l.next; end = l.end }
 
@@ -184,7 +188,14 @@ module _ (store after : Blocks) (scan : Scan) (leaf' : Option LeafAt) (l : LeafA
   kept_as : (B : Map) (seen : List Want) → HoldsLeaf B seen store scan → IsKept B seen kept
   kept_as B seen h =
       let x = held_is B seen h in
-      record { block = x.block; came = x.came; is = x.is; read = x.read; within = (block_is store l.loan x.block (λ b. IsTrue (is_leaf b) × (l.end ≤ length (items b))) x.lent hand_is.good).1 }
+      record {
+        block = x.block;
+        came = x.came;
+        is = x.is;
+        read = x.read;
+        within =
+            (block_is store l.loan x.block (λ b. IsTrue (is_leaf b) × (l.end ≤ length (items b))) x.lent hand_is.good).1;
+      }
 
   kept_same : (B : Map) (seen : List Want) (rest : RangeProg) → IsHeld B seen store l → emit_all (kept_items B kept) rest ≡ hand_prog store l rest
   kept_same B seen rest h = ap (λ x. emit_all (items_in x l.spot.addr l.next l.end) rest) h.came ∙ ap (λ x. emit_all (hand_items x l) rest) (sym h.lent)
@@ -206,19 +217,21 @@ module _ (store after : Blocks) (scan : Scan) (leaf' : Option LeafAt) (l : LeafA
   }
 
 -- the leaf that a frame is left of
-leaf_was : (leaf : Option LeafAt) (frame : Frame) → option_map frame_of leaf ≡ Some frame → (l : LeafAt) × (leaf ≡ Some l) × (frame_of l ≡ frame)
+pub leaf_was : (leaf : Option LeafAt) (frame : Frame) → option_map frame_of leaf ≡ Some frame → (l : LeafAt) × (leaf ≡ Some l) × (frame_of l ≡ frame)
 leaf_was None frame e = cc
 leaf_was (Some l) frame e = (l, refl, cc)
 
-none_was : (leaf : Option LeafAt) → option_map frame_of leaf ≡ None → leaf ≡ None
+pub none_was : (leaf : Option LeafAt) → option_map frame_of leaf ≡ None → leaf ≡ None
 none_was None e = refl
 none_was (Some l) e = cc
 
 module _ (store after : Blocks) (scan : Scan) (leaf' : Option LeafAt) (none : leaf' ≡ None) where
-  pub paused_some : (frame : Frame) → option_map frame_of scan.leaf ≡ Some frame → IfSome scan.leaf (IsInHand store) → Paused store after scan (scan_at scan (record { leaf = Some frame; rest = scan.place.rest }) leaf')
+  pub paused_some : (frame : Frame) → option_map frame_of scan.leaf ≡ Some frame → IfSome scan.leaf (IsInHand store) → Paused store after scan
+      (scan_at scan (record { leaf = Some frame; rest = scan.place.rest }) leaf')
   paused_some frame e hand =
       let w = leaf_was scan.leaf frame e in
-      subst (λ (f : Frame). Paused store after scan (scan_at scan (record { leaf = Some f; rest = scan.place.rest }) leaf')) w.2 (paused_leaf store after scan leaf' w.0 w.1 hand none)
+      subst (λ (f : Frame). Paused store after scan (scan_at scan (record { leaf = Some f; rest = scan.place.rest }) leaf')) w.2
+      (paused_leaf store after scan leaf' w.0 w.1 hand none)
 
   pub paused_none : option_map frame_of scan.leaf ≡ None → Paused store after scan (scan_at scan scan.place leaf')
   paused_none e =
@@ -235,7 +248,8 @@ module _ (store after : Blocks) (scan : Scan) (leaf' : Option LeafAt) (none : le
         on = λ B seen h on. on;
       }
     where
-      left_free : (B : Map) (kept : Option Frame) (rest : RangeProg) → scan.leaf ≡ None → leaf_prog B after leaf' kept rest ≡ leaf_prog B store scan.leaf kept rest
+      left_free : (B : Map) (kept : Option Frame) (rest : RangeProg) → scan.leaf ≡ None
+          → leaf_prog B after leaf' kept rest ≡ leaf_prog B store scan.leaf kept rest
       left_free B None rest free = ap (λ x. leaf_prog B after x None rest) none ∙ ap (λ x. leaf_prog B store x None rest) (sym free)
       left_free B (Some f) rest free = ap (λ x. leaf_prog B after x (Some f) rest) none ∙ ap (λ x. leaf_prog B store x (Some f) rest) (sym free)
 

@@ -1,10 +1,10 @@
 -- A fold turn by turn.
-use Rattle.std.proofs.Common.{◌≡◌, ◌≤◌, count_by, is_none, List, [], ◌++◌, Option, Some, None, Result, Ok, Err, refl, sym, ap, ◌∙◌, subst, append-nil}
+use Rattle.std.proofs.Common.{◌≡◌, ◌≤◌, count_by, is_none, List, [], ◌++◌, Option, Some, None, Result, Ok, Err, refl, sym, ap, ◌∙◌, subst}
 use Rattle.std.proofs.Common.{append_assoc}
 use Rattle.btr_base.specs.declared.key.Key.{Key}
-use Rattle.btr_prog.specs.Prog.{Does, Run, run, first, prepend, exec, steps_of, want_marks}
+use Rattle.btr_prog.specs.Prog.{Does, Run, first, prepend, exec, want_marks}
 use Rattle.btr_prog.specs.Answers.{Follows, no_part}
-use Rattle.btr_prog.proofs.Follow.{broke_here, follows_as, follows_behind}
+use Rattle.btr_prog.proofs.Follow.{broke_here, follows_as}
 use Rattle.btr_read.specs.Fate as fate
 use Rattle.btr_read.specs.Store.{Blocks, Lent, SameLoans, free_count}
 use Rattle.btr_read.specs.declared.want.Want.{Want}
@@ -25,8 +25,8 @@ use Rattle.btr_walk.specs.Going.{IsOn}
 use Rattle.btr_walk.specs.ScanEnds.{left_of, Gives, IsNextOn}
 use Rattle.btr_walk.specs.Folds.{Next, folded_over, folded}
 use Rattle.btr_walk.specs.Folding.{fold_answer, IsTaken, to_fold, Turns, Ends, TurnsBy, IsTurned, result_of, IsRun, FoldFollows}
-use Rattle.btr_walk.proofs.Marks.{marks-append, steps_back, wants_back}
-use Rattle.btr_walk.proofs.Folds.{fold_run, exec_fold, fold_past, fold_go, fold_end, fold_broken, fold_halts, fold_ends, wants_value, wants_fault}
+use Rattle.btr_walk.proofs.Marks.{behind_wants, past_both, wants_value, wants_fault}
+use Rattle.btr_walk.proofs.Folds.{fold_run, exec_fold, fold_past, fold_go, fold_end, fold_broken, fold_halts, fold_ends}
 
 -- the layout of a store without a loan
 pub base_layout : (store : Blocks) (loan : Option Lent) → (base store loan).layout ≡ store.layout
@@ -39,7 +39,8 @@ same_layout old new loan loan' s = sym (base_layout new loan') ∙ (s.layout ∙
 pub same_room : (old new : Blocks) → SameLoans old new → 4 ≤ free_count old → 4 ≤ free_count new
 same_room old new s h = subst (λ l. 4 ≤ count_by is_none l) (sym s.loans) h
 
-module _ {St R : Type 0} (step : St → TreeItem → Next St R) (answer : St → R) (B : Map) (Is : UnreadBlock → Want → Type 0) (old new : Blocks) (scan scan' : Scan) where
+module _ {St R : Type 0} (step : St → TreeItem → Next St R) (answer : St → R) (B : Map) (Is : UnreadBlock → Want → Type 0) (old new : Blocks)
+    (scan scan' : Scan) where
   pub turned_err : (E : Type 0) (st : St) (f : TreeFault) → IsNextOn Is B old new scan scan' (Err f)
       → IsTurned step answer {E = E} Is B old new scan scan' st st (Err (Tree f))
   turned_err E st f h seen on = fold_halts step answer B Is seen st (left_of B old scan) (halt_of f) (h seen on)
@@ -84,7 +85,8 @@ module _ {St R : Type 0} (step : St → TreeItem → Next St R) (answer : St →
   Led store scan state = (seen : List Want) → IsOn first_scan.lo first_scan.hi B seen first_scan.place
       → Turns step answer B seen first_store store first_scan scan first_state state
 
-  module _ (Is : UnreadBlock → Want → Type 0) (store : Blocks) (scan : Scan) (state : St) (same_lo : scan.lo ≡ first_scan.lo) (same_hi : scan.hi ≡ first_scan.hi) where
+  module _ (Is : UnreadBlock → Want → Type 0) (store : Blocks) (scan : Scan) (state : St) (same_lo : scan.lo ≡ first_scan.lo)
+      (same_hi : scan.hi ≡ first_scan.hi) where
     on_as : (seen : List Want) → IsOn first_scan.lo first_scan.hi B seen scan.place → IsOn scan.lo scan.hi B seen scan.place
     on_as seen on = subst (λ l. IsOn l scan.hi B seen scan.place) (sym same_lo) (subst (λ h. IsOn first_scan.lo h B seen scan.place) (sym same_hi) on)
 
@@ -95,10 +97,7 @@ module _ {St R : Type 0} (step : St → TreeItem → Next St R) (answer : St →
         let y = t (seen ++ x.past) (on_as (seen ++ x.past) x.on) in
         record {
           past = x.past ++ y.past;
-          is = x.is ∙ ap (prepend (want_marks x.past)) y.is
-              ∙ ap (λ ms. run ms (exec B (to_fold step answer B new scan' state')).ending)
-              (sym (append_assoc (want_marks x.past) (want_marks y.past) (exec B (to_fold step answer B new scan' state')).marks)
-              ∙ ap (λ ms. ms ++ (exec B (to_fold step answer B new scan' state')).marks) (sym (marks-append x.past y.past)));
+          is = x.is ∙ ap (prepend (want_marks x.past)) y.is ∙ past_both x.past y.past (exec B (to_fold step answer B new scan' state'));
           on = subst (λ (z : List Want). IsOn first_scan.lo first_scan.hi B z scan'.place) (append_assoc seen x.past y.past)
               (subst (λ l. IsOn l first_scan.hi B ((seen ++ x.past) ++ y.past) scan'.place) same_lo
               (subst (λ h. IsOn scan.lo h B ((seen ++ x.past) ++ y.past) scan'.place) same_hi y.on));
@@ -113,11 +112,7 @@ module _ {St R : Type 0} (step : St → TreeItem → Next St R) (answer : St →
         let x = l seen on in
         let rest = exec B (to_fold step answer B store scan state) in
         let f = follows_as Is Less weaker no_part (seen ++ x.past) rest [] (fold_answer result) (t (seen ++ x.past) (on_as (seen ++ x.past) x.on)) in
-        subst (λ r. Follows Less no_part seen r [] (fold_answer result)) (sym x.is)
-        (subst (λ (done : List ⊥). Follows Less no_part seen (prepend (want_marks x.past) rest) done (fold_answer result))
-        (append-nil (steps_of (want_marks x.past)) ∙ steps_back x.past)
-        (follows_behind Less no_part seen (want_marks x.past) rest [] (fold_answer result)
-        (subst (λ (ws : List Want). Follows Less no_part (seen ++ ws) rest [] (fold_answer result)) (sym (wants_back ⊥ x.past)) f)))
+        behind_wants Less seen x.past (exec B (to_fold step answer B first_store first_scan first_state)) no_part rest [] (fold_answer result) x.is f
 
 -- a fold from the beginning
 pub fold_begun : {St R E : Type 0} (step : St → TreeItem → Next St R) (answer : St → R) (Is : UnreadBlock → Want → Type 0) (B : Map) (store : Blocks)

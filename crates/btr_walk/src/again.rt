@@ -94,15 +94,11 @@ pub fn read_again<R: Rack>(
     ensures content { TellsOf store.old (R.seen rack.old) (R.seen rack.new)
         (λ Is B. Rereads Is B level frame.now result) }
 {
-    match read_block(level, &frame.spot, rack, store) {
-        Err(fault) => Err(fault),
-        Ok(loan) => {
-            let below = next_of(store.bytes(&loan), level, frame);
-            store.give(loan);
-            match below {
-                Some(below) => Ok(below),
-                None => Err(TreeFault::Malformed(frame.spot.addr)),
-            }
-        }
+    let loan = read_block(level, &frame.spot, rack, store)?;
+    let below = next_of(store.bytes(&loan), level, frame);
+    store.give(loan);
+    match below {
+        Some(below) => Ok(below),
+        None => Err(TreeFault::Malformed(frame.spot.addr)),
     }
 }

@@ -43,16 +43,14 @@ pub(crate) fn ahead_of<R: Rack>(
         Some(todo) => Ok(Some(Ahead { todo, path })),
         None => match lowest(&path) {
             None => Ok(None),
-            Some(low) => match read_again(low.at as u8 + 1, &low.frame, rack, store) {
-                Err(fault) => Err(fault),
-                Ok(below) => {
-                    set_frame(&mut path, low.at, below.frame);
-                    let Some(todo) = below.todo else {
-                        unreachable!();
-                    };
-                    Ok(Some(Ahead { todo, path }))
-                }
-            },
+            Some(low) => {
+                let below = read_again(low.at as u8 + 1, &low.frame, rack, store)?;
+                set_frame(&mut path, low.at, below.frame);
+                let Some(todo) = below.todo else {
+                    unreachable!();
+                };
+                Ok(Some(Ahead { todo, path }))
+            }
         },
     }
 }

@@ -82,10 +82,9 @@ pub fn next_block<'e, R: Rack>(
     ensures cause { HasCause store.old.layout (R.seen rack.old) (R.seen rack.new) result }
 {
     give_back(scan.loan.take(), store);
-    match step_block(&scan.place, rack, store) {
-        Err(fault) => Err(fault),
-        Ok(None) => Ok(None),
-        Ok(Some(entry)) => {
+    match step_block(&scan.place, rack, store)? {
+        None => Ok(None),
+        Some(entry) => {
             let Entry {
                 addr,
                 level,

@@ -238,26 +238,24 @@ pub fn find_reach<'e, R: Rack>(
     ensures content { TellsOf store.old (R.seen rack.old) (R.seen rack.new)
         (λ Is B. ReachesItem Is B root.now key result) }
 {
-    match seek_le(root, key, rack, store) {
-        Err(fault) => Err(fault),
-        Ok(Sought { spotted, until }) => match spotted {
-            None => Ok(Reach { found: None, until }),
-            Some(spotted) => {
-                let Spotted {
-                    leaf,
-                    at,
-                    loan: taken,
-                } = spotted;
-                keep(loan, taken);
-                let Some(held) = &*loan else {
-                    unreachable!();
-                };
-                Ok(Reach {
-                    found: Some(found_at(store.bytes(held), leaf, at)),
-                    until,
-                })
-            }
-        },
+    let Sought { spotted, until } = seek_le(root, key, rack, store)?;
+    match spotted {
+        None => Ok(Reach { found: None, until }),
+        Some(spotted) => {
+            let Spotted {
+                leaf,
+                at,
+                loan: taken,
+            } = spotted;
+            keep(loan, taken);
+            let Some(held) = &*loan else {
+                unreachable!();
+            };
+            Ok(Reach {
+                found: Some(found_at(store.bytes(held), leaf, at)),
+                until,
+            })
+        }
     }
 }
 
@@ -283,8 +281,5 @@ pub fn find_le<'e, R: Rack>(
     ensures content { TellsOf store.old (R.seen rack.old) (R.seen rack.new)
         (λ Is B. FindsItem Is B root.now key result) }
 {
-    match find_reach(store, root, key, rack, loan) {
-        Err(fault) => Err(fault),
-        Ok(reach) => Ok(reach.found),
-    }
+    Ok(find_reach(store, root, key, rack, loan)?.found)
 }

@@ -78,11 +78,10 @@ fn run<R: Rack, Out, E, F: Folder<Out, E>>(
         (λ Is B. IsRun F.step F.answer Is B store.old scan.old state.old state.new result) }
 {
     loop {
-        match take_next(scan, rack, store, state) {
-            Err(fault) => return Err(fault),
-            Ok(Turn::More) => {}
-            Ok(Turn::Last) => return Ok(None),
-            Ok(Turn::Out(out)) => return Ok(Some(out)),
+        match take_next(scan, rack, store, state)? {
+            Turn::More => {}
+            Turn::Last => return Ok(None),
+            Turn::Out(out) => return Ok(Some(out)),
         }
     }
 }
@@ -114,9 +113,8 @@ pub fn fold<R: Rack, Out, E, F: Folder<Out, E> + Drop>(
     let mut scan = Scan::new(root, lo, hi);
     let ended = run(&mut scan, rack, store, &mut state);
     scan.finish(store);
-    match ended {
-        Err(fault) => Err(fault),
-        Ok(Some(out)) => Ok(out),
-        Ok(None) => Ok(state.end()),
+    match ended? {
+        Some(out) => Ok(out),
+        None => Ok(state.end()),
     }
 }

@@ -20,7 +20,9 @@ use btr_read::Store;
 /// Where a cursor is: the block that is to be read, if one is, and the nodes of which children are still to come.
 #[derive(Clone, Copy, Debug, PartialEq, Eq)]
 pub struct Where {
+    /// The nodes of which children are still to come, by level.
     pub path: Path,
+    /// The block that is to be read, if one is.
     pub todo: Option<Todo>,
 }
 
@@ -51,13 +53,12 @@ pub(crate) fn go_on<R: Rack>(
         (λ Is B. IsGone lo hi Is B place.old place.new store.new result) }
 {
     match place.todo {
-        Some(todo) => match enter(&todo, lo, hi, rack, store) {
-            Err(fault) => Err(fault),
-            Ok(Entered::Leaf(leaf)) => {
+        Some(todo) => match enter(&todo, lo, hi, rack, store)? {
+            Entered::Leaf(leaf) => {
                 place.todo = None;
                 Ok(Gone::Leaf(leaf))
             }
-            Ok(Entered::Inner(below)) => {
+            Entered::Inner(below) => {
                 set_frame(&mut place.path, todo.level as usize - 1, below.frame);
                 place.todo = below.todo;
                 Ok(Gone::Between)
@@ -65,14 +66,12 @@ pub(crate) fn go_on<R: Rack>(
         },
         None => match lowest(&place.path) {
             None => Ok(Gone::End),
-            Some(low) => match read_again(low.at as u8 + 1, &low.frame, rack, store) {
-                Err(fault) => Err(fault),
-                Ok(below) => {
-                    set_frame(&mut place.path, low.at, below.frame);
-                    place.todo = below.todo;
-                    Ok(Gone::Between)
-                }
-            },
+            Some(low) => {
+                let below = read_again(low.at as u8 + 1, &low.frame, rack, store)?;
+                set_frame(&mut place.path, low.at, below.frame);
+                place.todo = below.todo;
+                Ok(Gone::Between)
+            }
         },
     }
 }

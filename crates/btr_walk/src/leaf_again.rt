@@ -34,20 +34,16 @@ pub fn read_leaf<R: Rack>(
     ensures content { TellsOf store.old (R.seen rack.old) (R.seen rack.new)
         (λ Is B. IsLeafAgain Is B frame.now store.new result) }
 {
-    match read_block(0, &frame.spot, rack, store) {
-        Err(fault) => Err(fault),
-        Ok(loan) => {
-            let count = Leaf::of(store.bytes(&loan)).count();
-            if count < frame.end {
-                store.give(loan);
-                return Err(TreeFault::Malformed(frame.spot.addr));
-            }
-            Ok(LeafAt {
-                spot: frame.spot,
-                next: frame.next,
-                end: frame.end,
-                loan,
-            })
-        }
+    let loan = read_block(0, &frame.spot, rack, store)?;
+    let count = Leaf::of(store.bytes(&loan)).count();
+    if count < frame.end {
+        store.give(loan);
+        return Err(TreeFault::Malformed(frame.spot.addr));
     }
+    Ok(LeafAt {
+        spot: frame.spot,
+        next: frame.next,
+        end: frame.end,
+        loan,
+    })
 }

@@ -13,9 +13,13 @@ use btr_read::{Loan, Store};
 
 /// A leaf in hand, of which some items are still to come: those from `next` up to before `end`.
 pub struct LeafAt {
+    /// Where the leaf stands.
     pub spot: Spot,
+    /// The place of the first item that is to come.
     pub next: usize,
+    /// The place behind the last one.
     pub end: usize,
+    /// The loan of the leaf.
     pub loan: Loan,
 }
 

@@ -34,11 +34,10 @@ pub(crate) fn to_leaf<R: Rack>(
         (λ Is B. IsReached lo hi Is B place.old place.new store.new result) }
 {
     loop {
-        match go_on(place, lo, hi, rack, store) {
-            Err(fault) => return Err(fault),
-            Ok(Gone::End) => return Ok(None),
-            Ok(Gone::Between) => {}
-            Ok(Gone::Leaf(leaf)) => {
+        match go_on(place, lo, hi, rack, store)? {
+            Gone::End => return Ok(None),
+            Gone::Between => {}
+            Gone::Leaf(leaf) => {
                 if leaf.next < leaf.end {
                     return Ok(Some(leaf));
                 }

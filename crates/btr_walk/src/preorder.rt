@@ -73,18 +73,14 @@ pub(crate) fn enter_block<R: Rack>(
         (λ Is B. IsEntry Is B ahead.now store.new result) }
 {
     let todo = ahead.todo;
-    match read_block(todo.level, &todo.spot, rack, store) {
-        Err(fault) => Err(fault),
-        Ok(loan) => {
-            let place = behind(ahead, store.bytes(&loan));
-            Ok(Entry {
-                addr: todo.spot.addr,
-                level: todo.level,
-                loan,
-                place,
-            })
-        }
-    }
+    let loan = read_block(todo.level, &todo.spot, rack, store)?;
+    let place = behind(ahead, store.bytes(&loan));
+    Ok(Entry {
+        addr: todo.spot.addr,
+        level: todo.level,
+        loan,
+        place,
+    })
 }
 
 // One block further.
@@ -104,12 +100,8 @@ pub(crate) fn step_block<R: Rack>(
     ensures content { TellsOf store.old (R.seen rack.old) (R.seen rack.new)
         (λ Is B. IsStep Is B place.now store.new result) }
 {
-    match ahead_of(place, rack, store) {
-        Err(fault) => Err(fault),
-        Ok(None) => Ok(None),
-        Ok(Some(ahead)) => match enter_block(&ahead, rack, store) {
-            Err(fault) => Err(fault),
-            Ok(entry) => Ok(Some(entry)),
-        },
+    match ahead_of(place, rack, store)? {
+        None => Ok(None),
+        Some(ahead) => Ok(Some(enter_block(&ahead, rack, store)?)),
     }
 }

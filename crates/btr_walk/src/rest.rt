@@ -98,10 +98,7 @@ impl Rest {
         let Some(frame) = &self.place.leaf else {
             unreachable!();
         };
-        match read_leaf(frame, rack, store) {
-            Err(fault) => Err(fault),
-            Ok(hand) => Ok(met_in(hand)),
-        }
+        Ok(met_in(read_leaf(frame, rack, store)?))
     }
 }
 

@@ -132,15 +132,12 @@ pub fn next<'e, R: Rack>(
         store,
     );
     put_leaf(&mut scan.leaf, leaf);
-    match met {
-        Err(fault) => Err(fault),
-        Ok(false) => Ok(None),
-        Ok(true) => {
-            scan.place.leaf = None;
-            let Some(hand) = &scan.leaf else {
-                unreachable!();
-            };
-            Ok(Some(found_at(store.bytes(&hand.loan), hand.spot.addr, hand.next - 1)))
-        }
+    if !met? {
+        return Ok(None);
     }
+    scan.place.leaf = None;
+    let Some(hand) = &scan.leaf else {
+        unreachable!();
+    };
+    Ok(Some(found_at(store.bytes(&hand.loan), hand.spot.addr, hand.next - 1)))
 }

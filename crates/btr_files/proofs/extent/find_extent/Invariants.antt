@@ -6,8 +6,8 @@ use Rattle.btr_walk.specs.ScanEnds.{IsScanReady, without_leaf, rank_of}
 use Rattle.btr_files.proofs.Passed.{Gone}
 use Rattle.btr_files.proofs.extent.find_extent.Given as goal
 
-abbrev pub invariant-loop-fault : goal.invariant-loop-fault
-invariant-loop-fault g l = record {
+abbrev pub invariant-loop-ahead : goal.invariant-loop-ahead
+invariant-loop-ahead g l = record {
   ready : IsScanReady (g.R.Rack.seen l.rack) l.store l.scan;
   reads : OnlyReads (g.R.Rack.seen l.fn.rack) (g.R.Rack.seen l.rack);
   others : SameLoans (without_leaf l.fn.store l.fn.scan) (without_leaf l.store l.scan);
@@ -19,5 +19,5 @@ invariant-loop-fault g l = record {
   tells : Tells l.fn.store.layout (g.R.Rack.seen l.fn.rack) (g.R.Rack.seen l.rack) (λ B. Gone l.source B l.fn.store l.fn.scan l.fn.end l.store l.scan l.end);
 }
 
-abbrev pub decreases-loop-fault : goal.decreases-loop-fault
-decreases-loop-fault g l = rank_of l.scan
+abbrev pub decreases-loop-ahead : goal.decreases-loop-ahead
+decreases-loop-ahead g l = rank_of l.scan

@@ -1,4 +1,5 @@
 use Rattle.std.proofs.Common.{Ok, Some, None, ap, ◌∙◌, arith}
+use Rattle.std.proofs.lemmas.Result.{err_from_is_err_and}
 use Rattle.btr_walk.specs.Reading.{unread_by}
 use Rattle.btr_files.specs.declared.streaming.Shown.TheVariants as shown
 use Rattle.btr_files.specs.Giving.{behind_zeros, zeros_at}
@@ -32,3 +33,9 @@ returns-in-Over-clause-content g c =
     let none = c.zeros_at-zeros.ensures ∙ ap (zeros_at source.size p.at) c.in-Over.is in
     all_unread store.layout (λ Bs. NextWithSums kind source is Bs p p store c.args.ahead.now c.args.ahead.now (Ok None))
     (λ Bs summed. (nothing_left kind source Bs p is p store c.in-Over.is (omega (arith, none, c.if-zeros-gt0.false)), summed))
+
+pub returns-in_err-give_sector-in-Sectors-clause-content : goal.returns-in_err-give_sector-in-Sectors-clause-content
+returns-in_err-give_sector-in-Sectors-clause-content g c =
+    let exit = c.from_residual-in_err-give_sector-in-Sectors in
+    let p = err_from_is_err_and exit.result exit.ensures.1 in
+    rw (p.1, p.2) c.in_err-give_sector-in-Sectors.ensures.content

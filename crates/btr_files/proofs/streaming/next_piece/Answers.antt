@@ -8,8 +8,9 @@ use Rattle.btr_files.specs.Maps.{TellsAll}
 use Rattle.btr_files.specs.Streaming.{IsUnderway}
 use Rattle.btr_files.specs.Sums.{kind_in}
 use Rattle.btr_walk.specs.Reading.{HasCause, unread_by}
+use Rattle.btr_walk.proofs.Walks.{held_is}
 use Rattle.btr_files.proofs.Streamed.{NextWithSums, layout_is, served_back, streamed, streamed_err, streamed_none, nearer, gap_lent, span_lent, steps_on}
-use Rattle.btr_files.proofs.Streamed.{none_back, none_live, some_back, some_live, same_loan, span_shown}
+use Rattle.btr_files.proofs.Streamed.{none_back, none_live, some_back, some_live, span_shown}
 use Rattle.btr_files.proofs.streaming.next_piece.Goals as goal
 
 pub next_step-requires-clause-serves : goal.next_step-requires-clause-serves
@@ -27,7 +28,8 @@ returns-in-Gap g c =
     let s = c.in-Ok-Some.ensures in
     let p' = c.next_step.new.progress in
     let on = steps_on mid new.store given c.in-Ok-Some.field-0 c.in-Ok-Some.field-0-is file.source file.progress p' s.on in
-    let told = subst (λ (o : Option Shown). TellsAll mid.layout a b (λ Bs. NextWithSums (kind_in c.args.vol.now.sup) file.source (unread_by mid.layout a b) Bs file.progress p' new.store file.ahead c.next_step.new.ahead (Ok o))) c.in-Ok-Some.field-0-is s.content in (
+    let told = subst (λ (o : Option Shown). TellsAll mid.layout a b (λ Bs. NextWithSums (kind_in c.args.vol.now.sup) file.source
+    (unread_by mid.layout a b) Bs file.progress p' new.store file.ahead c.next_step.new.ahead (Ok o))) c.in-Ok-Some.field-0-is s.content in (
       (
         refl,
         λ x. tt,
@@ -60,8 +62,9 @@ returns-in-Some g c =
     let p' = c.next_step.new.progress in
     let on = steps_on mid new.store given c.in-Ok-Some.field-0 c.in-Ok-Some.field-0-is file.source file.progress p' s.on in
     let lent = span_lent mid new.store given c.in-Ok-Some.field-0 c.in-Ok-Some.field-0-is loan c.in-Bytes.span c.in-Bytes.is s.lent in
-    let held = same_loan c.keep.new.place c.in-Some.held loan c.in-Some.is c.keep.ensures in
-    let told = subst (λ (o : Option Shown). TellsAll mid.layout a b (λ Bs. NextWithSums (kind_in c.args.vol.now.sup) file.source (unread_by mid.layout a b) Bs file.progress p' new.store file.ahead c.next_step.new.ahead (Ok o))) c.in-Ok-Some.field-0-is s.content in (
+    let held = held_is c.keep.new.place c.in-Some.held loan c.in-Some.is c.keep.ensures in
+    let told = subst (λ (o : Option Shown). TellsAll mid.layout a b (λ Bs. NextWithSums (kind_in c.args.vol.now.sup) file.source
+    (unread_by mid.layout a b) Bs file.progress p' new.store file.ahead c.next_step.new.ahead (Ok o))) c.in-Ok-Some.field-0-is s.content in (
       (
         refl,
         λ x. tt,
@@ -112,7 +115,8 @@ returns-in-Ok-None g c =
     let file = c.args.file.now in
     let s = c.in-Ok-None.ensures in
     let p' = c.next_step.new.progress in
-    let on : IsUnderway file.source p' × (p'.at ≡ file.source.size) = subst (λ o. NextStepsOn file.source file.progress p' (Ok o)) c.in-Ok-None.field-0-is s.on in
+    let on : IsUnderway file.source p' × (p'.at ≡ file.source.size) = subst (λ o. NextStepsOn file.source file.progress p'
+    (Ok o)) c.in-Ok-None.field-0-is s.on in
     let full : p'.at ≡ file.source.size = on.1 in (
       (
         refl,

@@ -5,8 +5,8 @@ use Rattle.btr_files.specs.Sums.{sum_found}
 use Rattle.btr_files.proofs.GapSums.{gap_read}
 use Rattle.btr_files.proofs.sums.summed.Goals as goal
 
-pub returns-in-Ok-None-clause-gap : goal.returns-in-Ok-None-clause-gap
-returns-in-Ok-None-clause-gap c =
+pub returns-in-None-clause-gap : goal.returns-in-None-clause-gap
+returns-in-None-clause-gap c =
     gap_read c.args.kind c.args.addr c.sectors_below.result c.max.result c.args.reach.now c.sectors_below.ensures
     (λ i some lt. grind (arith, some, lt, c.max.ensures))
-    (subst (λ o. Judges (sum_found c.args.kind c.args.addr (item_reached c.args.reach.now)) (Ok o)) c.in-Ok-None.field-0-is c.in-Ok-None.ensures)
+    (subst (λ o. Judges (sum_found c.args.kind c.args.addr (item_reached c.args.reach.now)) (Ok o)) c.in-None.is c.in_ok-sum.ensures)

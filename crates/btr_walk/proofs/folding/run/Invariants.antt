@@ -6,8 +6,8 @@ use Rattle.btr_walk.specs.ScanEnds.{IsScanReady, without_leaf, rank_of}
 use Rattle.btr_walk.proofs.Turns.{Led}
 use Rattle.btr_walk.proofs.folding.run.Given as goal
 
-abbrev pub invariant-loop-fault : goal.invariant-loop-fault
-invariant-loop-fault g l = record {
+abbrev pub invariant-loop-out : goal.invariant-loop-out
+invariant-loop-out g l = record {
   ready : IsScanReady (g.R.Rack.seen l.rack) l.store l.scan;
   reads : OnlyReads (g.R.Rack.seen l.fn.rack) (g.R.Rack.seen l.rack);
   others : SameLoans (without_leaf l.fn.store l.fn.scan) (without_leaf l.store l.scan);
@@ -19,5 +19,5 @@ invariant-loop-fault g l = record {
       (λ B. Led g.F.Folder.step g.F.Folder.answer B l.fn.store l.fn.scan l.fn.state l.store l.scan l.state);
 }
 
-abbrev pub decreases-loop-fault : goal.decreases-loop-fault
-decreases-loop-fault g l = rank_of l.scan
+abbrev pub decreases-loop-out : goal.decreases-loop-out
+decreases-loop-out g l = rank_of l.scan

@@ -1,4 +1,5 @@
 use Rattle.std.proofs.Common.{◌≡◌, ◌≤◌, ℕ, List, Ok, Err, IsTrue, length, refl, ap, arith}
+use Rattle.std.proofs.lemmas.Result.{err_from_is_err_and}
 use Rattle.btr_node.specs.Block.{items, is_leaf}
 use Rattle.btr_walk.specs.declared.fault.TreeFault.TheVariants as tree
 use Rattle.btr_walk.specs.Le.{want_of}
@@ -10,23 +11,26 @@ use Rattle.btr_walk.proofs.Lending.{given_back, served_back}
 use Rattle.btr_walk.proofs.leaf_again.read_leaf.Goals as goal
 use Rattle.btr_walk.specs.Hand.{IsLeafAgain}
 
-pub returns-in-Err-clause-content : goal.returns-in-Err-clause-content
-returns-in-Err-clause-content g c =
+pub returns-in_err-loan-clause-content : goal.returns-in_err-loan-clause-content
+returns-in_err-loan-clause-content g c =
     let is = unread_by c.args.store.now.layout (g.R.Rack.seen c.args.rack.now) (g.R.Rack.seen c.read_block.new.rack) in
     let frame = c.args.frame.now in
     let store = c.read_block.new.store in
-    drawn c.args.store.now.layout (λ B. Reads is B 0 frame.spot store (Err c.in-Err.fault)) (λ B. IsLeafAgain is B frame store (Err c.in-Err.fault))
-    (λ B h. again_halts is B frame store c.in-Err.fault h) c.in-Err.ensures.content
+    let p = err_from_is_err_and c.from_residual.result c.from_residual.ensures.1 in
+    rw (p.1, p.2)
+    (drawn c.args.store.now.layout (λ B. Reads is B 0 frame.spot store (Err c.in_err-loan.field-0.0))
+    (λ B. IsLeafAgain is B frame store (Err c.in_err-loan.field-0.0))
+    (λ B h. again_halts is B frame store c.in_err-loan.field-0.0 h) c.in_err-loan.ensures.content)
 
 pub of-requires-clause-good : goal.of-requires-clause-good
-of-requires-clause-good g c = (is_leaf_at 0 c.args.frame.now.spot c.read_block.new.store c.in-Ok.loan c.bytes.result.now c.bytes.ensures.value
-    c.in-Ok.ensures.good refl).good
+of-requires-clause-good g c = (is_leaf_at 0 c.args.frame.now.spot c.read_block.new.store c.in_ok-loan.loan c.bytes.result.now c.bytes.ensures.value
+    c.in_ok-loan.ensures.good refl).good
 
 pub returns-then-count-frame-clause-serves : goal.returns-then-count-frame-clause-serves
-returns-then-count-frame-clause-serves g c = served_back _ c.read_block.new.store c.give.new.self c.in-Ok.loan c.in-Ok.ensures.serves c.give.ensures
+returns-then-count-frame-clause-serves g c = served_back _ c.read_block.new.store c.give.new.self c.in_ok-loan.loan c.in_ok-loan.ensures.serves c.give.ensures
 
 pub returns-then-count-frame-clause-lent : goal.returns-then-count-frame-clause-lent
-returns-then-count-frame-clause-lent g c = given_back _ _ _ _ c.in-Ok.loan c.in-Ok.ensures.lent c.give.ensures
+returns-then-count-frame-clause-lent g c = given_back _ _ _ _ c.in_ok-loan.loan c.in_ok-loan.ensures.lent c.give.ensures
 
 pub returns-then-count-frame-clause-content : goal.returns-then-count-frame-clause-content
 returns-then-count-frame-clause-content g c =
@@ -35,34 +39,35 @@ returns-then-count-frame-clause-content g c =
     let store = c.read_block.new.store in
     let block = c.bytes.result.now in
     let same : length c.of.result ≡ length (items block) = ap length c.of.ensures in
-    drawn c.args.store.now.layout (λ B. Reads is B 0 frame.spot store (Ok c.in-Ok.loan))
+    drawn c.args.store.now.layout (λ B. Reads is B 0 frame.spot store (Ok c.in_ok-loan.loan))
     (λ B. IsLeafAgain is B frame c.give.new.self (Err (tree.Malformed frame.spot.addr)))
-    (λ B h. again_short is B frame store c.in-Ok.loan block c.bytes.ensures.value
-    (block_is store c.in-Ok.loan block (λ (b : List ℕ). B (want_of 0 frame.spot) ≡ Ok b) c.bytes.ensures.value h) c.give.new.self frame.spot.addr
-    (omega (arith, same, c.count-count.ensures.all, c.if-count-frame.true))) c.in-Ok.ensures.content
+    (λ B h. again_short is B frame store c.in_ok-loan.loan block c.bytes.ensures.value
+    (block_is store c.in_ok-loan.loan block (λ (b : List ℕ). B (want_of 0 frame.spot) ≡ Ok b) c.bytes.ensures.value h) c.give.new.self frame.spot.addr
+    (omega (arith, same, c.count-count.ensures.all, c.if-count-frame.true))) c.in_ok-loan.ensures.content
 
-pub returns-else-count-frame-clause-lent : goal.returns-else-count-frame-clause-lent
-returns-else-count-frame-clause-lent g c =
+pub returns-clause-lent : goal.returns-clause-lent
+returns-clause-lent g c =
     let block = c.bytes.result.now in
-    let leaf = is_leaf_at 0 c.args.frame.now.spot c.read_block.new.store c.in-Ok.loan block c.bytes.ensures.value c.in-Ok.ensures.good refl in
+    let leaf = is_leaf_at 0 c.args.frame.now.spot c.read_block.new.store c.in_ok-loan.loan block c.bytes.ensures.value c.in_ok-loan.ensures.good refl in
     let same : length c.of.result ≡ length (items block) = ap length c.of.ensures in
     record {
-      others = given_back _ _ _ _ c.in-Ok.loan c.in-Ok.ensures.lent refl;
+      others = given_back _ _ _ _ c.in_ok-loan.loan c.in_ok-loan.ensures.lent refl;
       hand = record {
-        live = c.in-Ok.ensures.lent.live;
-        large = c.in-Ok.ensures.lent.large;
+        live = c.in_ok-loan.ensures.lent.live;
+        large = c.in_ok-loan.ensures.lent.large;
         small = omega (arith, c.count-count.ensures.small, c.if-count-frame.false);
-        good = some_block c.read_block.new.store c.in-Ok.loan block (λ (b : List ℕ). IsTrue (is_leaf b) × (c.args.frame.now.end ≤ length (items b)))
+        good = some_block c.read_block.new.store c.in_ok-loan.loan block (λ (b : List ℕ). IsTrue (is_leaf b) × (c.args.frame.now.end ≤ length (items b)))
             c.bytes.ensures.value (leaf.good, omega (arith, same, c.count-count.ensures.all, c.if-count-frame.false));
       };
     }
 
-pub returns-else-count-frame-clause-content : goal.returns-else-count-frame-clause-content
-returns-else-count-frame-clause-content g c =
+pub returns-clause-content : goal.returns-clause-content
+returns-clause-content g c =
     let is = unread_by c.args.store.now.layout (g.R.Rack.seen c.args.rack.now) (g.R.Rack.seen c.read_block.new.rack) in
     let frame = c.args.frame.now in
     let store = c.read_block.new.store in
     let block = c.bytes.result.now in
-    drawn c.args.store.now.layout (λ B. Reads is B 0 frame.spot store (Ok c.in-Ok.loan)) (λ B. IsLeafAgain is B frame store (Ok (record { spot = frame.spot; next = frame.next; end = frame.end; loan = c.in-Ok.loan })))
-    (λ B h. again_held is B frame store c.in-Ok.loan block c.bytes.ensures.value
-    (block_is store c.in-Ok.loan block (λ (b : List ℕ). B (want_of 0 frame.spot) ≡ Ok b) c.bytes.ensures.value h)) c.in-Ok.ensures.content
+    drawn c.args.store.now.layout (λ B. Reads is B 0 frame.spot store (Ok c.in_ok-loan.loan))
+    (λ B. IsLeafAgain is B frame store (Ok (record { spot = frame.spot; next = frame.next; end = frame.end; loan = c.in_ok-loan.loan })))
+    (λ B h. again_held is B frame store c.in_ok-loan.loan block c.bytes.ensures.value
+    (block_is store c.in_ok-loan.loan block (λ (b : List ℕ). B (want_of 0 frame.spot) ≡ Ok b) c.bytes.ensures.value h)) c.in_ok-loan.ensures.content
