@@ -7,3 +7,4 @@ pub mod Nexts
 pub mod Ranges
 pub mod Marks
 pub mod Resting
+pub mod Pairs

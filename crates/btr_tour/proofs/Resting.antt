@@ -17,6 +17,7 @@ use Rattle.btr_walk.specs.declared.frame.Frame.{Frame}
 use Rattle.btr_walk.specs.declared.leaf_at.LeafAt.{LeafAt}
 use Rattle.btr_walk.specs.declared.spot.Spot.{Spot}
 use Rattle.btr_walk.proofs.Joined.{block_is}
+use Rattle.btr_walk.proofs.Nexts.{leaf_was}
 use Rattle.btr_walk.proofs.Staying.{frame_more, kept_more}
 use Rattle.btr_node.specs.Block.{items, is_leaf}
 use Rattle.std.proofs.Common.{◌≤◌, length, IsTrue}
@@ -59,15 +60,6 @@ module _ (store : Blocks) (l : LeafAt) (hand : IsInHand store l) where
       ∙ ap (λ x. act_all (map marks.Item (items_in x l.spot.addr l.next l.end)) rest) held.came
       ∙ sym (leaf_hand store l held.block rest held.lent)
 
--- a leaf that was given back was in hand
-pub given_none : (leaf : Option LeafAt) → option_map frame_of leaf ≡ None → leaf ≡ None
-given_none None e = refl
-given_none (Some l) e = cc
-
-given_some : (leaf : Option LeafAt) (frame : Frame) → option_map frame_of leaf ≡ Some frame → (l : LeafAt) × (leaf ≡ Some l) × (frame_of l ≡ frame)
-given_some None frame e = cc
-given_some (Some l) frame e = (l, refl, cc)
-
 module _ (store : Blocks) (tour : Tour) where
   pub rests_none : tour.leaf ≡ None → Rests store tour (record { scope = tour.scope; place = tour.place; leaf = None })
   rests_none none = record {
@@ -103,7 +95,7 @@ module _ (store : Blocks) (tour : Tour) where
   pub rests_kept : (frame : Frame) → option_map frame_of tour.leaf ≡ Some frame → IfSome tour.leaf (IsInHand store) → (o : Option Frame)
       → KeepsFrom frame o → Rests store tour (record { scope = tour.scope; place = tour.place; leaf = o })
   rests_kept frame is hands o keeps =
-      let l = given_some tour.leaf frame is in
+      let l = leaf_was tour.leaf frame is in
       rests_some l.0 l.1 hands o (subst (λ (f : Frame). KeepsFrom f o) (sym l.2) keeps)
 
 -- ---- taking up

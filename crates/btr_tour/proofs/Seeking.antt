@@ -12,7 +12,7 @@ use Rattle.btr_walk.specs.Spot.{is_below}
 use Rattle.btr_walk.specs.Le.{below, up_of}
 use Rattle.btr_walk.specs.Scans.{IsChoice}
 use Rattle.btr_walk.proofs.Belows.{all_later, all_at}
-use Rattle.btr_walk.proofs.Choosing.{bound_behind}
+use Rattle.btr_walk.proofs.Choosing.{bound_behind, head_of, tail_of}
 use Rattle.btr_tour.specs.Tour.{child_spots, meets_keys}
 
 -- the entry at a place passes
@@ -54,12 +54,6 @@ drop-spots zero ps up = refl
 drop-spots (suc n) [] up = refl
 drop-spots (suc n) (p ∷ ps) up = drop-spots n ps up
 
-head_of : {X : Type 0} (P : X → Type 0) (x : X) (xs : List X) → All P (x ∷ xs) → P x
-head_of P x xs h = h 0 x (omega arith)
-
-tail_of : {X : Type 0} (P : X → Type 0) (x : X) (xs : List X) → All P (x ∷ xs) → All P xs
-tail_of P x xs h = λ k d lt. h (suc k) d (omega (arith, lt))
-
 and_false : (b : Bool) → (b && false) ≡ false
 and_false true = refl
 and_false false = refl
@@ -90,8 +84,10 @@ module _ (lo hi : Key) where
   skip_early (p ∷ []) (suc n) up lt h = absurd (omega (arith, lt))
   skip_early (p ∷ (q ∷ ps)) (suc n) up lt h =
       let more : suc n + 1 ≡ suc (suc n) = omega arith in
-      let all : All (λ (x : KeyPointer). key_number x.key ≤ key_number lo) (p ∷ take (suc n) (q ∷ ps)) = subst (λ (m : ℕ). All (λ (x : KeyPointer). key_number x.key ≤ key_number lo) (take m (p ∷ (q ∷ ps)))) more h in
-      let rest_all : All (λ (x : KeyPointer). key_number x.key ≤ key_number lo) (take (suc n) (q ∷ ps)) = tail_of (λ (y : KeyPointer). key_number y.key ≤ key_number lo) p (take (suc n) (q ∷ ps)) all in
+      let all : All (λ (x : KeyPointer). key_number x.key ≤ key_number lo) (p ∷ take (suc n) (q ∷ ps)) = subst
+      (λ (m : ℕ). All (λ (x : KeyPointer). key_number x.key ≤ key_number lo) (take m (p ∷ (q ∷ ps)))) more h in
+      let rest_all : All (λ (x : KeyPointer). key_number x.key ≤ key_number lo) (take (suc n) (q ∷ ps)) = tail_of
+      (λ (y : KeyPointer). key_number y.key ≤ key_number lo) p (take (suc n) (q ∷ ps)) all in
       let early : key_lt lo q.key ≡ false = le-ltb _ _ (head_of (λ (y : KeyPointer). key_number y.key ≤ key_number lo) q (take n ps) rest_all) in
       let no : meets_keys lo hi (below p (Some q.key)) ≡ false = ap (λ b. b && key_le p.key hi) early in
       let one : suc n ≡ n + 1 = omega arith in
@@ -116,6 +112,7 @@ module _ (lo hi : Key) where
   here_meets ps up next end e b lt within behind low =
       let d : KeyPointer = some_pointer in
       let there : next < length ps = omega (arith, lt, within) in
-      let to : key_le (get_or ps next d).key hi ≡ true = le-leb _ _ (all_at (λ (p : KeyPointer). key_number p.key ≤ key_number hi) ps end next d lt there low) in
+      let to : key_le (get_or ps next d).key hi ≡ true = le-leb _ _
+      (all_at (λ (p : KeyPointer). key_number p.key ≤ key_number hi) ps end next d lt there low) in
       ap (meets_keys lo hi) (spot_at ps up next d e there)
       ∙ ap (λ x. x && key_le (get_or ps next d).key hi) (bound_behind lo (drop (next + 1) ps) up b behind) ∙ to

@@ -7,3 +7,4 @@ pub mod Steps
 pub mod TourEnds
 pub mod Visits
 pub mod Rests
+pub mod Pairs

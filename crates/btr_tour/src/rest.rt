@@ -96,15 +96,15 @@ impl Rest {
                 leaf: None,
                 level: None,
             }),
-            Some(frame) => match read_leaf(frame, rack, store) {
-                Err(fault) => Err(fault),
-                Ok(hand) => Ok(Tour {
+            Some(frame) => {
+                let hand = read_leaf(frame, rack, store)?;
+                Ok(Tour {
                     scope: self.scope,
                     place: self.place,
                     leaf: Some(hand),
                     level: None,
-                }),
-            },
+                })
+            }
         }
     }
 }

@@ -154,16 +154,15 @@ pub fn next<'e, R: Rack>(
     ensures nears { NextNears tour.old tour.new result }
     ensures cause { NextCause store.old.layout (R.seen rack.old) (R.seen rack.new) tour.old tour.new result }
 {
-    match step(tour, rack, store) {
-        Err(fault) => Err(fault),
-        Ok(Step::End) => Ok(None),
-        Ok(Step::Fault(fault)) => Ok(Some(Met::Fault(fault))),
-        Ok(Step::Child { block, place }) => Ok(Some(Met::Child { block, place })),
-        Ok(Step::Block { place, header }) => {
+    match step(tour, rack, store)? {
+        Step::End => Ok(None),
+        Step::Fault(fault) => Ok(Some(Met::Fault(fault))),
+        Step::Child { block, place } => Ok(Some(Met::Child { block, place })),
+        Step::Block { place, header } => {
             tour.level = Some(place.level);
             Ok(Some(Met::Block { place, header }))
         }
-        Ok(Step::Item(at)) => {
+        Step::Item(at) => {
             let Some(hand) = &tour.leaf else {
                 unreachable!();
             };

@@ -69,10 +69,8 @@ fn run<R: Rack, E, V: Visitor<E>>(
         (λ Is B. IsRun V.step Is B store.old tour.old visitor.old visitor.new result) }
 {
     loop {
-        match meet_next(tour, rack, store, visitor) {
-            Err(fault) => return Err(fault),
-            Ok(true) => {}
-            Ok(false) => return Ok(()),
+        if !meet_next(tour, rack, store, visitor)? {
+            return Ok(());
         }
     }
 }

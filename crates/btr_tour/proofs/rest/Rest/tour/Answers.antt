@@ -1,4 +1,5 @@
 use Rattle.std.proofs.Common.{Ok, Err, None, Some}
+use Rattle.std.proofs.lemmas.Result.{err_from_is_err_and}
 use Rattle.btr_walk.specs.Hand.{IsLeafAgain}
 use Rattle.btr_walk.specs.Reading.{unread_by}
 use Rattle.btr_walk.proofs.Joined.{drawn, unread_on}
@@ -17,24 +18,28 @@ returns-in-None-clause-content g c =
     unread_on store.layout (λ B. TakesUp is B rest store (Ok (taken rest c.requires.fits None)))
     (λ B seen on. goes_on_none rest c.requires.fits B seen store c.in-None.is on)
 
-pub returns-in-Err-clause-content : goal.returns-in-Err-clause-content
-returns-in-Err-clause-content g c =
+pub returns-in_err-hand-in-Some-clause-content : goal.returns-in_err-hand-in-Some-clause-content
+returns-in_err-hand-in-Some-clause-content g c =
     let rest = c.args.self.now in
     let store = c.read_leaf.new.store in
     let is = unread_by c.args.store.now.layout (g.R.Rack.seen c.args.rack.now) (g.R.Rack.seen c.read_leaf.new.rack) in
-    drawn c.args.store.now.layout (λ B. IsLeafAgain is B c.in-Some.frame store (Err c.in-Err.fault)) (λ B. TakesUp is B rest store (Err c.in-Err.fault))
-    (λ B h. refused_some rest c.requires.fits c.in-Some.frame c.in-Some.is is B store c.in-Err.fault h) c.in-Err.ensures.content
+    let p = err_from_is_err_and c.from_residual.result c.from_residual.ensures.1 in
+    rw (p.1, p.2)
+    (drawn c.args.store.now.layout (λ B. IsLeafAgain is B c.in-Some.frame store (Err c.in_err-hand-in-Some.field-0.0))
+    (λ B. TakesUp is B rest store (Err c.in_err-hand-in-Some.field-0.0))
+    (λ B h. refused_some rest c.requires.fits c.in-Some.frame c.in-Some.is is B store c.in_err-hand-in-Some.field-0.0 h) c.in_err-hand-in-Some.ensures.content)
 
-pub returns-in-Ok-clause-taken : goal.returns-in-Ok-clause-taken
-returns-in-Ok-clause-taken g c =
+pub returns-in_ok-hand-in-Some-clause-taken : goal.returns-in_ok-hand-in-Some-clause-taken
+returns-in_ok-hand-in-Some-clause-taken g c =
     taken_some c.args.self.now c.requires.fits c.in-Some.frame c.in-Some.is (g.R.Rack.seen c.read_leaf.new.rack) c.args.store.now
-    c.read_leaf.new.store c.in-Ok.hand c.in-Ok.ensures.same c.in-Ok.ensures.lent c.in-Ok.ensures.serves
+    c.read_leaf.new.store c.in_ok-hand-in-Some.hand c.in_ok-hand-in-Some.ensures.same c.in_ok-hand-in-Some.ensures.lent c.in_ok-hand-in-Some.ensures.serves
 
-pub returns-in-Ok-clause-content : goal.returns-in-Ok-clause-content
-returns-in-Ok-clause-content g c =
+pub returns-in_ok-hand-in-Some-clause-content : goal.returns-in_ok-hand-in-Some-clause-content
+returns-in_ok-hand-in-Some-clause-content g c =
     let rest = c.args.self.now in
     let store = c.read_leaf.new.store in
     let is = unread_by c.args.store.now.layout (g.R.Rack.seen c.args.rack.now) (g.R.Rack.seen c.read_leaf.new.rack) in
-    drawn c.args.store.now.layout (λ B. IsLeafAgain is B c.in-Some.frame store (Ok c.in-Ok.hand))
-    (λ B. TakesUp is B rest store (Ok (taken rest c.requires.fits (Some c.in-Ok.hand))))
-    (λ B h. goes_on_some rest c.requires.fits c.in-Some.frame c.in-Some.is is B store c.in-Ok.hand c.in-Ok.ensures.same h) c.in-Ok.ensures.content
+    drawn c.args.store.now.layout (λ B. IsLeafAgain is B c.in-Some.frame store (Ok c.in_ok-hand-in-Some.hand))
+    (λ B. TakesUp is B rest store (Ok (taken rest c.requires.fits (Some c.in_ok-hand-in-Some.hand))))
+    (λ B h. goes_on_some rest c.requires.fits c.in-Some.frame c.in-Some.is is B store c.in_ok-hand-in-Some.hand c.in_ok-hand-in-Some.ensures.same h)
+    c.in_ok-hand-in-Some.ensures.content
