@@ -8,6 +8,7 @@ use Rattle.btr_prog.specs.Answers.{Halt, Follows, no_part}
 use Rattle.btr_prog.specs.Goes.{AfterTo, GoOnTo, ThreadsTo}
 use Rattle.btr_prog.proofs.Runs.{exec-bind, steps_of-append, wants_of-append}
 use Rattle.btr_prog.proofs.Threads.{exec-thread}
+use Rattle.btr_prog.proofs.Tries.{steps_of-marks, wants_of-marks}
 use Rattle.btr_prog.proofs.SoFars.{threads_exec}
 use Rattle.btr_prog.proofs.Cursors.{cursor_halts}
 use Rattle.btr_prog.proofs.Follow.{follows_behind, follows_halt, follows_as}
@@ -17,6 +18,7 @@ use Rattle.btr_read.specs.declared.want.Want.{Want}
 use Rattle.btr_text.proofs.Writing.{wrote_nothing, wrote_then, wrote_as, cut_then, cut_as}
 use Rattle.btr_walk.specs.declared.fault.TreeFault.{TreeFault}
 use Rattle.btr_walk.specs.Reading.{Map, UnreadBlock, halt_of}
+use Rattle.btr_walk.proofs.Marks.{behind_wants}
 use Rattle.btr_volume.specs.Lookup.{Program, each}
 use Rattle.btr_volume.specs.declared.stop.Stop.{Stop}
 use Rattle.btr_volume.specs.declared.stop.Stop.TheVariants.{NoTree, Tree, Deletion, Balance, Missing, Image, Sink, Out, Memory}
@@ -26,17 +28,9 @@ use Rattle.btr_dump.specs.Showing.{part, whole, TextRun, CutIn, WroteAll, ShowsT
 whole-append : (a b : List Text) → whole (a ++ b) ≡ whole a ++ whole b
 whole-append a b = flat_map-append (λ (piece : Text). piece) a b
 
--- some wants, as marks of any steps
-wants_back : (X : Type 0) (ws : List Want) → wants_of (want_marks {S = X} ws) ≡ ws
-wants_back X [] = refl
-wants_back X (w ∷ ws) = ap (λ x. w ∷ x) (wants_back X ws)
-
-steps_back : (X : Type 0) (ws : List Want) → steps_of (want_marks {S = X} ws) ≡ []
-steps_back X [] = refl
-steps_back X (w ∷ ws) = steps_back X ws
-
+-- no step is among some wants
 steps_behind : (ws : List Want) (ms : List (Mark Want Text)) → steps_of (want_marks ws ++ ms) ≡ steps_of ms
-steps_behind ws ms = steps_of-append (want_marks ws) ms ∙ ap (λ x. x ++ steps_of ms) (steps_back Text ws)
+steps_behind ws ms = steps_of-append (want_marks ws) ms ∙ ap (λ x. x ++ steps_of ms) (steps_of-marks Text ws)
 
 -- a run after another has the first one's marks in front
 pub marks_after : (ms : List (Mark Want Text)) (e : Result (Unit {0}) fate.Fault) (k : Unit {0} → TextRun (Unit {0})) → (more : List (Mark Want Text))
@@ -102,7 +96,8 @@ module _ {X : Type 0} (show : X → Shown) (B : Map) where
   all_halts : (Is : UnreadBlock → Want → Type 0) (seen : List Want) (p : Program X (Unit {0})) (h : Halt fate.Fault UnreadBlock)
       → Follows Is no_part seen (exec B p) [] (Err h) → Follows Is part seen (exec B (shown_all p)) [] (Err h)
   all_halts Is seen p h f =
-      let g = cursor_halts Exec fin (λ u r. (thread_run (λ u x. exec B (body u x)) fin u r.marks r.ending, some_all u r.marks r.ending)) Is part seen tt (exec B p) h f in
+      let g = cursor_halts Exec fin (λ u r. (thread_run (λ u x. exec B (body u x)) fin u r.marks r.ending, some_all u r.marks r.ending)) Is part seen tt
+      (exec B p) h f in
       subst (λ q. Follows Is part seen q [] (Err h)) (threads_exec B body fin tt p g.0 g.1) g.2
 
   all_none : (ms : List (Mark Want X)) (e : Result (Unit {0}) fate.Fault) → [] ≡ steps_of ms → e ≡ Ok tt → ([] ≡ steps_of (run_all (run ms e)).marks)
@@ -123,7 +118,12 @@ module _ {X : Type 0} (show : X → Shown) (B : Map) where
   -- to its end
   pub turn_ends : (Is : UnreadBlock → Want → Type 0) (seen : List Want) (p : Program X (Unit {0})) (text : Option Text) (waits : Text)
       → Follows Is no_part seen (exec B p) [] (Ok tt) → ShowsText Is seen (exec B (shown_all p)) text text waits waits (Ok tt)
-  turn_ends Is seen p text waits h = record { done = []; wrote = wrote_nothing text waits; follows = subst (λ q. Follows Is part seen q [] (Ok tt)) (sym (exec_all p)) (all_none (exec B p).marks (exec B p).ending h.0 h.1) }
+  turn_ends Is seen p text waits h = record {
+    done = [];
+    wrote = wrote_nothing text waits;
+    follows = subst (λ q. Follows Is part seen q [] (Ok tt))
+        (sym (exec_all p)) (all_none (exec B p).marks (exec B p).ending h.0 h.1);
+  }
 
   -- to an item behind some wants
   module _ (p q : Program X (Unit {0})) (x : X) (past : List Want) (is : exec B p ≡ prepend (want_marks past) (first (Does x) (exec B q))) where
@@ -148,7 +148,7 @@ module _ {X : Type 0} (show : X → Shown) (B : Map) where
         wrote = wrote_as (whole (steps_of (want_marks past ++ item.marks))) (ap whole (w.follows.0 ∙ sym (steps_behind past item.marks))) w.wrote;
       };
       on = subst (λ (x : List Want). On (seen ++ x)) (sym (wants_of-append (want_marks past) item.marks
-          ∙ ap (λ y. y ++ wants_of item.marks) (wants_back Text past))) on;
+          ∙ ap (λ y. y ++ wants_of item.marks) (wants_of-marks Text past))) on;
     }
 
     -- the same where the item wants nothing more
@@ -164,11 +164,8 @@ module _ {X : Type 0} (show : X → Shown) (B : Map) where
     behind Is seen old new waited waits h w = record {
       done = w.done;
       wrote = w.wrote;
-      follows = subst (λ r. Follows Is part seen r w.done (Err h)) (sym met)
-          (subst (λ (d : List Text). Follows Is part seen (prepend (want_marks past) (and_then item rest)) (d ++ w.done) (Err h)) (steps_back Text past)
-          (follows_behind Is part seen (want_marks past) (and_then item rest) w.done (Err h)
-          (subst (λ (ws : List Want). Follows Is part (seen ++ ws) (and_then item rest) w.done (Err h)) (sym (wants_back Text past))
-          (follows_halt Is part (seen ++ past) item rest w.done h w.follows))));
+      follows = behind_wants Is seen past (exec B (shown_all p)) part (and_then item rest) w.done (Err h) met
+          (follows_halt Is part (seen ++ past) item rest w.done h w.follows);
     }
 
     cut : (old new : Option Text) (waited waits : Text) → CutIn item old new waited waits → CutIn (exec B (shown_all p)) old new waited waits
@@ -286,7 +283,8 @@ module _ {C : Type 0} (on : Map → List Want → C → Type 0) (left : Map → 
         goes_more (λ ws. on B ws now) (λ ws. on B ws after) (exec B (left B old c)) (exec B (left B mid now)) (exec B (left B new after)) seen begun
         between text waited waiting waits (led seen here) turned
 
-    module _ (Was Is : UnreadBlock → Want → Type 0) (weaker : (u : UnreadBlock) (w : Want) → Was u w → Is u w) (led : Led B old mid c now begun between waited waiting) where
+    module _ (Was Is : UnreadBlock → Want → Type 0) (weaker : (u : UnreadBlock) (w : Want) → Was u w → Is u w)
+        (led : Led B old mid c now begun between waited waiting) where
       pub led_ends : Turned Was B mid new now after between text waiting waits (Ok false) → Shows Is B old c begun text waited waits (Ok tt)
       led_ends turned seen here =
           goes_ends (λ ws. on B ws now) Was Is weaker (exec B (left B old c)) (exec B (left B mid now)) seen begun between text waited waiting waits

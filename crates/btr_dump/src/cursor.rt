@@ -82,10 +82,8 @@ pub(crate) fn show_rest<C: Cursor, R: Rack, O: Out>(
         (O.text out.old) (O.text out.new) text.old text.new result) }
 {
     loop {
-        match cursor.show_next(rack, store, text, out) {
-            Err(stop) => return Err(stop),
-            Ok(false) => return Ok(()),
-            Ok(true) => {}
+        if !cursor.show_next(rack, store, text, out)? {
+            return Ok(());
         }
     }
 }

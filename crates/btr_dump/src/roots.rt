@@ -73,10 +73,10 @@ impl Cursor for RootLines {
         match next(store, &mut self.scan, rack) {
             Err(fault) => Err(Stop::Tree(fault)),
             Ok(None) => Ok(false),
-            Ok(Some(found)) => match write_item(&found, text, out) {
-                Err(stop) => Err(stop),
-                Ok(()) => Ok(true),
-            },
+            Ok(Some(found)) => {
+                write_item(&found, text, out)?;
+                Ok(true)
+            }
         }
     }
 }

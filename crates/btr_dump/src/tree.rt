@@ -67,10 +67,10 @@ impl Cursor for TreeBlocks {
         match next_block(store, &mut self.scan, rack) {
             Err(fault) => Err(Stop::Tree(fault)),
             Ok(None) => Ok(false),
-            Ok(Some(found)) => match write_held(self.kind, found.addr, found.bytes, text, out) {
-                Err(stop) => Err(stop),
-                Ok(()) => Ok(true),
-            },
+            Ok(Some(found)) => {
+                write_held(self.kind, found.addr, found.bytes, text, out)?;
+                Ok(true)
+            }
         }
     }
 }

@@ -70,10 +70,9 @@ fn next_item<R: Rack>(
         → NextItemBy (unread_by store.old.layout (R.seen rack.old) (R.seen rack.new))
         B seen store.old store.new scan.old scan.new result) }
 {
-    match next(store, scan, rack) {
-        Err(fault) => Err(fault),
-        Ok(None) => Ok(NextItem::End),
-        Ok(Some(found)) => match root_in(&found) {
+    match next(store, scan, rack)? {
+        None => Ok(NextItem::End),
+        Some(found) => match root_in(&found) {
             Some(root) => Ok(NextItem::Tree(root)),
             None => Ok(NextItem::Other),
         },
@@ -115,10 +114,8 @@ impl Cursor for ItemTrees {
             Ok(NextItem::End) => Ok(false),
             Ok(NextItem::Other) => Ok(true),
             Ok(NextItem::Tree(root)) => {
-                match show_tree(self.kind, &root, rack, store, text, out) {
-                    Err(stop) => Err(stop),
-                    Ok(()) => Ok(true),
-                }
+                show_tree(self.kind, &root, rack, store, text, out)?;
+                Ok(true)
             }
         }
     }
@@ -144,10 +141,8 @@ fn show_tops<R: Rack, O: Out>(
         (O.text out.old) (O.text out.new) text.old text.new result }
 {
     let kind = kind_in(s);
-    match show_tree(kind, &named_root(1, root_root(s)), rack, store, text, out) {
-        Err(stop) => Err(stop),
-        Ok(()) => show_tree(kind, &named_root(3, chunk_root(s)), rack, store, text, out),
-    }
+    show_tree(kind, &named_root(1, root_root(s)), rack, store, text, out)?;
+    show_tree(kind, &named_root(3, chunk_root(s)), rack, store, text, out)
 }
 
 // Shows all trees.
@@ -169,10 +164,7 @@ fn show_all<R: Rack, O: Out>(
     ensures content { WritesShown store.old (R.seen rack.old) (R.seen rack.new) (all_trees s.now)
         (O.text out.old) (O.text out.new) text.old text.new result }
 {
-    match show_tops(s, rack, store, text, out) {
-        Ok(()) => {}
-        Err(stop) => return Err(stop),
-    }
+    show_tops(s, rack, store, text, out)?;
     let mut trees = ItemTrees {
         kind: kind_in(s),
         scan: Scan::new(&root_root(s), FIRST_KEY, LAST_KEY),

@@ -82,14 +82,13 @@ fn directory<R: Rack>(
 {
     let ino = entry.row.location.objectid;
     let index = entry.row.index;
-    match linked(&entry.tree, ino, entry.dirid, index, entry.name, rack, vol) {
-        Err(fault) => Err(fault),
-        Ok(false) => Ok(Decision::Skip(Cause::Link)),
-        Ok(true) => Ok(Decision::Folder {
-            tree: entry.tree,
-            dirid: ino,
-        }),
+    if !linked(&entry.tree, ino, entry.dirid, index, entry.name, rack, vol)? {
+        return Ok(Decision::Skip(Cause::Link));
     }
+    Ok(Decision::Folder {
+        tree: entry.tree,
+        dirid: ino,
+    })
 }
 
 // Whether a subvolume is a snapshot that isn't wanted.
@@ -154,11 +153,10 @@ fn subvolume<R: Rack>(
     }
     let id = entry.row.location.objectid;
     let index = entry.row.index;
-    match mounted(id, entry.tree.id, entry.dirid, index, entry.name, rack, vol) {
-        Err(fault) => Err(fault),
-        Ok(false) => Ok(Decision::Empty),
-        Ok(true) => root(rules, entry, rack, vol),
+    if !mounted(id, entry.tree.id, entry.dirid, index, entry.name, rack, vol)? {
+        return Ok(Decision::Empty);
     }
+    root(rules, entry, rack, vol)
 }
 
 // A directory or a subvolume, in a directory that may be too deep for it.

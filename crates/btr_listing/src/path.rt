@@ -34,12 +34,14 @@ impl Path {
         }
     }
 
+    /// Its bytes.
     pub fn as_bytes(&self) -> &[u8]
         ensures { result.now ≡ self.now }
     {
         self.bytes.as_slice()
     }
 
+    /// How many bytes it has.
     pub fn len(&self) -> usize
         ensures { result ≡ length self.now }
     {

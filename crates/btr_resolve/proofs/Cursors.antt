@@ -1,14 +1,11 @@
 -- How a scan of a tree's items goes on from owner to owner.
-use Rattle.std.proofs.Common.{◌≡◌, ℕ, ◌<◌, List, [], ◌∷◌, ◌++◌, Option, Some, None, Result, Ok, Err, refl, sym, ap, ◌∙◌, subst, append-nil, append_assoc, arith}
+use Rattle.std.proofs.Common.{◌≡◌, ℕ, ◌<◌, List, [], ◌++◌, Option, Some, None, Result, Ok, Err, refl, sym, ap, ◌∙◌, subst, append-nil, append_assoc, arith}
 use Rattle.btr_base.specs.declared.key.Key.{Key}
-use Rattle.btr_prog.specs.Prog.{Wants, Does, Return, Stop, Emit, run, first, prepend, exec, and_then, want_marks}
+use Rattle.btr_prog.specs.Prog.{Does, Return, Stop, Emit, first, prepend, exec, and_then, want_marks}
 use Rattle.btr_prog.specs.Thread.{go_on_run}
-use Rattle.btr_prog.specs.Answers.{Fault, Follows, no_part}
+use Rattle.btr_prog.specs.Answers.{Follows, no_part}
 use Rattle.btr_prog.proofs.Follow.{follows_as}
-use Rattle.btr_prog.proofs.Runs.{prepend-prepend}
-use Rattle.btr_rack.specs.Rack.{Seen}
 use Rattle.btr_read.specs.Fate as fate
-use Rattle.btr_read.specs.Layout.{Layout}
 use Rattle.btr_read.specs.Store.{Blocks}
 use Rattle.btr_read.specs.declared.want.Want.{Want}
 use Rattle.btr_walk.specs.declared.fault.TreeFault.{TreeFault}
@@ -18,10 +15,11 @@ use Rattle.btr_walk.specs.declared.rest.Rest.{Rest}
 use Rattle.btr_walk.specs.declared.scan.Scan.{Scan}
 use Rattle.btr_walk.specs.Going.{IsOn}
 use Rattle.btr_walk.specs.Le.{TreeItem}
-use Rattle.btr_walk.specs.Reading.{Map, UnreadBlock, FaultCause, halt_of}
+use Rattle.btr_walk.specs.Reading.{Map, UnreadBlock, halt_of}
 use Rattle.btr_walk.specs.Rests.{Rests, rank_left}
 use Rattle.btr_walk.specs.ScanEnds.{left_of, rank_of, Gives, HoldsLeaf, IsNextOn}
 use Rattle.btr_walk.specs.Showing.{item_of}
+use Rattle.btr_walk.proofs.Marks.{behind_wants, past_both, wants_fault}
 use Rattle.btr_volume.specs.Lookup.{Program}
 use Rattle.btr_volume.specs.declared.root.TreeRoot.{TreeRoot}
 use Rattle.btr_files.proofs.Rows.{rest_is, scan_of}
@@ -31,16 +29,7 @@ use Rattle.btr_resolve.specs.declared.owner.Met.{Met}
 use Rattle.btr_resolve.specs.declared.owner.Owner.{Owner}
 use Rattle.btr_resolve.specs.declared.owners.Owners.{Owners}
 use Rattle.btr_resolve.specs.declared.owners.Turn.TheVariants as turn
-use Rattle.btr_resolve.proofs.Threads.{RunOf, behind_wants, turned, turn_halts, turn_ends}
-
--- some wants, and then some others
-wants-append : {T : Type 0} (xs ys : List Want) → want_marks {S = T} xs ++ want_marks ys ≡ want_marks (xs ++ ys)
-wants-append [] ys = refl
-wants-append (x ∷ xs) ys = ap (λ ms. Wants x ∷ ms) (wants-append xs ys)
-
-past_both : {T R : Type 0} (xs ys : List Want) (q : RunOf T R)
-    → prepend (want_marks xs) (prepend (want_marks ys) q) ≡ prepend (want_marks (xs ++ ys)) q
-past_both xs ys q = prepend-prepend (want_marks xs) (want_marks ys) q ∙ ap (λ ms. prepend ms q) (wants-append xs ys)
+use Rattle.btr_resolve.proofs.Threads.{RunOf, turned, turn_halts, turn_ends}
 
 abbrev fin : Met → Unit {0} → Unit {0}
 fin met u = u
@@ -87,14 +76,8 @@ module _ (addr : ℕ) (tree : TreeRoot) (B : Map) (old new : Blocks) (scan scan'
         → IsNextOn Is B old new scan scan' (Ok (Some found)) → IsTurn addr tree Is B old new scan scan' met met' (Err f)
     turn_broken Is f is n seen on =
         let g = n seen on in
-        let broken : RunOf Owner (Unit {0}) = run [] (Err (fate.Malformed item.leaf)) in
         subst (λ (x : TreeFault). HaltsOwners addr tree Is B seen old met scan x) (sym is.1)
-        (behind_wants Is no_part seen g.past from broken [] (Err (Fault (fate.Malformed item.leaf)))
-        (item_turned seen g (Stop (fate.Malformed item.leaf)) is.0) (refl, refl))
-
--- an item that breaks its form needs no other cause
-pub broken_cause : (layout : Layout) (a b : Seen) (f : TreeFault) (leaf : ℕ) → f ≡ Malformed leaf → FaultCause layout a b f
-broken_cause layout a b f leaf e = subst (FaultCause layout a b) (sym e) tt
+        (wants_fault Is seen g.past from (fate.Malformed item.leaf) (item_turned seen g (Stop (fate.Malformed item.leaf)) is.0))
 
 -- ---- from owner to owner
 
@@ -158,7 +141,7 @@ module _ (addr : ℕ) (tree : TreeRoot) (B : Map) (start : Blocks) (scan0 : Scan
       gone_end weaker t seen on =
           let x = gone seen on in
           let rest = exec B (owners_of addr tree B store met scan) in
-          behind_wants Is no_part seen x.past (exec B (owners_of addr tree B start met0 scan0)) rest [] (Ok tt) x.is
+          behind_wants Is seen x.past (exec B (owners_of addr tree B start met0 scan0)) no_part rest [] (Ok tt) x.is
           (t (seen ++ x.past) (on_here (seen ++ x.past) x.on))
 
       pub gone_fault : (f : TreeFault) → ((u : UnreadBlock) (w : Want) → Was u w → Is u w)
@@ -166,7 +149,7 @@ module _ (addr : ℕ) (tree : TreeRoot) (B : Map) (start : Blocks) (scan0 : Scan
       gone_fault f weaker t seen on =
           let x = gone seen on in
           let rest = exec B (owners_of addr tree B store met scan) in
-          behind_wants Is no_part seen x.past (exec B (owners_of addr tree B start met0 scan0)) rest [] (Err (halt_of f)) x.is
+          behind_wants Is seen x.past (exec B (owners_of addr tree B start met0 scan0)) no_part rest [] (Err (halt_of f)) x.is
           (follows_as Was Is weaker no_part (seen ++ x.past) rest [] (Err (halt_of f)) (t (seen ++ x.past) (on_here (seen ++ x.past) x.on)))
 
 -- ---- a cursor that keeps no loan

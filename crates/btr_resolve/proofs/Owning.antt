@@ -1,6 +1,6 @@
 -- What an item of a tree comes to.
 use Rattle.std.proofs.Common.{◌≡◌, ℕ, ◌+◌, ◌-◌, ◌^◌, ◌<◌, ◌≤◌, Bool, true, false, cond, not}
-use Rattle.std.proofs.Common.{List, length, Option, Result, Ok, Err, refl, sym, ap, ◌∙◌, subst, arith}
+use Rattle.std.proofs.Common.{List, length, Option, Result, Ok, Err, sym, ap, ◌∙◌, subst, arith}
 use Rattle.std.proofs.Common.{eq-eqb}
 use Rattle.std.specs.Prelude.{◌==◌, ◌&&◌, ◌||◌, nat_le, nat_lt, slice_index}
 use Rattle.std.proofs.lemmas.Bool.{ne_eqb}
@@ -18,26 +18,12 @@ use Rattle.btr_read.specs.Fate as fate
 use Rattle.btr_walk.specs.Le.{TreeItem}
 use Rattle.btr_volume.specs.Lookup.{Program, formed}
 use Rattle.btr_volume.specs.declared.root.TreeRoot.{TreeRoot}
+use Rattle.btr_files.proofs.Extending.{below, both, of_fields, of_map}
 use Rattle.btr_resolve.specs.Owning.{end_in, extent_met, item_met, owner_if, position_in, FitsFile}
 use Rattle.btr_resolve.specs.declared.owner.Met.{Met}
 use Rattle.btr_resolve.specs.declared.owner.Owner.{Owner}
 
 -- ---- an extent ends below 2^64
-
-both : (a b : Bool) → (a && b) ≡ true → (a ≡ true) × (b ≡ true)
-both true b h = (refl, h)
-both false b h = let z : ⊥ = cc in absurd z
-
-of_fields : {T : Type 0} (b : Bool) (x y : T) → fields_if b x ≡ Ok y → (b ≡ true) × (x ≡ y)
-of_fields true x y h = (refl, cc)
-of_fields false x y h = let z : ⊥ = cc in absurd z
-
-of_map : {T U : Type 0} (f : T → U) (r : Result T ItemFault) (y : U) → map_ok f r ≡ Ok y → (x : T) × (r ≡ Ok x) × (f x ≡ y)
-of_map f (Ok x) y h = (x, refl, cc)
-of_map f (Err fault) y h = let z : ⊥ = cc in absurd z
-
-below : (m n : ℕ) → nat_lt m n ≡ true → m < n
-below m n h = grind (arith, nat_tests)
 
 module _ (offset : ℕ) (body : List ℕ) where
   abbrev len : ℕ

@@ -1,9 +1,8 @@
 -- Calls one after another.
-use Rattle.std.proofs.Common.{◌≡◌, ℕ, Bool, true, false, cond, List, [], ◌∷◌, ◌++◌, Option, Some, None, Result, Ok, Err, IsErrAnd, refl, sym, ap, subst}
+use Rattle.std.proofs.Common.{◌≡◌, ℕ, Bool, true, false, cond, List, [], ◌∷◌, ◌++◌, Option, Result, Ok, Err, IsErrAnd, refl, sym, ap, subst}
 use Rattle.std.specs.Prelude.{take}
 use Rattle.std.proofs.lemmas.Grind.{flat_map-append}
 use Rattle.std.proofs.lemmas.List.{append-nil}
-use Rattle.btr_prog.specs.Calls.{Sure}
 use Rattle.btr_prog.specs.Answers.{Halt, Broke, Follows, no_part}
 use Rattle.btr_prog.specs.Prog.{Return, Emit, run, exec, bind, wants_of}
 use Rattle.btr_prog.specs.Quiet.{quiet}
@@ -17,7 +16,6 @@ use Rattle.btr_rack.specs.declared.error.SinkError.TheVariants as sink
 use Rattle.btr_rack.proofs.Reading.{reads_none, reads_more}
 use Rattle.btr_read.specs.Fate as fate
 use Rattle.btr_read.specs.Layout.{Layout}
-use Rattle.btr_read.specs.Reading.{OnMap}
 use Rattle.btr_read.specs.Serves.{Serves}
 use Rattle.btr_text.proofs.Writing.{adds_nothing, adds_twice}
 use Rattle.btr_walk.specs.Reading.{Map, UnreadBlock, Tells, HasCause, unread_by, answer_of}
@@ -27,7 +25,7 @@ use Rattle.btr_walk.specs.declared.fault.TreeFault.{TreeFault}
 use Rattle.btr_walk.specs.declared.folder.FoldFault.{FoldFault}
 use Rattle.btr_walk.specs.declared.folder.FoldFault.TheVariants as fold
 use Rattle.btr_walk.proofs.Fetched.{since}
-use Rattle.btr_walk.proofs.Joined.{drawn, joined, unread_on}
+use Rattle.btr_walk.proofs.Joined.{drawn, joined, on_all, unread_on}
 use Rattle.btr_volume.specs.Looking.{Looks, SameVolume}
 use Rattle.btr_volume.specs.Readable.{CanRead}
 use Rattle.btr_volume.specs.Lookup.{Lookup, Program, looks}
@@ -51,10 +49,6 @@ pub adds_then : (a b c : Option (List ℕ)) (xs ys : List Line) → Adds a b (wh
 adds_then a b c xs ys h g = subst (Adds a c) (sym (whole-append xs ys)) (adds_twice a b c (whole xs) (whole ys) h g)
 
 -- what holds of all maps
-on_all : (layout : Layout) (Q : Map → Type 0) → ((B : Map) → Q B) → (sure : Sure) (h : Option (List (List ℕ))) → OnMap layout Q sure h
-on_all layout Q f sure None = tt
-on_all layout Q f sure (Some images) = f (fate.fate images layout)
-
 pub told_all : (layout : Layout) (a b : Seen) → OnlyReads a b → (Q : Map → Type 0) → ((B : Map) → Q B) → Tells layout a b Q
 told_all layout a b reads Q f =
     record { calls = record { same = ap (λ (s : Seen). s.held) reads.same; later = reads.later; content = λ sure c. on_all layout Q f sure a.held } }

@@ -13,6 +13,7 @@ use Rattle.btr_walk.specs.Reading.{Map, UnreadBlock, Tells, HasCause, unread_by,
 use Rattle.btr_walk.specs.declared.fault.TreeFault.{TreeFault}
 use Rattle.btr_walk.proofs.Fetched.{since}
 use Rattle.btr_walk.proofs.Joined.{drawn, joined}
+use Rattle.btr_walk.proofs.Marks.{behind_wants}
 use Rattle.btr_volume.specs.Looking.{SameVolume}
 use Rattle.btr_volume.specs.Readable.{CanRead}
 use Rattle.btr_volume.specs.Lookup.{Program, each}
@@ -30,7 +31,7 @@ use Rattle.btr_volume.proofs.Onward.{behind_since, same_then}
 use Rattle.btr_resolve.specs.declared.owner.Owner.{Owner}
 use Rattle.btr_resolve.specs.declared.owners.Owners.{Owners}
 use Rattle.btr_resolve.proofs.Rans.{adds_then, counts_then}
-use Rattle.btr_resolve.proofs.Threads.{RunOf, behind_wants, body_of, each_turned, last_of, turn_ends, turn_halts}
+use Rattle.btr_resolve.proofs.Threads.{RunOf, body_of, each_turned, last_of, turn_ends, turn_halts}
 
 -- the owners that are still to come, each told wholly
 abbrev pub left_told : Map → ℕ → Owners → Program Line ℕ
@@ -147,7 +148,7 @@ module _ (count : ℕ) (cursor cursor' : Owners) (rack rack' : Seen) (vol vol' :
               (λ B. (seen : List Want) → AreOn B seen cursor → Follows is part seen (from B) h.lines (Err (stop_halt s))) same.store.layout
               (λ B n t seen on.
               let g = n seen on in
-              behind_wants is part seen g.past (from B) (and_then (told B) (rest B)) h.lines (Err (stop_halt s))
+              behind_wants is seen g.past (from B) part (and_then (told B) (rest B)) h.lines (Err (stop_halt s))
               (each_turned B owner_told (owners_left B cursor) (owners_left B cursor') owner g.past count g.is)
               (follows_halt is part (seen ++ g.past) (told B) (rest B) h.lines (stop_halt s)
               (follows_alone is part (seen ++ g.past) (told B) h.lines (Err (stop_halt s))
@@ -179,7 +180,7 @@ module _ (count : ℕ) (cursor cursor' : Owners) (rack rack' : Seen) (vol vol' :
               (λ B n r seen on.
               let g = n.0 seen on in
               let marks = wants_of (told B).marks in
-              behind_wants is part seen g.past (from B) (and_then (told B) (rest B)) (h.lines ++ t.lines) (ended answer)
+              behind_wants is seen g.past (from B) part (and_then (told B) (rest B)) (h.lines ++ t.lines) (ended answer)
               (each_turned B owner_told (owners_left B cursor) (owners_left B cursor') owner g.past count g.is)
               (follows_then is part (seen ++ g.past) (told B) count' (rest B) h.lines t.lines (ended answer) n.1
               (follows_as later is (since layout z.vol.store.layout volume.store.layout reads') part ((seen ++ g.past) ++ marks)

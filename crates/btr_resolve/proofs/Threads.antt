@@ -1,13 +1,12 @@
 -- A program that treats the steps of another one, by a cursor over them.
-use Rattle.std.proofs.Common.{◌≡◌, List, [], ◌∷◌, ◌++◌, Result, Ok, Err, refl, sym, ap, ◌∙◌, subst, append-nil}
+use Rattle.std.proofs.Common.{◌≡◌, List, [], ◌∷◌, Result, Ok, Err, refl, sym, ap, ◌∙◌, subst, append-nil}
 use Rattle.std.proofs.Math.Path.{fun_ext}
 use Rattle.std.specs.Prelude.{ℕ, Option}
-use Rattle.btr_prog.specs.Prog.{Mark, Wants, Does, Return, Run, run, first, prepend, exec, bind, after, and_then, steps_of, wants_of, want_marks}
+use Rattle.btr_prog.specs.Prog.{Mark, Wants, Does, Return, Run, run, first, prepend, exec, bind, after, and_then, steps_of, want_marks}
 use Rattle.btr_prog.specs.Thread.{thread, go_on_run, thread_run, end_of}
 use Rattle.btr_prog.specs.Answers.{Halt, Follows, no_part}
 use Rattle.btr_prog.specs.Goes.{AfterTo, GoOnTo, ThreadsTo}
 use Rattle.btr_prog.proofs.Cursors.{cursor_halts}
-use Rattle.btr_prog.proofs.Follow.{follows_behind}
 use Rattle.btr_prog.proofs.Runs.{exec-bind}
 use Rattle.btr_prog.proofs.SoFars.{threads_exec}
 use Rattle.btr_prog.proofs.Threads.{exec-thread}
@@ -18,25 +17,6 @@ use Rattle.btr_volume.specs.Lookup.{Program}
 
 abbrev pub RunOf : Type 0 → Type 0 → Type 0
 RunOf T R = Run Want fate.Fault T R
-
--- some wants, as marks of any steps
-wants_back : (T : Type 0) (ws : List Want) → wants_of (want_marks {S = T} ws) ≡ ws
-wants_back T [] = refl
-wants_back T (w ∷ ws) = ap (λ x. w ∷ x) (wants_back T ws)
-
-pub no_steps : (T : Type 0) (ws : List Want) → [] ≡ steps_of (want_marks {S = T} ws)
-no_steps T [] = refl
-no_steps T (w ∷ ws) = no_steps T ws
-
--- what is answered of a run is answered of it behind some wants
-pub behind_wants : {T R : Type 0} (Is : UnreadBlock → Want → Type 0) (part : T → ℕ → Option T) (seen past : List Want)
-    (whole rest : RunOf T R) (done : List T) (ans : Result R (Halt fate.Fault UnreadBlock))
-    → whole ≡ prepend (want_marks past) rest → Follows Is part (seen ++ past) rest done ans → Follows Is part seen whole done ans
-behind_wants {T} {R} Is part seen past whole rest done ans is f =
-    subst (λ (r : RunOf T R). Follows Is part seen r done ans) (sym is)
-    (subst (λ (d : List T). Follows Is part seen (prepend (want_marks past) rest) (d ++ done) ans) (sym (no_steps T past))
-    (follows_behind Is part seen (want_marks past) rest done ans
-    (subst (λ (ws : List Want). Follows Is part (seen ++ ws) rest done ans) (sym (wants_back T past)) f)))
 
 module _ {S T St R : Type 0} (B : Map) (body : St → S → Program T (Result St R)) (fin : St → Unit {0} → R) where
   abbrev run_from : St → RunOf S (Unit {0}) → RunOf T R

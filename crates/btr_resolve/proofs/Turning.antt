@@ -1,7 +1,6 @@
 -- A path that is kept from its last byte to its first.
-use Rattle.std.proofs.Common.{◌≡◌, ℕ, List, [], ◌∷◌, ◌++◌, length, take, drop, false, cond, Result, Ok, Err, refl, ap, ap₂, ◌∙◌}
+use Rattle.std.proofs.Common.{◌≡◌, ℕ, List, [], ◌∷◌, ◌++◌, length, take, drop, ap, ap₂, ◌∙◌}
 use Rattle.std.specs.Prelude.{reverse}
-use Rattle.std.specs.Result.{is_err, is_ok}
 use Rattle.std.proofs.Math.Seq.{drop-append_seam, take-append_seam}
 use Rattle.std.proofs.lemmas.List.{reverse-append, reverse-reverse}
 
@@ -15,8 +14,3 @@ entered bytes more turned new name at is_at is_more is_turned is_new =
     ap reverse (is_new ∙ ap (λ xs. xs ++ 47 ∷ []) whole)
     ∙ reverse-append (bytes ++ reverse name) (47 ∷ [])
     ∙ ap (λ xs. 47 ∷ xs) (reverse-append bytes (reverse name) ∙ ap (λ xs. xs ++ reverse bytes) (reverse-reverse name))
-
--- where there was memory, bytes were added
-pub kept_items : {A E X : Type 0} (r : Result A E) (more less : List X) → false ≡ is_err r → cond (is_ok r) more less ≡ more
-kept_items (Ok a) more less h = refl
-kept_items (Err e) more less h = cc

@@ -82,10 +82,9 @@ pub(crate) fn climb<R: Rack>(
         if left == 0 {
             return Ok(false);
         }
-        match go_up(tree, dir, above, path, rack, vol) {
-            Err(stop) => return Err(stop),
-            Ok(None) => return Ok(false),
-            Ok(Some(parent)) => dir = parent,
+        match go_up(tree, dir, above, path, rack, vol)? {
+            None => return Ok(false),
+            Some(parent) => dir = parent,
         }
         left -= 1;
     }

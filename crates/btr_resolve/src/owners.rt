@@ -92,13 +92,11 @@ fn next_turn<R: Rack>(
     ensures content { TellsTurn addr tree.now store.old store.new (R.seen rack.old) (R.seen rack.new)
         scan.old scan.new met.old met.new result }
 {
-    match next(store, scan, rack) {
-        Err(fault) => Err(fault),
-        Ok(None) => Ok(Turn::End),
-        Ok(Some(found)) => match owner_in(addr, tree, met, &found) {
-            Err(fault) => Err(fault),
-            Ok(None) => Ok(Turn::Other),
-            Ok(Some(owner)) => Ok(Turn::Owner(owner)),
+    match next(store, scan, rack)? {
+        None => Ok(Turn::End),
+        Some(found) => match owner_in(addr, tree, met, &found)? {
+            None => Ok(Turn::Other),
+            Some(owner) => Ok(Turn::Owner(owner)),
         },
     }
 }
@@ -125,11 +123,10 @@ fn find_owner<R: Rack>(
         scan.old scan.new met.old met.new result }
 {
     loop {
-        match next_turn(addr, tree, met, scan, rack, store) {
-            Err(fault) => return Err(fault),
-            Ok(Turn::End) => return Ok(None),
-            Ok(Turn::Other) => {}
-            Ok(Turn::Owner(owner)) => return Ok(Some(owner)),
+        match next_turn(addr, tree, met, scan, rack, store)? {
+            Turn::End => return Ok(None),
+            Turn::Other => {}
+            Turn::Owner(owner) => return Ok(Some(owner)),
         }
     }
 }

@@ -146,10 +146,7 @@ pub(crate) fn tell_owners<R: Rack, O: Out>(
         match owners.next(rack, vol) {
             Err(fault) => return Err(Stop::Tree(fault)),
             Ok(None) => return Ok(()),
-            Ok(Some(owner)) => match tell_owner(&owner, report, rack, vol, out) {
-                Ok(()) => {}
-                Err(stop) => return Err(stop),
-            },
+            Ok(Some(owner)) => tell_owner(&owner, report, rack, vol, out)?,
         }
     }
 }

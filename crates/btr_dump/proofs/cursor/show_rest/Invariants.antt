@@ -7,8 +7,8 @@ use Rattle.btr_dump.specs.Showing.{Grows}
 use Rattle.btr_dump.proofs.Loops.{Led}
 use Rattle.btr_dump.proofs.cursor.show_rest.Given as goal
 
-abbrev pub invariant-loop-stop : goal.invariant-loop-stop
-invariant-loop-stop g l = record {
+abbrev pub invariant-loop : goal.invariant-loop
+invariant-loop g l = record {
   ready : g.C.Cursor.ready (g.R.Rack.seen l.rack) l.store l.cursor;
   reads : OnlyReads (g.R.Rack.seen l.fn.rack) (g.R.Rack.seen l.rack);
   others : SameLoans (base l.fn.store (g.C.Cursor.loan l.fn.cursor)) (base l.store (g.C.Cursor.loan l.cursor));
@@ -21,5 +21,5 @@ invariant-loop-stop g l = record {
       (g.O.Out.text l.fn.out) (g.O.Out.text l.out) l.fn.text l.text);
 }
 
-abbrev pub decreases-loop-stop : goal.decreases-loop-stop
-decreases-loop-stop g l = g.C.Cursor.rank l.cursor
+abbrev pub decreases-loop : goal.decreases-loop
+decreases-loop g l = g.C.Cursor.rank l.cursor

@@ -1,4 +1,5 @@
 use Rattle.std.proofs.Common.{◌∙◌, [], List, Ok, Err, sym, ap, subst}
+use Rattle.std.proofs.lemmas.Result.{err_from_is_err_and}
 use Rattle.btr_base.specs.Key.{last_key}
 use Rattle.btr_prog.specs.Prog.{exec}
 use Rattle.btr_read.specs.declared.want.Want.{Want}
@@ -17,8 +18,8 @@ use Rattle.btr_walk.proofs.Joined.{drawn, joined}
 use Rattle.btr_dump.proofs.Telling.{on_as}
 use Rattle.btr_dump.proofs.trees.show_all.Goals as goal
 
-pub returns-in-Err-clause-content : goal.returns-in-Err-clause-content
-returns-in-Err-clause-content g c =
+pub returns-in_err-show_tops-clause-content : goal.returns-in_err-show_tops-clause-content
+returns-in_err-show_tops-clause-content g c =
     let s = c.args.s.now in
     let layout = c.args.store.now.layout in
     let is = unread_by layout (g.R.Rack.seen c.args.rack.now) (g.R.Rack.seen c.show_tops.new.rack) in
@@ -26,13 +27,15 @@ returns-in-Err-clause-content g c =
     let text' = g.O.Out.text c.show_tops.new.out in
     let waited = c.args.text.now in
     let waits = c.show_tops.new.text in
-    drawn layout (λ B. ShowsText {A = Unit {0}} is [] (exec B (top_trees s)) text text' waited waits (Err c.in-Err.stop))
-    (λ B. ShowsText {A = Unit {0}} is [] (exec B (all_trees s)) text text' waited waits (Err c.in-Err.stop))
+    let p = err_from_is_err_and c.from_residual.result c.from_residual.ensures.1 in
+    rw (p.1, p.2)
+    (drawn layout (λ B. ShowsText {A = Unit {0}} is [] (exec B (top_trees s)) text text' waited waits (Err c.in_err-show_tops.field-0.0))
+    (λ B. ShowsText {A = Unit {0}} is [] (exec B (all_trees s)) text text' waited waits (Err c.in_err-show_tops.field-0.0))
     (λ B w. first_stops B (top_trees s) (λ u. item_trees (kind_in s) (range first_key last_key (root_root s))) is text text' waited waits
-    c.in-Err.stop w) c.in-Err.ensures.content
+    c.in_err-show_tops.field-0.0 w) c.in_err-show_tops.ensures.content)
 
 pub returns-clause-grows : goal.returns-clause-grows
-returns-clause-grows g c = grows_twice c.in-Ok.ensures.grows c.show_rest-shown.ensures.grows
+returns-clause-grows g c = grows_twice c.in_ok-show_tops.ensures.grows c.show_rest-shown.ensures.grows
 
 pub returns-clause-content : goal.returns-clause-content
 returns-clause-content g c =
@@ -59,11 +62,11 @@ returns-clause-content g c =
     joined (λ B. ShowsText {A = Unit {0}} early [] (exec B (top_trees s)) old text waited waiting (Ok tt))
     (λ B. (seen : List Want) → IsOn scan.lo scan.hi B seen scan.place
     → ShowsText later seen (exec B (item_trees kind (left_of B store scan))) text new waiting waits result)
-    (λ B. ShowsText is [] (exec B (all_trees s)) old new waited waits result) c.in-Ok.ensures.loans.layout
+    (λ B. ShowsText is [] (exec B (all_trees s)) old new waited waits result) c.in_ok-show_tops.ensures.loans.layout
     (λ B one two. second_then B (top_trees s) (λ u. item_trees (kind_in s) items) early is later
-    (since layout mid c.in-Ok.ensures.loans.layout c.in-Ok.ensures.reads) old text new waited waiting waits result one
+    (since layout mid c.in_ok-show_tops.ensures.loans.layout c.in_ok-show_tops.ensures.reads) old text new waited waiting waits result one
     (subst (λ k. ShowsText later [] (exec B (item_trees k items)) text new waiting waits result) c.kind_in.ensures
     (subst (λ p. ShowsText later [] (exec B (item_trees kind p)) text new waiting waits result)
     (c.new.ensures.program B store ∙ ap (range first_key last_key) c.root_root.ensures)
     (two [] (on_as first_key last_key scan.lo scan.hi B [] scan.place (sym c.new.ensures.lo) (sym c.new.ensures.hi) (c.new.ensures.on B))))))
-    c.in-Ok.ensures.content c.show_rest-shown.ensures.content
+    c.in_ok-show_tops.ensures.content c.show_rest-shown.ensures.content

@@ -1,4 +1,5 @@
 use Rattle.std.proofs.Common.{true, false, not, Ok, ap, ◌∙◌}
+use Rattle.std.proofs.lemmas.Result.{err_from_is_err_and}
 use Rattle.btr_listing.specs.declared.decision.Decision.TheVariants.{Empty}
 use Rattle.btr_files.specs.Names.{mounted}
 use Rattle.btr_listing.specs.Deciding.{mount_found, mount_of, target}
@@ -13,29 +14,31 @@ root-requires-clause-ready g c = reads_on _ _ _ c.requires.ready c.mounted.ensur
 pub returns-then-not-rules-clause-looked : goal.returns-then-not-rules-clause-looked
 returns-then-not-rules-clause-looked g c = looked_if _ _ _ (ap not c.if-not-rules.true) (looked_value _ c.requires.ready)
 
-pub returns-in-Err-clause-looked : goal.returns-in-Err-clause-looked
-returns-in-Err-clause-looked g c =
+pub returns-in_err-mounted-clause-looked : goal.returns-in_err-mounted-clause-looked
+returns-in_err-mounted-clause-looked g c =
     let met = met_by c.args.entry.now in
-    looked_else _ _ _ (ap not c.if-not-rules.false)
-    (looked_halt (mounted (mount_of met) c.args.vol.now.sup (target met)) (mount_found c.args.rules.now met) c.in-Err.fault
+    let p = err_from_is_err_and c.from_residual.result c.from_residual.ensures.1 in
+    rw (p.1, p.2)
+    (looked_else _ _ _ (ap not c.if-not-rules.false)
+    (looked_halt (mounted (mount_of met) c.args.vol.now.sup (target met)) (mount_found c.args.rules.now met) c.in_err-mounted.field-0.0
     (looked_by _ _ c.requires.ready c.mounted.ensures.serves c.mounted.ensures.reads c.mounted.ensures.volume
-    c.mounted.ensures.cause c.mounted.ensures.content) c.in-Err.is)
+    c.mounted.ensures.cause c.mounted.ensures.content) c.in_err-mounted.was))
 
-pub returns-in-Ok-false-clause-looked : goal.returns-in-Ok-false-clause-looked
-returns-in-Ok-false-clause-looked g c =
+pub returns-then-not-branch-clause-looked : goal.returns-then-not-branch-clause-looked
+returns-then-not-branch-clause-looked g c =
     let met = met_by c.args.entry.now in
     looked_else _ _ _ (ap not c.if-not-rules.false)
     (looked_then (mounted (mount_of met) c.args.vol.now.sup (target met)) (mount_found c.args.rules.now met) false _
     (looked_by _ _ c.requires.ready c.mounted.ensures.serves c.mounted.ensures.reads c.mounted.ensures.volume
     c.mounted.ensures.cause c.mounted.ensures.content)
-    (c.in-Ok-false.is ∙ ap Ok c.in-Ok-false.field-0-test)
+    (c.in_ok-mounted.was ∙ ap Ok c.if-not-branch.true)
     (looked_value Empty (reads_on _ _ _ c.requires.ready c.mounted.ensures.serves c.mounted.ensures.volume)))
 
-pub returns-in-Ok-true-clause-looked : goal.returns-in-Ok-true-clause-looked
-returns-in-Ok-true-clause-looked g c =
+pub returns-clause-looked : goal.returns-clause-looked
+returns-clause-looked g c =
     let met = met_by c.args.entry.now in
     looked_else _ _ _ (ap not c.if-not-rules.false)
     (looked_then (mounted (mount_of met) c.args.vol.now.sup (target met)) (mount_found c.args.rules.now met) true _
     (looked_by _ _ c.requires.ready c.mounted.ensures.serves c.mounted.ensures.reads c.mounted.ensures.volume
     c.mounted.ensures.cause c.mounted.ensures.content)
-    (c.in-Ok-true.is ∙ ap Ok c.in-Ok-true.field-0-test) c.root.ensures.looked)
+    (c.in_ok-mounted.was ∙ ap Ok c.if-not-branch.false) c.root.ensures.looked)

@@ -6,8 +6,8 @@ use Rattle.btr_walk.specs.ScanEnds.{IsScanReady, without_leaf, rank_of}
 use Rattle.btr_resolve.proofs.Cursors.{Gone}
 use Rattle.btr_resolve.proofs.owners.find_owner.Given as goal
 
-abbrev pub invariant-loop-fault : goal.invariant-loop-fault
-invariant-loop-fault g l = record {
+abbrev pub invariant-loop-owner : goal.invariant-loop-owner
+invariant-loop-owner g l = record {
   ready : IsScanReady (g.R.Rack.seen l.rack) l.store l.scan;
   reads : OnlyReads (g.R.Rack.seen l.fn.rack) (g.R.Rack.seen l.rack);
   others : SameLoans (without_leaf l.fn.store l.fn.scan) (without_leaf l.store l.scan);
@@ -20,5 +20,5 @@ invariant-loop-fault g l = record {
       (λ B. Gone l.addr l.tree B l.fn.store l.fn.scan l.fn.met l.store l.scan l.met);
 }
 
-abbrev pub decreases-loop-fault : goal.decreases-loop-fault
-decreases-loop-fault g l = rank_of l.scan
+abbrev pub decreases-loop-owner : goal.decreases-loop-owner
+decreases-loop-owner g l = rank_of l.scan

@@ -1,4 +1,5 @@
 use Rattle.std.proofs.Common.{Option, Ok, Err, subst}
+use Rattle.std.proofs.lemmas.Result.{err_from_is_err_and}
 use Rattle.btr_volume.specs.declared.stop.Stop.TheVariants.{Tree}
 use Rattle.btr_resolve.specs.Cursor.{TellsNext}
 use Rattle.btr_resolve.specs.Running.{world}
@@ -43,7 +44,7 @@ loop-fault-preserved g c =
     let old = g.R.Rack.seen f.rack in
     let new = g.R.Rack.seen c.next.new.rack in
     let next = subst (λ (o : Option Owner). TellsNext f.vol old new f.owners c.next.new.self (Ok o)) c.in-Ok-Some.field-0-is e.content in
-    let told = c.in-Ok.ensures in
+    let told = c.in_ok-tell_owner-in-Ok-Some.ensures in
     let z = world (g.R.Rack.seen c.tell_owner.new.rack) c.tell_owner.new.vol (g.O.Out.text c.tell_owner.new.out)
     (g.O.Out.account c.tell_owner.new.out) in
     record {
@@ -55,16 +56,18 @@ loop-fault-preserved g c =
           c.in-Ok-Some.owner next z c.tell_owner.new.report.count told w answer t);
     }
 
-pub returns-in-Err-tell_owner : goal.returns-in-Err-tell_owner
-returns-in-Err-tell_owner g c =
+pub returns-in_err-tell_owner-in-Ok-Some : goal.returns-in_err-tell_owner-in-Ok-Some
+returns-in_err-tell_owner-in-Ok-Some g c =
     let f = c.loop-fault in
     let e = c.in-Ok-Some.ensures in
     let old = g.R.Rack.seen f.rack in
     let new = g.R.Rack.seen c.next.new.rack in
     let next = subst (λ (o : Option Owner). TellsNext f.vol old new f.owners c.next.new.self (Ok o)) c.in-Ok-Some.field-0-is e.content in
-    let z = world (g.R.Rack.seen c.tell_owner.new.rack) c.tell_owner.new.vol (g.O.Out.text c.tell_owner.new.out)
+    let p = err_from_is_err_and c.from_residual.result c.from_residual.ensures.1 in
+    rw (p.1, p.2)
+    (let z = world (g.R.Rack.seen c.tell_owner.new.rack) c.tell_owner.new.vol (g.O.Out.text c.tell_owner.new.out)
     (g.O.Out.account c.tell_owner.new.out) in
-    f.invariant.leads z (Err c.in-Err-tell_owner.stop)
+    f.invariant.leads z (Err c.in_err-tell_owner-in-Ok-Some.field-0.0)
     (told_stop f.report.count f.owners c.next.new.self old new f.vol c.next.new.vol (g.O.Out.text f.out)
     (g.O.Out.account f.out) e.reads e.volume (reads_on new f.vol c.next.new.vol f.invariant.ready e.serves e.volume)
-    c.in-Ok-Some.owner next z c.in-Err-tell_owner.stop c.in-Err-tell_owner.ensures)
+    c.in-Ok-Some.owner next z c.in_err-tell_owner-in-Ok-Some.field-0.0 c.in_err-tell_owner-in-Ok-Some.ensures))

@@ -1,4 +1,5 @@
 use Rattle.std.proofs.Common.{◌∙◌, ◌++◌, List, [], true, false, Ok, Err, sym, ap, subst}
+use Rattle.std.proofs.lemmas.Result.{err_from_is_err_and}
 use Rattle.btr_prog.specs.Prog.{exec}
 use Rattle.btr_read.specs.declared.want.Want.{Want}
 use Rattle.btr_volume.specs.declared.stop.Stop.TheVariants.{Tree}
@@ -47,12 +48,15 @@ returns-in-Ok-None-clause-content g c =
     (subst (λ r. IsNextOn is B c.args.store.now new scan next r) (c.in-Ok-None.is ∙ ap Ok c.in-Ok-None.field-0-is) h seen on))
     c.next.follows.holds-at-none.content
 
-pub returns-in-Err-write_item-clause-cause : goal.returns-in-Err-write_item-clause-cause
-returns-in-Err-write_item-clause-cause g c = c.in-Err-write_item.ensures.cause c.args.store.now.layout (g.R.Rack.seen c.args.rack.now)
-    (g.R.Rack.seen c.next.new.rack)
+pub returns-in_err-write_item-in-Ok-Some-clause-cause : goal.returns-in_err-write_item-in-Ok-Some-clause-cause
+returns-in_err-write_item-in-Ok-Some-clause-cause g c =
+    let p = err_from_is_err_and c.from_residual.result c.from_residual.ensures.1 in
+    rw (p.1, p.2)
+    (c.in_err-write_item-in-Ok-Some.ensures.cause c.args.store.now.layout (g.R.Rack.seen c.args.rack.now)
+    (g.R.Rack.seen c.next.new.rack))
 
-pub returns-in-Err-write_item-clause-content : goal.returns-in-Err-write_item-clause-content
-returns-in-Err-write_item-clause-content g c =
+pub returns-in_err-write_item-in-Ok-Some-clause-content : goal.returns-in_err-write_item-in-Ok-Some-clause-content
+returns-in_err-write_item-in-Ok-Some-clause-content g c =
     let scan = c.args.self.now.scan in
     let next = c.next.new.scan in
     let layout = c.args.store.now.layout in
@@ -61,19 +65,21 @@ returns-in-Err-write_item-clause-content g c =
     let found = c.in-Ok-Some.found in
     let old_text = g.O.Out.text c.args.out.now in
     let new_text = g.O.Out.text c.write_item.new.out in
-    drawn layout (λ B. IsNextOn is B c.args.store.now new scan next c.next.result)
+    let p = err_from_is_err_and c.from_residual.result c.from_residual.ensures.1 in
+    rw (p.1, p.2)
+    (drawn layout (λ B. IsNextOn is B c.args.store.now new scan next c.next.result)
     (λ B. (seen : List Want) → IsOn scan.lo scan.hi B seen scan.place
     → Turns is (λ ws. IsOn next.lo next.hi B ws next.place) (exec B (item_lines (left_of B c.args.store.now scan)))
-    (exec B (item_lines (left_of B new next))) seen old_text new_text c.args.text.now c.write_item.new.text (Err c.in-Err-write_item.stop))
+    (exec B (item_lines (left_of B new next))) seen old_text new_text c.args.text.now c.write_item.new.text (Err c.in_err-write_item-in-Ok-Some.field-0.0))
     (λ B h seen on.
     let gives = subst (λ r. IsNextOn is B c.args.store.now new scan next r) (c.in-Ok-Some.is ∙ ap Ok c.in-Ok-Some.field-0-is) h seen on in
     turn_stops item_line B (left_of B c.args.store.now scan) (left_of B new next) (item_of found) gives.past gives.is is seen old_text
-    new_text c.args.text.now c.write_item.new.text c.in-Err-write_item.stop
-    (c.in-Err-write_item.ensures.text layout (g.R.Rack.seen c.args.rack.now) (g.R.Rack.seen c.next.new.rack) (seen ++ gives.past) B))
-    c.next.follows.holds-at-none.content
+    new_text c.args.text.now c.write_item.new.text c.in_err-write_item-in-Ok-Some.field-0.0
+    (c.in_err-write_item-in-Ok-Some.ensures.text layout (g.R.Rack.seen c.args.rack.now) (g.R.Rack.seen c.next.new.rack) (seen ++ gives.past) B))
+    c.next.follows.holds-at-none.content)
 
-pub returns-in-Ok-clause-content : goal.returns-in-Ok-clause-content
-returns-in-Ok-clause-content g c =
+pub returns-in_ok-write_item-in-Ok-Some-clause-content : goal.returns-in_ok-write_item-in-Ok-Some-clause-content
+returns-in_ok-write_item-in-Ok-Some-clause-content g c =
     let scan = c.args.self.now.scan in
     let next = c.next.new.scan in
     let layout = c.args.store.now.layout in
@@ -92,7 +98,7 @@ returns-in-Ok-clause-content g c =
     (λ ws. IsOn next.lo next.hi B ws next.place) is seen (seen ++ gives.past) old_text new_text c.args.text.now c.write_item.new.text
     (no_wants B (item_of found))
     (on_as scan.lo scan.hi next.lo next.hi B (seen ++ gives.past) next.place (sym c.next.ensures.lo) (sym c.next.ensures.hi) gives.on)
-    (c.in-Ok.ensures.text layout (g.R.Rack.seen c.args.rack.now) (g.R.Rack.seen c.next.new.rack) (seen ++ gives.past) B))
+    (c.in_ok-write_item-in-Ok-Some.ensures.text layout (g.R.Rack.seen c.args.rack.now) (g.R.Rack.seen c.next.new.rack) (seen ++ gives.past) B))
     c.next.follows.holds-at-none.content
 
 pub returns-in-Err-clause-grows : goal.returns-in-Err-clause-grows
@@ -101,20 +107,20 @@ returns-in-Err-clause-grows g c = grows_none (g.O.Out.text c.args.out.now)
 pub returns-in-Ok-None-clause-grows : goal.returns-in-Ok-None-clause-grows
 returns-in-Ok-None-clause-grows g c = grows_none (g.O.Out.text c.args.out.now)
 
-pub returns-in-Err-write_item-clause-grows : goal.returns-in-Err-write_item-clause-grows
-returns-in-Err-write_item-clause-grows g c =
+pub returns-in_err-write_item-in-Ok-Some-clause-grows : goal.returns-in_err-write_item-in-Ok-Some-clause-grows
+returns-in_err-write_item-in-Ok-Some-clause-grows g c =
     let layout = c.args.store.now.layout in
     let old = g.R.Rack.seen c.args.rack.now in
     let new = g.R.Rack.seen c.next.new.rack in
     run_grows (unread_by layout old new) [] (exec no_block (item_line (item_of c.in-Ok-Some.found))) (g.O.Out.text c.args.out.now)
-    (g.O.Out.text c.write_item.new.out) c.args.text.now c.write_item.new.text (Err c.in-Err-write_item.stop)
-    (c.in-Err-write_item.ensures.text layout old new [] no_block)
+    (g.O.Out.text c.write_item.new.out) c.args.text.now c.write_item.new.text (Err c.in_err-write_item-in-Ok-Some.field-0.0)
+    (c.in_err-write_item-in-Ok-Some.ensures.text layout old new [] no_block)
 
-pub returns-in-Ok-clause-grows : goal.returns-in-Ok-clause-grows
-returns-in-Ok-clause-grows g c =
+pub returns-in_ok-write_item-in-Ok-Some-clause-grows : goal.returns-in_ok-write_item-in-Ok-Some-clause-grows
+returns-in_ok-write_item-in-Ok-Some-clause-grows g c =
     let layout = c.args.store.now.layout in
     let old = g.R.Rack.seen c.args.rack.now in
     let new = g.R.Rack.seen c.next.new.rack in
     run_grows (unread_by layout old new) [] (exec no_block (item_line (item_of c.in-Ok-Some.found))) (g.O.Out.text c.args.out.now)
     (g.O.Out.text c.write_item.new.out) c.args.text.now c.write_item.new.text (Ok tt)
-    (c.in-Ok.ensures.text layout old new [] no_block)
+    (c.in_ok-write_item-in-Ok-Some.ensures.text layout old new [] no_block)

@@ -1,4 +1,5 @@
 use Rattle.std.proofs.Common.{◌∙◌, ◌++◌, List, [], true, false, Ok, Err, ap, subst}
+use Rattle.std.proofs.lemmas.Result.{err_from_is_err_and}
 use Rattle.btr_prog.specs.Prog.{exec}
 use Rattle.btr_read.specs.declared.want.Want.{Want}
 use Rattle.btr_volume.specs.declared.stop.Stop.TheVariants.{Tree}
@@ -43,12 +44,15 @@ returns-in-Ok-None-clause-content g c =
     (subst (λ r. IsNextBlock is B scan next r) (c.in-Ok-None.is ∙ ap Ok c.in-Ok-None.field-0-is) h seen on))
     c.next_block.follows.holds-at-none.content
 
-pub returns-in-Err-write_held-clause-cause : goal.returns-in-Err-write_held-clause-cause
-returns-in-Err-write_held-clause-cause g c = c.in-Err-write_held.ensures.cause c.args.store.now.layout (g.R.Rack.seen c.args.rack.now)
-    (g.R.Rack.seen c.next_block.new.rack)
+pub returns-in_err-write_held-in-Ok-Some-clause-cause : goal.returns-in_err-write_held-in-Ok-Some-clause-cause
+returns-in_err-write_held-in-Ok-Some-clause-cause g c =
+    let p = err_from_is_err_and c.from_residual.result c.from_residual.ensures.1 in
+    rw (p.1, p.2)
+    (c.in_err-write_held-in-Ok-Some.ensures.cause c.args.store.now.layout (g.R.Rack.seen c.args.rack.now)
+    (g.R.Rack.seen c.next_block.new.rack))
 
-pub returns-in-Err-write_held-clause-content : goal.returns-in-Err-write_held-clause-content
-returns-in-Err-write_held-clause-content g c =
+pub returns-in_err-write_held-in-Ok-Some-clause-content : goal.returns-in_err-write_held-in-Ok-Some-clause-content
+returns-in_err-write_held-in-Ok-Some-clause-content g c =
     let scan = c.args.self.now.scan in
     let next = c.next_block.new.scan in
     let kind = c.args.self.now.kind in
@@ -57,19 +61,23 @@ returns-in-Err-write_held-clause-content g c =
     let found = c.in-Ok-Some.found in
     let old_text = g.O.Out.text c.args.out.now in
     let new_text = g.O.Out.text c.write_held.new.out in
-    drawn layout (λ B. IsNextBlock is B scan next c.next_block.result)
+    let p = err_from_is_err_and c.from_residual.result c.from_residual.ensures.1 in
+    rw (p.1, p.2)
+    (drawn layout (λ B. IsNextBlock is B scan next c.next_block.result)
     (λ B. (seen : List Want) → IsAmong B seen scan.place → Turns is (λ ws. IsAmong B ws next.place) (exec B (blocks_shown kind (blocks_left B scan)))
-    (exec B (blocks_shown kind (blocks_left B next))) seen old_text new_text c.args.text.now c.write_held.new.text (Err c.in-Err-write_held.stop))
+    (exec B (blocks_shown kind (blocks_left B next))) seen old_text new_text c.args.text.now c.write_held.new.text
+    (Err c.in_err-write_held-in-Ok-Some.field-0.0))
     (λ B h seen on.
     let gives = subst (λ r. IsNextBlock is B scan next r) (c.in-Ok-Some.is ∙ ap Ok c.in-Ok-Some.field-0-is) h seen on in
     turn_stops (met_block kind) B (blocks_left B scan) (blocks_left B next) (shown_block found) gives.past gives.is is seen old_text new_text
-    c.args.text.now c.write_held.new.text c.in-Err-write_held.stop
-    (met_written is (seen ++ gives.past) B kind (shown_block found) old_text new_text c.args.text.now c.write_held.new.text (Err c.in-Err-write_held.stop)
-    (c.in-Err-write_held.ensures.text layout (g.R.Rack.seen c.args.rack.now) (g.R.Rack.seen c.next_block.new.rack) (seen ++ gives.past) B)))
-    c.next_block.follows.holds-at-none.content
+    c.args.text.now c.write_held.new.text c.in_err-write_held-in-Ok-Some.field-0.0
+    (met_written is (seen ++ gives.past) B kind (shown_block found) old_text new_text c.args.text.now c.write_held.new.text
+    (Err c.in_err-write_held-in-Ok-Some.field-0.0)
+    (c.in_err-write_held-in-Ok-Some.ensures.text layout (g.R.Rack.seen c.args.rack.now) (g.R.Rack.seen c.next_block.new.rack) (seen ++ gives.past) B)))
+    c.next_block.follows.holds-at-none.content)
 
-pub returns-in-Ok-clause-content : goal.returns-in-Ok-clause-content
-returns-in-Ok-clause-content g c =
+pub returns-in_ok-write_held-in-Ok-Some-clause-content : goal.returns-in_ok-write_held-in-Ok-Some-clause-content
+returns-in_ok-write_held-in-Ok-Some-clause-content g c =
     let scan = c.args.self.now.scan in
     let next = c.next_block.new.scan in
     let kind = c.args.self.now.kind in
@@ -86,7 +94,7 @@ returns-in-Ok-clause-content g c =
     turn_goes (met_block kind) B (blocks_left B scan) (blocks_left B next) (shown_block found) gives.past gives.is (λ ws. IsAmong B ws next.place) is
     seen (seen ++ gives.past) old_text new_text c.args.text.now c.write_held.new.text (met_wants_none B kind (shown_block found))
     gives.on (met_written is (seen ++ gives.past) B kind (shown_block found) old_text new_text c.args.text.now c.write_held.new.text (Ok tt)
-    (c.in-Ok.ensures.text layout (g.R.Rack.seen c.args.rack.now) (g.R.Rack.seen c.next_block.new.rack) (seen ++ gives.past) B)))
+    (c.in_ok-write_held-in-Ok-Some.ensures.text layout (g.R.Rack.seen c.args.rack.now) (g.R.Rack.seen c.next_block.new.rack) (seen ++ gives.past) B)))
     c.next_block.follows.holds-at-none.content
 
 pub returns-in-Err-clause-grows : goal.returns-in-Err-clause-grows
@@ -95,22 +103,22 @@ returns-in-Err-clause-grows g c = grows_none (g.O.Out.text c.args.out.now)
 pub returns-in-Ok-None-clause-grows : goal.returns-in-Ok-None-clause-grows
 returns-in-Ok-None-clause-grows g c = grows_none (g.O.Out.text c.args.out.now)
 
-pub returns-in-Err-write_held-clause-grows : goal.returns-in-Err-write_held-clause-grows
-returns-in-Err-write_held-clause-grows g c =
+pub returns-in_err-write_held-in-Ok-Some-clause-grows : goal.returns-in_err-write_held-in-Ok-Some-clause-grows
+returns-in_err-write_held-in-Ok-Some-clause-grows g c =
     let layout = c.args.store.now.layout in
     let old = g.R.Rack.seen c.args.rack.now in
     let new = g.R.Rack.seen c.next_block.new.rack in
     let found = c.in-Ok-Some.found in
     run_grows (unread_by layout old new) [] (exec no_block (held_block c.args.self.now.kind found.addr found.bytes.now (held_in found.bytes.now)))
-    (g.O.Out.text c.args.out.now) (g.O.Out.text c.write_held.new.out) c.args.text.now c.write_held.new.text (Err c.in-Err-write_held.stop)
-    (c.in-Err-write_held.ensures.text layout old new [] no_block)
+    (g.O.Out.text c.args.out.now) (g.O.Out.text c.write_held.new.out) c.args.text.now c.write_held.new.text (Err c.in_err-write_held-in-Ok-Some.field-0.0)
+    (c.in_err-write_held-in-Ok-Some.ensures.text layout old new [] no_block)
 
-pub returns-in-Ok-clause-grows : goal.returns-in-Ok-clause-grows
-returns-in-Ok-clause-grows g c =
+pub returns-in_ok-write_held-in-Ok-Some-clause-grows : goal.returns-in_ok-write_held-in-Ok-Some-clause-grows
+returns-in_ok-write_held-in-Ok-Some-clause-grows g c =
     let layout = c.args.store.now.layout in
     let old = g.R.Rack.seen c.args.rack.now in
     let new = g.R.Rack.seen c.next_block.new.rack in
     let found = c.in-Ok-Some.found in
     run_grows (unread_by layout old new) [] (exec no_block (held_block c.args.self.now.kind found.addr found.bytes.now (held_in found.bytes.now)))
     (g.O.Out.text c.args.out.now) (g.O.Out.text c.write_held.new.out) c.args.text.now c.write_held.new.text (Ok tt)
-    (c.in-Ok.ensures.text layout old new [] no_block)
+    (c.in_ok-write_held-in-Ok-Some.ensures.text layout old new [] no_block)

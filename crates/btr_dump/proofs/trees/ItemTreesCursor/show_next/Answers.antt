@@ -1,4 +1,5 @@
 use Rattle.std.proofs.Common.{◌++◌, List, [], Bool, true, false, Ok, Err, subst}
+use Rattle.std.proofs.lemmas.Result.{err_from_is_err_and}
 use Rattle.btr_prog.specs.Prog.{exec}
 use Rattle.btr_read.specs.declared.want.Want.{Want}
 use Rattle.btr_volume.specs.declared.stop.Stop.TheVariants.{Tree}
@@ -74,17 +75,20 @@ returns-in-Ok-Other-clause-content g c =
     let given = subst (λ r. NextItemBy is B seen old new scan next (Ok r)) c.in-Ok-Other.field-0-is (h seen on) in
     other_goes is B kind seen old new scan next given.0 given.1 text waits given.2) c.in-Ok-Other.ensures.content
 
-pub returns-in-Err-show_tree-clause-cause : goal.returns-in-Err-show_tree-clause-cause
-returns-in-Err-show_tree-clause-cause g c =
+pub returns-in_err-show_tree-in-Ok-Tree-clause-cause : goal.returns-in_err-show_tree-in-Ok-Tree-clause-cause
+returns-in_err-show_tree-in-Ok-Tree-clause-cause g c =
     let next = c.in-Ok-Tree.ensures in
-    stop_cause_since (Unit {0}) Bool (g.R.Rack.seen c.show_tree.new.rack) c.args.store.now.layout c.next_item.new.store.layout c.in-Err-show_tree.stop
-    (same_layout c.args.store.now c.next_item.new.store _ _ next.others) next.reads c.in-Err-show_tree.ensures.cause
+    let p = err_from_is_err_and c.from_residual.result c.from_residual.ensures.1 in
+    rw (p.1, p.2)
+    (stop_cause_since (Unit {0}) Bool
+    (g.R.Rack.seen c.show_tree.new.rack) c.args.store.now.layout c.next_item.new.store.layout c.in_err-show_tree-in-Ok-Tree.field-0.0
+    (same_layout c.args.store.now c.next_item.new.store _ _ next.others) next.reads c.in_err-show_tree-in-Ok-Tree.ensures.cause)
 
-pub returns-in-Err-show_tree-clause-content : goal.returns-in-Err-show_tree-clause-content
-returns-in-Err-show_tree-clause-content g c =
+pub returns-in_err-show_tree-in-Ok-Tree-clause-content : goal.returns-in_err-show_tree-in-Ok-Tree-clause-content
+returns-in_err-show_tree-in-Ok-Tree-clause-content g c =
     let kind = c.args.self.now.kind in
     let root = c.in-Ok-Tree.root in
-    let stop = c.in-Err-show_tree.stop in
+    let stop = c.in_err-show_tree-in-Ok-Tree.field-0.0 in
     let scan = c.args.self.now.scan in
     let next = c.next_item.new.scan in
     let old = c.args.store.now in
@@ -99,7 +103,9 @@ returns-in-Err-show_tree-clause-content g c =
     let text' = g.O.Out.text c.show_tree.new.out in
     let waited = c.args.text.now in
     let waits = c.show_tree.new.text in
-    joined (λ B. (seen : List Want) → IsOn scan.lo scan.hi B seen scan.place
+    let p = err_from_is_err_and c.from_residual.result c.from_residual.ensures.1 in
+    rw (p.1, p.2)
+    (joined (λ B. (seen : List Want) → IsOn scan.lo scan.hi B seen scan.place
     → NextItemBy (unread_by old.layout before between) B seen old mid scan next (Ok c.in-Ok-Tree.field-0))
     (λ B. ShowsText {A = Unit {0}} later [] (exec B (tree_shown kind root)) text text' waited waits (Err stop))
     (λ B. (seen : List Want) → IsOn scan.lo scan.hi B seen scan.place
@@ -109,10 +115,10 @@ returns-in-Err-show_tree-clause-content g c =
     tree_stops is B kind seen old mid scan next given.0 given.1 root given.2 text text' waited waits stop
     (writes_behind is later (since old.layout mid.layout same c.in-Ok-Tree.ensures.reads) (seen ++ given.1.past) (exec B (tree_shown kind root)) text
     text' waited waits (Err stop) w))
-    c.in-Ok-Tree.ensures.content c.in-Err-show_tree.ensures.content
+    c.in-Ok-Tree.ensures.content c.in_err-show_tree-in-Ok-Tree.ensures.content)
 
-pub returns-in-Ok-clause-content : goal.returns-in-Ok-clause-content
-returns-in-Ok-clause-content g c =
+pub returns-in_ok-show_tree-in-Ok-Tree-clause-content : goal.returns-in_ok-show_tree-in-Ok-Tree-clause-content
+returns-in_ok-show_tree-in-Ok-Tree-clause-content g c =
     let kind = c.args.self.now.kind in
     let root = c.in-Ok-Tree.root in
     let scan = c.args.self.now.scan in
@@ -138,7 +144,7 @@ returns-in-Ok-clause-content g c =
     (exec B (item_trees kind (left_of B new next))) seen text text' waited waits) same
     (λ B h w seen on.
     let given = subst (λ r. NextItemBy (unread_by old.layout before between) B seen old mid scan next (Ok r)) c.in-Ok-Tree.field-0-is (h seen on) in
-    tree_goes is B kind seen old mid scan next given.0 given.1 root given.2 new c.in-Ok.ensures.loans text text' waited waits
+    tree_goes is B kind seen old mid scan next given.0 given.1 root given.2 new c.in_ok-show_tree-in-Ok-Tree.ensures.loans text text' waited waits
     (writes_behind is later (since old.layout mid.layout same c.in-Ok-Tree.ensures.reads) (seen ++ given.1.past) (exec B (tree_shown kind root)) text
     text' waited waits (Ok tt) w))
-    c.in-Ok-Tree.ensures.content c.in-Ok.ensures.content
+    c.in-Ok-Tree.ensures.content c.in_ok-show_tree-in-Ok-Tree.ensures.content

@@ -1,7 +1,8 @@
 use Rattle.std.proofs.Common.{ℕ, List, ◌∷◌, ◌++◌, [], length, take, drop, ap, ◌∙◌, arith}
 use Rattle.std.proofs.lemmas.List.{take_at}
 use Rattle.std.specs.Prelude.{reverse}
-use Rattle.btr_resolve.proofs.Turning.{entered, kept_items}
+use Rattle.btr_files.proofs.Gathered.{kept_items}
+use Rattle.btr_resolve.proofs.Turning.{entered}
 use Rattle.btr_resolve.proofs.path.Path.enter.Goals as goal
 
 pub returns : goal.returns
