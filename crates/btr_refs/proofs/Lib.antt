@@ -5,5 +5,5 @@ mod Extents
 pub mod Tallying
 pub mod Keeping
 mod Rows
-pub mod Used
+pub mod UsesKept
 mod Using

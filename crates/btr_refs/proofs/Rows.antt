@@ -1,10 +1,8 @@
 -- Rows of references that are counted and stored, and of extents.
-use Rattle.std.proofs.Common.{◌≡◌, ℕ, suc, zero, ◌+◌, ◌*◌, ◌<◌, ◌==◌, Bool, true, false, cond, ◌||◌, ◌&&◌, List, [], ◌∷◌, ◌++◌, length, get_or, replicate, Option, Some, None, filter_map}
+use Rattle.std.proofs.Common.{◌≡◌, ℕ, suc, zero, ◌+◌, ◌*◌, ◌<◌, Bool, true, false, cond, ◌||◌, ◌&&◌, List, [], ◌∷◌, ◌++◌, length, get_or, replicate, Option, Some, None, filter_map}
 use Rattle.std.proofs.Common.{T, refl, sym, ap, ◌∙◌, true≢false, zero-add, arith}
 use Rattle.std.proofs.lemmas.List.Folds.{list_any-append, sum_by-replicate}
-use Rattle.std.proofs.lemmas.List.Sorted.{list_any-IsPermutation}
 use Rattle.std.proofs.lemmas.List.Sums.{sum_by-append, sum_by-cons}
-use Rattle.std.specs.List.Sorted.{IsPermutation}
 use Rattle.std.specs.BTreeMap.{insert_entry}
 use Rattle.std.specs.Cmp.{eq_by_cmp_equiv}
 use Rattle.std.specs.FinMap.Entries.{below_all, is_sorted}
@@ -16,7 +14,7 @@ use Rattle.std.specs.declared.cmp.Ordering.{Ordering}
 use Rattle.std.specs.declared.cmp.Ordering.TheVariants.{Less, Equal, Greater}
 use Rattle.std.proofs.lemmas.Map.Keys.{sorted_tail}
 use Rattle.btr_findings.specs.declared.finding.Finding.{Finding}
-use Rattle.btr_findings.specs.Findings.{is_row, is_one_of, is_same, is_shown, unless}
+use Rattle.btr_findings.specs.Findings.{is_row, is_one_of, is_same, is_shown}
 use Rattle.btr_findings.proofs.Rules.{rows-any}
 use Rattle.btr_findings.specs.declared.extent.Extent.{Extent}
 use Rattle.btr_refs.proofs.Counting.{count-is, found-more, ref_exact, ref_total, same_is, same_swaps, unmet-zero}
@@ -24,7 +22,7 @@ use Rattle.btr_refs.proofs.Listing.{behind, own_counts}
 use Rattle.btr_refs.proofs.Tallying.{once}
 use Rattle.btr_refs.specs.Counts.{RefCounts, count_in, counted, counted_all, found_at, is_met, sum_of}
 use Rattle.btr_refs.specs.declared.counted.Counted.{Counted}
-use Rattle.btr_refs.specs.Differences.{count_row, ref_count, ref_total as total_rule, ref_alone, count_findings, has_extent, total_at, total_findings, total_row}
+use Rattle.btr_refs.specs.Differences.{count_row, ref_count, ref_total as total_rule, ref_alone, count_findings, total_findings}
 use Rattle.btr_refs.specs.Listed.{AreTallied, Ascends, IsOrdered, entries_of, met_times, tallied}
 use Rattle.btr_refs.specs.RefKey.{ref_cmp, same_ref}
 use Rattle.btr_refs.specs.declared.ref_key.RefKey.{RefKey}
@@ -289,29 +287,24 @@ module _ (refs : List Counted) (times : List ℕ) (others : RefCounts) (are : Ar
       joined false true l a e = refl
       joined false false l a e = refl
 
-module _ (refs : List Counted) (extents sorted : List Extent) (same : IsPermutation extents sorted) (one : Finding) where
-  same_has : has_extent sorted ≡ has_extent extents
-  same_has i addr = sym (list_any-IsPermutation (λ (extent : Extent). extent.addr == addr) extents sorted same) i
-
-  -- the rows of the extents, and of the references where there is none
-  pub total_rows : (a b c : Bool) → b ≡ (list_any (is_row (total_rule (entries_of refs)) one) extents || a)
-      → c ≡ (list_any (is_row (λ (ref : Counted). ref_alone sorted (entries_of refs) ref.key) one) refs || b)
-      → c ≡ (is_one_of (total_findings extents (entries_of refs)) one || a)
-  total_rows a b c first second =
-      let stored = entries_of refs in
-      let t : Bool = list_any (is_row (total_rule stored) one) extents in
-      let alone : Bool = list_any (is_row (ref_alone extents stored) one) (keys_of stored) in
-      second
-      ∙ ap (λ (has : ℕ → Bool). list_any (is_row (λ (ref : Counted). unless (has ref.key.addr) (total_row ref.key.addr 0 (total_at stored ref.key.addr))) one) refs || b) same_has
-      ∙ ap (λ x. x || b) (sym (any_entries (is_row (ref_alone extents stored) one) refs)) ∙ ap (λ x. alone || x) first
-      ∙ turned alone t a
-      ∙ ap (λ x. x || a)
-      (sym (list_any-append (is_same one) (filter_map (total_rule stored) extents) (filter_map (ref_alone extents stored) (keys_of stored))
-      ∙ ap (λ x. x || is_one_of (filter_map (ref_alone extents stored) (keys_of stored)) one) (rows-any (total_rule stored) one extents)
-      ∙ ap (λ x. t || x) (rows-any (ref_alone extents stored) one (keys_of stored))))
-    where
-      turned : (x y z : Bool) → (x || (y || z)) ≡ ((y || x) || z)
-      turned true true z = refl
-      turned true false z = refl
-      turned false true z = refl
-      turned false false z = refl
+-- the rows of the extents, and of the references where there is none
+pub total_rows : (refs : List Counted) (extents : List Extent) (one : Finding) (a b c : Bool)
+    → b ≡ (list_any (is_row (total_rule (entries_of refs)) one) extents || a)
+    → c ≡ (list_any (is_row (λ (ref : Counted). ref_alone extents (entries_of refs) ref.key) one) refs || b)
+    → c ≡ (is_one_of (total_findings extents (entries_of refs)) one || a)
+total_rows refs extents one a b c first second =
+    let stored = entries_of refs in
+    let t : Bool = list_any (is_row (total_rule stored) one) extents in
+    let alone : Bool = list_any (is_row (ref_alone extents stored) one) (keys_of stored) in
+    second ∙ ap (λ x. x || b) (sym (any_entries (is_row (ref_alone extents stored) one) refs)) ∙ ap (λ x. alone || x) first
+    ∙ turned alone t a
+    ∙ ap (λ x. x || a)
+    (sym (list_any-append (is_same one) (filter_map (total_rule stored) extents) (filter_map (ref_alone extents stored) (keys_of stored))
+    ∙ ap (λ x. x || is_one_of (filter_map (ref_alone extents stored) (keys_of stored)) one) (rows-any (total_rule stored) one extents)
+    ∙ ap (λ x. t || x) (rows-any (ref_alone extents stored) one (keys_of stored))))
+  where
+    turned : (x y z : Bool) → (x || (y || z)) ≡ ((y || x) || z)
+    turned true true z = refl
+    turned true false z = refl
+    turned false true z = refl
+    turned false false z = refl

@@ -1,14 +1,10 @@
 -- The extents of the extent tree, and the references to them that it stores.
-use Rattle.std.specs.Prelude.{◌≡◌, ℕ, ◌==◌, ◌||◌, ◌&&◌, Bool, true, false, is_ok, List, [], ◌++◌, map, fold, Some, Result, Ok, Err, filter_map, flat_map, option_map, option_to_list, if◌then◌else◌, ⊤}
+use Rattle.std.specs.Prelude.{◌≡◌, ℕ, ◌==◌, ◌||◌, Bool, true, List, [], ◌++◌, map, fold, Some, Result, Ok, Err, filter_map, flat_map, option_map, option_to_list, if◌then◌else◌}
 use Rattle.std.specs.List.{list_all}
 use Rattle.std.specs.Result.{result_ok}
-use Rattle.std.specs.declared.alloc.Global.{Global}
-use Rattle.std.specs.declared.vec.Vec.{Vec}
 use Rattle.btr_base.specs.declared.key.Key.{Key}
-use Rattle.btr_base.specs.declared.memory.Memory.{Memory}
 use Rattle.btr_items.specs.ExtentItem.{extent_item_of}
 use Rattle.btr_items.specs.InlineRef.{inline_refs_of}
-use Rattle.btr_items.specs.Item.{extent_fits}
 use Rattle.btr_items.specs.Key.{key_fits}
 use Rattle.btr_items.specs.LooseRef.{loose_ref_of}
 use Rattle.btr_items.specs.Types.{extent_item, metadata_item, tree_block_ref, extent_data_ref, shared_block_ref, shared_data_ref}
@@ -16,14 +12,12 @@ use Rattle.btr_items.specs.declared.extent_item.ExtentItem.{ExtentItem}
 use Rattle.btr_items.specs.declared.fault.ItemFault.{ItemFault}
 use Rattle.btr_items.specs.declared.inline_ref.InlineRef.{InlineRef}
 use Rattle.btr_items.specs.declared.loose_ref.LooseRef.{LooseRef}
-use Rattle.btr_walk.specs.Folds.{Next, Go, Broken}
+use Rattle.btr_tour.specs.Tour.{Mark, Block, Child, Item, Left, items_met}
 use Rattle.btr_walk.specs.Le.{TreeItem}
 use Rattle.btr_findings.specs.declared.extent.Extent.{Extent}
-use Rattle.btr_refs.specs.Counts.{RefCounts, counted}
+use Rattle.btr_refs.specs.Counts.{RefCounts, counted_all}
 use Rattle.btr_refs.specs.declared.counted.Counted.{Counted}
 use Rattle.btr_refs.specs.RefKey.{key_of}
-use Rattle.btr_refs.specs.declared.wanted.Wanted.{Wanted}
-use Rattle.btr_refs.specs.declared.wanted.Wanted.TheVariants.{All, Extents}
 
 -- a kind of item is an extent's
 abbrev pub is_extent : ℕ → Bool
@@ -87,82 +81,36 @@ extents_in nodesize items = flat_map (λ (item : TreeItem). extent_in nodesize i
 abbrev pub stored_in : List TreeItem → List Counted
 stored_in items = flat_map (λ (item : TreeItem). refs_in item.key item.body) items
 
--- an item that says something of extents has its form
-abbrev pub is_formed : Key → List ℕ → Bool
-is_formed key body =
-    if is_extent key.kind then key_fits key && extent_fits key.kind body
-    else if is_loose key.kind then is_ok (loose_ref_of key body)
-    else true
-
--- whether references are wanted, and how often each of those is stored that came, where they are
-pub record KeptRefs : Type 0 where
-  pub wanted : Bool
-  pub counts : RefCounts
-
--- what is kept before the first reference
-abbrev pub no_refs : Bool → KeptRefs
-no_refs wanted = record { wanted = wanted; counts = [] }
-
--- what is kept with one more reference
-abbrev pub ref_kept : KeptRefs → Counted → KeptRefs
-ref_kept kept one = record { wanted = kept.wanted; counts = if kept.wanted then counted kept.counts one else kept.counts }
-
--- what is kept with some more references
-abbrev pub refs_kept : KeptRefs → List Counted → KeptRefs
-refs_kept kept refs = fold ref_kept kept refs
-
--- references are kept, or the extents alone
-abbrev pub wants_refs : Wanted → Bool
-wants_refs All = true
-wants_refs (Extents room) = false
-
--- what is kept of some items: how long a node is, the references, and the extents
+-- what is kept of some items: how long a node is, how often each reference is stored, and the extents
 pub record Kept : Type 0 where
   pub nodesize : ℕ
-  pub refs : KeptRefs
+  pub refs : RefCounts
   pub extents : List Extent
 
 -- what is kept before the first item
-abbrev pub nothing_kept : ℕ → Bool → Kept
-nothing_kept nodesize wanted = record { nodesize = nodesize; refs = no_refs wanted; extents = [] }
+abbrev pub nothing_kept : ℕ → Kept
+nothing_kept nodesize = record { nodesize = nodesize; refs = []; extents = [] }
 
--- what is kept with one more item
+-- what is kept with what one more item says
 abbrev pub kept_with : Kept → TreeItem → Kept
 kept_with kept item = record {
   nodesize = kept.nodesize;
-  refs = refs_kept kept.refs (refs_in item.key item.body);
+  refs = counted_all kept.refs (refs_in item.key item.body);
   extents = kept.extents ++ extent_in kept.nodesize item.key item.body;
 }
 
--- one more item is kept; one that hasn't its form breaks its leaf
-abbrev pub kept_step : Kept → TreeItem → Next Kept Kept
-kept_step kept item = if is_formed item.key item.body then Go (kept_with kept item) else Broken
+-- what is kept with one more mark of a tour: an item alone says something, and none whose key breaks the rules of its type
+abbrev pub stored_step : Kept → Mark → Kept
+stored_step kept (Block place block) = kept
+stored_step kept (Child addr place) = kept
+stored_step kept (Item item) = if key_fits item.key then kept_with kept item else kept
+stored_step kept (Left fault) = kept
 
--- some references are kept, if they are formed
-abbrev pub AddsRefs : Bool → List Counted → KeptRefs → KeptRefs → Result Bool Memory → Type 0
-AddsRefs formed more old new (Ok true) = (formed ≡ true) × (new ≡ refs_kept old more)
-AddsRefs formed more old new (Ok false) = formed ≡ false
-AddsRefs formed more old new (Err e) = ⊤
+-- what some items say
+abbrev pub stored_of : ℕ → List TreeItem → Kept
+stored_of nodesize items = record { nodesize = nodesize; refs = counted_all [] (stored_in items); extents = extents_in nodesize items }
 
--- the references in an extent's item are kept from a place on, if they are formed
-abbrev pub AddsInline : ℕ → ℕ → List ℕ → KeptRefs → KeptRefs → Result Bool Memory → Type 0
-AddsInline addr first body old new result = AddsRefs (list_all is_ok (inline_refs_of first body)) (parts_counted addr (inline_refs_of first body)) old new result
-
--- the reference in an item of its own is kept, if it is formed
-abbrev pub AddsLoose : Key → List ℕ → KeptRefs → KeptRefs → Result Bool Memory → Type 0
-AddsLoose key body old new result = AddsRefs (is_ok (loose_ref_of key body)) (loose_refs key body) old new result
-
--- an item is kept, if it is formed
-abbrev pub AddsItem : Bool → List Counted → List Extent → KeptRefs → KeptRefs → List Extent → List Extent → Result Bool Memory → Type 0
-AddsItem formed refs extents old new listed listed' (Ok true) = (formed ≡ true) × (new ≡ refs_kept old refs) × (listed' ≡ listed ++ extents)
-AddsItem formed refs extents old new listed listed' (Ok false) = formed ≡ false
-AddsItem formed refs extents old new listed listed' (Err e) = ⊤
-
--- an extent is kept with the references in its item, if it is formed and its key fits
-abbrev pub AddsExtent : ℕ → Key → List ℕ → KeptRefs → KeptRefs → Vec Extent Global → Vec Extent Global → Result Bool Memory → Type 0
-AddsExtent nodesize key body old new listed listed' result =
-    AddsItem (key_fits key && extent_fits key.kind body) (inline_refs key.objectid body (extent_item_of key.kind body)) (extent_of nodesize key body) old new listed.items listed'.items result
-
--- an item of any kind is kept as what it is, if it is formed
-abbrev pub AddsAny : ℕ → Key → List ℕ → KeptRefs → KeptRefs → Vec Extent Global → Vec Extent Global → Result Bool Memory → Type 0
-AddsAny nodesize key body old new listed listed' result = AddsItem (is_formed key body) (refs_in key body) (extent_in nodesize key body) old new listed.items listed'.items result
+-- where the keys of all items keep the rules of their types, what is kept is what they say
+abbrev pub StoredLaw : Type 0
+StoredLaw = (nodesize : ℕ) (marks : List Mark) → list_all (λ (item : TreeItem). key_fits item.key) (items_met marks) ≡ true
+    → fold stored_step (nothing_kept nodesize) marks ≡ stored_of nodesize (items_met marks)

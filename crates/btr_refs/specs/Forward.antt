@@ -1,10 +1,9 @@
 -- What uses extents: trees use their root blocks, inner nodes their children, and files their data.
-use Rattle.std.specs.Prelude.{ℕ, ◌+◌, ◌-◌, ◌^◌, ◌%◌, ◌==◌, ◌≡◌, Bool, List, [], ◌∷◌, fold, map, flat_map, Option, Some, None, Result, Ok, Err, if◌then◌else◌}
-use Rattle.std.specs.BTreeSet.{insert_key}
-use Rattle.std.specs.Ordering.{nat_cmp, ordering_then}
-use Rattle.std.specs.declared.cmp.Ordering.{Ordering}
+use Rattle.std.specs.Prelude.{ℕ, ◌+◌, ◌-◌, ◌^◌, ◌%◌, ◌==◌, Bool, List, [], ◌∷◌, map, flat_map, Option, Some, None, Result, Ok, Err, if◌then◌else◌}
 use Rattle.btr_base.specs.Field.{number_at}
 use Rattle.btr_base.specs.declared.key.Key.{Key}
+use Rattle.btr_findings.specs.declared.extent.Extent.{Extent}
+use Rattle.btr_findings.specs.declared.finding.Finding.{Finding}
 use Rattle.btr_items.specs.FileExtent.{file_extent_of}
 use Rattle.btr_items.specs.Types.{extent_data}
 use Rattle.btr_items.specs.declared.fault.ItemFault.{ItemFault}
@@ -19,17 +18,13 @@ use Rattle.btr_node.specs.declared.node.Node.{Node}
 use Rattle.btr_node.specs.declared.node.Node.TheVariants.{Leaf, Inner}
 use Rattle.btr_volume.specs.declared.root.TreeRoot.{TreeRoot}
 use Rattle.btr_refs.specs.declared.forward.Origin.{Origin}
-use Rattle.btr_refs.specs.declared.uses.BlockUse.{BlockUse}
-use Rattle.btr_refs.specs.declared.uses.DataUse.{DataUse}
-use Rattle.btr_refs.specs.declared.uses.UsedExtents.{UsedExtents}
+use Rattle.btr_refs.specs.declared.used.Used.{Used}
+use Rattle.btr_refs.specs.declared.used.Used.TheVariants.{TreeBlock, Data}
 use Rattle.btr_refs.specs.Counts.{RefCounts, counted}
+use Rattle.btr_refs.specs.Extents.{Kept}
+use Rattle.btr_refs.specs.Misusing.{misused_at, with_findings}
 use Rattle.btr_refs.specs.declared.counted.Counted.{Counted}
 use Rattle.btr_refs.specs.RefKey.{key_of}
-
--- what is used: a tree block of a level, or data that is an extent of a length
-pub data Used : Type 0 where
-  TreeBlock : ℕ → Used
-  Data : ℕ → Used
 
 -- one use of the extent at an address
 pub record Use : Type 0 where
@@ -109,60 +104,39 @@ block_uses by_address addr level block = node_uses (origin_of by_address addr bl
 abbrev pub met : Use → Counted
 met one = record { key = key_of one.addr one.link; count = 1 }
 
--- uses as tree blocks are ordered by address, then level
-abbrev pub block_cmp : BlockUse → BlockUse → Ordering
-block_cmp a b = ordering_then (nat_cmp a.addr b.addr) (nat_cmp a.level b.level)
+-- what is wrong with the extents that are stored, by a use
+abbrev pub misused_by : Kept → Use → List Finding
+misused_by stored one = flat_map (misused_at stored.nodesize one.addr one.what) stored.extents
 
--- uses as data are ordered by address, then length
-abbrev pub data_cmp : DataUse → DataUse → Ordering
-data_cmp a b = ordering_then (nat_cmp a.addr b.addr) (nat_cmp a.len b.len)
+-- what is wrong with an extent, by all that uses it
+abbrev pub extent_findings : ℕ → List Use → Extent → List Finding
+extent_findings nodesize uses extent = flat_map (λ (one : Use). misused_at nodesize one.addr one.what extent) uses
 
--- what is kept of some uses: how often each reference is counted, and what each extent is used as
+-- what is kept of some uses: how often each reference is counted, and what is wrong with extents by them
 pub record Uses : Type 0 where
   pub refs : RefCounts
-  pub tree_blocks : List BlockUse
-  pub data_extents : List DataUse
+  pub misused : List Finding
 
 -- what is kept before the first use
 abbrev pub no_uses : Uses
-no_uses = record { refs = []; tree_blocks = []; data_extents = [] }
+no_uses = record { refs = []; misused = [] }
 
--- the uses as tree blocks with one more, if it is one
-abbrev pub blocks_with : List BlockUse → ℕ → Used → List BlockUse
-blocks_with blocks addr (TreeBlock level) = insert_key block_cmp blocks (record { addr = addr; level = level })
-blocks_with blocks addr (Data len) = blocks
-
--- the uses as data with one more, if it is one
-abbrev pub data_with : List DataUse → ℕ → Used → List DataUse
-data_with extents addr (TreeBlock level) = extents
-data_with extents addr (Data len) = insert_key data_cmp extents (record { addr = addr; len = len })
-
--- what is kept with one more use
-abbrev pub with_use : Uses → Use → Uses
-with_use uses one = record {
+-- what is kept with one more use, where these extents are stored
+abbrev pub with_use : Kept → Uses → Use → Uses
+with_use stored uses one = record {
   refs = counted uses.refs (met one);
-  tree_blocks = blocks_with uses.tree_blocks one.addr one.what;
-  data_extents = data_with uses.data_extents one.addr one.what;
+  misused = with_findings uses.misused (misused_by stored one);
 }
 
--- what is kept while uses are counted: how often each reference is stored, and what is kept of the uses
+-- what is kept while uses are counted: what is stored, and what is kept of the uses
 pub record Tally : Type 0 where
-  pub stored : RefCounts
+  pub stored : Kept
   pub uses : Uses
 
--- what is kept before the first use, where these references are stored
-abbrev pub nothing_counted : RefCounts → Tally
+-- what is kept before the first use, where these extents and references are stored
+abbrev pub nothing_counted : Kept → Tally
 nothing_counted stored = record { stored = stored; uses = no_uses }
 
 -- what is kept with one more use
 abbrev pub tally_with : Tally → Use → Tally
-tally_with tally one = record { stored = tally.stored; uses = with_use tally.uses one }
-
--- what is kept of some uses, from nothing on
-abbrev pub used_by : List Use → Uses
-used_by uses = fold with_use no_uses uses
-
--- these are the extents that some uses use
-pub record AreUsedBy (uses : List Use) (used : UsedExtents) : Type 0 where
-  pub tree_blocks : used.tree_blocks.keys ≡ (used_by uses).tree_blocks
-  pub data_extents : used.data_extents.keys ≡ (used_by uses).data_extents
+tally_with tally one = record { stored = tally.stored; uses = with_use tally.stored tally.uses one }

@@ -1,19 +1,17 @@
 // Where the references that are counted and those that are stored differ.
 ghost use Rattle.std.specs.Prelude.{◌≡◌, ◌+◌, ◌==◌, cond, length, OnOk, IfOk};
-ghost use Rattle.std.specs.List.Sorted.{IsNonDecreasingBy};
 ghost use Rattle.std.specs.Option.{option_to_list};
 ghost use Rattle.btr_findings.specs.Findings.{Adds, PutsRow, PutsRows};
-ghost use Rattle.btr_findings.specs.declared.extent.Extent.{Extent};
 ghost use Rattle.btr_refs.specs.Differences.{count_row, ref_total, count_findings, total_findings, PutsAlone, PutsListed};
 ghost use Rattle.btr_refs.specs.Differences as rows;
 ghost use Rattle.btr_refs.specs.Listed.{entries_of, Ascends};
 
+use crate::extent_list::ExtentList;
 use crate::ref_list::refs_at;
-use crate::{Counted, Forward, RefKey, RefList, Stored};
+use crate::{Counted, Forward, RefKey, StoredList};
 use btr_base::Memory;
 use btr_findings::{Extent, Finding, Found, Kind, insert, put_unless, shown};
-use std::alloc::Global;
-use std::collections::BTreeMap;
+use std::collections::{BTreeMap, BTreeSet};
 
 // A reference that is counted and stored differently.
 fn put_ref_count(found: &mut Found, key: &RefKey, counted: u64, stored: u64) -> Result<(), Memory>
@@ -79,14 +77,18 @@ fn total_at(refs: &[Counted], addr: u64) -> Result<u128, Memory>
     Ok(total)
 }
 
-// Whether an extent is at an address, among some by their addresses.
-fn has_extent(extents: &[Extent], addr: u64) -> bool
-    requires { IsNonDecreasingBy (λ (extent : Extent). extent.addr) extents.now }
+// Whether one of some extents is at an address.
+fn is_any_at(extents: &[Extent], addr: u64) -> bool
     ensures { result ≡ rows.has_extent extents.now addr }
 {
-    extents
-        .binary_search_by_key(&addr, |extent| extent.addr)
-        .is_ok()
+    extents.iter().any(|extent| extent.addr == addr)
+}
+
+// The same of a list.
+fn has_extent(extents: &ExtentList, addr: u64) -> bool
+    ensures { result ≡ rows.has_extent extents.now addr }
+{
+    is_any_at(extents.at(addr), addr)
 }
 
 // The finding on an extent that states `refs`, and of none where that is 0.
@@ -120,9 +122,8 @@ fn put_ref_totals(found: &mut Found, extents: &[Extent], refs: &[Counted]) -> Re
 }
 
 // The references that are stored where there is no extent.
-fn put_ref_alone(found: &mut Found, refs: &[Counted], extents: &[Extent]) -> Result<(), Memory>
-    requires ascends { Ascends refs.now }
-    requires extents { IsNonDecreasingBy (λ (extent : Extent). extent.addr) extents.now }
+fn put_ref_alone(found: &mut Found, refs: &[Counted], extents: &ExtentList) -> Result<(), Memory>
+    requires { Ascends refs.now }
     ensures { OnOk result (PutsAlone refs.now extents.now found.old found.new) }
 {
     for one in refs {
@@ -137,28 +138,37 @@ fn put_ref_alone(found: &mut Found, refs: &[Counted], extents: &[Extent]) -> Res
 /// Puts the findings on references into a set: a reference that is counted and stored differently. `Memory`: there is no memory;
 /// then nothing is said of the set.
 pub fn put_count_findings(found: &mut Found, forward: &Forward) -> Result<(), Memory>
-    ensures { OnOk result (Adds (count_findings forward.now.uses.refs forward.now.stored) found.old found.new) }
+    ensures { OnOk result (Adds (count_findings forward.now.uses.refs forward.now.stored.refs) found.old found.new) }
 {
     put_listed(found, &forward.stored, &forward.times)?;
     put_others(found, &forward.others)
 }
 
 /// Puts the findings on sums of references into a set: an extent that states another sum than that of the references to its
-/// address that are stored; and an address that has such references, be it 0 times, and no extent. Of what is stored, the references
-/// alone are kept. `Memory`: there is no memory; then nothing is said of the set.
-pub fn put_total_findings(
-    alloc: Global,
-    found: &mut Found,
-    stored: Stored,
-) -> Result<RefList, Memory>
-    ensures found { IfOk result (λ refs. Adds (total_findings stored.extents stored.refs.counts) found.old found.new) }
-    ensures refs { IfOk result (λ refs. refs ≡ stored.refs.counts) }
+/// address that are stored; and an address that has such references, be it 0 times, and no extent. `Memory`: there is no memory; then
+/// nothing is said of the set.
+pub fn put_total_findings(found: &mut Found, stored: &StoredList) -> Result<(), Memory>
+    ensures { OnOk result (Adds (total_findings stored.now.extents stored.now.refs) found.old found.new) }
 {
-    let (refs, mut extents) = stored.into_parts();
-    let list = RefList::of(alloc, refs)?;
-    let refs = list.as_slice();
-    put_ref_totals(found, &extents, refs)?;
-    extents.sort_unstable_by_key(|extent| extent.addr);
-    put_ref_alone(found, refs, &extents)?;
-    Ok(list)
+    let refs = stored.refs();
+    put_ref_totals(found, stored.extents(), refs)?;
+    put_ref_alone(found, refs, &stored.extents)
+}
+
+// Puts findings into a set.
+fn put_each(found: &mut Found, findings: &BTreeSet<Finding>) -> Result<(), Memory>
+    ensures { OnOk result (Adds findings.now.keys found.old found.new) }
+{
+    for finding in findings {
+        insert(found, *finding)?;
+    }
+    Ok(())
+}
+
+/// Puts the findings on uses into a set: an extent of another kind, length or level than it is used as. `Memory`: there is no memory;
+/// then nothing is said of the set.
+pub fn put_use_findings(found: &mut Found, forward: &Forward) -> Result<(), Memory>
+    ensures { OnOk result (Adds forward.now.uses.misused found.old found.new) }
+{
+    put_each(found, &forward.misused)
 }

@@ -1,13 +1,16 @@
 // What uses extents: trees use their root blocks, nodes their children, and files their data.
 ghost use Rattle.std.specs.Prelude.{◌≡◌, ◌≤◌, ◌+◌, length, fold, map, replicate, IfOk, OnOk, OnErr};
 ghost use Rattle.btr_refs.specs.Counts.{counted};
-ghost use Rattle.btr_refs.specs.Forward.{tree_link, file_link, tally_with, root_use, block_use, data_use, range_uses, item_uses, leaf_uses, child_use, block_uses};
+ghost use Rattle.btr_refs.specs.Forward.{tree_link, file_link, tally_with, root_use, range_uses, item_uses, leaf_uses, child_use, block_uses};
 ghost use Rattle.btr_refs.specs.Listed.{tallied, AreTallied};
 
 use crate::counts::add;
+use crate::extent_list::ExtentList;
+use crate::misusing::keep_all_misused;
 use crate::ref_list::place;
-use crate::{BlockUse, Counted, DataUse, RefKey, RefList, UsedExtents};
+use crate::{Counted, RefKey, StoredList, Used};
 use btr_base::{Key, Memory, u64_at};
+use btr_findings::{Extent, Finding};
 use btr_items::{FileExtent, Link, Shape, item};
 use btr_node::{Inner, Leaf, Node};
 use btr_volume::TreeRoot;
@@ -19,14 +22,15 @@ use std::marker::Model;
 const OWNER: usize = 0x58;
 
 /// The references to extents that are counted: each use of an extent by a tree, a node or a file is one. Most are stored, and
-/// are counted beside the list of those; only the others stand in a map.
+/// are counted beside the list of those; only the others stand in a map. What is wrong with extents by their uses is kept too.
 #[derive(Drop)]
 pub struct Forward {
     pub(crate) stored: Vec<Counted>,
     pub(crate) times: Vec<u64>,
     pub(crate) others: BTreeMap<RefKey, u64>,
-    tree_blocks: BTreeSet<BlockUse>,
-    data_extents: BTreeSet<DataUse>,
+    nodesize: u64,
+    extents: ExtentList,
+    pub(crate) misused: BTreeSet<Finding>,
 }
 
 /// The block that uses extents, and whether it refers to them by its address or by its owner.
@@ -44,11 +48,10 @@ impl Model for Forward {
     ghost Value = { Tally };
 
     ghost view = { λ forward. record {
-      stored = entries_of forward.stored.items;
+      stored = record { nodesize = forward.nodesize; refs = entries_of forward.stored.items; extents = forward.extents };
       uses = record {
         refs = tallied forward.stored.items forward.times.items forward.others.entries;
-        tree_blocks = forward.tree_blocks.keys;
-        data_extents = forward.data_extents.keys;
+        misused = forward.misused.keys;
       };
     } };
 
@@ -125,38 +128,34 @@ fn file_link(from: &Origin, objectid: u64, offset: u64) -> Link
 
 impl Forward {
     ghost use Rattle.std.specs.Prelude.{◌≡◌, ◌≤◌, length, fold, IfOk, OnOk};
-    ghost use Rattle.btr_refs.specs.Forward.{nothing_counted, tally_with, root_use, block_use, data_use, block_uses};
+    ghost use Rattle.btr_refs.specs.Forward.{nothing_counted, tally_with, root_use, block_uses};
 
-    /// Nothing is counted yet, where these references are stored. `Memory`: there is no memory to count them.
-    pub fn new(alloc: Global, stored: RefList) -> Result<Forward, Memory>
+    /// Nothing is counted yet, where these extents and references are stored. `Memory`: there is no memory to count them.
+    pub fn new(alloc: Global, stored: StoredList) -> Result<Forward, Memory>
         ensures { IfOk result (λ forward. forward ≡ nothing_counted stored) }
     {
-        let stored = stored.into_refs();
-        let times = zeros(alloc, stored.len())?;
+        let refs = stored.refs.into_refs();
+        let times = zeros(alloc, refs.len())?;
         Ok(Forward {
-            stored,
+            stored: refs,
             times,
             others: BTreeMap::new(alloc),
-            tree_blocks: BTreeSet::new(alloc),
-            data_extents: BTreeSet::new(alloc),
+            nodesize: stored.nodesize,
+            extents: stored.extents,
+            misused: BTreeSet::new(alloc),
         })
     }
 
-    /// The extents that are used, where nothing else is asked of the uses any more.
-    pub fn into_extents(self) -> UsedExtents
-        ensures tree_blocks { result.tree_blocks.keys ≡ self.uses.tree_blocks }
-        ensures data_extents { result.data_extents.keys ≡ self.uses.data_extents }
+    /// The extents that are stored, in the order of their items, where nothing else is asked any more.
+    pub fn into_extents(self) -> Vec<Extent>
+        ensures { result.items ≡ self.stored.extents }
     {
-        UsedExtents {
-            tree_blocks: self.tree_blocks,
-            data_extents: self.data_extents,
-        }
+        self.extents.into_extents()
     }
 
-    /// Counts a use of the extent at an address as a tree block. `Memory`: there is no memory for it; then nothing is said of what
-    /// was counted.
-    pub fn use_block(&mut self, addr: u64, link: Link, level: u8) -> Result<(), Memory>
-        ensures { OnOk result (self.new ≡ tally_with self.old (block_use addr link level)) }
+    /// Counts a use of the extent at an address. `Memory`: there is no memory for it; then nothing is said of what was counted.
+    pub fn use_extent(&mut self, addr: u64, link: Link, used: Used) -> Result<(), Memory>
+        ensures { OnOk result (self.new ≡ tally_with self.old (record { addr = addr; link = link; what = used })) }
     {
         count(
             &self.stored,
@@ -164,38 +163,19 @@ impl Forward {
             &mut self.others,
             RefKey::new(addr, link),
         )?;
-        match self.tree_blocks.insert(BlockUse { addr, level }) {
-            Ok(_) => Ok(()),
-            Err(_) => Err(Memory),
-        }
+        keep_all_misused(&mut self.misused, self.nodesize, &self.extents, addr, used)
     }
 
-    /// Counts a use of the extent at an address as data, of which a file says that it has so many bytes. `Memory`: there is no
-    /// memory for it; then nothing is said of what was counted.
-    pub fn use_data(&mut self, addr: u64, link: Link, len: u64) -> Result<(), Memory>
-        ensures { OnOk result (self.new ≡ tally_with self.old (data_use addr link len)) }
-    {
-        count(
-            &self.stored,
-            &mut self.times,
-            &mut self.others,
-            RefKey::new(addr, link),
-        )?;
-        match self.data_extents.insert(DataUse { addr, len }) {
-            Ok(_) => Ok(()),
-            Err(_) => Err(Memory),
-        }
-    }
-
-    /// Counts the use of a tree's root block, to which it refers by its id. `Memory`: as in `use_block`.
+    /// Counts the use of a tree's root block, to which it refers by its id. `Memory`: as in `use_extent`.
     pub fn add_root(&mut self, root: &TreeRoot) -> Result<(), Memory>
         ensures { OnOk result (self.new ≡ tally_with self.old (root_use root.now)) }
     {
-        self.use_block(root.place.addr, Link::Tree(root.id), root.place.level)
+        let used = Used::TreeBlock(root.place.level);
+        self.use_extent(root.place.addr, Link::Tree(root.id), used)
     }
 
     /// Counts what the block of a level at an address uses: a node its children, and a leaf the data that its files have. Where
-    /// `by_address` is true the block refers by its address, and else by its owner. `Memory`: as in `use_block`.
+    /// `by_address` is true the block refers by its address, and else by its owner. `Memory`: as in `use_extent`.
     pub fn add_block(
         &mut self,
         addr: u64,
@@ -234,7 +214,7 @@ fn add_range(
         return Ok(());
     }
     let link = file_link(from, key.objectid, key.offset.wrapping_sub(skip));
-    forward.use_data(addr, link, disk_len)
+    forward.use_extent(addr, link, Used::Data(disk_len))
 }
 
 // Counts the use by an item of a leaf.
@@ -284,8 +264,9 @@ fn add_children(
     ensures { OnOk result (forward.new ≡ fold tally_with forward.old (map (child_use from.now level) node.now)) }
 {
     let link = tree_link(from);
+    let used = Used::TreeBlock(level.saturating_sub(1));
     for i in 0..node.count() {
-        forward.use_block(node.child(i).addr, link, level.saturating_sub(1))?;
+        forward.use_extent(node.child(i).addr, link, used)?;
     }
     Ok(())
 }

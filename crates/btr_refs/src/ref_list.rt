@@ -14,7 +14,7 @@ use std::marker::Model;
 
 /// The references that are stored, in their order and each once, with how often each is. A list takes half the memory of a map.
 #[derive(Drop)]
-pub struct RefList {
+pub(crate) struct RefList {
     refs: Vec<Counted>,
 }
 
@@ -36,7 +36,7 @@ impl RefList {
 
     /// References as they are met, in whatever order and however often. `Memory`: some are met again, and there is no memory for
     /// their sums, or one would pass the greatest number there is.
-    pub fn of(alloc: Global, mut refs: Vec<Counted>) -> Result<RefList, Memory>
+    pub(crate) fn of(alloc: Global, mut refs: Vec<Counted>) -> Result<RefList, Memory>
         ensures { IfOk result (λ list. list ≡ counted_all [] refs.items) }
     {
         refs.sort_unstable_by_key(|one| one.key);
@@ -56,7 +56,7 @@ impl RefList {
     }
 
     /// The same, lent.
-    pub fn as_slice(&self) -> &[Counted]
+    pub(crate) fn as_slice(&self) -> &[Counted]
         ensures ascends { Ascends result.now }
         ensures same { entries_of result.now ≡ self.now }
     {

@@ -1,19 +1,22 @@
 // What the extent tree says of extents.
-ghost use Rattle.std.specs.Prelude.{◌≡◌, ◌≤◌, [], length, IsTrue};
+ghost use Rattle.std.specs.Prelude.{◌≡◌, ◌≤◌, ◌++◌, length, IsTrue, OnOk};
+ghost use Rattle.btr_items.specs.ExtentItem.{extent_item_of};
+ghost use Rattle.btr_items.specs.InlineRef.{inline_refs_of};
 ghost use Rattle.btr_items.specs.Key as key_rules;
-ghost use Rattle.btr_refs.specs.Extents.{is_extent, extent_with, AddsInline, AddsLoose, AddsExtent, AddsAny};
+ghost use Rattle.btr_refs.specs.Counts.{counted_all};
+ghost use Rattle.btr_refs.specs.Extents.{StoredLaw, is_extent, extent_with, extent_of, extent_in, inline_refs, loose_refs, parts_counted, refs_in};
 
+use crate::StoredList;
 use crate::ref_store::RefStore;
-use crate::{Counted, Wanted};
 use btr_base::{Key, Memory};
-use btr_findings::{Extent, push, with_room};
+use btr_findings::{Extent, push};
 use btr_items::{ExtentItem, LooseRef, inline_refs, item, key_fits};
-use btr_walk::{Folder, Found, Took};
+use btr_tour::{Met, Visitor};
 use std::alloc::Global;
 use std::marker::Model;
 
-/// The extents of the extent tree, in the order of their items, and, where they are wanted, how often each reference to an extent
-/// is stored: in the extents' items, and in items of their own.
+/// What a visit of the extent tree meets: the extents, in the order of their items, and how often each reference to an extent is
+/// stored, in the extents' items and in items of their own.
 #[derive(Drop)]
 pub struct Stored {
     nodesize: u64,
@@ -30,51 +33,26 @@ impl Model for Stored {
 }
 
 impl Stored {
-    ghost use Rattle.std.specs.Prelude.{◌≡◌, []};
-    ghost use Rattle.btr_refs.specs.Counts.{counted_all};
-    ghost use Rattle.btr_refs.specs.Extents.{nothing_kept, wants_refs};
+    ghost use Rattle.std.specs.Prelude.{◌≡◌, IfOk};
+    ghost use Rattle.btr_refs.specs.Extents.{nothing_kept};
 
     /// Nothing is stored yet. A node has `nodesize` bytes.
-    pub fn new(alloc: Global, nodesize: u64, wanted: Wanted) -> Stored
-        ensures { result ≡ nothing_kept nodesize (wants_refs wanted) }
+    pub fn new(alloc: Global, nodesize: u64) -> Stored
+        ensures { result ≡ nothing_kept nodesize }
     {
         Stored {
             nodesize,
-            refs: RefStore::new(alloc, wanted.refs()),
-            extents: room_for(alloc, wanted.room()),
+            refs: RefStore::new(alloc),
+            extents: Vec::new(alloc),
         }
     }
 
-    /// The extents alone, in the order of their items.
-    pub fn into_extents(self) -> Vec<Extent>
-        ensures { result.items ≡ self.extents }
+    /// The same as lists, by which references and extents are found. `Memory`: some references are met again, and there is no memory
+    /// for their sums, or one would pass the greatest number there is.
+    pub fn into_list(self, alloc: Global) -> Result<StoredList, Memory>
+        ensures { IfOk result (λ list. list ≡ self) }
     {
-        self.extents
-    }
-
-    /// The references as they came, and the extents.
-    pub(crate) fn into_parts(self) -> (Vec<Counted>, Vec<Extent>)
-        ensures refs { counted_all [] result.0.items ≡ self.refs.counts }
-        ensures extents { result.1.items ≡ self.extents }
-    {
-        (self.refs.into_refs(), self.extents)
-    }
-
-    /// The extents, in the order of their items.
-    pub fn extents(&self) -> &[Extent]
-        ensures { result.now ≡ self.now.extents }
-    {
-        self.extents.as_slice()
-    }
-}
-
-// A list that has room for some extents, if there is memory for it.
-fn room_for(alloc: Global, room: usize) -> Vec<Extent>
-    ensures { result.items ≡ [] }
-{
-    match with_room(alloc, room) {
-        Ok(list) => list,
-        Err(Memory) => Vec::new(alloc),
+        StoredList::of(alloc, self.nodesize, self.refs.into_refs(), self.extents)
     }
 }
 
@@ -98,61 +76,60 @@ fn extent_with(nodesize: u64, key: Key, extent: &ExtentItem) -> Extent
     }
 }
 
-// Keeps the inline references from a place of an extent's item on. The answer is whether they have their form.
-fn add_inline(refs: &mut RefStore, addr: u64, body: &[u8], first: usize) -> Result<bool, Memory>
+// Keeps the inline references from a place of an extent's item on that have their form.
+fn add_inline(refs: &mut RefStore, addr: u64, body: &[u8], first: usize) -> Result<(), Memory>
     requires { first ≤ length body.now }
-    ensures { AddsInline addr first body.now refs.old refs.new result }
+    ensures { OnOk result (refs.new ≡ counted_all refs.old (parts_counted addr (inline_refs_of first body.now))) }
 {
     for part in inline_refs(body, first) {
-        let Ok(part) = part else {
-            return Ok(false);
-        };
-        refs.keep(addr, part.link, part.count)?;
+        if let Ok(part) = part {
+            refs.keep(addr, part.link, part.count)?;
+        }
     }
-    Ok(true)
+    Ok(())
 }
 
-// Keeps an extent and the references in its item. The answer is whether the item has its form.
+// Keeps an extent and the references in its item, if that is one.
 fn add_extent(
     refs: &mut RefStore,
     extents: &mut Vec<Extent>,
     nodesize: u64,
     key: Key,
     body: &[u8],
-) -> Result<bool, Memory>
+) -> Result<(), Memory>
     requires kind { IsTrue (is_extent key.kind) }
-    ensures { AddsExtent nodesize key body.now refs.old refs.new extents.old extents.new result }
+    requires key { IsTrue (key_rules.key_fits key) }
+    ensures refs { OnOk result (refs.new ≡ counted_all refs.old (inline_refs key.objectid body.now (extent_item_of key.kind body.now))) }
+    ensures extents { OnOk result (extents.new.items ≡ extents.old.items ++ extent_of nodesize key body.now) }
 {
     let Ok(extent) = ExtentItem::read(key.kind, body) else {
-        return Ok(false);
+        return Ok(());
     };
-    if !key_fits(key) || !add_inline(refs, key.objectid, body, extent.first)? {
-        return Ok(false);
-    }
-    push(extents, extent_with(nodesize, key, &extent))?;
-    Ok(true)
+    add_inline(refs, key.objectid, body, extent.first)?;
+    push(extents, extent_with(nodesize, key, &extent))
 }
 
-// Keeps the reference in an item of its own. The answer is whether the item has its form.
-fn add_loose(refs: &mut RefStore, key: Key, body: &[u8]) -> Result<bool, Memory>
-    ensures { AddsLoose key body.now refs.old refs.new result }
+// Keeps the reference in an item of its own, if that is one.
+fn add_loose(refs: &mut RefStore, key: Key, body: &[u8]) -> Result<(), Memory>
+    ensures { OnOk result (refs.new ≡ counted_all refs.old (loose_refs key body.now)) }
 {
-    let Ok(part) = LooseRef::read(key, body) else {
-        return Ok(false);
-    };
-    refs.keep(key.objectid, part.link, part.count)?;
-    Ok(true)
+    match LooseRef::read(key, body) {
+        Ok(part) => refs.keep(key.objectid, part.link, part.count),
+        Err(_) => Ok(()),
+    }
 }
 
-// Keeps what an item says of extents. The answer is whether it has its form.
+// Keeps what an item says of extents.
 fn keep(
     refs: &mut RefStore,
     extents: &mut Vec<Extent>,
     nodesize: u64,
     key: Key,
     body: &[u8],
-) -> Result<bool, Memory>
-    ensures { AddsAny nodesize key body.now refs.old refs.new extents.old extents.new result }
+) -> Result<(), Memory>
+    requires { IsTrue (key_rules.key_fits key) }
+    ensures refs { OnOk result (refs.new ≡ counted_all refs.old (refs_in key body.now)) }
+    ensures extents { OnOk result (extents.new.items ≡ extents.old.items ++ extent_in nodesize key body.now) }
 {
     match key.kind {
         item::EXTENT_ITEM | item::METADATA_ITEM => add_extent(refs, extents, nodesize, key, body),
@@ -160,27 +137,29 @@ fn keep(
         | item::EXTENT_DATA_REF
         | item::SHARED_BLOCK_REF
         | item::SHARED_DATA_REF => add_loose(refs, key, body),
-        _ => Ok(true),
+        _ => Ok(()),
     }
 }
 
-impl Folder<Stored, Memory> for Stored {
-    ghost use Rattle.btr_refs.specs.Extents.{kept_step};
+impl Visitor<Memory> for Stored {
+    ghost use Rattle.btr_refs.specs.Extents.{stored_step};
 
-    ghost step = { kept_step };
+    ghost step = { stored_step };
 
-    ghost answer = { λ stored. stored };
-
-    fn take(&mut self, found: &Found<'_>) -> Result<Took<Stored>, Memory> {
-        let (key, body) = (found.key, found.body);
-        if keep(&mut self.refs, &mut self.extents, self.nodesize, key, body)? {
-            Ok(Took::Go)
-        } else {
-            Ok(Took::Broken)
+    fn meet(&mut self, met: &Met<'_>) -> Result<(), Memory> {
+        let Met::Item(found) = met else {
+            return Ok(());
+        };
+        if !key_fits(found.key) {
+            return Ok(());
         }
-    }
-
-    fn end(self) -> Stored {
-        self
+        let (key, body) = (found.key, found.body);
+        keep(&mut self.refs, &mut self.extents, self.nodesize, key, body)
     }
 }
+
+/// Where the keys of all items keep the rules of their types, what a visit keeps is what the items say. This function is the law: its
+/// contract says it, and its body is empty.
+pub fn stored_law()
+    ensures { StoredLaw }
+{}

@@ -1,18 +1,20 @@
 // Where counted and stored references differ.
-use super::stores::{DATA, extent, file, loose, shared, take};
+use super::stores::{DATA, extent, file, loose, meet, shared};
 use btr_base::Memory;
 use btr_findings::{Finding, Found, Kind};
 use btr_items::item;
-use btr_refs::{Forward, RefList, Stored, Wanted, put_count_findings, put_total_findings};
+use btr_refs::{
+    Forward, Stored, StoredList, Used, put_count_findings, put_total_findings, put_use_findings,
+};
 use std::alloc::Global;
 use std::process::Abort;
 use std::test::Fail;
 
-// A use of the data extent by each of these inodes, where these references are stored.
-fn used_by(alloc: Global, stored: RefList, inodes: &[u64]) -> Result<Forward, Memory> {
+// A use of the data extent by each of these inodes, where this is stored.
+fn used_by(alloc: Global, stored: StoredList, inodes: &[u64]) -> Result<Forward, Memory> {
     let mut forward = Forward::new(alloc, stored)?;
     for inode in inodes {
-        forward.use_data(DATA, file(*inode), 4096)?;
+        forward.use_extent(DATA, file(*inode), Used::Data(4096))?;
     }
     Ok(forward)
 }
@@ -42,8 +44,10 @@ fn finds(
     wanted: &[Finding],
 ) -> Result<(), Fail> {
     let mut found = Found::new(alloc);
-    let refs = put_total_findings(alloc, &mut found, stored)?;
-    put_count_findings(&mut found, &used_by(alloc, refs, inodes)?)?;
+    let stored = stored.into_list(alloc)?;
+    put_total_findings(&mut found, &stored)?;
+    let forward = used_by(alloc, stored, inodes)?;
+    put_count_findings(&mut found, &forward)?;
     let found = found.list(alloc)?.to_vec(alloc)?;
     assert_eq!(rt; found.len(), wanted.len());
     for (one, other) in found.iter().zip(wanted) {
@@ -85,8 +89,8 @@ fn an_extent_of_two_files(rt: HostRuntime) -> Result<(), Fail> {
 
 // A reference that is stored so often, where there is no extent.
 fn alone(alloc: Global, count: u32) -> Result<Stored, Fail> {
-    let mut stored = Stored::new(alloc, 16384, Wanted::All);
-    take(
+    let mut stored = Stored::new(alloc, 16384);
+    meet(
         &mut stored,
         item::EXTENT_DATA_REF,
         1,
@@ -119,11 +123,37 @@ fn references_without_an_extent(rt: HostRuntime) -> Result<(), Fail> {
 fn two_extents_at_one_address(rt: HostRuntime) -> Result<(), Fail> {
     let alloc = rt.alloc();
     let mut stored = shared(alloc, 3)?;
-    take(
+    meet(
         &mut stored,
         item::EXTENT_ITEM,
         8192,
         extent(alloc, 1)?.as_slice(),
     )?;
     finds(&rt, alloc, &[260, 260, 261], stored, &[ref_total(1, 3)])
+}
+
+// The findings on the data extent where it is used so.
+fn misused(alloc: Global, used: Used) -> Result<Vec<Finding>, Fail> {
+    let mut forward = Forward::new(alloc, shared(alloc, 2)?.into_list(alloc)?)?;
+    forward.use_extent(DATA, file(260), used)?;
+    forward.use_extent(DATA + 4096, file(260), Used::TreeBlock(1))?;
+    let mut found = Found::new(alloc);
+    put_use_findings(&mut found, &forward)?;
+    Ok(found.list(alloc)?.to_vec(alloc)?)
+}
+
+#[test]
+fn an_extent_that_is_used_otherwise(rt: HostRuntime) -> Result<(), Fail> {
+    let alloc = rt.alloc();
+    assert_eq!(rt; misused(alloc, Used::Data(4096))?.len(), 0);
+    let longer = misused(alloc, Used::Data(8192))?;
+    assert_eq!(rt; longer.len(), 1);
+    assert_eq!(rt; longer[0].kind, Kind::ExtentLength);
+    assert_eq!(rt; longer[0].n, [DATA, 4096, 8192, 0, 0, 0, 0]);
+    let block = misused(alloc, Used::TreeBlock(0))?;
+    assert_eq!(rt; block.len(), 2);
+    assert_eq!(rt; block[0].kind, Kind::ExtentKind);
+    assert_eq!(rt; block[0].n, [DATA, 1, 0, 0, 0, 0, 0]);
+    assert_eq!(rt; block[1].n, [DATA, 4096, 16384, 0, 0, 0, 0]);
+    Ok(())
 }

@@ -2,8 +2,9 @@
 use btr_base::{Key, Memory};
 use btr_items::{ExtentFlags, Link, item};
 use btr_make_blocks::Body;
-use btr_refs::{RefKey, RefList, Stored, Wanted, put_total_findings};
-use btr_walk::{Folder, Found, Took};
+use btr_refs::{RefKey, Stored, StoredList};
+use btr_tour::{Met, Visitor};
+use btr_walk::Found;
 use std::alloc::{AllocError, Global};
 use std::test::Fail;
 
@@ -46,35 +47,20 @@ pub(super) fn loose(alloc: Global, count: u32) -> Result<Body, AllocError> {
     Body::new(alloc).u64(5)?.u64(261)?.u64(0)?.u32(count)
 }
 
-/// Takes an item; the answer is whether it has its form.
-pub(super) fn take(
-    stored: &mut Stored,
-    kind: u8,
-    offset: u64,
-    body: &[u8],
-) -> Result<bool, Memory> {
-    let found = Found {
+/// Meets an item.
+pub(super) fn meet(stored: &mut Stored, kind: u8, offset: u64, body: &[u8]) -> Result<(), Memory> {
+    stored.meet(&Met::Item(Found {
         key: key(kind, offset),
         block: 2129920,
         body,
-    };
-    match stored.take(&found)? {
-        Took::Go => Ok(true),
-        Took::End(_) | Took::Broken => Ok(false),
-    }
-}
-
-/// The references that are stored.
-pub(super) fn refs_of(alloc: Global, stored: Stored) -> Result<RefList, Memory> {
-    let mut found = btr_findings::Found::new(alloc);
-    put_total_findings(alloc, &mut found, stored)
+    }))
 }
 
 /// How often a reference to the data extent is stored.
-pub(super) fn times(refs: &RefList, link: Link) -> u64 {
+pub(super) fn times(stored: &StoredList, link: Link) -> u64 {
     let key = RefKey::new(DATA, link);
     let mut times = 0;
-    for one in refs.as_slice() {
+    for one in stored.refs() {
         if one.key == key {
             times = one.count;
         }
@@ -84,14 +70,14 @@ pub(super) fn times(refs: &RefList, link: Link) -> u64 {
 
 /// The extent with two references, one in its item and one in an item of its own.
 pub(super) fn shared(alloc: Global, refs: u64) -> Result<Stored, Fail> {
-    let mut stored = Stored::new(alloc, 16384, Wanted::All);
-    take(
+    let mut stored = Stored::new(alloc, 16384);
+    meet(
         &mut stored,
         item::EXTENT_ITEM,
         4096,
         extent(alloc, refs)?.as_slice(),
     )?;
-    take(
+    meet(
         &mut stored,
         item::EXTENT_DATA_REF,
         1,
@@ -103,27 +89,29 @@ pub(super) fn shared(alloc: Global, refs: u64) -> Result<Stored, Fail> {
 #[test]
 fn inline_and_loose_references_are_stored(rt: HostRuntime) -> Result<(), Fail> {
     let alloc = rt.alloc();
-    let stored = shared(alloc, 2)?;
+    let stored = shared(alloc, 2)?.into_list(alloc)?;
     assert_eq!(rt; stored.extents().len(), 1);
     assert_eq!(rt; stored.extents()[0].len, 4096);
     assert_eq!(rt; stored.extents()[0].refs, 2);
-    let refs = refs_of(alloc, stored)?;
     for (objectid, count) in [(259, 0), (260, 1), (261, 1)] {
-        assert_eq!(rt; times(&refs, file(objectid)), count);
+        assert_eq!(rt; times(&stored, file(objectid)), count);
     }
     Ok(())
 }
 
 #[test]
-fn other_items_say_nothing_and_broken_ones_are_told(rt: HostRuntime) -> Result<(), Fail> {
+fn other_items_and_broken_ones_say_nothing(rt: HostRuntime) -> Result<(), Fail> {
     let alloc = rt.alloc();
-    let mut stored = Stored::new(alloc, 16384, Wanted::All);
-    assert!(rt; take(&mut stored, item::BLOCK_GROUP_ITEM, 4096, &[])?);
-    assert!(rt; !take(&mut stored, item::EXTENT_ITEM, 4096, &[0; 23])?);
-    assert!(rt; !take(&mut stored, item::EXTENT_DATA_REF, 1, &[0; 27])?);
+    let mut stored = Stored::new(alloc, 16384);
+    meet(&mut stored, item::BLOCK_GROUP_ITEM, 4096, &[])?;
+    meet(&mut stored, item::EXTENT_ITEM, 4096, &[0; 23])?;
+    meet(&mut stored, item::EXTENT_DATA_REF, 1, &[0; 27])?;
+    // A level that no block has.
+    let extent = extent(alloc, 1)?;
+    meet(&mut stored, item::METADATA_ITEM, 8, extent.as_slice())?;
+    let stored = stored.into_list(alloc)?;
     assert_eq!(rt; stored.extents().len(), 0);
-    let refs = refs_of(alloc, stored)?;
-    assert_eq!(rt; refs.as_slice().len(), 0);
+    assert_eq!(rt; stored.refs().len(), 0);
     Ok(())
 }
 
@@ -132,18 +120,12 @@ fn references_that_come_again_and_in_any_order_are_summed(rt: HostRuntime) -> Re
     let alloc = rt.alloc();
     let mut stored = shared(alloc, 4)?;
     let extent = extent(alloc, 4)?;
-    assert!(rt; take(&mut stored, item::EXTENT_ITEM, 4096, extent.as_slice())?);
-    assert!(rt;
-        take(
-            &mut stored,
-            item::EXTENT_DATA_REF,
-            2,
-            loose(alloc, 3)?.as_slice()
-        )?
-    );
-    let refs = refs_of(alloc, stored)?;
-    assert_eq!(rt; refs.as_slice().len(), 2);
-    assert_eq!(rt; times(&refs, file(260)), 2);
-    assert_eq!(rt; times(&refs, file(261)), 4);
+    meet(&mut stored, item::EXTENT_ITEM, 4096, extent.as_slice())?;
+    let loose = loose(alloc, 3)?;
+    meet(&mut stored, item::EXTENT_DATA_REF, 2, loose.as_slice())?;
+    let stored = stored.into_list(alloc)?;
+    assert_eq!(rt; stored.refs().len(), 2);
+    assert_eq!(rt; times(&stored, file(260)), 2);
+    assert_eq!(rt; times(&stored, file(261)), 4);
     Ok(())
 }

@@ -5,7 +5,7 @@ use btr_findings::{Finding, Found};
 use btr_items::{Link, item};
 use btr_make_blocks::{Body, Form, Items, Tree};
 use btr_rack::{MemRack, Rack};
-use btr_refs::{BlockUse, DataUse, Forward, RefKey, RefList, put_count_findings};
+use btr_refs::{Forward, RefKey, Stored, put_count_findings};
 use btr_volume::TreeRoot;
 use btr_walk::RootPlace;
 use std::alloc::{AllocError, Global};
@@ -55,7 +55,7 @@ fn block(alloc: Global, root: bool) -> Result<[u8; NODE], Fail> {
 
 // Nothing is counted, and nothing is stored.
 fn none_stored(alloc: Global) -> Result<Forward, Memory> {
-    Forward::new(alloc, RefList::of(alloc, Vec::new(alloc))?)
+    Forward::new(alloc, Stored::new(alloc, 4096).into_list(alloc)?)
 }
 
 // A finding for each reference that is counted, and isn't stored.
@@ -90,14 +90,6 @@ fn a_leaf_uses_the_data_of_its_files(rt: HostRuntime) -> Result<(), Fail> {
         let found = counted(rt.alloc(), &forward)?;
         assert_eq!(rt; times(&found, &RefKey::new(DATA, link)), 1);
         assert_eq!(rt; found.len(), 1);
-        let used = forward.into_extents();
-        assert!(rt;
-            used.data_extents.contains(&DataUse {
-                addr: DATA,
-                len: 16384
-            })
-        );
-        assert_eq!(rt; used.tree_blocks.len(), 0);
     }
     Ok(())
 }
@@ -123,15 +115,6 @@ fn a_node_uses_its_children_and_a_tree_its_root(rt: HostRuntime) -> Result<(), F
     forward.add_root(&root)?;
     let own = RefKey::new(1048576, Link::Tree(257));
     assert_eq!(rt; times(&counted(rt.alloc(), &forward)?, &own), 1);
-    let used = forward.into_extents();
-    for level in [0, 2] {
-        assert!(rt;
-            used.tree_blocks.contains(&BlockUse {
-                addr: 1048576,
-                level
-            })
-        );
-    }
-    assert_eq!(rt; used.tree_blocks.len(), 3);
+    assert_eq!(rt; forward.into_extents().len(), 0);
     Ok(())
 }
