@@ -11,7 +11,9 @@ use btr_walk::Spot;
 /// Inodes from one number to another, both included.
 #[derive(Clone, Copy, Debug, PartialEq, Eq)]
 pub struct InodeRange {
+    /// The first of them.
     pub first: u64,
+    /// The last of them.
     pub last: u64,
 }
 

@@ -67,13 +67,8 @@ fn run<R: Rack, V: Visitor<Memory>>(
     ensures content { TellsOf store.old (R.seen rack.old) (R.seen rack.new)
         (λ Is B. IsRun V.step Is B store.old tour.old visitor.old visitor.new result) }
 {
-    loop {
-        match meet_next(tour, rack, store, visitor) {
-            Err(fault) => return Err(fault),
-            Ok(true) => {}
-            Ok(false) => return Ok(()),
-        }
-    }
+    while meet_next(tour, rack, store, visitor)? {}
+    Ok(())
 }
 
 // Visits the items of the inodes of one range.

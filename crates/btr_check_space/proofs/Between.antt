@@ -13,7 +13,7 @@ use Rattle.std.specs.List.{Contains}
 use Rattle.std.specs.List.Sorted.{IsPartitionPoint, IsNonDecreasing}
 use Rattle.btr_findings.specs.declared.extent.Extent.{Extent}
 use Rattle.btr_check_space.specs.declared.group.Group.{Group}
-use Rattle.btr_check_space.specs.Bounds.{AreApart, AreBounds, AreSums, before, ends_of, sum_first, Lengthened}
+use Rattle.btr_check_space.specs.Bounds.{AreLengthsBetween, AreBounds, AreSums, before, ends_of, sum_first, Lengthened}
 use Rattle.btr_check_space.specs.Groups.{used_in}
 use Rattle.btr_check_space.proofs.Elements.{default_free}
 use Rattle.btr_check_space.proofs.Prefixes.{sum_both}
@@ -44,22 +44,22 @@ end_there groups bounds i d are below =
     Contains-permutation (flat_map ends_of groups) bounds ((get_or groups i d).start + (get_or groups i d).len) are.same (ends_there groups i d below).1
 
 -- more at a place, in the sum of those up to one at or behind it
-sum_behind : (lens : List ℕ) (place i more : ℕ) → i < length lens → place ≤ i
-    → sum_first (i + 1) (set lens place (get_or lens place 0 + more)) ≡ sum_first (i + 1) lens + more
-sum_behind lens place i more below from =
-    let len = get_or lens place 0 in
-    let taken = take-set-lt (i + 1) lens place (len + more) (omega (arith, from)) in
-    let inside : place < length (take (i + 1) lens) =
-    subst (λ n. place < n) (sym (length-take-le (i + 1) lens (omega (arith, below)))) (omega (arith, from)) in
-    let whole = sum_by-set (λ (n : ℕ). n) (take (i + 1) lens) place (len + more) 0 inside in
-    let same : get_or (take (i + 1) lens) place 0 ≡ len = get_or-take (i + 1) lens place 0 (omega (arith, from)) in
-    let all : sum_first (i + 1) (set lens place (len + more)) ≡ sum_by (λ (n : ℕ). n) (set (take (i + 1) lens) place (len + more)) =
+sum_behind : (lengths : List ℕ) (place i more : ℕ) → i < length lengths → place ≤ i
+    → sum_first (i + 1) (set lengths place (get_or lengths place 0 + more)) ≡ sum_first (i + 1) lengths + more
+sum_behind lengths place i more below from =
+    let len = get_or lengths place 0 in
+    let taken = take-set-lt (i + 1) lengths place (len + more) (omega (arith, from)) in
+    let inside : place < length (take (i + 1) lengths) =
+    subst (λ n. place < n) (sym (length-take-le (i + 1) lengths (omega (arith, below)))) (omega (arith, from)) in
+    let whole = sum_by-set (λ (n : ℕ). n) (take (i + 1) lengths) place (len + more) 0 inside in
+    let same : get_or (take (i + 1) lengths) place 0 ≡ len = get_or-take (i + 1) lengths place 0 (omega (arith, from)) in
+    let all : sum_first (i + 1) (set lengths place (len + more)) ≡ sum_by (λ (n : ℕ). n) (set (take (i + 1) lengths) place (len + more)) =
     ap (sum_by (λ (n : ℕ). n)) taken in
     omega (arith, whole, same, all)
 
 -- more at a place
-pub lengthened : (lens : List ℕ) (place more : ℕ) → Lengthened place more lens (set lens place (get_or lens place 0 + more))
-lengthened lens place more i below = by (leb place i) refl
+pub lengthened : (lengths : List ℕ) (place more : ℕ) → Lengthened place more lengths (set lengths place (get_or lengths place 0 + more))
+lengthened lengths place more i below = by (leb place i) refl
   where
     le_from : leb place i ≡ true → place ≤ i
     le_from e = grind (arith, nat_tests)
@@ -68,17 +68,17 @@ lengthened lens place more i below = by (leb place i) refl
     gt_from e = grind (arith, nat_tests)
 
     by : (b : Bool) → leb place i ≡ b
-        → sum_first (i + 1) (set lens place (get_or lens place 0 + more)) ≡ sum_first (i + 1) lens + cond (leb place i) more 0
-    by true e = sum_behind lens place i more below (le_from e) ∙ ap (λ b. sum_first (i + 1) lens + cond b more 0) (sym e)
+        → sum_first (i + 1) (set lengths place (get_or lengths place 0 + more)) ≡ sum_first (i + 1) lengths + cond (leb place i) more 0
+    by true e = sum_behind lengths place i more below (le_from e) ∙ ap (λ b. sum_first (i + 1) lengths + cond b more 0) (sym e)
     by false e =
-        let same : sum_first (i + 1) (set lens place (get_or lens place 0 + more)) ≡ sum_first (i + 1) lens =
-        ap (sum_by (λ (n : ℕ). n)) (take-set-le (i + 1) lens place (get_or lens place 0 + more) (gt_from e)) in
+        let same : sum_first (i + 1) (set lengths place (get_or lengths place 0 + more)) ≡ sum_first (i + 1) lengths =
+        ap (sum_by (λ (n : ℕ). n)) (take-set-le (i + 1) lengths place (get_or lengths place 0 + more) (gt_from e)) in
         let none : cond (leb place i) more 0 ≡ 0 = ap (λ b. cond b more 0) e in
         omega (arith, same, none)
 
 -- behind the last place nothing is
-pub not_lengthened : (lens : List ℕ) (place more : ℕ) → length lens ≤ place → Lengthened place more lens lens
-not_lengthened lens place more behind i below =
+pub not_lengthened : (lengths : List ℕ) (place more : ℕ) → length lengths ≤ place → Lengthened place more lengths lengths
+not_lengthened lengths place more behind i below =
     let none : leb place i ≡ false = grind (arith, nat_tests) in
     let nothing : cond (leb place i) more 0 ≡ 0 = ap (λ b. cond b more 0) none in
     omega (arith, nothing)
@@ -96,8 +96,8 @@ before_more extents i addr d below =
 -- before the bounds that lie behind its address an extent begins
 pub apart_more : (extents : List Extent) (bounds old new : List ℕ) (i place : ℕ) (d : Extent) → i < length extents
     → IsPartitionPoint (λ (bound : ℕ). leb bound (get_or extents i d).addr ≡ true) (λ (bound : ℕ). leb bound (get_or extents i d).addr ≡ false) bounds place
-    → AreApart (take i extents) bounds old → length new ≡ length old → Lengthened place (get_or extents i d).len old new
-    → AreApart (take (i + 1) extents) bounds new
+    → AreLengthsBetween (take i extents) bounds old → length new ≡ length old → Lengthened place (get_or extents i d).len old new
+    → AreLengthsBetween (take (i + 1) extents) bounds new
 apart_more extents bounds old new i place d below parted are long more = record {
   long = long ∙ are.long;
   each = λ k inside.
@@ -122,8 +122,8 @@ apart_more extents bounds old new i place d below parted are long more = record 
         by false e = e ∙ sym (flip (get_or bounds k 0) (get_or extents i d).addr true (parted.0 k 0 (omega arith) (grind (arith, nat_tests))))
 
 -- none is before any bound yet
-pub apart_none : (bounds : List ℕ) (lens : List ℕ) → lens ≡ replicate (length bounds) 0 → AreApart [] bounds lens
-apart_none bounds lens is = record {
+pub apart_none : (bounds : List ℕ) (lengths : List ℕ) → lengths ≡ replicate (length bounds) 0 → AreLengthsBetween [] bounds lengths
+apart_none bounds lengths is = record {
   long = ap length is ∙ length-replicate (length bounds) 0;
   each = λ k inside. ap (sum_first (k + 1)) is ∙ no_sum (k + 1) (length bounds);
 }

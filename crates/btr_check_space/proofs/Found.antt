@@ -10,7 +10,7 @@ use Rattle.btr_chunk.specs.declared.place.StripePlace.{StripePlace}
 use Rattle.btr_check_space.specs.Orders.{KeysOf, range_cmp, span_cmp, place_cmp, extent_cmp, group_span, span_range, group_range, extent_place}
 use Rattle.btr_check_space.specs.declared.device_extent.DeviceExtent.{DeviceExtent}
 use Rattle.btr_check_space.specs.declared.group.Group.{Group}
-use Rattle.btr_check_space.specs.declared.span.Range.{Range}
+use Rattle.btr_check_space.specs.declared.address_ranges.AddressRange.{AddressRange}
 use Rattle.btr_check_space.specs.declared.span.Span.{Span}
 
 same_number : (x y : ℕ) → is_eq (nat_cmp x y) ≡ eqb x y
@@ -28,7 +28,7 @@ number_then x y rest test is =
     ∙ ap (λ b. b && is_eq rest) (same_number x y)
     ∙ ap (λ b. eqb x y && b) is
 
-same_range : (a b : Range) → is_eq (range_cmp a b) ≡ (eqb a.start b.start && eqb a.len b.len)
+same_range : (a b : AddressRange) → is_eq (range_cmp a b) ≡ (eqb a.start b.start && eqb a.len b.len)
 same_range a b = number_then a.start b.start (nat_cmp a.len b.len) (eqb a.len b.len) (same_number a.len b.len)
 
 and_regroups : (a b c : Bool) → (a && (b && c)) ≡ ((a && b) && c)
@@ -65,7 +65,7 @@ pub span_found : (groups : List Group) (set : BTreeSet Span) (chunk : Span) → 
     → contains span_cmp set chunk ≡ list_any (λ (group : Group). (eqb group.start chunk.start && eqb group.len chunk.len) && eqb group.flags chunk.flags) groups
 span_found groups set chunk keys = keys chunk ∙ any_same _ _ groups (λ group. same_span (group_span group) chunk)
 
-pub range_found : (chunks : List Span) (set : BTreeSet Range) (group : Group) → KeysOf range_cmp span_range chunks set
+pub range_found : (chunks : List Span) (set : BTreeSet AddressRange) (group : Group) → KeysOf range_cmp span_range chunks set
     → contains range_cmp set (group_range group) ≡ list_any (λ (chunk : Span). eqb chunk.start group.start && eqb chunk.len group.len) chunks
 range_found chunks set group keys = keys (group_range group) ∙ any_same _ _ chunks (λ chunk. same_range (span_range chunk) (group_range group))
 

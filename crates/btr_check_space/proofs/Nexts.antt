@@ -111,7 +111,8 @@ not_large n e = ltb-true n (2 ^ 64) e
 pub chunk_small : (chunk : Chunk) → IsChunk chunk → chunk.start + 1 < 2 ^ 64
 chunk_small chunk sound =
     let long : 0 < chunk.length = chunk_long chunk sound in
-    let ends : chunk.start + chunk.length < 2 ^ 64 = not_large (chunk.start + chunk.length) (and_right _ (ltb (chunk.start + chunk.length) (2 ^ 64)) (and_left _ _ sound.rule)) in
+    let ends : chunk.start + chunk.length < 2 ^ 64 =
+    not_large (chunk.start + chunk.length) (and_right _ (ltb (chunk.start + chunk.length) (2 ^ 64)) (and_left _ _ sound.rule)) in
     omega arith
 
 -- the chunks of a table ascend
@@ -122,7 +123,8 @@ table_ascends chunks table i j a b below at_a at_b =
     omega arith
 
 -- what is made of some chunks, one after another
-module _ {Y : Type 0} (made : List Chunk → List Y) (part : Chunk → List Y) (first : (c : Chunk) (chunks : List Chunk) → made (c ∷ chunks) ≡ part c ++ made chunks) where
+module _ {Y : Type 0} (made : List Chunk → List Y) (part : Chunk → List Y)
+    (first : (c : Chunk) (chunks : List Chunk) → made (c ∷ chunks) ≡ part c ++ made chunks) where
   -- one more chunk is met
   pub met_more : (chunks : List Chunk) (addr : ℕ) (chunk : Chunk) (done all : List Y) → IsTable chunks → next_at chunks addr ≡ Some chunk
       → done ++ made (left_from addr chunks) ≡ all → (done ++ part chunk) ++ made (left_from (chunk.start + 1) chunks) ≡ all

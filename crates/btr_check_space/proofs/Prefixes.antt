@@ -25,7 +25,8 @@ module _ {X : Type 0} where
   sum_front f g [] (suc i) same none = refl
   sum_front f g (x ∷ xs) zero same none =
       let here : f x ≡ 0 = none 0 x (omega arith) (omega arith) in
-      let rest : sum_by f xs ≡ 0 = sum_front f g xs 0 (λ k d below. absurd (omega (arith, below))) (λ k d from below. none (suc k) d (omega arith) (omega (arith, below))) in
+      let rest : sum_by f xs ≡ 0 =
+      sum_front f g xs 0 (λ k d below. absurd (omega (arith, below))) (λ k d from below. none (suc k) d (omega arith) (omega (arith, below))) in
       let all : sum_by f (x ∷ xs) ≡ f x + sum_by f xs = sum_by-cons f x xs in
       omega arith
   sum_front f g (x ∷ xs) (suc i) same none =

@@ -20,7 +20,7 @@ before extents addr = sum_by (λ extent. cond (nat_lt extent.addr addr) extent.l
 
 -- how much the first of some lengths are in all
 abbrev pub sum_first : ℕ → List ℕ → ℕ
-sum_first count lens = sum_by (λ (len : ℕ). len) (take count lens)
+sum_first count lengths = sum_by (λ (len : ℕ). len) (take count lengths)
 
 -- more was added to the length at a place, and so to each sum of the first of them that has it
 abbrev pub Lengthened : ℕ → ℕ → List ℕ → List ℕ → Type 0
@@ -28,14 +28,14 @@ Lengthened place more old new =
     (i : ℕ) → i < length old → sum_first (i + 1) new ≡ sum_first (i + 1) old + cond (nat_le place i) more 0
 
 -- lengths of which the first, up to each, come to those of the extents that begin before the bound at its place
-pub record AreApart (extents : List Extent) (bounds lens : List ℕ) : Type 0 where
-  pub long : length lens ≡ length bounds
-  pub each : (i : ℕ) → i < length bounds → sum_first (i + 1) lens ≡ before extents (slice_index bounds i)
+pub record AreLengthsBetween (extents : List Extent) (bounds lengths : List ℕ) : Type 0 where
+  pub long : length lengths ≡ length bounds
+  pub each : (i : ℕ) → i < length bounds → sum_first (i + 1) lengths ≡ before extents (slice_index bounds i)
 
 -- the sums of the first of some lengths, by how many they are
-pub record Sums (lens sums : List ℕ) : Type 0 where
-  pub long : length sums ≡ length lens + 1
-  pub each : (i : ℕ) → i ≤ length lens → slice_index sums i ≡ sum_first i lens
+pub record Sums (lengths sums : List ℕ) : Type 0 where
+  pub long : length sums ≡ length lengths + 1
+  pub each : (i : ℕ) → i ≤ length lengths → slice_index sums i ≡ sum_first i lengths
 
 -- the lengths of the extents that begin before each bound, behind a first sum
 pub record AreSums (extents : List Extent) (bounds sums : List ℕ) : Type 0 where

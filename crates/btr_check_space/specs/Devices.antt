@@ -25,7 +25,8 @@ ranges_of chunks = flat_map chunk_ranges chunks
 -- a stripe has a device extent of its chunk and length
 abbrev pub chunk_device : List DeviceExtent → DeviceExtent → Option Finding
 chunk_device extents range =
-    unless (list_any (λ extent. (extent.devid == range.devid) && (extent.offset == range.offset) && (extent.chunk == range.chunk) && (extent.len == range.len)) extents)
+    unless (list_any (λ extent. (extent.devid == range.devid) && (extent.offset == range.offset) && (extent.chunk == range.chunk) && (extent.len == range.len))
+    extents)
     (found kind.ChunkDevice (range.chunk ∷ range.devid ∷ range.offset ∷ []))
 
 -- a device extent has a stripe

@@ -23,9 +23,11 @@ Devids devices devids = (devid : ℕ) → contains nat_cmp devids devid ≡ has_
 
 -- by these, findings were put on devices that state other bytes than they have
 abbrev pub PutsUsed : List StatedDevice → BTreeMap ℕ ℕ → FoundSet → FoundSet → Result (Unit {0}) Memory → Type 0
-PutsUsed devices given old new result = (extents : List DeviceExtent) → Given extents given → OnOk result (Adds (filter_map (device_used extents) devices) old new)
+PutsUsed devices given old new result = (extents : List DeviceExtent) → Given extents given
+    → OnOk result (Adds (filter_map (device_used extents) devices) old new)
 
 -- by these, findings were put on the devices of device extents that have no item
 abbrev pub PutsUnstated : List DeviceExtent → BTreeSet ℕ → BTreeMap ℕ ℕ → FoundSet → FoundSet → Result (Unit {0}) Memory → Type 0
 PutsUnstated extents devids given old new result =
-    (devices : List StatedDevice) → Devids devices devids → Given extents given → OnOk result (Adds (filter_map (unstated_used devices extents) extents) old new)
+    (devices : List StatedDevice) → Devids devices devids → Given extents given
+    → OnOk result (Adds (filter_map (unstated_used devices extents) extents) old new)

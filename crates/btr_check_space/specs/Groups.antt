@@ -34,7 +34,8 @@ chunk_group groups chunk =
 
 -- a block group has a chunk of its length
 abbrev pub group_chunk : List Span → Group → Option Finding
-group_chunk chunks group = unless (list_any (λ chunk. (chunk.start == group.start) && (chunk.len == group.len)) chunks) (found kind.GroupChunk (group.start ∷ []))
+group_chunk chunks group =
+    unless (list_any (λ chunk. (chunk.start == group.start) && (chunk.len == group.len)) chunks) (found kind.GroupChunk (group.start ∷ []))
 
 -- the bytes of the extents that begin in a block group
 abbrev pub used_in : List Extent → Group → ℕ
@@ -42,7 +43,8 @@ used_in extents group = sum_by (λ extent. cond (nat_le group.start extent.addr 
 
 -- a block group states them
 abbrev pub group_used : List Extent → Group → Option Finding
-group_used extents group = unless (group.used == used_in extents group) (found kind.GroupUsed (group.start ∷ group.used ∷ shown_sum (used_in extents group) ∷ []))
+group_used extents group =
+    unless (group.used == used_in extents group) (found kind.GroupUsed (group.start ∷ group.used ∷ shown_sum (used_in extents group) ∷ []))
 
 -- the sum of what the block groups state
 abbrev pub stated_in : List Group → ℕ

@@ -1,4 +1,4 @@
-pub mod Cover
+pub mod AddressRanges
 pub mod Orders
 pub mod Groups
 pub mod Devices

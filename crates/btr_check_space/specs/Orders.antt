@@ -7,14 +7,13 @@ use Rattle.std.specs.Ordering.{is_eq, nat_cmp, ordering_then}
 use Rattle.std.specs.declared.cmp.Ordering.{Ordering}
 use Rattle.btr_chunk.specs.declared.chunk.Chunk.{Chunk}
 use Rattle.btr_chunk.specs.declared.place.StripePlace.{StripePlace}
-use Rattle.btr_check_space.specs.declared.cover.Stretch.{Stretch}
+use Rattle.btr_check_space.specs.declared.address_ranges.AddressRange.{AddressRange}
 use Rattle.btr_check_space.specs.declared.device_extent.DeviceExtent.{DeviceExtent}
 use Rattle.btr_check_space.specs.declared.group.Group.{Group}
-use Rattle.btr_check_space.specs.declared.span.Range.{Range}
 use Rattle.btr_check_space.specs.declared.span.Span.{Span}
 
 -- ranges of addresses are ordered by start, then length
-abbrev pub range_cmp : Range → Range → Ordering
+abbrev pub range_cmp : AddressRange → AddressRange → Ordering
 range_cmp a b = ordering_then (nat_cmp a.start b.start) (nat_cmp a.len b.len)
 
 -- ranges with a type are ordered by start, then length, then type
@@ -27,7 +26,8 @@ place_cmp a b = ordering_then (nat_cmp a.devid b.devid) (nat_cmp a.offset b.offs
 
 -- ranges of devices are ordered by device, then place, chunk and length
 abbrev pub extent_cmp : DeviceExtent → DeviceExtent → Ordering
-extent_cmp a b = ordering_then (nat_cmp a.devid b.devid) (ordering_then (nat_cmp a.offset b.offset) (ordering_then (nat_cmp a.chunk b.chunk) (nat_cmp a.len b.len)))
+extent_cmp a b = ordering_then (nat_cmp a.devid b.devid)
+    (ordering_then (nat_cmp a.offset b.offset) (ordering_then (nat_cmp a.chunk b.chunk) (nat_cmp a.len b.len)))
 
 -- a set has the keys of some things, and no other
 abbrev pub KeysOf : {X K : Type 0} → (K → K → Ordering) → (X → K) → List X → BTreeSet K → Type 0
@@ -46,15 +46,11 @@ abbrev pub chunk_span : Chunk → Span
 chunk_span chunk = record { start = chunk.start; len = chunk.length; flags = chunk.kind }
 
 -- the range of addresses without its type
-abbrev pub span_range : Span → Range
+abbrev pub span_range : Span → AddressRange
 span_range span = record { start = span.start; len = span.len }
 
--- the range of a block group, as it is looked up in
-abbrev pub group_stretch : Group → Stretch
-group_stretch group = record { start = group.start; len = group.len }
-
--- the range of a block group, as ranges are ordered
-abbrev pub group_range : Group → Range
+-- the range of a block group
+abbrev pub group_range : Group → AddressRange
 group_range group = record { start = group.start; len = group.len }
 
 -- where a device extent begins

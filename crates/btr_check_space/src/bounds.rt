@@ -3,7 +3,7 @@ ghost use Rattle.std.specs.Prelude.{◌≡◌, ◌+◌, List, length, replicate,
 ghost use Rattle.std.specs.List.{Contains};
 ghost use Rattle.std.specs.List.Sorted.{IsNonDecreasing};
 ghost use Rattle.btr_findings.specs.declared.extent.Extent.{Extent};
-ghost use Rattle.btr_check_space.specs.Bounds.{AreApart, AreBounds, AreSums, Sums, before, Lengthened};
+ghost use Rattle.btr_check_space.specs.Bounds.{AreLengthsBetween, AreBounds, AreSums, Sums, before, Lengthened};
 
 use crate::Group;
 use btr_base::Memory;
@@ -25,27 +25,27 @@ pub(crate) fn bounds_of(alloc: Global, groups: &[Group]) -> Result<Vec<u128>, Me
 }
 
 // A length of 0 for each of so many bounds.
-fn no_lens(alloc: Global, count: usize) -> Result<Vec<u128>, Memory>
-    ensures { IfOk result (λ lens. lens.items ≡ replicate count 0) }
+fn no_lengths(alloc: Global, count: usize) -> Result<Vec<u128>, Memory>
+    ensures { IfOk result (λ lengths. lengths.items ≡ replicate count 0) }
 {
-    let mut lens = Vec::new(alloc);
-    match lens.resize(count, 0) {
-        Ok(()) => Ok(lens),
+    let mut lengths = Vec::new(alloc);
+    match lengths.resize(count, 0) {
+        Ok(()) => Ok(lengths),
         Err(_) => Err(Memory),
     }
 }
 
 // Adds to the length at a place, if there is one. Where the sum would pass the greatest number there is, that is want of memory too.
-fn lengthen(lens: &mut [u128], place: usize, len: u64) -> Result<(), Memory>
-    ensures long { length lens.new ≡ length lens.old }
-    ensures sums { OnOk result (Lengthened place len lens.old lens.new) }
+fn lengthen(lengths: &mut [u128], place: usize, len: u64) -> Result<(), Memory>
+    ensures long { length lengths.new ≡ length lengths.old }
+    ensures sums { OnOk result (Lengthened place len lengths.old lengths.new) }
 {
-    if place >= lens.len() {
+    if place >= lengths.len() {
         return Ok(());
     }
-    match lens[place].checked_add(u128::from(len)) {
+    match lengths[place].checked_add(u128::from(len)) {
         Some(sum) => {
-            lens[place] = sum;
+            lengths[place] = sum;
             Ok(())
         }
         None => Err(Memory),
@@ -53,28 +53,28 @@ fn lengthen(lens: &mut [u128], place: usize, len: u64) -> Result<(), Memory>
 }
 
 // How long the extents are in all that begin before each bound, and not before the one in front of it. They may stand in any order.
-fn lens_between(alloc: Global, bounds: &[u128], extents: &[Extent]) -> Result<Vec<u128>, Memory>
+fn lengths_between(alloc: Global, bounds: &[u128], extents: &[Extent]) -> Result<Vec<u128>, Memory>
     requires { IsNonDecreasing bounds.now }
-    ensures { IfOk result (λ lens. AreApart extents.now bounds.now lens.items) }
+    ensures { IfOk result (λ lengths. AreLengthsBetween extents.now bounds.now lengths.items) }
 {
-    let mut lens = no_lens(alloc, bounds.len())?;
+    let mut lengths = no_lengths(alloc, bounds.len())?;
     for extent in extents {
         let addr = u128::from(extent.addr);
         let place = bounds.partition_point(|bound| *bound <= addr);
-        lengthen(&mut lens, place, extent.len)?;
+        lengthen(&mut lengths, place, extent.len)?;
     }
-    Ok(lens)
+    Ok(lengths)
 }
 
 // How much the first of some lengths are in all, for each number of them. Where a sum would pass the greatest number there is, that is
 // want of memory too.
-fn sums_of(alloc: Global, lens: &[u128]) -> Result<Vec<u128>, Memory>
-    ensures { IfOk result (λ sums. Sums lens.now sums.items) }
+fn sums_of(alloc: Global, lengths: &[u128]) -> Result<Vec<u128>, Memory>
+    ensures { IfOk result (λ sums. Sums lengths.now sums.items) }
 {
-    let mut list = with_room(alloc, lens.len().saturating_add(1))?;
+    let mut list = with_room(alloc, lengths.len().saturating_add(1))?;
     let mut sum: u128 = 0;
     push(&mut list, sum)?;
-    for len in lens {
+    for len in lengths {
         let Some(more) = sum.checked_add(*len) else {
             return Err(Memory);
         };
@@ -93,8 +93,8 @@ pub(crate) fn sums_before(
     requires { IsNonDecreasing bounds.now }
     ensures { IfOk result (λ sums. AreSums extents.now bounds.now sums.items) }
 {
-    let lens = lens_between(alloc, bounds, extents)?;
-    sums_of(alloc, &lens)
+    let lengths = lengths_between(alloc, bounds, extents)?;
+    sums_of(alloc, &lengths)
 }
 
 /// The one of these sums that is before a bound.

@@ -1,33 +1,33 @@
 // Extents, block groups and chunks that don't agree.
 ghost use Rattle.std.specs.Prelude.{◌≡◌, ◌+◌, nat_le, OnOk, IfOk, map, filter_map, option_to_list};
 ghost use Rattle.btr_findings.specs.Findings.{Adds};
-ghost use Rattle.btr_check_space.specs.Cover.{HoldSame};
-ghost use Rattle.btr_check_space.specs.Orders.{group_stretch};
+ghost use Rattle.btr_check_space.specs.AddressRanges.{HoldSame};
+ghost use Rattle.btr_check_space.specs.Orders.{group_range};
 ghost use Rattle.btr_check_space.specs.Groups.{outside_group, neighbours, overlap, chunk_group, group_chunk, group_used, stated_in, total_used, group_findings};
 
 use crate::bounds::{bounds_of, sum_before, sums_before};
 use crate::chunks::spans_of;
 use crate::keys::{group_spans, span_ranges};
-use crate::span::{Range, Span};
-use crate::{Cover, Group, Stretch};
+use crate::span::Span;
+use crate::{AddressRange, AddressRanges, Group};
 use btr_base::Memory;
 use btr_chunk::ChunkTable;
 use btr_findings::{Extent, Finding, Found, Kind, push, put_unless, shown, with_room};
 use std::alloc::Global;
 
 // The ranges of block groups.
-fn cover_of(alloc: Global, groups: &[Group]) -> Result<Cover, Memory>
-    ensures { IfOk result (HoldSame (map group_stretch groups.now)) }
+fn group_ranges(alloc: Global, groups: &[Group]) -> Result<AddressRanges, Memory>
+    ensures { IfOk result (HoldSame (map group_range groups.now)) }
 {
-    let mut stretches = with_room(alloc, groups.len())?;
+    let mut ranges = with_room(alloc, groups.len())?;
     for group in groups {
-        let stretch = Stretch {
+        let range = AddressRange {
             start: group.start,
             len: group.len,
         };
-        push(&mut stretches, stretch)?;
+        push(&mut ranges, range)?;
     }
-    Ok(Cover::new(stretches))
+    Ok(AddressRanges::new(ranges))
 }
 
 // 5: extents that lie in no block group.
@@ -39,10 +39,10 @@ fn put_outside(
 ) -> Result<(), Memory>
     ensures { OnOk result (Adds (filter_map (outside_group groups.now) extents.now) found.old found.new) }
 {
-    let cover = cover_of(alloc, groups)?;
+    let ranges = group_ranges(alloc, groups)?;
     for extent in extents {
         let start = u128::from(extent.addr);
-        let is_kept = cover.holds(start, start + u128::from(extent.len));
+        let is_kept = ranges.holds(start, start + u128::from(extent.len));
         put_unless(
             found,
             is_kept,
@@ -109,7 +109,7 @@ fn put_group_chunks(
 {
     let ranges = span_ranges(alloc, chunks)?;
     for group in groups {
-        let range = Range {
+        let range = AddressRange {
             start: group.start,
             len: group.len,
         };

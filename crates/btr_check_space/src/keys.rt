@@ -4,8 +4,8 @@ ghost use Rattle.btr_check_space.specs.declared.device_extent.DeviceExtent.{Devi
 ghost use Rattle.btr_check_space.specs.Orders.{KeysOf, span_cmp, range_cmp, place_cmp, extent_cmp, group_span, span_range, extent_place};
 
 use crate::growing::put_key;
-use crate::span::{Range, Span};
-use crate::{DeviceExtent, Group};
+use crate::span::Span;
+use crate::{AddressRange, DeviceExtent, Group};
 use btr_base::Memory;
 use btr_chunk::StripePlace;
 use std::alloc::Global;
@@ -28,12 +28,12 @@ pub(crate) fn group_spans(alloc: Global, groups: &[Group]) -> Result<BTreeSet<Sp
 }
 
 // The ranges of logical addresses that chunks have.
-pub(crate) fn span_ranges(alloc: Global, spans: &[Span]) -> Result<BTreeSet<Range>, Memory>
+pub(crate) fn span_ranges(alloc: Global, spans: &[Span]) -> Result<BTreeSet<AddressRange>, Memory>
     ensures { IfOk result (KeysOf range_cmp span_range spans.now) }
 {
     let mut set = BTreeSet::new(alloc);
     for span in spans {
-        let range = Range {
+        let range = AddressRange {
             start: span.start,
             len: span.len,
         };

@@ -7,12 +7,12 @@
 //! these are exactly the findings of the definitions, whatever the items say: also where groups overlap, or where sums pass 2^64.
 //!
 //! The definitions are in `specs/`: `Items` reads the items, `Groups` has the rules of extents, block groups and chunks, and `Devices` those of
-//! devices. `Orders`, `Cover`, `Bounds` and `Given` say what look-ups go by.
+//! devices. `Orders`, `AddressRanges`, `Bounds` and `Given` say what look-ups go by.
 #![tactic(auto)]
 
+mod address_ranges;
 mod bounds;
 mod chunks;
-mod cover;
 mod device_extent;
 mod devices;
 mod devices_met;
@@ -27,7 +27,7 @@ mod laws;
 mod span;
 mod stated_device;
 
-pub use cover::{Cover, Reach, Stretch};
+pub use address_ranges::{AddressRange, AddressRanges, Reach};
 pub use device_extent::DeviceExtent;
 pub use devices::put_device_findings;
 pub use devices_met::Devices;

@@ -1,10 +1,3 @@
-/// A range of logical addresses.
-#[derive(Clone, Copy, Debug, PartialEq, Eq, PartialOrd, Ord)]
-pub(crate) struct Range {
-    pub(crate) start: u64,
-    pub(crate) len: u64,
-}
-
 /// A range of logical addresses and its type: what a chunk and its block group agree on.
 #[derive(Clone, Copy, Debug, PartialEq, Eq, PartialOrd, Ord)]
 pub(crate) struct Span {

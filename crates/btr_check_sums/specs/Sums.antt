@@ -11,7 +11,7 @@ use Rattle.btr_findings.specs.declared.kind.Kind.TheVariants as kind
 use Rattle.btr_findings.specs.Findings.{found, unless, shown_sum}
 use Rattle.btr_findings.specs.Sectors.{sectors}
 use Rattle.btr_findings.specs.declared.extent.Extent.{Extent}
-use Rattle.btr_check_space.specs.declared.cover.Stretch.{Stretch}
+use Rattle.btr_check_space.specs.declared.address_ranges.AddressRange.{AddressRange}
 use Rattle.btr_check_sums.specs.declared.used_range.UsedRange.{UsedRange}
 
 -- the sectors that a run has checksums of
@@ -73,12 +73,12 @@ abbrev pub sum_findings : List SumRun → List Extent → List Finding
 sum_findings runs extents = filter_map (sum_overlap runs) (summed runs) ++ filter_map (sum_stray extents) (summed runs)
 
 -- the range of addresses of a run
-abbrev pub run_stretch : SumRun → Stretch
-run_stretch run = record { start = run.start; len = run.count * 4096 }
+abbrev pub run_range : SumRun → AddressRange
+run_range run = record { start = run.start; len = run.count * 4096 }
 
 -- the range of addresses of an extent
-abbrev pub extent_stretch : Extent → Stretch
-extent_stretch extent = record { start = extent.addr; len = extent.len }
+abbrev pub extent_range : Extent → AddressRange
+extent_range extent = record { start = extent.addr; len = extent.len }
 
 -- those of some extents that are data
 abbrev pub data_extents : List Extent → List Extent

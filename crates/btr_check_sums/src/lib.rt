@@ -23,7 +23,7 @@ mod used_range;
 mod uses_met;
 
 pub use laws::keeps_law;
-pub use missing::{put_missing_sums, sum_cover};
+pub use missing::{put_missing_sums, sum_ranges};
 pub use runs_met::Runs;
 pub use sum_places::SumPlaces;
 pub use sums::put_sum_findings;

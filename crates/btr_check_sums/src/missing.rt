@@ -1,14 +1,14 @@
 // Sectors that files use and that have no checksum.
 ghost use Rattle.std.specs.Prelude.{◌≡◌, IfOk, map};
-ghost use Rattle.btr_check_space.specs.Cover.{HoldSame};
+ghost use Rattle.btr_check_space.specs.AddressRanges.{HoldSame};
 ghost use Rattle.btr_check_sums.specs.Putting.{PutsBySums, PutsMissing};
-ghost use Rattle.btr_check_sums.specs.Sums.{len_in_chunk, run_stretch, tree_missing, used_missing};
+ghost use Rattle.btr_check_sums.specs.Sums.{len_in_chunk, run_range, tree_missing, used_missing};
 ghost use Rattle.btr_check_sums.specs.Ranks.{Inodes};
 
 use crate::sector_test::{SectorTest, put_broken};
 use crate::{SumPlaces, UsedRange};
 use btr_base::Memory;
-use btr_check_space::{Cover, Reach, Stretch};
+use btr_check_space::{AddressRange, AddressRanges, Reach};
 use btr_chunk::ChunkTable;
 use btr_findings::{Found, SectorRule, push, with_room};
 use btr_items::SumRun;
@@ -16,21 +16,21 @@ use std::alloc::Global;
 use std::collections::BTreeSet;
 
 /// The ranges of addresses that have checksums. `Memory`: there is no memory for them, or a run has 2^64 bytes or more, which no item says.
-pub fn sum_cover(alloc: Global, runs: &[SumRun]) -> Result<Cover, Memory>
-    ensures { IfOk result (HoldSame (map run_stretch runs.now)) }
+pub fn sum_ranges(alloc: Global, runs: &[SumRun]) -> Result<AddressRanges, Memory>
+    ensures { IfOk result (HoldSame (map run_range runs.now)) }
 {
-    let mut stretches = with_room(alloc, runs.len())?;
+    let mut ranges = with_room(alloc, runs.len())?;
     for run in runs {
         let Some(len) = run.count.checked_mul(4096) else {
             return Err(Memory);
         };
-        let stretch = Stretch {
+        let range = AddressRange {
             start: run.start,
             len,
         };
-        push(&mut stretches, stretch)?;
+        push(&mut ranges, range)?;
     }
-    Ok(Cover::new(stretches))
+    Ok(AddressRanges::new(ranges))
 }
 
 // How many bytes of a range lie in the chunk that holds the extent's address.
@@ -49,10 +49,10 @@ fn len_in_chunk(chunks: &ChunkTable, range: &UsedRange) -> u64
 
 // Whether sectors have a checksum.
 #[derive(Drop)]
-struct Summed<'a>(&'a Cover);
+struct Summed<'a>(&'a AddressRanges);
 
 impl SectorTest for Summed<'_> {
-    ghost use Rattle.btr_check_space.specs.Cover.{is_held_from};
+    ghost use Rattle.btr_check_space.specs.AddressRanges.{is_held_from};
 
     ghost keeps = { λ summed sector. is_held_from 1 summed.0.now sector };
 

@@ -2,7 +2,7 @@
 ghost use Rattle.std.specs.Prelude.{ℕ, ◌+◌, ◌*◌, ◌<◌, ◌≤◌, ◌^◌, Bool, filter_map, OnOk};
 ghost use Rattle.btr_findings.specs.Findings.{Adds};
 ghost use Rattle.btr_findings.specs.Sectors.{sectors};
-ghost use Rattle.btr_check_space.specs.Cover.{Reaches};
+ghost use Rattle.btr_check_space.specs.AddressRanges.{Reaches};
 ghost use Rattle.btr_check_sums.specs.Broken.{broken, broken_if};
 
 use btr_base::Memory;

@@ -1,4 +1,4 @@
-use btr_check_space::Cover;
+use btr_check_space::AddressRanges;
 use btr_chunk::ChunkTable;
 
 /// Where sectors may lie that are to have a checksum, and where there are checksums.
@@ -7,5 +7,5 @@ pub struct SumPlaces<'a> {
     /// The chunks of the filesystem.
     pub chunks: &'a ChunkTable,
     /// The addresses that have checksums.
-    pub sums: &'a Cover,
+    pub sums: &'a AddressRanges,
 }

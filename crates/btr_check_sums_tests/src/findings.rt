@@ -3,7 +3,7 @@ ghost use Rattle.std.specs.Prelude.{IfOk};
 ghost use Rattle.btr_chunk.specs.Chunk.{IsChunk};
 
 use btr_base::Memory;
-use btr_check_sums::{SumPlaces, UsedRange, put_missing_sums, put_sum_findings, sum_cover};
+use btr_check_sums::{SumPlaces, UsedRange, put_missing_sums, put_sum_findings, sum_ranges};
 use btr_chunk::{Chunk, ChunkFault, ChunkTable};
 use btr_findings::{Extent, Finding, Found, Kind, SectorRule};
 use btr_items::SumRun;
@@ -68,7 +68,7 @@ fn put_all(
     extents: &[Extent],
     loose: &[u64],
 ) -> Result<(), Memory> {
-    let sums = &sum_cover(alloc, runs)?;
+    let sums = &sum_ranges(alloc, runs)?;
     let places = SumPlaces { chunks, sums };
     put_missing_sums(alloc, found, 5, loose, &[USED], &places)?;
     put_sum_findings(alloc, found, runs, extents)
@@ -209,7 +209,7 @@ fn sectors_outside_the_chunk_of_their_extent(rt: HostRuntime) -> Result<(), Fail
 fn a_length_that_is_far_too_large(rt: HostRuntime) -> Result<(), Fail> {
     let alloc = rt.alloc();
     let chunks = one_chunk(alloc, MIB, 12288)?;
-    let sums = &sum_cover(alloc, &[])?;
+    let sums = &sum_ranges(alloc, &[])?;
     let far = [UsedRange {
         len: 1 << 62,
         ..USED
@@ -232,7 +232,7 @@ fn a_length_that_is_far_too_large(rt: HostRuntime) -> Result<(), Fail> {
 fn sectors_that_no_memory_could_list(rt: HostRuntime) -> Result<(), Fail> {
     let alloc = rt.alloc();
     let chunks = one_chunk(alloc, MIB, 1 << 60)?;
-    let sums = &sum_cover(alloc, &[run(MIB + 8192, 1)])?;
+    let sums = &sum_ranges(alloc, &[run(MIB + 8192, 1)])?;
     let far = [UsedRange {
         len: 1 << 59,
         ..USED

@@ -6,8 +6,8 @@ use Rattle.btr_tour.specs.TourEnds.{IsTourReady, without_leaf, rank_of}
 use Rattle.btr_tour.proofs.Marks.{Led}
 use Rattle.btr_check_differences.proofs.touring.run.Given as goal
 
-abbrev pub invariant-loop-fault : goal.invariant-loop-fault
-invariant-loop-fault g l = record {
+abbrev pub invariant-loop : goal.invariant-loop
+invariant-loop g l = record {
   ready : IsTourReady (g.R.Rack.seen l.rack) l.store l.tour;
   reads : OnlyReads (g.R.Rack.seen l.fn.rack) (g.R.Rack.seen l.rack);
   others : SameLoans (without_leaf l.fn.store l.fn.tour) (without_leaf l.store l.tour);
@@ -17,5 +17,5 @@ invariant-loop-fault g l = record {
       (λ Is B. Led g.V.Visitor.step B l.fn.store l.fn.tour l.fn.visitor Is l.store l.tour l.visitor);
 }
 
-abbrev pub decreases-loop-fault : goal.decreases-loop-fault
-decreases-loop-fault g l = rank_of l.tour
+abbrev pub decreases-loop : goal.decreases-loop
+decreases-loop g l = rank_of l.tour

@@ -6,7 +6,7 @@ use Rattle.btr_check_space.proofs.bounds.lengthen.Goals as goal
 
 pub returns-in-Some-clause-sums : goal.returns-in-Some-clause-sums
 returns-in-Some-clause-sums c =
-    let lens = c.args.lens.now in
+    let lengths = c.args.lengths.now in
     let place = c.args.place in
-    let sum : c.in-Some.sum ≡ get_or lens place 0 + c.args.len = grind (arith, common_steps) in
-    subst (λ n. Lengthened place c.args.len lens (slice_set lens place n)) (sym sum) (lengthened lens place c.args.len)
+    let sum : c.in-Some.sum ≡ get_or lengths place 0 + c.args.len = grind (arith, common_steps) in
+    subst (λ n. Lengthened place c.args.len lengths (slice_set lengths place n)) (sym sum) (lengthened lengths place c.args.len)

@@ -6,6 +6,6 @@ use Rattle.btr_check_space.proofs.bounds.sums_of.Given as goal
 abbrev pub invariant-loop-len : goal.invariant-loop-len
 invariant-loop-len l = record {
   long : length l.list.items ≡ l.len-index + 1;
-  last : l.sum ≡ sum_first l.len-index l.lens;
-  each : (i : ℕ) → i ≤ l.len-index → get_or l.list.items i 0 ≡ sum_first i l.lens;
+  last : l.sum ≡ sum_first l.len-index l.lengths;
+  each : (i : ℕ) → i ≤ l.len-index → get_or l.list.items i 0 ≡ sum_first i l.lengths;
 }

@@ -17,7 +17,8 @@ loop-range-preserved c =
     let ranges = c.args.ranges.now in
     let i = c.loop-range.range-index in
     let range : DeviceExtent = get_or ranges i nothing in
-    let test = list_any (λ (extent : DeviceExtent). ((eqb extent.devid range.devid && eqb extent.offset range.offset) && eqb extent.chunk range.chunk) && eqb extent.len range.len) extents in
+    let test = list_any (λ (extent : DeviceExtent).
+    ((eqb extent.devid range.devid && eqb extent.offset range.offset) && eqb extent.chunk range.chunk) && eqb extent.len range.len) extents in
     let tests : c.contains-is_kept.result ≡ test = c.contains-is_kept.ensures ∙ extent_found extents c.in_ok-set.set range c.in_ok-set.ensures in
     adds_row (chunk_device extents) ranges i nothing c.args.found.now c.loop-range.found c.put_unless.new.found
     (unless c.contains-is_kept.result c.new.result) c.loop-range-test.true

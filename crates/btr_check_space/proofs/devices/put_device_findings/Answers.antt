@@ -24,9 +24,11 @@ returns c =
     let second = c.put_device_chunks.new.found in
     let third = c.put_device_used.new.found in
     let last = c.put_unstated_used.new.found in
-    let one : Adds a old first = adds_as (filter_map (chunk_device extents) c.deref.result.now) a old first (ap (filter_map (chunk_device extents)) same) c.in_ok-put_chunk_devices.ensures in
+    let one : Adds a old first = adds_as (filter_map (chunk_device extents) c.deref.result.now) a old first
+    (ap (filter_map (chunk_device extents)) same) c.in_ok-put_chunk_devices.ensures in
     let two : Adds b first second =
-    adds_as (filter_map (device_chunk c.deref-2.result.now) extents) b first second (ap (λ (list : List DeviceExtent). filter_map (device_chunk list) extents) also) c.in_ok-put_device_chunks.ensures in
+    adds_as (filter_map (device_chunk c.deref-2.result.now) extents) b first second
+    (ap (λ (list : List DeviceExtent). filter_map (device_chunk list) extents) also) c.in_ok-put_device_chunks.ensures in
     let three : Adds d second third = c.in_ok-put_device_used.ensures extents c.in_ok-given.ensures in
     on_ok_weaker c.put_unstated_used.result
     (λ more. adds_then (a ++ b ++ d) e old third last (adds_then (a ++ b) d old second third (adds_then a b old first second one two) three) more)

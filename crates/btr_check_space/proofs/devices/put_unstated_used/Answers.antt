@@ -20,7 +20,8 @@ loop-extent-preserved c = λ devices listed given.
     let row : c.new.result ≡ used_row devid 0 (given_of extents devid) =
     c.new.ensures ∙ ap (λ n. found kind.DeviceUsed (devid ∷ 0 ∷ n ∷ [])) (c.shown.ensures ∙ ap shown_sum sum) in
     let tests : c.is_free-is_kept.result ≡ (has_device devices devid || eqb (given_of extents devid) 0) =
-    c.is_free-is_kept.ensures ∙ ap (λ n. contains nat_cmp c.args.devids.now devid || eqb n 0) sum ∙ ap (λ b. b || eqb (given_of extents devid) 0) (listed devid) in
+    c.is_free-is_kept.ensures ∙ ap (λ n. contains nat_cmp c.args.devids.now devid || eqb n 0) sum
+    ∙ ap (λ b. b || eqb (given_of extents devid) 0) (listed devid) in
     adds_row (unstated_used devices extents) extents i nothing c.args.found.now c.loop-extent.found c.put_unless.new.found
     (unless c.is_free-is_kept.result c.new.result) c.loop-extent-test.true
     (unless_same c.is_free-is_kept.result (has_device devices devid || eqb (given_of extents devid) 0) c.new.result

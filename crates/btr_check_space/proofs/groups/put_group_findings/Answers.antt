@@ -28,9 +28,11 @@ returns c =
     let fourth = c.put_group_chunks.new.found in
     let fifth = c.put_group_used.new.found in
     let last = c.put_total_used.new.found in
-    let three : Adds chunks second third = adds_as (filter_map (chunk_group groups) c.deref.result.now) chunks second third (ap (filter_map (chunk_group groups)) same) c.in_ok-put_chunk_groups.ensures in
+    let three : Adds chunks second third = adds_as (filter_map (chunk_group groups) c.deref.result.now) chunks second third
+    (ap (filter_map (chunk_group groups)) same) c.in_ok-put_chunk_groups.ensures in
     let four : Adds owners third fourth =
-    adds_as (filter_map (group_chunk c.deref-2.result.now) groups) owners third fourth (ap (λ (list : List Span). filter_map (group_chunk list) groups) also) c.in_ok-put_group_chunks.ensures in
+    adds_as (filter_map (group_chunk c.deref-2.result.now) groups) owners third fourth
+    (ap (λ (list : List Span). filter_map (group_chunk list) groups) also) c.in_ok-put_group_chunks.ensures in
     let front : Adds (outside ++ overlaps ++ chunks ++ owners ++ used) old fifth =
     adds_then (outside ++ overlaps ++ chunks ++ owners) used old fourth fifth
     (adds_then (outside ++ overlaps ++ chunks) owners old third fourth

@@ -26,7 +26,8 @@ loop-extent-preserved c =
     let pair : get_or (zip all rest) i (nothing, nothing) ≡ (get_or all i nothing, extent) = get_or-zip all rest i (nothing, nothing) also below in
     let row : c.new.result ≡ found kind.Overlap (extent.addr ∷ (get_or all i nothing).addr ∷ []) =
     c.new.ensures ∙ ap (λ (e : Extent). found kind.Overlap (extent.addr ∷ e.addr ∷ [])) earlier in
-    let tests : c.ends_by-is_kept.result ≡ leb ((get_or all i nothing).addr + (get_or all i nothing).len) extent.addr = c.ends_by-is_kept.ensures ∙ ap (λ (e : Extent). leb (e.addr + e.len) extent.addr) earlier in
+    let tests : c.ends_by-is_kept.result ≡ leb ((get_or all i nothing).addr + (get_or all i nothing).len) extent.addr =
+    c.ends_by-is_kept.ensures ∙ ap (λ (e : Extent). leb (e.addr + e.len) extent.addr) earlier in
     let rule : unless c.ends_by-is_kept.result c.new.result ≡ overlap (get_or (zip all rest) i (nothing, nothing)) =
     unless_same c.ends_by-is_kept.result (leb ((get_or all i nothing).addr + (get_or all i nothing).len) extent.addr) c.new.result
     (found kind.Overlap (extent.addr ∷ (get_or all i nothing).addr ∷ [])) tests row ∙ ap overlap (sym pair) in

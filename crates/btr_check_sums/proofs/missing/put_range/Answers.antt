@@ -3,7 +3,7 @@ use Rattle.std.proofs.lemmas.Result.{on_ok_weaker}
 use Rattle.btr_findings.specs.declared.sector_rule.SectorRule.TheVariants.{Missing}
 use Rattle.btr_findings.specs.Sectors.{sectors}
 use Rattle.btr_findings.proofs.Adding.{adds_as}
-use Rattle.btr_check_space.specs.Cover.{is_held_from}
+use Rattle.btr_check_space.specs.AddressRanges.{is_held_from}
 use Rattle.btr_check_sums.specs.Broken.{broken}
 use Rattle.btr_check_sums.specs.Sums.{len_in_chunk, used_missing, used_sectors}
 use Rattle.btr_check_sums.proofs.Covered.{covered}

@@ -14,7 +14,7 @@ loop-run-preserved c =
     let extents = c.args.extents.now in
     adds_more_of (λ (run : SumRun). filter_map (sum_stray extents) (run_sectors run)) c.args.runs.now c.loop-run.run-index nothing c.args.found.now
     c.loop-run.found c.put_run.new.found c.loop-run-test.true
-    c.loop-run.invariant (c.in_ok-put_run.ensures extents c.in_ok-cover.ensures)
+    c.loop-run.invariant (c.in_ok-put_run.ensures extents c.in_ok-ranges.ensures)
 
 pub returns : goal.returns
 returns c =

@@ -1,7 +1,0 @@
-use Rattle.std.proofs.Common.{take}
-use Rattle.btr_check_space.specs.Bounds.{AreApart}
-use Rattle.btr_check_space.proofs.bounds.lens_between.Given as goal
-
--- the lengths of the extents so far
-abbrev pub invariant-loop-extent : goal.invariant-loop-extent
-invariant-loop-extent l = AreApart (take l.extent-index l.extents) l.bounds l.lens.items

@@ -1,7 +1,0 @@
-use Rattle.std.proofs.Common.{◌≡◌, map, take}
-use Rattle.btr_check_sums.specs.Sums.{extent_stretch, data_extents}
-use Rattle.btr_check_sums.proofs.strays.data_cover.Given as goal
-
--- the ranges of the data extents so far
-abbrev pub invariant-loop-extent : goal.invariant-loop-extent
-invariant-loop-extent l = l.stretches.items ≡ map extent_stretch (data_extents (take l.extent-index l.extents))
