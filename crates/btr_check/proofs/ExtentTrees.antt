@@ -1,131 +1,141 @@
 -- What is collected of the extent tree, where nothing was found on the walk of all trees.
-use Rattle.std.proofs.Common.{◌≡◌, ℕ, Bool, List, [], Option, Some, None, Result, Ok, Err, if◌then◌else◌, refl, sym, ap, ◌∙◌}
-use Rattle.std.specs.List.{Contains, list_all}
-use Rattle.btr_base.specs.Key.{last_key}
-use Rattle.btr_prog.specs.Answers.{Follows, Names, no_part}
-use Rattle.btr_prog.specs.Calls.{Sure}
-use Rattle.btr_prog.specs.Prog.{exec, wants_of}
-use Rattle.btr_prog.proofs.Successive.{calls_as}
-use Rattle.btr_rack.specs.Rack.{Seen}
-use Rattle.btr_read.specs.Fate as fate
-use Rattle.btr_read.specs.Layout.{Layout}
-use Rattle.btr_read.specs.Reading.{OnMap}
-use Rattle.btr_read.specs.declared.want.Want.{Want}
-use Rattle.btr_refs.proofs.Keeping.{collected_all, refs_unwanted, refs_wanted}
-use Rattle.btr_refs.specs.Collecting.{stored_of, collect_answer, CollectCause}
-use Rattle.btr_refs.specs.declared.counted.Counted.{Counted}
-use Rattle.btr_refs.specs.Extents.{Kept, KeptRefs, is_formed, kept_step, no_refs, nothing_kept, refs_kept, stored_in, extents_in, wants_refs}
-use Rattle.btr_refs.specs.declared.wanted.Wanted.{Wanted}
-use Rattle.btr_refs.specs.declared.wanted.Wanted.TheVariants as wants
-use Rattle.btr_refs.specs.declared.collect_fault.CollectFault.{CollectFault}
-use Rattle.btr_refs.specs.declared.collect_fault.CollectFault.TheVariants as collect
-use Rattle.btr_tour.specs.Tour.{whole, items_met, first_key}
-use Rattle.btr_tour.proofs.Ranges.{faultless_law}
+use Rattle.std.proofs.Common.{◌≡◌, ℕ, ◌&&◌, eqb, Bool, true, false, List, [], ◌∷◌, ◌++◌, filter_map, flat_map, fold, Option, Some, None}
+use Rattle.std.proofs.Common.{if◌then◌else◌, refl, sym, ap, ◌∙◌}
+use Rattle.std.specs.List.{list_all, cons_option}
+use Rattle.std.specs.Option.{option_map}
+use Rattle.btr_base.specs.declared.kind.SumKind.{SumKind}
+use Rattle.btr_check_space.specs.Items.{Collects, group_in, with_mark}
+use Rattle.btr_check_space.specs.declared.group.Group.{Group}
+use Rattle.btr_findings.specs.declared.finding.Finding.{Finding}
+use Rattle.btr_items.specs.Item.{item_fits, body_fits, form_of}
+use Rattle.btr_items.specs.Key.{key_fits}
+use Rattle.btr_refs.specs.Extents.{Kept, StoredLaw, nothing_kept, stored_of, stored_step}
+use Rattle.btr_tour.proofs.Pairs.{both_folds}
+use Rattle.btr_tour.specs.Pairs.{both_step}
+use Rattle.btr_tour.specs.declared.both.Both.{Both}
+use Rattle.btr_tour.specs.Tour.{Mark, Block, Child, Item, Left, items_met, whole}
 use Rattle.btr_volume.specs.declared.root.TreeRoot.{TreeRoot}
-use Rattle.btr_volume.specs.declared.stop.Stop.{Stop}
-use Rattle.btr_walk.specs.Le.{TreeItem}
-use Rattle.btr_walk.specs.Range.{range}
-use Rattle.btr_walk.specs.Reading.{Map, UnreadBlock, Tells}
-use Rattle.btr_walk.specs.declared.place.RootPlace.{RootPlace}
-use Rattle.btr_walk.specs.declared.fault.TreeFault.TheVariants.{Lost, Unread, Unmapped, Crosses, Malformed}
-use Rattle.btr_check.proofs.Faultless.{OnlyLeft, fate_left, tree_sound}
-use Rattle.btr_check.proofs.Formed.{all_formed}
-use Rattle.btr_check.proofs.Runs.{cause_unread, fault_more}
-use Rattle.btr_check.proofs.Wants.{fault_wanted, folded_want}
-use Rattle.btr_check.specs.Counting.{Unless}
-use Rattle.btr_check.specs.ExtentTree.{IsStoredOf, stop_of}
-use Rattle.btr_check.specs.Filesystem.{Filesystem, kind_of_sums, tree_items}
-use Rattle.btr_check.specs.Running.{IfUnread, IsAnyUnread, OfReading}
-use Rattle.btr_check.specs.Wanted.{tree_wants}
-use Rattle.btr_check.specs.Trees.{items_if, tree_of}
-use Rattle.btr_check.specs.Uses.{counts_of}
-use Rattle.btr_check.specs.Walks.{walk_findings}
+use Rattle.btr_walk.specs.Le.{TreeItem, or_here}
+use Rattle.btr_check.proofs.Passes.{marks_items}
+use Rattle.btr_check.proofs.Spaces.{groups_are}
+use Rattle.btr_check.specs.Before.{left_by}
+use Rattle.btr_check.specs.ExtentTree.{AreCollected}
+use Rattle.btr_check.specs.Families.{group_tree}
+use Rattle.btr_check.specs.Filesystem.{Filesystem, has_form, kind_of_sums}
+use Rattle.btr_check.specs.Passes.{ListsSound, marks_if}
+use Rattle.btr_check.specs.Trees.{chunk_tree, items_if, last_of, listed, root_tree, trees}
+use Rattle.btr_check.specs.Uses.{stored}
+use Rattle.btr_check.specs.Walking.{or_first}
+use Rattle.btr_check.specs.Walks.{fault_finding, broken, tree_broken, tree_overlapping, walk_findings}
+use Rattle.btr_check.specs.declared.block_fault.BlockFault.{BlockFault}
+use Rattle.btr_check.specs.declared.block_fault.BlockFault.TheVariants.{Malformed as BlockMalformed}
 
--- what follows of one call where each fault of the block map leaves a block out, as it does over images
-pub drawn_left : (layout : Layout) {a b : Seen} (P Q : Map → Type 0) → ((B : Map) → OnlyLeft B → P B → Q B) → Tells layout a b P → Tells layout a b Q
-drawn_left layout P Q f one = record { calls = calls_as (λ sure h p. on_one sure h p) one.calls }
+both_true : (a b : Bool) → (a && b) ≡ true → (a ≡ true) × (b ≡ true)
+both_true true b e = (refl, e)
+both_true false b e = cc
+
+cons_ne : {X : Type 0} (x : X) (xs ys : List X) → ys ≡ x ∷ xs → ys ≡ [] → ⊥
+cons_ne x xs ys is none = cc
+
+rest_none : (o : Option Finding) (rest : List Finding) → cons_option o rest ≡ [] → rest ≡ []
+rest_none None rest none = none
+rest_none (Some finding) rest none = absurd (cons_ne finding rest (finding ∷ rest) refl none)
+
+-- an item's key keeps the rules of its type
+abbrev keyed : TreeItem → Bool
+keyed item = key_fits item.key
+
+form_keyed : (kind : SumKind) (item : TreeItem) → has_form kind item.key item.body ≡ true → keyed item ≡ true
+form_keyed kind item has =
+    (both_true (keyed item) (body_fits (form_of item.key.kind) kind item.key item.body) (both_true (item_fits kind item.key item.body) _ has).0).0
+
+abbrev by_form : TreeItem → Bool → Option BlockFault
+by_form item b = if b then None else Some (BlockMalformed item.leaf)
+
+-- and so do those of all items with which nothing is wrong
+all_keyed : (kind : SumKind) (marks : List Mark) → filter_map (broken kind) marks ≡ [] → list_all keyed (items_met marks) ≡ true
+all_keyed kind [] none = refl
+all_keyed kind (Block place block ∷ marks) none = all_keyed kind marks none
+all_keyed kind (Child addr place ∷ marks) none = all_keyed kind marks none
+all_keyed kind (Left fault ∷ marks) none =
+    all_keyed kind marks (rest_none (option_map fault_finding (left_by fault)) (filter_map (broken kind) marks) none)
+all_keyed kind (Item item ∷ marks) none = by (has_form kind item.key item.body) refl none (all_keyed kind marks)
   where
-    on_one : (sure : Sure) (h : Option (List (List ℕ))) → OnMap layout P sure h → OnMap layout Q sure h
-    on_one sure None p = tt
-    on_one sure (Some images) p = f (fate.fate images layout) (fate_left images layout) p
+    by : (b : Bool) → has_form kind item.key item.body ≡ b → cons_option (option_map fault_finding (by_form item (has_form kind item.key item.body)))
+        (filter_map (broken kind) marks) ≡ [] → (filter_map (broken kind) marks ≡ [] → list_all keyed (items_met marks) ≡ true)
+        → (keyed item && list_all keyed (items_met marks)) ≡ true
+    by true is none more =
+        ap (λ b. b && list_all keyed (items_met marks)) (form_keyed kind item is)
+        ∙ more (rest_none (option_map fault_finding (by_form item (has_form kind item.key item.body))) (filter_map (broken kind) marks) none)
+    by false is none more =
+        absurd (cons_ne (fault_finding (BlockMalformed item.leaf)) (filter_map (broken kind) marks)
+        (cons_option (option_map fault_finding (by_form item (has_form kind item.key item.body))) (filter_map (broken kind) marks))
+        (ap (λ b. cons_option (option_map fault_finding (by_form item b)) (filter_map (broken kind) marks)) is) none)
 
--- the same as the answer of a check
-abbrev pub stopped : Result Kept CollectFault → Result Kept Stop
-stopped (Ok kept) = Ok kept
-stopped (Err f) = Err (stop_of f)
+neither : {X : Type 0} (xs ys : List X) → xs ++ ys ≡ [] → (xs ≡ []) × (ys ≡ [])
+neither [] ys e = (refl, e)
+neither (x ∷ xs) ys e = absurd (cons_ne x (xs ++ ys) (x ∷ xs ++ ys) refl e)
 
-pub stored_reading : (f : CollectFault) → OfReading (stop_of f)
-stored_reading (collect.Tree f) = tt
-stored_reading collect.Memory = tt
+same_tree : (a b : TreeRoot) → Some a ≡ Some b → a ≡ b
+same_tree a b e = cc
 
--- its cause
-pub stored_cause : (layout : Layout) (old new : Seen) (r : Result Kept CollectFault) → CollectCause layout old new r
-    → IfUnread (IsAnyUnread layout old new) (stopped r)
-stored_cause layout old new (Ok kept) h = tt
-stored_cause layout old new (Err (collect.Tree f)) h = cause_unread layout old new f h
-stored_cause layout old new (Err collect.Memory) h = tt
+not_some : (a : TreeRoot) (P : Type 0) → None ≡ Some a → P
+not_some a P e = cc
 
--- and the want of it
-pub stored_unread : (Is : UnreadBlock → Want → Type 0) (B : Map) (nodesize : ℕ) (refs : Bool) (root : RootPlace) (r : Result Kept CollectFault)
-    → Follows {S = ⊥} Is no_part [] (exec B (stored_of nodesize refs root)) [] (collect_answer r)
-    → IfUnread (λ u. (want : Want) × Contains (tree_wants B root) want × Is u want) (stopped r)
-stored_unread Is B nodesize refs root (Ok kept) h = tt
-stored_unread Is B nodesize refs root (Err (collect.Tree f)) h =
-    let r = exec B (stored_of nodesize refs root) in
-    fault_more (λ u. Names Is u (wants_of r.marks)) (λ u. (want : Want) × Contains (tree_wants B root) want × Is u want)
-    (λ u named. folded_want Is u B kept_step (λ kept. kept) (nothing_kept nodesize refs) root named) f (fault_wanted Is r [] f h)
-stored_unread Is B nodesize refs root (Err collect.Memory) h = tt
+module _ {Y : Type 0} (f : TreeRoot → List Y) where
+  -- what is nothing of all trees is nothing of the last one of an id
+  none_last : (id : ℕ) (trees : List TreeRoot) (tree : TreeRoot) → last_of id trees ≡ Some tree → flat_map f trees ≡ [] → f tree ≡ []
+  none_last id [] tree is none = not_some tree (f tree ≡ []) is
+  none_last id (one ∷ more) tree is none = let both = neither (f one) (flat_map f more) none in by (last_of id more) (eqb one.id id) refl is both.0
+      (λ e. none_last id more tree e both.1)
+    where
+      by : (o : Option TreeRoot) (b : Bool) → last_of id more ≡ o → or_here o b one ≡ Some tree → f one ≡ [] → (last_of id more ≡ Some tree → f tree ≡ [])
+          → f tree ≡ []
+      by (Some later) b was e here rest = rest (was ∙ e)
+      by None true was e here rest = ap f (sym (same_tree one tree e)) ∙ here
+      by None false was e here rest = not_some tree (f tree ≡ []) e
 
-abbrev kept_ok : Kept → Result Kept fate.Fault
-kept_ok kept = Ok kept
+-- where nothing was found on the walk, nothing is broken in listed trees
+listed_sound : (fs : Filesystem) → walk_findings fs ≡ [] → flat_map (tree_broken fs) (listed fs.sup fs.blocks) ≡ []
+listed_sound fs none =
+    let all = neither (flat_map (tree_broken fs) (trees fs.sup fs.blocks)) (flat_map (tree_overlapping fs) (trees fs.sup fs.blocks)) none in
+    let behind = neither (tree_broken fs (chunk_tree fs.sup)) (tree_broken fs (root_tree fs.sup) ++ flat_map (tree_broken fs)
+    (listed fs.sup fs.blocks)) all.0 in
+    (neither (tree_broken fs (root_tree fs.sup)) (flat_map (tree_broken fs) (listed fs.sup fs.blocks)) behind.1).1
 
-abbrev not_kept : fate.Fault → Result Kept fate.Fault
-not_kept fault = Err fault
+module _ (fs : Filesystem) (all : List TreeRoot) (known : ListsSound all fs) where
+  tree_keyed : (tree : Option TreeRoot) → last_of 2 (listed fs.sup fs.blocks) ≡ tree → list_all keyed (items_met (marks_if fs.blocks tree)) ≡ true
+  tree_keyed None is = refl
+  tree_keyed (Some tree) is = all_keyed (kind_of_sums fs) (whole fs.blocks tree.place)
+      (none_last (tree_broken fs) 2 (listed fs.sup fs.blocks) tree is (listed_sound fs known.sound))
 
-same_kept : (a b : Kept) → kept_ok a ≡ kept_ok b → b ≡ a
-same_kept a b e = cc
+  -- what a visit of the extent tree kept
+  pub stored_are : StoredLaw → (tree : Option TreeRoot) (none kept : Kept) → tree ≡ last_of 2 all → none ≡ nothing_kept fs.sup.nodesize
+      → kept ≡ fold stored_step none (marks_if fs.blocks tree) → kept ≡ stored fs
+  stored_are law tree none kept is empty folded =
+      let here : tree ≡ last_of 2 (listed fs.sup fs.blocks) = is ∙ ap (last_of 2) known.lists in
+      folded ∙ ap (λ n. fold stored_step n (marks_if fs.blocks tree)) empty
+      ∙ law fs.sup.nodesize (marks_if fs.blocks tree) (tree_keyed tree (sym here))
+      ∙ ap (stored_of fs.sup.nodesize) (marks_items fs.blocks tree ∙ ap (items_if fs.blocks) here)
 
-not_both : (kept : Kept) (fault : fate.Fault) (P : Type 0) → kept_ok kept ≡ not_kept fault → P
-not_both kept fault P e = cc
-
--- the references that are kept, where they are wanted
-refs_are : (wanted : Wanted) (refs : List Counted) → (refs_kept (no_refs (wants_refs wanted)) refs).counts ≡ (if wants_refs wanted then counts_of refs else [])
-refs_are wants.All refs = ap (λ (k : KeptRefs). k.counts) (refs_wanted [] refs)
-refs_are (wants.Extents room) refs = ap (λ (k : KeptRefs). k.counts) (refs_unwanted [] refs)
-
-module _ (fs : Filesystem) (only : OnlyLeft fs.blocks) (wanted : Wanted) (tree : TreeRoot) (is : tree_of fs.sup fs.blocks 2 ≡ Some tree) (none : walk_findings fs ≡ []) where
-  abbrev items : List TreeItem
-  items = items_met (whole fs.blocks tree.place)
-
-  items_are : items ≡ tree_items fs 2
-  items_are = ap (items_if fs.blocks) (sym is)
-
-  abbrev all : Kept
-  all = record { nodesize = fs.sup.nodesize; refs = refs_kept (no_refs (wants_refs wanted)) (stored_in items); extents = extents_in fs.sup.nodesize items }
-
-  -- the program comes to its end with all
-  ends : (exec fs.blocks (stored_of fs.sup.nodesize (wants_refs wanted) tree.place)).ending ≡ Ok all
-  ends =
-      let sound = tree_sound fs 2 tree only is none in
-      let law = faultless_law fs.blocks tree.place first_key last_key sound.faultless in
-      let run = exec fs.blocks (range first_key last_key tree.place) in
-      let formed = ap (list_all (λ (item : TreeItem). is_formed item.key item.body)) law.0 ∙ all_formed (kind_of_sums fs) items sound.formed in
-      collected_all fs.blocks fs.sup.nodesize (wants_refs wanted) tree.place law.1 formed
-      ∙ ap (λ (l : List TreeItem). kept_ok (record
-      { nodesize = fs.sup.nodesize; refs = refs_kept (no_refs (wants_refs wanted)) (stored_in l); extents = extents_in fs.sup.nodesize l })) law.0
-
-  is_stored : (kept : Kept) → kept ≡ all → IsStoredOf fs wanted kept
-  is_stored kept e = record {
-    refs = ap (λ (k : Kept). k.refs.counts) e ∙ refs_are wanted (stored_in items) ∙ ap (λ l. if wants_refs wanted then counts_of (stored_in l) else []) items_are;
-    extents = ap (λ (k : Kept). k.extents) e ∙ ap (extents_in fs.sup.nodesize) items_are;
+  -- what visits kept of the extent tree and of the tree that has the block groups
+  pub both_are : StoredLaw → Collects group_in → (first second : Option TreeRoot) (none both : Both Kept (List Group)) → first ≡ last_of 2 all
+      → second ≡ group_tree all → none ≡ record { first = nothing_kept fs.sup.nodesize; second = [] }
+      → both ≡ record {
+        first = fold stored_step none.first (marks_if fs.blocks first);
+        second = fold (with_mark group_in) none.second (marks_if fs.blocks second);
+      } → AreCollected fs both
+  both_are law groups_law first second none both is has empty folded = record {
+    stored = stored_are law first none.first both.first is (ap (λ (b : Both Kept (List Group)). b.first) empty)
+        (ap (λ (b : Both Kept (List Group)). b.first) folded);
+    groups = groups_are fs groups_law all second none.second both.second known.lists has (ap (λ (b : Both Kept (List Group)). b.second) empty)
+        (ap (λ (b : Both Kept (List Group)). b.second) folded);
   }
 
-  pub stored_reads : (Is : UnreadBlock → Want → Type 0) (r : Result Kept CollectFault) → Follows Is no_part []
-      (exec fs.blocks (stored_of fs.sup.nodesize (wants_refs wanted) tree.place)) [] (collect_answer r) → Unless (IsStoredOf fs wanted) (stopped r)
-  stored_reads Is (Ok kept) h = is_stored kept (same_kept all kept (sym ends ∙ h.1))
-  stored_reads Is (Err collect.Memory) h = refl
-  stored_reads Is (Err (collect.Tree (Lost addr))) h = not_both all (fate.Lost addr) _ (sym ends ∙ h.1)
-  stored_reads Is (Err (collect.Tree (Unread addr slot))) h = refl
-  stored_reads Is (Err (collect.Tree (Unmapped addr))) h = not_both all (fate.Unmapped addr) _ (sym ends ∙ h.1)
-  stored_reads Is (Err (collect.Tree (Crosses addr))) h = not_both all (fate.Crosses addr) _ (sym ends ∙ h.1)
-  stored_reads Is (Err (collect.Tree (Malformed addr))) h = not_both all (fate.Malformed addr) _ (sym ends ∙ h.1)
+  -- the same of one visit, where block groups have no tree of their own
+  pub both_at_once : StoredLaw → Collects group_in → (tree : Option TreeRoot) (none both : Both Kept (List Group)) → tree ≡ last_of 2 all
+      → last_of 11 all ≡ None → none ≡ record { first = nothing_kept fs.sup.nodesize; second = [] }
+      → both ≡ fold (both_step stored_step (with_mark group_in)) none (marks_if fs.blocks tree) → AreCollected fs both
+  both_at_once law groups_law tree none both is apart empty folded =
+      both_are law groups_law tree tree none both is (is ∙ ap (λ o. or_first o (last_of 2 all)) (sym apart)) empty
+      (folded ∙ both_folds stored_step (with_mark group_in) (marks_if fs.blocks tree) none)

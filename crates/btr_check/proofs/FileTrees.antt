@@ -1,5 +1,6 @@
 -- Trees of files, one after another.
-use Rattle.std.proofs.Common.{◌≡◌, ℕ, Bool, true, false, ◌&&◌, cond, map, filter_map, ◌+◌, ◌<◌, ◌≤◌, List, [], ◌∷◌, ◌++◌, length, take, get_or, filter, flat_map}
+use Rattle.std.proofs.Common.{◌≡◌, ℕ, Bool, true, false, ◌&&◌, cond, map, filter_map, ◌+◌, ◌<◌, ◌≤◌, List, [], ◌∷◌, ◌++◌, length, take, get_or, filter}
+use Rattle.std.proofs.Common.{flat_map}
 use Rattle.std.proofs.Common.{fold, Result, Ok, Err, refl, sym, ap, ◌∙◌, subst, append_assoc, append-nil}
 use Rattle.std.proofs.lemmas.Grind.{flat_map-append}
 use Rattle.std.proofs.lemmas.List.{take_more, take_all}
@@ -26,7 +27,8 @@ use Rattle.btr_walk.specs.Reading.{Map}
 use Rattle.btr_check.specs.Data.{sum_runs}
 use Rattle.btr_check.specs.Families.{subvolumes, found_on_files}
 use Rattle.btr_check.specs.Filesystem.{Filesystem, file_trees, is_file_tree, root_items}
-use Rattle.btr_check.specs.FileTrees.{nothing_met, file_step, mark_plain, names_of, missing_findings, file_tree_findings, root_entries, with_entries, Treats, TreatsNames}
+use Rattle.btr_check.specs.FileTrees.{nothing_met, file_step, mark_plain, names_of, missing_findings, file_tree_findings, root_entries, with_entries, Treats}
+use Rattle.btr_check.specs.FileTrees.{TreatsNames}
 use Rattle.btr_check.specs.Passes.{Lists}
 use Rattle.btr_check.specs.Trees.{items_in}
 use Rattle.btr_check.specs.declared.file_tree.FileTree.{FileTree}

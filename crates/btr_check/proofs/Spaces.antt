@@ -1,19 +1,17 @@
 -- Block groups and devices that were collected.
-use Rattle.std.proofs.Common.{◌≡◌, ℕ, List, [], fold, filter_map, Option, Some, ap, ◌∙◌}
+use Rattle.std.proofs.Common.{◌≡◌, List, [], fold, filter_map, Option, Some, ap, ◌∙◌}
 use Rattle.btr_chunk.specs.declared.chunk.Chunk.{Chunk}
 use Rattle.btr_findings.proofs.Adding.{adds_as}
 use Rattle.btr_findings.specs.Findings.{Adds, FoundSet}
-use Rattle.btr_findings.specs.declared.extent.Extent.{Extent}
 use Rattle.btr_check_space.specs.Devices.{device_findings}
-use Rattle.btr_check_space.specs.Groups.{group_findings}
 use Rattle.btr_check_space.specs.Items.{with_mark, group_in, device_extent_in, device_in, groups_in, Collects}
 use Rattle.btr_check_space.specs.declared.device_extent.DeviceExtent.{DeviceExtent}
 use Rattle.btr_check_space.specs.declared.group.Group.{Group}
 use Rattle.btr_check_space.specs.declared.stated_device.StatedDevice.{StatedDevice}
 use Rattle.btr_volume.specs.declared.root.TreeRoot.{TreeRoot}
 use Rattle.btr_check.proofs.Passes.{collected}
-use Rattle.btr_check.specs.Families.{group_tree, groups, device_extents, devices, found_on_groups, found_on_devices}
-use Rattle.btr_check.specs.Filesystem.{Filesystem, extents}
+use Rattle.btr_check.specs.Families.{group_tree, groups, device_extents, devices, found_on_devices}
+use Rattle.btr_check.specs.Filesystem.{Filesystem}
 use Rattle.btr_check.specs.Passes.{Lists, marks_if}
 use Rattle.btr_check.specs.Trees.{chunk_tree, last_of, items_if}
 
@@ -23,12 +21,6 @@ module _ (fs : Filesystem) where
       → none ≡ [] → met ≡ fold (with_mark group_in) none (marks_if fs.blocks tree) → met ≡ groups fs
   groups_are law trees tree none met lists is empty folded =
       collected group_in law fs.blocks tree none met empty folded ∙ ap (λ t. groups_in (items_if fs.blocks t)) (is ∙ ap group_tree lists)
-
-  pub groups_put : (chunks : List Chunk) (extent_list : List Extent) (group_list : List Group) (bytes : ℕ) (a b : FoundSet) → chunks ≡ fs.chunks
-      → extent_list ≡ extents fs → group_list ≡ groups fs → bytes ≡ fs.sup.bytes_used
-      → Adds (group_findings chunks extent_list group_list bytes) a b → Adds (found_on_groups fs) a b
-  groups_put chunks extent_list group_list bytes a b one two three four adds =
-      adds_as (group_findings chunks extent_list group_list bytes) (found_on_groups fs) a b (λ i. group_findings (one i) (two i) (three i) (four i)) adds
 
   -- what is met in the device tree
   pub device_extents_are : Collects device_extent_in → (trees : List TreeRoot) (tree : Option TreeRoot) (none met : List DeviceExtent) → Lists trees fs

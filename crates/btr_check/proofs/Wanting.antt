@@ -17,13 +17,12 @@ use Rattle.btr_walk.specs.declared.place.RootPlace.{RootPlace}
 use Rattle.btr_walk.specs.declared.spot.Spot.{Spot}
 use Rattle.btr_check.proofs.Openings.{AreChildren}
 use Rattle.btr_check.proofs.Wants.{first_in, first_or_later, later_in, none_in, wants_met-append}
-use Rattle.btr_check.specs.Families.{group_tree}
 use Rattle.btr_check.specs.Filesystem.{Filesystem, is_file_tree}
 use Rattle.btr_check.specs.Passes.{AreAll, Lists}
 use Rattle.btr_check.specs.Passing.{Opens, children_marks, subtree_marks}
 use Rattle.btr_check.specs.Running.{FaultUnread}
 use Rattle.btr_check.specs.Trees.{chunk_tree, first_met, is_among, last_of, listed, place_of as at_place, root_tree, trees}
-use Rattle.btr_check.specs.Walking.{ArePlaces, WalkSeen, or_first}
+use Rattle.btr_check.specs.Walking.{ArePlaces, WalkSeen}
 use Rattle.btr_check.specs.Wanted.{AreSums, OfAllTrees, OfData, OfPlaces, OfSector, OfSectors, OfSubtree, OfSubtrees}
 use Rattle.btr_check.specs.Wanted.{OfTree, OfTrees, subtree_wants, want_at, wants_met}
 use Rattle.btr_check.specs.declared.opening.Opened.{Opened}
@@ -106,13 +105,12 @@ module _ (fs : Filesystem) where
   last_wanted all id None want is lists h = none_in h.0 _ h.1
   last_wanted all id (Some tree) want is lists h = (tree, listed_in all tree lists (last_in id all tree (sym is)), one_wanted tree want h)
 
-  pub group_wanted : (all : List TreeRoot) (tree : Option TreeRoot) (want : Want) → tree ≡ group_tree all → Lists all fs
-      → OfTrees (option_to_list tree) fs want → OfAllTrees fs want
-  group_wanted all tree want is lists h = by (last_of 11 all) refl is
-    where
-      by : (o : Option TreeRoot) → last_of 11 all ≡ o → tree ≡ or_first o (last_of 2 all) → OfAllTrees fs want
-      by None was e = last_wanted all 2 tree want e lists h
-      by (Some one) was e = last_wanted all 11 tree want (e ∙ sym was) lists h
+  -- of the last ones of two ids
+  pub two_wanted : (all : List TreeRoot) (id other : ℕ) (first second : Option TreeRoot) (want : Want) → first ≡ last_of id all → second ≡ last_of other all
+      → Lists all fs → OfTrees (option_to_list first ++ option_to_list second) fs want → OfAllTrees fs want
+  two_wanted all id other first second want is has lists h =
+      ⊎_elim (λ one. last_wanted all id first want is lists (h.0, one, h.2)) (λ two. last_wanted all other second want has lists (h.0, two, h.2))
+      (Contains-append_cases (option_to_list first) (option_to_list second) h.0 h.1)
 
   -- of some trees that are all of the filesystem's
   pub all_wanted : (all : List TreeRoot) (want : Want) → AreAll all fs → OfTrees all fs want → OfAllTrees fs want

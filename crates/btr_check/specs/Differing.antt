@@ -7,11 +7,11 @@ use Rattle.btr_check_differences.specs.Law.{NothingMissing, is_plain, tours}
 use Rattle.btr_check_names.specs.declared.unpaired.Unpaired.{Unpaired}
 use Rattle.btr_check_names.specs.Differences.{compared_of}
 use Rattle.btr_check_names.specs.Unpaired.{are_paired, are_whole, unpaired_of}
-use Rattle.btr_check_space.specs.declared.cover.Stretch.{Stretch}
+use Rattle.btr_check_space.specs.declared.address_ranges.AddressRange.{AddressRange}
 use Rattle.btr_read.specs.declared.want.Want.{Want}
 use Rattle.btr_tour.specs.Tour.{Mark, items_met}
 use Rattle.btr_check.specs.Data.{sum_runs}
-use Rattle.btr_check.specs.Families.{IsCoverOf}
+use Rattle.btr_check.specs.Families.{AreSumRanges}
 use Rattle.btr_check.specs.Filesystem.{Filesystem}
 use Rattle.btr_check.specs.SoundTrees.{AreBelow, IsKeptOf}
 use Rattle.btr_check.specs.declared.sound_tree.RootedTree.{RootedTree}
@@ -41,18 +41,18 @@ module _ (fs : Filesystem) where
 
   -- Nothing is wrong with what a tree has of some inodes, but for names that wait for their counterparts: nothing of it is an orphan's, and, where
   -- these are the addresses that have checksums, nothing is missing of these
-  pub record IsWholeAlone (sums : List Stretch) (rooted : RootedTree) (ranges : List InodeRange) : Type 0 where
+  pub record IsWholeAlone (sums : List AddressRange) (rooted : RootedTree) (ranges : List InodeRange) : Type 0 where
     pub plain : list_all is_plain (items_met (own_marks rooted ranges)) ≡ true
     pub whole : are_whole (unpaired_of rooted.tree.dirid (own_marks rooted ranges)) ≡ true
-    pub summed : IsCoverOf fs sums → NothingMissing fs.chunks (sum_runs fs) rooted.tree.id (items_met (own_marks rooted ranges))
+    pub summed : AreSumRanges fs sums → NothingMissing fs.chunks (sum_runs fs) rooted.tree.id (items_met (own_marks rooted ranges))
 
   -- with what another tree has of these inodes all names are paired, and none of either leads to a subvolume
   pub record ArePairedBy (before after : RootedTree) (ranges : List InodeRange) : Type 0 where
     pub paired : are_paired (compared_of after.tree.dirid (own_marks after ranges) (own_marks before ranges)) ≡ true
     pub subvolumes : (compared_of after.tree.dirid (own_marks after ranges) (own_marks before ranges)).subvolumes ≡ []
 
-  -- a tree is sound where another one is, from which it differs by some inodes
-  pub record Settle (sums : List Stretch) (before after : RootedTree) (ranges : List InodeRange) : Type 0 where
+  -- what a tree has of some inodes, and what another one has of them, add up: nothing is wrong with the ones alone, and with the others they are paired
+  pub record AddUp (sums : List AddressRange) (before after : RootedTree) (ranges : List InodeRange) : Type 0 where
     pub alone : IsWholeAlone sums after ranges
     pub both : ArePairedBy before after ranges
 

@@ -2,16 +2,16 @@
 use Rattle.std.specs.Prelude.{◌≡◌, List, ◌++◌, map, flat_map, Option}
 use Rattle.btr_check_names.specs.Subvolumes.{Subvolumes, subvolumes_in, subvolume_findings}
 use Rattle.btr_findings.specs.declared.finding.Finding.{Finding}
-use Rattle.btr_check_space.specs.Cover.{HoldSame}
+use Rattle.btr_check_space.specs.AddressRanges.{HoldSame}
 use Rattle.btr_check_space.specs.Devices.{device_findings}
 use Rattle.btr_check_space.specs.Groups.{group_findings}
 use Rattle.btr_check_space.specs.Items.{groups_in, device_extents_in, devices_in}
-use Rattle.btr_check_space.specs.declared.cover.Stretch.{Stretch}
+use Rattle.btr_check_space.specs.declared.address_ranges.AddressRange.{AddressRange}
 use Rattle.btr_check_space.specs.declared.device_extent.DeviceExtent.{DeviceExtent}
 use Rattle.btr_check_space.specs.declared.group.Group.{Group}
 use Rattle.btr_check_space.specs.declared.stated_device.StatedDevice.{StatedDevice}
 use Rattle.btr_check_sums.specs.Items.{RunsMet}
-use Rattle.btr_check_sums.specs.Sums.{run_stretch, sum_findings}
+use Rattle.btr_check_sums.specs.Sums.{run_range, sum_findings}
 use Rattle.btr_volume.specs.declared.root.TreeRoot.{TreeRoot}
 use Rattle.btr_check.specs.Data.{sum_runs}
 use Rattle.btr_check.specs.FileTrees.{file_tree_findings, root_entries}
@@ -46,8 +46,8 @@ module _ (fs : Filesystem) where
   IsRunsOf met = met.runs ≡ sum_runs fs
 
   -- these are the ranges of addresses that have checksums
-  abbrev pub IsCoverOf : List Stretch → Type 0
-  IsCoverOf sums = HoldSame (map run_stretch (sum_runs fs)) sums
+  abbrev pub AreSumRanges : List AddressRange → Type 0
+  AreSumRanges sums = HoldSame (map run_range (sum_runs fs)) sums
 
   -- 5, 6, 24, 25, 28, 30
   abbrev pub found_on_groups : List Finding

@@ -12,10 +12,10 @@ use Rattle.btr_check_names.specs.Unpaired.{are_paired, are_whole, nothing_unpair
 use Rattle.btr_check_names.specs.declared.unpaired.Unpaired.{Unpaired}
 use Rattle.btr_findings.specs.declared.finding.Finding.{Finding}
 use Rattle.btr_findings.specs.Findings.{Adds, FoundSet}
-use Rattle.btr_check_space.specs.Cover.{HoldSame}
-use Rattle.btr_check_space.specs.declared.cover.Stretch.{Stretch}
+use Rattle.btr_check_space.specs.AddressRanges.{HoldSame}
+use Rattle.btr_check_space.specs.declared.address_ranges.AddressRange.{AddressRange}
 use Rattle.btr_check_sums.specs.Items.{UsesMet, uses_step, loose_in, used_in}
-use Rattle.btr_check_sums.specs.Sums.{run_stretch, tree_missing}
+use Rattle.btr_check_sums.specs.Sums.{run_range, tree_missing}
 use Rattle.btr_tour.specs.Tour.{Mark, Block, Child, Item, Left}
 use Rattle.btr_volume.specs.declared.root.TreeRoot.{TreeRoot}
 use Rattle.btr_walk.specs.Reading.{Map}
@@ -64,16 +64,16 @@ entries_if true tree entries names = subvolumes_at names tree entries
 entries_if false tree entries names = names
 
 -- by the ranges of addresses that have checksums, nothing is missing of those of a tree where it is said
-abbrev pub AreSummed : ℕ → UsesMet → List Chunk → List Stretch → Result Bool Memory → Type 0
+abbrev pub AreSummed : ℕ → UsesMet → List Chunk → List AddressRange → Result Bool Memory → Type 0
 AreSummed tree uses chunks sums result =
-    (runs : List SumRun) → HoldSame (map run_stretch runs) sums → IfOk result
+    (runs : List SumRun) → HoldSame (map run_range runs) sums → IfOk result
     (λ summed. summed ≡ true → tree_missing chunks runs tree uses.loose uses.used ≡ [])
 
 -- nothing is wrong with what was met of a tree, but for names that wait for their counterparts
-pub record IsSoundAlone (tree : ℕ) (met : FileTree) (chunks : List Chunk) (sums : List Stretch) : Type 0 where
+pub record IsSoundAlone (tree : ℕ) (met : FileTree) (chunks : List Chunk) (sums : List AddressRange) : Type 0 where
   pub plain : met.is_plain ≡ true
   pub whole : are_whole met.names ≡ true
-  pub summed : (runs : List SumRun) → HoldSame (map run_stretch runs) sums → tree_missing chunks runs tree met.uses.loose met.uses.used ≡ []
+  pub summed : (runs : List SumRun) → HoldSame (map run_range runs) sums → tree_missing chunks runs tree met.uses.loose met.uses.used ≡ []
 
 -- no names wait for their counterparts, and none of them leads to a subvolume
 pub record ArePairedHere (names : Unpaired) : Type 0 where
@@ -81,16 +81,16 @@ pub record ArePairedHere (names : Unpaired) : Type 0 where
   pub subvolumes : names.subvolumes ≡ []
 
 -- by the ranges of addresses that have checksums, what is missing of those of a tree was put; and whether nothing is
-abbrev pub AddsMissing : ℕ → UsesMet → List Chunk → List Stretch → FoundSet → FoundSet → Result Bool Memory → Type 0
+abbrev pub AddsMissing : ℕ → UsesMet → List Chunk → List AddressRange → FoundSet → FoundSet → Result Bool Memory → Type 0
 AddsMissing tree uses chunks sums old new result =
-    (runs : List SumRun) → HoldSame (map run_stretch runs) sums → IfOk result
+    (runs : List SumRun) → HoldSame (map run_range runs) sums → IfOk result
     (λ summed. Adds (tree_missing chunks runs tree uses.loose uses.used) old new
     × (summed ≡ true → tree_missing chunks runs tree uses.loose uses.used ≡ []))
 
 -- the same of what was met of a tree, without an answer to the second
-abbrev pub PutsMissing : ℕ → FileTree → List Chunk → List Stretch → FoundSet → FoundSet → Result Bool Memory → Type 0
+abbrev pub PutsMissing : ℕ → FileTree → List Chunk → List AddressRange → FoundSet → FoundSet → Result Bool Memory → Type 0
 PutsMissing tree met chunks sums old new result =
-    (runs : List SumRun) → HoldSame (map run_stretch runs) sums → IfOk result
+    (runs : List SumRun) → HoldSame (map run_range runs) sums → IfOk result
     (λ paired. Adds (tree_missing chunks runs tree met.uses.loose met.uses.used) old new)
 
 -- the entries of a tree that lead to subvolumes are kept where its names are paired

@@ -9,7 +9,6 @@ pub mod Passing
 pub mod Counting
 pub mod Text
 pub mod ExtentTree
-pub mod Misusing
 pub mod Passes
 pub mod FileTrees
 pub mod Data

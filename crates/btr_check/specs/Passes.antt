@@ -1,11 +1,11 @@
 -- What a pass of a check does: it visits a tree, and puts what is wrong into a set of findings.
 use Rattle.std.specs.Prelude.{◌≡◌, List, [], Option, Some, None, Result, Ok, Err}
+use Rattle.std.specs.declared.alloc.Global.{Global}
+use Rattle.std.specs.declared.vec.Vec.{Vec}
 use Rattle.btr_base.specs.declared.memory.Memory.{Memory}
 use Rattle.btr_findings.specs.declared.finding.Finding.{Finding}
 use Rattle.btr_findings.specs.Findings.{Adds, FoundSet}
 use Rattle.btr_findings.specs.declared.extent.Extent.{Extent}
-use Rattle.btr_refs.specs.Forward.{AreUsedBy}
-use Rattle.btr_refs.specs.declared.uses.UsedExtents.{UsedExtents}
 use Rattle.btr_tour.specs.Tour.{Mark, whole}
 use Rattle.btr_volume.specs.declared.root.TreeRoot.{TreeRoot}
 use Rattle.btr_volume.specs.declared.stop.Stop.{Stop}
@@ -13,11 +13,10 @@ use Rattle.btr_volume.specs.declared.stop.Stop.TheVariants as stops
 use Rattle.btr_walk.specs.Reading.{Map}
 use Rattle.btr_walk.specs.declared.place.RootPlace.{RootPlace}
 use Rattle.btr_check.specs.Counting.{Unless}
-use Rattle.btr_check.specs.ExtentTree.{AreRefsOf}
+use Rattle.btr_check.specs.ExtentTree.{IsBegun}
 use Rattle.btr_check.specs.Filesystem.{Filesystem, extents}
-use Rattle.btr_check.specs.Uses.{all_uses}
 use Rattle.btr_check.specs.Walking.{ArePlaces, WalkSeen, IsWalkOf}
-use Rattle.btr_check.specs.declared.references.StoredRefs.{StoredRefs}
+use Rattle.btr_check.specs.declared.references.Begun.{Begun}
 use Rattle.btr_check.specs.Walks.{walk_findings}
 use Rattle.btr_check.specs.Trees.{listed, trees}
 
@@ -48,15 +47,15 @@ AreAll all fs = all ≡ trees fs.sup fs.blocks
 abbrev pub AreExtents : List Extent → Filesystem → Type 0
 AreExtents all fs = all ≡ extents fs
 
+-- the same as a list
+abbrev pub ListExtents : Filesystem → Vec Extent Global → Type 0
+ListExtents fs all = AreExtents all.items fs
+
 -- what is known where uses are counted: all trees, the blocks that they reach, and what is kept of the extent tree
-pub record IsCounted (all_trees : List TreeRoot) (places : List RootPlace) (stored : StoredRefs) (fs : Filesystem) : Type 0 where
+pub record IsCounted (all_trees : List TreeRoot) (places : List RootPlace) (begun : Begun) (fs : Filesystem) : Type 0 where
   pub all : AreAll all_trees fs
   pub reached : ArePlaces fs all_trees places
-  pub kept : AreRefsOf fs stored
-
--- these are the extents that all uses use
-abbrev pub AreUsed : Filesystem → UsedExtents → Type 0
-AreUsed fs used = AreUsedBy (all_uses fs) used
+  pub kept : IsBegun fs begun
 
 -- the walk of all trees found nothing; these are all trees, and what was walked of them
 pub record IsWalked (listed_trees all_trees : List TreeRoot) (walk : WalkSeen) (fs : Filesystem) : Type 0 where
@@ -71,6 +70,6 @@ abbrev pub AddsFindings : (Filesystem → Type 0) → (Filesystem → List Findi
 AddsFindings Known found old new result fs = Known fs → Unless (λ u. Adds (found fs) old new) result
 
 -- the same of a call that answers a value
-abbrev pub AddsFindingsAnd : {A : Type 0} → (Filesystem → Type 0) → (Filesystem → A → Type 0) → (Filesystem → List Finding) → FoundSet → FoundSet → Result A Stop
-    → Filesystem → Type 0
+abbrev pub AddsFindingsAnd : {A : Type 0} → (Filesystem → Type 0) → (Filesystem → A → Type 0) → (Filesystem → List Finding) → FoundSet → FoundSet
+    → Result A Stop → Filesystem → Type 0
 AddsFindingsAnd Known Is found old new result fs = Known fs → Unless (λ a. Is fs a × Adds (found fs) old new) result

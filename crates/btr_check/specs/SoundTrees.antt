@@ -7,7 +7,7 @@ use Rattle.btr_check_differences.specs.Law.{is_plain}
 use Rattle.btr_check_names.specs.declared.unpaired.Unpaired.{Unpaired}
 use Rattle.btr_check_names.specs.Settled.{AreSettled}
 use Rattle.btr_check_names.specs.Subvolumes.{Subvolumes, leads_to_root}
-use Rattle.btr_check_space.specs.declared.cover.Stretch.{Stretch}
+use Rattle.btr_check_space.specs.declared.address_ranges.AddressRange.{AddressRange}
 use Rattle.btr_check_sums.specs.Sums.{tree_missing}
 use Rattle.btr_findings.specs.Findings.{FoundSet}
 use Rattle.btr_tour.specs.Tour.{items_met}
@@ -15,7 +15,7 @@ use Rattle.btr_volume.specs.declared.root.TreeRoot.{TreeRoot}
 use Rattle.btr_walk.specs.Le.{TreeItem}
 use Rattle.btr_walk.specs.declared.spot.Spot.{Spot}
 use Rattle.btr_check.specs.Data.{sum_runs}
-use Rattle.btr_check.specs.Families.{IsCoverOf}
+use Rattle.btr_check.specs.Families.{AreSumRanges}
 use Rattle.btr_check.specs.FileTrees.{file_tree_findings, names_of, Treats}
 use Rattle.btr_check.specs.Filesystem.{Filesystem}
 use Rattle.btr_check.specs.Passing.{subtree_marks}
@@ -39,7 +39,7 @@ module _ (fs : Filesystem) where
     pub nothing : file_tree_findings fs.blocks fs.chunks (sum_runs fs) tree ≡ []
     pub entries : names.subvolumes ≡ filter leads_to_root (names_of fs.blocks tree).indexed
 
-  -- a tree is sound, its names settle by counts, these are the blocks below its root, and where it is said nothing of it is an orphan's
+  -- a tree is sound, its names add up by counts, these are the blocks below its root, and where it is said nothing of it is an orphan's
   pub record IsKeptOf (one : SoundTree) : Type 0 where
     pub sound : IsSound one.rooted.tree one.names
     pub settled : AreSettled (names_of fs.blocks one.rooted.tree)
@@ -64,9 +64,9 @@ PassesTree sound rooted old new true =
 PassesTree sound rooted old new false = new ≡ old
 
 -- a tree that was visited is kept, at most where nothing is missing of its checksums
-abbrev pub KeepsSound : RootedTree → FileTree → List Chunk → List Stretch → List SoundTree → List SoundTree → Result Bool Memory → Type 0
+abbrev pub KeepsSound : RootedTree → FileTree → List Chunk → List AddressRange → List SoundTree → List SoundTree → Result Bool Memory → Type 0
 KeepsSound rooted met chunks sums old new result =
-    IfOk result (λ paired. (fs : Filesystem) → IsCoverOf fs sums
+    IfOk result (λ paired. (fs : Filesystem) → AreSumRanges fs sums
     → (paired ≡ true → tree_missing chunks (sum_runs fs) rooted.tree.id met.uses.loose met.uses.used ≡ []
     → IsKeptOf fs (record { rooted = rooted; names = met.names; is_plain = met.is_plain }))
     → AreKept fs old → AreKept fs new)

@@ -9,50 +9,44 @@ ghost use Rattle.btr_check.specs.Passes.{IsWalked, Lists, AddsFindings, AddsFind
 ghost use Rattle.btr_check.specs.Running.{world, CanCheck, Answers, Ran};
 ghost use Rattle.btr_check.specs.Wanted.{IfKnown, OfAllTrees, OfCheck};
 
+use crate::checked::Checked;
 use crate::file_trees::put_files;
 use crate::readable::put_data_findings;
 use crate::references::put_references;
 use crate::refusing::last_of;
-use crate::space::{put_devices, put_groups};
+use crate::space::put_devices;
 use crate::sums::{SUM_TREE, put_sums};
 use crate::walk::Walk;
 use crate::{all_trees, put_walk_findings, read_trees, walk_trees};
 use btr_base::Memory;
-use btr_check_sums::{Runs, sum_cover};
+use btr_check_sums::{Runs, sum_ranges};
 use btr_findings::{Findings, Found};
 use btr_rack::Rack;
 use btr_volume::{Stop, TreeRoot, Volume};
 use std::alloc::Global;
 
-// AddsFindings what is wrong with extents, with the references to them, with block groups and with checksums, and answers the runs of checksums.
+// Puts what is wrong with extents, with the references to them, with block groups and with checksums, and answers the runs of checksums.
 fn put_extents<R: Rack>(
     alloc: Global,
     found: &mut Found,
-    listed: &[TreeRoot],
-    trees: &[TreeRoot],
+    checked: Checked<'_>,
     walk: Walk,
     rack: &mut R,
     vol: &mut Volume,
 ) -> Result<Runs, Stop>
     requires ready { CanCheck (world (R.seen rack.old) vol.old) }
-    ensures ran { Ran (IfKnown (IsWalked listed.now trees.now walk) OfAllTrees)
-        (AddsFindingsAnd
-        (IsWalked listed.now trees.now walk) IsRunsOf found_on_extents found.old found.new result)
+    ensures ran { Ran (IfKnown (IsWalked checked.entry.listed.now checked.entry.trees.now walk) OfAllTrees)
+        (AddsFindingsAnd (IsWalked checked.entry.listed.now checked.entry.trees.now walk) IsRunsOf found_on_extents found.old found.new result)
         (world (R.seen rack.old) vol.old) (world (R.seen rack.new) vol.new) result }
 {
-    let extents = match put_references(alloc, found, listed, trees, walk, rack, vol) {
+    let extents = match put_references(alloc, found, checked, walk, rack, vol) {
         Ok(extents) => extents,
         Err(stop) => return Err(stop),
     };
-    let all = extents.as_slice();
-    match put_groups(alloc, found, listed, all, rack, vol) {
-        Ok(()) => {}
-        Err(stop) => return Err(stop),
-    }
-    put_sums(alloc, found, listed, all, rack, vol)
+    put_sums(alloc, found, checked.listed, extents.as_slice(), rack, vol)
 }
 
-// AddsFindings what is lost of the data, where data is read.
+// Puts what is lost of the data, where data is read.
 fn put_data_if<R: Rack>(
     read_data: bool,
     found: &mut Found,
@@ -76,55 +70,52 @@ fn put_data_if<R: Rack>(
     }
 }
 
-// AddsFindings what is wrong with files and names, and what is lost of the data, where that is read. These are the runs of checksums.
+// Puts what is wrong with files and names, and what is lost of the data, where that is read. These are the runs of checksums.
 fn put_contents<R: Rack>(
     alloc: Global,
-    read_data: bool,
     found: &mut Found,
-    listed: &[TreeRoot],
+    checked: Checked<'_>,
     runs: Runs,
     rack: &mut R,
     vol: &mut Volume,
 ) -> Result<(), Stop>
     requires ready { CanCheck (world (R.seen rack.old) vol.old) }
-    ensures ran { Ran (IfKnown (λ fs. Lists listed.now fs × IsRunsOf fs runs) (OfCheck read_data))
-        (AddsFindings (λ fs. Lists listed.now fs × IsRunsOf fs runs)
-        (λ fs. data_if read_data fs ++ found_on_files fs) found.old found.new result)
+    ensures ran { Ran (IfKnown (λ fs. Lists checked.entry.listed.now fs × IsRunsOf fs runs) (OfCheck checked.entry.read_data))
+        (AddsFindings (λ fs. Lists checked.entry.listed.now fs × IsRunsOf fs runs)
+        (λ fs. data_if checked.entry.read_data fs ++ found_on_files fs) found.old found.new result)
         (world (R.seen rack.old) vol.old) (world (R.seen rack.new) vol.new) result }
 {
-    match put_data_if(read_data, found, listed, &runs, rack, vol) {
+    match put_data_if(checked.read_data, found, checked.listed, &runs, rack, vol) {
         Ok(()) => {}
         Err(stop) => return Err(stop),
     }
-    match sum_cover(alloc, runs.as_slice()) {
-        Ok(sums) => put_files(alloc, found, listed, &sums, rack, vol),
+    match sum_ranges(alloc, runs.as_slice()) {
+        Ok(sums) => put_files(alloc, found, checked.listed, &sums, rack, vol),
         Err(Memory) => Err(Stop::Memory),
     }
 }
 
-// AddsFindings what is wrong with what the trees say, where nothing is wrong with the trees themselves.
+// Puts what is wrong with what the trees say, where nothing is wrong with the trees themselves.
 fn put_rules<R: Rack>(
     alloc: Global,
-    read_data: bool,
     found: &mut Found,
-    listed: &[TreeRoot],
-    trees: &[TreeRoot],
+    checked: Checked<'_>,
     walk: Walk,
     rack: &mut R,
     vol: &mut Volume,
 ) -> Result<(), Stop>
     requires ready { CanCheck (world (R.seen rack.old) vol.old) }
-    ensures ran { Ran (IfKnown (IsWalked listed.now trees.now walk) (OfCheck read_data))
-        (AddsFindings (IsWalked listed.now trees.now walk) (rule_findings read_data)
+    ensures ran { Ran (IfKnown (IsWalked checked.entry.listed.now checked.entry.trees.now walk) (OfCheck checked.entry.read_data))
+        (AddsFindings (IsWalked checked.entry.listed.now checked.entry.trees.now walk) (rule_findings checked.entry.read_data)
         found.old found.new result)
         (world (R.seen rack.old) vol.old) (world (R.seen rack.new) vol.new) result }
 {
-    let runs = match put_extents(alloc, found, listed, trees, walk, rack, vol) {
+    let runs = match put_extents(alloc, found, checked, walk, rack, vol) {
         Ok(runs) => runs,
         Err(stop) => return Err(stop),
     };
-    match put_devices(alloc, found, listed, rack, vol) {
-        Ok(()) => put_contents(alloc, read_data, found, listed, runs, rack, vol),
+    match put_devices(alloc, found, checked.listed, rack, vol) {
+        Ok(()) => put_contents(alloc, found, checked, runs, rack, vol),
         Err(stop) => Err(stop),
     }
 }
@@ -153,7 +144,12 @@ fn find_all<R: Rack>(
     };
     let mut found = Found::new(alloc);
     if walk.is_sound() {
-        match put_rules(alloc, read_data, &mut found, listed, trees, walk, rack, vol) {
+        let checked = Checked {
+            read_data,
+            listed,
+            trees,
+        };
+        match put_rules(alloc, &mut found, checked, walk, rack, vol) {
             Ok(()) => Ok(found),
             Err(stop) => Err(stop),
         }

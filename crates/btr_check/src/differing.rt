@@ -2,8 +2,8 @@
 ghost use Rattle.std.specs.Prelude.{◌≡◌, fold, true, IfSome, IsTrue, Ok};
 ghost use Rattle.btr_check_differences.specs.Ranges.{are_apart};
 ghost use Rattle.btr_check_names.specs.Unpaired.{compared, unpaired_step};
-ghost use Rattle.btr_check.specs.Differing.{CanCompare, Differ, IsSoundBy, OfNone, Settle, own_marks};
-ghost use Rattle.btr_check.specs.Families.{IsCoverOf};
+ghost use Rattle.btr_check.specs.Differing.{CanCompare, Differ, IsSoundBy, OfNone, AddUp, own_marks};
+ghost use Rattle.btr_check.specs.Families.{AreSumRanges};
 ghost use Rattle.btr_check.specs.FileTrees.{ArePairedHere, IsSoundAlone, file_step, nothing_met};
 ghost use Rattle.btr_check.specs.Running.{world, CanCheck, Ran};
 
@@ -13,7 +13,7 @@ use crate::form::kind_of;
 use crate::sound_tree::{RootedTree, SoundTree, share_one};
 use btr_check_differences::{InodeRange, alike_law, find_differences, missing_law, visit_ranges};
 use btr_check_names::{Unpaired, difference_law, settled_law};
-use btr_check_space::Cover;
+use btr_check_space::AddressRanges;
 use btr_check_sums::{SumPlaces, keeps_law};
 use btr_rack::Rack;
 use btr_volume::Volume;
@@ -137,19 +137,19 @@ fn are_paired_here(names: &Unpaired) -> bool
     names.are_paired() && names.names_no_subvolume()
 }
 
-// Whether a tree is sound where another one is, from which it differs by the inodes in some ranges.
-fn settles<R: Rack>(
+// Whether what a tree has of the inodes in some ranges, and what another one has of them, add up: then it is sound where the other one is.
+fn add_up<R: Rack>(
     alloc: Global,
     before: &RootedTree,
     after: &RootedTree,
     ranges: &[InodeRange],
-    sums: &Cover,
+    sums: &AddressRanges,
     rack: &mut R,
     vol: &mut Volume,
 ) -> bool
     requires ready { CanCheck (world (R.seen rack.old) vol.old) }
     ensures ran { Ran OfNone
-        (λ fs. result ≡ true → Settle fs sums.now before.now after.now ranges.now)
+        (λ fs. result ≡ true → AddUp fs sums.now before.now after.now ranges.now)
         (world (R.seen rack.old) vol.old) (world (R.seen rack.new) vol.new) (Ok result) }
 {
     keeps_law();
@@ -173,13 +173,13 @@ pub(crate) fn is_sound_by<R: Rack>(
     alloc: Global,
     before: &SoundTree,
     after: &RootedTree,
-    sums: &Cover,
+    sums: &AddressRanges,
     rack: &mut R,
     vol: &mut Volume,
 ) -> bool
     requires ready { CanCheck (world (R.seen rack.old) vol.old) }
     ensures ran { Ran OfNone
-        (λ fs. IsCoverOf fs sums.now → result ≡ true → IsSoundBy fs before.now after.now)
+        (λ fs. AreSumRanges fs sums.now → result ≡ true → IsSoundBy fs before.now after.now)
         (world (R.seen rack.old) vol.old) (world (R.seen rack.new) vol.new) (Ok result) }
 {
     alike_law();
@@ -190,7 +190,7 @@ pub(crate) fn is_sound_by<R: Rack>(
         None => false,
         Some(ranges) => {
             let old = &before.rooted;
-            settles(alloc, old, after, ranges.as_slice(), sums, rack, vol)
+            add_up(alloc, old, after, ranges.as_slice(), sums, rack, vol)
         }
     }
 }

@@ -8,7 +8,7 @@ ghost use Rattle.btr_findings.specs.declared.finding.Finding.{Finding};
 ghost use Rattle.btr_findings.specs.Findings.{Adds, HasJust};
 ghost use Rattle.btr_check.specs.Counting.{Unless};
 ghost use Rattle.btr_check.specs.Filesystem.{is_file_tree, root_items};
-ghost use Rattle.btr_check.specs.Families.{IsCoverOf, found_on_files};
+ghost use Rattle.btr_check.specs.Families.{AreSumRanges, found_on_files};
 ghost use Rattle.btr_check.specs.FileTrees.{AddsMissing, AreSummed, KeepsEntries, PutsMissing, TreatsNames};
 ghost use Rattle.btr_check.specs.Passes.{Lists, AddsFindings};
 ghost use Rattle.btr_check.specs.Running.{world, CanCheck, Ran};
@@ -26,7 +26,7 @@ use btr_check_names::{
     SubvolumeNames, TreeNames, names_law, put_name_findings, put_subvolume_findings,
     subvolumes_law, unpaired_law,
 };
-use btr_check_space::Cover;
+use btr_check_space::AddressRanges;
 use btr_check_sums::{SumPlaces, Uses, keeps_law, put_missing_sums};
 use btr_findings::{Found, push};
 use btr_rack::Rack;
@@ -75,7 +75,7 @@ pub(crate) fn are_summed(
     is_nothing(alloc, missing)
 }
 
-// AddsFindings what is missing of the checksums of the sectors that a tree's files use. The answer is whether nothing is.
+// Puts what is missing of the checksums of the sectors that a tree's files use. The answer is whether nothing is.
 fn put_missing(
     alloc: Global,
     found: &mut Found,
@@ -92,7 +92,7 @@ fn put_missing(
     Ok(false)
 }
 
-// AddsFindings what is missing of the checksums of what was met of a tree of files, and keeps its names of subvolumes where all names are paired, and
+// Puts what is missing of the checksums of what was met of a tree of files, and keeps its names of subvolumes where all names are paired, and
 // the tree where it is sound. The answer is whether its names are paired.
 fn put_met(
     alloc: Global,
@@ -129,7 +129,7 @@ fn put_met(
     Ok(true)
 }
 
-// AddsFindings what is wrong with the names in a tree of files, and keeps its names of subvolumes.
+// Puts what is wrong with the names in a tree of files, and keeps its names of subvolumes.
 fn put_all_names(
     alloc: Global,
     found: &mut Found,
@@ -172,13 +172,13 @@ fn put_visited<R: Rack>(
     found: &mut Found,
     kept: &mut KeptTrees,
     rooted: RootedTree,
-    sums: &Cover,
+    sums: &AddressRanges,
     rack: &mut R,
     vol: &mut Volume,
 ) -> Result<(), Stop>
     requires ready { CanCheck (world (R.seen rack.old) vol.old) }
     ensures ran { Ran (OfTree rooted.tree.place)
-        (λ fs. IsCoverOf fs sums.now → AreKept fs kept.old.sound.items
+        (λ fs. AreSumRanges fs sums.now → AreKept fs kept.old.sound.items
         → AreBelow fs rooted.tree rooted.children.items
         → Unless (λ u. TreatsAll fs (rooted.tree ∷ []) found.old found.new kept.old.subvolumes kept.new.subvolumes kept.new.sound.items) result)
         (world (R.seen rack.old) vol.old) (world (R.seen rack.new) vol.new) result }
@@ -226,13 +226,13 @@ fn put_unlike<R: Rack>(
     found: &mut Found,
     kept: &mut KeptTrees,
     rooted: RootedTree,
-    sums: &Cover,
+    sums: &AddressRanges,
     rack: &mut R,
     vol: &mut Volume,
 ) -> Result<(), Stop>
     requires ready { CanCheck (world (R.seen rack.old) vol.old) }
     ensures ran { Ran (OfTree rooted.tree.place)
-        (λ fs. IsCoverOf fs sums.now → AreKept fs kept.old.sound.items
+        (λ fs. AreSumRanges fs sums.now → AreKept fs kept.old.sound.items
         → AreBelow fs rooted.tree rooted.children.items
         → Unless (λ u. TreatsAll fs (rooted.tree ∷ []) found.old found.new kept.old.subvolumes kept.new.subvolumes kept.new.sound.items) result)
         (world (R.seen rack.old) vol.old) (world (R.seen rack.new) vol.new) result }
@@ -255,13 +255,13 @@ fn put_file_tree<R: Rack>(
     found: &mut Found,
     kept: &mut KeptTrees,
     tree: &TreeRoot,
-    sums: &Cover,
+    sums: &AddressRanges,
     rack: &mut R,
     vol: &mut Volume,
 ) -> Result<(), Stop>
     requires ready { CanCheck (world (R.seen rack.old) vol.old) }
     ensures ran { Ran (OfTree tree.now.place)
-        (λ fs. IsCoverOf fs sums.now → AreKept fs kept.old.sound.items → Unless (λ u. TreatsAll fs
+        (λ fs. AreSumRanges fs sums.now → AreKept fs kept.old.sound.items → Unless (λ u. TreatsAll fs
         (tree.now ∷ []) found.old found.new kept.old.subvolumes kept.new.subvolumes kept.new.sound.items) result)
         (world (R.seen rack.old) vol.old) (world (R.seen rack.new) vol.new) result }
 {
@@ -282,13 +282,13 @@ fn put_file_trees<R: Rack>(
     found: &mut Found,
     kept: &mut KeptTrees,
     files: &[TreeRoot],
-    sums: &Cover,
+    sums: &AddressRanges,
     rack: &mut R,
     vol: &mut Volume,
 ) -> Result<(), Stop>
     requires ready { CanCheck (world (R.seen rack.old) vol.old) }
     ensures ran { Ran (OfTrees files.now)
-        (λ fs. IsCoverOf fs sums.now → AreKept fs kept.old.sound.items → Unless (λ u. TreatsAll fs
+        (λ fs. AreSumRanges fs sums.now → AreKept fs kept.old.sound.items → Unless (λ u. TreatsAll fs
         files.now found.old found.new kept.old.subvolumes kept.new.subvolumes kept.new.sound.items) result)
         (world (R.seen rack.old) vol.old) (world (R.seen rack.new) vol.new) result }
 {
@@ -317,7 +317,7 @@ fn read_subvolumes<R: Rack>(
     collect(Some(tree), SubvolumeNames::new(alloc), rack, vol)
 }
 
-/// AddsFindings what is wrong with the trees of files among those that are listed: each is visited once, and once more where
+/// Puts what is wrong with the trees of files among those that are listed: each is visited once, and once more where
 /// something is wrong with its names; and the root tree for the names of subvolumes. The addresses that have checksums are `sums`.
 ///
 /// `Tree`: a block could not be read, which is `Unread`. `Memory`: there is no memory for what is kept.
@@ -325,14 +325,14 @@ pub(crate) fn put_files<R: Rack>(
     alloc: Global,
     found: &mut Found,
     listed: &[TreeRoot],
-    sums: &Cover,
+    sums: &AddressRanges,
     rack: &mut R,
     vol: &mut Volume,
 ) -> Result<(), Stop>
     requires ready { CanCheck (world (R.seen rack.old) vol.old) }
     ensures ran { Ran (IfKnown (Lists listed.now) OfAllTrees)
         (AddsFindings (λ fs. Lists listed.now fs
-        × IsCoverOf fs sums.now) found_on_files found.old found.new result)
+        × AreSumRanges fs sums.now) found_on_files found.old found.new result)
         (world (R.seen rack.old) vol.old) (world (R.seen rack.new) vol.new) result }
 {
     let files = match file_trees(alloc, listed) {

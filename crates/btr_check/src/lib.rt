@@ -20,6 +20,7 @@
 
 mod adding;
 mod block_fault;
+mod checked;
 mod checking;
 mod collecting;
 mod counting;
@@ -28,7 +29,6 @@ mod extent_tree;
 mod file_tree;
 mod file_trees;
 mod form;
-mod misusing;
 mod opening;
 mod places;
 mod readable;

@@ -1,176 +1,144 @@
 // Extents and what uses them.
-ghost use Rattle.std.specs.Prelude.{◌≡◌, [], IfOk};
+ghost use Rattle.std.specs.Prelude.{◌≡◌, ◌++◌, IfOk};
+ghost use Rattle.btr_check_space.specs.Groups.{group_findings};
 ghost use Rattle.btr_findings.specs.Findings.{Adds};
-ghost use Rattle.btr_refs.specs.Differences.{total_findings};
-ghost use Rattle.btr_check.specs.Counting.{IsFull, Unless};
-ghost use Rattle.btr_check.specs.ExtentTree.{AreRefsOf, IsStoredOf};
-ghost use Rattle.btr_check.specs.Passes.{AreExtents, AreUsed, IsCounted, IsWalked, Lists, ListsSound, AddsFindingsAnd};
+ghost use Rattle.btr_refs.specs.Differences.{count_findings, total_findings};
+ghost use Rattle.btr_refs.specs.Forward.{nothing_counted};
+ghost use Rattle.btr_check.specs.Counting.{IsFull};
+ghost use Rattle.btr_check.specs.ExtentTree.{IsBegun};
+ghost use Rattle.btr_check.specs.Families.{found_on_groups};
+ghost use Rattle.btr_check.specs.Passes.{ListExtents, IsCounted, IsWalked, Lists, ListsSound, AddsFindingsAnd};
 ghost use Rattle.btr_check.specs.Running.{world, CanCheck, Ran};
-ghost use Rattle.btr_check.specs.Uses.{difference_findings, found_on_counts, found_on_totals, reference_findings};
-ghost use Rattle.btr_check.specs.Walks.{walk_findings};
+ghost use Rattle.btr_check.specs.Uses.{found_on_counts, found_on_totals, found_on_uses, reference_findings};
 ghost use Rattle.btr_check.specs.Wanted.{IfKnown, OfAllTrees};
 
+use crate::checked::Checked;
 use crate::counting::{count_uses, full_backrefs};
-use crate::extent_tree::read_stored;
-use crate::misusing::put_all_misused;
-use crate::refusing::{EXTENT_TREE, last_of};
+use crate::extent_tree::read_extents;
+use crate::space::put_groups;
 use crate::walk::Walk;
 use btr_base::Memory;
+use btr_check_space::Groups;
 use btr_findings::{Extent, Finding, Found};
 use btr_rack::Rack;
-use btr_refs::{
-    Forward, RefList, Stored, UsedExtents, Wanted, put_count_findings, put_total_findings,
-};
+use btr_refs::{Forward, Stored, put_count_findings, put_total_findings, put_use_findings};
+use btr_tour::Both;
 use btr_volume::{Stop, TreeRoot, Volume};
 use btr_walk::RootPlace;
 use std::alloc::Global;
 use std::collections::BTreeSet;
 
-// What is kept of the extent tree while uses are counted: how often each reference is stored, and the addresses of the blocks that refer
-// by their own.
+// What uses are counted beside: what the extent tree stores, of which nothing is counted yet, and the addresses of the blocks that refer by
+// their own.
 #[derive(Drop)]
-struct StoredRefs {
-    refs: RefList,
+struct Begun {
+    forward: Forward,
     full: BTreeSet<u64>,
 }
 
-// What is wanted of the extent tree, behind a walk of all trees that found nothing.
-fn read_extents<R: Rack>(
+// Puts what extents state of the references to them, and what is wrong with block groups, which are let go.
+fn put_collected(
     alloc: Global,
-    wanted: Wanted,
-    listed: &[TreeRoot],
-    rack: &mut R,
-    vol: &mut Volume,
-) -> Result<Stored, Stop>
-    requires ready { CanCheck (world (R.seen rack.old) vol.old) }
-    ensures ran { Ran (IfKnown (Lists listed.now) OfAllTrees)
-        (λ fs. Lists listed.now fs → walk_findings fs ≡ [] → Unless (IsStoredOf fs wanted) result)
-        (world (R.seen rack.old) vol.old) (world (R.seen rack.new) vol.new) result }
+    found: &mut Found,
+    both: Both<Stored, Groups>,
+    vol: &Volume,
+) -> Result<Begun, Memory>
+    ensures found { IfOk result (λ begun. Adds (total_findings both.first.extents both.first.refs
+        ++ group_findings vol.now.store.layout.chunks both.first.extents both.second vol.now.sup.bytes_used) found.old found.new) }
+    ensures forward { IfOk result (λ begun. begun.forward ≡ nothing_counted both.first) }
+    ensures full { IfOk result (λ begun. IsFull both.first.extents begun.full) }
 {
-    match last_of(listed, EXTENT_TREE) {
-        None => Ok(Stored::new(alloc, u64::from(vol.sup.nodesize), wanted)),
-        Some(tree) => read_stored(alloc, wanted, &tree, rack, vol),
-    }
-}
-
-// Puts what extents state of the references to them, and keeps of what is stored the references alone.
-fn put_totals(alloc: Global, found: &mut Found, stored: Stored) -> Result<StoredRefs, Memory>
-    ensures found { IfOk result (λ kept. Adds (total_findings stored.extents stored.refs.counts) found.old found.new) }
-    ensures refs { IfOk result (λ kept. kept.refs ≡ stored.refs.counts) }
-    ensures full { IfOk result (λ kept. IsFull stored.extents kept.full) }
-{
+    let stored = both.first.into_list(alloc)?;
+    put_total_findings(found, &stored)?;
+    put_groups(alloc, found, stored.extents(), &both.second, vol)?;
     let full = full_backrefs(alloc, stored.extents())?;
-    let refs = put_total_findings(alloc, found, stored)?;
-    Ok(StoredRefs { refs, full })
+    let forward = Forward::new(alloc, stored)?;
+    Ok(Begun { forward, full })
 }
 
-// The same by what the extent tree says.
+// The same by what the trees say.
 fn put_stored<R: Rack>(
     alloc: Global,
     found: &mut Found,
     listed: &[TreeRoot],
     rack: &mut R,
     vol: &mut Volume,
-) -> Result<StoredRefs, Stop>
+) -> Result<Begun, Stop>
     requires ready { CanCheck (world (R.seen rack.old) vol.old) }
     ensures ran { Ran (IfKnown (Lists listed.now) OfAllTrees)
-        (AddsFindingsAnd (ListsSound listed.now) AreRefsOf found_on_totals found.old found.new result)
+        (AddsFindingsAnd (ListsSound listed.now) IsBegun (λ fs. found_on_totals fs ++ found_on_groups fs) found.old found.new result)
         (world (R.seen rack.old) vol.old) (world (R.seen rack.new) vol.new) result }
 {
-    match read_extents(alloc, Wanted::All, listed, rack, vol) {
+    match read_extents(alloc, listed, rack, vol) {
         Err(stop) => Err(stop),
-        Ok(stored) => match put_totals(alloc, found, stored) {
-            Ok(kept) => Ok(kept),
+        Ok(both) => match put_collected(alloc, found, both, vol) {
+            Ok(begun) => Ok(begun),
             Err(Memory) => Err(Stop::Memory),
         },
     }
 }
 
-// Counts what uses extents, by the blocks that were met, puts where that differs from what is stored, and keeps the extents that are used.
+// Puts where references are counted otherwise than they are stored, and what is wrong with extents by their uses. The extents are left.
+fn put_uses(found: &mut Found, forward: Forward) -> Result<Vec<Extent>, Memory>
+    ensures found { IfOk result (λ extents. Adds (count_findings forward.uses.refs forward.stored.refs ++ forward.uses.misused) found.old found.new) }
+    ensures extents { IfOk result (λ extents. extents.items ≡ forward.stored.extents) }
+{
+    put_count_findings(found, &forward)?;
+    put_use_findings(found, &forward)?;
+    Ok(forward.into_extents())
+}
+
+// Counts what uses extents, by the blocks that were met, and puts what is wrong by that.
 fn put_counted<R: Rack>(
-    alloc: Global,
     found: &mut Found,
     trees: &[TreeRoot],
     places: Vec<RootPlace>,
-    stored: StoredRefs,
+    begun: Begun,
     rack: &mut R,
     vol: &mut Volume,
-) -> Result<UsedExtents, Stop>
+) -> Result<Vec<Extent>, Stop>
     requires ready { CanCheck (world (R.seen rack.old) vol.old) }
-    ensures ran { Ran (IfKnown (IsCounted trees.now places.items stored) OfAllTrees)
-        (AddsFindingsAnd
-        (IsCounted trees.now places.items stored) AreUsed found_on_counts found.old found.new result)
+    ensures ran { Ran (IfKnown (IsCounted trees.now places.items begun) OfAllTrees)
+        (AddsFindingsAnd (IsCounted trees.now places.items begun) ListExtents (λ fs. found_on_counts fs ++ found_on_uses fs) found.old found.new result)
         (world (R.seen rack.old) vol.old) (world (R.seen rack.new) vol.new) result }
 {
-    let begun = match Forward::new(alloc, stored.refs) {
-        Ok(begun) => begun,
-        Err(Memory) => return Err(Stop::Memory),
-    };
-    let forward = match count_uses(begun, trees, places.as_slice(), &stored.full, rack, vol) {
-        Ok(forward) => forward,
-        Err(stop) => return Err(stop),
-    };
-    match put_count_findings(found, &forward) {
-        Ok(()) => Ok(forward.into_extents()),
-        Err(Memory) => Err(Stop::Memory),
-    }
-}
-
-// Puts where references differ, and keeps the extents that are used. Of the walk, the blocks that were met are kept, and read again.
-fn put_differences<R: Rack>(
-    alloc: Global,
-    found: &mut Found,
-    listed: &[TreeRoot],
-    trees: &[TreeRoot],
-    walk: Walk,
-    rack: &mut R,
-    vol: &mut Volume,
-) -> Result<UsedExtents, Stop>
-    requires ready { CanCheck (world (R.seen rack.old) vol.old) }
-    ensures ran { Ran (IfKnown (IsWalked listed.now trees.now walk) OfAllTrees)
-        (AddsFindingsAnd
-        (IsWalked listed.now trees.now walk) AreUsed difference_findings found.old found.new result)
-        (world (R.seen rack.old) vol.old) (world (R.seen rack.new) vol.new) result }
-{
-    let places = walk.into_places();
-    match put_stored(alloc, found, listed, rack, vol) {
-        Ok(stored) => put_counted(alloc, found, trees, places, stored, rack, vol),
+    match count_uses(
+        begun.forward,
+        trees,
+        places.as_slice(),
+        &begun.full,
+        rack,
+        vol,
+    ) {
         Err(stop) => Err(stop),
+        Ok(forward) => match put_uses(found, forward) {
+            Ok(extents) => Ok(extents),
+            Err(Memory) => Err(Stop::Memory),
+        },
     }
 }
 
-/// Puts what is wrong with extents and with the references to them, and answers the extents. These are the listed trees, all
-/// trees, and what was walked of them, which found nothing; the blocks that were met are read again. The extent tree is read twice, so
-/// that its extents need not be kept while uses are counted.
+/// Puts what is wrong with extents, with the references to them and with block groups, and answers the extents. Of the walk, which found
+/// nothing, the blocks that were met are kept, and read again.
 ///
 /// `Tree`: a block could not be read, which is `Unread`. `Memory`: there is no memory for what is kept.
 pub(crate) fn put_references<R: Rack>(
     alloc: Global,
     found: &mut Found,
-    listed: &[TreeRoot],
-    trees: &[TreeRoot],
+    checked: Checked<'_>,
     walk: Walk,
     rack: &mut R,
     vol: &mut Volume,
 ) -> Result<Vec<Extent>, Stop>
     requires ready { CanCheck (world (R.seen rack.old) vol.old) }
-    ensures ran { Ran (IfKnown (IsWalked listed.now trees.now walk) OfAllTrees)
-        (AddsFindingsAnd (IsWalked listed.now trees.now walk)
-        (λ fs all. AreExtents all.items fs) reference_findings found.old found.new result)
+    ensures ran { Ran (IfKnown (IsWalked checked.entry.listed.now checked.entry.trees.now walk) OfAllTrees)
+        (AddsFindingsAnd (IsWalked checked.entry.listed.now checked.entry.trees.now walk) ListExtents
+        (λ fs. reference_findings fs ++ found_on_groups fs) found.old found.new result)
         (world (R.seen rack.old) vol.old) (world (R.seen rack.new) vol.new) result }
 {
-    let nodesize = u64::from(vol.sup.nodesize);
-    let used = match put_differences(alloc, found, listed, trees, walk, rack, vol) {
-        Ok(used) => used,
-        Err(stop) => return Err(stop),
-    };
-    let wanted = Wanted::Extents(used.count());
-    let extents = match read_extents(alloc, wanted, listed, rack, vol) {
-        Ok(stored) => stored.into_extents(),
-        Err(stop) => return Err(stop),
-    };
-    match put_all_misused(found, nodesize, extents.as_slice(), &used) {
-        Ok(()) => Ok(extents),
-        Err(Memory) => Err(Stop::Memory),
+    let places = walk.into_places();
+    match put_stored(alloc, found, checked.listed, rack, vol) {
+        Ok(begun) => put_counted(found, checked.trees, places, begun, rack, vol),
+        Err(stop) => Err(stop),
     }
 }

@@ -1,13 +1,16 @@
 // What is wrong with block groups and devices.
-ghost use Rattle.std.specs.Prelude.{◌≡◌};
-ghost use Rattle.btr_check.specs.Families.{group_tree, found_on_groups, found_on_devices};
-ghost use Rattle.btr_check.specs.Passes.{AreExtents, Lists, AddsFindings};
+ghost use Rattle.std.specs.Prelude.{OnOk};
+ghost use Rattle.btr_check_space.specs.Groups.{group_findings};
+ghost use Rattle.btr_findings.specs.Findings.{Adds};
+ghost use Rattle.btr_check.specs.Families.{found_on_devices};
+ghost use Rattle.btr_check.specs.Passes.{Lists, AddsFindings};
 ghost use Rattle.btr_check.specs.Running.{world, CanCheck, Ran};
 ghost use Rattle.btr_check.specs.Wanted.{IfKnown, OfAllTrees};
 
 use crate::collecting::{collect, or_memory};
-use crate::refusing::{DEVICE_TREE, EXTENT_TREE, last_of};
+use crate::refusing::{DEVICE_TREE, last_of};
 use crate::trees::CHUNK_TREE;
+use btr_base::Memory;
 use btr_check_space::{
     DeviceExtents, Devices, Groups, collects_law, put_device_findings, put_group_findings,
 };
@@ -16,51 +19,22 @@ use btr_rack::Rack;
 use btr_volume::{Stop, TreeRoot, Volume, chunk_root, named_root};
 use std::alloc::Global;
 
-const GROUP_TREE: u64 = 11;
-
-// The tree that has the block groups.
-fn group_tree(trees: &[TreeRoot]) -> Option<TreeRoot>
-    ensures { result ≡ group_tree trees.now }
-{
-    match last_of(trees, GROUP_TREE) {
-        None => last_of(trees, EXTENT_TREE),
-        Some(tree) => Some(tree),
-    }
-}
-
-/// AddsFindings what is wrong with extents, block groups and chunks. Of the listed trees it visits that which
-/// has the block groups.
-///
-/// `Tree`: a block could not be read, which is `Unread`. `Memory`: there is no memory for what is kept.
-pub(crate) fn put_groups<R: Rack>(
+/// Puts what is wrong with extents, block groups and chunks. `Memory`: there is no memory for this; then nothing is said of the set.
+pub(crate) fn put_groups(
     alloc: Global,
     found: &mut Found,
-    listed: &[TreeRoot],
     extents: &[Extent],
-    rack: &mut R,
-    vol: &mut Volume,
-) -> Result<(), Stop>
-    requires ready { CanCheck (world (R.seen rack.old) vol.old) }
-    ensures ran { Ran (IfKnown (Lists listed.now) OfAllTrees)
-        (AddsFindings (λ fs. Lists listed.now fs
-        × AreExtents extents.now fs) found_on_groups found.old found.new result)
-        (world (R.seen rack.old) vol.old) (world (R.seen rack.new) vol.new) result }
+    groups: &Groups,
+    vol: &Volume,
+) -> Result<(), Memory>
+    ensures { OnOk result (Adds (group_findings vol.now.store.layout.chunks extents.now groups.now vol.now.sup.bytes_used) found.old found.new) }
 {
-    collects_law();
-    match collect(group_tree(listed), Groups::new(alloc), rack, vol) {
-        Err(stop) => Err(stop),
-        Ok(groups) => or_memory(put_group_findings(
-            alloc,
-            found,
-            vol.store.chunks(),
-            extents,
-            groups.as_slice(),
-            vol.sup.bytes_used,
-        )),
-    }
+    let chunks = vol.store.chunks();
+    let groups = groups.as_slice();
+    put_group_findings(alloc, found, chunks, extents, groups, vol.sup.bytes_used)
 }
 
-/// AddsFindings what is wrong with chunks, device extents and devices. It visits the device tree and the chunk tree.
+/// Puts what is wrong with chunks, device extents and devices. It visits the device tree and the chunk tree.
 ///
 /// `Tree`: a block could not be read, which is `Unread`. `Memory`: there is no memory for what is kept.
 pub(crate) fn put_devices<R: Rack>(

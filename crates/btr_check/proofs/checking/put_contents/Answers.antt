@@ -1,10 +1,10 @@
 use Rattle.std.proofs.Common.{◌≡◌, true, ◌++◌, inl, map, refl, ◌∙◌, subst}
 use Rattle.btr_findings.proofs.Adding.{adds_then}
 use Rattle.btr_findings.specs.Findings.{Adds}
-use Rattle.btr_check_space.specs.Cover.{HoldSame}
-use Rattle.btr_check_sums.specs.Sums.{run_stretch}
+use Rattle.btr_check_space.specs.AddressRanges.{HoldSame}
+use Rattle.btr_check_sums.specs.Sums.{run_range}
 use Rattle.btr_volume.specs.declared.stop.Stop.TheVariants.{Memory as NoMemory}
-use Rattle.btr_check.specs.Families.{IsCoverOf, IsRunsOf, found_on_files}
+use Rattle.btr_check.specs.Families.{AreSumRanges, IsRunsOf, found_on_files}
 use Rattle.btr_check.specs.Findings.{data_if}
 use Rattle.btr_check.specs.Passes.{Lists, AddsFindings}
 use Rattle.btr_check.specs.Running.{world, filesystem, is_outside}
@@ -18,8 +18,8 @@ returns-in-Err g c =
     let y = world (g.R.Rack.seen c.put_data_if.new.rack) c.put_data_if.new.vol in
     let stop = c.in-Err.stop in
     record {
-      ran = ran_stop (λ fs. Lists c.args.listed.now fs × IsRunsOf fs c.args.runs → is_outside stop ≡ true)
-          (λ fs. Lists c.args.listed.now fs × IsRunsOf fs c.args.runs → is_outside stop ≡ true) x y stop c.in-Err.ensures.ran (λ B h. h);
+      ran = ran_stop (λ fs. Lists c.args.checked.listed.now fs × IsRunsOf fs c.args.runs → is_outside stop ≡ true)
+          (λ fs. Lists c.args.checked.listed.now fs × IsRunsOf fs c.args.runs → is_outside stop ≡ true) x y stop c.in-Err.ensures.ran (λ B h. h);
     }
 
 pub returns : goal.returns
@@ -27,30 +27,32 @@ returns g c =
     let x = world (g.R.Rack.seen c.args.rack.now) c.args.vol.now in
     let y = world (g.R.Rack.seen c.put_data_if.new.rack) c.put_data_if.new.vol in
     record {
-      ran = ran_no_memory {A = Unit {0}} (λ fs. Lists c.args.listed.now fs × IsRunsOf fs c.args.runs
-          → Adds (data_if c.args.read_data fs) c.args.found.now c.put_data_if.new.found)
-          (λ fs. Lists c.args.listed.now fs × IsRunsOf fs c.args.runs → is_outside NoMemory ≡ true)
+      ran = ran_no_memory {A = Unit {0}} (λ fs. Lists c.args.checked.listed.now fs × IsRunsOf fs c.args.runs
+          → Adds (data_if c.args.checked.read_data fs) c.args.found.now c.put_data_if.new.found)
+          (λ fs. Lists c.args.checked.listed.now fs × IsRunsOf fs c.args.runs → is_outside NoMemory ≡ true)
           x y tt c.in-Ok.ensures.ran (λ B known. refl);
     }
 
-pub returns-in-Ok-sum_cover : goal.returns-in-Ok-sum_cover
-returns-in-Ok-sum_cover g c =
+pub returns-in-Ok-sum_ranges : goal.returns-in-Ok-sum_ranges
+returns-in-Ok-sum_ranges g c =
     let x = world (g.R.Rack.seen c.args.rack.now) c.args.vol.now in
     let y = world (g.R.Rack.seen c.put_data_if.new.rack) c.put_data_if.new.vol in
     let z = world (g.R.Rack.seen c.put_files.new.rack) c.put_files.new.vol in
-    let sums = c.in-Ok-sum_cover.sums in
+    let sums = c.in-Ok-sum_ranges.sums in
+    let listed = c.args.checked.listed.now in
+    let read_data = c.args.checked.read_data in
     let one = c.args.found.now in
     let two = c.put_data_if.new.found in
     let three = c.put_files.new.found in
     record {
-      ran = ran_then {A = Unit {0}} {C = Unit {0}} (λ fs. Lists c.args.listed.now fs × IsRunsOf fs c.args.runs → Adds (data_if c.args.read_data fs) one two)
-          (AddsFindings (λ fs. Lists c.args.listed.now fs × IsCoverOf fs sums) found_on_files two three c.put_files.result)
-          (AddsFindings (λ fs. Lists c.args.listed.now fs × IsRunsOf fs c.args.runs)
-          (λ fs. data_if c.args.read_data fs ++ found_on_files fs) one three c.put_files.result) x y z tt c.put_files.result c.in-Ok.ensures.ran
+      ran = ran_then {A = Unit {0}} {C = Unit {0}} (λ fs. Lists listed fs × IsRunsOf fs c.args.runs → Adds (data_if read_data fs) one two)
+          (AddsFindings (λ fs. Lists listed fs × AreSumRanges fs sums) found_on_files two three c.put_files.result)
+          (AddsFindings (λ fs. Lists listed fs × IsRunsOf fs c.args.runs)
+          (λ fs. data_if read_data fs ++ found_on_files fs) one three c.put_files.result) x y z tt c.put_files.result c.in-Ok.ensures.ran
           c.put_files.ensures.ran
           (λ B p q known. unless_more (λ u. Adds (found_on_files (filesystem c.args.vol.now B)) two three)
-          (λ u. Adds (data_if c.args.read_data (filesystem c.args.vol.now B) ++ found_on_files (filesystem c.args.vol.now B)) one three) c.put_files.result
-          (λ u h. adds_then (data_if c.args.read_data (filesystem c.args.vol.now B)) (found_on_files (filesystem c.args.vol.now B)) one two three (p known) h)
-          (q (known.0, subst (λ l. HoldSame (map run_stretch l) sums) (c.as_slice.ensures ∙ known.1) c.in-Ok-sum_cover.ensures)))
+          (λ u. Adds (data_if read_data (filesystem c.args.vol.now B) ++ found_on_files (filesystem c.args.vol.now B)) one three) c.put_files.result
+          (λ u h. adds_then (data_if read_data (filesystem c.args.vol.now B)) (found_on_files (filesystem c.args.vol.now B)) one two three (p known) h)
+          (q (known.0, subst (λ l. HoldSame (map run_range l) sums) (c.as_slice.ensures ∙ known.1) c.in-Ok-sum_ranges.ensures)))
           (λ B p want w known. inl (w known.0));
     }

@@ -15,7 +15,7 @@ pub returns-in-Err : goal.returns-in-Err
 returns-in-Err g c =
     let x = world (g.R.Rack.seen c.args.rack.now) c.args.vol.now in
     let y = world (g.R.Rack.seen c.put_extents.new.rack) c.put_extents.new.vol in
-    let known : Filesystem → Type 0 = IsWalked c.args.listed.now c.args.trees.now c.args.walk in
+    let known : Filesystem → Type 0 = IsWalked c.args.checked.listed.now c.args.checked.trees.now c.args.walk in
     record {
       ran = ran_stop_within (λ fs. known fs → is_outside c.in-Err.stop ≡ true)
           (λ fs. known fs → is_outside c.in-Err.stop ≡ true) x y c.in-Err.stop c.in-Err.ensures.ran (λ B h. h)
@@ -27,12 +27,12 @@ returns-in-Err-put_devices g c =
     let x = world (g.R.Rack.seen c.args.rack.now) c.args.vol.now in
     let y = world (g.R.Rack.seen c.put_extents.new.rack) c.put_extents.new.vol in
     let z = world (g.R.Rack.seen c.put_devices.new.rack) c.put_devices.new.vol in
-    let known : Filesystem → Type 0 = IsWalked c.args.listed.now c.args.trees.now c.args.walk in
+    let known : Filesystem → Type 0 = IsWalked c.args.checked.listed.now c.args.checked.trees.now c.args.walk in
     let runs = c.in-Ok.runs in
     let stop = c.in-Err-put_devices.stop in
     record {
       ran = ran_then (λ fs. known fs → IsRunsOf fs runs × Adds (found_on_extents fs) c.args.found.now c.put_extents.new.found)
-          (λ fs. Lists c.args.listed.now fs → is_outside stop ≡ true) (λ fs. known fs → is_outside stop ≡ true)
+          (λ fs. Lists c.args.checked.listed.now fs → is_outside stop ≡ true) (λ fs. known fs → is_outside stop ≡ true)
           x y z runs (Err stop) c.in-Ok.ensures.ran c.in-Err-put_devices.ensures.ran (λ B p q k. q k.lists)
           (λ B p want w k. inl (w k.lists));
     }
@@ -43,15 +43,15 @@ returns-in-Ok-put_devices g c =
     let y = world (g.R.Rack.seen c.put_extents.new.rack) c.put_extents.new.vol in
     let z = world (g.R.Rack.seen c.put_devices.new.rack) c.put_devices.new.vol in
     let w = world (g.R.Rack.seen c.put_contents.new.rack) c.put_contents.new.vol in
-    let known : Filesystem → Type 0 = IsWalked c.args.listed.now c.args.trees.now c.args.walk in
+    let known : Filesystem → Type 0 = IsWalked c.args.checked.listed.now c.args.checked.trees.now c.args.walk in
     let runs = c.in-Ok.runs in
     let one = c.args.found.now in
     let two = c.put_extents.new.found in
     let three = c.put_devices.new.found in
     let four = c.put_contents.new.found in
-    let rest : Filesystem → List Finding = λ fs. data_if c.args.read_data fs ++ found_on_files fs in
+    let rest : Filesystem → List Finding = λ fs. data_if c.args.checked.read_data fs ++ found_on_files fs in
     let to_three = ran_both {C = Unit {0}} {U = nothing} (λ fs. known fs → IsRunsOf fs runs × Adds (found_on_extents fs) one two)
-    (λ fs. Lists c.args.listed.now fs → Adds (found_on_devices fs) two three)
+    (λ fs. Lists c.args.checked.listed.now fs → Adds (found_on_devices fs) two three)
     (λ fs. known fs → IsRunsOf fs runs × Adds (found_on_extents fs ++ found_on_devices fs) one three) x y z runs
     tt c.in-Ok.ensures.ran c.in-Ok-put_devices.ensures.ran
     (λ B p q k. (
@@ -61,10 +61,11 @@ returns-in-Ok-put_devices g c =
     )) in
     record {
       ran = ran_then {A = Unit {0}} {C = Unit {0}} (λ fs. known fs → IsRunsOf fs runs × Adds (found_on_extents fs ++ found_on_devices fs) one three)
-          (AddsFindings (λ fs. Lists c.args.listed.now fs × IsRunsOf fs runs) rest three four c.put_contents.result)
-          (AddsFindings known (rule_findings c.args.read_data) one four c.put_contents.result) x z w tt c.put_contents.result to_three c.put_contents.ensures.ran
+          (AddsFindings (λ fs. Lists c.args.checked.listed.now fs × IsRunsOf fs runs) rest three four c.put_contents.result)
+          (AddsFindings known (rule_findings c.args.checked.read_data) one four c.put_contents.result) x z w tt c.put_contents.result to_three
+          c.put_contents.ensures.ran
           (λ B p q k. unless_more (λ u. Adds (rest (filesystem c.args.vol.now B)) three four)
-          (λ u. Adds (rule_findings c.args.read_data (filesystem c.args.vol.now B)) one four) c.put_contents.result
+          (λ u. Adds (rule_findings c.args.checked.read_data (filesystem c.args.vol.now B)) one four) c.put_contents.result
           (λ u h. adds_then (found_on_extents (filesystem c.args.vol.now B) ++ found_on_devices (filesystem c.args.vol.now B))
           (rest (filesystem c.args.vol.now B)) one three four (p k).1 h)
           (q (k.lists, (p k).0)))

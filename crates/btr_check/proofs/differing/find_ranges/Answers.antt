@@ -4,7 +4,7 @@ use Rattle.btr_check_differences.specs.Differing.{DifferAt}
 use Rattle.btr_walk.specs.declared.spot.Spot.{Spot}
 use Rattle.btr_check.specs.Differing.{Differ}
 use Rattle.btr_check.specs.Running.{world}
-use Rattle.btr_check.proofs.Settles.{ran_read}
+use Rattle.btr_check.proofs.AddingUp.{ran_read}
 use Rattle.btr_check.proofs.Runs.{ran_none}
 use Rattle.btr_check.proofs.differing.find_ranges.Goals as goal
 

@@ -3,7 +3,7 @@ use Rattle.std.specs.Bool.{⊤}
 use Rattle.btr_check_differences.specs.Law.{tours}
 use Rattle.btr_check.specs.Differing.{own_marks}
 use Rattle.btr_check.specs.FileTrees.{file_step, nothing_met}
-use Rattle.btr_check.proofs.Settles.{ran_read}
+use Rattle.btr_check.proofs.AddingUp.{ran_read}
 use Rattle.btr_check.proofs.differing.meet_own.Goals as goal
 
 pub returns-in-None : goal.returns-in-None

@@ -4,7 +4,7 @@ use Rattle.btr_volume.specs.declared.root.TreeRoot.{TreeRoot}
 use Rattle.btr_check_names.specs.Subvolumes.{Subvolumes}
 use Rattle.btr_check.specs.Counting.{Unless}
 use Rattle.btr_check.specs.Data.{sum_runs}
-use Rattle.btr_check.specs.Families.{IsCoverOf}
+use Rattle.btr_check.specs.Families.{AreSumRanges}
 use Rattle.btr_check.specs.FileTrees.{Treats}
 use Rattle.btr_check.specs.Running.{world, filesystem, is_outside}
 use Rattle.btr_check.specs.SoundTrees.{AreBelow, AreKept, PassesTree, TreatsAll}
@@ -20,7 +20,7 @@ returns-in-Err g c =
     let y = world (g.R.Rack.seen c.read_rooted.new.rack) c.read_rooted.new.vol in
     record {
       ran = ran_stop (λ fs. is_outside c.in-Err.stop ≡ true)
-          (λ fs. IsCoverOf fs c.args.sums.now → AreKept fs c.args.kept.now.sound.items → is_outside c.in-Err.stop ≡ true) x y c.in-Err.stop
+          (λ fs. AreSumRanges fs c.args.sums.now → AreKept fs c.args.kept.now.sound.items → is_outside c.in-Err.stop ≡ true) x y c.in-Err.stop
           c.in-Err.ensures.ran (λ B h same kept. h);
     }
 
@@ -30,7 +30,7 @@ returns-in-Err-pass_like g c =
     let y = world (g.R.Rack.seen c.read_rooted.new.rack) c.read_rooted.new.vol in
     record {
       ran = ran_no_memory {A = RootedTree} (λ fs. AreBelow fs c.args.tree.now c.in-Ok.rooted.children.items)
-          (λ fs. IsCoverOf fs c.args.sums.now → AreKept fs c.args.kept.now.sound.items → is_outside NoMemory ≡ true) x y c.in-Ok.rooted
+          (λ fs. AreSumRanges fs c.args.sums.now → AreKept fs c.args.kept.now.sound.items → is_outside NoMemory ≡ true) x y c.in-Ok.rooted
           c.in-Ok.ensures.ran (λ B known kept. refl);
     }
 
@@ -45,7 +45,7 @@ returns-in-Ok-true g c =
     let new = c.pass_like.new.subvolumes in
     record {
       ran = ran_value {A = RootedTree} {C = Unit {0}} (λ fs. AreBelow fs tree rooted.children.items)
-          (λ fs. IsCoverOf fs c.args.sums.now → AreKept fs old.sound.items
+          (λ fs. AreSumRanges fs c.args.sums.now → AreKept fs old.sound.items
           → TreatsAll fs (tree ∷ []) found found old.subvolumes new old.sound.items) x y rooted tt c.in-Ok.ensures.ran
           (λ B below same kept.
           let fs = filesystem c.args.vol.now B in
@@ -73,9 +73,9 @@ returns-in-Ok-false g c =
     let r = c.put_unlike.result in
     record {
       ran = ran_then {A = RootedTree} {C = Unit {0}} (λ fs. AreBelow fs tree rooted.children.items)
-          (λ fs. IsCoverOf fs c.args.sums.now → AreKept fs old.sound.items → AreBelow fs rooted.tree rooted.children.items
+          (λ fs. AreSumRanges fs c.args.sums.now → AreKept fs old.sound.items → AreBelow fs rooted.tree rooted.children.items
           → Unless (λ u. TreatsAll fs (rooted.tree ∷ []) found found' mid new.subvolumes new.sound.items) r)
-          (λ fs. IsCoverOf fs c.args.sums.now → AreKept fs old.sound.items
+          (λ fs. AreSumRanges fs c.args.sums.now → AreKept fs old.sound.items
           → Unless (λ u. TreatsAll fs (tree ∷ []) found found' old.subvolumes new.subvolumes new.sound.items) r) x y z rooted r
           c.in-Ok.ensures.ran c.put_unlike.ensures.ran
           (λ B below h same kept.

@@ -2,7 +2,7 @@ use Rattle.std.proofs.Common.{◌≡◌, ◌+◌, true, [], ◌∷◌, take, get
 use Rattle.std.proofs.lemmas.List.Elements.{Contains-get_or}
 use Rattle.btr_volume.specs.declared.root.TreeRoot.{TreeRoot}
 use Rattle.btr_check.specs.Data.{sum_runs}
-use Rattle.btr_check.specs.Families.{IsCoverOf}
+use Rattle.btr_check.specs.Families.{AreSumRanges}
 use Rattle.btr_check.specs.Running.{world, filesystem, is_outside}
 use Rattle.btr_check.specs.SoundTrees.{AreKept, TreatsAll}
 use Rattle.btr_check.proofs.FileTrees.{treats_none, treats_next, treats_all}
@@ -14,7 +14,7 @@ loop-tree-init g c =
     let found = c.args.found.now in
     let kept = c.args.kept.now in
     record {
-      ran = ran_none (λ fs. IsCoverOf fs c.args.sums.now → AreKept fs kept.sound.items → TreatsAll fs [] found found kept.subvolumes kept.subvolumes
+      ran = ran_none (λ fs. AreSumRanges fs c.args.sums.now → AreKept fs kept.sound.items → TreatsAll fs [] found found kept.subvolumes kept.subvolumes
           kept.sound.items) (world (g.R.Rack.seen c.args.rack.now) c.args.vol.now) tt c.requires.ready
           (λ B same all. record {
             treats = treats_none B c.args.vol.now.store.layout.chunks (sum_runs (filesystem c.args.vol.now B)) found kept.subvolumes;
@@ -33,11 +33,11 @@ loop-tree-preserved g c =
     let found' = c.put_file_tree.new.found in
     record {
       ran = ran_both {A = Unit {0}} {C = Unit {0}}
-          (λ fs. IsCoverOf fs c.args.sums.now → AreKept fs first.sound.items → TreatsAll fs
+          (λ fs. AreSumRanges fs c.args.sums.now → AreKept fs first.sound.items → TreatsAll fs
           (take l.tree-index files) c.args.found.now l.found first.subvolumes old.subvolumes old.sound.items)
-          (λ fs. IsCoverOf fs c.args.sums.now → AreKept fs old.sound.items → TreatsAll fs
+          (λ fs. AreSumRanges fs c.args.sums.now → AreKept fs old.sound.items → TreatsAll fs
           (get_or files l.tree-index none ∷ []) l.found found' old.subvolumes new.subvolumes new.sound.items)
-          (λ fs. IsCoverOf fs c.args.sums.now → AreKept fs first.sound.items → TreatsAll fs
+          (λ fs. AreSumRanges fs c.args.sums.now → AreKept fs first.sound.items → TreatsAll fs
           (take (l.tree-index + 1) files) c.args.found.now found' first.subvolumes new.subvolumes new.sound.items)
           (world (g.R.Rack.seen c.args.rack.now) c.args.vol.now) (world (g.R.Rack.seen l.rack) l.vol)
           (world (g.R.Rack.seen c.put_file_tree.new.rack) c.put_file_tree.new.vol) tt tt l.invariant.ran c.in-Ok.ensures.ran
@@ -59,10 +59,10 @@ returns-in-Err g c =
     let old = l.kept in
     record {
       ran = ran_then {A = Unit {0}} {C = Unit {0}}
-          (λ fs. IsCoverOf fs c.args.sums.now → AreKept fs first.sound.items → TreatsAll fs
+          (λ fs. AreSumRanges fs c.args.sums.now → AreKept fs first.sound.items → TreatsAll fs
           (take l.tree-index c.args.files.now) c.args.found.now l.found first.subvolumes old.subvolumes old.sound.items)
-          (λ fs. IsCoverOf fs c.args.sums.now → AreKept fs old.sound.items → is_outside c.in-Err.stop ≡ true)
-          (λ fs. IsCoverOf fs c.args.sums.now → AreKept fs first.sound.items → is_outside c.in-Err.stop ≡ true)
+          (λ fs. AreSumRanges fs c.args.sums.now → AreKept fs old.sound.items → is_outside c.in-Err.stop ≡ true)
+          (λ fs. AreSumRanges fs c.args.sums.now → AreKept fs first.sound.items → is_outside c.in-Err.stop ≡ true)
           (world (g.R.Rack.seen c.args.rack.now) c.args.vol.now) (world (g.R.Rack.seen l.rack) l.vol)
           (world (g.R.Rack.seen c.put_file_tree.new.rack) c.put_file_tree.new.vol) tt (Err c.in-Err.stop) l.invariant.ran c.in-Err.ensures.ran
           (λ B p q same all. q same (p same all).kept)
@@ -74,9 +74,9 @@ returns g c =
     let l = c.loop-tree in
     let first = c.args.kept.now in
     record {
-      ran = ran_value {A = Unit {0}} {C = Unit {0}} (λ fs. IsCoverOf fs c.args.sums.now → AreKept fs first.sound.items → TreatsAll fs
+      ran = ran_value {A = Unit {0}} {C = Unit {0}} (λ fs. AreSumRanges fs c.args.sums.now → AreKept fs first.sound.items → TreatsAll fs
           (take l.tree-index c.args.files.now) c.args.found.now l.found first.subvolumes l.kept.subvolumes l.kept.sound.items)
-          (λ fs. IsCoverOf fs c.args.sums.now → AreKept fs first.sound.items → TreatsAll fs
+          (λ fs. AreSumRanges fs c.args.sums.now → AreKept fs first.sound.items → TreatsAll fs
           c.args.files.now c.args.found.now l.found first.subvolumes l.kept.subvolumes l.kept.sound.items)
           (world (g.R.Rack.seen c.args.rack.now) c.args.vol.now) (world (g.R.Rack.seen l.rack) l.vol) tt tt l.invariant.ran
           (λ B p same all.

@@ -3,7 +3,7 @@ use Rattle.btr_check_names.specs.Subvolumes.{subvolumes_in, subvolume_findings}
 use Rattle.btr_findings.specs.Findings.{Adds}
 use Rattle.btr_volume.specs.declared.stop.Stop.TheVariants.{Memory as NoMemory}
 use Rattle.btr_check.specs.Data.{sum_runs}
-use Rattle.btr_check.specs.Families.{IsCoverOf, found_on_files}
+use Rattle.btr_check.specs.Families.{AreSumRanges, found_on_files}
 use Rattle.btr_check.specs.Filesystem.{root_items}
 use Rattle.btr_check.specs.FileTrees.{Treats}
 use Rattle.btr_check.specs.Passes.{Lists}
@@ -19,7 +19,7 @@ pub returns-in-Err : goal.returns-in-Err
 returns-in-Err g c =
     let x = world (g.R.Rack.seen c.args.rack.now) c.args.vol.now in
     record {
-      ran = ran_memory (λ fs. Lists c.args.listed.now fs × IsCoverOf fs c.args.sums.now → is_outside NoMemory ≡ true) x c.requires.ready (λ B known. refl);
+      ran = ran_memory (λ fs. Lists c.args.listed.now fs × AreSumRanges fs c.args.sums.now → is_outside NoMemory ≡ true) x c.requires.ready (λ B known. refl);
     }
 
 pub returns-in-Err-read_subvolumes : goal.returns-in-Err-read_subvolumes
@@ -28,7 +28,7 @@ returns-in-Err-read_subvolumes g c =
     let y = world (g.R.Rack.seen c.read_subvolumes.new.rack) c.read_subvolumes.new.vol in
     let stop = c.in-Err-read_subvolumes.stop in
     record {
-      ran = ran_stop_within (λ fs. is_outside stop ≡ true) (λ fs. Lists c.args.listed.now fs × IsCoverOf fs c.args.sums.now
+      ran = ran_stop_within (λ fs. is_outside stop ≡ true) (λ fs. Lists c.args.listed.now fs × AreSumRanges fs c.args.sums.now
           → is_outside stop ≡ true) x y stop c.in-Err-read_subvolumes.ensures.ran (λ B h known. h)
           (λ B want w lists. w);
     }
@@ -42,8 +42,8 @@ returns-in-Err-put_file_trees g c =
     let names = c.in-Ok-read_subvolumes.subvolumes in
     record {
       ran = ran_then {C = Unit {0}} (λ fs. names ≡ subvolumes_in (root_items fs) [])
-          (λ fs. IsCoverOf fs c.args.sums.now → AreKept fs c.new.result.items → is_outside stop ≡ true)
-          (λ fs. Lists c.args.listed.now fs × IsCoverOf fs c.args.sums.now → is_outside stop ≡ true)
+          (λ fs. AreSumRanges fs c.args.sums.now → AreKept fs c.new.result.items → is_outside stop ≡ true)
+          (λ fs. Lists c.args.listed.now fs × AreSumRanges fs c.args.sums.now → is_outside stop ≡ true)
           x y z names (Err stop) c.in-Ok-read_subvolumes.ensures.ran c.in-Err-put_file_trees.ensures.ran
           (λ B p q known. q known.1 (subst (AreKept (filesystem c.args.vol.now B)) (sym c.new.ensures.items) tt))
           (λ B p want w lists. files_wanted (filesystem c.args.vol.now B) c.args.listed.now c.deref.result.now want lists
@@ -62,15 +62,15 @@ returns g c =
     let found = c.args.found.now in
     let found' = c.put_file_trees.new.found in
     let both = ran_both {C = Unit {0}} {U = nothing} (λ fs. names ≡ subvolumes_in (root_items fs) [])
-    (λ fs. IsCoverOf fs c.args.sums.now → AreKept fs c.new.result.items → TreatsAll fs files found found' names names' kept.sound.items)
+    (λ fs. AreSumRanges fs c.args.sums.now → AreKept fs c.new.result.items → TreatsAll fs files found found' names names' kept.sound.items)
     (λ fs. (names ≡ subvolumes_in (root_items fs) [])
-    × (IsCoverOf fs c.args.sums.now → Treats fs.blocks fs.chunks (sum_runs fs) files found found' names names'))
+    × (AreSumRanges fs c.args.sums.now → Treats fs.blocks fs.chunks (sum_runs fs) files found found' names names'))
     x y z names tt c.in-Ok-read_subvolumes.ensures.ran c.in-Ok-put_file_trees.ensures.ran
     (λ B p q. (p, λ same. (q same (subst (AreKept (filesystem c.args.vol.now B)) (sym c.new.ensures.items) tt)).treats)) in
     record {
       ran = ran_put {A = Unit {0}} (λ fs. (names ≡ subvolumes_in (root_items fs) [])
-          × (IsCoverOf fs c.args.sums.now → Treats fs.blocks fs.chunks (sum_runs fs) files found found' names names'))
-          (λ fs. Lists c.args.listed.now fs × IsCoverOf fs c.args.sums.now)
+          × (AreSumRanges fs c.args.sums.now → Treats fs.blocks fs.chunks (sum_runs fs) files found found' names names'))
+          (λ fs. Lists c.args.listed.now fs × AreSumRanges fs c.args.sums.now)
           (λ fs. Adds (found_on_files fs) found c.put_subvolume_findings.new.found) x z tt c.put_subvolume_findings.result c.or_memory.result both
           c.or_memory.ensures
           (λ B p known. on_done (Adds (subvolume_findings names') found' c.put_subvolume_findings.new.found)

@@ -3,7 +3,7 @@ use Rattle.btr_check_names.specs.Subvolumes.{subvolumes_at}
 use Rattle.btr_volume.specs.declared.stop.Stop.TheVariants.{Memory as NoMemory}
 use Rattle.btr_check.specs.Counting.{Unless}
 use Rattle.btr_check.specs.Differing.{IsSoundBy}
-use Rattle.btr_check.specs.Families.{IsCoverOf}
+use Rattle.btr_check.specs.Families.{AreSumRanges}
 use Rattle.btr_check.specs.Filesystem.{Filesystem}
 use Rattle.btr_check.specs.Running.{world, filesystem, is_outside}
 use Rattle.btr_check.specs.SoundTrees.{AreBelow, AreKept, TreatsAll}
@@ -33,8 +33,8 @@ returns-then-is_sound_by g c =
     let new = c.keep_passed.new.kept in
     let r = c.or_memory.result in
     let one : SoundTree = record { rooted = rooted; names = before.names; is_plain = true } in
-    let put = ran_put {U = OfTree tree.place} (λ fs. IsCoverOf fs c.args.sums.now → c.is_sound_by.result ≡ true → IsSoundBy fs before rooted)
-    (λ fs. IsCoverOf fs c.args.sums.now × AreKept fs old.sound.items × AreBelow fs tree rooted.children.items)
+    let put = ran_put {U = OfTree tree.place} (λ fs. AreSumRanges fs c.args.sums.now → c.is_sound_by.result ≡ true → IsSoundBy fs before rooted)
+    (λ fs. AreSumRanges fs c.args.sums.now × AreKept fs old.sound.items × AreBelow fs tree rooted.children.items)
     (λ fs. TreatsAll fs (tree ∷ []) found found old.subvolumes new.subvolumes new.sound.items) x y c.is_sound_by.result c.keep_passed.result r
     c.is_sound_by.ensures.ran c.or_memory.ensures
     (λ B by known.
@@ -48,11 +48,11 @@ returns-then-is_sound_by g c =
       kept = subst (AreKept fs) (sym sound) (kept_after fs mid one all.0 is);
     }) c.keep_passed.ensures.entries c.keep_passed.ensures.sound) in
     record {
-      ran = ran_more (λ fs. IsCoverOf fs c.args.sums.now × AreKept fs old.sound.items × AreBelow fs tree rooted.children.items
+      ran = ran_more (λ fs. AreSumRanges fs c.args.sums.now × AreKept fs old.sound.items × AreBelow fs tree rooted.children.items
           → Unless (λ u. TreatsAll fs (tree ∷ []) found found old.subvolumes new.subvolumes new.sound.items) r)
-          (λ fs. IsCoverOf fs c.args.sums.now → AreKept fs old.sound.items → AreBelow fs tree rooted.children.items
+          (λ fs. AreSumRanges fs c.args.sums.now → AreKept fs old.sound.items → AreBelow fs tree rooted.children.items
           → Unless (λ u. TreatsAll fs (tree ∷ []) found found old.subvolumes new.subvolumes new.sound.items) r) x y r put
-          (λ B h cover kept below. h (cover, kept, below));
+          (λ B h held kept below. h (held, kept, below));
     }
 
 pub returns-in-Ok : goal.returns-in-Ok
@@ -69,13 +69,13 @@ returns-in-Ok g c =
     let popped : old.sound.items ≡ mid ++ before ∷ [] = c.pop.ensures.items ∙ ap (λ o. mid ++ option_to_list o) c.in-Some.is in
     let same : c.push.new.list.items ≡ old.sound.items = c.in-Ok.ensures ∙ sym popped in
     record {
-      ran = ran_then (λ fs. IsCoverOf fs c.args.sums.now → c.is_sound_by.result ≡ true → IsSoundBy fs before rooted)
-          (λ fs. IsCoverOf fs c.args.sums.now → AreKept fs c.push.new.list.items → AreBelow fs rooted.tree rooted.children.items
+      ran = ran_then (λ fs. AreSumRanges fs c.args.sums.now → c.is_sound_by.result ≡ true → IsSoundBy fs before rooted)
+          (λ fs. AreSumRanges fs c.args.sums.now → AreKept fs c.push.new.list.items → AreBelow fs rooted.tree rooted.children.items
           → Unless (λ u. TreatsAll fs (rooted.tree ∷ []) c.args.found.now c.put_visited-in-Ok.new.found old.subvolumes new.subvolumes new.sound.items) r)
-          (λ fs. IsCoverOf fs c.args.sums.now → AreKept fs old.sound.items → AreBelow fs rooted.tree rooted.children.items
+          (λ fs. AreSumRanges fs c.args.sums.now → AreKept fs old.sound.items → AreBelow fs rooted.tree rooted.children.items
           → Unless (λ u. TreatsAll fs (rooted.tree ∷ []) c.args.found.now c.put_visited-in-Ok.new.found old.subvolumes new.subvolumes new.sound.items) r)
           x y z c.is_sound_by.result r c.is_sound_by.ensures.ran c.put_visited-in-Ok.ensures.ran
-          (λ B p q cover kept below. q cover (subst (AreKept (filesystem c.args.vol.now B)) (sym same) kept) below) (λ B p want w. w);
+          (λ B p q held kept below. q held (subst (AreKept (filesystem c.args.vol.now B)) (sym same) kept) below) (λ B p want w. w);
     }
 
 pub returns-in-Err : goal.returns-in-Err
@@ -84,9 +84,9 @@ returns-in-Err g c =
     let y = world (g.R.Rack.seen c.is_sound_by.new.rack) c.is_sound_by.new.vol in
     let rooted = c.args.rooted in
     record {
-      ran = ran_no_memory (λ fs. IsCoverOf fs c.args.sums.now → c.is_sound_by.result ≡ true → IsSoundBy fs c.in-Some.before rooted)
-          (λ fs. IsCoverOf fs c.args.sums.now → AreKept fs c.args.kept.now.sound.items → AreBelow fs rooted.tree rooted.children.items
-          → is_outside NoMemory ≡ true) x y c.is_sound_by.result c.is_sound_by.ensures.ran (λ B cover kept below. refl);
+      ran = ran_no_memory (λ fs. AreSumRanges fs c.args.sums.now → c.is_sound_by.result ≡ true → IsSoundBy fs c.in-Some.before rooted)
+          (λ fs. AreSumRanges fs c.args.sums.now → AreKept fs c.args.kept.now.sound.items → AreBelow fs rooted.tree rooted.children.items
+          → is_outside NoMemory ≡ true) x y c.is_sound_by.result c.is_sound_by.ensures.ran (λ B held kept below. refl);
     }
 
 pub returns-in_default : goal.returns-in_default
@@ -99,11 +99,12 @@ returns-in_default g c =
     let new = c.put_visited.new.kept in
     let r = c.put_visited.result in
     record {
-      ran = ran_more (λ fs. IsCoverOf fs c.args.sums.now → AreKept fs c.pop.new.self.items → AreBelow fs tree spots
+      ran = ran_more (λ fs. AreSumRanges fs c.args.sums.now → AreKept fs c.pop.new.self.items → AreBelow fs tree spots
           → Unless (λ u. TreatsAll fs (tree ∷ []) c.args.found.now c.put_visited.new.found old.subvolumes new.subvolumes new.sound.items) r)
-          (λ fs. IsCoverOf fs c.args.sums.now → AreKept fs old.sound.items → AreBelow fs tree spots
-          → Unless (λ u. TreatsAll fs (tree ∷ []) c.args.found.now c.put_visited.new.found old.subvolumes new.subvolumes new.sound.items) r) x y r c.put_visited.ensures.ran
-          (λ B h cover kept below. h cover
+          (λ fs. AreSumRanges fs c.args.sums.now → AreKept fs old.sound.items → AreBelow fs tree spots
+          → Unless (λ u. TreatsAll fs (tree ∷ []) c.args.found.now c.put_visited.new.found old.subvolumes new.subvolumes new.sound.items) r) x y r
+          c.put_visited.ensures.ran
+          (λ B h held kept below. h held
           (kept_front (filesystem c.args.vol.now B) c.pop.new.self.items (option_to_list c.pop.result)
           (subst (AreKept (filesystem c.args.vol.now B)) c.pop.ensures.items kept)) below);
     }

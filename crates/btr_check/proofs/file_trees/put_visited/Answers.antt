@@ -6,7 +6,7 @@ use Rattle.btr_check_sums.specs.Sums.{tree_missing}
 use Rattle.btr_volume.specs.declared.stop.Stop.TheVariants.{Memory as NoMemory}
 use Rattle.btr_check.specs.Counting.{Unless}
 use Rattle.btr_check.specs.Data.{sum_runs}
-use Rattle.btr_check.specs.Families.{IsCoverOf}
+use Rattle.btr_check.specs.Families.{AreSumRanges}
 use Rattle.btr_check.specs.FileTrees.{file_step, entries_if, TreatsNames}
 use Rattle.btr_check.specs.Passes.{marks_if}
 use Rattle.btr_check.specs.Running.{world, filesystem, is_outside}
@@ -26,7 +26,7 @@ returns-in-Err g c =
     let rooted = c.args.rooted in
     record {
       ran = ran_stop_within (λ fs. is_outside c.in-Err.stop ≡ true)
-          (λ fs. IsCoverOf fs c.args.sums.now → AreKept fs c.args.kept.now.sound.items → AreBelow fs rooted.tree rooted.children.items
+          (λ fs. AreSumRanges fs c.args.sums.now → AreKept fs c.args.kept.now.sound.items → AreBelow fs rooted.tree rooted.children.items
           → is_outside c.in-Err.stop ≡ true) x y c.in-Err.stop c.in-Err.ensures.ran (λ B h same kept below. h)
           (λ B want w. one_wanted (filesystem c.args.vol.now B) rooted.tree want w);
     }
@@ -38,7 +38,7 @@ returns-in-Err-put_met g c =
     let rooted = c.args.rooted in
     record {
       ran = ran_no_memory {A = FileTree} (λ fs. c.in-Ok.met ≡ fold file_step c.new.result (marks_if fs.blocks (Some rooted.tree)))
-          (λ fs. IsCoverOf fs c.args.sums.now → AreKept fs c.args.kept.now.sound.items → AreBelow fs rooted.tree rooted.children.items
+          (λ fs. AreSumRanges fs c.args.sums.now → AreKept fs c.args.kept.now.sound.items → AreBelow fs rooted.tree rooted.children.items
           → is_outside NoMemory ≡ true) x y c.in-Ok.met c.in-Ok.ensures.ran (λ B known kept below. refl);
     }
 
@@ -56,7 +56,7 @@ returns-then-paired g c =
     let put = c.in-Ok-put_met.ensures in
     record {
       ran = ran_value {A = FileTree} {C = Unit {0}} (λ fs. met ≡ fold file_step c.new.result (marks_if fs.blocks (Some tree)))
-          (λ fs. IsCoverOf fs c.args.sums.now → AreKept fs old.sound.items → AreBelow fs tree rooted.children.items
+          (λ fs. AreSumRanges fs c.args.sums.now → AreKept fs old.sound.items → AreBelow fs tree rooted.children.items
           → TreatsAll fs (tree ∷ []) found found' old.subvolumes new.subvolumes new.sound.items) x y met tt c.in-Ok.ensures.ran
           (λ B h same kept below.
           let fs = filesystem c.args.vol.now B in
@@ -92,7 +92,7 @@ returns-else-paired g c =
     record {
       ran = ran_then {A = FileTree} {C = Unit {0}} (λ fs. met ≡ fold file_step c.new.result (marks_if fs.blocks (Some tree)))
           (λ fs. Unless (λ u. TreatsNames fs.blocks tree found' found'' mid.subvolumes names'') c.put_names.result)
-          (λ fs. IsCoverOf fs c.args.sums.now → AreKept fs old.sound.items → AreBelow fs tree rooted.children.items
+          (λ fs. AreSumRanges fs c.args.sums.now → AreKept fs old.sound.items → AreBelow fs tree rooted.children.items
           → Unless (λ u. TreatsAll fs (tree ∷ []) found found'' old.subvolumes names'' mid.sound.items) c.put_names.result) x y z met c.put_names.result
           c.in-Ok.ensures.ran c.put_names.ensures.ran
           (λ B h q same kept below.

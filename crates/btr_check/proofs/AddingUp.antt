@@ -10,7 +10,7 @@ use Rattle.btr_check_names.specs.Names.{names_findings, names_in}
 use Rattle.btr_check_names.specs.Settled.{AreSettled, SettledLaw}
 use Rattle.btr_check_names.specs.declared.unpaired.Unpaired.{Unpaired}
 use Rattle.btr_check_names.specs.Unpaired.{are_paired, are_whole, compared, unpaired_of, unpaired_step}
-use Rattle.btr_check_space.specs.declared.cover.Stretch.{Stretch}
+use Rattle.btr_check_space.specs.declared.address_ranges.AddressRange.{AddressRange}
 use Rattle.btr_check_sums.specs.Items.{KeepsUses, UsesMet, loose_in, used_in, uses_step}
 use Rattle.btr_check_sums.specs.Sums.{tree_missing}
 use Rattle.btr_rack.specs.Rack.{Seen}
@@ -23,8 +23,8 @@ use Rattle.btr_walk.specs.Le.{TreeItem}
 use Rattle.btr_walk.specs.Reading.{Map}
 use Rattle.btr_walk.specs.declared.spot.Spot.{Spot}
 use Rattle.btr_check.specs.Data.{sum_runs}
-use Rattle.btr_check.specs.Differing.{ArePairedBy, CanCompare, Differ, IsSoundBy, IsWholeAlone, OfNone, Settle, own_marks}
-use Rattle.btr_check.specs.Families.{IsCoverOf}
+use Rattle.btr_check.specs.Differing.{ArePairedBy, CanCompare, Differ, IsSoundBy, IsWholeAlone, OfNone, AddUp, own_marks}
+use Rattle.btr_check.specs.Families.{AreSumRanges}
 use Rattle.btr_check.specs.FileTrees.{ArePairedHere, IsSoundAlone, file_step, missing_findings, names_of, nothing_met}
 use Rattle.btr_check.specs.Filesystem.{Filesystem}
 use Rattle.btr_check.specs.Running.{Ran, filesystem, world}
@@ -59,7 +59,7 @@ module _ (fs : Filesystem) where
   some_below tree (spot ∷ spots) some below = below
 
   -- what was met of a tree alone
-  pub whole_alone : KeepsUses → (sums : List Stretch) (rooted : RootedTree) (ranges : List InodeRange) (met : FileTree)
+  pub whole_alone : KeepsUses → (sums : List AddressRange) (rooted : RootedTree) (ranges : List InodeRange) (met : FileTree)
       → met ≡ fold file_step (nothing_met rooted.tree.dirid) (own_marks fs rooted ranges)
       → IsSoundAlone rooted.tree.id met fs.chunks sums → IsWholeAlone fs sums rooted ranges
   whole_alone uses sums rooted ranges met is alone =
@@ -70,8 +70,8 @@ module _ (fs : Filesystem) where
       record {
         plain = sym (ap (λ (m : FileTree). m.is_plain) all) ∙ alone.plain;
         whole = sym (ap (λ (m : FileTree). are_whole m.names) all) ∙ alone.whole;
-        summed = λ cover. sym (ap (λ (u : UsesMet). tree_missing fs.chunks (sum_runs fs) rooted.tree.id u.loose u.used) used)
-            ∙ alone.summed (sum_runs fs) cover;
+        summed = λ held. sym (ap (λ (u : UsesMet). tree_missing fs.chunks (sum_runs fs) rooted.tree.id u.loose u.used) used)
+            ∙ alone.summed (sum_runs fs) held;
       }
 
   -- and what was met of another one
@@ -90,10 +90,10 @@ module _ (fs : Filesystem) where
       }
 
   -- a tree is sound by a sound one from which it differs little
-  pub sound_by : AlikeLaw → DifferenceLaw → MissingLaw → SettledLaw → (before : SoundTree) (after : RootedTree) (sums : List Stretch)
+  pub sound_by : AlikeLaw → DifferenceLaw → MissingLaw → SettledLaw → (before : SoundTree) (after : RootedTree) (sums : List AddressRange)
       (ranges : List InodeRange) → CanCompare before after → are_apart ranges ≡ true → Differ fs before.rooted after ranges
-      → IsCoverOf fs sums → Settle fs sums before.rooted after ranges → IsSoundBy fs before after
-  sound_by alike_law difference_law missing_law settled_law before after sums ranges can apart differ cover settle = λ kept below.
+      → AreSumRanges fs sums → AddUp fs sums before.rooted after ranges → IsSoundBy fs before after
+  sound_by alike_law difference_law missing_law settled_law before after sums ranges can apart differ held adds = λ kept below.
       let a = before.rooted.tree in
       let b = after.tree in
       let runs = sum_runs fs in
@@ -113,9 +113,9 @@ module _ (fs : Filesystem) where
         apart = apart;
         differ = differ;
         plain = kept.plain can.plain;
-        plain_new = settle.alone.plain;
-        whole_new = settle.alone.whole;
-        paired = settle.both.paired;
+        plain_new = adds.alone.plain;
+        whole_new = adds.alone.whole;
+        paired = adds.both.paired;
       }) in
       let is : IsSettledBy (names_in a.id b.dirid old) (names_in b.id b.dirid new) (compared_of b.dirid ours theirs) =
       difference_law a.id b.id b.dirid own old new ours theirs
@@ -125,11 +125,11 @@ module _ (fs : Filesystem) where
       let missing : missing_findings fs.blocks fs.chunks runs b ≡ [] =
       missing_law fs.chunks runs b.id own old new alike.settles.shared
       (missing_same fs.chunks runs a.id b.id (filter_map loose_in old) (filter_map used_in old) two.0)
-      (subst (NothingMissing fs.chunks runs b.id) alike.settles.ours_met (settle.alone.summed cover)) in
+      (subst (NothingMissing fs.chunks runs b.id) alike.settles.ours_met (adds.alone.summed held)) in
       record {
         sound = record {
           nothing = λ i. missing i ++ named i;
-          entries = kept.sound.entries ∙ sym (is.subvolumes settle.both.subvolumes);
+          entries = kept.sound.entries ∙ sym (is.subvolumes adds.both.subvolumes);
         };
         settled = is.settled;
         below = below;

@@ -3,19 +3,19 @@ use Rattle.std.specs.Bool.{⊤}
 use Rattle.btr_chunk.specs.declared.chunk.Chunk.{Chunk}
 use Rattle.btr_check_names.specs.Unpaired.{compared, unpaired_step}
 use Rattle.btr_read.specs.Layout.{Layout}
-use Rattle.btr_check.specs.Differing.{OfNone, Settle, own_marks}
+use Rattle.btr_check.specs.Differing.{OfNone, AddUp, own_marks}
 use Rattle.btr_check.specs.FileTrees.{IsSoundAlone, file_step, nothing_met}
 use Rattle.btr_check.specs.Running.{world, filesystem}
-use Rattle.btr_check.proofs.Settles.{paired_by, whole_alone}
+use Rattle.btr_check.proofs.AddingUp.{paired_by, whole_alone}
 use Rattle.btr_check.proofs.Runs.{ran_both, ran_value}
-use Rattle.btr_check.proofs.differing.settles.Goals as goal
+use Rattle.btr_check.proofs.differing.add_up.Goals as goal
 
 pub returns-in-None : goal.returns-in-None
 returns-in-None g c =
     let x = world (g.R.Rack.seen c.args.rack.now) c.args.vol.now in
     let y = world (g.R.Rack.seen c.meet_own.new.rack) c.meet_own.new.vol in
     record {
-      ran = ran_value (λ fs. ⊤) (λ fs. false ≡ true → Settle fs c.args.sums.now c.args.before.now c.args.after.now c.args.ranges.now) x y _ false
+      ran = ran_value (λ fs. ⊤) (λ fs. false ≡ true → AddUp fs c.args.sums.now c.args.before.now c.args.after.now c.args.ranges.now) x y _ false
           c.in-None.ensures.ran (λ B h yes. cc);
     }
 
@@ -26,7 +26,7 @@ returns-then-not-is_sound_alone g c =
     let own = c.in-Some.own in
     record {
       ran = ran_value (λ fs. own ≡ fold file_step (nothing_met c.args.after.now.tree.dirid) (own_marks fs c.args.after.now c.args.ranges.now))
-          (λ fs. false ≡ true → Settle fs c.args.sums.now c.args.before.now c.args.after.now c.args.ranges.now) x y _ false
+          (λ fs. false ≡ true → AddUp fs c.args.sums.now c.args.before.now c.args.after.now c.args.ranges.now) x y _ false
           c.in-Some.ensures.ran (λ B h yes. cc);
     }
 
@@ -37,8 +37,9 @@ returns-in-None-meet_others g c =
     let z = world (g.R.Rack.seen c.meet_others.new.rack) c.meet_others.new.vol in
     let own = c.in-Some.own in
     record {
-      ran = ran_both {V = OfNone} (λ fs. own ≡ fold file_step (nothing_met c.args.after.now.tree.dirid) (own_marks fs c.args.after.now c.args.ranges.now)) (λ fs. ⊤)
-          (λ fs. false ≡ true → Settle fs c.args.sums.now c.args.before.now c.args.after.now c.args.ranges.now) x y z _ false
+      ran = ran_both {V = OfNone} (λ fs. own ≡ fold file_step (nothing_met c.args.after.now.tree.dirid) (own_marks fs c.args.after.now c.args.ranges.now))
+          (λ fs. ⊤)
+          (λ fs. false ≡ true → AddUp fs c.args.sums.now c.args.before.now c.args.after.now c.args.ranges.now) x y z _ false
           c.in-Some.ensures.ran (ran_value (λ fs. ⊤) (λ fs. ⊤) y z _ false c.in-None-meet_others.ensures.ran (λ B h. tt)) (λ B p q yes. cc);
     }
 
@@ -59,7 +60,7 @@ returns g c =
     record {
       ran = ran_both {V = OfNone} (λ fs. own ≡ fold file_step (nothing_met after.tree.dirid) (own_marks fs after ranges))
           (λ fs. names ≡ fold unpaired_step (compared own.names) (own_marks fs before ranges))
-          (λ fs. r ≡ true → Settle fs sums before after ranges) x y z _ r c.in-Some.ensures.ran
+          (λ fs. r ≡ true → AddUp fs sums before after ranges) x y z _ r c.in-Some.ensures.ran
           (ran_value (λ fs. names ≡ fold unpaired_step (compared own.names) (own_marks fs before ranges))
           (λ fs. names ≡ fold unpaired_step (compared own.names) (own_marks fs before ranges)) y z _ r c.in-Some-meet_others.ensures.ran (λ B h. h))
           (λ B p q yes.
