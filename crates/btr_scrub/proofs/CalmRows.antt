@@ -38,7 +38,7 @@ use Rattle.std.proofs.Math.Bool.{or-false}
 
 -- ---- lists
 
-flat_none : {X Y : Type 0} (f : X → List Y) (xs : List X) → ((x : X) → In x xs → f x ≡ []) → flat_map f xs ≡ []
+pub flat_none : {X Y : Type 0} (f : X → List Y) (xs : List X) → ((x : X) → In x xs → f x ≡ []) → flat_map f xs ≡ []
 flat_none f [] h = refl
 flat_none f (x ∷ xs) h = ap (λ ys. ys ++ flat_map f xs) (h x (inl refl)) ∙ flat_none f xs (λ y i. h y (inr i))
 
@@ -66,28 +66,37 @@ sought_of_row layout (w ∷ ws) (u ∷ ts) e t (inr i) =
     let r = sought_of_row layout ws ts tail t i in
     (r.0, inr r.1, r.2)
 
-module _ (layout : Layout) (table : IsTable layout.chunks) (start number : ℕ) (wants : List Want) (row : Row)
-    (of : IsRowOf layout start number wants row) (calm : IsCalm layout row) where
+-- so it lies in the row's chunk
+pub sought_in_row : (layout : Layout) (start number : ℕ) (wants : List Want) (row : Row) → IsRowOf layout start number wants row
+    → (t : Target) → In t row.blocks → IsSought layout t × (t.chunk ≡ row.chunk)
+sought_in_row layout start number wants row of t i =
+    let w = sought_of_row layout wants row.blocks of.blocks t i in
+    let on = all_in (IsOn row) row.blocks t of.lie i in
+    (is_sought layout w.0 t w.2, on.chunk)
+
+module _ (layout : Layout) (table : IsTable layout.chunks) (row : Row) (lie : (t : Target) → In t row.blocks → IsSought layout t × (t.chunk ≡ row.chunk))
+    (parity : mirrors row.chunk ≡ None) (calm : IsCalm layout row) where
   -- ---- one sector
 
   module _ (t : Target) (i : In t row.blocks) where
     is : IsSought layout t
-    is = let w = sought_of_row layout wants row.blocks of.blocks t i in is_sought layout w.0 t w.2
+    is = (lie t i).0
 
     plain : is_plain t.want ≡ true
     plain = all_in (λ t. is_plain t.want ≡ true) row.blocks t calm.plain i
 
-    on : IsOn row t
-    on = all_in (IsOn row) row.blocks t of.lie i
+    mine : t.chunk ≡ row.chunk
+    mine = (lie t i).1
 
     none : mirrors t.chunk ≡ None
-    none = ap mirrors on.chunk ∙ of.stripe.parity
+    none = ap mirrors mine ∙ parity
 
     not_behind : is_on_behind row.failing t (Slice t.at.index) ≡ false
     not_behind =
-        let position : IsPosition t.chunk t.at = subst (IsPosition t.chunk) (sym is.at) (IsPosition-position t.chunk (addr_of t.want) (table.sound is.number t.chunk is.there).0 is.held) in
+        let position : IsPosition t.chunk t.at = subst (IsPosition t.chunk) (sym is.at)
+        (IsPosition-position t.chunk (addr_of t.want) (table.sound is.number t.chunk is.there).0 is.held) in
         let at = on_stripe layout t (Slice t.at.index) table is (subst IsNone (sym none) refl, position.index) in
-        let sure : has_doubtful layout.devices row.failing t.chunk ≡ false = ap (has_doubtful layout.devices row.failing) on.chunk ∙ calm.sure in
+        let sure : has_doubtful layout.devices row.failing t.chunk ≡ false = ap (has_doubtful layout.devices row.failing) mine ∙ calm.sure in
         ap (λ ds. is_behind ds row.failing (place_at t.chunk (Slice t.at.index) t.at).devid) is.devices
         ∙ ap (is_behind layout.devices row.failing) at.devid
         ∙ sure_device row.failing layout.devices at.stripe.devid

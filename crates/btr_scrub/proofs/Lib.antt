@@ -57,8 +57,10 @@ pub mod Sums
 pub mod Tallying
 pub mod Sifting
 pub mod Sieving
+pub mod SiftedRows
 pub mod Sieved
 pub mod KeptWorks
 pub mod Scrubbed
 pub mod RowValues
 pub mod CalmRows
+pub mod PassingRows

@@ -4,7 +4,7 @@ use Rattle.std.proofs.lemmas.List.Elements.{All-cons, All-nil}
 use Rattle.std.proofs.lemmas.Option.{slice_get_within, same_Some, get_or_from_slice_get}
 use Rattle.std.specs.List.{Any, flat_map, Contains, cons_option, filter, filter_map, list_any}
 use Rattle.btr_scrub.specs.BlocksInRows.{In}
-use Rattle.std.proofs.Common.{Bool, true, false, cond, ◌||◌, ◌⊎◌, ◌∙◌, Option, None, IsSome, is_some, is_none}
+use Rattle.std.proofs.Common.{Bool, true, false, cond, ◌||◌, ◌⊎◌, ◌∙◌, Option, None, IsSome, is_some, is_none, Result, Ok, Err, IsErrAnd}
 use Rattle.std.specs.Option.{option_map}
 use Rattle.std.proofs.lemmas.Bool.{false≢true, both_ways, false_from_ne_true, or_cases}
 use Rattle.std.proofs.lemmas.List.Folds.{Any-from_list_any, list_any-from_Any, list_any-append}
@@ -140,3 +140,8 @@ any_filter_map f g xs h =
     let y = any_is f (filter_map g xs) h in
     let x = of_filter_map g y.0 xs y.1 in
     (x.0, x.1, (y.0, x.2, y.2))
+
+-- what holds of a fault holds of the answer that has it
+pub passed : {A E : Type 0} (P : Result A E → Type 0) (r : Result A E) (fault : E) → IsErrAnd r (λ e. e ≡ fault) → P (Err fault) → P r
+passed P (Ok a) fault h p = absurd h
+passed P (Err e) fault h p = subst (λ x. P (Err x)) (sym h) p

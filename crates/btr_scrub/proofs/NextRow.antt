@@ -31,7 +31,7 @@ use Rattle.btr_scrub.proofs.RowAgreeing.{row_writes_alike}
 use Rattle.btr_scrub.proofs.RowWrites.{row_short, row_stays, written_row}
 use Rattle.btr_scrub.proofs.AcrossChunks.{element_stands, row_counted, row_is}
 use Rattle.btr_scrub.proofs.Blockwise.{filter_none, filter_all, of_targets}
-use Rattle.btr_scrub.proofs.RowNumbers.{in_range, range_split, row_is_not, rows_to, start_there}
+use Rattle.btr_scrub.proofs.RowNumbers.{in_range, range_split, row_is_not, rows_split, rows_to, start_there}
 use Rattle.btr_scrub.proofs.Lists.{all_from, of_mapped, any_map, any_flat}
 use Rattle.btr_scrub.proofs.Positions.{is_sought}
 use Rattle.btr_scrub.proofs.Scrubbing.{IsUnmoved}
@@ -42,13 +42,16 @@ use Rattle.std.proofs.lemmas.List.Sums.{fold-append}
 
 -- ---- empty rows
 
-decided_none : (images : Images) (layout : Layout) (chunk : Chunk) (r : ℕ) (k : Failing) (q : _) → parity_writes images layout (record { chunk = chunk; number = r; blocks = []; failing = k }) q ≡ []
+decided_none : (images : Images) (layout : Layout) (chunk : Chunk) (r : ℕ) (k : Failing) (q : _) → parity_writes images layout
+    (record { chunk = chunk; number = r; blocks = []; failing = k }) q ≡ []
 decided_none images layout chunk r k q = refl
 
 parities_none : (images : Images) (layout : Layout) (row : Row) (qs : List _) → row.blocks ≡ [] → flat_map (parity_writes images layout row) qs ≡ []
 parities_none images layout row [] e = refl
 parities_none images layout row (q ∷ qs) e =
-    ap (λ ws. ws ++ flat_map (parity_writes images layout row) qs) (ap (λ bs. parity_writes images layout (record { chunk = row.chunk; number = row.number; blocks = bs; failing = row.failing }) q) e ∙ decided_none images layout row.chunk row.number row.failing q)
+    ap (λ ws. ws ++ flat_map (parity_writes images layout row) qs)
+    (ap (λ bs. parity_writes images layout (record { chunk = row.chunk; number = row.number; blocks = bs; failing = row.failing }) q) e
+    ∙ decided_none images layout row.chunk row.number row.failing q)
     ∙ parities_none images layout row qs e
 
 pub empty_writes : (images : Images) (layout : Layout) (row : Row) → row.blocks ≡ [] → row_writes images layout row ≡ []
@@ -60,51 +63,66 @@ pub empty_count : (images : Images) (layout : Layout) (write : Bool) (tally : Ta
     → count_row images layout write tally row ≡ tally
 empty_count images layout write tally row e = ap (λ bs. count_row_of bs tally (mended_row images layout row write)) e
 
--- rows of which each is empty
-empties_writes : (images : Images) (layout : Layout) (rs : List Row) → ((r : Row) → In r rs → r.blocks ≡ []) → rows_writes layout rs images ≡ []
-empties_writes images layout [] h = refl
-empties_writes images layout (r ∷ rs) h = ap (λ ws. ws ++ rows_writes layout rs images) (empty_writes images layout r (h r (inl refl)))
-    ∙ empties_writes images layout rs (λ q i. h q (inr i))
+-- rows of which nothing comes
+idle_writes : (images : Images) (layout : Layout) (rs : List Row) → ((r : Row) → In r rs → row_writes images layout r ≡ []) → rows_writes layout rs images ≡ []
+idle_writes images layout [] h = refl
+idle_writes images layout (r ∷ rs) h = ap (λ ws. ws ++ rows_writes layout rs images) (h r (inl refl)) ∙ idle_writes images layout rs (λ q i. h q (inr i))
 
-empties_count : (images : Images) (layout : Layout) (write : Bool) (tally : Tally) (rs : List Row) → ((r : Row) → In r rs → r.blocks ≡ [])
+idle_count : (images : Images) (layout : Layout) (write : Bool) (tally : Tally) (rs : List Row) → ((r : Row) → In r rs → count_row images layout write tally r ≡ tally)
     → rows_count layout write rs images tally ≡ tally
-empties_count images layout write tally [] h = refl
-empties_count images layout write tally (r ∷ rs) h = ap (λ t. rows_count layout write rs images t)
-    (empty_count images layout write tally r (h r (inl refl))) ∙ empties_count images layout write tally rs (λ q i. h q (inr i))
+idle_count images layout write tally [] h = refl
+idle_count images layout write tally (r ∷ rs) h =
+    ap (λ t. rows_count layout write rs images t) (h r (inl refl)) ∙ idle_count images layout write tally rs (λ q i. h q (inr i))
 
 -- ---- one chunk with parity
 
 module _ (kept : Failing) (layout : Layout) (table : IsTable layout.chunks) (own : HaveOwnSlots layout.devices) (given : first_missing layout ≡ None) (number : ℕ) (chunk : Chunk) (there : slice_get layout.chunks number ≡ Some chunk) (parity : mirrors chunk ≡ None) (wants : List Want) where
-  -- rows from q on up to n, all of them empty
-  pub more_rows : (q n : ℕ) → q ≤ n → ((k : ℕ) → q ≤ k → k < n → (row_of kept (targets layout wants) chunk k).blocks ≡ []) → (images : Images)
-      → rows_writes layout (rows_to kept (targets layout wants) chunk n) images ≡ rows_writes layout (rows_to kept (targets layout wants) chunk q) images
-  more_rows q n le empty images =
-      let d = n - q in
-      let whole : n ≡ q + d = omega (arith, le) in
-      let from_q : 0 + q ≡ q = omega arith in
-      let parts : rows_to kept (targets layout wants) chunk n ≡ rows_to kept (targets layout wants) chunk q ++ map (row_of kept (targets layout wants) chunk) (range_with_len q d) =
-      ap (rows_to kept (targets layout wants) chunk) whole ∙ ap (map (row_of kept (targets layout wants) chunk)) (range_split 0 q d) ∙ map-append (row_of kept (targets layout wants) chunk) (range_with_len 0 q) (range_with_len (0 + q) d) ∙ ap (λ k. rows_to kept (targets layout wants) chunk q ++ map (row_of kept (targets layout wants) chunk) (range_with_len k d)) from_q in
-      ap (λ rs. rows_writes layout rs images) parts ∙ flat_map-append (row_writes images layout) (rows_to kept (targets layout wants) chunk q)
-      (map (row_of kept (targets layout wants) chunk) (range_with_len q d))
-      ∙ ap (λ ws. rows_writes layout (rows_to kept (targets layout wants) chunk q) images ++ ws)
-      (empties_writes images layout (map (row_of kept (targets layout wants) chunk) (range_with_len q d))
-      (λ r i. let k = of_mapped (row_of kept (targets layout wants) chunk) r (range_with_len q d) i in let b = in_range q d k.0 k.1 in subst (λ (x : Row). x.blocks ≡ []) k.2 (empty k.0 b.0 (omega (arith, b.1, le)))))
-      ∙ append-nil (rows_writes layout (rows_to kept (targets layout wants) chunk q) images)
+  -- the rows from q on up to n
+  abbrev from_to : ℕ → ℕ → List Row
+  from_to q n = map (row_of kept (targets layout wants) chunk) (range_with_len q (n - q))
 
-  pub more_counts : (write : Bool) (q n : ℕ) → q ≤ n → ((k : ℕ) → q ≤ k → k < n → (row_of kept (targets layout wants) chunk k).blocks ≡ [])
+  each_between : (q n : ℕ) (P : Row → Type 0) → q ≤ n → ((k : ℕ) → q ≤ k → k < n → P (row_of kept (targets layout wants) chunk k)) → (r : Row) → In r (from_to q n) → P r
+  each_between q n P le h r i =
+      let k = of_mapped (row_of kept (targets layout wants) chunk) r (range_with_len q (n - q)) i in
+      let b = in_range q (n - q) k.0 k.1 in
+      subst P k.2 (h k.0 b.0 (omega (arith, b.1, le)))
+
+  -- where nothing comes of them, it is with them as without
+  pub more_rows : (q n : ℕ) → q ≤ n → (images : Images)
+      → ((k : ℕ) → q ≤ k → k < n → row_writes images layout (row_of kept (targets layout wants) chunk k) ≡ [])
+      → rows_writes layout (rows_to kept (targets layout wants) chunk n) images ≡ rows_writes layout (rows_to kept (targets layout wants) chunk q) images
+  more_rows q n le images idle =
+      let before = rows_to kept (targets layout wants) chunk q in
+      ap (λ rs. rows_writes layout rs images) (rows_split kept (targets layout wants) chunk q n le)
+      ∙ flat_map-append (row_writes images layout) before (from_to q n)
+      ∙ ap (λ ws. rows_writes layout before images ++ ws)
+      (idle_writes images layout (from_to q n) (each_between q n (λ r. row_writes images layout r ≡ []) le idle))
+      ∙ append-nil (rows_writes layout before images)
+
+  pub more_counts : (write : Bool) (q n : ℕ) → q ≤ n → (images : Images) (x : Tally)
+      → ((k : ℕ) → q ≤ k → k < n
+      → count_row images layout write (rows_count layout write (rows_to kept (targets layout wants) chunk q) images x) (row_of kept (targets layout wants) chunk k)
+      ≡ rows_count layout write (rows_to kept (targets layout wants) chunk q) images x)
+      → rows_count layout write (rows_to kept (targets layout wants) chunk n) images x
+      ≡ rows_count layout write (rows_to kept (targets layout wants) chunk q) images x
+  more_counts write q n le images x idle =
+      let before = rows_to kept (targets layout wants) chunk q in
+      let u = rows_count layout write before images x in
+      ap (λ rs. rows_count layout write rs images x) (rows_split kept (targets layout wants) chunk q n le)
+      ∙ fold-append (count_row images layout write) x before (from_to q n)
+      ∙ idle_count images layout write u (from_to q n) (each_between q n (λ r. count_row images layout write u r ≡ u) le idle)
+
+  -- so it is where they are empty
+  pub empty_rows : (q n : ℕ) → q ≤ n → ((k : ℕ) → q ≤ k → k < n → (row_of kept (targets layout wants) chunk k).blocks ≡ []) → (images : Images)
+      → rows_writes layout (rows_to kept (targets layout wants) chunk n) images ≡ rows_writes layout (rows_to kept (targets layout wants) chunk q) images
+  empty_rows q n le empty images = more_rows q n le images (λ k from to. empty_writes images layout (row_of kept (targets layout wants) chunk k) (empty k from to))
+
+  pub empty_counts : (write : Bool) (q n : ℕ) → q ≤ n → ((k : ℕ) → q ≤ k → k < n → (row_of kept (targets layout wants) chunk k).blocks ≡ [])
       → (images : Images) (x : Tally) → rows_count layout write (rows_to kept (targets layout wants) chunk n) images x
       ≡ rows_count layout write (rows_to kept (targets layout wants) chunk q) images x
-  more_counts write q n le empty images x =
-      let d = n - q in
-      let whole : n ≡ q + d = omega (arith, le) in
-      let from_q : 0 + q ≡ q = omega arith in
-      let parts : rows_to kept (targets layout wants) chunk n ≡ rows_to kept (targets layout wants) chunk q ++ map (row_of kept (targets layout wants) chunk) (range_with_len q d) =
-      ap (rows_to kept (targets layout wants) chunk) whole ∙ ap (map (row_of kept (targets layout wants) chunk)) (range_split 0 q d) ∙ map-append (row_of kept (targets layout wants) chunk) (range_with_len 0 q) (range_with_len (0 + q) d) ∙ ap (λ k. rows_to kept (targets layout wants) chunk q ++ map (row_of kept (targets layout wants) chunk) (range_with_len k d)) from_q in
-      ap (λ rs. rows_count layout write rs images x) parts ∙ fold-append (count_row images layout write) x
-      (rows_to kept (targets layout wants) chunk q) (map (row_of kept (targets layout wants) chunk) (range_with_len q d))
-      ∙ empties_count images layout write (rows_count layout write (rows_to kept (targets layout wants) chunk q) images x)
-      (map (row_of kept (targets layout wants) chunk) (range_with_len q d))
-      (λ r i. let k = of_mapped (row_of kept (targets layout wants) chunk) r (range_with_len q d) i in let b = in_range q d k.0 k.1 in subst (λ (x : Row). x.blocks ≡ []) k.2 (empty k.0 b.0 (omega (arith, b.1, le))))
+  empty_counts write q n le empty images x =
+      let u = rows_count layout write (rows_to kept (targets layout wants) chunk q) images x in
+      more_counts write q n le images x (λ k from to. empty_count images layout write u (row_of kept (targets layout wants) chunk k) (empty k from to))
 
   -- ---- one row more
 
@@ -155,14 +173,17 @@ module _ (kept : Failing) (layout : Layout) (table : IsTable layout.chunks) (own
         ]
 
     -- the row has these
-    row_blocks : (row_of kept (targets layout wants) chunk r).blocks ≡ targets layout mine
+    pub row_blocks : (row_of kept (targets layout wants) chunk r).blocks ≡ targets layout mine
     row_blocks =
         ap (filter (is_in_row chunk r)) parts ∙ filter-append (is_in_row chunk r) (targets layout past) (targets layout mine ++ targets layout left')
         ∙ ap (λ ts. ts ++ filter (is_in_row chunk r) (targets layout mine ++ targets layout left'))
         (filter_none (is_in_row chunk r) (targets layout past)
         (λ t i. row_is_not layout table number chunk there parity r t (sought_is past t i) (λ c e. omega (arith, e, (n.before t i).1, n.later))))
         ∙ filter-append (is_in_row chunk r) (targets layout mine) (targets layout left')
-        ∙ ap (λ ts. ts ++ filter (is_in_row chunk r) (targets layout left')) (filter_all (is_in_row chunk r) (targets layout mine) (λ t i. let m = mine_is t i in ap (λ b. b && eqb t.at.row r) (eq-eqb t.chunk.start chunk.start (ap (λ (c : Chunk). c.start) m.0)) ∙ eq-eqb t.at.row r m.1))
+        ∙ ap (λ ts. ts ++ filter (is_in_row chunk r) (targets layout left'))
+        (filter_all (is_in_row chunk r) (targets layout mine)
+        (λ t i. let m = mine_is t i in ap (λ b. b && eqb t.at.row r) (eq-eqb t.chunk.start chunk.start (ap (λ (c : Chunk). c.start) m.0))
+        ∙ eq-eqb t.at.row r m.1))
         ∙ ap (λ ts. targets layout mine ++ ts) (filter_none (is_in_row chunk r) (targets layout left')
         (λ t i. row_is_not layout table number chunk there parity r t (sought_is left' t i) (λ c e. omega (arith, e, n.behind t i c))))
         ∙ append-nil (targets layout mine)
@@ -179,7 +200,7 @@ module _ (kept : Failing) (layout : Layout) (table : IsTable layout.chunks) (own
         ++ row_writes images layout (row_of kept (targets layout wants) chunk r) ≡ rows_writes layout (rows_to kept (targets layout wants) chunk (r + 1)) images
     writes_with images =
         let row = row_of kept (targets layout wants) chunk r in
-        ap (λ ws. ws ++ row_writes images layout row) (sym (more_rows q r n.later between_empty images))
+        ap (λ ws. ws ++ row_writes images layout row) (sym (empty_rows q r n.later between_empty images))
         ∙ ap (λ ws. rows_writes layout (rows_to kept (targets layout wants) chunk r) images ++ ws) (sym (append-nil (row_writes images layout row)))
         ∙ sym (flat_map-append (row_writes images layout) (rows_to kept (targets layout wants) chunk r) (row ∷ []))
         ∙ ap (λ rs. rows_writes layout rs images) (sym last_row)
@@ -189,7 +210,7 @@ module _ (kept : Failing) (layout : Layout) (table : IsTable layout.chunks) (own
         (row_of kept (targets layout wants) chunk r) ≡ rows_count layout write (rows_to kept (targets layout wants) chunk (r + 1)) images x
     counts_with write images x =
         let row = row_of kept (targets layout wants) chunk r in
-        ap (λ y. count_row images layout write y row) (sym (more_counts write q r n.later between_empty images x))
+        ap (λ y. count_row images layout write y row) (sym (empty_counts write q r n.later between_empty images x))
         ∙ sym (fold-append (count_row images layout write) x (rows_to kept (targets layout wants) chunk r) (row ∷ []))
         ∙ ap (λ rs. rows_count layout write rs images x) (sym last_row)
 
@@ -215,7 +236,9 @@ module _ (kept : Failing) (layout : Layout) (table : IsTable layout.chunks) (own
         let after = fold write_on images (writes_if write ws) in
         let l = lengths images e in
         let here = row_is kept layout table own given number chunk there wants r parity n.fits in
-        let alike = row_stays layout row table here.is images l after (map (λ (w : Write). w.range) ws) here.blocks (shorts_keep_if write images ws (flat_short images (row_writes images layout) (rows_to kept (targets layout wants) chunk q) (λ x i. short x i images l)))
+        let alike = row_stays layout row table here.is images l after (map (λ (w : Write). w.range) ws) here.blocks
+        (shorts_keep_if write images ws
+        (flat_short images (row_writes images layout) (rows_to kept (targets layout wants) chunk q) (λ x i. short x i images l)))
         (λ part slot off o. free images slot off part o) in (
           row_writes_alike images after layout row row.failing alike,
           λ x. row_counted images after layout write row row.failing x alike,
@@ -255,10 +278,12 @@ module _ (kept : Failing) (layout : Layout) (table : IsTable layout.chunks) (own
                 → list_any (covers slot off) (map (λ (w : Write). w.range) (rows_writes layout (rows_to kept (targets layout wants) chunk q) images)) ≡ false
             by false e = e
             by true e =
-                let any : list_any (λ (w : Write). covers slot off w.range) (rows_writes layout (rows_to kept (targets layout wants) chunk q) images) ≡ true = sym (any_map (covers slot off) (λ (w : Write). w.range) (rows_writes layout (rows_to kept (targets layout wants) chunk q) images)) ∙ e in
+                let any : list_any (λ (w : Write). covers slot off w.range) (rows_writes layout (rows_to kept (targets layout wants) chunk q) images) ≡ true =
+                sym (any_map (covers slot off) (λ (w : Write). w.range) (rows_writes layout (rows_to kept (targets layout wants) chunk q) images)) ∙ e in
                 let f = any_flat (λ (w : Write). covers slot off w.range) (row_writes images layout) (rows_to kept (targets layout wants) chunk q) any in
                 let w = written_there images slot off f.0 f.1 f.2 in
-                let same = elements_apart layout (row_of kept (targets layout wants) chunk w.0) (row_of kept (targets layout wants) chunk r) w.2.0 part slot off table own w.2.1 o in
+                let same = elements_apart layout (row_of kept (targets layout wants) chunk w.0)
+                (row_of kept (targets layout wants) chunk r) w.2.0 part slot off table own w.2.1 o in
                 absurd (omega (arith, w.1, same.1, n.later))
 
     all_sought : (ws : List Want) → ((w : Want) → In w ws → (t : Target) × (sought layout w ≡ Ok t)) → map (sought layout) ws ≡ map is_at (targets layout ws)
@@ -271,7 +296,15 @@ module _ (kept : Failing) (layout : Layout) (table : IsTable layout.chunks) (own
     -- the row of the blocks that were collected
     pub is_row_of : IsRowOf layout chunk.start r mine (row_of kept (targets layout wants) chunk r)
     is_row_of = record {
-      stripe = record { chunk = start_there layout table number chunk there parity; number_is = refl; parity = parity; inside = n.fits; stand = λ p has. element_stands kept layout table own given number chunk there wants r p parity n.fits has };
+      stripe = record {
+        chunk = start_there layout table number chunk there parity;
+        number_is = refl;
+        parity = parity;
+        inside = n.fits;
+        stand =
+            λ p has. element_stands kept layout table own given number chunk there wants r p parity n.fits has;
+      };
       blocks = all_sought mine (λ w i. let e = n.each w i in (e.0, e.1)) ∙ ap (map is_at) (sym row_blocks);
-      lie = all_from (IsOn (row_of kept (targets layout wants) chunk r)) (row_of kept (targets layout wants) chunk r).blocks (λ t i. let m = mine_is t (subst (In t) row_blocks i) in record { chunk = m.0; number = m.1 });
+      lie = all_from (IsOn (row_of kept (targets layout wants) chunk r)) (row_of kept (targets layout wants) chunk r).blocks
+          (λ t i. let m = mine_is t (subst (In t) row_blocks i) in record { chunk = m.0; number = m.1 });
     }

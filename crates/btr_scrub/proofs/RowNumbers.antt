@@ -2,6 +2,7 @@
 use Rattle.std.proofs.Common.{◌≡◌, ◌⊎◌, ℕ, zero, suc, ◌+◌, ◌-◌, ◌*◌, ◌/◌, ◌%◌, ◌<◌, ◌≤◌, Bool, true, false, cond, ◌&&◌, eqb, leb, ltb, List, [], ◌∷◌, ◌++◌, map}
 use Rattle.std.proofs.Common.{length, slice_get, Some, None, is_none, Ok, refl, sym, ap, ◌∙◌, subst, inl, inr, arith}
 use Rattle.std.proofs.lemmas.Bool.{and_parts, cases_order, eqb-true, leb-true, ltb-true, and_from, le-leb, lt-ltb}
+use Rattle.std.proofs.lemmas.List.{map-append}
 use Rattle.std.proofs.lemmas.Nat.{le-div}
 use Rattle.std.proofs.Math.Nat.{div-mul-le_self}
 use Rattle.std.proofs.lemmas.Option.{same_Some}
@@ -82,6 +83,16 @@ div_mono a b k pos le = le-div (a / k) b k pos (omega (arith, div-mul-le_self a 
 -- the rows of a chunk below one
 abbrev pub rows_to : Failing → List Target → Chunk → ℕ → List Row
 rows_to kept ts chunk n = map (row_of kept ts chunk) (range_with_len 0 n)
+
+-- they are those below an earlier one, and behind them those from it on
+pub rows_split : (kept : Failing) (ts : List Target) (chunk : Chunk) (q n : ℕ) → q ≤ n
+    → rows_to kept ts chunk n ≡ rows_to kept ts chunk q ++ map (row_of kept ts chunk) (range_with_len q (n - q))
+rows_split kept ts chunk q n le =
+    let whole : n ≡ q + (n - q) = omega (arith, le) in
+    let from_q : 0 + q ≡ q = omega arith in
+    ap (rows_to kept ts chunk) whole ∙ ap (map (row_of kept ts chunk)) (range_split 0 q (n - q))
+    ∙ map-append (row_of kept ts chunk) (range_with_len 0 q) (range_with_len (0 + q) (n - q))
+    ∙ ap (λ k. rows_to kept ts chunk q ++ map (row_of kept ts chunk) (range_with_len k (n - q))) from_q
 
 pub all_rows : (kept : Failing) (ts : List Target) (chunk : Chunk) → mirrors chunk ≡ None → rows_in kept ts chunk
     ≡ rows_to kept ts chunk (stripe_length chunk / 65536)

@@ -3,9 +3,8 @@ use Rattle.std.proofs.Common.{◌≡◌, ◌⊎◌, ℕ, ◌+◌, ◌-◌, ◌/�
 use Rattle.std.proofs.Common.{Result, Ok, Err, refl, sym, ap, ◌∙◌, subst, inl, inr, arith, append_assoc, append-nil}
 use Rattle.std.proofs.lemmas.Bool.{and_parts, cases_eq, leb-true, ltb-true, and_from, le-leb, lt-ltb}
 use Rattle.std.proofs.lemmas.Grind.{flat_map-append}
-use Rattle.std.proofs.lemmas.List.{map-append}
 use Rattle.std.proofs.lemmas.List.Elements.{filter_map-append}
-use Rattle.std.specs.List.{cons_option, range_with_len}
+use Rattle.std.specs.List.{cons_option, fold, range_with_len}
 use Rattle.btr_chunk.specs.Chunk.{mirrors, stripe_length}
 use Rattle.btr_chunk.specs.Mapping.{holds, position}
 use Rattle.btr_chunk.specs.Table.{IsTable}
@@ -16,27 +15,43 @@ use Rattle.btr_read.specs.Fate.{sought}
 use Rattle.btr_read.specs.Layout.{HaveOwnSlots, Layout}
 use Rattle.btr_read.specs.Want.{addr_of, len_of}
 use Rattle.btr_read.specs.declared.want.Want.{Want}
-use Rattle.btr_scrub_copies.specs.Writes.{Images}
+use Rattle.btr_scrub_copies.specs.Syncing.{plain}
+use Rattle.btr_scrub_copies.specs.Writes.{Images, write_on, writes_if}
 use Rattle.btr_scrub_copies.specs.declared.mended.MendFault.{MendFault}
 use Rattle.btr_scrub_copies.specs.declared.mended.MendFault.TheVariants.{Memory}
 use Rattle.btr_scrub_row.specs.Mending.{mended_row}
 use Rattle.btr_scrub_row.specs.Rows.{row_writes}
+use Rattle.btr_scrub_row.specs.declared.mended.MendedRow.{MendedRow}
 use Rattle.btr_scrub.specs.Devices.{HaveLengths}
 use Rattle.btr_scrub.specs.BlocksInRows.{In}
 use Rattle.btr_scrub.specs.WrittenRanges.{alone}
 use Rattle.btr_scrub.specs.Order.{AreApart, IsSought, targets}
-use Rattle.btr_scrub.specs.Repair.{first_missing, is_in_row, ok_or_none, row_of, rows_in}
-use Rattle.btr_scrub.specs.Rowing.{BeginsElse, Collects, row_in}
-use Rattle.btr_scrub.specs.Scrubbing.{BeginsBehind, IsPastChunk, Scrubs, count_row, counted_row, rows_count, rows_writes}
+use Rattle.btr_scrub.specs.Repair.{first_missing, is_in_row, ok_or_none, row_of, rows_in, stood}
+use Rattle.btr_scrub.specs.Rowing.{BeginsElse, Collects, row_in, untouched}
+use Rattle.btr_scrub.specs.Scrubbing.{BeginsBehind, IsOfScrub, IsPastChunk, Scrubs, count_row, counted_row, rows_count, rows_writes}
 use Rattle.btr_scrub.specs.declared.tally.Tally.{Tally}
 use Rattle.btr_scrub.proofs.Blockwise.{all_behind, filter_none, of_targets}
-use Rattle.btr_scrub.proofs.RowNumbers.{all_rows, at_row, held_row, range_split, row_fits, row_is_not, row_of_block, row_there, rows_rise, rows_to, sought_each}
+use Rattle.btr_scrub.proofs.RowNumbers.{all_rows, at_row, held_row, row_fits, row_is_not, row_of_block, row_there, rows_rise, rows_split, rows_to, sought_each}
 use Rattle.btr_scrub.proofs.RowNumbers.{tail_apart}
-use Rattle.btr_scrub.proofs.NextRow.{IsNextRow, counts_row, counts_with, mine_is, more_counts, more_rows, unmoved_row, writes_with}
+use Rattle.btr_scrub.proofs.NextRow.{IsNextRow, counts_row, counts_with, empty_counts, empty_rows, mine_is, unmoved_row, writes_with}
 use Rattle.btr_scrub.proofs.Positions.{is_sought}
-use Rattle.btr_scrub.proofs.Scrubbing.{scrubs_as, scrubs_cut, scrubs_none, scrubs_nothing, scrubs_then}
+use Rattle.btr_scrub.proofs.Scrubbing.{held_after, told, scrubs_as, scrubs_cut, scrubs_none, scrubs_nothing, scrubs_then}
 use Rattle.btr_scrub_copies.specs.Fresh.{Failing}
-use Rattle.btr_read.proofs.Ones.{in_either}
+use Rattle.btr_read.proofs.Ones.{in_either, in_left}
+
+-- counts stay as they are with a row of which nothing comes, once they have those of one
+counted_still : (u : Tally) (w : MendedRow) → counted_row (counted_row u w) untouched ≡ counted_row u w
+counted_still u w = λ i. record {
+  blocks = still (u.blocks + w.blocks) i;
+  bad = still (u.bad + w.bad) i;
+  repaired = still (u.repaired + w.repaired) i;
+  lost = still (u.lost + w.lost) i;
+  parity = still (u.parity + w.parity) i;
+  unchecked = u.unchecked;
+}
+  where
+    still : (n : ℕ) → stood (stood n + 0) ≡ stood n
+    still n = grind arith
 
 module _ (kept : Failing) (layout : Layout) (table : IsTable layout.chunks) (own : HaveOwnSlots layout.devices) (given : first_missing layout ≡ None) (number : ℕ) (chunk : Chunk) (there : slice_get layout.chunks number ≡ Some chunk) (parity : mirrors chunk ≡ None) (wants : List Want) where
   -- the rows below q were mended; what is left lies in later rows, or in later chunks
@@ -98,11 +113,6 @@ module _ (kept : Failing) (layout : Layout) (table : IsTable layout.chunks) (own
         some_block = head;
       })
     where
-      in_left : (w : Want) (xs ys : List Want) → In w xs → In w (xs ++ ys)
-      in_left w [] ys i = absurd i
-      in_left w (x ∷ xs) ys (inl e) = inl e
-      in_left w (x ∷ xs) ys (inr i) = inr (in_left w xs ys i)
-
       each_in : (w : Want) → In w (first ∷ c.more) → row_in chunk (addr_of w) ≡ Some r
       each_in w (inl e) = subst (λ v. row_in chunk (addr_of v) ≡ Some r) e in_row
       each_in w (inr i) = c.inside w i
@@ -172,8 +182,8 @@ module _ (kept : Failing) (layout : Layout) (table : IsTable layout.chunks) (own
         (rows_count layout write (rows_to kept (targets layout wants) chunk h.q))
         (rows_count layout write (rows_to kept (targets layout wants) chunk n)) m m' a b tally tally' (Ok (tt {0}))
         (λ images e. (
-          sym (more_rows kept layout table own given number chunk there parity wants h.q n h.below (λ k le lt. none_later p k le) images),
-          sym (more_counts kept layout table own given number chunk there parity wants write h.q n h.below (λ k le lt. none_later p k le) images
+          sym (empty_rows kept layout table own given number chunk there parity wants h.q n h.below (λ k le lt. none_later p k le) images),
+          sym (empty_counts kept layout table own given number chunk there parity wants write h.q n h.below (λ k le lt. none_later p k le) images
               tally),
         )) h.done)
 
@@ -182,12 +192,8 @@ module _ (kept : Failing) (layout : Layout) (table : IsTable layout.chunks) (own
         (rows_count layout write (rows_in kept (targets layout wants) chunk)) m m' a b tally tally' (Err Memory)
     rows_short =
         let n = stripe_length chunk / 65536 in
-        let d = n - h.q in
-        let rest = map (row_of kept (targets layout wants) chunk) (range_with_len h.q d) in
-        let whole : n ≡ h.q + d = omega (arith, h.below) in
-        let from_q : 0 + h.q ≡ h.q = omega arith in
-        let parts : rows_to kept (targets layout wants) chunk n ≡ rows_to kept (targets layout wants) chunk h.q ++ rest =
-        ap (rows_to kept (targets layout wants) chunk) whole ∙ ap (map (row_of kept (targets layout wants) chunk)) (range_split 0 h.q d) ∙ map-append (row_of kept (targets layout wants) chunk) (range_with_len 0 h.q) (range_with_len (0 + h.q) d) ∙ ap (λ k. rows_to kept (targets layout wants) chunk h.q ++ map (row_of kept (targets layout wants) chunk) (range_with_len k d)) from_q in
+        let rest = map (row_of kept (targets layout wants) chunk) (range_with_len h.q (n - h.q)) in
+        let parts = rows_split kept (targets layout wants) chunk h.q n h.below in
         subst (λ rs. Scrubs {A = Unit {0}} (alone layout chunk) write (rows_writes layout rs) (rows_count layout write rs) m m' a b tally tally' (Err Memory))
         (sym (all_rows kept (targets layout wants) chunk parity ∙ parts))
         (scrubs_as (alone layout chunk) write (λ i. (rows_writes layout (rows_to kept (targets layout wants) chunk h.q) i ++ []) ++ rows_writes layout rest i)
@@ -258,6 +264,19 @@ module _ (kept : Failing) (layout : Layout) (table : IsTable layout.chunks) (own
             )) (both (Ok (tt {0})) one);
       }
 
+      -- the counts with it stay as they are with a row of which nothing comes
+      pub rows_settled : Scrubs {A = Unit {0}} (alone layout chunk) write (λ images. row_writes images layout (row_of kept (targets layout wants) chunk r))
+          (λ images x. counted_row x
+          (mended_row images layout (row_of kept (targets layout wants) chunk r) write)) m' m'' b z tally' tally'' (Ok (tt {0}))
+          → (images : Images) → a.held ≡ Some images → counted_row tally'' untouched ≡ tally''
+      rows_settled one images held =
+          let row = row_of kept (targets layout wants) chunk r in
+          let ws = λ (i : Images). writes_if write (rows_writes layout (rows_to kept (targets layout wants) chunk h.q) i) in
+          let after = held_after (IsOfScrub (alone layout chunk)) ws [] [] (plain a) (plain b) (tt {0}) images held h.done.does in
+          let now = fold write_on images (ws images) in
+          let is = told b.held (λ images. tally'' ≡ counted_row tally' (mended_row images layout row write)) now after one.counts in
+          ap (λ u. counted_row u untouched) is ∙ counted_still tally' (mended_row now layout row write) ∙ sym is
+
       -- a halt in it
       pub rows_cut : (fault : MendFault)
           → Scrubs {A = Unit {0}} (alone layout chunk) write (λ images. row_writes images layout (row_of kept (targets layout wants) chunk r))
@@ -268,12 +287,8 @@ module _ (kept : Failing) (layout : Layout) (table : IsTable layout.chunks) (own
       rows_cut fault one =
           let row = row_of kept (targets layout wants) chunk r in
           let all = stripe_length chunk / 65536 in
-          let d = all - (r + 1) in
-          let rest = map (row_of kept (targets layout wants) chunk) (range_with_len (r + 1) d) in
-          let whole : all ≡ r + 1 + d = omega (arith, n.fits) in
-          let from_r : 0 + (r + 1) ≡ r + 1 = omega arith in
-          let parts : rows_to kept (targets layout wants) chunk all ≡ rows_to kept (targets layout wants) chunk (r + 1) ++ rest =
-          ap (rows_to kept (targets layout wants) chunk) whole ∙ ap (map (row_of kept (targets layout wants) chunk)) (range_split 0 (r + 1) d) ∙ map-append (row_of kept (targets layout wants) chunk) (range_with_len 0 (r + 1)) (range_with_len (0 + (r + 1)) d) ∙ ap (λ k. rows_to kept (targets layout wants) chunk (r + 1) ++ map (row_of kept (targets layout wants) chunk) (range_with_len k d)) from_r in
+          let rest = map (row_of kept (targets layout wants) chunk) (range_with_len (r + 1) (all - (r + 1))) in
+          let parts = rows_split kept (targets layout wants) chunk (r + 1) all (omega (arith, n.fits)) in
           subst (λ rs. Scrubs {A = Unit {0}} (alone layout chunk) write (rows_writes layout rs) (rows_count layout write rs) m m'' a z tally tally'' (Err fault))
           (sym (all_rows kept (targets layout wants) chunk parity ∙ parts))
           (scrubs_as (alone layout chunk) write (λ i. (rows_writes layout (rows_to kept (targets layout wants) chunk h.q) i ++ row_writes i layout row)

@@ -1,11 +1,12 @@
 -- A scan of extents, item by item.
-use Rattle.std.proofs.Common.{◌≡◌, ℕ, true, false, List, [], ◌∷◌, ◌++◌, Option, Ok, Err, refl, sym, ap, ◌∙◌, subst, append-nil}
+use Rattle.std.proofs.Common.{◌≡◌, ℕ, true, false, List, [], ◌++◌, Option, Ok, Err, refl, sym, ap, ◌∙◌, subst, append-nil}
 use Rattle.btr_base.specs.declared.key.Key.{Key}
 use Rattle.btr_chunk.specs.declared.chunk.Chunk.{Chunk}
 use Rattle.btr_prog.specs.Answers.{Follows, Halt, no_part}
 use Rattle.btr_prog.specs.Prog.{Mark, bind, exec, prepend, steps_of, want_marks, wants_of}
 use Rattle.btr_prog.proofs.Follow.{follows_alone, follows_behind, follows_halt}
 use Rattle.btr_prog.proofs.Runs.{after-ok, exec-bind, prepend-prepend, steps_of-append, wants_of-append}
+use Rattle.btr_prog.proofs.Tries.{steps_of-marks, wants_of-marks}
 use Rattle.btr_read.specs.Fate as fate
 use Rattle.btr_read.specs.Store.{Blocks, SameLoans}
 use Rattle.btr_read.specs.declared.want.Want.{Want}
@@ -36,14 +37,6 @@ pub same_layout : (old new : Blocks) (scan scan' : Scan) → SameLoans (without_
 same_layout old new scan scan' s = sym (base_layout new (loan_of scan'.leaf)) ∙ (s.layout ∙ base_layout old (loan_of scan.leaf))
 
 -- ---- what is past
-
-steps_back : (ws : List Want) → steps_of {S = Met} (want_marks ws) ≡ []
-steps_back [] = refl
-steps_back (w ∷ ws) = steps_back ws
-
-wants_back : (ws : List Want) → wants_of {S = Met} (want_marks ws) ≡ ws
-wants_back [] = refl
-wants_back (w ∷ ws) = ap (λ x. w ∷ x) (wants_back ws)
 
 pub on_as : (lo hi lo' hi' : Key) (B : Map) (ws : List Want) (place : ScanPlace) → lo' ≡ lo → hi' ≡ hi → IsOn lo hi B ws place → IsOn lo' hi' B ws place
 on_as lo hi lo' hi' B ws place same_lo same_hi on = subst (λ l. IsOn l hi' B ws place) (sym same_lo) (subst (λ h. IsOn lo h B ws place) (sym same_hi) on)
@@ -86,11 +79,11 @@ module _ (s : Super) (sums : Option TreeRoot) (chunk : Chunk) (B : Map) (store :
           (exec B (bind (item_met s sums chunk end item) (λ e. items_met s sums chunk e (left_of B mid at'))))
 
       past_steps : done ≡ steps_of past
-      past_steps = b.steps ∙ sym (append-nil (steps_of b.before)) ∙ ap (λ d. steps_of b.before ++ d) (sym (steps_back gives.past))
+      past_steps = b.steps ∙ sym (append-nil (steps_of b.before)) ∙ ap (λ d. steps_of b.before ++ d) (sym (steps_of-marks Met gives.past))
           ∙ sym (steps_of-append b.before (want_marks gives.past))
 
       past_wants : wants_of past ≡ wants_of b.before ++ gives.past
-      past_wants = wants_of-append b.before (want_marks gives.past) ∙ ap (λ w. wants_of b.before ++ w) (wants_back gives.past)
+      past_wants = wants_of-append b.before (want_marks gives.past) ∙ ap (λ w. wants_of b.before ++ w) (wants_of-marks Met gives.past)
 
       -- one that is no extent
       pub between_other : at'.lo ≡ at.lo → at'.hi ≡ at.hi → is_extent item.key ≡ false → Between s sums chunk B store mid scan at' end done

@@ -1,5 +1,5 @@
 -- Mending one thing after another.
-use Rattle.std.proofs.Common.{◌≡◌, ◌⊎◌, Bool, true, false, List, [], ◌++◌, length, Option, Some, None, IfSome, OnOk, is_none, is_some, Result, Ok, Err, refl, sym}
+use Rattle.std.proofs.Common.{◌≡◌, ◌⊎◌, Bool, true, false, List, [], ◌++◌, length, Option, Some, None, IfSome, OnOk, is_none, is_some, Result, Ok, Err, IsErrAnd, refl, sym}
 use Rattle.std.proofs.Common.{ap, ◌∙◌, subst, inl, inr, arith}
 use Rattle.std.proofs.lemmas.Bool.{false≢true}
 use Rattle.std.proofs.lemmas.Option.{same_Some}
@@ -25,6 +25,7 @@ use Rattle.btr_scrub.specs.WrittenRanges.{LiesInStripe}
 use Rattle.btr_scrub.specs.Repair.{first_missing}
 use Rattle.btr_scrub.specs.Scrubbing.{CanMend, IsOfScrub, Scrubs}
 use Rattle.btr_scrub.specs.declared.tally.Tally.{Tally}
+use Rattle.btr_scrub.proofs.Lists.{passed}
 
 none_some : {X : Type 0} (x : X) → None ≡ Some x → ⊥
 none_some x e = false≢true (ap is_some e)
@@ -204,6 +205,13 @@ module _ (layout : Layout) (write : Bool) where
   pub scrubs_none : {A : Type 0} (marks : List Bool) (a : Seen) (t : Tally) (x : A)
       → Scrubs {A = A} layout write (λ i. []) (λ i y. y) marks marks a a t t (Ok x)
   scrubs_none marks a t x = scrubs_idle (λ y. y) marks a t x
+
+-- what a call did that failed was done where its fault is passed on
+pub scrubs_passed : {A : Type 0} {layout : Layout} {write : Bool} {f : Images → List Write} {c : Images → Tally → Tally} {m n : List Bool} {a b : Seen} {t u : Tally}
+    {r : Result A MendFault} {fault : MendFault} → IsErrAnd r (λ e. e ≡ fault) → Scrubs {A = A} layout write f c m n a b t u (Err fault)
+    → Scrubs layout write f c m n a b t u r
+scrubs_passed {layout = layout} {write = write} {f = f} {c = c} {m = m} {n = n} {a = a} {b = b} {t = t} {u = u} {r = r} {fault = fault} is h =
+    passed (λ r. Scrubs layout write f c m n a b t u r) r fault is h
 
 -- nothing was done, as there was no memory
 pub scrubs_nothing : (layout : Layout) (write : Bool) (marks : List Bool) (a : Seen) (t : Tally)

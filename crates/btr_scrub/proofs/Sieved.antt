@@ -1,9 +1,9 @@
 -- Calls that list blocks and sift them, one after another.
-use Rattle.std.proofs.Common.{◌≡◌, ℕ, List, [], ◌++◌, Option, Some, None, Result, Ok, Err, refl, sym, ap, ◌∙◌, subst, arith}
+use Rattle.std.proofs.Common.{◌≡◌, ℕ, List, [], ◌++◌, Option, Some, None, Result, Ok, Err, IsErrAnd, refl, sym, ap, ◌∙◌, subst, arith}
 use Rattle.std.specs.Prelude.{fold}
 use Rattle.btr_prog.specs.Answers.{Broke, Follows, no_part}
 use Rattle.btr_prog.specs.Calls.{Sure}
-use Rattle.btr_prog.specs.Prog.{bind, exec}
+use Rattle.btr_prog.specs.Prog.{bind, exec, steps_of}
 use Rattle.btr_prog.proofs.Follow.{broke_here}
 use Rattle.btr_rack.specs.Rack.{OnlyReads, Seen}
 use Rattle.btr_rack.proofs.Reading.{reads_more}
@@ -13,10 +13,12 @@ use Rattle.btr_read.specs.Reading.{OnMap}
 use Rattle.btr_read.specs.Serves.{Serves}
 use Rattle.btr_read.proofs.ReadsOn.{same_held}
 use Rattle.btr_walk.specs.Reading.{Map, Tells, unread_by}
+use Rattle.btr_walk.specs.declared.fault.TreeFault.TheVariants as tree
 use Rattle.btr_walk.proofs.Joined.{joined}
 use Rattle.btr_base.specs.declared.kind.SumKind.{SumKind}
 use Rattle.btr_super.specs.declared.superblock.Super.{Super}
 use Rattle.btr_volume.specs.Looking.{SameVolume}
+use Rattle.btr_volume.specs.Stops.{ended}
 use Rattle.btr_volume.specs.declared.stop.Stop.{Stop}
 use Rattle.btr_volume.specs.declared.stop.Stop.TheVariants as stop
 use Rattle.btr_volume.specs.declared.volume.Volume.{Volume}
@@ -33,6 +35,7 @@ use Rattle.btr_scrub.specs.declared.gathered.Gathered.{Gathered}
 use Rattle.btr_scrub.specs.declared.sieve.Sieve.{Sieve}
 use Rattle.btr_scrub.specs.declared.tally.Tally.{Tally}
 use Rattle.btr_scrub.proofs.Gathering.{gathers_halt, gathers_then, reaches_ends, same_then}
+use Rattle.btr_scrub.proofs.Lists.{passed}
 use Rattle.btr_scrub.proofs.Sieving.{both, is_behind}
 
 -- what holds of each block map is told by any reads
@@ -74,7 +77,8 @@ module _ {A : Type 0} (p : Meeting A) (a b : Seen) (vol after : Volume) (empty w
 
 -- ---- further reads
 
-module _ {A : Type 0} (p : Meeting A) (a b z : Seen) (vol after last : Volume) (list more : Gathered) (reads : OnlyReads b z) (same : SameVolume after last) (serves : Serves z last.store) (x : A) (h : Gathers p (scene a vol list) (scene b after more) (Ok x)) where
+module _ {A : Type 0} (p : Meeting A) (a b z : Seen) (vol after last : Volume) (list more : Gathered) (reads : OnlyReads b z) (same : SameVolume after last)
+    (serves : Serves z last.store) (x : A) (h : Gathers p (scene a vol list) (scene b after more) (Ok x)) where
   pub gathers_later : Gathers p (scene a vol list) (scene z last more) (Ok x)
   gathers_later = record {
     reads = reads_more h.reads reads;
@@ -100,10 +104,26 @@ module _ {A : Type 0} (p : Meeting A) (a b z : Seen) (vol after last : Volume) (
     cause = tt;
   }
 
+  -- no steady reads gave what was listed
+  pub gathers_never : (addr : ℕ) → ((B : Map) → (h.done ≡ steps_of (exec B p).marks) × ((exec B p).ending ≡ Ok x) → ⊥)
+      → Gathers p (scene a vol list) (scene z last more) (Err (stop.Tree (tree.Malformed addr)))
+  gathers_never addr never = record {
+    reads = reads_more h.reads reads;
+    volume = same_then h.volume same;
+    serves = serves;
+    done = [];
+    lists = tt;
+    content = joined (λ B. Follows (unread_by vol.store.layout a b) no_part [] (exec B p) h.done (Ok x)) (λ B. Unit {0})
+        (λ B. Follows (unread_by vol.store.layout a z) no_part [] (exec B p) [] (ended {A = A} (Err (stop.Tree (tree.Malformed addr)))))
+        refl (λ B f t. absurd (never B f)) h.content (tells_all vol.store.layout b z (λ B. Unit {0}) reads (λ B. tt));
+    cause = tt;
+  }
+
 -- ---- what came of it
 
 -- a stop of the listing
-went_stop : {A : Type 0} (p : Meeting A) (x : Scene) (rack : Seen) (vol : Volume) (sieve : Sieve) (list : Gathered) (s : Stop) → Gathers p x (scene rack vol list) (Err s)
+went_stop : {A : Type 0} (p : Meeting A) (x : Scene) (rack : Seen) (vol : Volume) (sieve : Sieve) (list : Gathered) (s : Stop) → Gathers p x
+    (scene rack vol list) (Err s)
     → Went p x rack vol sieve (Err s)
 went_stop p x rack vol sieve list (stop.NoTree id) h = (list, h)
 went_stop p x rack vol sieve list (stop.Tree f) h = (list, h)
@@ -121,6 +141,11 @@ module _ {A : Type 0} (p : Meeting A) (x : Scene) (rack : Seen) (vol : Volume) (
 
   pub sieves_ok : (a : A) → Gathers p x (scene rack vol list) (Ok a) → Stands x.vol.store.layout rack.held list sieve → Sieves p x rack vol sieve (Ok a)
   sieves_ok a h stands = record { reads = h.reads; volume = h.volume; serves = h.serves; went = (list, h, stands) }
+
+-- what was done behind a fault was done where it is passed on
+pub sieves_passed : {A : Type 0} {p : Meeting A} {x : Scene} {rack : Seen} {vol : Volume} {sieve : Sieve} {r : Result A Stop} {halt : Stop}
+    → IsErrAnd r (λ e. e ≡ halt) → Sieves p x rack vol sieve (Err halt) → Sieves p x rack vol sieve r
+sieves_passed {p = p} {x = x} {rack = rack} {vol = vol} {sieve = sieve} {r = r} {halt = halt} is h = passed (λ r. Sieves p x rack vol sieve r) r halt is h
 
 -- a fault of the sifting
 pub sieves_fault : {A : Type 0} (p : Meeting A) (a b z : Seen) (vol after last : Volume) (list more : Gathered) (sieve : Sieve) (x : A)
@@ -149,7 +174,8 @@ sieves_fault p a b z vol after last list more sieve x h reads same serves Memory
 -- ---- one after another
 
 fails_since : (layout layout' : Layout) (slot : ℕ) (a b c : Seen) → layout' ≡ layout → OnlyReads a b → ImageFails layout' slot b c → ImageFails layout slot a c
-fails_since layout layout' slot a b c e reads h = record { mid = h.mid; before = reads_more reads h.before; reads = h.reads; failed = subst (λ l. FailsAt (LiesInStripe l) slot h.mid c) e h.failed }
+fails_since layout layout' slot a b c e reads h =
+    record { mid = h.mid; before = reads_more reads h.before; reads = h.reads; failed = subst (λ l. FailsAt (LiesInStripe l) slot h.mid c) e h.failed }
 
 module _ {A C : Type 0} (p : Meeting A) (k : A → Meeting C) (x y : Scene) (a : A) (h : Gathers p x y (Ok a)) (rack : Seen) (vol : Volume) (sieve : Sieve) where
   went_then : (r : Result C Stop) → Went (k a) y rack vol sieve r → Went (bind p k) x rack vol sieve r
@@ -167,31 +193,40 @@ module _ {A C : Type 0} (p : Meeting A) (k : A → Meeting C) (x y : Scene) (a :
   pub sieves_then : (r : Result C Stop) → Sieves (k a) y rack vol sieve r → Sieves (bind p k) x rack vol sieve r
   sieves_then r s = record { reads = reads_more h.reads s.reads; volume = same_then h.volume s.volume; serves = s.serves; went = went_then r s.went }
 
-module _ {A C : Type 0} (p : Meeting C) (q : Meeting A) (k : A → Meeting C) (x y : Scene) (h : Reaches p (bind q k) x y) (rack : Seen) (vol : Volume) (sieve : Sieve) where
+module _ {A C : Type 0} (p : Meeting C) (q : Meeting A) (k : A → Meeting C) (x y : Scene) (h : Reaches p (bind q k) x y) (rack : Seen) (vol : Volume)
+    (sieve : Sieve) where
   went_halt : (s : Stop) → Went q y rack vol sieve (Err s) → Went p x rack vol sieve (Err s)
-  went_halt (stop.NoTree id) w = (w.0, reaches_ends p (bind q k) x y (scene rack vol w.0) (Err (stop.NoTree id)) h (gathers_halt q k y (scene rack vol w.0) (stop.NoTree id) w.1))
-  went_halt (stop.Tree f) w = (w.0, reaches_ends p (bind q k) x y (scene rack vol w.0) (Err (stop.Tree f)) h (gathers_halt q k y (scene rack vol w.0) (stop.Tree f) w.1))
-  went_halt (stop.Deletion id) w = (w.0, reaches_ends p (bind q k) x y (scene rack vol w.0) (Err (stop.Deletion id)) h (gathers_halt q k y (scene rack vol w.0) (stop.Deletion id) w.1))
-  went_halt stop.Balance w = (w.0, reaches_ends p (bind q k) x y (scene rack vol w.0) (Err stop.Balance) h (gathers_halt q k y (scene rack vol w.0) stop.Balance w.1))
-  went_halt (stop.Missing id) w = (w.0, reaches_ends p (bind q k) x y (scene rack vol w.0) (Err (stop.Missing id)) h (gathers_halt q k y (scene rack vol w.0) (stop.Missing id) w.1))
+  went_halt (stop.NoTree id) w =
+      (w.0, reaches_ends p (bind q k) x y (scene rack vol w.0) (Err (stop.NoTree id)) h (gathers_halt q k y (scene rack vol w.0) (stop.NoTree id) w.1))
+  went_halt (stop.Tree f) w =
+      (w.0, reaches_ends p (bind q k) x y (scene rack vol w.0) (Err (stop.Tree f)) h (gathers_halt q k y (scene rack vol w.0) (stop.Tree f) w.1))
+  went_halt (stop.Deletion id) w =
+      (w.0, reaches_ends p (bind q k) x y (scene rack vol w.0) (Err (stop.Deletion id)) h (gathers_halt q k y (scene rack vol w.0) (stop.Deletion id) w.1))
+  went_halt stop.Balance w =
+      (w.0, reaches_ends p (bind q k) x y (scene rack vol w.0) (Err stop.Balance) h (gathers_halt q k y (scene rack vol w.0) stop.Balance w.1))
+  went_halt (stop.Missing id) w =
+      (w.0, reaches_ends p (bind q k) x y (scene rack vol w.0) (Err (stop.Missing id)) h (gathers_halt q k y (scene rack vol w.0) (stop.Missing id) w.1))
   went_halt (stop.Image slot) w = fails_since x.vol.store.layout y.vol.store.layout slot x.rack y.rack rack h.volume.store.layout h.reads w
   went_halt stop.Sink w = (w.0, reaches_ends p (bind q k) x y (scene rack vol w.0) (Err stop.Sink) h (gathers_halt q k y (scene rack vol w.0) stop.Sink w.1))
   went_halt stop.Out w = (w.0, reaches_ends p (bind q k) x y (scene rack vol w.0) (Err stop.Out) h (gathers_halt q k y (scene rack vol w.0) stop.Out w.1))
-  went_halt stop.Memory w = (w.0, reaches_ends p (bind q k) x y (scene rack vol w.0) (Err stop.Memory) h (gathers_halt q k y (scene rack vol w.0) stop.Memory w.1))
+  went_halt stop.Memory w =
+      (w.0, reaches_ends p (bind q k) x y (scene rack vol w.0) (Err stop.Memory) h (gathers_halt q k y (scene rack vol w.0) stop.Memory w.1))
 
   pub sieves_halt : (s : Stop) → Sieves q y rack vol sieve (Err s) → Sieves p x rack vol sieve (Err s)
   sieves_halt s v = record { reads = reads_more h.reads v.reads; volume = same_then h.volume v.volume; serves = v.serves; went = went_halt s v.went }
 
 -- ---- the same of other parts
 
-pub stands_as : (layout layout' : Layout) (a b : Seen) (whole : Gathered) (sieve : Sieve) → layout' ≡ layout → b.held ≡ a.held → Stands layout a.held whole sieve
+pub stands_as : (layout layout' : Layout) (a b : Seen) (whole : Gathered) (sieve : Sieve) → layout' ≡ layout → b.held ≡ a.held
+    → Stands layout a.held whole sieve
     → Stands layout' b.held whole sieve
 stands_as layout layout' a b whole sieve e held h = subst (λ o. Stands layout' o whole sieve) (sym held) (subst (λ l. Stands l a.held whole sieve) (sym e) h)
 
 -- the superblock and the layout as they were before calls that left them
 pub sieves_as : {A : Type 0} (p : Super → Layout → Meeting A) (s t : Super) (layout layout' : Layout) (x : Scene) (rack : Seen) (vol : Volume) (sieve : Sieve)
     (r : Result A Stop) → t ≡ s → layout' ≡ layout → Sieves (p t layout') x rack vol sieve r → Sieves (p s layout) x rack vol sieve r
-sieves_as p s t layout layout' x rack vol sieve r e h k = subst (λ l. Sieves (p s l) x rack vol sieve r) h (subst (λ u. Sieves (p u layout') x rack vol sieve r) e k)
+sieves_as p s t layout layout' x rack vol sieve r e h k = subst (λ l. Sieves (p s l) x rack vol sieve r) h
+    (subst (λ u. Sieves (p u layout') x rack vol sieve r) e k)
 
 -- ---- all blocks
 
@@ -208,7 +243,7 @@ module _ (p : Meeting (Unit {0})) (a b : Seen) (vol after : Volume) (kind : SumK
       let w = s.went in (
         w.1.done,
         record {
-          is_list = w.2.is_list;
+          can = w.2.can;
           unchecked = w.2.unchecked ∙ w.1.lists.unchecked;
           judged = subst (λ ws. Judges vol.store.layout b.held ws sieve sieve.refused) w.1.lists.wants w.2.judged;
         },

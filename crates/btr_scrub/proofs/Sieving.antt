@@ -1,34 +1,40 @@
 -- Blocks are sifted one after another.
-use Rattle.std.proofs.Common.{◌≡◌, ℕ, ◌+◌, Bool, true, false, cond, ◌||◌, leb, ltb, List, [], ◌∷◌, ◌++◌, length, Option, Some, None, is_none, IsSome, Result, Ok, Err, refl, sym, ap, ◌∙◌}
-use Rattle.std.proofs.Common.{subst, inl, inr, arith, zero, suc, is_some, ◌-◌, ◌*◌, ◌^◌, ◌<◌, ◌≤◌, not, ◌&&◌, IfSome, take, drop, append_assoc, append-nil, length-append}
+use Rattle.std.proofs.Common.{◌≡◌, ℕ, ◌+◌, Bool, true, false, cond, ◌||◌, leb, ltb, List, [], ◌∷◌, ◌++◌, length, Option, Some, None, is_none, IsSome, Result}
+use Rattle.std.proofs.Common.{Ok, Err, refl, sym, ap, ◌∙◌}
+use Rattle.std.proofs.Common.{◌⊎◌, ◌≢◌, get_or, slice_get, subst, inl, inr, arith, zero, suc, is_some, ◌-◌, ◌*◌, ◌^◌, ◌<◌, ◌≤◌, not, ◌&&◌, IfSome, take, drop}
+use Rattle.std.proofs.Common.{append_assoc, append-nil, length-append}
 use Rattle.std.proofs.Math.Nat.{suc-mul}
 use Rattle.std.proofs.lemmas.List.{length-drop, length-take-le, take_all, take-append-le}
 use Rattle.std.proofs.lemmas.List.Elements.{filter-append, filter_map-append}
 use Rattle.std.proofs.lemmas.List.Sums.{sum_by-append, sum_by-cons}
 use Rattle.std.specs.Prelude.{replicate, count_by}
-use Rattle.std.specs.List.{cons_option}
+use Rattle.std.specs.List.{cons_option, filter}
 use Rattle.std.specs.Option.{option_map_or}
 use Rattle.btr_base.specs.Sum.{sum_from, sum_size, stored_sum}
 use Rattle.btr_base.specs.declared.kind.SumKind.{SumKind}
 use Rattle.btr_read.specs.Want.{addr_of, len_of}
 use Rattle.btr_walk.specs.declared.fault.TreeFault.{TreeFault}
+use Rattle.btr_read.specs.declared.setting.Setting.{Setting}
+use Rattle.btr_read.specs.declared.want.Want.TheVariants.{Block, Plain, Sector, Tree}
+use Rattle.btr_scrub_copies.specs.Fresh.{flagged}
 use Rattle.btr_scrub_row.specs.Wanted.{is_checked}
 use Rattle.btr_scrub.specs.Judging.{IsFirstRefused}
-use Rattle.btr_scrub.specs.Listed.{AddsTo, AreOfKind, AreRuns, IsList, IsRun, Kept, PassesPlain, all_sectors, kept_wants, plains_from, run_wants, sectors_from, sectors_of, trees_of, wants_of}
-use Rattle.btr_scrub.specs.Order.{AreApart, AreBetween, AreUpTo, targets}
+use Rattle.btr_scrub.specs.Listed.{AddsAll, AreOfKind, AreRuns, IsList, IsOfKind, IsRun, Kept, PassesPlain, all_sectors, kept_wants, plains_from, run_wants}
+use Rattle.btr_scrub.specs.Listed.{sectors_from, sectors_of, trees_of, wants_of}
+use Rattle.btr_scrub.specs.Order.{AreApart, AreBetween, AreUpTo, IsSought, targets}
 use Rattle.btr_scrub.specs.BlocksInRows.{In}
-use Rattle.btr_scrub.proofs.Doubting.{the_sought}
 use Rattle.btr_scrub.specs.declared.run.Run.{Run}
 use Rattle.btr_scrub.specs.declared.run.RunKind.{RunKind}
 use Rattle.btr_scrub.specs.declared.run.RunKind.TheVariants.{TreeBlock, Sectors, Unsummed}
 use Rattle.btr_scrub.specs.declared.run.TreeMark.{TreeMark}
+use Rattle.btr_scrub.specs.declared.extent.Span.{Span}
 use Rattle.btr_scrub.specs.declared.gathered.Gathered.{Gathered}
 use Rattle.btr_scrub.specs.declared.sieve.Sieve.{Sieve}
-use Rattle.btr_scrub.specs.declared.sieve.Sifted.{Sifted}
+use Rattle.btr_scrub.specs.declared.sifted.Sifted.{Sifted}
 use Rattle.btr_scrub.proofs.Listing.{runs_both, sectors_both, times_sum, trees_both, wants_both}
 use Rattle.btr_scrub.proofs.Scrubbing.{tell, told}
 use Rattle.btr_scrub.proofs.Unitwise.{between_more}
-use Rattle.std.proofs.lemmas.Bool.{false≢true, and_parts, leb-true}
+use Rattle.std.proofs.lemmas.Bool.{false≢true, and_from, and_parts, le-leb, leb-true}
 use Rattle.btr_chunk.specs.Chunk.{mirrors}
 use Rattle.btr_chunk.specs.Mapping.{holds}
 use Rattle.btr_chunk.specs.Table.{IsTable, chunk_at}
@@ -36,10 +42,11 @@ use Rattle.btr_chunk.specs.declared.chunk.Chunk.{Chunk}
 use Rattle.btr_chunk.specs.declared.place.Part.TheVariants.{Mirror}
 use Rattle.btr_rack.specs.Rack.{Seen}
 use Rattle.btr_read.specs.Candidates.{Target}
-use Rattle.btr_read.specs.Fate.{is_plain, sought}
+use Rattle.btr_read.specs.Fate.{Fault, is_plain, sought}
 use Rattle.btr_read.specs.Layout.{Layout}
 use Rattle.btr_read.specs.declared.want.Want.{Want}
 use Rattle.btr_read.proofs.Fates.{sought_of}
+use Rattle.btr_read.proofs.Ones.{in_either, in_left, in_right}
 use Rattle.btr_scrub_copies.specs.Mending.{IsCopied, IsOfCopy, mended_of}
 use Rattle.btr_scrub_copies.specs.Writes.{AccountsMend, Images}
 use Rattle.btr_scrub_copies.specs.declared.mended.MendFault.{MendFault}
@@ -47,12 +54,19 @@ use Rattle.btr_scrub_copies.specs.declared.mended.MendFault.TheVariants.{Image, 
 use Rattle.btr_scrub_copies.specs.declared.mended.Mended.{Mended}
 use Rattle.btr_scrub.specs.Judged.{has_older}
 use Rattle.btr_scrub.specs.WrittenRanges.{LiesInChunk, LiesInStripe}
-use Rattle.btr_scrub.specs.Repair.{first_missing, ok_or_none, stood}
-use Rattle.btr_scrub.specs.Sifting.{AreSifted, IsBehind, Judges, PassesCalm, Sifts, Stands, is_left_out, is_needed, is_unsound, kept_of, left_out, needs}
-use Rattle.btr_scrub.proofs.Blockwise.{chunk_same, part_is_given}
+use Rattle.btr_scrub.specs.Repair.{first_missing, is_in_row, ok_or_none, stood}
+use Rattle.btr_scrub.specs.Scanning.{IsSpanIn}
+use Rattle.btr_scrub.specs.Scrubbing.{HasRooms}
+use Rattle.btr_scrub.specs.Sifting.{AreSifted, CanSift, IsBehind, Judges, PassesCalm, ShareNoRow, Sifts, SiftsNext, Stands, is_copy_needed, is_left_out}
+use Rattle.btr_scrub.specs.Sifting.{is_needed, is_row_needed, is_unsound, kept_of, left_out, lies_in, needs, row_among}
+use Rattle.btr_scrub.proofs.AcrossChunks.{sum_same}
+use Rattle.btr_scrub.proofs.Agreeing.{filter_same}
+use Rattle.btr_scrub.proofs.Blockwise.{all_behind, chunk_same, filter_all, filter_none, of_targets, part_is_given}
+use Rattle.btr_scrub.proofs.RowNumbers.{row_is_not, sought_each}
+use Rattle.btr_scrub.proofs.Sums.{sum_zero}
 use Rattle.btr_scrub.proofs.Positions.{alone_lies, copy_in_stripe, find_at, is_sought}
 use Rattle.std.proofs.lemmas.Option.{slice_get_within}
-use Rattle.btr_scrub.proofs.Lists.{any_at}
+use Rattle.btr_scrub.proofs.Lists.{any_at, at_in, in_of, some_if, some_of}
 
 -- a block with copies all of which are given can be looked at
 pub sought_copied : (layout : Layout) (want : Want) (t : Target) → IsTable layout.chunks → first_missing layout ≡ None → sought layout want ≡ Ok t
@@ -71,15 +85,27 @@ copies_in_stripe layout want t a b (Ok x) table e h = h
 copies_in_stripe layout want t a b (Err Memory) table e h = h
 copies_in_stripe layout want t a b (Err (Image slot)) table e h =
     let is = is_sought layout want t e in
-    record { place = h.place; failed = h.failed; on_slot = h.on_slot; lies = any_at (λ chunk. LiesInChunk layout chunk h.place) layout.chunks is.number t.chunk (slice_get_within layout.chunks is.number t.chunk is.there) is.there (alone_lies layout t.chunk h.place (copy_in_stripe layout t h.place table is h.lies)) }
+    record {
+      place = h.place;
+      failed = h.failed;
+      on_slot = h.on_slot;
+      lies = any_at
+          (λ chunk. LiesInChunk layout chunk h.place) layout.chunks is.number t.chunk (slice_get_within layout.chunks is.number t.chunk is.there) is.there
+          (alone_lies layout t.chunk h.place (copy_in_stripe layout t h.place table is h.lies));
+    }
 
 -- what is needed, by what was found
 module _ (images : Images) (layout : Layout) (t : Target) where
-  pub needed_block : is_none (mirrors t.chunk) ≡ false → is_plain t.want ≡ false → (mended : Mended) → mended ≡ mended_of images t false
-      → is_needed images layout t ≡ (ltb 0 mended.bad || mended.lost)
-  needed_block e checked mended is = ap (λ b. b || cond (is_plain t.want) (has_older layout.devices t.chunk) (is_unsound images t)) e
-      ∙ ap (λ b. cond b (has_older layout.devices t.chunk) (is_unsound images t)) checked
+  pub needed_block : is_plain t.want ≡ false → (mended : Mended) → mended ≡ mended_of images t false
+      → is_copy_needed images layout t ≡ (ltb 0 mended.bad || mended.lost)
+  needed_block checked mended is = ap (λ b. cond b (has_older layout.devices t.chunk) (is_unsound images t)) checked
       ∙ sym (ap (λ (m : Mended). ltb 0 m.bad || m.lost) is)
+
+  -- with copies it hangs on no other block
+  pub needed_copy : (ts : List Target) → IsSome (mirrors t.chunk) → is_needed images layout ts t ≡ is_copy_needed images layout t
+  needed_copy ts copies =
+      let n = some_of (mirrors t.chunk) copies in
+      ap (λ o. cond (is_none o) (is_row_needed images layout (row_among ts t)) (is_copy_needed images layout t)) n.1
 
 -- ---- lists of blocks
 
@@ -97,7 +123,8 @@ module _ (layout : Layout) where
   upto_more a b c (x ∷ xs) ys h g = (h.0, h.1, upto_more (addr_of x + len_of layout.setting x) b c xs ys h.2 g)
 
   -- a block that is refused is so behind others
-  pub refused_behind : (a b : ℕ) (xs ys : List Want) (f : TreeFault) → AreUpTo layout a b xs → IsFirstRefused layout b ys f → IsFirstRefused layout a (xs ++ ys) f
+  pub refused_behind : (a b : ℕ) (xs ys : List Want) (f : TreeFault) → AreUpTo layout a b xs → IsFirstRefused layout b ys f → IsFirstRefused layout a
+      (xs ++ ys) f
   refused_behind a b [] ys f h r = subst (λ n. IsFirstRefused layout n ys f) h r
   refused_behind a b (x ∷ xs) ys f h r = inr ((h.0, h.1), refused_behind (addr_of x + len_of layout.setting x) b xs ys f h.2 r)
 
@@ -107,45 +134,155 @@ module _ (layout : Layout) where
   refused_before a (x ∷ xs) ys f (inl here) = inl here
   refused_before a (x ∷ xs) ys f (inr later) = inr (later.0, refused_before (addr_of x + len_of layout.setting x) xs ys f later.1)
 
-  module _ (images : Images) where
-    pub kept_both : (xs ys : List Want) → kept_of images layout (xs ++ ys) ≡ kept_of images layout xs ++ kept_of images layout ys
-    kept_both xs ys = filter-append (needs images layout) xs ys
+  pub between_le : (a c : ℕ) (xs : List Want) → AreBetween layout a c xs → a ≤ c
+  between_le a c [] h = h
+  between_le a c (x ∷ xs) h = omega (arith, h.0, between_le (addr_of x + len_of layout.setting x) c xs h.2)
 
-    pub left_both : (xs ys : List Want) → left_out images layout (xs ++ ys) ≡ left_out images layout xs + left_out images layout ys
-    left_both xs ys =
-        ap (count_by (is_left_out images layout)) (filter_map-append (λ w. ok_or_none (sought layout w)) xs ys)
-        ∙ sum_by-append (λ t. cond (is_left_out images layout t) 1 0) (targets layout xs) (targets layout ys)
+  -- each ends before the end of all
+  pub upto_each : (a b : ℕ) (xs : List Want) → AreUpTo layout a b xs → (x : Want) → In x xs → (a ≤ addr_of x) × (addr_of x + len_of layout.setting x ≤ b)
+  upto_each a b [] h x i = absurd i
+  upto_each a b (y ∷ ys) h x (inl e) =
+      let end = addr_of y + len_of layout.setting y in
+      subst (λ w. (a ≤ addr_of w) × (addr_of w + len_of layout.setting w ≤ b)) e (h.0, between_le end b ys (upto_between end b ys h.2))
+  upto_each a b (y ∷ ys) h x (inr i) =
+      let r = upto_each (addr_of y + len_of layout.setting y) b ys h.2 x i in
+      (omega (arith, h.0, r.0), r.1)
 
-    module _ (want : Want) (t : Target) (e : sought layout want ≡ Ok t) where
-      pub one_needed : is_needed images layout t ≡ true → want ∷ [] ≡ kept_of images layout (want ∷ [])
-      one_needed is = sym (ap (λ r. cond (option_map_or (is_needed images layout) (ok_or_none r) true) (want ∷ []) []) e ∙ ap (λ b. cond b (want ∷ []) []) is)
+-- the position of a block is among those of its list
+in_targets : (layout : Layout) (w : Want) (t : Target) (ws : List Want) → In w ws → sought layout w ≡ Ok t → In t (targets layout ws)
+in_targets layout w t [] i e = absurd i
+in_targets layout w t (v ∷ ws) (inl same) e = subst (In t) (sym (ap (λ r. cons_option (ok_or_none r) (targets layout ws)) (ap (sought layout) same ∙ e)))
+    (inl refl)
+in_targets layout w t (v ∷ ws) (inr i) e = by (ok_or_none (sought layout v)) (in_targets layout w t ws i e)
+  where
+    by : (o : Option Target) → In t (targets layout ws) → In t (cons_option o (targets layout ws))
+    by None j = j
+    by (Some u) j = inr j
 
-      pub one_out : is_needed images layout t ≡ false → [] ≡ kept_of images layout (want ∷ [])
-      one_out is = sym (ap (λ r. cond (option_map_or (is_needed images layout) (ok_or_none r) true) (want ∷ []) []) e ∙ ap (λ b. cond b (want ∷ []) []) is)
+-- ---- what is kept of a list
 
-      left_one : left_out images layout (want ∷ []) ≡ cond (is_left_out images layout t) 1 0
-      left_one = ap (λ r. count_by (is_left_out images layout) (cons_option (ok_or_none r) [])) e
-          ∙ sum_by-cons (λ t. cond (is_left_out images layout t) 1 0) t [] ∙ omega arith
+module _ (images : Images) (layout : Layout) (wants : List Want) where
+  abbrev ts : List Target
+  ts = targets layout wants
 
-      pub left_needed : is_needed images layout t ≡ true → left_out images layout (want ∷ []) ≡ 0
-      left_needed is = left_one ∙ ap (λ b. cond (is_checked t && not b) 1 0) is ∙ by (is_checked t)
+  kept_whole : ((t : Target) → In t ts → is_needed images layout ts t ≡ true) → kept_of images layout wants ≡ wants
+  kept_whole all = filter_all (needs images layout ts) wants (λ w i. by w i (sought layout w) refl)
+    where
+      by : (w : Want) → In w wants → (r : Result Target Fault) → sought layout w ≡ r → needs images layout ts w ≡ true
+      by w i (Err f) e = ap (λ r. option_map_or (is_needed images layout ts) (ok_or_none r) true) e
+      by w i (Ok t) e = ap (λ r. option_map_or (is_needed images layout ts) (ok_or_none r) true) e ∙ all t (in_targets layout w t wants i e)
+
+  left_none : ((t : Target) → In t ts → is_needed images layout ts t ≡ true) → left_out images layout wants ≡ 0
+  left_none all = sum_zero (λ t. cond (is_left_out images layout ts t) 1 0) ts (λ t i. ap (λ b. cond (is_checked t && not b) 1 0) (all t i) ∙ by (is_checked t))
+    where
+      by : (b : Bool) → ◌≡◌ {A = ℕ} (cond (b && false) 1 0) 0
+      by true = refl
+      by false = refl
+
+  module _ (none : (t : Target) → In t ts → is_needed images layout ts t ≡ false) where
+    kept_none : ((w : Want) → In w wants → (t : Target) × (sought layout w ≡ Ok t)) → kept_of images layout wants ≡ []
+    kept_none placed = filter_none (needs images layout ts) wants (λ w i.
+        let t = placed w i in
+        ap (λ r. option_map_or (is_needed images layout ts) (ok_or_none r) true) t.1 ∙ none t.0 (in_targets layout w t.0 wants i t.1))
+
+    left_checked : left_out images layout wants ≡ count_by is_checked ts
+    left_checked = sum_same (λ t. cond (is_left_out images layout ts t) 1 0) (λ t. cond (is_checked t) 1 0) ts
+        (λ t i. ap (λ b. cond (is_checked t && not b) 1 0) (none t i) ∙ by (is_checked t))
+      where
+        by : (b : Bool) → ◌≡◌ {A = ℕ} (cond (b && true) 1 0) (cond b 1 0)
+        by true = refl
+        by false = refl
+
+-- ---- lists that share no full stripe
+
+module _ (layout : Layout) (table : IsTable layout.chunks) where
+  placed : (ws : List Want) (t : Target) → In t (targets layout ws) → IsSought layout t
+  placed ws t i = let w = of_targets layout t ws i in is_sought layout w.0 t w.2
+
+  -- whether a block is needed hangs on none in other full stripes
+  alone_needed : (images : Images) (t : Target) (ts us vs : List Target) → IsSought layout t → ((u : Target) → In u (us ++ vs) → IsSought layout u)
+      → ((u : Target) → In u us ⊎ In u vs → t.chunk ≡ u.chunk → mirrors t.chunk ≡ None → t.at.row ≢ u.at.row)
+      → is_needed images layout (us ++ (ts ++ vs)) t ≡ is_needed images layout ts t
+  alone_needed images t ts us vs is are apart = by (mirrors t.chunk) refl
+    where
+      by : (o : Option ℕ) → mirrors t.chunk ≡ o → is_needed images layout (us ++ (ts ++ vs)) t ≡ is_needed images layout ts t
+      by (Some n) e = needed_copy images layout t (us ++ (ts ++ vs)) (subst IsSome (sym e) refl) ∙ sym
+          (needed_copy images layout t ts (subst IsSome (sym e) refl))
+      by None e =
+          let p = is_in_row t.chunk t.at.row in
+          let not_in = λ (u : Target) (i : In u us ⊎ In u vs). row_is_not layout table is.number t.chunk is.there e t.at.row u (are u (in_both u us vs i))
+          (λ same row. apart u i (sym same) e (sym row)) in
+          ap (λ bs. cond (is_none (mirrors t.chunk))
+          (is_row_needed images layout (record { chunk = t.chunk; number = t.at.row; blocks = bs; failing = flagged [] }))
+          (is_copy_needed images layout t))
+          (filter-append p us (ts ++ vs) ∙ ap (λ xs. xs ++ filter p (ts ++ vs)) (filter_none p us (λ u i. not_in u (inl i)))
+          ∙ filter-append p ts vs ∙ ap (λ xs. filter p ts ++ xs) (filter_none p vs (λ u i. not_in u (inr i))) ∙ append-nil (filter p ts))
         where
-          by : (b : Bool) → ◌≡◌ {A = ℕ} (cond (b && false) 1 0) 0
-          by true = refl
-          by false = refl
+          in_both : (u : Target) (xs ys : List Target) → In u xs ⊎ In u ys → In u (xs ++ ys)
+          in_both u xs ys (inl i) = in_left u xs ys i
+          in_both u xs ys (inr i) = in_right u xs ys i
 
-      pub left_plain : is_needed images layout t ≡ false → is_plain t.want ≡ true → left_out images layout (want ∷ []) ≡ 0
-      left_plain is bare = left_one ∙ ap (λ b. cond (not b && not (is_needed images layout t)) 1 0) bare
+  module _ (images : Images) (xs ys : List Want) (share : ShareNoRow layout xs ys) where
+    abbrev both_ts : List Target
+    both_ts = targets layout (xs ++ ys)
 
-      pub left_checked : is_needed images layout t ≡ false → is_plain t.want ≡ false → left_out images layout (want ∷ []) ≡ 1
-      left_checked is checked = left_one ∙ ap (λ b. cond (not b && not (is_needed images layout t)) 1 0) checked ∙ ap (λ b. cond (true && not b) 1 0) is
+    are_both : both_ts ≡ targets layout xs ++ targets layout ys
+    are_both = filter_map-append (λ w. ok_or_none (sought layout w)) xs ys
+
+    first_needed : (t : Target) → In t (targets layout xs) → is_needed images layout both_ts t ≡ is_needed images layout (targets layout xs) t
+    first_needed t i = ap (λ ts. is_needed images layout ts t) are_both
+        ∙ alone_needed images t (targets layout xs) [] (targets layout ys) (placed xs t i) (placed ys) (λ u j same none. apart u j same none)
+      where
+        apart : (u : Target) → In u [] ⊎ In u (targets layout ys) → t.chunk ≡ u.chunk → mirrors t.chunk ≡ None → t.at.row ≢ u.at.row
+        apart u (inl j) same none = absurd j
+        apart u (inr j) same none = share t u i j same none
+
+    later_needed : (t : Target) → In t (targets layout ys) → is_needed images layout both_ts t ≡ is_needed images layout (targets layout ys) t
+    later_needed t i =
+        ap (λ ts. is_needed images layout ts t) (are_both ∙ ap (λ us. targets layout xs ++ us) (sym (append-nil (targets layout ys))))
+        ∙ alone_needed images t (targets layout ys) (targets layout xs) [] (placed ys t i)
+        (λ u j. placed xs u (subst (In u) (append-nil (targets layout xs)) j)) (λ u j same none. apart u j same none)
+      where
+        apart : (u : Target) → In u (targets layout xs) ⊎ In u [] → t.chunk ≡ u.chunk → mirrors t.chunk ≡ None → t.at.row ≢ u.at.row
+        apart u (inl j) same none = λ e. share u t j i (sym same) (ap mirrors (sym same) ∙ none) (sym e)
+        apart u (inr j) same none = absurd j
+
+    needs_same : (ws : List Want) →
+        ((t : Target) → In t (targets layout ws) → is_needed images layout both_ts t ≡ is_needed images layout (targets layout ws) t)
+        → (w : Want) → In w ws → needs images layout both_ts w ≡ needs images layout (targets layout ws) w
+    needs_same ws h w i = by (sought layout w) refl
+      where
+        by : (r : Result Target Fault) → sought layout w ≡ r → option_map_or (is_needed images layout both_ts) (ok_or_none r) true
+            ≡ option_map_or (is_needed images layout (targets layout ws)) (ok_or_none r) true
+        by (Err f) e = refl
+        by (Ok t) e = h t (in_targets layout w t ws i e)
+
+    pub kept_both : kept_of images layout (xs ++ ys) ≡ kept_of images layout xs ++ kept_of images layout ys
+    kept_both =
+        filter-append (needs images layout both_ts) xs ys
+        ∙ ap (λ ws. ws ++ filter (needs images layout both_ts) ys)
+        (filter_same (needs images layout both_ts) (needs images layout (targets layout xs)) xs (needs_same xs first_needed))
+        ∙ ap (λ ws. kept_of images layout xs ++ ws)
+        (filter_same (needs images layout both_ts) (needs images layout (targets layout ys)) ys (needs_same ys later_needed))
+
+    left_part : (ws : List Want) → ((t : Target) → In t (targets layout ws) → is_needed images layout both_ts t ≡ is_needed images layout (targets layout ws) t)
+        → count_by (is_left_out images layout both_ts) (targets layout ws) ≡ left_out images layout ws
+    left_part ws h = sum_same (λ t. cond (is_left_out images layout both_ts t) 1 0) (λ t. cond (is_left_out images layout (targets layout ws) t) 1 0)
+        (targets layout ws) (λ t i. ap (λ b. cond (is_checked t && not b) 1 0) (h t i))
+
+    pub left_both : left_out images layout (xs ++ ys) ≡ left_out images layout xs + left_out images layout ys
+    left_both =
+        let one = left_part xs first_needed in
+        let two = left_part ys later_needed in
+        ap (count_by (is_left_out images layout both_ts)) are_both
+        ∙ sum_by-append (λ t. cond (is_left_out images layout both_ts t) 1 0) (targets layout xs) (targets layout ys) ∙ omega (arith, one, two)
 
 -- ---- what is sifted
 
 module _ (layout : Layout) (held : Option Images) where
-  pub sifts_none : (x : Sifted) → IsList x.kept → Sifts layout held [] x x
-  sifts_none x is = record {
-    is_list = is;
+  pub sifts_none : (x : Sifted) → CanSift layout x → Sifts layout held [] x x
+  sifts_none x can = record {
+    can = can;
     kind = refl;
     more = [];
     wants_are = sym (append-nil (kept_wants x.kept));
@@ -154,54 +291,97 @@ module _ (layout : Layout) (held : Option Images) where
     sound = tell held (λ images. (n : ℕ) → x.sound ≡ stood n → x.sound ≡ stood (n + left_out images layout [])) (λ images e n is. is ∙ ap stood (omega arith));
   }
 
-  pub sifts_then : (xs ys : List Want) (x y z : Sifted) → Sifts layout held xs x y → Sifts layout held ys y z → Sifts layout held (xs ++ ys) x z
-  sifts_then xs ys x y z h g = record {
-    is_list = g.is_list;
+  pub sifts_then : IsTable layout.chunks → (xs ys : List Want) (x y z : Sifted) → ShareNoRow layout xs ys → Sifts layout held xs x y → Sifts layout held ys y z
+      → Sifts layout held (xs ++ ys) x z
+  sifts_then table xs ys x y z share h g = record {
+    can = g.can;
     kind = g.kind ∙ h.kind;
     more = h.more ++ g.more;
     wants_are = g.wants_are ∙ ap (λ ws. ws ++ g.more) h.wants_are ∙ append_assoc (kept_wants x.kept) h.more g.more;
-    within = λ from to b. let p = between_parts layout from to xs ys b in between_more layout from p.0 to h.more g.more (h.within from p.0 p.1) (g.within p.0 to p.2);
+    within = λ from to b. let p = between_parts layout from to xs ys b in between_more layout from p.0 to h.more g.more (h.within from p.0 p.1)
+        (g.within p.0 to p.2);
     needed = tell held (λ images. h.more ++ g.more ≡ kept_of images layout (xs ++ ys)) (λ images e.
         ap (λ ws. ws ++ g.more) (told held (λ images. h.more ≡ kept_of images layout xs) images e h.needed)
         ∙ ap (λ ws. kept_of images layout xs ++ ws) (told held (λ images. g.more ≡ kept_of images layout ys) images e g.needed)
-        ∙ sym (kept_both layout images xs ys));
+        ∙ sym (kept_both layout table images xs ys share));
     sound = tell held (λ images. (n : ℕ) → x.sound ≡ stood n → z.sound ≡ stood (n + left_out images layout (xs ++ ys))) (λ images e n is.
         let one = told held (λ images. (n : ℕ) → x.sound ≡ stood n → y.sound ≡ stood (n + left_out images layout xs)) images e h.sound n is in
-        let two = told held (λ images. (n : ℕ) → y.sound ≡ stood n → z.sound ≡ stood (n + left_out images layout ys)) images e g.sound (n + left_out images layout xs) one in
-        let whole : n + left_out images layout xs + left_out images layout ys ≡ n + left_out images layout (xs ++ ys) = omega (arith, left_both layout images xs ys) in
+        let two = told held (λ images. (n : ℕ) → y.sound ≡ stood n → z.sound ≡ stood (n + left_out images layout ys)) images e g.sound
+        (n + left_out images layout xs) one in
+        let whole : n + left_out images layout xs + left_out images layout ys ≡ n + left_out images layout (xs ++ ys) = omega
+        (arith, left_both layout table images xs ys share) in
         two ∙ ap stood whole);
   }
 
-  module _ (want : Want) (t : Target) (e : sought layout want ≡ Ok t) (x y : Sifted) where
-    -- one is kept
-    pub sifts_kept : IfSome held (λ images. true ≡ is_needed images layout t) → AddsTo x.kept y.kept want → y.sound ≡ x.sound → Sifts layout held (want ∷ []) x y
-    sifts_kept needed a same = record {
-      is_list = a.is_list;
+  module _ (wants : List Want) (x y : Sifted) where
+    abbrev blocks : List Target
+    blocks = targets layout wants
+
+    -- all are kept
+    pub sifts_kept : CanSift layout x → IfSome held (λ images. (t : Target) → In t blocks → is_needed images layout blocks t ≡ true)
+        → AddsAll x.kept y.kept wants → y.sound ≡ x.sound → y.nodesize ≡ x.nodesize → HasRooms layout y.room.buffer → Sifts layout held wants x y
+    sifts_kept can needed a same nodesize rooms = record {
+      can = record { is_list = a.is_list; nodesize = nodesize ∙ can.nodesize; large = omega (arith, can.large, nodesize); rooms = rooms };
       kind = a.kind;
-      more = want ∷ [];
+      more = wants;
       wants_are = a.wants;
       within = λ from to h. h;
-      needed = tell held (λ images. want ∷ [] ≡ kept_of images layout (want ∷ []))
-          (λ images h. one_needed layout images want t e (sym (told held (λ images. true ≡ is_needed images layout t) images h needed)));
-      sound = tell held (λ images. (n : ℕ) → x.sound ≡ stood n → y.sound ≡ stood (n + left_out images layout (want ∷ []))) (λ images h n is.
-          same ∙ is ∙ ap stood (omega (arith, left_needed layout images want t e (sym (told held (λ images. true ≡ is_needed images layout t) images h needed)))));
+      needed = tell held (λ images. wants ≡ kept_of images layout wants) (λ images h. sym (kept_whole images layout wants (all images h)));
+      sound = tell held (λ images. (n : ℕ) → x.sound ≡ stood n → y.sound ≡ stood (n + left_out images layout wants)) (λ images h n is.
+          let none : n ≡ n + left_out images layout wants = omega (arith, left_none images layout wants (all images h)) in
+          same ∙ is ∙ ap stood none);
     }
+      where
+        all : (images : Images) → held ≡ Some images → (t : Target) → In t blocks → is_needed images layout blocks t ≡ true
+        all images h = told held (λ images. (t : Target) → In t blocks → is_needed images layout blocks t ≡ true) images h needed
 
-    -- one is left out
-    pub sifts_out : (more : ℕ) → ((images : Images) → is_needed images layout t ≡ false → left_out images layout (want ∷ []) ≡ more)
-        → IfSome held (λ images. false ≡ is_needed images layout t) → IsList x.kept → y.kept ≡ x.kept
-        → ((n : ℕ) → x.sound ≡ stood n → y.sound ≡ stood (n + more)) → Sifts layout held (want ∷ []) x y
-    sifts_out more is_left needed is same grows = record {
-      is_list = subst IsList (sym same) is;
+    -- all are left out, and so many checked ones are counted
+    pub sifts_out : ((w : Want) → In w wants → (t : Target) × (sought layout w ≡ Ok t)) → CanSift layout y → (more : ℕ)
+        → IfSome held (λ images. more ≡ count_by is_checked blocks)
+        → IfSome held (λ images. (t : Target) → In t blocks → is_needed images layout blocks t ≡ false) → y.kept ≡ x.kept
+        → ((n : ℕ) → x.sound ≡ stood n → y.sound ≡ stood (n + more)) → Sifts layout held wants x y
+    sifts_out placed can more counted needed same grows = record {
+      can = can;
       kind = ap (λ (k : Kept). k.kind) same;
       more = [];
       wants_are = ap kept_wants same ∙ sym (append-nil (kept_wants x.kept));
-      within = λ from to h. omega (arith, h.0, h.2);
-      needed = tell held (λ images. [] ≡ kept_of images layout (want ∷ []))
-          (λ images h. one_out layout images want t e (sym (told held (λ images. false ≡ is_needed images layout t) images h needed)));
-      sound = tell held (λ images. (n : ℕ) → x.sound ≡ stood n → y.sound ≡ stood (n + left_out images layout (want ∷ []))) (λ images h n is.
-          grows n is ∙ ap (λ k. stood (n + k)) (sym (is_left images (sym (told held (λ images. false ≡ is_needed images layout t) images h needed)))));
+      within = λ from to h. between_le layout from to wants h;
+      needed = tell held (λ images. [] ≡ kept_of images layout wants) (λ images h. sym (kept_none images layout wants (none images h) placed));
+      sound = tell held (λ images. (n : ℕ) → x.sound ≡ stood n → y.sound ≡ stood (n + left_out images layout wants)) (λ images h n is.
+          grows n is ∙ ap (λ k. stood (n + k))
+          (told held (λ images. more ≡ count_by is_checked blocks) images h counted ∙ sym (left_checked images layout wants (none images h))));
     }
+      where
+        none : (images : Images) → held ≡ Some images → (t : Target) → In t blocks → is_needed images layout blocks t ≡ false
+        none images h = told held (λ images. (t : Target) → In t blocks → is_needed images layout blocks t ≡ false) images h needed
+
+-- the only one of one
+one_target : (layout : Layout) (want : Want) (t u : Target) → sought layout want ≡ Ok t → In u (targets layout (want ∷ [])) → t ≡ u
+one_target layout want t u e i = by (subst (In u) (ap (λ r. cons_option (ok_or_none r) []) e) i)
+  where
+    by : In u (t ∷ []) → t ≡ u
+    by (inl same) = same
+    by (inr i) = absurd i
+
+-- a block of a chunk with copies, as it is needed
+pub one_needed : (layout : Layout) (held : Option Images) (want : Want) (t : Target) (b : Bool) → sought layout want ≡ Ok t → IsSome (mirrors t.chunk)
+    → IfSome held (λ images. b ≡ is_copy_needed images layout t)
+    → IfSome held (λ images. (u : Target) → In u (targets layout (want ∷ [])) → is_needed images layout (targets layout (want ∷ [])) u ≡ b)
+one_needed layout held want t b e copies h = tell held
+    (λ images. (u : Target) → In u (targets layout (want ∷ [])) → is_needed images layout (targets layout (want ∷ [])) u ≡ b)
+    (λ images is u i.
+    subst (λ v. is_needed images layout (targets layout (want ∷ [])) v ≡ b) (one_target layout want t u e i)
+    (needed_copy images layout t (targets layout (want ∷ [])) copies ∙ sym (told held (λ images. b ≡ is_copy_needed images layout t) images is h)))
+
+pub one_placed : (layout : Layout) (want : Want) (t : Target) → sought layout want ≡ Ok t → (w : Want) → In w (want ∷ []) → (t : Target) ×
+    (sought layout w ≡ Ok t)
+one_placed layout want t e w (inl same) = (t, ap (sought layout) (sym same) ∙ e)
+one_placed layout want t e w (inr i) = absurd i
+
+-- whether it is counted
+pub one_counted : (layout : Layout) (want : Want) (t : Target) → sought layout want ≡ Ok t → count_by is_checked (targets layout (want ∷ [])) ≡ cond
+    (is_checked t) 1 0
+one_counted layout want t e = ap (λ r. count_by is_checked (cons_option (ok_or_none r) [])) e ∙ sum_by-cons (λ t. cond (is_checked t) 1 0) t [] ∙ omega arith
 
 -- ---- checksums of one kind
 
@@ -218,6 +398,15 @@ module _ (kind : SumKind) where
   pub of_kind_both : (xs ys : List Want) → AreOfKind kind xs → AreOfKind kind ys → AreOfKind kind (xs ++ ys)
   of_kind_both [] ys h g = g
   of_kind_both (x ∷ xs) ys h g = (h.0, of_kind_both xs ys h.1 g)
+
+  pub of_kind_first : (xs ys : List Want) → AreOfKind kind (xs ++ ys) → AreOfKind kind xs
+  of_kind_first [] ys h = tt
+  of_kind_first (x ∷ xs) ys h = (h.0, of_kind_first xs ys h.1)
+
+  pub of_kind_at : (xs : List Want) (i : ℕ) (d : Want) → AreOfKind kind xs → i < length xs → IsOfKind kind (get_or xs i d)
+  of_kind_at [] i d h lt = absurd (omega (arith, lt))
+  of_kind_at (x ∷ xs) zero d h lt = h.0
+  of_kind_at (x ∷ xs) (suc i) d h lt = of_kind_at xs i d h.1 (omega (arith, lt))
 
   pub of_kind_behind : (xs ys : List Want) → AreOfKind kind (xs ++ ys) → AreOfKind kind ys
   of_kind_behind [] ys h = h
@@ -282,7 +471,8 @@ module _ (whole more : Kept) (is : IsList whole) (is_more : IsList more) (same :
     marks_fit = omega (arith, length-append whole.marks more.marks, is.marks_fit, is_more.marks_fit, trees_both whole.runs more.runs);
   }
 
-  pub is_behind : (n m k : ℕ) → m ≡ k → IsBehind (record { list = whole; unchecked = n }) (record { list = more; unchecked = m }) (record { list = both whole more; unchecked = k })
+  pub is_behind : (n m k : ℕ) → m ≡ k → IsBehind (record { list = whole; unchecked = n }) (record { list = more; unchecked = m })
+      (record { list = both whole more; unchecked = k })
   is_behind n m k e = record { is_list = both_list; kind = refl; wants = both_wants; unchecked = sym e }
 
 -- ---- judging
@@ -295,10 +485,11 @@ module _ (layout : Layout) (held : Option Images) (whole more after : Gathered) 
       → Stands layout held after (record { sifted = x.sifted; unchecked = more.unchecked; end = x.end; refused = x.refused })
   refused_still x f e h = record {
     is_whole = is.is_list;
-    is_list = h.is_list;
+    can = h.can;
     kind = h.kind ∙ sym is.kind;
     unchecked = sym is.unchecked;
-    judged = subst (Judges layout held (kept_wants after.list) (record { sifted = x.sifted; unchecked = more.unchecked; end = x.end; refused = x.refused })) (sym e)
+    judged = subst (Judges layout held (kept_wants after.list) (record { sifted = x.sifted; unchecked = more.unchecked; end = x.end; refused = x.refused }))
+        (sym e)
         (behind_all (λ ws. IsFirstRefused layout 0 ws f) (refused_before layout 0 (kept_wants whole.list) (kept_wants more.list) f
         (subst (Judges layout held (kept_wants whole.list) x) e h.judged)));
   }
@@ -322,47 +513,118 @@ module _ (layout : Layout) (held : Option Images) (whole more after : Gathered) 
         → Stands layout held after (record { sifted = x.sifted; unchecked = more.unchecked; end = x.end; refused = Some f })
     stands_judged f r = record {
       is_whole = is.is_list;
-      is_list = h.is_list;
+      can = h.can;
       kind = h.kind ∙ sym is.kind;
       unchecked = sym is.unchecked;
       judged = behind_all (λ ws. IsFirstRefused layout 0 ws f) (refused_behind layout 0 x.end (kept_wants whole.list) (kept_wants more.list) f was.apart r);
     }
 
     -- they were sifted
-    pub stands_more : (y : Sifted) (to : ℕ) → AreUpTo layout x.end to (kept_wants more.list) → Sifts layout held (kept_wants more.list) x.sifted y
-        → Stands layout held after (record { sifted = y; unchecked = more.unchecked; end = to; refused = x.refused })
-    stands_more y to upto s =
+    pub stands_more : IsTable layout.chunks → ShareNoRow layout (kept_wants whole.list) (kept_wants more.list) → (y : Sifted) (to : ℕ)
+        → AreUpTo layout x.end to (kept_wants more.list) → Sifts layout held (kept_wants more.list) x.sifted y → Stands layout held after
+        (record { sifted = y; unchecked = more.unchecked; end = to; refused = x.refused })
+    stands_more table share y to upto s =
         let ws = kept_wants whole.list in
         let vs = kept_wants more.list in
         record {
           is_whole = is.is_list;
-          is_list = s.is_list;
+          can = s.can;
           kind = s.kind ∙ h.kind ∙ sym is.kind;
           unchecked = sym is.unchecked;
-          judged = subst (Judges layout held (kept_wants after.list) (record { sifted = y; unchecked = more.unchecked; end = to; refused = x.refused })) (sym none) (record {
-            apart = behind_all (AreUpTo layout 0 to) (upto_more layout 0 x.end to ws vs was.apart upto);
-            kept_apart = subst (AreBetween layout 0 to) (sym s.wants_are)
-                (between_more layout 0 x.end to (kept_wants x.sifted.kept) s.more was.kept_apart (s.within x.end to (upto_between layout x.end to vs upto)));
-            needed = tell held (λ images. kept_wants y.kept ≡ kept_of images layout (kept_wants after.list)) (λ images e.
-                s.wants_are ∙ ap (λ ks. ks ++ s.more) (told held (λ images. kept_wants x.sifted.kept ≡ kept_of images layout ws) images e was.needed)
-                ∙ ap (λ ks. kept_of images layout ws ++ ks) (told held (λ images. s.more ≡ kept_of images layout vs) images e s.needed)
-                ∙ sym (kept_both layout images ws vs) ∙ ap (kept_of images layout) (sym is.wants));
-            sound = tell held (λ images. y.sound ≡ stood (left_out images layout (kept_wants after.list))) (λ images e.
-                told held (λ images. (n : ℕ) → x.sifted.sound ≡ stood n → y.sound ≡ stood (n + left_out images layout vs)) images e s.sound (left_out images layout ws)
-                (told held (λ images. x.sifted.sound ≡ stood (left_out images layout ws)) images e was.sound)
-                ∙ ap stood (sym (left_both layout images ws vs)) ∙ ap (λ vs. stood (left_out images layout vs)) (sym is.wants));
-          });
+          judged = subst (Judges layout held (kept_wants after.list) (record { sifted = y; unchecked = more.unchecked; end = to; refused = x.refused }))
+              (sym none) (record {
+                apart = behind_all (AreUpTo layout 0 to) (upto_more layout 0 x.end to ws vs was.apart upto);
+                kept_apart = subst (AreBetween layout 0 to) (sym s.wants_are)
+                    (between_more layout 0 x.end to (kept_wants x.sifted.kept) s.more was.kept_apart
+                    (s.within x.end to (upto_between layout x.end to vs upto)));
+                needed = tell held (λ images. kept_wants y.kept ≡ kept_of images layout (kept_wants after.list)) (λ images e.
+                    s.wants_are ∙ ap (λ ks. ks ++ s.more) (told held (λ images. kept_wants x.sifted.kept ≡ kept_of images layout ws) images e was.needed)
+                    ∙ ap (λ ks. kept_of images layout ws ++ ks) (told held (λ images. s.more ≡ kept_of images layout vs) images e s.needed)
+                    ∙ sym (kept_both layout table images ws vs share) ∙ ap (kept_of images layout) (sym is.wants));
+                sound = tell held (λ images. y.sound ≡ stood (left_out images layout (kept_wants after.list))) (λ images e.
+                    told held (λ images. (n : ℕ) → x.sifted.sound ≡ stood n → y.sound ≡ stood (n + left_out images layout vs)) images e s.sound
+                    (left_out images layout ws)
+                    (told held (λ images. x.sifted.sound ≡ stood (left_out images layout ws)) images e was.sound)
+                    ∙ ap stood (sym (left_both layout table images ws vs share)) ∙ ap (λ vs. stood (left_out images layout vs)) (sym is.wants));
+              });
         }
 
 pub none_if : {X : Type 0} (o : Option X) → is_some o ≡ false → o ≡ None
 none_if None e = refl
 none_if (Some x) e = absurd (false≢true (sym e))
 
+-- ---- blocks before a chunk, and in it
+
+len_some : (setting : Setting) (want : Want) → 0 < setting.nodesize → 0 < len_of setting want
+len_some setting (Tree addr generation level) some = some
+len_some setting (Block addr) some = some
+len_some setting (Sector addr sum) some = omega arith
+len_some setting (Plain addr) some = omega arith
+
+pub shares_none : (layout : Layout) (number : ℕ) (chunk : Chunk) (end to : ℕ) (xs ys : List Want) → IsTable layout.chunks → 0 < layout.setting.nodesize
+    → slice_get layout.chunks number ≡ Some chunk → AreUpTo layout 0 end xs → end ≤ chunk.start → AreUpTo layout chunk.start to ys
+    → to ≤ chunk.start + chunk.length → ShareNoRow layout xs ys
+shares_none layout number chunk end to xs ys table some there before le inside most t u i j same none eq =
+    let w = of_targets layout t xs i in
+    let v = of_targets layout u ys j in
+    let is = is_sought layout w.0 t w.2 in
+    let is_u = is_sought layout v.0 u v.2 in
+    let w_end = (upto_each layout 0 end xs before w.0 w.1).1 in
+    let v_in = upto_each layout chunk.start to ys inside v.0 v.1 in
+    let w_some = len_some layout.setting w.0 some in
+    let v_some = len_some layout.setting v.0 some in
+    let w_addr : addr_of t.want ≡ addr_of w.0 = ap addr_of (sought_of layout w.0 t w.2).want_is in
+    let v_addr : addr_of u.want ≡ addr_of v.0 = ap addr_of (sought_of layout v.0 u v.2).want_is in
+    let mine = same ∙ chunk_same layout table number chunk there u is_u (omega (arith, v_in.0, v_addr)) (omega (arith, v_in.1, v_some, v_addr, most)) in
+    let held = ap (λ c. holds c (addr_of t.want)) (sym mine) ∙ is.held in
+    let from = leb-true chunk.start (addr_of t.want)
+    (and_parts (leb chunk.start (addr_of t.want)) (ltb (addr_of t.want) (chunk.start + chunk.length)) held).0 in
+    omega (arith, from, w_addr, w_end, w_some, le)
+
+-- the end of a list that lies in a span
+pub in_span : (layout : Layout) (span : Span) (end to : ℕ) (wants : List Want) → end ≤ span.start → AreUpTo layout end to wants → lies_in wants span to ≡ true
+    → to ≤ span.start + span.length
+in_span layout span end to [] le upto e = omega (arith, le, upto)
+in_span layout span end to (want ∷ wants) le upto e =
+    leb-true to (span.start + span.length) (and_parts (leb span.start (addr_of want)) (leb to (span.start + span.length)) e).1
+
+-- a list that doesn't lie in a span doesn't lie between its ends
+pub outside_span : (layout : Layout) (span : Span) (end to : ℕ) (wants : List Want) → end ≤ span.start → AreUpTo layout end to wants
+    → AreBetween layout span.start (span.start + span.length) wants → lies_in wants span to ≡ false → ⊥
+outside_span layout span end to [] le upto between e = false≢true (sym e)
+outside_span layout span end to (want ∷ wants) le upto between e =
+    let most = upto_least (addr_of want + len_of layout.setting want) to (span.start + span.length) wants upto.2 between.2 in
+    false≢true (sym e ∙ and_from (leb span.start (addr_of want)) (leb to (span.start + span.length)) (le-leb span.start (addr_of want) between.0)
+    (le-leb to (span.start + span.length) most))
+  where
+    upto_least : (a b c : ℕ) (ws : List Want) → AreUpTo layout a b ws → AreBetween layout a c ws → b ≤ c
+    upto_least a b c [] upto between = omega (arith, upto, between)
+    upto_least a b c (w ∷ ws) upto between = upto_least (addr_of w + len_of layout.setting w) b c ws upto.2 between.2
+
+-- one that lies in a chunk behind the blocks before shares no full stripe with them
+pub shares_span : (layout : Layout) (held : Option Images) (whole : Gathered) (sieve : Sieve) → sieve.refused ≡ None → Stands layout held whole sieve
+    → (span : Span) (to : ℕ) (wants : List Want) → IsTable layout.chunks → IsSpanIn layout span → sieve.end ≤ span.start → AreUpTo layout sieve.end to wants
+    → lies_in wants span to ≡ true → ShareNoRow layout (kept_wants whole.list) wants
+shares_span layout held whole sieve none h span to [] table in_table le upto inside = λ t u i j. absurd j
+shares_span layout held whole sieve none h span to (want ∷ wants) table in_table le upto inside =
+    let chunk = in_table.chunk in
+    let at = at_in chunk layout.chunks (in_of chunk layout.chunks in_table.there) in
+    let both = and_parts (leb span.start (addr_of want)) (leb to (span.start + span.length)) inside in
+    let start : span.start ≡ chunk.start = ap (λ (s : Span). s.start) in_table.is in
+    let length : span.length ≡ chunk.length = ap (λ (s : Span). s.length) in_table.is in
+    let from = leb-true span.start (addr_of want) both.0 in
+    let most = leb-true to (span.start + span.length) both.1 in
+    let judged = subst (Judges layout held (kept_wants whole.list) sieve) none h.judged in
+    shares_none layout at.0 chunk sieve.end to (kept_wants whole.list) (want ∷ wants) table (omega (arith, h.can.large, h.can.nodesize)) at.1 judged.apart
+    (omega (arith, le, start)) (omega (arith, from, start), upto.1, upto.2) (omega (arith, most, start, length))
+
 -- ---- plain sectors that are passed at once
 
 -- those behind an address of a chunk with copies and without an older image, as far as they lie in it
-pub passes_calm : (layout : Layout) (table : IsTable layout.chunks) (want : Want) (chunk : Chunk) (old new : List Want) → Some chunk ≡ chunk_at layout.chunks (addr_of want)
-    → is_none (mirrors chunk) ≡ false → has_older layout.devices chunk ≡ false → PassesPlain old (chunk.start + chunk.length) new → PassesCalm layout want old new
+pub passes_calm : (layout : Layout) (table : IsTable layout.chunks) (want : Want) (chunk : Chunk) (old new : List Want) → Some chunk ≡ chunk_at layout.chunks
+    (addr_of want)
+    → is_none (mirrors chunk) ≡ false → has_older layout.devices chunk ≡ false → PassesPlain old (chunk.start + chunk.length) new
+    → PassesCalm layout want old new
 passes_calm layout table want chunk old new found copies young p =
     let at = find_at (λ (c : Chunk). holds c (addr_of want)) layout.chunks chunk (sym found) in
     let from = leb-true chunk.start (addr_of want) (and_parts (leb chunk.start (addr_of want)) (ltb (addr_of want) (chunk.start + chunk.length)) at.2).0 in
@@ -370,28 +632,88 @@ passes_calm layout table want chunk old new found copies young p =
       past = p.past;
       split = p.split;
       plain = p.plain;
-      calm = λ images w t i le e.
+      calm = λ w t i le e.
           let of = sought_of layout w t e in
           let is = is_sought layout w t e in
           let addr : addr_of t.want ≡ addr_of w = ap addr_of of.want_is in
           let mine = chunk_same layout table at.0 chunk at.1 t is (omega (arith, from, le, addr)) (omega (arith, p.below w i, addr)) in
-          ap (λ (c : Chunk). is_none (mirrors c) || cond (is_plain t.want) (has_older layout.devices c) (is_unsound images t)) mine
-          ∙ ap (λ b. b || cond (is_plain t.want) (has_older layout.devices chunk) (is_unsound images t)) copies
-          ∙ ap (λ b. cond b (has_older layout.devices chunk) (is_unsound images t)) (ap is_plain of.want_is ∙ p.plain w i) ∙ young;
+          (some_if (mirrors t.chunk) (ap (λ (c : Chunk). is_none (mirrors c)) mine ∙ copies), ap (has_older layout.devices) mine ∙ young);
     }
 
--- nothing is kept of them
-pub sifts_calm : (layout : Layout) (held : Option Images) (want : Want) (end : ℕ) (ws rest : List Want) (x : Sifted) → IsList x.kept → AreApart layout end (ws ++ rest)
-    → addr_of want ≤ end → ((w : Want) → In w ws → is_plain w ≡ true)
-    → ((images : Images) (w : Want) (t : Target) → In w ws → addr_of want ≤ addr_of w → sought layout w ≡ Ok t → is_needed images layout t ≡ false)
-    → Sifts layout held ws x x × ((to : ℕ) × AreApart layout to rest)
-sifts_calm layout held want end [] rest x is apart le bare calm = (sifts_none layout held x is, (end, apart))
-sifts_calm layout held want end (w ∷ ws) rest x is apart le bare calm =
-    let t = the_sought (sought layout w) apart.1 in
-    let plain_there = ap is_plain (sought_of layout w t.0 t.1).want_is ∙ bare w (inl refl) in
-    let out = λ (images : Images). calm images w t.0 (inl refl) (omega (arith, le, apart.0)) t.1 in
-    let one = sifts_out layout held w t.0 t.1 x x 0 (λ images o. left_plain layout images w t.0 t.1 o plain_there)
-    (tell held (λ images. false ≡ is_needed images layout t.0) (λ images e. sym (out images))) is refl (λ n e. e ∙ ap stood (omega arith)) in
-    let more = sifts_calm layout held want (addr_of w + len_of layout.setting w) ws rest x is apart.2 (omega (arith, le, apart.0)) (λ v i. bare v (inr i))
-    (λ images v u i. calm images v u (inr i)) in
-    (sifts_then layout held (w ∷ []) ws x x x one more.0, more.1)
+-- nothing is kept of them, and nothing counted
+module _ (layout : Layout) (held : Option Images) (want : Want) (end : ℕ) (old new : List Want) (p : PassesCalm layout want old new)
+    (apart : AreApart layout end old)
+    (le : addr_of want ≤ end) (x : Sifted) (can : CanSift layout x) where
+  apart_past : AreApart layout end (p.past ++ new)
+  apart_past = subst (AreApart layout end) p.split apart
+
+  placed_past : (w : Want) → In w p.past → (t : Target) × (sought layout w ≡ Ok t)
+  placed_past w i = sought_each layout end (p.past ++ new) apart_past w (in_left w p.past new i)
+
+  past_is : (t : Target) → In t (targets layout p.past) → (is_plain t.want ≡ true) × IsSome (mirrors t.chunk) × (has_older layout.devices t.chunk ≡ false)
+  past_is t i =
+      let w = of_targets layout t p.past i in
+      let behind = all_behind layout end (p.past ++ new) apart_past w.0 (in_left w.0 p.past new w.1) in
+      let c = p.calm w.0 t w.1 (omega (arith, le, behind)) w.2 in
+      (ap is_plain (sought_of layout w.0 t w.2).want_is ∙ p.plain w.0 w.1, c.0, c.1)
+
+  pub sifts_calm : Sifts layout held p.past x x
+  sifts_calm = sifts_out layout held p.past x x placed_past can 0
+      (tell held (λ images. 0 ≡ count_by is_checked (targets layout p.past)) (λ images h.
+      sym (sum_zero (λ t. cond (is_checked t) 1 0) (targets layout p.past) (λ t i. ap (λ b. cond (not b) 1 0) (past_is t i).0))))
+      (tell held (λ images. (t : Target) → In t (targets layout p.past) → is_needed images layout (targets layout p.past) t ≡ false) (λ images h t i.
+      let c = past_is t i in
+      needed_copy images layout t (targets layout p.past) c.1
+      ∙ ap (λ b. cond b (has_older layout.devices t.chunk) (is_unsound images t)) c.0 ∙ c.2))
+      refl (λ n e. e ∙ ap stood (omega arith))
+
+  -- a block of a chunk with copies, with them
+  pub calm_next : IsTable layout.chunks → (before : Sifted) (t : Target) → sought layout want ≡ Ok t → IsSome (mirrors t.chunk)
+      → Sifts layout held (want ∷ []) before x → SiftsNext layout held want old new before x
+  calm_next table before t e copies s = record {
+    more = p.past;
+    split = p.split;
+    sifts = sifts_then layout held table (want ∷ []) p.past before x x (λ t u i j same none. absurd (no_parity t none (one_is t i))) s sifts_calm;
+    rows = λ u v i j same none. absurd (no_parity u none (each u (in_either u (targets layout (want ∷ [])) (targets layout p.past)
+        (subst (In u) (filter_map-append (λ w. ok_or_none (sought layout w)) (want ∷ []) p.past) i))));
+  }
+    where
+      no_parity : (u : Target) → mirrors u.chunk ≡ None → IsSome (mirrors u.chunk) → ⊥
+      no_parity u none some = false≢true (subst IsSome none some)
+
+      one_is : (u : Target) → In u (targets layout (want ∷ [])) → IsSome (mirrors u.chunk)
+      one_is u i = subst (λ v. IsSome (mirrors v.chunk)) (one_target layout want t u e i) copies
+
+      each : (u : Target) → In u (targets layout (want ∷ [])) ⊎ In u (targets layout p.past) → IsSome (mirrors u.chunk)
+      each u (inl i) = one_is u i
+      each u (inr i) = (past_is u i).1
+
+-- ---- one more, with those that are judged with it
+
+module _ (layout : Layout) (held : Option Images) (table : IsTable layout.chunks) (past : List Want) (want : Want) (old new : List Want)
+    (first before after : Sifted)
+    (share : ShareNoRow layout past (want ∷ old)) (s : SiftsNext layout held want old new before after) where
+  abbrev mine : List Want
+  mine = want ∷ s.more
+
+  among : (want ∷ old) ≡ mine ++ new
+  among = ap (λ ws. want ∷ ws) s.split
+
+  parts : (xs ys : List Want) → targets layout (xs ++ ys) ≡ targets layout xs ++ targets layout ys
+  parts xs ys = filter_map-append (λ w. ok_or_none (sought layout w)) xs ys
+
+  share_mine : ShareNoRow layout past mine
+  share_mine t u i j = share t u i
+      (subst (λ ws. In u (targets layout ws)) (sym among) (subst (In u) (sym (parts mine new)) (in_left u (targets layout mine) (targets layout new) j)))
+
+  -- none that is left lies in a full stripe of those before
+  pub share_left : ShareNoRow layout (past ++ mine) new
+  share_left t u i j = by (in_either t (targets layout past) (targets layout mine) (subst (In t) (parts past mine) i))
+    where
+      by : In t (targets layout past) ⊎ In t (targets layout mine) → t.chunk ≡ u.chunk → mirrors t.chunk ≡ None → t.at.row ≢ u.at.row
+      by (inl k) = share t u k
+          (subst (λ ws. In u (targets layout ws)) (sym among) (subst (In u) (sym (parts mine new)) (in_right u (targets layout mine) (targets layout new) j)))
+      by (inr k) = s.rows t u k j
+
+  pub sifts_more : Sifts layout held past first before → Sifts layout held (past ++ mine) first after
+  sifts_more h = sifts_then layout held table past mine first before after share_mine h s.sifts

@@ -1,8 +1,9 @@
 -- Blocks that are left out, as nothing may have to be written for them, change neither the writes nor the counts.
-use Rattle.std.proofs.Common.{◌≡◌, ℕ, suc, ◌+◌, Bool, true, false, not, cond, ◌&&◌, ◌||◌, eqb, ltb, ◌/◌, List, [], ◌∷◌, ◌++◌, map, length, slice_get, Option, Some, None, is_none}
+use Rattle.std.proofs.Common.{◌≡◌, ◌⊎◌, ℕ, suc, ◌+◌, Bool, true, false, not, cond, ◌&&◌, ◌||◌, eqb, ltb, ◌/◌, List, [], ◌∷◌, ◌++◌, map, length, slice_get}
+use Rattle.std.proofs.Common.{Option, Some, None, is_none}
 use Rattle.std.proofs.Common.{Result, Ok, Err, refl, sym, ap, ◌∙◌, inl, inr, arith}
 use Rattle.std.proofs.Math.Path.{fun_ext}
-use Rattle.std.proofs.lemmas.Bool.{false≢true, and_parts, lt-ltb}
+use Rattle.std.proofs.lemmas.Bool.{false≢true, and_from, and_parts, eq-eqb, eqb-true, ltb-false}
 use Rattle.std.proofs.lemmas.List.Sums.{sum_by-cons}
 use Rattle.std.specs.List.{cons_option, count_by, filter, flat_map, fold, list_any, range_with_len, sum_by}
 use Rattle.std.specs.Option.{option_map_or}
@@ -16,9 +17,12 @@ use Rattle.btr_read.specs.Fate.{Fault, is_plain, sought}
 use Rattle.btr_read.specs.Layout.{Layout}
 use Rattle.btr_read.specs.declared.want.Want.{Want}
 use Rattle.btr_scrub_copies.specs.Blocks.{accepted, are_accepted, bad_parts, block_writes, copy_writes, is_good, is_lost, is_sound, own_parts}
-use Rattle.btr_scrub_copies.specs.Fresh.{Failing, fresh_writes, stale_parts}
+use Rattle.btr_scrub_copies.specs.Fresh.{Failing, flagged, fresh_writes, stale_parts}
 use Rattle.btr_scrub_copies.specs.Writes.{Images}
 use Rattle.btr_scrub_copies.proofs.Syncs.{passing_filter}
+use Rattle.btr_scrub_row.specs.Mending.{mended_row}
+use Rattle.btr_scrub_row.specs.Rows.{Row, parities, parity_writes, row_writes}
+use Rattle.btr_scrub_row.specs.declared.mended.MendedRow.{MendedRow}
 use Rattle.btr_scrub_row.specs.Wanted.{is_checked, is_lost_block, mending_writes, wrong_parts}
 use Rattle.btr_scrub.specs.Doubts.{fails_at, fails_on, failing, is_on}
 use Rattle.btr_scrub.specs.BlocksInRows.{In}
@@ -26,17 +30,20 @@ use Rattle.btr_scrub.specs.Judged.{has_behind, has_older}
 use Rattle.btr_scrub.specs.Order.{IsSought, targets}
 use Rattle.btr_scrub.specs.Repair.{is_in_chunk, is_in_row, ok_or_none, row_of, rows_in, stood}
 use Rattle.btr_scrub.specs.Scrubbing.{all_count_for, all_writes_for, chunk_writes_for, rows_count, rows_writes, sites_count, sites_writes}
-use Rattle.btr_scrub.specs.Sifting.{KeptCounts, KeptWrites, begun, is_needed, is_unsound, kept_of, left_out}
+use Rattle.btr_scrub.specs.Sifting.{KeptCounts, KeptWrites, begun, is_copy_needed, is_needed, is_row_needed, is_troubled, is_unsound, kept_of, left_out}
+use Rattle.btr_scrub.specs.Sifting.{needs, row_among}
 use Rattle.btr_scrub.proofs.AcrossChunks.{sum_same}
-use Rattle.btr_scrub.proofs.Blockwise.{of_targets}
+use Rattle.btr_scrub.proofs.Blockwise.{filter_none, of_targets}
 use Rattle.btr_scrub.proofs.Calm.{calm_chunk, none_fresh, none_stale}
+use Rattle.btr_scrub.proofs.CalmRows.{flat_none}
 use Rattle.btr_scrub.proofs.Doubting.{passes_plain}
-use Rattle.btr_scrub.proofs.Lists.{at_in}
+use Rattle.btr_scrub.proofs.Lists.{at_in, in_filter, none_in}
+use Rattle.btr_scrub.proofs.NextRow.{empty_writes}
 use Rattle.btr_scrub.proofs.Positions.{is_sought}
-use Rattle.btr_scrub.proofs.RowAgreeing.{flat_same}
+use Rattle.btr_scrub.proofs.RowAgreeing.{RowAlike, beside, checked_row, flat_same, row_writes_alike}
 use Rattle.btr_scrub.proofs.RowNumbers.{same_start}
-use Rattle.btr_scrub.proofs.Sums.{sum_filter}
-use Rattle.btr_scrub.proofs.Tallying.{counts_are, counts_of, lost_sum, parity_in, same_tally}
+use Rattle.btr_scrub.proofs.Sums.{sum_filter, sum_flat, sum_map, sum_zero}
+use Rattle.btr_scrub.proofs.Tallying.{counts_are, counts_of, lost_sum, parity_in, parity_none, same_tally}
 
 -- ---- lists of which some are left out
 
@@ -100,27 +107,28 @@ module _ {X : Type 0} (q : X → Bool) where
       first = sum_by-cons (λ y. cond (p y && not (q y)) 1 0) x xs
 
       by : (b c : Bool) → q x ≡ b → p x ≡ c → rest + length (filter p (filter q xs)) ≡ length (filter p xs)
-          → count_by (λ y. p y && not (q y)) (x ∷ xs) + length (filter p (cond b (x ∷ filter q xs) (filter q xs))) ≡ length (cond (p x) (x ∷ filter p xs) (filter p xs))
+          → count_by (λ y. p y && not (q y)) (x ∷ xs) + length (filter p (cond b (x ∷ filter q xs) (filter q xs))) ≡ length
+          (cond (p x) (x ∷ filter p xs) (filter p xs))
       by true true e f h =
           let one : ◌≡◌ {A = ℕ} (cond (p x && not (q x)) 1 0) 0 = ap (λ b. cond (p x && not b) 1 0) e ∙ ap (λ b. cond (b && false) 1 0) f in
-          let left : length (cond (p x) (x ∷ filter p (filter q xs)) (filter p (filter q xs))) ≡ suc (length (filter p (filter q xs))) = ap (λ b. length (cond b (x ∷ filter p (filter q xs)) (filter p (filter q xs)))) f in
+          let left : length (cond (p x) (x ∷ filter p (filter q xs)) (filter p (filter q xs))) ≡ suc (length (filter p (filter q xs))) = ap
+          (λ b. length (cond b (x ∷ filter p (filter q xs)) (filter p (filter q xs)))) f in
           omega (arith, first, one, left, h) ∙ sym (ap (λ b. length (cond b (x ∷ filter p xs) (filter p xs))) f)
       by true false e f h =
           let one : ◌≡◌ {A = ℕ} (cond (p x && not (q x)) 1 0) 0 = ap (λ b. cond (p x && not b) 1 0) e ∙ ap (λ b. cond (b && false) 1 0) f in
-          let left : length (cond (p x) (x ∷ filter p (filter q xs)) (filter p (filter q xs))) ≡ length (filter p (filter q xs)) = ap (λ b. length (cond b (x ∷ filter p (filter q xs)) (filter p (filter q xs)))) f in
+          let left : length (cond (p x) (x ∷ filter p (filter q xs)) (filter p (filter q xs))) ≡ length (filter p (filter q xs)) = ap
+          (λ b. length (cond b (x ∷ filter p (filter q xs)) (filter p (filter q xs)))) f in
           omega (arith, first, one, left, h) ∙ sym (ap (λ b. length (cond b (x ∷ filter p xs) (filter p xs))) f)
       by false true e f h =
           let one : ◌≡◌ {A = ℕ} (cond (p x && not (q x)) 1 0) 1 = ap (λ b. cond (p x && not b) 1 0) e ∙ ap (λ b. cond (b && true) 1 0) f in
-          let all : suc (length (filter p xs)) ≡ length (cond (p x) (x ∷ filter p xs) (filter p xs)) = sym (ap (λ b. length (cond b (x ∷ filter p xs) (filter p xs))) f) in
+          let all : suc (length (filter p xs)) ≡ length (cond (p x) (x ∷ filter p xs) (filter p xs)) = sym
+          (ap (λ b. length (cond b (x ∷ filter p xs) (filter p xs))) f) in
           omega (arith, first, one, h) ∙ all
       by false false e f h =
           let one : ◌≡◌ {A = ℕ} (cond (p x && not (q x)) 1 0) 0 = ap (λ b. cond (p x && not b) 1 0) e ∙ ap (λ b. cond (b && true) 1 0) f in
-          let all : length (filter p xs) ≡ length (cond (p x) (x ∷ filter p xs) (filter p xs)) = sym (ap (λ b. length (cond b (x ∷ filter p xs) (filter p xs))) f) in
+          let all : length (filter p xs) ≡ length (cond (p x) (x ∷ filter p xs) (filter p xs)) = sym
+          (ap (λ b. length (cond b (x ∷ filter p xs) (filter p xs))) f) in
           omega (arith, first, one, h) ∙ all
-
-map_same : {X Y : Type 0} (f g : X → Y) (xs : List X) → ((x : X) → f x ≡ g x) → map f xs ≡ map g xs
-map_same f g [] h = refl
-map_same f g (x ∷ xs) h = ap (λ y. y ∷ map f xs) (h x) ∙ ap (λ ys. g x ∷ ys) (map_same f g xs h)
 
 -- no member of a list passes a test that none does
 none_left : {X : Type 0} (p : X → Bool) (xs : List X) → filter p xs ≡ [] → (x : X) → In x xs → p x ≡ false
@@ -136,33 +144,111 @@ both_false : (a b : Bool) → (a || b) ≡ false → (a ≡ false) × (b ≡ fal
 both_false true b e = absurd (false≢true (sym e))
 both_false false b e = (refl, e)
 
-no_length : {X : Type 0} (xs : List X) → ltb 0 (length xs) ≡ false → xs ≡ []
-no_length [] e = refl
-no_length (x ∷ xs) e = absurd (false≢true (sym e ∙ lt-ltb 0 (suc (length xs)) (omega arith)))
+-- ---- a full stripe in which nothing may have to be written
+
+zero_each : {X : Type 0} (f : X → ℕ) (xs : List X) → sum_by f xs ≡ 0 → (x : X) → In x xs → f x ≡ 0
+zero_each f [] e x i = absurd i
+zero_each f (y ∷ ys) e x (inl same) = ap f (sym same) ∙ omega (arith, e, sum_by-cons f y ys)
+zero_each f (y ∷ ys) e x (inr i) = zero_each f ys (omega (arith, e, sum_by-cons f y ys)) x i
+
+no_zero : (n : ℕ) → ltb 0 n ≡ false → n ≡ 0
+no_zero n e = omega (arith, ltb-false 0 n e)
+
+none_long : {X : Type 0} (xs : List X) → length xs ≡ 0 → xs ≡ []
+none_long [] e = refl
+none_long (x ∷ xs) e = absurd (omega (arith, e))
+
+none_one : (b : Bool) → ◌≡◌ {A = ℕ} (cond b 1 0) 0 → b ≡ false
+none_one true e = absurd (omega (arith, e))
+none_one false e = refl
+
+-- a block that isn't bad has nothing to write
+sound_block : (images : Images) (t : Target) (fails : Failing) → is_plain t.want ≡ false → bad_parts images t ≡ [] → mending_writes images fails t ≡ []
+sound_block images t fails checked sound = ap (λ b. cond b (fresh_writes images fails t) (block_writes images t)) checked
+    ∙ ap (λ ps. option_map_or (λ bytes. copy_writes t bytes ps) (accepted images t) []) sound ∙ by (accepted images t)
+  where
+    by : (o : Option (List ℕ)) → option_map_or (λ bytes. copy_writes t bytes []) o [] ≡ []
+    by None = refl
+    by (Some bytes) = refl
+
+module _ (images : Images) (layout : Layout) (row : Row) (out : is_row_needed images layout row ≡ false) where
+  abbrev mended : MendedRow
+  mended = mended_row images layout row false
+
+  parts : (list_any (λ (t : Target). is_plain t.want) row.blocks ≡ false) × (is_troubled mended ≡ false)
+  parts = both_false (list_any (λ (t : Target). is_plain t.want) row.blocks) (is_troubled mended) out
+
+  right : ((ltb 0 mended.bad || ltb 0 mended.lost) ≡ false) × (ltb 0 mended.parity ≡ false)
+  right = both_false (ltb 0 mended.bad || ltb 0 mended.lost) (ltb 0 mended.parity) parts.1
+
+  no_plain : (t : Target) → In t row.blocks → is_plain t.want ≡ false
+  no_plain t i = none_in (λ (t : Target). is_plain t.want) row.blocks t parts.0 i
+
+  row_sound : (t : Target) → In t row.blocks → (bad_parts images t ≡ []) × (is_lost images t ≡ false)
+  row_sound t i =
+      let both = both_false (ltb 0 mended.bad) (ltb 0 mended.lost) right.0 in
+      let bad = zero_each (λ (t : Target). length (wrong_parts images row.failing t)) row.blocks (no_zero mended.bad both.0) t i in
+      let lost = zero_each (λ (t : Target). cond (is_lost_block images t) 1 0) row.blocks (no_zero mended.lost both.1) t i in (
+        sym (ap (λ b. cond b (stale_parts images row.failing t) (bad_parts images t)) (no_plain t i)) ∙ none_long (wrong_parts images row.failing t) bad,
+        sym (ap (λ b. not b && is_lost images t) (no_plain t i)) ∙ none_one (is_lost_block images t) lost,
+      )
+
+  no_parity : (q : Part) → In q (parities row.chunk.profile) → parity_writes images layout row q ≡ []
+  no_parity q i = none_long (parity_writes images layout row q)
+      (zero_each (λ q. length (parity_writes images layout row q)) (parities row.chunk.profile) (no_zero mended.parity right.1) q i)
+
+  -- nothing is written in it, and no parity counted, whatever images fail
+  module _ (also : Failing) (none : mirrors row.chunk ≡ None) where
+    alike : RowAlike images images layout row also
+    alike = checked_row images layout row also none no_plain
+
+    quiet_writes : row_writes images layout (beside also row) ≡ []
+    quiet_writes =
+        row_writes_alike images images layout row also alike
+        ∙ ap (λ ws. ws ++ flat_map (parity_writes images layout row) (parities row.chunk.profile))
+        (flat_none (mending_writes images row.failing) row.blocks (λ t i. sound_block images t row.failing (no_plain t i) (row_sound t i).0))
+        ∙ flat_none (parity_writes images layout row) (parities row.chunk.profile) no_parity
+
+    quiet_parity : sum_by (λ q. length (parity_writes images layout (beside also row) q)) (parities row.chunk.profile) ≡ 0
+    quiet_parity = sum_zero (λ q. length (parity_writes images layout (beside also row) q)) (parities row.chunk.profile)
+        (λ q i. ap length (alike.parities q i ∙ no_parity q i))
 
 -- ---- one that is left out
 
-module _ (images : Images) (layout : Layout) (table : IsTable layout.chunks) (t : Target) (is : IsSought layout t) (out : is_needed images layout t ≡ false) where
-  copied : (n : ℕ) × (mirrors t.chunk ≡ Some n)
-  copied = by (mirrors t.chunk) (both_false (is_none (mirrors t.chunk)) (cond (is_plain t.want) (has_older layout.devices t.chunk) (is_unsound images t)) out).0
-    where
-      by : (o : Option ℕ) → is_none o ≡ false → (n : ℕ) × (o ≡ Some n)
-      by None e = absurd (false≢true (sym e))
-      by (Some n) e = (n, refl)
+module _ (images : Images) (layout : Layout) (table : IsTable layout.chunks) (ts : List Target) (t : Target) (i : In t ts) (is : IsSought layout t) (
+    out : is_needed images layout ts t ≡ false) where
+  -- with copies
+  copied_out : (n : ℕ) → mirrors t.chunk ≡ Some n → is_copy_needed images layout t ≡ false
+  copied_out n e = sym (ap (λ o. cond (is_none o) (is_row_needed images layout (row_among ts t)) (is_copy_needed images layout t)) e) ∙ out
 
-  rest_out : cond (is_plain t.want) (has_older layout.devices t.chunk) (is_unsound images t) ≡ false
-  rest_out = (both_false (is_none (mirrors t.chunk)) (cond (is_plain t.want) (has_older layout.devices t.chunk) (is_unsound images t)) out).1
+  -- with parity
+  module _ (parity : mirrors t.chunk ≡ None) where
+    row_out : is_row_needed images layout (row_among ts t) ≡ false
+    row_out = sym (ap (λ o. cond (is_none o) (is_row_needed images layout (row_among ts t)) (is_copy_needed images layout t)) parity) ∙ out
 
-  -- a plain sector in a chunk without an older image
+    in_own : In t (row_among ts t).blocks
+    in_own = in_filter (is_in_row t.chunk t.at.row) t ts i
+        (and_from (is_in_chunk t.chunk t) (eqb t.at.row t.at.row) (eq-eqb t.chunk.start t.chunk.start refl) (eq-eqb t.at.row t.at.row refl))
+
+  -- a plain sector lies in a chunk with copies without an older image
   module _ (bare : is_plain t.want ≡ true) where
+    copied : (n : ℕ) × (mirrors t.chunk ≡ Some n) × (has_older layout.devices t.chunk ≡ false)
+    copied = by (mirrors t.chunk) refl
+      where
+        by : (o : Option ℕ) → mirrors t.chunk ≡ o → (n : ℕ) × (mirrors t.chunk ≡ Some n) × (has_older layout.devices t.chunk ≡ false)
+        by None e = absurd (false≢true (sym (no_plain images layout (row_among ts t) (row_out e) t (in_own e)) ∙ bare))
+        by (Some n) e = (n, e, sym (ap (λ b. cond b (has_older layout.devices t.chunk) (is_unsound images t)) bare) ∙ copied_out n e)
+
     calm : (fails : Failing) → has_behind layout.devices fails t.chunk ≡ false
-    calm fails = calm_chunk fails layout.devices t.chunk (sym (ap (λ b. cond b (has_older layout.devices t.chunk) (is_unsound images t)) bare) ∙ rest_out)
+    calm fails = calm_chunk fails layout.devices t.chunk copied.2
 
     plain_writes : (fails : Failing) → mending_writes images fails t ≡ []
-    plain_writes fails = ap (λ b. cond b (fresh_writes images fails t) (block_writes images t)) bare ∙ none_fresh fails layout t copied.0 table is copied.1 (calm fails) images
+    plain_writes fails = ap (λ b. cond b (fresh_writes images fails t) (block_writes images t)) bare ∙ none_fresh fails layout t copied.0 table is copied.1
+        (calm fails) images
 
     plain_wrong : (fails : Failing) → wrong_parts images fails t ≡ []
-    plain_wrong fails = ap (λ b. cond b (stale_parts images fails t) (bad_parts images t)) bare ∙ none_stale fails layout t copied.0 table is copied.1 (calm fails) images
+    plain_wrong fails = ap (λ b. cond b (stale_parts images fails t) (bad_parts images t)) bare ∙ none_stale fails layout t copied.0 table is copied.1
+        (calm fails) images
 
     plain_good : (slot : ℕ) (part : Part) → fails_at images t slot part ≡ false
     plain_good slot part = ap (λ b. is_on t slot part && not b) (passes_plain t.setting t.want (element images t part) bare) ∙ by (is_on t slot part)
@@ -174,18 +260,14 @@ module _ (images : Images) (layout : Layout) (table : IsTable layout.chunks) (t 
   -- a sound block
   module _ (checked : is_plain t.want ≡ false) where
     sound : (bad_parts images t ≡ []) × (is_lost images t ≡ false)
-    sound =
-        let both = both_false (ltb 0 (length (bad_parts images t))) (is_lost images t)
-        (sym (ap (λ b. cond b (has_older layout.devices t.chunk) (is_unsound images t)) checked) ∙ rest_out) in
-        (no_length (bad_parts images t) both.0, both.1)
-
-    sound_writes : (fails : Failing) → mending_writes images fails t ≡ []
-    sound_writes fails = ap (λ b. cond b (fresh_writes images fails t) (block_writes images t)) checked
-        ∙ ap (λ ps. option_map_or (λ bytes. copy_writes t bytes ps) (accepted images t) []) sound.0 ∙ by (accepted images t)
+    sound = by (mirrors t.chunk) refl
       where
-        by : (o : Option (List ℕ)) → option_map_or (λ bytes. copy_writes t bytes []) o [] ≡ []
-        by None = refl
-        by (Some bytes) = refl
+        by : (o : Option ℕ) → mirrors t.chunk ≡ o → (bad_parts images t ≡ []) × (is_lost images t ≡ false)
+        by None e = row_sound images layout (row_among ts t) (row_out e) t (in_own e)
+        by (Some n) e =
+            let both = both_false (ltb 0 (length (bad_parts images t))) (is_lost images t)
+            (sym (ap (λ b. cond b (has_older layout.devices t.chunk) (is_unsound images t)) checked) ∙ copied_out n e) in
+            (none_long (bad_parts images t) (no_zero (length (bad_parts images t)) both.0), both.1)
 
     sound_wrong : (fails : Failing) → wrong_parts images fails t ≡ []
     sound_wrong fails = ap (λ b. cond b (stale_parts images fails t) (bad_parts images t)) checked ∙ sound.0
@@ -214,7 +296,7 @@ module _ (images : Images) (layout : Layout) (table : IsTable layout.chunks) (t 
     where
       by : (b : Bool) → is_plain t.want ≡ b → mending_writes images fails t ≡ []
       by true e = plain_writes e fails
-      by false e = sound_writes e fails
+      by false e = sound_block images t fails e (sound e).0
 
   out_wrong : (fails : Failing) → wrong_parts images fails t ≡ []
   out_wrong fails = by (is_plain t.want) refl
@@ -243,30 +325,37 @@ module _ (images : Images) (layout : Layout) (table : IsTable layout.chunks) (t 
 
 -- ---- all
 
+flat_mapped : {X Y Z : Type 0} (f : Y → List Z) (g h : X → Y) (xs : List X) → ((x : X) → f (g x) ≡ f (h x)) → flat_map f (map g xs) ≡ flat_map f (map h xs)
+flat_mapped f g h [] e = refl
+flat_mapped f g h (x ∷ xs) e = ap (λ zs. zs ++ flat_map f (map g xs)) (e x) ∙ ap (λ zs. f (h x) ++ zs) (flat_mapped f g h xs e)
+
 module _ (images : Images) (layout : Layout) (table : IsTable layout.chunks) (wants : List Want) where
   abbrev ts : List Target
   ts = targets layout wants
 
+  abbrev needed : Target → Bool
+  needed = is_needed images layout ts
+
   abbrev us : List Target
-  us = filter (is_needed images layout) ts
+  us = filter needed ts
 
   placed : (t : Target) → In t ts → IsSought layout t
   placed t i = let w = of_targets layout t wants i in is_sought layout w.0 t w.2
 
-  targets_kept : (ws : List Want) → targets layout (kept_of images layout ws) ≡ filter (is_needed images layout) (targets layout ws)
+  targets_kept : (ws : List Want) → targets layout (filter (needs images layout ts) ws) ≡ filter needed (targets layout ws)
   targets_kept [] = refl
   targets_kept (w ∷ ws) = by (sought layout w) refl (targets_kept ws)
     where
       ks : List Want
-      ks = kept_of images layout ws
+      ks = filter (needs images layout ts) ws
 
-      by : (r : Result Target Fault) → sought layout w ≡ r → targets layout ks ≡ filter (is_needed images layout) (targets layout ws)
-          → targets layout (cond (option_map_or (is_needed images layout) (ok_or_none r) true) (w ∷ ks) ks)
-          ≡ filter (is_needed images layout) (cons_option (ok_or_none r) (targets layout ws))
+      by : (r : Result Target Fault) → sought layout w ≡ r → targets layout ks ≡ filter needed (targets layout ws)
+          → targets layout (cond (option_map_or needed (ok_or_none r) true) (w ∷ ks) ks)
+          ≡ filter needed (cons_option (ok_or_none r) (targets layout ws))
       by (Err f) e rest = ap (λ r. cons_option (ok_or_none r) (targets layout ks)) e ∙ rest
-      by (Ok t) e rest = of (is_needed images layout t)
+      by (Ok t) e rest = of (needed t)
         where
-          of : (b : Bool) → targets layout (cond b (w ∷ ks) ks) ≡ cond b (t ∷ filter (is_needed images layout) (targets layout ws)) (filter (is_needed images layout) (targets layout ws))
+          of : (b : Bool) → targets layout (cond b (w ∷ ks) ks) ≡ cond b (t ∷ filter needed (targets layout ws)) (filter needed (targets layout ws))
           of true = ap (λ r. cons_option (ok_or_none r) (targets layout ks)) e ∙ ap (λ us. t ∷ us) rest
           of false = rest
 
@@ -278,65 +367,130 @@ module _ (images : Images) (layout : Layout) (table : IsTable layout.chunks) (wa
 
   -- the same images fail
   same_failing : failing images us ≡ failing images ts
-  same_failing = fun_ext (λ slot. any_both (is_needed images layout) (fails_on images slot) ts (λ t i e. out_good images layout table t (placed t i) e slot))
+  same_failing = fun_ext (λ slot. any_both needed (fails_on images slot) ts (λ t i e. out_good images layout table ts t i (placed t i) e slot))
 
   module _ (fails : Failing) where
-    same_rows : (chunk : Chunk) → In chunk layout.chunks → rows_in fails us chunk ≡ rows_in fails ts chunk
-    same_rows chunk i = by (mirrors chunk) refl
-      where
-        by : (o : Option ℕ) → mirrors chunk ≡ o
-            → cond (is_none o) (map (row_of fails us chunk) (range_with_len 0 (stripe_length chunk / 65536))) []
-            ≡ cond (is_none o) (map (row_of fails ts chunk) (range_with_len 0 (stripe_length chunk / 65536))) []
-        by (Some n) e = refl
-        by None parity = map_same (row_of fails us chunk) (row_of fails ts chunk) (range_with_len 0 (stripe_length chunk / 65536))
-            (λ k. ap (λ bs. record { chunk = chunk; number = k; blocks = bs; failing = fails })
-            (filter_both (is_needed images layout) (is_in_row chunk k) ts (λ t j e. in_row t (placed t j) k e)))
-          where
-            there : (number : ℕ) × (slice_get layout.chunks number ≡ Some chunk)
-            there = at_in chunk layout.chunks i
+    -- a full stripe has the same blocks, or none and nothing comes of it
+    module _ (chunk : Chunk) (i : In chunk layout.chunks) (parity : mirrors chunk ≡ None) (k : ℕ) where
+      there : (number : ℕ) × (slice_get layout.chunks number ≡ Some chunk)
+      there = at_in chunk layout.chunks i
 
-            in_row : (t : Target) → IsSought layout t → (k : ℕ) → is_in_row chunk k t ≡ true → is_needed images layout t ≡ true
-            in_row t is k e =
-                let mine = same_start layout table there.0 chunk there.1 parity t is (and_parts (is_in_chunk chunk t) (eqb t.at.row k) e).0 in
-                ap (λ o. is_none o || cond (is_plain t.want) (has_older layout.devices t.chunk) (is_unsound images t)) (ap mirrors mine ∙ parity)
+      as_row : (t : Target) → In t ts → is_in_row chunk k t ≡ true → needed t ≡ is_row_needed images layout (row_of (flagged []) ts chunk k)
+      as_row t j e =
+          let both = and_parts (is_in_chunk chunk t) (eqb t.at.row k) e in
+          let mine = same_start layout table there.0 chunk there.1 parity t (placed t j) both.0 in
+          ap (λ c. cond (is_none (mirrors c)) (is_row_needed images layout (row_of (flagged []) ts c t.at.row)) (is_copy_needed images layout t)) mine
+          ∙ ap (λ n. cond (is_none (mirrors chunk)) (is_row_needed images layout (row_of (flagged []) ts chunk n)) (is_copy_needed images layout t))
+          (eqb-true t.at.row k both.1)
+          ∙ ap (λ o. cond (is_none o) (is_row_needed images layout (row_of (flagged []) ts chunk k)) (is_copy_needed images layout t)) parity
+
+      same_or_none : (filter (is_in_row chunk k) us ≡ filter (is_in_row chunk k) ts)
+          ⊎ ((filter (is_in_row chunk k) us ≡ []) × (is_row_needed images layout (row_of (flagged []) ts chunk k) ≡ false))
+      same_or_none = by (is_row_needed images layout (row_of (flagged []) ts chunk k)) refl
+        where
+          none : (t : Target) → needed t ≡ true → (b : Bool) → is_in_row chunk k t ≡ b → (b ≡ true → needed t ≡ false) → b ≡ false
+          none t is true e out = absurd (false≢true (sym (out refl) ∙ is))
+          none t is false e out = refl
+
+          by : (b : Bool) → is_row_needed images layout (row_of (flagged []) ts chunk k) ≡ b
+              → (filter (is_in_row chunk k) us ≡ filter (is_in_row chunk k) ts)
+              ⊎ ((filter (is_in_row chunk k) us ≡ []) × (is_row_needed images layout (row_of (flagged []) ts chunk k) ≡ false))
+          by true e = inl (filter_both needed (is_in_row chunk k) ts (λ t j in_it. as_row t j in_it ∙ e))
+          by false e = inr (
+            filter_none (is_in_row chunk k) us (λ t j.
+                let p = passing_filter needed t ts j in
+                none t p.1 (is_in_row chunk k t) refl (λ in_it. as_row t p.0 in_it ∙ e)),
+            e,
+          )
+
+      same_row : {X : Type 0} (of : Row → X) (nothing : X)
+          → ((row : Row) → row.blocks ≡ [] → of row ≡ nothing)
+          → (is_row_needed images layout (row_of (flagged []) ts chunk k) ≡ false → of (row_of fails ts chunk k) ≡ nothing)
+          → of (row_of fails us chunk k) ≡ of (row_of fails ts chunk k)
+      same_row of nothing empty quiet = elim same_or_none [
+        | inl same ↦ ap (λ bs. of (record { chunk = chunk; number = k; blocks = bs; failing = fails })) same
+        | inr none ↦ empty (row_of fails us chunk k) none.0 ∙ sym (quiet none.1)
+      ]
+
+      row_written : row_writes images layout (row_of fails us chunk k) ≡ row_writes images layout (row_of fails ts chunk k)
+      row_written = same_row (row_writes images layout) [] (λ row e. empty_writes images layout row e)
+          (λ out. quiet_writes images layout (row_of (flagged []) ts chunk k) out fails parity)
+
+      abbrev parity_of : Row → ℕ
+      parity_of r = sum_by (λ q. length (parity_writes images layout r q)) (parities r.chunk.profile)
+
+      row_parity : (write : Bool) → parity_of (row_of fails us chunk k) ≡ parity_of (row_of fails ts chunk k)
+      row_parity write = same_row parity_of 0 (parity_none fails images layout write us)
+          (λ out. quiet_parity images layout (row_of (flagged []) ts chunk k) out fails parity)
 
     same_writes : (chunk : Chunk) → In chunk layout.chunks → chunk_writes_for fails layout chunk ks images ≡ chunk_writes_for fails layout chunk wants images
     same_writes chunk i =
-        ap (λ vs. cond (is_none (mirrors chunk)) (rows_writes layout (rows_in fails vs chunk) images) (sites_writes fails (filter (is_in_chunk chunk) vs) images)) kept_are
-        ∙ ap (λ rs. cond (is_none (mirrors chunk)) (rows_writes layout rs images) (sites_writes fails (filter (is_in_chunk chunk) us) images)) (same_rows chunk i)
+        ap (λ vs. cond (is_none (mirrors chunk)) (rows_writes layout (rows_in fails vs chunk) images)
+        (sites_writes fails (filter (is_in_chunk chunk) vs) images)) kept_are
+        ∙ ap (λ ws. cond (is_none (mirrors chunk)) ws (sites_writes fails (filter (is_in_chunk chunk) us) images)) (by (mirrors chunk) refl)
         ∙ ap (λ ws. cond (is_none (mirrors chunk)) (rows_writes layout (rows_in fails ts chunk) images) ws)
-        (flat_both (is_needed images layout) (mending_writes images fails) (is_in_chunk chunk) ts (λ t i e. out_writes images layout table t (placed t i) e fails))
+        (flat_both needed (mending_writes images fails) (is_in_chunk chunk) ts (λ t i e. out_writes images layout table ts t i (placed t i) e fails))
+      where
+        n : List ℕ
+        n = range_with_len 0 (stripe_length chunk / 65536)
+
+        by : (o : Option ℕ) → mirrors chunk ≡ o
+            → rows_writes layout (cond (is_none o) (map (row_of fails us chunk) n) []) images ≡ rows_writes layout
+            (cond (is_none o) (map (row_of fails ts chunk) n) []) images
+        by None e = flat_mapped (row_writes images layout) (row_of fails us chunk) (row_of fails ts chunk) n (row_written chunk i e)
+        by (Some m) e = refl
 
     all_writes : all_writes_for fails layout layout.chunks ks images ≡ all_writes_for fails layout layout.chunks wants images
-    all_writes = flat_same (λ chunk. chunk_writes_for fails layout chunk ks images) (λ chunk. chunk_writes_for fails layout chunk wants images) layout.chunks same_writes
+    all_writes = flat_same (λ chunk. chunk_writes_for fails layout chunk ks images)
+        (λ chunk. chunk_writes_for fails layout chunk wants images) layout.chunks same_writes
 
     module _ (write : Bool) (unchecked : ℕ) where
       abbrev left : ℕ
       left = left_out images layout wants
+
+      abbrev parity_counted : Row → ℕ
+      parity_counted = parity_in fails images layout write us
+
+      parity_same : sum_by parity_counted (flat_map (rows_in fails us) layout.chunks) ≡ sum_by parity_counted (flat_map (rows_in fails ts) layout.chunks)
+      parity_same =
+          sum_flat parity_counted (rows_in fails us) layout.chunks
+          ∙ sum_same (λ chunk. sum_by parity_counted (rows_in fails us chunk)) (λ chunk. sum_by parity_counted (rows_in fails ts chunk)) layout.chunks
+          (λ chunk i. by chunk i (mirrors chunk) refl)
+          ∙ sym (sum_flat parity_counted (rows_in fails ts) layout.chunks)
+        where
+          by : (chunk : Chunk) → In chunk layout.chunks → (o : Option ℕ) → mirrors chunk ≡ o
+              → sum_by parity_counted (cond (is_none o) (map (row_of fails us chunk) (range_with_len 0 (stripe_length chunk / 65536))) [])
+              ≡ sum_by parity_counted (cond (is_none o) (map (row_of fails ts chunk) (range_with_len 0 (stripe_length chunk / 65536))) [])
+          by chunk i None e =
+              let n = range_with_len 0 (stripe_length chunk / 65536) in
+              sum_map parity_counted (row_of fails us chunk) n
+              ∙ sum_same (λ k. parity_counted (row_of fails us chunk k)) (λ k. parity_counted (row_of fails ts chunk k)) n (λ k j. row_parity chunk i e k write)
+              ∙ sym (sum_map parity_counted (row_of fails ts chunk) n)
+          by chunk i (Some m) e = refl
 
       all_counts : all_count_for fails layout write layout.chunks ks images (begun (stood left) (stood unchecked))
           ≡ all_count_for fails layout write layout.chunks wants images (begun (stood 0) (stood unchecked))
       all_counts =
           ap (λ vs. fold (λ tally chunk. cond (is_none (mirrors chunk)) (rows_count layout write (rows_in fails vs chunk) images tally)
           (sites_count fails write (filter (is_in_chunk chunk) vs) images tally)) (begun (stood left) (stood unchecked)) layout.chunks) kept_are
-          ∙ counts_are fails images layout write us table (λ t i. placed t (passing_filter (is_needed images layout) t ts i).0) left unchecked
-          ∙ same_tally (counts_of fails images layout write us table (λ t i. placed t (passing_filter (is_needed images layout) t ts i).0) left unchecked)
+          ∙ counts_are fails images layout write us table (λ t i. placed t (passing_filter needed t ts i).0) left unchecked
+          ∙ same_tally (counts_of fails images layout write us table (λ t i. placed t (passing_filter needed t ts i).0) left unchecked)
           (counts_of fails images layout write ts table placed 0 unchecked)
-          (ap stood (length_both (is_needed images layout) is_checked ts ∙ omega arith))
-          (ap stood (sum_both (is_needed images layout) (λ t. length (wrong_parts images fails t)) ts
-          (λ t i e. ap length (out_wrong images layout table t (placed t i) e fails))))
-          (ap (λ n. stood (cond write n 0)) (sum_both (is_needed images layout) (λ t. length (mending_writes images fails t)) ts
-          (λ t i e. ap length (out_writes images layout table t (placed t i) e fails))))
+          (ap stood (length_both needed is_checked ts ∙ omega arith))
+          (ap stood (sum_both needed (λ t. length (wrong_parts images fails t)) ts
+          (λ t i e. ap length (out_wrong images layout table ts t i (placed t i) e fails))))
+          (ap (λ n. stood (cond write n 0)) (sum_both needed (λ t. length (mending_writes images fails t)) ts
+          (λ t i e. ap length (out_writes images layout table ts t i (placed t i) e fails))))
           (ap stood lost_same)
-          (ap stood (ap (sum_by (parity_in fails images layout write us)) (flat_same (rows_in fails us) (rows_in fails ts) layout.chunks same_rows)))
+          (ap stood parity_same)
           refl
           ∙ sym (counts_are fails images layout write ts table placed 0 unchecked)
         where
           lost_same : count_by (is_lost images) (filter is_checked us) ≡ count_by (is_lost images) (filter is_checked ts)
           lost_same =
-              sym (lost_sum fails images layout write us table (λ t i. placed t (passing_filter (is_needed images layout) t ts i).0))
-              ∙ sum_both (is_needed images layout) (λ t. cond (is_lost_block images t) 1 0) ts
-              (λ t i e. ap (λ b. cond b 1 0) (out_lost images layout table t (placed t i) e))
+              sym (lost_sum fails images layout write us table (λ t i. placed t (passing_filter needed t ts i).0))
+              ∙ sum_both needed (λ t. cond (is_lost_block images t) 1 0) ts
+              (λ t i e. ap (λ b. cond b 1 0) (out_lost images layout table ts t i (placed t i) e))
               ∙ lost_sum fails images layout write ts table placed
 
 pub kept_writes : KeptWrites
@@ -347,6 +501,7 @@ kept_writes images layout wants table =
 
 pub kept_counts : KeptCounts
 kept_counts images layout write wants unchecked table =
-    ap (λ fails. all_count_for fails layout write layout.chunks (kept_of images layout wants) images (begun (stood (left_out images layout wants)) (stood unchecked)))
+    ap (λ fails. all_count_for fails layout write layout.chunks (kept_of images layout wants) images
+    (begun (stood (left_out images layout wants)) (stood unchecked)))
     (ap (failing images) (kept_are images layout table wants) ∙ same_failing images layout table wants)
     ∙ all_counts images layout table wants (failing images (targets layout wants)) write unchecked

@@ -1,5 +1,6 @@
 -- The counts of a list of all blocks are the tally of the repair.
-use Rattle.std.proofs.Common.{◌≡◌, ◌≢◌, ℕ, zero, suc, ◌+◌, ◌/◌, ◌<◌, Bool, true, false, not, cond, ◌&&◌, eqb, List, [], ◌∷◌, map, length, slice_get, Option, Some}
+use Rattle.std.proofs.Common.{◌≡◌, ◌≢◌, ℕ, zero, suc, ◌+◌, ◌/◌, ◌<◌, Bool, true, false, not, cond, ◌&&◌, eqb, List, [], ◌∷◌, map, length, slice_get, Option}
+use Rattle.std.proofs.Common.{Some}
 use Rattle.std.proofs.Common.{None, is_none, refl, sym, ap, ◌∙◌, subst, inl, inr, arith}
 use Rattle.std.proofs.lemmas.Bool.{cases_order, eq-eqb, eqb-true, and_from}
 use Rattle.std.proofs.lemmas.List.FromFn.{length-range_with_len}
@@ -57,7 +58,8 @@ rises get step f (x ∷ xs) t n h e =
 
 pub same_tally : (a b : Tally) → a.blocks ≡ b.blocks → a.bad ≡ b.bad → a.repaired ≡ b.repaired → a.lost ≡ b.lost → a.parity ≡ b.parity → a.unchecked
     ≡ b.unchecked → a ≡ b
-same_tally a b blocks bad repaired lost parity unchecked = λ i. record { blocks = blocks i; bad = bad i; repaired = repaired i; lost = lost i; parity = parity i; unchecked = unchecked i }
+same_tally a b blocks bad repaired lost parity unchecked =
+    λ i. record { blocks = blocks i; bad = bad i; repaired = repaired i; lost = lost i; parity = parity i; unchecked = unchecked i }
 
 module _ (kept : Failing) (images : Images) (layout : Layout) (write : Bool) (ts : List Target) where
   -- a count, and what a block and a full stripe add to it
@@ -77,7 +79,8 @@ module _ (kept : Failing) (images : Images) (layout : Layout) (write : Bool) (ts
       ≡ stood m → get (count_chunk u chunk) ≡ stood (m + of_chunk of_block of_row chunk)
   chunk_adds get of_block of_row adds chunk u m e = by (is_none (mirrors chunk))
     where
-      by : (b : Bool) → get (cond b (rows_count layout write (rows_in kept ts chunk) images u) (sites_count kept write (filter (is_in_chunk chunk) ts) images u))
+      by : (b : Bool) → get
+          (cond b (rows_count layout write (rows_in kept ts chunk) images u) (sites_count kept write (filter (is_in_chunk chunk) ts) images u))
           ≡ stood (m + cond b (sum_by of_row (rows_in kept ts chunk)) (sum_by of_block (filter (is_in_chunk chunk) ts)))
       by true = rises get (count_row images layout write) of_row (rows_in kept ts chunk) u m (λ r i v k e. adds.row v k r e) e
       by false = rises get (count_site kept images write) of_block (filter (is_in_chunk chunk) ts) u m (λ t i v k e. adds.block v k t e) e
@@ -179,8 +182,9 @@ module _ (kept : Failing) (images : Images) (layout : Layout) (write : Bool) (ts
   abbrev pub parity_in : Row → ℕ
   parity_in r = sum_by (λ part. length (parity_writes images layout r part)) (parities r.chunk.profile)
 
-  parity_none : (r : Row) → r.blocks ≡ [] → parity_in r ≡ 0
-  parity_none r is = sum_zero (λ part. length (parity_writes images layout r part)) (parities r.chunk.profile) (λ q i. ap (λ bs. length (parity_writes images layout (record { chunk = r.chunk; number = r.number; blocks = bs; failing = r.failing }) q)) is)
+  pub parity_none : (r : Row) → r.blocks ≡ [] → parity_in r ≡ 0
+  parity_none r is = sum_zero (λ part. length (parity_writes images layout r part)) (parities r.chunk.profile)
+      (λ q i. ap (λ bs. length (parity_writes images layout (record { chunk = r.chunk; number = r.number; blocks = bs; failing = r.failing }) q)) is)
 
   parity_add : Adds (λ (t : Tally). t.parity) (λ t. 0) parity_in
   parity_add = record {
@@ -269,7 +273,8 @@ module _ (kept : Failing) (images : Images) (layout : Layout) (write : Bool) (ts
             below : t.at.row < n
             below =
                 let fits = row_fits layout table number chunk there parity (addr_of t.want) (subst (λ c. holds c (addr_of t.want) ≡ true) mine is.held) in
-                let row : t.at.row ≡ (position chunk (addr_of t.want)).row = ap (λ (x : Elements). x.row) is.at ∙ ap (λ c. (position c (addr_of t.want)).row) mine in
+                let row : t.at.row ≡ (position chunk (addr_of t.want)).row = ap (λ (x : Elements). x.row) is.at ∙ ap
+                (λ c. (position c (addr_of t.want)).row) mine in
                 omega (arith, fits, row)
 
             there_is : slice_get (range_with_len 0 n) t.at.row ≡ Some t.at.row
@@ -372,7 +377,8 @@ unchecked_among [] n = ap stood (omega arith)
 unchecked_among (Checked want ∷ ms) n = unchecked_among ms n
     ∙ ap (λ k. stood (n + k)) (sym (sum_by-cons (λ m. cond (is_unchecked m) 1 0) (Checked want) ms ∙ omega arith))
 unchecked_among (Unchecked addr ∷ ms) n =
-    let whole : n + 1 + count_by is_unchecked ms ≡ n + count_by is_unchecked (Unchecked addr ∷ ms) = omega (arith, sum_by-cons (λ m. cond (is_unchecked m) 1 0) (Unchecked addr) ms) in
+    let whole : n + 1 + count_by is_unchecked ms ≡ n + count_by is_unchecked (Unchecked addr ∷ ms) = omega
+    (arith, sum_by-cons (λ m. cond (is_unchecked m) 1 0) (Unchecked addr) ms) in
     ap (λ k. fold count_met k ms) (stood_add n 1) ∙ unchecked_among ms (n + 1) ∙ ap stood whole
 
 pub listed_counts : ListedCounts
@@ -381,7 +387,16 @@ listed_counts images fs write table =
     ∙ ap (λ n. all_count_for kept layout write layout.chunks wants images (first_tally n)) (unchecked_among ms 0 ∙ ap stood whole)
     ∙ ap (λ ts. fold (count_chunk kept images layout write ts) (first_tally (stood unchecked)) layout.chunks) (targets_met layout ms)
     ∙ counts_are kept images layout write us table placed 0 unchecked
-    ∙ ap (λ n. record { blocks = stood n; bad = stood (sum_by (wrong kept images layout write us kept) us); repaired = stood (cond write (sum_by (λ t. length (mending_writes images kept t)) us) 0); lost = stood (count_by (is_lost images) (filter is_checked us)); parity = stood (sum_by (parity_in kept images layout write us) (flat_map (rows_in kept us) layout.chunks)); unchecked = stood unchecked }) none_more
+    ∙ ap (λ n. record {
+      blocks = stood n;
+      bad = stood (sum_by (wrong kept images layout write us kept) us);
+      repaired = stood
+          (cond write (sum_by (λ t. length (mending_writes images kept t)) us) 0);
+      lost = stood (count_by (is_lost images) (filter is_checked us));
+      parity =
+          stood (sum_by (parity_in kept images layout write us) (flat_map (rows_in kept us) layout.chunks));
+      unchecked = stood unchecked;
+    }) none_more
   where
     kept : Failing
     kept = failed images fs

@@ -43,7 +43,7 @@ use Rattle.btr_items.specs.declared.extent_item.ExtentItem.{ExtentItem}
 use Rattle.btr_items.specs.declared.fault.ItemFault.{ItemFault}
 use Rattle.btr_volume.specs.Tree.{key, last, tree_of}
 use Rattle.btr_scrub.proofs.Placed.{placed, sector_fits}
-use Rattle.btr_scrub.proofs.Ends.{Ends, Yields, each_ends, ends_as, ends_bind, ends_looks, holds_of}
+use Rattle.btr_scrub.proofs.Ends.{Ends, Holds, Yields, each_ends, ends_as, ends_bind, ends_looks, holds_of}
 
 module _ (lo hi : Key) where
   abbrev pub Within : TreeItem → Type 0
@@ -126,7 +126,8 @@ left_true : (a b : Bool) → a ≡ true → (a && b) ≡ false → b ≡ false
 left_true true b e f = f
 left_true false b e f = absurd (false≢true e)
 
-module _ (s : Super) (layout : Layout) (table : IsTable layout.chunks) (node : s.nodesize ≡ layout.setting.nodesize) (some : 0 < s.nodesize) (B : Map) (sums : Option TreeRoot) (number : ℕ) (chunk : Chunk) (there : slice_get layout.chunks number ≡ Some chunk) where
+module _ (s : Super) (layout : Layout) (table : IsTable layout.chunks) (node : s.nodesize ≡ layout.setting.nodesize) (some : 0 < s.nodesize) (B : Map)
+    (sums : Option TreeRoot) (number : ℕ) (chunk : Chunk) (there : slice_get layout.chunks number ≡ Some chunk) where
   f : Facts chunk
   f = facts chunk (table.sound number chunk there).0
 
@@ -264,8 +265,10 @@ module _ (s : Super) (layout : Layout) (table : IsTable layout.chunks) (node : s
   key_of : (kind : ℕ) (key : Key) → key.kind ≡ kind → key ≡ record { objectid = key.objectid; kind = kind; offset = key.offset }
   key_of kind key e = ap (λ k. record { objectid = key.objectid; kind = k; offset = key.offset }) e
 
-  in_order : (objectid kind offset : ℕ) → key_le (key chunk.start 0 0) (record { objectid = objectid; kind = kind; offset = offset }) ≡ true → kind < 256 → offset < 2 ^ 64 → chunk.start ≤ objectid
-  in_order objectid kind offset e small few = let le = leb-true (key_number (key chunk.start 0 0)) (key_number (record { objectid = objectid; kind = kind; offset = offset })) e in omega (arith, le, small, few)
+  in_order : (objectid kind offset : ℕ) → key_le (key chunk.start 0 0) (record { objectid = objectid; kind = kind; offset = offset }) ≡ true → kind < 256
+      → offset < 2 ^ 64 → chunk.start ≤ objectid
+  in_order objectid kind offset e small few = let le = leb-true (key_number (key chunk.start 0 0))
+      (key_number (record { objectid = objectid; kind = kind; offset = offset })) e in omega (arith, le, small, few)
 
   -- whatever an extent's item states
   extent_is : (item : TreeItem) (extent : Extent) (end : ℕ) → key_le (key chunk.start 0 0) item.key ≡ true → is_extent item.key ≡ true
@@ -306,22 +309,26 @@ module _ (s : Super) (layout : Layout) (table : IsTable layout.chunks) (node : s
             | inl plain_one ↦
                 let k = eqb-true item.key.kind 168 plain_one in
                 let as_key = key_of 168 item.key k in
-                let stated : record { addr = item.key.objectid; len = item.key.offset; generation = x.generation; level = x.level } ≡ extent = ap (λ (q : Key). stated_extent s.nodesize q x) (sym as_key) ∙ same in
+                let stated : record { addr = item.key.objectid; len = item.key.offset; generation = x.generation; level = x.level } ≡ extent = ap
+                (λ (q : Key). stated_extent s.nodesize q x) (sym as_key) ∙ same in
                 let addr : item.key.objectid ≡ extent.addr = ap (λ (q : Extent). q.addr) stated in
                 let len : item.key.offset ≡ extent.len = ap (λ (q : Extent). q.len) stated in
                 let both = and_parts (eqb (item.key.objectid % 4096) 0) (eqb (item.key.offset % 4096) 0) (ap key_fits (sym as_key) ∙ fit) in
                 let aligned = eqb-true (item.key.objectid % 4096) 0 both.0 in
-                let from = in_order item.key.objectid 168 item.key.offset (ap (key_le (key chunk.start 0 0)) (sym as_key) ∙ lo) (omega arith) (omega (arith, ends, len, f.in_range)) in
+                let from = in_order item.key.objectid 168 item.key.offset (ap (key_le (key chunk.start 0 0)) (sym as_key) ∙ lo) (omega arith)
+                (omega (arith, ends, len, f.in_range)) in
                 sound_at (ap (λ n. n % 4096) (sym addr) ∙ aligned) (omega (arith, from, addr))
             | inr tree ↦
                 let k = eqb-true item.key.kind 169 tree in
                 let as_key = key_of 169 item.key k in
-                let stated : record { addr = item.key.objectid; len = s.nodesize; generation = x.generation; level = Some item.key.offset } ≡ extent = ap (λ (q : Key). stated_extent s.nodesize q x) (sym as_key) ∙ same in
+                let stated : record { addr = item.key.objectid; len = s.nodesize; generation = x.generation; level = Some item.key.offset } ≡ extent = ap
+                (λ (q : Key). stated_extent s.nodesize q x) (sym as_key) ∙ same in
                 let addr : item.key.objectid ≡ extent.addr = ap (λ (q : Extent). q.addr) stated in
                 let both = and_parts (eqb (item.key.objectid % 4096) 0) (leb item.key.offset 7) (ap key_fits (sym as_key) ∙ fit) in
                 let aligned = eqb-true (item.key.objectid % 4096) 0 both.0 in
                 let few = leb-true item.key.offset 7 both.1 in
-                let from = in_order item.key.objectid 169 item.key.offset (ap (key_le (key chunk.start 0 0)) (sym as_key) ∙ lo) (omega arith) (omega (arith, few)) in
+                let from = in_order item.key.objectid 169 item.key.offset (ap (key_le (key chunk.start 0 0)) (sym as_key) ∙ lo) (omega arith)
+                (omega (arith, few)) in
                 sound_at (ap (λ n. n % 4096) (sym addr) ∙ aligned) (omega (arith, from, addr))
           ]
 
@@ -356,6 +363,15 @@ module _ (s : Super) (layout : Layout) (table : IsTable layout.chunks) (node : s
       (λ ys far. far [] first)
       (each_ends B (item_met s sums chunk) (Within lo hi) SoFar (Apart chunk.start) so_apart one_item (range lo hi extents.place)
       (yields_range lo hi extents.place) 0)
+
+  -- those that were met by reads that came to the end
+  pub chunk_lies : (extents : TreeRoot) (ms : List Met) (end : ℕ)
+      → (ms ≡ steps_of (exec B (in_chunk s sums chunk extents)).marks) × ((exec B (in_chunk s sums chunk extents)).ending ≡ Ok end)
+      → Between chunk.start (chunk.start + chunk.length) ms
+  chunk_lies extents ms end f =
+      let run = exec B (in_chunk s sums chunk extents) in
+      subst (Between chunk.start (chunk.start + chunk.length)) (sym f.0)
+      (subst (Holds (λ ys u. Between chunk.start (chunk.start + chunk.length) ys) (Apart chunk.start) (steps_of run.marks)) f.1 (chunk_ends extents))
 
 -- ---- all chunks
 

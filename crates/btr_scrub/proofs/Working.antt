@@ -1,6 +1,6 @@
 -- Chunk after chunk, each with its syncs.
 use Rattle.std.proofs.Common.{◌≡◌, ◌⊎◌, get_or, ℕ, zero, suc, ◌+◌, ◌<◌, ◌≤◌, Bool, true, false, cond, ◌&&◌, eqb, leb, ltb, ◌/◌, List, [], ◌∷◌, ◌++◌, length, take, drop}
-use Rattle.std.proofs.Common.{slice_get, Option, Some, None, is_none, IfSome, IsSomeAnd, OnOk, Result, Ok, Err, refl, sym, ap, ◌∙◌, subst, inl, inr, arith}
+use Rattle.std.proofs.Common.{slice_get, Option, Some, None, is_none, IfSome, IsSomeAnd, OnOk, Result, Ok, Err, IsErrAnd, refl, sym, ap, ◌∙◌, subst, inl, inr, arith}
 use Rattle.std.proofs.Common.{append-nil, append_assoc, add-one}
 use Rattle.std.proofs.lemmas.Bool.{false≢true, and_parts, cases_lt, cases_order, eqb-true, leb-true, ltb-true}
 use Rattle.std.proofs.lemmas.Grind.{flat_map-append}
@@ -46,7 +46,7 @@ use Rattle.btr_scrub.proofs.RowAgreeing.{map_same}
 use Rattle.btr_scrub.proofs.Scrubbing.{IsUnmoved, does_cut, does_next, does_weaker, held_after, if_append, recast, tell, told, waits_weaker}
 use Rattle.btr_scrub.proofs.Stripes.{any_of}
 use Rattle.btr_scrub_copies.specs.Fresh.{Failing}
-use Rattle.btr_scrub.proofs.Lists.{any_at}
+use Rattle.btr_scrub.proofs.Lists.{any_at, passed}
 use Rattle.std.proofs.lemmas.List.Sums.{fold-append}
 
 -- ---- one chunk
@@ -54,6 +54,12 @@ use Rattle.std.proofs.lemmas.List.Sums.{fold-append}
 nothing : {X : Type 0} (xs : List X) → ((x : X) → In x xs → ⊥) → xs ≡ []
 nothing [] h = refl
 nothing (x ∷ xs) h = absurd (h x (inl refl))
+
+-- what a call did that failed was done where its fault is passed on
+pub works_passed : {A : Type 0} {layout : Layout} {write : Bool} {f : Images → List Write} {c : Images → Tally → Tally} {a b : Seen} {t u : Tally}
+    {r : Result A MendFault} {fault : MendFault} → IsErrAnd r (λ e. e ≡ fault) → Works {A = A} layout write f c a b t u (Err fault) → Works layout write f c a b t u r
+works_passed {layout = layout} {write = write} {f = f} {c = c} {a = a} {b = b} {t = t} {u = u} {r = r} {fault = fault} is h =
+    passed (λ r. Works layout write f c a b t u r) r fault is h
 
 -- what waits where there is one chunk alone
 in_alone : (whole : Layout) (chunk : Chunk) (a b : Seen) → WaitsAt (LiesInStripe (alone whole chunk)) a b → WaitsInOne (alone whole chunk) a b

@@ -1,7 +1,8 @@
 -- The blocks of one full stripe.
 use Rattle.std.specs.List.{All}
-use Rattle.std.specs.Prelude.{◌≡◌, ◌≢◌, ℕ, true, false, List, [], ◌∷◌, ◌++◌, Option, Some, None, if◌then◌else◌}
-use Rattle.btr_chunk.specs.Mapping.{holds, position}
+use Rattle.std.specs.Option.{option_map_or}
+use Rattle.std.specs.Prelude.{◌≡◌, ◌≢◌, ◌⊎◌, ℕ, ◌-◌, ◌*◌, ◌<◌, ◌≤◌, Bool, true, false, List, [], ◌∷◌, ◌++◌, Option, Some, None, if◌then◌else◌}
+use Rattle.btr_chunk.specs.Mapping.{elements_of, holds, position}
 use Rattle.btr_chunk.specs.declared.chunk.Chunk.{Chunk}
 use Rattle.btr_read.specs.Fate.{is_plain}
 use Rattle.btr_read.specs.Layout.{Layout}
@@ -10,6 +11,8 @@ use Rattle.btr_read.specs.declared.want.Want.{Want}
 use Rattle.btr_scrub_row.specs.Rows.{Row, has_doubtful}
 use Rattle.btr_scrub_row.specs.declared.mended.MendedRow.{MendedRow}
 use Rattle.btr_scrub.specs.BlocksInRows.{In}
+use Rattle.btr_scrub.specs.Listed.{PassesFrom}
+use Rattle.btr_scrub.specs.Repair.{ok_or_none}
 
 -- the row of a chunk in which an address lies, if it lies in the chunk
 abbrev pub row_in : Chunk → ℕ → Option ℕ
@@ -45,3 +48,33 @@ pub record IsCalm (layout : Layout) (row : Row) : Type 0 where
 -- what comes of a row of which nothing does
 abbrev pub untouched : MendedRow
 untouched = record { blocks = 0; bad = 0; repaired = 0; lost = 0; parity = 0 }
+
+-- the start of the row of a chunk in which an address lies
+abbrev pub row_start : Chunk → ℕ → ℕ
+row_start chunk addr = option_map_or (λ at. addr - at.rest - at.index * 65536) (ok_or_none (elements_of chunk addr 1)) addr
+
+-- a row of a chunk starts at an address, behind an earlier one
+pub record StartsRow (chunk : Chunk) (addr row : ℕ) : Type 0 where
+  pub here : row_in chunk addr ≡ Some row
+  pub last : ℕ
+  pub before : row_in chunk (addr - 1) ≡ Some last
+  pub rises : last < row
+
+-- a reader passes over plain sectors one behind another, which reach just to the start of a row
+pub record PassesTo (chunk : Chunk) (old new : List Want) : Type 0 where
+  pub from : ℕ
+  pub start : ℕ
+  pub end : ℕ
+  pub passes : PassesFrom old from start end new
+  pub reaches : start ≤ end
+  pub row : ℕ
+  pub starts : StartsRow chunk start row
+
+-- a reader passes over plain sectors up to the start of a row, or stays where it is
+abbrev pub PassesRows : Chunk → List Want → List Want → Type 0
+PassesRows chunk old new = (new ≡ old) ⊎ PassesTo chunk old new
+
+-- the same unless some image of the chunk is in doubt; then it stays where it is
+abbrev pub PassesUnless : Bool → Chunk → List Want → List Want → Type 0
+PassesUnless true chunk old new = new ≡ old
+PassesUnless false chunk old new = PassesRows chunk old new

@@ -11,7 +11,7 @@ ghost use Rattle.btr_scrub.specs.Gathering.{Gathers, scene};
 ghost use Rattle.btr_scrub.specs.Listed.{IsList};
 ghost use Rattle.btr_scrub.specs.Scanning.{IsSpanAt, IsSpanIn};
 ghost use Rattle.btr_scrub.specs.Scrubbing.{CanMend};
-ghost use Rattle.btr_scrub.specs.Sifting.{Sieves, Stands};
+ghost use Rattle.btr_scrub.specs.Sifting.{CanSift, Sieves, Stands};
 ghost use Rattle.btr_scrub.specs.Units as units;
 ghost use Rattle.btr_scrub.specs.declared.gathered.Gathered.{Gathered};
 
@@ -22,7 +22,7 @@ use crate::sieve::{Sieve, sift_listed, stop_of};
 use btr_base::Key;
 use btr_rack::Rack;
 use btr_volume::{Stop, TreeRoot, Volume};
-use btr_walk::Scan;
+use btr_walk::{Scan, TreeFault};
 
 // The span of the chunk of a number.
 fn span_at(vol: &Volume, i: usize) -> Span
@@ -83,7 +83,7 @@ fn gather_chunk<R: Rack>(
 }
 
 // Lists the blocks of the extents that begin in a chunk, and sifts them; answers where the last
-// extent ends.
+// extent ends. Those that were listed after a read failed may not lie in the chunk.
 fn sift_chunk<R: Rack>(
     extents: &TreeRoot,
     sums: Option<&TreeRoot>,
@@ -96,15 +96,17 @@ fn sift_chunk<R: Rack>(
     requires ready { CanMend false (R.seen rack.old) vol.old.store marks.old }
     requires room { 5 ≤ free_count vol.old.store }
     requires nodesize { vol.old.sup.nodesize ≡ vol.old.store.layout.setting.nodesize }
-    requires is_list { IsList sieve.old.sifted.kept }
+    requires can { CanSift vol.old.store.layout sieve.old.sifted }
     requires kind { sieve.old.sifted.kept.kind ≡ kind_in vol.old.sup }
     requires span { span.now.start + span.now.length < 2 ^ 64 }
     requires some { 1 ≤ span.now.length }
     requires chunk { IsSpanIn vol.old.store.layout span.now }
+    requires behind { sieve.old.end ≤ span.now.start }
     ensures ready { CanMend false (R.seen rack.new) vol.new.store marks.new }
     ensures volume { SameVolume vol.old vol.new }
-    ensures is_list { OnOk result (IsList sieve.new.sifted.kept) }
+    ensures can { OnOk result (CanSift vol.old.store.layout sieve.new.sifted) }
     ensures kind { OnOk result (sieve.new.sifted.kept.kind ≡ sieve.old.sifted.kept.kind) }
+    ensures end { OnOk result (sieve.new.end ≤ span.now.start + span.now.length) }
     ensures sieves { (chunk : Chunk) (whole : Gathered) → span.now ≡ span_of chunk → Contains vol.old.store.layout.chunks chunk
         → Stands vol.old.store.layout (R.seen rack.old).held whole sieve.old
         → Sieves (units.in_chunk vol.old.sup (tree_behind sums.entry) chunk extents.now)
@@ -114,19 +116,10 @@ fn sift_chunk<R: Rack>(
         list: sieve.sifted.kept.emptied(),
         unchecked: sieve.unchecked,
     };
-    let end = match gather_chunk(extents, sums, span, rack, vol, &mut gathered) {
-        Ok(end) => end,
-        Err(stop) => return Err(stop),
-    };
-    match sift_listed(
-        &gathered,
-        vol.sup.nodesize,
-        rack,
-        &mut vol.store,
-        marks,
-        sieve,
-    ) {
-        Ok(()) => Ok(end),
+    let end = gather_chunk(extents, sums, span, rack, vol, &mut gathered)?;
+    match sift_listed(&gathered, span, rack, &mut vol.store, marks, sieve) {
+        Ok(true) => Ok(end),
+        Ok(false) => Err(Stop::Tree(TreeFault::Malformed(span.start))),
         Err(fault) => Err(stop_of(fault)),
     }
 }
@@ -148,7 +141,8 @@ pub(crate) fn sift_chunks<R: Rack>(
     requires ready { CanMend false (R.seen rack.old) vol.old.store marks.old }
     requires room { 5 ≤ free_count vol.old.store }
     requires nodesize { vol.old.sup.nodesize ≡ vol.old.store.layout.setting.nodesize }
-    requires is_list { IsList sieve.old.sifted.kept }
+    requires can { CanSift vol.old.store.layout sieve.old.sifted }
+    requires begins { sieve.old.end ≡ 0 }
     requires kind { sieve.old.sifted.kept.kind ≡ kind_in vol.old.sup }
     ensures ready { CanMend false (R.seen rack.new) vol.new.store marks.new }
     ensures sieves { (whole : Gathered) → Stands vol.old.store.layout (R.seen rack.old).held whole sieve.old
@@ -157,10 +151,7 @@ pub(crate) fn sift_chunks<R: Rack>(
 {
     for i in 0..vol.store.chunks().count() {
         let span = span_at(vol, i);
-        match sift_chunk(extents, sums, &span, rack, vol, marks, sieve) {
-            Ok(_) => {}
-            Err(stop) => return Err(stop),
-        }
+        sift_chunk(extents, sums, &span, rack, vol, marks, sieve)?;
     }
     Ok(())
 }

@@ -66,13 +66,9 @@ fn mend_block<R: Rack>(
         (λ images tally. counted tally (mended_of images t write))
         marks.old marks.new (R.seen rack.old) (R.seen rack.new) tally.old tally.new result }
 {
-    match mend_copies(want, write, rack, store, marks) {
-        Ok(mended) => {
-            *tally = counted(tally, &mended);
-            Ok(())
-        }
-        Err(fault) => Err(fault),
-    }
+    let mended = mend_copies(want, write, rack, store, marks)?;
+    *tally = counted(tally, &mended);
+    Ok(())
 }
 
 // Counts with those of one more sector without a checksum.
@@ -106,13 +102,9 @@ fn mend_sector<R: Rack>(
         (λ images tally. counted_plain tally (freshened images (flagged failing.now) t write))
         marks.old marks.new (R.seen rack.old) (R.seen rack.new) tally.old tally.new result }
 {
-    match mend_plain(want, write, failing, rack, store, marks) {
-        Ok(mended) => {
-            *tally = counted_plain(tally, &mended);
-            Ok(())
-        }
-        Err(fault) => Err(fault),
-    }
+    let mended = mend_plain(want, write, failing, rack, store, marks)?;
+    *tally = counted_plain(tally, &mended);
+    Ok(())
 }
 
 // Mends what a want is of, and counts what came of it.
@@ -197,10 +189,7 @@ pub(crate) fn mend_blocks<R: Rack>(
     let end = chunk.start + chunk.length;
     let behind = has_behind(chunk, failing, store);
     while let Some(want) = next_below(blocks, end) {
-        match mend_site(&want, task.write, failing, rack, store, marks, tally) {
-            Ok(()) => {}
-            Err(fault) => return Err(fault),
-        }
+        mend_site(&want, task.write, failing, rack, store, marks, tally)?;
         pass_if(is_calm(&want, behind), end, blocks);
     }
     Ok(())

@@ -78,10 +78,7 @@ fn mend_and_sync<R: Rack>(
         (λ chunk. chunk_count_for (flagged failing.now) store.old.layout task.write chunk blocks.old)
         (R.seen rack.old) (R.seen rack.new) tally.old tally.new result }
 {
-    match mend_chunk(task, failing, blocks, rack, store, room, marks, tally) {
-        Ok(()) => {}
-        Err(fault) => return Err(fault),
-    }
+    mend_chunk(task, failing, blocks, rack, store, room, marks, tally)?;
     if !task.write {
         return Ok(());
     }
@@ -119,10 +116,7 @@ pub(crate) fn mend_all<R: Rack>(
             nodesize,
             write,
         };
-        match mend_and_sync(task, failing, blocks, rack, store, room, marks, tally) {
-            Ok(()) => {}
-            Err(fault) => return Err(fault),
-        }
+        mend_and_sync(task, failing, blocks, rack, store, room, marks, tally)?;
     }
     Ok(())
 }

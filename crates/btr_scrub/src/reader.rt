@@ -117,8 +117,8 @@ impl<'a> Reader<'a> {
         }
     }
 
-    // The address of the sector that comes next, if that has no checksum.
-    fn plain_at(&self) -> Option<u64>
+    /// The address of the sector that comes next, if that has no checksum.
+    pub(crate) fn plain_at(&self) -> Option<u64>
         ensures { IfSome result (IsNextPlain self.now) }
     {
         let run = self.listed.run_at(self.run)?;

@@ -1,5 +1,5 @@
 // The full stripes of a chunk with parity.
-ghost use Rattle.std.specs.Prelude.{◌≡◌, ◌∷◌, [], ◌++◌, true, Some, IsSome, IsTrue, IfOk, OnOk};
+ghost use Rattle.std.specs.Prelude.{◌≡◌, ◌∷◌, [], ◌++◌, ◌<◌, true, length, slice_get, Some, IsSome, IfSome, IsTrue, IfOk, OnOk};
 ghost use Rattle.std.specs.List.{All};
 ghost use Rattle.btr_chunk.specs.Chunk.{IsChunk};
 ghost use Rattle.btr_chunk.specs.Table.{chunk_at};
@@ -13,7 +13,7 @@ ghost use Rattle.btr_scrub_row.specs.Rows.{Row, row_writes};
 ghost use Rattle.btr_scrub.specs.WrittenRanges.{alone};
 ghost use Rattle.btr_scrub.specs.Order.{targets};
 ghost use Rattle.btr_scrub.specs.Repair.{rows_in};
-ghost use Rattle.btr_scrub.specs.Rowing.{Collects, CollectsRow, GivesInRow, IsCalm, row_in, untouched};
+ghost use Rattle.btr_scrub.specs.Rowing.{Collects, CollectsRow, GivesInRow, IsCalm, PassesRows, PassesUnless, StartsRow, row_in, row_start, untouched};
 ghost use Rattle.btr_scrub.specs.Scrubbing.{CanMend, HasRooms, PassesChunk, RowsComeNext, Scrubs, ScrubsChunk, counted_row, rows_count, rows_writes};
 
 use crate::copied::next_below;
@@ -89,7 +89,7 @@ fn collect(
 }
 
 // The same for the row in which the first block lies, whose number comes out.
-fn collect_row(
+pub(crate) fn collect_row(
     store: &Store,
     first: Want,
     blocks: &mut Reader<'_>,
@@ -105,10 +105,8 @@ fn collect_row(
     let Some(row) = row_in(chunk, first.addr()) else {
         unreachable!();
     };
-    match collect(chunk, row, first, blocks, wants) {
-        Ok(()) => Ok(row),
-        Err(fault) => Err(fault),
-    }
+    collect(chunk, row, first, blocks, wants)?;
+    Ok(row)
 }
 
 // Counts with those of a row, each of which stands still at its type's end.
@@ -189,7 +187,7 @@ fn mend_collected<R: Rack>(
         *tally = counted_row(tally, &untouched());
         return Ok(());
     }
-    match mend_row(
+    let mended = mend_row(
         at,
         &room.wants,
         write,
@@ -198,16 +196,74 @@ fn mend_collected<R: Rack>(
         store,
         &mut room.buffer,
         marks,
-    ) {
-        Ok(mended) => {
-            *tally = counted_row(tally, &mended);
-            Ok(())
-        }
-        Err(fault) => Err(fault),
+    )?;
+    *tally = counted_row(tally, &mended);
+    Ok(())
+}
+
+// The start of the row of a chunk in which an address lies.
+fn row_start(chunk: &Chunk, addr: u64) -> u64
+    requires { IsChunk chunk.now }
+    ensures { result ≡ row_start chunk.now addr }
+{
+    match elements(chunk, addr, 1) {
+        Ok(at) => addr
+            .saturating_sub(at.rest)
+            .saturating_sub(u64::from(at.index) * 65536),
+        Err(_) => addr,
     }
 }
 
-/// Mends the full stripes of the chunk of a number, a chunk with parity, whose blocks a reader has next.
+// The row of a chunk that starts at an address, if one does behind an earlier one.
+fn row_from(chunk: &Chunk, addr: u64) -> Option<u64>
+    requires { IsChunk chunk.now }
+    ensures { IfSome result (StartsRow chunk.now addr) }
+{
+    let row = row_in(chunk, addr)?;
+    let last = row_in(chunk, addr.saturating_sub(1))?;
+    if last < row { Some(row) } else { None }
+}
+
+// Passes over the sectors without a checksum that come next from an address on, if they reach a place at which a row starts.
+fn pass_to(chunk: &Chunk, from: u64, start: u64, blocks: &mut Reader<'_>)
+    requires { IsChunk chunk.now }
+    ensures { PassesRows chunk.now blocks.old blocks.new }
+{
+    let Some(_row) = row_from(chunk, start) else {
+        return;
+    };
+    let mut ahead = blocks.again();
+    if ahead.pass_from(from, start) >= start {
+        *blocks = ahead;
+    }
+}
+
+// Passes over the sectors without a checksum that come next and follow each other, up to the start of the last row that they reach.
+pub(crate) fn pass_rows(chunk: &Chunk, blocks: &mut Reader<'_>)
+    requires { IsChunk chunk.now }
+    ensures { PassesRows chunk.now blocks.old blocks.new }
+{
+    let Some(from) = blocks.plain_at() else {
+        return;
+    };
+    let last = chunk.start + (chunk.length - 1);
+    let end = blocks.again().pass_from(from, last);
+    pass_to(chunk, from, row_start(chunk, end.min(last)), blocks);
+}
+
+// The same in the chunk of a number, unless some image of it is in doubt.
+fn pass_calm(number: usize, doubtful: bool, blocks: &mut Reader<'_>, store: &Store)
+    requires { number < length store.now.layout.chunks }
+    ensures { (chunk : Chunk) → slice_get store.now.layout.chunks number ≡ Some chunk
+        → PassesUnless doubtful chunk blocks.old blocks.new }
+{
+    if !doubtful {
+        pass_rows(store.chunks().at(number), blocks);
+    }
+}
+
+/// Mends the full stripes of the chunk of a number, a chunk with parity, whose blocks a reader has next. Where no image of the chunk is in doubt, those
+/// that hold nothing but sectors without a checksum are passed at once, where the list has them one behind another.
 ///
 /// `Image`: a read or a write of an image failed, and nothing was tried behind it. `Memory`: a write wanted memory.
 pub(crate) fn mend_rows<R: Rack>(
@@ -236,6 +292,7 @@ pub(crate) fn mend_rows<R: Rack>(
     let chunk = store.chunks().at(task.number);
     let start = chunk.start;
     let end = start + chunk.length;
+    let doubtful = has_doubtful(chunk, failing, store);
     while let Some(first) = next_below(blocks, end) {
         let row = match collect_row(store, first, blocks, &mut room.wants) {
             Ok(row) => row,
@@ -246,10 +303,8 @@ pub(crate) fn mend_rows<R: Rack>(
             number: row,
             nodesize: task.nodesize,
         };
-        match mend_collected(at, task.write, failing, rack, store, room, marks, tally) {
-            Ok(()) => {}
-            Err(fault) => return Err(fault),
-        }
+        mend_collected(at, task.write, failing, rack, store, room, marks, tally)?;
+        pass_calm(task.number, doubtful, blocks, store);
     }
     Ok(())
 }

@@ -1,5 +1,5 @@
-// What is kept of the blocks that are listed: those for which something may have to be written.
-ghost use Rattle.std.specs.Prelude.{◌≡◌, ◌||◌, nat_lt, [], ◌∷◌, false, Err, Ok, IfOk, IfSome, IsOk, OnOk, Option};
+// What is kept of the blocks that are listed: those for which something may have to be written, and of a full stripe all or none.
+ghost use Rattle.std.specs.Prelude.{◌≡◌, ◌+◌, ◌<◌, ◌≤◌, ◌^◌, ◌||◌, nat_lt, [], ◌∷◌, false, Err, Ok, IfOk, IfSome, IsOk, IsSome, OnOk, Option};
 ghost use Rattle.btr_rack.specs.Rack.{OnlyReads};
 ghost use Rattle.btr_read.specs.Fate.{sought};
 ghost use Rattle.btr_read.specs.Layout.{Layout};
@@ -8,9 +8,11 @@ ghost use Rattle.btr_scrub_copies.specs.Writes.{AccountsMend, Images};
 ghost use Rattle.btr_scrub.specs.WrittenRanges.{LiesInStripe};
 ghost use Rattle.btr_scrub.specs.Listed.{AreOfKind, IsList, IsOfKind, kept_wants};
 ghost use Rattle.btr_scrub.specs.Order.{AreApart};
-ghost use Rattle.btr_scrub.specs.Scrubbing.{CanMend};
+ghost use Rattle.btr_scrub.specs.Scanning.{IsSpanIn};
+ghost use Rattle.btr_scrub.specs.Scrubbing.{CanMend, HasRooms};
 ghost use Rattle.btr_chunk.specs.Table.{IsTable};
-ghost use Rattle.btr_scrub.specs.Sifting.{IsBehind, PassesCalm, Sifts, Stands, is_needed};
+ghost use Rattle.btr_chunk.specs.Chunk.{mirrors};
+ghost use Rattle.btr_scrub.specs.Sifting.{CanSift, PassesCalm, Sifts, SiftsNext, Stands, WentIn, is_copy_needed, lies_in};
 ghost use Rattle.btr_scrub.specs.Judged.{has_older};
 ghost use Rattle.btr_read.specs.Candidates.{Target};
 ghost use Rattle.btr_scrub.specs.Whole.{answer_of};
@@ -18,10 +20,14 @@ ghost use Rattle.btr_scrub.specs.declared.gathered.Gathered.{Gathered};
 ghost use Rattle.btr_scrub.specs.declared.tally.Tally.{Tally};
 
 use crate::doubts::{copies_of, has_older};
+use crate::extent::Span;
 use crate::gathered::Gathered;
 use crate::judging::judge_blocks;
 use crate::listed::Listed;
 use crate::reader::{Reader, read_all};
+use crate::rowed::RowRoom;
+use crate::rows::sift_row;
+use crate::sifted::Sifted;
 use btr_base::SumKind;
 use btr_rack::Rack;
 use btr_read::{Store, Want};
@@ -30,15 +36,6 @@ use btr_scrub_row::is_plain;
 use btr_volume::Stop;
 use btr_walk::TreeFault;
 use std::alloc::Global;
-
-/// What is kept of some blocks, and how many others there are.
-#[derive(Drop)]
-pub(crate) struct Sifted {
-    /// The blocks for which something may have to be written.
-    pub kept: Listed,
-    /// How many other checked blocks there are, which are sound.
-    pub sound: u64,
-}
 
 /// What is kept of the blocks that were listed so far.
 #[derive(Drop)]
@@ -72,7 +69,7 @@ fn is_unsound(mended: &Mended) -> bool
     mended.bad > 0 || mended.lost
 }
 
-// Whether something may have to be written for a block. The copies of a checked one are read.
+// Whether something may have to be written for a block of a chunk with copies. Those of a checked one are read.
 fn is_needed<R: Rack>(
     want: &Want,
     rack: &mut R,
@@ -81,16 +78,14 @@ fn is_needed<R: Rack>(
 ) -> Result<bool, MendFault>
     requires ready { CanMend false (R.seen rack.old) store.old marks.old }
     requires sought { IsOk (sought store.old.layout want.now) }
+    requires copies { (t : Target) → sought store.old.layout want.now ≡ Ok t → IsSome (mirrors t.chunk) }
     ensures ready { CanMend false (R.seen rack.new) store.new marks.new }
     ensures loans { SameLoans store.old store.new }
     ensures reads { OnlyReads (R.seen rack.old) (R.seen rack.new) }
     ensures needed { (t : Target) → sought store.old.layout want.now ≡ Ok t
-        → IfOk result (λ needed. IfSome (R.seen rack.old).held (λ images. needed ≡ is_needed images store.old.layout t)) }
+        → IfOk result (λ needed. IfSome (R.seen rack.old).held (λ images. needed ≡ is_copy_needed images store.old.layout t)) }
     ensures account { AccountsMend (LiesInStripe store.old.layout) (R.seen rack.old) (R.seen rack.new) result }
 {
-    if copies_of(want, store).is_none() {
-        return Ok(true);
-    }
     if is_plain(want) {
         return Ok(lies_older(want, store));
     }
@@ -100,7 +95,7 @@ fn is_needed<R: Rack>(
     }
 }
 
-// Keeps a block, or counts it.
+// Keeps a block of a chunk with copies, or counts it.
 fn sift_one<R: Rack>(
     want: &Want,
     rack: &mut R,
@@ -110,7 +105,8 @@ fn sift_one<R: Rack>(
 ) -> Result<(), MendFault>
     requires ready { CanMend false (R.seen rack.old) store.old marks.old }
     requires sought { IsOk (sought store.old.layout want.now) }
-    requires is_list { IsList sifted.old.kept }
+    requires copies { (t : Target) → sought store.old.layout want.now ≡ Ok t → IsSome (mirrors t.chunk) }
+    requires can { CanSift store.old.layout sifted.old }
     requires of_kind { IsOfKind sifted.old.kept.kind want.now }
     ensures ready { CanMend false (R.seen rack.new) store.new marks.new }
     ensures loans { SameLoans store.old store.new }
@@ -150,9 +146,40 @@ fn pass_calm(want: &Want, blocks: &mut Reader<'_>, store: &Store)
     }
 }
 
+// Sifts a block, and those that are judged with it: the others of its full stripe, or the plain sectors that follow one in a
+// chunk with copies.
+fn sift_next<R: Rack>(
+    want: Want,
+    blocks: &mut Reader<'_>,
+    rack: &mut R,
+    store: &mut Store,
+    marks: &mut [bool],
+    sifted: &mut Sifted,
+) -> Result<(), MendFault>
+    requires ready { CanMend false (R.seen rack.old) store.old marks.old }
+    requires apart { AreApart store.old.layout 0 (want ∷ blocks.old) }
+    requires can { CanSift store.old.layout sifted.old }
+    requires of_kind { AreOfKind sifted.old.kept.kind (want ∷ blocks.old) }
+    ensures ready { CanMend false (R.seen rack.new) store.new marks.new }
+    ensures loans { SameLoans store.old store.new }
+    ensures reads { OnlyReads (R.seen rack.old) (R.seen rack.new) }
+    ensures sifts { OnOk result (SiftsNext store.old.layout (R.seen rack.old).held want blocks.old blocks.new sifted.old sifted.new) }
+    ensures account { AccountsMend (LiesInStripe store.old.layout) (R.seen rack.old) (R.seen rack.new) result }
+{
+    if copies_of(&want, store).is_none() {
+        return sift_row(want, blocks, rack, store, marks, sifted);
+    }
+    match sift_one(&want, rack, store, marks, sifted) {
+        Ok(()) => {}
+        Err(fault) => return Err(fault),
+    }
+    pass_calm(&want, blocks, store);
+    Ok(())
+}
+
 /// Sifts the blocks that a reader has: those for which something may have to be written are kept,
-/// and of the others those with a checksum are counted. The
-/// copies of each block with a checksum are read, unless it lies in a chunk with parity.
+/// and of the others those with a checksum are counted. The copies of each block with a checksum are
+/// read; in a chunk with parity each full stripe is, unless a plain sector lies in it.
 ///
 /// `Image`: a read of an image failed, and nothing was tried behind it. `Memory`: for want of
 /// memory.
@@ -165,7 +192,7 @@ pub(crate) fn sift<R: Rack>(
 ) -> Result<(), MendFault>
     requires ready { CanMend false (R.seen rack.old) store.old marks.old }
     requires apart { AreApart store.old.layout 0 blocks.old }
-    requires is_list { IsList sifted.old.kept }
+    requires can { CanSift store.old.layout sifted.old }
     requires of_kind { AreOfKind sifted.old.kept.kind blocks.old }
     ensures ready { CanMend false (R.seen rack.new) store.new marks.new }
     ensures loans { SameLoans store.old store.new }
@@ -174,11 +201,10 @@ pub(crate) fn sift<R: Rack>(
     ensures account { AccountsMend (LiesInStripe store.old.layout) (R.seen rack.old) (R.seen rack.new) result }
 {
     while let Some(want) = blocks.next() {
-        match sift_one(&want, rack, store, marks, sifted) {
+        match sift_next(want, blocks, rack, store, marks, sifted) {
             Ok(()) => {}
             Err(fault) => return Err(fault),
         }
-        pass_calm(&want, blocks, store);
     }
     Ok(())
 }
@@ -194,15 +220,19 @@ pub(crate) fn stop_of(fault: MendFault) -> Stop
 }
 
 /// A sieve that nothing was put into, for checksums of a kind.
-pub(crate) fn new_sieve(alloc: Global, kind: SumKind) -> Sieve
+pub(crate) fn new_sieve(alloc: Global, kind: SumKind, nodesize: u32, room: RowRoom) -> Sieve
+    requires large { 4096 ≤ nodesize }
     ensures kind { result.sifted.kept.kind ≡ kind }
-    ensures is_list { IsList result.sifted.kept }
+    ensures can { (layout : Layout) → nodesize ≡ layout.setting.nodesize → HasRooms layout room.buffer → CanSift layout result.sifted }
+    ensures begins { result.end ≡ 0 }
     ensures stands { (layout : Layout) (held : Option Images) (list : Gathered) → kept_wants list.list ≡ [] → IsList list.list → list.list.kind ≡ kind
-        → list.unchecked ≡ 0 → Stands layout held list result }
+        → list.unchecked ≡ 0 → CanSift layout result.sifted → Stands layout held list result }
 {
     let sifted = Sifted {
         kept: Listed::new(alloc, kind),
         sound: 0,
+        nodesize,
+        room,
     };
     Sieve {
         sifted,
@@ -212,46 +242,67 @@ pub(crate) fn new_sieve(alloc: Global, kind: SumKind) -> Sieve
     }
 }
 
-/// Judges the blocks that were listed behind those that a sieve has, and sifts them. Where one is
-/// refused no more is kept.
+// Whether the blocks of a list, the last of which ends at an address, lie in a span.
+fn lies_in(list: &Listed, span: &Span, end: u64) -> bool
+    requires is_list { IsList list.now }
+    requires span { span.now.start + span.now.length < 2 ^ 64 }
+    ensures { result ≡ lies_in (kept_wants list.now) span.now end }
+{
+    match read_all(list).next() {
+        None => true,
+        Some(first) => span.start <= first.addr() && end <= span.start + span.length,
+    }
+}
+
+/// Judges the blocks that were listed in a span behind those that a sieve has, and sifts them. Where one is
+/// refused no more is kept. Answers whether they lie in the span; a full stripe of a chunk is whole then.
 ///
 /// `Image`: a read of an image failed, and nothing was tried behind it. `Memory`: for want of
 /// memory.
 pub(crate) fn sift_listed<R: Rack>(
     gathered: &Gathered,
-    nodesize: u32,
+    span: &Span,
     rack: &mut R,
     store: &mut Store,
     marks: &mut [bool],
     sieve: &mut Sieve,
-) -> Result<(), MendFault>
+) -> Result<bool, MendFault>
     requires ready { CanMend false (R.seen rack.old) store.old marks.old }
-    requires nodesize { nodesize ≡ store.old.layout.setting.nodesize }
     requires listed { IsList gathered.now.list }
-    requires is_list { IsList sieve.old.sifted.kept }
+    requires can { CanSift store.old.layout sieve.old.sifted }
     requires kind { gathered.now.list.kind ≡ sieve.old.sifted.kept.kind }
+    requires range { span.now.start + span.now.length < 2 ^ 64 }
+    requires chunk { IsSpanIn store.old.layout span.now }
+    requires behind { sieve.old.end ≤ span.now.start }
     ensures ready { CanMend false (R.seen rack.new) store.new marks.new }
     ensures loans { SameLoans store.old store.new }
     ensures reads { OnlyReads (R.seen rack.old) (R.seen rack.new) }
-    ensures stands { OnOk result ((whole after : Gathered) → Stands store.old.layout (R.seen rack.old).held whole sieve.old
-        → IsBehind whole gathered.now after → Stands store.old.layout (R.seen rack.old).held after sieve.new) }
-    ensures is_list { OnOk result (IsList sieve.new.sifted.kept) }
+    ensures went { IfOk result (WentIn store.old.layout (R.seen rack.old).held gathered.now span.now sieve.old sieve.new) }
+    ensures can { OnOk result (CanSift store.old.layout sieve.new.sifted) }
     ensures kind { OnOk result (sieve.new.sifted.kept.kind ≡ sieve.old.sifted.kept.kind) }
+    ensures end { OnOk result (sieve.new.end ≤ span.now.start + span.now.length) }
     ensures account { AccountsMend (LiesInStripe store.old.layout) (R.seen rack.old) (R.seen rack.new) result }
 {
     sieve.unchecked = gathered.unchecked;
     if sieve.refused.is_some() {
-        return Ok(());
+        return Ok(true);
     }
+    let nodesize = sieve.sifted.nodesize;
     match judge_blocks(&mut read_all(&gathered.list), sieve.end, nodesize, store) {
         Ok(end) => {
+            if !lies_in(&gathered.list, span, end) {
+                return Ok(false);
+            }
             sieve.end = end;
             let mut blocks = read_all(&gathered.list);
-            sift(&mut blocks, rack, store, marks, &mut sieve.sifted)
+            match sift(&mut blocks, rack, store, marks, &mut sieve.sifted) {
+                Ok(()) => Ok(true),
+                Err(fault) => Err(fault),
+            }
         }
         Err(fault) => {
             sieve.refused = Some(fault);
-            Ok(())
+            Ok(true)
         }
     }
 }

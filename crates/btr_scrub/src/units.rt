@@ -6,14 +6,14 @@ ghost use Rattle.btr_files.specs.Sums.{kind_in};
 ghost use Rattle.btr_rack.specs.Rack.{OnlyReads};
 ghost use Rattle.btr_volume.specs.Looking.{SameVolume};
 ghost use Rattle.btr_scrub.specs.Gathering.{scene};
-ghost use Rattle.btr_scrub.specs.Listed.{IsList};
-ghost use Rattle.btr_scrub.specs.Scrubbing.{CanMend};
-ghost use Rattle.btr_scrub.specs.Sifting.{Sieves, SiftsUnits, Stands};
+ghost use Rattle.btr_scrub.specs.Scrubbing.{CanMend, HasRooms};
+ghost use Rattle.btr_scrub.specs.Sifting.{CanSift, Sieves, SiftsUnits, Stands};
 ghost use Rattle.btr_scrub.specs.Units as units;
 ghost use Rattle.btr_scrub.specs.declared.gathered.Gathered.{Gathered};
 
 use crate::chunks::sift_chunks;
 use crate::extent::kind_of;
+use crate::rowed::RowRoom;
 use crate::sieve::{Sieve, new_sieve};
 use btr_rack::Rack;
 use btr_volume::{Stop, TreeRoot, Volume};
@@ -34,7 +34,8 @@ fn sift_extents<R: Rack>(
     requires ready { CanMend false (R.seen rack.old) vol.old.store marks.old }
     requires room { 5 ≤ free_count vol.old.store }
     requires nodesize { vol.old.sup.nodesize ≡ vol.old.store.layout.setting.nodesize }
-    requires is_list { IsList sieve.old.sifted.kept }
+    requires can { CanSift vol.old.store.layout sieve.old.sifted }
+    requires begins { sieve.old.end ≡ 0 }
     requires kind { sieve.old.sifted.kept.kind ≡ kind_in vol.old.sup }
     ensures ready { CanMend false (R.seen rack.new) vol.new.store marks.new }
     ensures sieves { (whole : Gathered) → Stands vol.old.store.layout (R.seen rack.old).held whole sieve.old
@@ -58,7 +59,8 @@ fn sift_all<R: Rack>(
     requires ready { CanMend false (R.seen rack.old) vol.old.store marks.old }
     requires room { 5 ≤ free_count vol.old.store }
     requires nodesize { vol.old.sup.nodesize ≡ vol.old.store.layout.setting.nodesize }
-    requires is_list { IsList sieve.old.sifted.kept }
+    requires can { CanSift vol.old.store.layout sieve.old.sifted }
+    requires begins { sieve.old.end ≡ 0 }
     requires kind { sieve.old.sifted.kept.kind ≡ kind_in vol.old.sup }
     ensures ready { CanMend false (R.seen rack.new) vol.new.store marks.new }
     ensures sieves { (whole : Gathered) → Stands vol.old.store.layout (R.seen rack.old).held whole sieve.old
@@ -75,7 +77,7 @@ fn sift_all<R: Rack>(
 /// Lists the checked blocks of a filesystem (`docs/FORMAT.md`, "Checked blocks"), in the order of chunks and addresses: the tree blocks, and the sectors of data that have a checksum.
 /// The sectors that have none are listed between them, and counted. Behind the listing of each
 /// chunk its blocks are sifted: those are kept for which something may have to be
-/// written. Nothing is written, and five slots are free.
+/// written, and of a full stripe all or none. Nothing is written, and five slots are free.
 ///
 /// `NoTree` where there is no extent tree. `Tree` where a block of the root tree, the extent tree or the checksum tree can't be had or is malformed,
 /// and where an extent overlaps the one before it, is a tree block that isn't as long as a node, passes its chunk's end, or is a tree block that crosses an
@@ -83,6 +85,7 @@ fn sift_all<R: Rack>(
 /// it. `Memory` for want of memory.
 pub(crate) fn sift_blocks<R: Rack>(
     alloc: Global,
+    room: RowRoom,
     rack: &mut R,
     vol: &mut Volume,
     marks: &mut [bool],
@@ -90,13 +93,15 @@ pub(crate) fn sift_blocks<R: Rack>(
     requires ready { CanMend false (R.seen rack.old) vol.old.store marks.old }
     requires room { 5 ≤ free_count vol.old.store }
     requires nodesize { vol.old.sup.nodesize ≡ vol.old.store.layout.setting.nodesize }
+    requires large { 4096 ≤ vol.old.sup.nodesize }
+    requires rooms { HasRooms vol.old.store.layout room.buffer }
     ensures ready { CanMend false (R.seen rack.new) vol.new.store marks.new }
     ensures reads { OnlyReads (R.seen rack.old) (R.seen rack.new) }
     ensures volume { SameVolume vol.old vol.new }
     ensures sifts { SiftsUnits (units.units_in vol.old.sup vol.old.store.layout.chunks)
         vol.old.store.layout (R.seen rack.old) (R.seen rack.new) result }
 {
-    let mut sieve = new_sieve(alloc, kind_of(&vol.sup));
+    let mut sieve = new_sieve(alloc, kind_of(&vol.sup), vol.sup.nodesize, room);
     match sift_all(rack, vol, marks, &mut sieve) {
         Ok(()) => Ok(sieve),
         Err(stop) => Err(stop),

@@ -5,12 +5,12 @@ ghost use Rattle.btr_read.specs.Serves.{Serves};
 ghost use Rattle.btr_read.specs.Store.{free_count};
 ghost use Rattle.btr_scrub_copies.specs.Writes.{AreWritable};
 ghost use Rattle.btr_volume.specs.Looking.{SameVolume};
-ghost use Rattle.btr_scrub.specs.Listed.{IsList, kept_wants};
+ghost use Rattle.btr_scrub.specs.Listed.{kept_wants};
 ghost use Rattle.btr_scrub.specs.Order.{AreApart};
 ghost use Rattle.btr_scrub.specs.Repair.{first_missing};
 ghost use Rattle.btr_scrub.specs.Scrubbed.{IsSafe, IsScrubbed, called};
 ghost use Rattle.btr_scrub.specs.Scrubbing.{CanMend, HasRooms, NoneIsWider};
-ghost use Rattle.btr_scrub.specs.Sifting.{begun};
+ghost use Rattle.btr_scrub.specs.Sifting.{CanSift, begun};
 ghost use Rattle.btr_scrub.specs.Whole.{Refuses, ScrubsAll, WorksFrom};
 
 use crate::doubts::failing_images;
@@ -18,7 +18,8 @@ use crate::mending::mend_all;
 use crate::missing::missing_device;
 use crate::reader::read_all;
 use crate::rowed::RowRoom;
-use crate::sieve::{Sieve, Sifted, stop_of};
+use crate::sieve::{Sieve, stop_of};
+use crate::sifted::Sifted;
 use crate::tally::Tally;
 use crate::units::sift_blocks;
 use btr_base::Memory;
@@ -78,16 +79,14 @@ fn mend_kept<R: Rack>(
     alloc: Global,
     write: bool,
     sieve: Sieve,
-    mut room: RowRoom,
     marks: &mut [bool],
     rack: &mut R,
     vol: &mut Volume,
 ) -> Result<Tally, Stop>
     requires ready { CanMend write (R.seen rack.old) vol.old.store marks.old }
-    requires rooms { HasRooms vol.old.store.layout room.buffer }
+    requires can { CanSift vol.old.store.layout sieve.sifted }
     requires large { 4096 ≤ vol.old.sup.nodesize }
     requires nodesize { vol.old.sup.nodesize ≡ vol.old.store.layout.setting.nodesize }
-    requires is_list { IsList sieve.sifted.kept }
     requires apart { AreApart vol.old.store.layout 0 (kept_wants sieve.sifted.kept) }
     ensures serves { Serves (R.seen rack.new) vol.new.store }
     ensures volume { SameVolume vol.old vol.new }
@@ -95,7 +94,12 @@ fn mend_kept<R: Rack>(
         (R.seen rack.old) (R.seen rack.new) result }
 {
     let Sieve {
-        sifted: Sifted { kept, sound },
+        sifted: Sifted {
+            kept,
+            sound,
+            mut room,
+            ..
+        },
         unchecked,
         ..
     } = sieve;
@@ -146,13 +150,13 @@ fn scrub_given<R: Rack>(
     let Ok(mut marks) = vec![in alloc; false; rack.count()] else {
         return Err(Stop::Memory);
     };
-    let sieve = match sift_blocks(alloc, rack, vol, &mut marks) {
+    let sieve = match sift_blocks(alloc, room, rack, vol, &mut marks) {
         Ok(sieve) => sieve,
         Err(stop) => return Err(stop),
     };
     match sieve.refused {
         Some(fault) => Err(Stop::Tree(fault)),
-        None => mend_kept(alloc, write, sieve, room, &mut marks, rack, vol),
+        None => mend_kept(alloc, write, sieve, &mut marks, rack, vol),
     }
 }
 

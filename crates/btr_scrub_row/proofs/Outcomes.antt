@@ -14,6 +14,7 @@ use Rattle.btr_scrub_copies.specs.Syncing.{IsSyncOr, plain}
 use Rattle.btr_scrub_copies.specs.Turns.{TakesTurns, WaitsInTurn}
 use Rattle.btr_scrub_copies.specs.Writes.{AccountsMend, Images, Write, writes_if}
 use Rattle.btr_scrub_copies.specs.declared.mended.MendFault.{MendFault}
+use Rattle.btr_scrub_copies.specs.declared.mended.MendFault.TheVariants.{Image, Memory}
 use Rattle.btr_scrub_copies.proofs.Doing.{does_as, does_as_halt, does_failed, does_reads}
 use Rattle.btr_scrub_copies.proofs.Turning.{fails_plain, read_at, read_marked, read_stranded, read_waits, reads_plain, strands_same, told_of, turns_behind}
 use Rattle.btr_scrub_row.specs.Rows.{Row, parities, parities_writes, parity_writes, rebuilt_writes, row_writes}
@@ -36,6 +37,12 @@ room_all layout stripe row row' buffer of of' room =
 pub row_of : (layout : Layout) (stripe : FullStripe) (chunk number : ℕ) (wants : List Want) (row : Row) → IsStripeOf layout stripe row
     → IsRowOf layout chunk number wants row → IsRowOf layout stripe.chunk stripe.number wants row
 row_of layout stripe chunk number wants row of is = record { stripe = of.is; blocks = is.blocks; lie = is.lie }
+
+-- at a fault the account doesn't hang on what would have come out
+pub account_halt : (A B : Type 0) (P : Range → Type 0) (a b : Seen) (fault : MendFault) → AccountsMend {A = A} P a b (Err fault)
+    → AccountsMend {A = B} P a b (Err fault)
+account_halt A B P a b (Image slot) h = h
+account_halt A B P a b Memory h = h
 
 abbrev pub made : Judged → ℕ → ℕ → MendedRow
 made judged repaired parity = record { blocks = judged.blocks; bad = judged.bad; repaired = repaired; lost = judged.lost; parity = parity }

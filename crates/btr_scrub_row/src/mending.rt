@@ -1,11 +1,11 @@
 // A full stripe, mended.
-ghost use Rattle.std.specs.Prelude.{◌≡◌, ℕ, ◌≤◌, length, IsTrue};
+ghost use Rattle.std.specs.Prelude.{◌≡◌, ℕ, ◌≤◌, false, length, IsTrue};
 ghost use Rattle.btr_read.specs.Serves.{Serves};
 ghost use Rattle.btr_read.specs.Store.{SameLoans};
-ghost use Rattle.btr_scrub_copies.specs.Writes.{AreWritable};
+ghost use Rattle.btr_scrub_copies.specs.Writes.{AccountsMend, AreWritable};
 ghost use Rattle.btr_scrub_row.specs.Rows.{Row};
 ghost use Rattle.btr_scrub_copies.specs.Fresh.{flagged};
-ghost use Rattle.btr_scrub_row.specs.Mending.{HasRoom, HasRoomFor, IsRow, IsRowOf, MendsRow};
+ghost use Rattle.btr_scrub_row.specs.Mending.{HasRoom, HasRoomFor, IsOfRow, IsRow, IsRowOf, MendsRow};
 
 use crate::applying::{count_parities, write_row};
 use crate::doubts::doubts_of;
@@ -31,8 +31,8 @@ use btr_scrub_copies::MendFault;
 ///
 /// There is a mark for each slot, and it is taken away by that sync alone.
 ///
-/// `Image`: a read, a write or a sync of an image failed, and nothing was tried behind it; no byte is written before all is read. `Memory`: a write
-/// wanted memory.
+/// `Image`: a read, a write or a sync of an image failed, and nothing was tried behind it; no byte is written before all is read. Where the row is only to
+/// be read, it was a read in one of its elements. `Memory`: a write wanted memory.
 pub fn mend_row<R: Rack>(
     at: RowAt,
     wants: &[Want],
@@ -54,6 +54,8 @@ pub fn mend_row<R: Rack>(
     ensures room { (elements : ℕ) → HasRoom buffer.old elements → HasRoom buffer.new elements }
     ensures mends { (row : Row) → IsRowOf store.old.layout at.chunk at.number wants.now row → row.failing ≡ flagged failing.now
         → MendsRow store.old.layout row write marks.old marks.new (R.seen rack.old) (R.seen rack.new) result }
+    ensures account { write ≡ false → (row : Row) → IsRowOf store.old.layout at.chunk at.number wants.now row
+        → AccountsMend (IsOfRow store.old.layout row) (R.seen rack.old) (R.seen rack.new) result }
 {
     let stripe = full_stripe(at.chunk, at.number, at.nodesize, store);
     let doubts = doubts_of(&stripe, failing, store);

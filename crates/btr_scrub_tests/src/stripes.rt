@@ -8,7 +8,7 @@ use std::alloc::Global;
 use std::process::Abort;
 use std::test::Fail;
 
-const DAMAGES: [Damage; 6] = [
+const DAMAGES: [Damage; 10] = [
     // A byte of P.
     Damage {
         volume: Made::Row(RowVolume::W5),
@@ -53,6 +53,45 @@ const DAMAGES: [Damage; 6] = [
             parity: 1,
             ..CLEAN
         },
+    },
+    // A tree block in one of many rows, all others of which are sound; and nothing but a parity in one.
+    Damage {
+        volume: Made::Row(RowVolume::Rows5),
+        mended: &[("a", 2146404)],
+        left: &[],
+        tally: Tally {
+            blocks: 222,
+            bad: 1,
+            repaired: 1,
+            ..CLEAN
+        },
+    },
+    Damage {
+        volume: Made::Row(RowVolume::Rows5),
+        mended: &[("c", 2097152)],
+        left: &[],
+        tally: Tally {
+            blocks: 222,
+            parity: 1,
+            ..CLEAN
+        },
+    },
+    // A sector beside two parities; and nothing but one of them.
+    Damage {
+        volume: Made::Row(RowVolume::W6),
+        mended: &[("a", 10489861)],
+        left: &[],
+        tally: Tally {
+            bad: 1,
+            repaired: 1,
+            ..CLEAN
+        },
+    },
+    Damage {
+        volume: Made::Row(RowVolume::W6),
+        mended: &[("d", 10489861)],
+        left: &[],
+        tally: Tally { parity: 1, ..CLEAN },
     },
     // Of two sectors of data one has no checksum, and is left, with its column's P.
     Damage {

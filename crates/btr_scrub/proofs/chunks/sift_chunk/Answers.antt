@@ -1,31 +1,38 @@
-use Rattle.std.proofs.Common.{Err, refl, sym, ◌∙◌, subst}
+use Rattle.std.proofs.Common.{◌+◌, ◌<◌, ◌++◌, Err, refl, sym, ap, ◌∙◌, subst, arith}
 use Rattle.btr_files.specs.Sums.{tree_behind}
 use Rattle.btr_read.specs.Layout.{Layout}
 use Rattle.btr_read.proofs.ReadsOn.{same_held}
 use Rattle.btr_scrub_copies.specs.Writes.{AccountsMend}
-use Rattle.btr_scrub.specs.Gathering.{scene}
+use Rattle.btr_scrub.specs.Gathering.{scene, wants_among}
+use Rattle.btr_scrub.specs.Listed.{kept_wants}
+use Rattle.btr_scrub.specs.Order.{AreBetween}
 use Rattle.btr_scrub.specs.WrittenRanges.{LiesInStripe}
-use Rattle.btr_scrub.specs.Sifting.{Stands, begun}
+use Rattle.btr_scrub.specs.Sifting.{Stands, WentIn, begun}
 use Rattle.btr_scrub.specs.Units.{in_chunk}
+use Rattle.btr_scrub.specs.declared.extent.Span.{Span}
 use Rattle.btr_scrub.specs.declared.gathered.Gathered.{Gathered}
 use Rattle.btr_volume.specs.declared.volume.Volume.{Volume}
-use Rattle.btr_scrub.proofs.Sieved.{behind, gathers_behind, gathers_later, sieves_fault, sieves_ok, sieves_stop, stop_behind}
+use Rattle.btr_volume.specs.declared.stop.Stop.TheVariants.{Tree}
+use Rattle.btr_walk.specs.declared.fault.TreeFault.TheVariants.{Malformed}
+use Rattle.btr_scrub.proofs.Lists.{at_in, in_of}
+use Rattle.btr_scrub.proofs.Sieved.{behind, gathers_behind, gathers_later, gathers_never, sieves_fault, sieves_ok, sieves_passed, sieves_stop, stop_behind}
 use Rattle.btr_scrub.proofs.Sieving.{is_behind}
+use Rattle.btr_scrub.proofs.Unitwise.{chunk_lies}
 use Rattle.btr_scrub.proofs.chunks.sift_chunk.Goals as goal
 
-pub returns-in-Err-clause-sieves : goal.returns-in-Err-clause-sieves
-returns-in-Err-clause-sieves g c chunk whole span there stands =
+pub returns-in_err-end-clause-sieves : goal.returns-in_err-end-clause-sieves
+returns-in_err-end-clause-sieves g c chunk whole span there stands =
     let a = g.R.Rack.seen c.args.rack.now in
     let b = g.R.Rack.seen c.gather_chunk.new.rack in
     let vol = c.args.vol.now in
     let after = c.gather_chunk.new.vol in
     let empty : Gathered = record { list = c.emptied.result; unchecked = c.args.sieve.now.unchecked } in
     let p = in_chunk vol.sup (tree_behind c.args.sums) chunk c.args.extents.now in
-    sieves_stop p (scene a vol whole) b after c.args.sieve.now c.gather_chunk.new.gathered c.in-Err.stop
-    (stop_behind p a b vol after empty whole c.gather_chunk.new.gathered c.in-Err.stop (c.in-Err.ensures chunk span there))
+    sieves_passed c.from_residual.ensures.1 (sieves_stop p (scene a vol whole) b after c.args.sieve.now c.gather_chunk.new.gathered c.in_err-end.field-0.0
+    (stop_behind p a b vol after empty whole c.gather_chunk.new.gathered c.in_err-end.field-0.0 (c.in_err-end.ensures chunk span there)))
 
-pub returns-in-Ok-sift_listed-clause-sieves : goal.returns-in-Ok-sift_listed-clause-sieves
-returns-in-Ok-sift_listed-clause-sieves g c chunk whole span there stands =
+pub returns-in-Ok-true-clause-sieves : goal.returns-in-Ok-true-clause-sieves
+returns-in-Ok-true-clause-sieves g c chunk whole span there stands =
     let a = g.R.Rack.seen c.args.rack.now in
     let b = g.R.Rack.seen c.gather_chunk.new.rack in
     let z = g.R.Rack.seen c.sift_listed.new.rack in
@@ -35,19 +42,51 @@ returns-in-Ok-sift_listed-clause-sieves g c chunk whole span there stands =
     let listed = c.gather_chunk.new.gathered in
     let empty : Gathered = record { list = c.emptied.result; unchecked = c.args.sieve.now.unchecked } in
     let p = in_chunk vol.sup (tree_behind c.args.sums) chunk c.args.extents.now in
-    let is = c.in-Ok.ensures chunk span there in
+    let is = c.in_ok-end.ensures chunk span there in
     let kind = c.emptied.ensures.kind ∙ stands.kind in
-    let h = gathers_behind p a b vol after empty whole listed c.in-Ok.end c.emptied.ensures.wants kind stands.unchecked stands.is_whole is in
+    let h = gathers_behind p a b vol after empty whole listed c.in_ok-end.end c.emptied.ensures.wants kind stands.unchecked stands.is_whole is in
     let layout = is.volume.store.layout in
     let here = subst (λ held. Stands after.store.layout held whole c.args.sieve.now) (sym (same_held is.reads))
     (subst (λ (l : Layout). Stands l a.held whole c.args.sieve.now) (sym layout) stands) in
     let all = is_behind whole.list listed.list stands.is_whole is.lists.is_list (is.lists.kind ∙ kind) whole.unchecked listed.unchecked listed.unchecked refl in
-    let more = c.in-Ok-sift_listed.ensures.stands whole (behind whole listed) here all in
-    sieves_ok p (scene a vol whole) z last c.sift_listed.new.sieve (behind whole listed) c.in-Ok.end
-    (gathers_later p a b z vol after last whole (behind whole listed) c.in-Ok-sift_listed.ensures.reads
-    (record { sup = refl; store = c.in-Ok-sift_listed.ensures.loans }) c.in-Ok-sift_listed.ensures.ready.serves c.in-Ok.end h)
-    (subst (λ held. Stands vol.store.layout held (behind whole listed) c.sift_listed.new.sieve) (sym (same_held c.in-Ok-sift_listed.ensures.reads))
+    let went = subst (WentIn after.store.layout b.held listed c.args.span.now c.args.sieve.now c.sift_listed.new.sieve) c.in-Ok-true.field-0-test
+    c.in-Ok-true.ensures.went in
+    let more = went whole (behind whole listed) here all in
+    sieves_ok p (scene a vol whole) z last c.sift_listed.new.sieve (behind whole listed) c.in_ok-end.end
+    (gathers_later p a b z vol after last whole (behind whole listed) c.in-Ok-true.ensures.reads
+    (record { sup = refl; store = c.in-Ok-true.ensures.loans }) c.in-Ok-true.ensures.ready.serves c.in_ok-end.end h)
+    (subst (λ held. Stands vol.store.layout held (behind whole listed) c.sift_listed.new.sieve) (sym (same_held c.in-Ok-true.ensures.reads))
     (subst (λ (l : Layout). Stands l b.held (behind whole listed) c.sift_listed.new.sieve) layout more))
+
+pub returns-in-Ok-false-clause-sieves : goal.returns-in-Ok-false-clause-sieves
+returns-in-Ok-false-clause-sieves g c chunk whole span there stands =
+    let a = g.R.Rack.seen c.args.rack.now in
+    let b = g.R.Rack.seen c.gather_chunk.new.rack in
+    let z = g.R.Rack.seen c.sift_listed.new.rack in
+    let vol = c.args.vol.now in
+    let after = c.gather_chunk.new.vol in
+    let last : Volume = record { store = c.sift_listed.new.store; sup = after.sup } in
+    let listed = c.gather_chunk.new.gathered in
+    let empty : Gathered = record { list = c.emptied.result; unchecked = c.args.sieve.now.unchecked } in
+    let p = in_chunk vol.sup (tree_behind c.args.sums) chunk c.args.extents.now in
+    let is = c.in_ok-end.ensures chunk span there in
+    let addr = c.args.span.now.start in
+    let some : 0 < vol.sup.nodesize = omega (arith, c.requires.nodesize, c.requires.can.nodesize, c.requires.can.large) in
+    let out = subst (WentIn after.store.layout b.held listed c.args.span.now c.args.sieve.now c.sift_listed.new.sieve) c.in-Ok-false.field-0-test
+    c.in-Ok-false.ensures.went in
+    let wants = is.lists.wants ∙ ap (λ ws. ws ++ wants_among is.done) c.emptied.ensures.wants in
+    let between = λ (h : AreBetween vol.store.layout chunk.start (chunk.start + chunk.length) (wants_among is.done)).
+    subst (λ (l : Layout). AreBetween l c.args.span.now.start (c.args.span.now.start + c.args.span.now.length) (kept_wants listed.list))
+    (sym is.volume.store.layout)
+    (subst (λ (s : Span). AreBetween vol.store.layout s.start (s.start + s.length) (kept_wants listed.list)) (sym span)
+    (subst (AreBetween vol.store.layout chunk.start (chunk.start + chunk.length)) (sym wants) h)) in
+    let at = at_in chunk vol.store.layout.chunks (in_of chunk vol.store.layout.chunks there) in
+    sieves_stop p (scene a vol whole) z last c.sift_listed.new.sieve listed (Tree (Malformed addr))
+    (stop_behind p a z vol last empty whole listed (Tree (Malformed addr))
+    (gathers_never p a b z vol after last empty listed c.in-Ok-false.ensures.reads (record { sup = refl; store = c.in-Ok-false.ensures.loans })
+    c.in-Ok-false.ensures.ready.serves c.in_ok-end.end is addr
+    (λ B met. out (between (chunk_lies vol.sup vol.store.layout c.requires.ready.table c.requires.nodesize some B (tree_behind c.args.sums) at.0 chunk at.1
+    c.args.extents.now is.done c.in_ok-end.end met)))))
 
 pub returns-clause-sieves : goal.returns-clause-sieves
 returns-clause-sieves g c chunk whole span there stands =
@@ -60,9 +99,9 @@ returns-clause-sieves g c chunk whole span there stands =
     let listed = c.gather_chunk.new.gathered in
     let empty : Gathered = record { list = c.emptied.result; unchecked = c.args.sieve.now.unchecked } in
     let p = in_chunk vol.sup (tree_behind c.args.sums) chunk c.args.extents.now in
-    let is = c.in-Ok.ensures chunk span there in
-    let h = gathers_behind p a b vol after empty whole listed c.in-Ok.end c.emptied.ensures.wants (c.emptied.ensures.kind ∙ stands.kind) stands.unchecked stands.is_whole is in
-    sieves_fault p a b z vol after last whole (behind whole listed) c.sift_listed.new.sieve c.in-Ok.end h c.in-Err-sift_listed.ensures.reads
-    (record { sup = refl; store = c.in-Err-sift_listed.ensures.loans }) c.in-Err-sift_listed.ensures.ready.serves c.in-Err-sift_listed.fault
-    (subst (λ (l : Layout). AccountsMend {A = Unit {0}} (LiesInStripe l) b z (Err c.in-Err-sift_listed.fault)) is.volume.store.layout
-    c.in-Err-sift_listed.ensures.account) c.stop_of.result c.stop_of.ensures (begun 0 0)
+    let is = c.in_ok-end.ensures chunk span there in
+    let h = gathers_behind p a b vol after empty whole listed c.in_ok-end.end c.emptied.ensures.wants (c.emptied.ensures.kind ∙ stands.kind) stands.unchecked stands.is_whole is in
+    sieves_fault p a b z vol after last whole (behind whole listed) c.sift_listed.new.sieve c.in_ok-end.end h c.in-Err.ensures.reads
+    (record { sup = refl; store = c.in-Err.ensures.loans }) c.in-Err.ensures.ready.serves c.in-Err.fault
+    (subst (λ (l : Layout). AccountsMend {A = Unit {0}} (LiesInStripe l) b z (Err c.in-Err.fault)) is.volume.store.layout
+    c.in-Err.ensures.account) c.stop_of.result c.stop_of.ensures (begun 0 0)

@@ -5,18 +5,20 @@ use Rattle.btr_prog.specs.Prog.{Return}
 use Rattle.btr_read.specs.Layout.{Layout}
 use Rattle.btr_super.specs.declared.superblock.Super.{Super}
 use Rattle.btr_scrub.specs.Gathering.{Reaches, scene}
-use Rattle.btr_scrub.specs.Sifting.{Sieves, Stands}
+use Rattle.btr_scrub.specs.Sifting.{CanSift, Sieves, Stands}
+use Rattle.btr_scrub.specs.declared.extent.Span.{Span}
 use Rattle.btr_scrub.specs.Units.{Meeting, in_chunk, in_chunks}
 use Rattle.btr_scrub.proofs.Chunkwise.{chunk_first, contains_at, span_in}
 use Rattle.btr_scrub.proofs.Gathering.{gathers_value, reaches_ends, reaches_none, reaches_step, same_self, same_then}
-use Rattle.btr_scrub.proofs.Sieved.{sieves_halt, sieves_ok}
+use Rattle.btr_scrub.proofs.Sieved.{sieves_halt, sieves_ok, sieves_passed}
 use Rattle.btr_scrub.proofs.chunks.sift_chunks.Goals as goal
 
 pub loop-i-init : goal.loop-i-init
 loop-i-init g c = record {
   ready = c.requires.ready;
   volume = same_self c.args.vol.now;
-  is_list = c.requires.is_list;
+  can = c.requires.can;
+  behind = λ chunk there. omega (arith, c.requires.begins);
   kind = c.requires.kind;
   reaches = λ whole stands. (
     whole,
@@ -30,8 +32,19 @@ pub sift_chunk-requires-clause-chunk : goal.sift_chunk-requires-clause-chunk
 sift_chunk-requires-clause-chunk g c = span_in c.args.vol.now.store.layout c.loop-i.vol.store.layout c.loop-i.i c.span_at-span.result
     c.loop-i.invariant.volume.store.layout c.span_at-span.ensures
 
-pub returns-in-Err-clause-sieves : goal.returns-in-Err-clause-sieves
-returns-in-Err-clause-sieves g c whole stands =
+pub sift_chunk-requires-clause-can : goal.sift_chunk-requires-clause-can
+sift_chunk-requires-clause-can g c =
+    subst (λ (l : Layout). CanSift l c.loop-i.sieve.sifted) (sym c.loop-i.invariant.volume.store.layout) c.loop-i.invariant.can
+
+pub sift_chunk-requires-clause-behind : goal.sift_chunk-requires-clause-behind
+sift_chunk-requires-clause-behind g c =
+    let at = c.span_at-span.ensures in
+    let there = subst (λ (l : Layout). slice_get l.chunks c.loop-i.i ≡ Some at.chunk) c.loop-i.invariant.volume.store.layout at.at in
+    let start = ap (λ (s : Span). s.start) at.is in
+    omega (arith, c.loop-i.invariant.behind at.chunk there, start)
+
+pub returns-in_err-sift_chunk-clause-sieves : goal.returns-in_err-sift_chunk-clause-sieves
+returns-in_err-sift_chunk-clause-sieves g c whole stands =
     let s = c.args.vol.now.sup in
     let sums = tree_behind c.args.sums in
     let i = c.loop-i.i in
@@ -45,18 +58,26 @@ returns-in-Err-clause-sieves g c whole stands =
     let here = in_chunk s sums at.chunk extents in
     let rest = λ (n : ℕ). in_chunks s sums extents (drop (i + 1) chunks) in
     let there = subst (λ (l : Layout). slice_get l.chunks i ≡ Some at.chunk) c.loop-i.invariant.volume.store.layout at.at in
-    sieves_halt (in_chunks s sums extents chunks) here rest x y
+    sieves_passed c.from_residual.ensures.1 (sieves_halt (in_chunks s sums extents chunks) here rest x y
     (subst (λ (q : Meeting (Unit {0})). Reaches (in_chunks s sums extents chunks) q x y) (chunk_first s sums extents chunks i at.chunk there) h.1)
-    z c.sift_chunk.new.vol c.sift_chunk.new.sieve c.in-Err.stop
-    (subst (λ (t : Super). Sieves (in_chunk t sums at.chunk extents) y z c.sift_chunk.new.vol c.sift_chunk.new.sieve (Err c.in-Err.stop)) c.loop-i.invariant.volume.sup
-    (c.in-Err.ensures.sieves at.chunk h.0 at.is (contains_at c.loop-i.vol.store.layout.chunks i at.chunk at.at) h.2))
+    z c.sift_chunk.new.vol c.sift_chunk.new.sieve c.in_err-sift_chunk.field-0.0
+    (subst (λ (t : Super). Sieves (in_chunk t sums at.chunk extents) y z c.sift_chunk.new.vol c.sift_chunk.new.sieve (Err c.in_err-sift_chunk.field-0.0)) c.loop-i.invariant.volume.sup
+    (c.in_err-sift_chunk.ensures.sieves at.chunk h.0 at.is (contains_at c.loop-i.vol.store.layout.chunks i at.chunk at.at) h.2)))
 
 pub loop-i-preserved : goal.loop-i-preserved
 loop-i-preserved g c = record {
-  ready = c.in-Ok.ensures.ready;
-  volume = same_then c.loop-i.invariant.volume c.in-Ok.ensures.volume;
-  is_list = c.in-Ok.ensures.is_list;
-  kind = c.in-Ok.ensures.kind ∙ c.loop-i.invariant.kind;
+  ready = c.in_ok-sift_chunk.ensures.ready;
+  volume = same_then c.loop-i.invariant.volume c.in_ok-sift_chunk.ensures.volume;
+  can = subst (λ (l : Layout). CanSift l c.sift_chunk.new.sieve.sifted) c.loop-i.invariant.volume.store.layout c.in_ok-sift_chunk.ensures.can;
+  behind = λ chunk there.
+      let at = c.span_at-span.ensures in
+      let layout = c.args.vol.now.store.layout in
+      let here = subst (λ (l : Layout). slice_get l.chunks c.loop-i.i ≡ Some at.chunk) c.loop-i.invariant.volume.store.layout at.at in
+      let apart = (c.requires.ready.table.apart c.loop-i.i (c.loop-i.i + 1) at.chunk chunk (omega arith) here there).0 in
+      let start = ap (λ (s : Span). s.start) at.is in
+      let length = ap (λ (s : Span). s.length) at.is in
+      omega (arith, c.in_ok-sift_chunk.ensures.end, apart, start, length);
+  kind = c.in_ok-sift_chunk.ensures.kind ∙ c.loop-i.invariant.kind;
   reaches = λ whole stands.
       let s = c.args.vol.now.sup in
       let sums = tree_behind c.args.sums in
@@ -71,13 +92,13 @@ loop-i-preserved g c = record {
       let here = in_chunk s sums at.chunk extents in
       let rest = λ (n : ℕ). in_chunks s sums extents (drop (i + 1) chunks) in
       let there = subst (λ (l : Layout). slice_get l.chunks i ≡ Some at.chunk) c.loop-i.invariant.volume.store.layout at.at in
-      let one = subst (λ (t : Super). Sieves (in_chunk t sums at.chunk extents) y z c.sift_chunk.new.vol c.sift_chunk.new.sieve (Ok c.in-Ok.field-0)) c.loop-i.invariant.volume.sup
-      (c.in-Ok.ensures.sieves at.chunk h.0 at.is (contains_at c.loop-i.vol.store.layout.chunks i at.chunk at.at) h.2) in (
+      let one = subst (λ (t : Super). Sieves (in_chunk t sums at.chunk extents) y z c.sift_chunk.new.vol c.sift_chunk.new.sieve (Ok c.in_ok-sift_chunk.field-0)) c.loop-i.invariant.volume.sup
+      (c.in_ok-sift_chunk.ensures.sieves at.chunk h.0 at.is (contains_at c.loop-i.vol.store.layout.chunks i at.chunk at.at) h.2) in (
         one.went.0,
         reaches_step (in_chunks s sums extents chunks) here rest x y
             (subst (λ (q : Meeting (Unit {0})). Reaches (in_chunks s sums extents chunks) q x y) (chunk_first s sums extents chunks i at.chunk there) h.1)
-            (scene z c.sift_chunk.new.vol one.went.0) c.in-Ok.field-0 one.went.1,
-        subst (λ (l : Layout). Stands l z.held one.went.0 c.sift_chunk.new.sieve) (sym c.in-Ok.ensures.volume.store.layout) one.went.2,
+            (scene z c.sift_chunk.new.vol one.went.0) c.in_ok-sift_chunk.field-0 one.went.1,
+        subst (λ (l : Layout). Stands l z.held one.went.0 c.sift_chunk.new.sieve) (sym c.in_ok-sift_chunk.ensures.volume.store.layout) one.went.2,
       );
 }
 

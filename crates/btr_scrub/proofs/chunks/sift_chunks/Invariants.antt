@@ -1,10 +1,10 @@
-use Rattle.std.proofs.Common.{◌≡◌, drop, false}
+use Rattle.std.proofs.Common.{◌≡◌, ◌≤◌, Some, drop, false, slice_get}
+use Rattle.btr_chunk.specs.declared.chunk.Chunk.{Chunk}
 use Rattle.btr_files.specs.Sums.{kind_in, tree_behind}
 use Rattle.btr_volume.specs.Looking.{SameVolume}
 use Rattle.btr_scrub.specs.Gathering.{Reaches, scene}
-use Rattle.btr_scrub.specs.Listed.{IsList}
 use Rattle.btr_scrub.specs.Scrubbing.{CanMend}
-use Rattle.btr_scrub.specs.Sifting.{Stands}
+use Rattle.btr_scrub.specs.Sifting.{CanSift, Stands}
 use Rattle.btr_scrub.specs.Units as units
 use Rattle.btr_scrub.specs.declared.gathered.Gathered.{Gathered}
 use Rattle.btr_scrub.proofs.chunks.sift_chunks.Given as goal
@@ -13,7 +13,8 @@ abbrev pub invariant-loop-i : goal.invariant-loop-i
 invariant-loop-i g l = record {
   ready : CanMend false (g.R.Rack.seen l.rack) l.vol.store l.marks;
   volume : SameVolume l.fn.vol l.vol;
-  is_list : IsList l.sieve.sifted.kept;
+  can : CanSift l.fn.vol.store.layout l.sieve.sifted;
+  behind : (chunk : Chunk) → slice_get l.fn.vol.store.layout.chunks l.i ≡ Some chunk → l.sieve.end ≤ chunk.start;
   kind : l.sieve.sifted.kept.kind ≡ kind_in l.fn.vol.sup;
   reaches : (whole : Gathered) → Stands l.fn.vol.store.layout (g.R.Rack.seen l.fn.rack).held whole l.fn.sieve
       → (mid : Gathered) × Reaches (units.in_chunks l.fn.vol.sup (tree_behind l.sums) l.extents l.fn.vol.store.layout.chunks)

@@ -18,6 +18,7 @@ use Rattle.btr_scrub_copies.specs.Fresh.{flagged}
 use Rattle.btr_scrub.specs.Scrubbing.{BeginsBehind, IsPastChunk, Scrubs, count_site, sites_count, sites_writes}
 use Rattle.btr_scrub.proofs.Blockwise.{chunk_mended, have_lengths, next_block, next_copied, past_chunk, underway_cut, underway_first, underway_more}
 use Rattle.btr_scrub.proofs.Passing.{passed_if, settled}
+use Rattle.btr_scrub.proofs.Scrubbing.{scrubs_passed}
 use Rattle.btr_scrub.proofs.copied.mend_blocks.Goals as goal
 use Rattle.btr_scrub.proofs.Lists.{some_of}
 
@@ -50,8 +51,8 @@ mend_site-requires-clause-copied g c =
 
 pub loop-want-preserved : goal.loop-want-preserved
 loop-want-preserved g c = record {
-  ready = c.in-Ok.ensures.ready;
-  loans = same_loans_then c.args.store.now c.loop-want.store c.mend_site.new.store c.loop-want.invariant.loans c.in-Ok.ensures.loans;
+  ready = c.in_ok-mend_site.ensures.ready;
+  loans = same_loans_then c.args.store.now c.loop-want.store c.mend_site.new.store c.loop-want.invariant.loans c.in_ok-mend_site.ensures.loans;
   underway = λ chunk there.
       let layout = c.args.store.now.layout in
       let fails = flagged c.args.failing.now in
@@ -65,7 +66,7 @@ loop-want-preserved g c = record {
       let below : addr_of c.in-Some.want < chunk.start + chunk.length = subst (λ (k : Chunk). addr_of c.in-Some.want < k.start + k.length) same c.in-Some.ensures.1 in
       let next = next_block layout c.requires.ready.table c.args.task.number chunk there h.end c.in-Some.want c.next_below.new.blocks h.from (subst (AreApart layout h.end) left h.apart) below in
       let own_one = subst (λ (l : Layout). (t : Target) → sought l c.in-Some.want ≡ Ok t → Scrubs {A = Unit {0}} (alone l t.chunk) c.args.task.write (λ images. mending_writes images fails t) (λ images tally. count_site fails images c.args.task.write tally t) c.loop-want.marks c.mend_site.new.marks
-      (g.R.Rack.seen c.loop-want.rack) (g.R.Rack.seen c.mend_site.new.rack) c.loop-want.tally c.mend_site.new.tally (Ok tt)) c.loop-want.invariant.loans.layout c.in-Ok.ensures.scrubs next.target next.is_sought in
+      (g.R.Rack.seen c.loop-want.rack) (g.R.Rack.seen c.mend_site.new.rack) c.loop-want.tally c.mend_site.new.tally (Ok tt)) c.loop-want.invariant.loans.layout c.in_ok-mend_site.ensures.scrubs next.target next.is_sought in
       let one = subst (λ k. Scrubs {A = Unit {0}} (alone layout k) c.args.task.write (λ images. mending_writes images fails next.target) (λ images tally. count_site fails images c.args.task.write tally next.target) c.loop-want.marks c.mend_site.new.marks
       (g.R.Rack.seen c.loop-want.rack) (g.R.Rack.seen c.mend_site.new.rack) c.loop-want.tally c.mend_site.new.tally (Ok tt)) next.mine own_one in
       let b = g.R.Rack.seen c.loop-want.rack in
@@ -92,8 +93,8 @@ loop-want-preserved g c = record {
       (ap (λ (k : Chunk). k.start + k.length) same) c.pass_if.ensures more;
 }
 
-pub returns-in-Err-clause-scrubs : goal.returns-in-Err-clause-scrubs
-returns-in-Err-clause-scrubs g c chunk there =
+pub returns-in_err-mend_site-clause-scrubs : goal.returns-in_err-mend_site-clause-scrubs
+returns-in_err-mend_site-clause-scrubs g c chunk there =
     let layout = c.args.store.now.layout in
     let fails = flagged c.args.failing.now in
     let a = g.R.Rack.seen c.args.rack.now in
@@ -106,13 +107,13 @@ returns-in-Err-clause-scrubs g c chunk there =
     let below : addr_of c.in-Some.want < chunk.start + chunk.length = subst (λ (k : Chunk). addr_of c.in-Some.want < k.start + k.length) same c.in-Some.ensures.1 in
     let next = next_block layout c.requires.ready.table c.args.task.number chunk there h.end c.in-Some.want c.next_below.new.blocks h.from (subst (AreApart layout h.end) left h.apart) below in
     let own_one = subst (λ (l : Layout). (t : Target) → sought l c.in-Some.want ≡ Ok t → Scrubs {A = Unit {0}} (alone l t.chunk) c.args.task.write (λ images. mending_writes images fails t) (λ images tally. count_site fails images c.args.task.write tally t) c.loop-want.marks c.mend_site.new.marks
-    (g.R.Rack.seen c.loop-want.rack) (g.R.Rack.seen c.mend_site.new.rack) c.loop-want.tally c.mend_site.new.tally (Err c.in-Err.fault)) c.loop-want.invariant.loans.layout c.in-Err.ensures.scrubs next.target next.is_sought in
+    (g.R.Rack.seen c.loop-want.rack) (g.R.Rack.seen c.mend_site.new.rack) c.loop-want.tally c.mend_site.new.tally (Err c.in_err-mend_site.field-0.0)) c.loop-want.invariant.loans.layout c.in_err-mend_site.ensures.scrubs next.target next.is_sought in
     let one = subst (λ k. Scrubs {A = Unit {0}} (alone layout k) c.args.task.write (λ images. mending_writes images fails next.target) (λ images tally. count_site fails images c.args.task.write tally next.target) c.loop-want.marks c.mend_site.new.marks
-    (g.R.Rack.seen c.loop-want.rack) (g.R.Rack.seen c.mend_site.new.rack) c.loop-want.tally c.mend_site.new.tally (Err c.in-Err.fault)) next.mine own_one in
-    underway_cut fails layout c.args.task.write c.requires.ready.table was.own_slots c.args.task.number chunk there is.0 c.args.blocks.now c.args.marks.now a
+    (g.R.Rack.seen c.loop-want.rack) (g.R.Rack.seen c.mend_site.new.rack) c.loop-want.tally c.mend_site.new.tally (Err c.in_err-mend_site.field-0.0)) next.mine own_one in
+    scrubs_passed c.from_residual.ensures.1 (underway_cut fails layout c.args.task.write c.requires.ready.table was.own_slots c.args.task.number chunk there is.0 c.args.blocks.now c.args.marks.now a
     c.args.tally.now c.loop-want.blocks c.loop-want.marks (g.R.Rack.seen c.loop-want.rack) c.loop-want.tally h
     (λ images held. have_lengths a layout images (g.met.R.Rack.sound c.args.rack.now) was.are_open held) c.in-Some.want c.next_below.new.blocks left
-    next c.mend_site.new.marks (g.R.Rack.seen c.mend_site.new.rack) c.mend_site.new.tally c.in-Err.fault one
+    next c.mend_site.new.marks (g.R.Rack.seen c.mend_site.new.rack) c.mend_site.new.tally c.in_err-mend_site.field-0.0 one)
 
 pub returns-clause-past : goal.returns-clause-past
 returns-clause-past g c chunk there =

@@ -10,7 +10,7 @@ use Rattle.btr_scrub.specs.Scrubbing.{HasRooms, IsPastChunk, Works, all_count_fo
 use Rattle.btr_scrub_copies.specs.Fresh.{flagged}
 use Rattle.btr_scrub.proofs.Blockwise.{have_lengths}
 use Rattle.btr_scrub.proofs.AcrossChunks.{chunk_unmoved}
-use Rattle.btr_scrub.proofs.Working.{at_number, begins_there, chunks_cut, chunks_more, chunks_none, works_alone}
+use Rattle.btr_scrub.proofs.Working.{at_number, begins_there, chunks_cut, chunks_more, chunks_none, works_alone, works_passed}
 use Rattle.btr_scrub.proofs.mending.mend_all.Goals as goal
 
 pub loop-number-init : goal.loop-number-init
@@ -43,12 +43,12 @@ mend_and_sync-requires-clause-chunk g c =
     (sym c.loop-number.invariant.loans.layout)
     (subst (λ o. IsSomeAnd o (λ chunk. AreApart layout chunk.start c.loop-number.blocks)) (sym at.1) begin)
 
-pub returns-in-Err-clause-loans : goal.returns-in-Err-clause-loans
-returns-in-Err-clause-loans g c = same_loans_then c.args.store.now c.loop-number.store c.mend_and_sync.new.store c.loop-number.invariant.loans
-    c.in-Err.ensures.loans
+pub returns-in_err-mend_and_sync-clause-loans : goal.returns-in_err-mend_and_sync-clause-loans
+returns-in_err-mend_and_sync-clause-loans g c = same_loans_then c.args.store.now c.loop-number.store c.mend_and_sync.new.store c.loop-number.invariant.loans
+    c.in_err-mend_and_sync.ensures.loans
 
-pub returns-in-Err-clause-works : goal.returns-in-Err-clause-works
-returns-in-Err-clause-works g c =
+pub returns-in_err-mend_and_sync-clause-works : goal.returns-in_err-mend_and_sync-clause-works
+returns-in_err-mend_and_sync-clause-works g c =
     let layout = c.args.store.now.layout in
     let table = c.requires.ready.table in
     let a = g.R.Rack.seen c.args.rack.now in
@@ -57,13 +57,13 @@ returns-in-Err-clause-works g c =
     let was = serving a c.args.store.now c.requires.ready.serves in
     let at = at_number layout c.loop-number.number (omega (arith, c.loop-number-test.true, c.count-number-end.ensures.count, ap length c.chunks.ensures)) in
     let only = subst (λ (l : Layout). (chunk : Chunk) → slice_get l.chunks c.loop-number.number ≡ Some chunk
-    → Works {A = Unit {0}} (alone l chunk) c.args.write (chunk_writes_for (flagged c.args.failing.now) l chunk c.loop-number.blocks) (chunk_count_for (flagged c.args.failing.now) l c.args.write chunk c.loop-number.blocks) b z c.loop-number.tally c.mend_and_sync.new.tally (Err c.in-Err.fault)) c.loop-number.invariant.loans.layout c.in-Err.ensures.works at.0 at.1 in
-    let one = works_alone layout c.args.write {A = Unit {0}} c.loop-number.number at.0 at.1 (chunk_writes_for (flagged c.args.failing.now) layout at.0 c.loop-number.blocks) (chunk_count_for (flagged c.args.failing.now) layout c.args.write at.0 c.loop-number.blocks) b z c.loop-number.tally c.mend_and_sync.new.tally (Err c.in-Err.fault) only in
-    chunks_cut (flagged c.args.failing.now) layout table c.args.blocks.now c.loop-number.number at.0 at.1 c.args.write c.loop-number.blocks
+    → Works {A = Unit {0}} (alone l chunk) c.args.write (chunk_writes_for (flagged c.args.failing.now) l chunk c.loop-number.blocks) (chunk_count_for (flagged c.args.failing.now) l c.args.write chunk c.loop-number.blocks) b z c.loop-number.tally c.mend_and_sync.new.tally (Err c.in_err-mend_and_sync.field-0.0)) c.loop-number.invariant.loans.layout c.in_err-mend_and_sync.ensures.works at.0 at.1 in
+    let one = works_alone layout c.args.write {A = Unit {0}} c.loop-number.number at.0 at.1 (chunk_writes_for (flagged c.args.failing.now) layout at.0 c.loop-number.blocks) (chunk_count_for (flagged c.args.failing.now) layout c.args.write at.0 c.loop-number.blocks) b z c.loop-number.tally c.mend_and_sync.new.tally (Err c.in_err-mend_and_sync.field-0.0) only in
+    works_passed c.from_residual.ensures.1 (chunks_cut (flagged c.args.failing.now) layout table c.args.blocks.now c.loop-number.number at.0 at.1 c.args.write c.loop-number.blocks
     c.mend_and_sync.new.blocks a b z c.args.tally.now c.loop-number.tally c.mend_and_sync.new.tally c.loop-number.invariant.past
     (chunk_unmoved (flagged c.args.failing.now) layout c.args.write c.args.blocks.now a.held c.loop-number.number at.0 table was.own_slots
     c.requires.ready.given at.1 (λ images held. have_lengths a layout images (g.met.R.Rack.sound c.args.rack.now) was.are_open held))
-    c.in-Err.fault one
+    c.in_err-mend_and_sync.field-0.0 one)
 
 pub loop-number-preserved : goal.loop-number-preserved
 loop-number-preserved g c =
@@ -76,13 +76,13 @@ loop-number-preserved g c =
     let was = serving a c.args.store.now c.requires.ready.serves in
     let at = at_number layout c.loop-number.number (omega (arith, c.loop-number-test.true, c.count-number-end.ensures.count, ap length c.chunks.ensures)) in
     let only = subst (λ (l : Layout). (chunk : Chunk) → slice_get l.chunks c.loop-number.number ≡ Some chunk
-    → Works {A = Unit {0}} (alone l chunk) c.args.write (chunk_writes_for (flagged c.args.failing.now) l chunk c.loop-number.blocks) (chunk_count_for (flagged c.args.failing.now) l c.args.write chunk c.loop-number.blocks) b z c.loop-number.tally c.mend_and_sync.new.tally (Ok tt)) inv.loans.layout c.in-Ok.ensures.works at.0 at.1 in
+    → Works {A = Unit {0}} (alone l chunk) c.args.write (chunk_writes_for (flagged c.args.failing.now) l chunk c.loop-number.blocks) (chunk_count_for (flagged c.args.failing.now) l c.args.write chunk c.loop-number.blocks) b z c.loop-number.tally c.mend_and_sync.new.tally (Ok tt)) inv.loans.layout c.in_ok-mend_and_sync.ensures.works at.0 at.1 in
     let one = works_alone layout c.args.write {A = Unit {0}} c.loop-number.number at.0 at.1 (chunk_writes_for (flagged c.args.failing.now) layout at.0 c.loop-number.blocks) (chunk_count_for (flagged c.args.failing.now) layout c.args.write at.0 c.loop-number.blocks) b z c.loop-number.tally c.mend_and_sync.new.tally (Ok tt) only in
-    let past = subst (λ (l : Layout). (chunk : Chunk) → slice_get l.chunks c.loop-number.number ≡ Some chunk → IsPastChunk l chunk c.loop-number.blocks c.mend_and_sync.new.blocks) inv.loans.layout c.in-Ok.ensures.past at.0 at.1 in
+    let past = subst (λ (l : Layout). (chunk : Chunk) → slice_get l.chunks c.loop-number.number ≡ Some chunk → IsPastChunk l chunk c.loop-number.blocks c.mend_and_sync.new.blocks) inv.loans.layout c.in_ok-mend_and_sync.ensures.past at.0 at.1 in
     record {
-      ready = c.in-Ok.ensures.ready;
-      loans = same_loans_then c.args.store.now c.loop-number.store c.mend_and_sync.new.store inv.loans c.in-Ok.ensures.loans;
-      rooms = subst (λ (l : Layout). HasRooms l c.mend_and_sync.new.room.buffer) inv.loans.layout c.in-Ok.ensures.rooms;
+      ready = c.in_ok-mend_and_sync.ensures.ready;
+      loans = same_loans_then c.args.store.now c.loop-number.store c.mend_and_sync.new.store inv.loans c.in_ok-mend_and_sync.ensures.loans;
+      rooms = subst (λ (l : Layout). HasRooms l c.mend_and_sync.new.room.buffer) inv.loans.layout c.in_ok-mend_and_sync.ensures.rooms;
       past = chunks_more (flagged c.args.failing.now) layout table c.args.blocks.now c.loop-number.number at.0 at.1 c.args.write
           c.loop-number.blocks c.mend_and_sync.new.blocks a b z c.args.tally.now c.loop-number.tally c.mend_and_sync.new.tally inv.past
           (chunk_unmoved (flagged c.args.failing.now) layout c.args.write c.args.blocks.now a.held c.loop-number.number at.0 table

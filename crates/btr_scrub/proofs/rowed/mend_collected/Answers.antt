@@ -7,20 +7,20 @@ use Rattle.btr_scrub.specs.WrittenRanges.{alone}
 use Rattle.btr_scrub.specs.Rowing.{IsCalm, untouched}
 use Rattle.btr_scrub.specs.Scrubbing.{Scrubs, counted_row}
 use Rattle.btr_scrub.specs.declared.tally.Tally.{Tally}
-use Rattle.btr_scrub.proofs.CalmRows.{calm_counts, calm_writes}
+use Rattle.btr_scrub.proofs.CalmRows.{calm_counts, calm_writes, sought_in_row}
 use Rattle.btr_scrub.proofs.OneRow.{flagged_row, has_room, row_in_stripe, scrubs_row, scrubs_row_not, still_ready}
-use Rattle.btr_scrub.proofs.Scrubbing.{scrubs_as, scrubs_idle}
+use Rattle.btr_scrub.proofs.Scrubbing.{scrubs_as, scrubs_idle, scrubs_passed}
 use Rattle.btr_scrub.proofs.rowed.mend_collected.Goals as goal
 
 pub mend_row-requires-clause-room : goal.mend_row-requires-clause-room
 mend_row-requires-clause-room g c row is = has_room c.args.store.now.layout c.args.room.now.buffer c.args.at.chunk c.args.at.number c.deref-2.result.now
     row c.requires.rooms is
 
-pub returns-in-Ok-clause-rooms : goal.returns-in-Ok-clause-rooms
-returns-in-Ok-clause-rooms g c i chunk at none = c.in-Ok.ensures.room (length chunk.stripes) (c.requires.rooms i chunk at none)
+pub returns-clause-rooms : goal.returns-clause-rooms
+returns-clause-rooms g c i chunk at none = c.in_ok-mended.ensures.room (length chunk.stripes) (c.requires.rooms i chunk at none)
 
-pub returns-in-Err-clause-rooms : goal.returns-in-Err-clause-rooms
-returns-in-Err-clause-rooms g c i chunk at none = c.in-Err.ensures.room (length chunk.stripes) (c.requires.rooms i chunk at none)
+pub returns-in_err-mended-clause-rooms : goal.returns-in_err-mended-clause-rooms
+returns-in_err-mended-clause-rooms g c i chunk at none = c.in_err-mended.ensures.room (length chunk.stripes) (c.requires.rooms i chunk at none)
 
 pub returns-then-is_calm-clause-scrubs : goal.returns-then-is_calm-clause-scrubs
 returns-then-is_calm-clause-scrubs g c r is fails =
@@ -32,8 +32,9 @@ returns-then-is_calm-clause-scrubs g c r is fails =
     let wants = c.args.room.now.wants.items in
     let here = subst (λ ws. IsRowOf layout c.args.at.chunk c.args.at.number ws r) (sym c.deref.ensures.value) is in
     let calm : IsCalm layout r = c.is_calm.ensures c.if-is_calm.true r here fails in
-    let writes = λ (images : Images). calm_writes layout table c.args.at.chunk c.args.at.number wants r is calm images in
-    let counts = λ (images : Images). calm_counts layout table c.args.at.chunk c.args.at.number wants r is calm images write in
+    let lie = sought_in_row layout c.args.at.chunk c.args.at.number wants r is in
+    let writes = λ (images : Images). calm_writes layout table r lie is.stripe.parity calm images in
+    let counts = λ (images : Images). calm_counts layout table r lie is.stripe.parity calm images write in
     let told : c.counted_row.result ≡ counted_row tally untouched = c.counted_row.ensures ∙ ap (counted_row tally) c.untouched.ensures in
     subst (λ u. Scrubs (alone layout r.chunk) write (λ images. row_writes images layout r)
     (λ images tally. counted_row tally (mended_row images layout r write)) c.args.marks.now c.args.marks.now a a tally u (Ok tt))
@@ -44,39 +45,39 @@ returns-then-is_calm-clause-scrubs g c r is fails =
     (λ images e. (sym (writes images), sym (ap (counted_row tally) (counts images))))
     (scrubs_idle (alone layout r.chunk) write (λ t. counted_row t untouched) c.args.marks.now a tally tt))
 
-pub returns-in-Ok-clause-scrubs : goal.returns-in-Ok-clause-scrubs
-returns-in-Ok-clause-scrubs g c r is fails =
+pub returns-clause-scrubs : goal.returns-clause-scrubs
+returns-clause-scrubs g c r is fails =
     let layout = c.args.store.now.layout in
     let here = subst (λ ws. IsRowOf layout c.args.at.chunk c.args.at.number ws r) (sym c.deref-2.ensures.value) is in
     scrubs_row layout c.args.write r c.args.marks.now c.mend_row.new.marks (g.R.Rack.seen c.args.rack.now) (g.R.Rack.seen c.mend_row.new.rack)
     (λ range of. row_in_stripe layout c.args.at.chunk c.args.at.number r range c.requires.ready.table is.stripe of) c.args.tally.now
-    c.counted_row-in-Ok.result c.in-Ok.mended (c.in-Ok.ensures.mends r here fails)
-    c.counted_row-in-Ok.ensures
+    c.counted_row-2.result c.in_ok-mended.mended (c.in_ok-mended.ensures.mends r here fails)
+    c.counted_row-2.ensures
 
-pub returns-in-Err-clause-scrubs : goal.returns-in-Err-clause-scrubs
-returns-in-Err-clause-scrubs g c r is fails =
+pub returns-in_err-mended-clause-scrubs : goal.returns-in_err-mended-clause-scrubs
+returns-in_err-mended-clause-scrubs g c r is fails =
     let layout = c.args.store.now.layout in
     let here = subst (λ ws. IsRowOf layout c.args.at.chunk c.args.at.number ws r) (sym c.deref-2.ensures.value) is in
-    scrubs_row_not layout c.args.write r c.args.marks.now c.mend_row.new.marks (g.R.Rack.seen c.args.rack.now) (g.R.Rack.seen c.mend_row.new.rack)
-    (λ range of. row_in_stripe layout c.args.at.chunk c.args.at.number r range c.requires.ready.table is.stripe of) c.args.tally.now c.in-Err.fault
-    (c.in-Err.ensures.mends r here fails)
+    scrubs_passed c.from_residual.ensures.1 (scrubs_row_not layout c.args.write r c.args.marks.now c.mend_row.new.marks (g.R.Rack.seen c.args.rack.now) (g.R.Rack.seen c.mend_row.new.rack)
+    (λ range of. row_in_stripe layout c.args.at.chunk c.args.at.number r range c.requires.ready.table is.stripe of) c.args.tally.now c.in_err-mended.field-0.0
+    (c.in_err-mended.ensures.mends r here fails))
 
-pub returns-in-Ok-clause-ready : goal.returns-in-Ok-clause-ready
-returns-in-Ok-clause-ready g c =
+pub returns-clause-ready : goal.returns-clause-ready
+returns-clause-ready g c =
     let layout = c.args.store.now.layout in
     let w = flagged_row layout c.args.at.chunk c.args.at.number c.args.room.now.wants.items c.args.failing.now c.requires.row in
     let here = subst (λ ws. IsRowOf layout c.args.at.chunk c.args.at.number ws w.0) (sym c.deref-2.ensures.value) w.1 in
-    let m = c.in-Ok.ensures.mends w.0 here w.2 in
+    let m = c.in_ok-mended.ensures.mends w.0 here w.2 in
     still_ready c.args.write (g.R.Rack.seen c.args.rack.now) (g.R.Rack.seen c.mend_row.new.rack) c.args.store.now c.mend_row.new.store
     c.args.marks.now c.mend_row.new.marks c.requires.ready
-    c.in-Ok.ensures.serves c.in-Ok.ensures.loans (ap (λ (s : Seen). s.slots) m.does.only.same) c.mend_row.auto.marks
+    c.in_ok-mended.ensures.serves c.in_ok-mended.ensures.loans (ap (λ (s : Seen). s.slots) m.does.only.same) c.mend_row.auto.marks
 
-pub returns-in-Err-clause-ready : goal.returns-in-Err-clause-ready
-returns-in-Err-clause-ready g c =
+pub returns-in_err-mended-clause-ready : goal.returns-in_err-mended-clause-ready
+returns-in_err-mended-clause-ready g c =
     let layout = c.args.store.now.layout in
     let w = flagged_row layout c.args.at.chunk c.args.at.number c.args.room.now.wants.items c.args.failing.now c.requires.row in
     let here = subst (λ ws. IsRowOf layout c.args.at.chunk c.args.at.number ws w.0) (sym c.deref-2.ensures.value) w.1 in
-    let m = c.in-Err.ensures.mends w.0 here w.2 in
+    let m = c.in_err-mended.ensures.mends w.0 here w.2 in
     still_ready c.args.write (g.R.Rack.seen c.args.rack.now) (g.R.Rack.seen c.mend_row.new.rack) c.args.store.now c.mend_row.new.store
     c.args.marks.now c.mend_row.new.marks c.requires.ready
-    c.in-Err.ensures.serves c.in-Err.ensures.loans (ap (λ (s : Seen). s.slots) m.does.only.same) c.mend_row.auto.marks
+    c.in_err-mended.ensures.serves c.in_err-mended.ensures.loans (ap (λ (s : Seen). s.slots) m.does.only.same) c.mend_row.auto.marks

@@ -1,23 +1,20 @@
-use Rattle.std.proofs.Common.{◌≡◌, false, not, is_none, Err, sym, ap, ◌∙◌, refl}
-use Rattle.btr_chunk.specs.Chunk.{mirrors}
+use Rattle.std.proofs.Common.{◌≡◌, false, Err, sym, ap, ◌∙◌, refl}
 use Rattle.btr_read.specs.Fate.{is_plain, sought}
 use Rattle.btr_read.proofs.Fates.{sought_of}
 use Rattle.btr_scrub_copies.proofs.Doing.{only_slots}
 use Rattle.btr_scrub_copies.specs.Mending.{mended_of}
 use Rattle.btr_scrub_copies.specs.declared.mended.Mended.{Mended}
-use Rattle.btr_scrub.specs.Sifting.{is_needed}
+use Rattle.btr_scrub.specs.Sifting.{is_copy_needed}
 use Rattle.btr_scrub.proofs.Doubting.{the_sought}
 use Rattle.btr_scrub.proofs.Scrubbing.{can_mend_then, tell, told}
 use Rattle.btr_scrub.proofs.Sieving.{copies_in_stripe, needed_block, sought_copied}
 use Rattle.btr_scrub.proofs.sieve.is_needed.Goals as goal
-use Rattle.btr_scrub.proofs.Lists.{some_if}
 
 pub mend_copies-requires-clause-copied : goal.mend_copies-requires-clause-copied
 mend_copies-requires-clause-copied g c =
     let layout = c.args.store.now.layout in
     let t = the_sought (sought layout c.args.want.now) c.requires.sought in
-    let none = ap is_none (sym (c.copies_of.ensures t.0 t.1)) ∙ ap not c.is_none.ensures ∙ ap (λ b. not (not b)) c.if-is_none.false in
-    sought_copied layout c.args.want.now t.0 c.requires.ready.table c.requires.ready.given t.1 (some_if (mirrors t.0.chunk) none)
+    sought_copied layout c.args.want.now t.0 c.requires.ready.table c.requires.ready.given t.1 (c.requires.copies t.0 t.1)
 
 pub returns-in-Ok-clause-ready : goal.returns-in-Ok-clause-ready
 returns-in-Ok-clause-ready g c =
@@ -36,11 +33,10 @@ pub returns-in-Ok-clause-needed : goal.returns-in-Ok-clause-needed
 returns-in-Ok-clause-needed g c t e =
     let layout = c.args.store.now.layout in
     let held = (g.R.Rack.seen c.args.rack.now).held in
-    let none = ap is_none (sym (c.copies_of.ensures t e)) ∙ ap not c.is_none.ensures ∙ ap (λ b. not (not b)) c.if-is_none.false in
     let checked = ap is_plain (sought_of layout c.args.want.now t e).want_is ∙ sym c.is_plain.ensures ∙ c.if-is_plain.false in
     let mended = c.in-Ok.mended in
-    tell held (λ images. c.is_unsound.result ≡ is_needed images layout t)
-    (λ images here. c.is_unsound.ensures ∙ sym (needed_block images layout t none checked mended
+    tell held (λ images. c.is_unsound.result ≡ is_copy_needed images layout t)
+    (λ images here. c.is_unsound.ensures ∙ sym (needed_block images layout t checked mended
     (told held (λ images. mended ≡ mended_of images t false) images here (c.in-Ok.ensures.mends t e).counts)))
 
 pub returns-in-Ok-clause-account : goal.returns-in-Ok-clause-account

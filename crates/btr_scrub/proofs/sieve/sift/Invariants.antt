@@ -1,11 +1,11 @@
-use Rattle.std.proofs.Common.{◌≡◌, ℕ, List, ◌++◌, false, length}
+use Rattle.std.proofs.Common.{◌≡◌, List, ◌++◌, false, length}
 use Rattle.btr_rack.specs.Rack.{NoneFailed, OnlyReads}
 use Rattle.btr_read.specs.Store.{SameLoans}
 use Rattle.btr_read.specs.declared.want.Want.{Want}
 use Rattle.btr_scrub.specs.Listed.{AreOfKind}
 use Rattle.btr_scrub.specs.Order.{AreApart}
 use Rattle.btr_scrub.specs.Scrubbing.{CanMend}
-use Rattle.btr_scrub.specs.Sifting.{Sifts}
+use Rattle.btr_scrub.specs.Sifting.{ShareNoRow, Sifts}
 use Rattle.btr_scrub.proofs.sieve.sift.Given as goal
 
 abbrev pub invariant-loop-want : goal.invariant-loop-want
@@ -16,9 +16,9 @@ invariant-loop-want g l = record {
   none : NoneFailed (g.R.Rack.seen l.fn.rack).account (g.R.Rack.seen l.rack).account;
   past : List Want;
   split : l.fn.blocks ≡ past ++ l.blocks;
-  end : ℕ;
-  apart : AreApart l.fn.store.layout end l.blocks;
+  apart : AreApart l.fn.store.layout 0 l.blocks;
   of_kind : AreOfKind l.sifted.kept.kind l.blocks;
+  rows : ShareNoRow l.fn.store.layout past l.blocks;
   sifts : Sifts l.fn.store.layout (g.R.Rack.seen l.fn.rack).held past l.fn.sifted l.sifted;
 }
 

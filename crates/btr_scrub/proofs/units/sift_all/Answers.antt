@@ -1,11 +1,13 @@
-use Rattle.std.proofs.Common.{Option, Some, None, Ok, Err, subst}
+use Rattle.std.proofs.Common.{Option, Some, None, Ok, Err, subst, sym}
 use Rattle.btr_prog.specs.Quiet.{quiet}
+use Rattle.btr_read.specs.Layout.{Layout}
 use Rattle.btr_read.proofs.ReadsOn.{same_held}
 use Rattle.btr_volume.specs.Looking.{Looks}
 use Rattle.btr_volume.specs.Tree.{tree_of}
 use Rattle.btr_volume.specs.declared.root.TreeRoot.{TreeRoot}
 use Rattle.btr_volume.specs.declared.stop.Stop.TheVariants.{NoTree, Tree}
 use Rattle.btr_scrub.specs.Gathering.{scene}
+use Rattle.btr_scrub.specs.Sifting.{CanSift}
 use Rattle.btr_scrub.specs.Units.{with_extents}
 use Rattle.btr_scrub.proofs.Gathering.{gathers_fault, gathers_found, gathers_halt, gathers_no_tree}
 use Rattle.btr_scrub.proofs.Sieved.{sieves_as, sieves_stop, sieves_then, stands_as}
@@ -54,3 +56,7 @@ returns-in-Ok-Some-clause-sieves g c whole stands =
     (sieves_as (λ t l. with_extents t l.chunks (Some extents)) s c.tree.new.self.sup layout c.tree.new.self.store.layout mid
     (g.R.Rack.seen c.sift_extents.new.rack) c.sift_extents.new.vol c.sift_extents.new.sieve c.sift_extents.result same.sup same.store.layout
     (c.sift_extents.ensures.sieves whole here))
+
+pub sift_extents-requires-clause-can : goal.sift_extents-requires-clause-can
+sift_extents-requires-clause-can g c =
+    subst (λ (l : Layout). CanSift l c.args.sieve.now.sifted) (sym c.in-Ok-Some.ensures.same.store.layout) c.requires.can

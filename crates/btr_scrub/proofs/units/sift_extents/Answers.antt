@@ -1,11 +1,13 @@
-use Rattle.std.proofs.Common.{Option, Some, None, Ok, subst}
+use Rattle.std.proofs.Common.{Option, Some, None, Ok, subst, sym}
 use Rattle.btr_prog.specs.Quiet.{quiet}
+use Rattle.btr_read.specs.Layout.{Layout}
 use Rattle.btr_read.proofs.ReadsOn.{same_held}
 use Rattle.btr_volume.specs.Looking.{Looks}
 use Rattle.btr_volume.specs.Tree.{tree_of}
 use Rattle.btr_volume.specs.declared.root.TreeRoot.{TreeRoot}
 use Rattle.btr_volume.specs.declared.stop.Stop.TheVariants.{Tree}
 use Rattle.btr_scrub.specs.Gathering.{scene}
+use Rattle.btr_scrub.specs.Sifting.{CanSift}
 use Rattle.btr_scrub.specs.Units.{in_chunks}
 use Rattle.btr_scrub.proofs.Gathering.{gathers_fault, gathers_found, gathers_halt}
 use Rattle.btr_scrub.proofs.Sieved.{sieves_as, sieves_stop, sieves_then, stands_as}
@@ -58,3 +60,11 @@ returns-in-Ok-Some-clause-sieves g c whole stands =
     (sieves_as (λ t l. in_chunks t (Some sums) c.args.extents.now l.chunks) s c.tree.new.self.sup layout c.tree.new.self.store.layout mid
     (g.R.Rack.seen c.sift_chunks-in-Ok-Some.new.rack) c.sift_chunks-in-Ok-Some.new.vol c.sift_chunks-in-Ok-Some.new.sieve c.sift_chunks-in-Ok-Some.result
     same.sup same.store.layout (c.sift_chunks-in-Ok-Some.ensures.sieves whole here))
+
+pub sift_chunks-requires-clause-can : goal.sift_chunks-requires-clause-can
+sift_chunks-requires-clause-can g c =
+    subst (λ (l : Layout). CanSift l c.args.sieve.now.sifted) (sym c.in-Ok-None.ensures.same.store.layout) c.requires.can
+
+pub sift_chunks-requires-in-Ok-Some-clause-can : goal.sift_chunks-requires-in-Ok-Some-clause-can
+sift_chunks-requires-in-Ok-Some-clause-can g c =
+    subst (λ (l : Layout). CanSift l c.args.sieve.now.sifted) (sym c.in-Ok-Some.ensures.same.store.layout) c.requires.can

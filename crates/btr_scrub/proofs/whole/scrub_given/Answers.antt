@@ -9,7 +9,7 @@ use Rattle.btr_scrub.specs.Gathering.{wants_among}
 use Rattle.btr_scrub.specs.Listed.{kept_wants}
 use Rattle.btr_scrub.specs.Order.{AreApart}
 use Rattle.btr_scrub.specs.Repair.{is_unchecked}
-use Rattle.btr_scrub.specs.Sifting.{Judges, begun}
+use Rattle.btr_scrub.specs.Sifting.{CanSift, Judges, begun}
 use Rattle.btr_scrub.specs.Units.{units_in}
 use Rattle.btr_scrub.specs.Whole.{Listed, Refused, WorksFrom, first_tally}
 use Rattle.btr_scrub.proofs.Refusing.{not_apart}
@@ -25,7 +25,8 @@ returns-in_default-vec-clause-scrubs g c = scrubs_memory c.args.vol.now.sup c.ar
 
 pub returns-in-Err-clause-scrubs : goal.returns-in-Err-clause-scrubs
 returns-in-Err-clause-scrubs g c =
-    scrubs_stopped c.args.vol.now.sup c.args.vol.now.store.layout c.args.write (g.R.Rack.seen c.args.rack.now) (g.R.Rack.seen c.sift_blocks.new.rack) c.in-Err.stop
+    scrubs_stopped c.args.vol.now.sup c.args.vol.now.store.layout c.args.write (g.R.Rack.seen c.args.rack.now)
+    (g.R.Rack.seen c.sift_blocks.new.rack) c.in-Err.stop
     c.in-Err.ensures.reads c.in-Err.ensures.sifts
 
 pub mend_kept-requires-clause-apart : goal.mend_kept-requires-clause-apart
@@ -62,8 +63,8 @@ returns-in-Some-clause-scrubs g c =
       );
     }
 
-pub returns-in-None-clause-scrubs : goal.returns-in-None-clause-scrubs
-returns-in-None-clause-scrubs g c =
+pub returns-clause-scrubs : goal.returns-clause-scrubs
+returns-clause-scrubs g c =
     let layout = c.args.vol.now.store.layout in
     let mid = g.R.Rack.seen c.sift_blocks.new.rack in
     let new = g.R.Rack.seen c.mend_kept.new.rack in
@@ -85,3 +86,8 @@ returns-in-None-clause-scrubs g c =
             (0 + count_by is_unchecked is.0) (is.1.unchecked ∙ counts_stand is.0) c.mend_kept.result works),
       );
     }
+
+pub mend_kept-requires-clause-can : goal.mend_kept-requires-clause-can
+mend_kept-requires-clause-can g c =
+    subst (λ (l : Layout). CanSift l c.in-Ok-sift_blocks.sieve.sifted)
+    (sym c.in-Ok-sift_blocks.ensures.volume.store.layout) c.in-Ok-sift_blocks.ensures.sifts.1.can

@@ -6,10 +6,14 @@ use Rattle.btr_read.proofs.Serving.{serves_as, serving}
 use Rattle.btr_scrub_copies.specs.Writes.{Images}
 use Rattle.btr_scrub_copies.proofs.Outcomes.{serves_forgot}
 use Rattle.std.specs.List.{sum_by}
+use Rattle.std.proofs.lemmas.Bool.{false≢true}
 use Rattle.btr_scrub_row.specs.Rows.{Row, parities, parity_writes}
 use Rattle.btr_scrub_row.specs.Memory.{IsStripeOf}
+use Rattle.btr_scrub_row.specs.Mending.{IsOfRow}
+use Rattle.btr_scrub_row.specs.declared.judged.Judged.{Judged}
+use Rattle.btr_scrub_row.specs.declared.mended.MendedRow.{MendedRow}
 use Rattle.btr_scrub_row.specs.Preparing.{IsPrepared, WritesInTurn}
-use Rattle.btr_scrub_row.proofs.Outcomes.{mends_cut, mends_failed, mends_read, mends_wrote, room_all, row_of, tells_prepared}
+use Rattle.btr_scrub_row.proofs.Outcomes.{account_halt, mends_cut, mends_failed, mends_read, mends_wrote, room_all, row_of, tells_prepared}
 use Rattle.btr_scrub_row.proofs.mending.mend_row.Goals as goal
 
 pub prepare-requires-clause-open : goal.prepare-requires-clause-open
@@ -138,3 +142,17 @@ returns-in-Err-write_row-clause-mends g c row is fails =
     let fault = c.in-Err-write_row.fault in
     let turns = subst (λ (l : Layout). WritesInTurn {A = Unit {0}} l stripe c.args.wants.now c.doubts_of-doubts.result judged buffer m m' b d (Err fault)) same c.in-Err-write_row.ensures.writes in
     mends_cut layout row c.args.write m a b c.prepare.ensures.reads c.if-not-write.false m' d (c.in-Ok.ensures.account row of) fault (turns a.held row of rows (c.doubts_of-doubts.ensures row of fails) (tells_prepared layout row judged buffer a b c.prepare.ensures.reads prepared))
+
+pub returns-in-Err-clause-account : goal.returns-in-Err-clause-account
+returns-in-Err-clause-account g c unwritten row is =
+    account_halt Judged MendedRow (IsOfRow c.args.store.now.layout row) (g.R.Rack.seen c.args.rack.now) (g.R.Rack.seen c.prepare.new.rack)
+    c.in-Err.fault (c.in-Err.ensures.account row (c.full_stripe-stripe.ensures row is.stripe))
+
+pub returns-then-not-write-clause-account : goal.returns-then-not-write-clause-account
+returns-then-not-write-clause-account g c unwritten row is = c.in-Ok.ensures.account row (c.full_stripe-stripe.ensures row is.stripe)
+
+pub returns-in-Ok-write_row-clause-account : goal.returns-in-Ok-write_row-clause-account
+returns-in-Ok-write_row-clause-account g c unwritten = absurd (false≢true (sym unwritten ∙ c.if-not-write.false))
+
+pub returns-in-Err-write_row-clause-account : goal.returns-in-Err-write_row-clause-account
+returns-in-Err-write_row-clause-account g c unwritten = absurd (false≢true (sym unwritten ∙ c.if-not-write.false))

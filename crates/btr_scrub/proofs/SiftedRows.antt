@@ -1,0 +1,225 @@
+-- A full stripe whose blocks were collected is sifted.
+use Rattle.std.proofs.Common.{◌≡◌, ℕ, ◌+◌, ◌∷◌, Bool, true, false, cond, ◌||◌, count_by, is_none, List, [], map, Option, Some, None, IfSome, IsOk, Ok, Err}
+use Rattle.std.proofs.Common.{refl, sym, ap, ◌∙◌}
+use Rattle.std.proofs.Common.{subst, arith, leb, ltb, append-nil, slice_get}
+use Rattle.std.proofs.lemmas.Bool.{and_parts, leb-true}
+use Rattle.std.proofs.lemmas.Option.{same_Some, slice_get_within}
+use Rattle.std.specs.List.{list_any}
+use Rattle.btr_chunk.specs.Chunk.{mirrors}
+use Rattle.btr_chunk.specs.Mapping.{holds}
+use Rattle.btr_chunk.specs.Table.{IsTable, chunk_at}
+use Rattle.btr_chunk.specs.declared.chunk.Chunk.{Chunk}
+use Rattle.btr_rack.specs.Rack.{Seen}
+use Rattle.btr_read.specs.Candidates.{Target}
+use Rattle.btr_read.specs.Fate.{is_plain, sought}
+use Rattle.btr_read.specs.Layout.{HaveOwnSlots, Layout}
+use Rattle.btr_read.specs.Want.{addr_of}
+use Rattle.btr_read.specs.declared.want.Want.{Want}
+use Rattle.btr_read.proofs.Fates.{sought_of}
+use Rattle.btr_scrub_copies.specs.Fresh.{flagged}
+use Rattle.btr_scrub_copies.specs.Writes.{AccountsMend, Images}
+use Rattle.btr_scrub_copies.specs.declared.mended.MendFault.{MendFault}
+use Rattle.btr_scrub_copies.specs.declared.mended.MendFault.TheVariants.{Image, Memory}
+use Rattle.btr_scrub_row.specs.Mending.{IsOfRow, IsRowOf, is_at, mended_row}
+use Rattle.btr_scrub_row.specs.Rows.{Row}
+use Rattle.btr_scrub_row.specs.Wanted.{is_checked}
+use Rattle.btr_scrub_row.specs.declared.mended.MendedRow.{MendedRow}
+use Rattle.btr_scrub.specs.BlocksInRows.{In}
+use Rattle.btr_scrub.specs.Listed.{AddsAll}
+use Rattle.btr_scrub.specs.Order.{AreApart, targets}
+use Rattle.btr_scrub.specs.Repair.{first_missing, row_of, stood}
+use Rattle.btr_scrub.specs.Rowing.{CollectsRow}
+use Rattle.btr_scrub.specs.Scrubbing.{HasRooms}
+use Rattle.btr_scrub.specs.Sifting.{CanSift, ShareNoRow, Sifts, SiftsNext, begun, is_copy_needed, is_needed, is_row_needed, is_troubled, sound_in}
+use Rattle.btr_scrub.specs.WrittenRanges.{LiesInChunk, LiesInStripe, alone}
+use Rattle.btr_scrub.specs.declared.sifted.Sifted.{Sifted}
+use Rattle.btr_scrub.proofs.NextRow.{IsNextRow, is_row_of, mine_is, row_blocks}
+use Rattle.btr_scrub.proofs.Lists.{any_at}
+use Rattle.btr_scrub.proofs.Blockwise.{ok_of}
+use Rattle.btr_scrub.proofs.OneRow.{chunk_number, chunk_of, row_in_stripe}
+use Rattle.btr_scrub.proofs.Positions.{alone_lies, find_at}
+use Rattle.btr_scrub.proofs.Rowwise.{RowsUnderway, next_row}
+use Rattle.btr_scrub.proofs.Scrubbing.{scrubs_none, tell, told}
+use Rattle.btr_scrub.proofs.Sieving.{sifts_kept, sifts_out}
+
+-- ---- what a row's wants and blocks have in common
+
+-- there is a plain sector among both
+pub plain_among : (layout : Layout) (wants : List Want) (ts : List Target) → map (sought layout) wants ≡ map is_at ts
+    → list_any (λ (t : Target). is_plain t.want) ts ≡ list_any is_plain wants
+plain_among layout [] [] e = refl
+plain_among layout [] (t ∷ ts) e = cc
+plain_among layout (w ∷ ws) [] e = cc
+plain_among layout (w ∷ ws) (t ∷ ts) e =
+    let head : sought layout w ≡ Ok t = cc in
+    let tail : map (sought layout) ws ≡ map is_at ts = cc in
+    ap (λ b. b || list_any (λ (t : Target). is_plain t.want) ts) (ap is_plain (sought_of layout w t head).want_is)
+    ∙ ap (λ b. is_plain w || b) (plain_among layout ws ts tail)
+
+-- one with a plain sector is needed
+pub plain_needed : (images : Images) (layout : Layout) (wants : List Want) (row : Row) → map (sought layout) wants ≡ map is_at row.blocks
+    → list_any is_plain wants ≡ true
+    → None ≡ sound_in images layout row
+plain_needed images layout wants row e plain =
+    sym (ap (λ b. cond (b || is_troubled (mended_row images layout row false)) None (Some (count_by is_checked row.blocks)))
+    (plain_among layout wants row.blocks e ∙ plain))
+
+-- one without is, where something in it is wrong
+pub read_needed : (images : Images) (layout : Layout) (wants : List Want) (row : Row) (mended : MendedRow) → map (sought layout) wants ≡ map is_at row.blocks
+    → list_any is_plain wants ≡ false → mended ≡ mended_row images layout row false
+    → cond (is_troubled mended) None (Some mended.blocks) ≡ sound_in images layout row
+read_needed images layout wants row mended e plain is =
+    ap (λ (m : MendedRow). cond (is_troubled m) None (Some m.blocks)) is
+    ∙ sym (ap (λ b. cond (b || is_troubled (mended_row images layout row false)) None (Some (count_by is_checked row.blocks)))
+    (plain_among layout wants row.blocks e ∙ plain))
+
+-- what was counted says whether it is needed
+pub none_sound : (images : Images) (layout : Layout) (row : Row) → None ≡ sound_in images layout row → is_row_needed images layout row ≡ true
+none_sound images layout row e = by (is_row_needed images layout row) e
+  where
+    by : (b : Bool) → None ≡ cond b None (Some (count_by is_checked row.blocks)) → b ≡ true
+    by true e = refl
+    by false e = cc
+
+pub some_sound : (images : Images) (layout : Layout) (row : Row) (n : ℕ) → Some n ≡ sound_in images layout row
+    → (is_row_needed images layout row ≡ false) × (n ≡ count_by is_checked row.blocks)
+some_sound images layout row n e = by (is_row_needed images layout row) e
+  where
+    by : (b : Bool) → Some n ≡ cond b None (Some (count_by is_checked row.blocks)) → (b ≡ false) × (n ≡ count_by is_checked row.blocks)
+    by true e = cc
+    by false e = (refl, cc)
+
+-- a read that failed in a row failed in a stripe
+pub row_account : (A B : Type 0) (layout : Layout) (start number : ℕ) (wants : List Want) (row : Row) (a b : Seen) (fault : MendFault) → IsTable layout.chunks
+    → IsRowOf layout start number wants row → AccountsMend {A = A} (IsOfRow layout row) a b (Err fault) → AccountsMend {A = B} (LiesInStripe layout) a b
+    (Err fault)
+row_account A B layout start number wants row a b Memory table is h = h
+row_account A B layout start number wants row a b (Image slot) table is h =
+    let n = chunk_number layout start number row is.stripe in
+    record {
+      place = h.place;
+      failed = h.failed;
+      on_slot = h.on_slot;
+      lies = any_at (λ chunk. LiesInChunk layout chunk h.place) layout.chunks n.0 row.chunk (slice_get_within layout.chunks n.0 row.chunk n.1) n.1
+          (alone_lies layout row.chunk h.place (row_in_stripe layout start number row h.place table is.stripe h.lies));
+    }
+
+-- ---- the row that comes next
+
+-- the chunk of a block, which has parity
+pub parity_there : (layout : Layout) (first : Want) (chunk : Chunk) → IsOk (sought layout first) →
+    ((t : Target) → sought layout first ≡ Ok t → mirrors t.chunk ≡ None)
+    → chunk_at layout.chunks (addr_of first) ≡ Some chunk → mirrors chunk ≡ None
+parity_there layout first chunk placed parity at =
+    let t = ok_of (sought layout first) placed in
+    let same = same_Some t.0.chunk chunk (sym (chunk_of layout first t.0 t.1) ∙ at) in
+    ap mirrors (sym same) ∙ parity t.0 t.1
+
+module _ (layout : Layout) (table : IsTable layout.chunks) (own : HaveOwnSlots layout.devices) (given : first_missing layout ≡ None) (first : Want)
+    (old new ws : List Want)
+    (chunk : Chunk) (at : chunk_at layout.chunks (addr_of first) ≡ Some chunk) (parity : mirrors chunk ≡ None) (apart : AreApart layout 0 (first ∷ old)) (r : ℕ)
+    (got : CollectsRow chunk first old new ws r) (a : Seen) where
+  found : (i : ℕ) × (slice_get layout.chunks i ≡ Some chunk) × (holds chunk (addr_of first) ≡ true)
+  found = find_at (λ (c : Chunk). holds c (addr_of first)) layout.chunks chunk at
+
+  from_start : AreApart layout chunk.start (first ∷ old)
+  from_start = (
+    leb-true chunk.start (addr_of first) (and_parts (leb chunk.start (addr_of first)) (ltb (addr_of first) (chunk.start + chunk.length)) found.2).0,
+    apart.1,
+    apart.2,
+  )
+
+  abbrev underway : RowsUnderway (flagged []) layout table own given found.0 chunk found.1 parity (first ∷ old) false (first ∷ old) [] [] a a (begun 0 0)
+      (begun 0 0)
+  underway = record {
+    past = [];
+    split = refl;
+    q = 0;
+    below = omega arith;
+    sound = λ t i. absurd i;
+    end = chunk.start;
+    from = omega arith;
+    apart = from_start;
+    ahead = λ t i e. omega arith;
+    done = scrubs_none (alone layout chunk) false [] a (begun 0 0) tt;
+  }
+
+  next : IsNextRow (flagged []) layout table own given found.0 chunk found.1 parity (first ∷ old) 0 [] new r ws
+  next = next_row (flagged []) layout table own given found.0 chunk found.1 parity (first ∷ old) false (first ∷ old) old new [] [] a a (begun 0 0) (begun 0 0)
+      underway first r ws refl got.0 got.1
+
+  -- the same, as if no others were listed
+  mine : IsNextRow (flagged []) layout table own given found.0 chunk found.1 parity ws 0 [] [] r ws
+  mine = record {
+    split = sym (append-nil ws);
+    later = omega arith;
+    fits = next.fits;
+    before = λ t i. absurd i;
+    each = next.each;
+    behind = λ t i e. absurd i;
+    end = chunk.start;
+    from = omega arith;
+    apart = tt;
+    head = next.head;
+    tail = next.tail;
+    some_block = next.some_block;
+  }
+
+  abbrev pub row : Row
+  row = row_of (flagged []) (targets layout ws) chunk r
+
+  pub is_row : IsRowOf layout chunk.start r ws row
+  is_row = is_row_of (flagged []) layout table own given found.0 chunk found.1 parity ws 0 [] [] r ws mine
+
+  blocks_are : row.blocks ≡ targets layout ws
+  blocks_are = row_blocks (flagged []) layout table own given found.0 chunk found.1 parity ws 0 [] [] r ws mine
+
+  lies : (t : Target) → In t (targets layout ws) → (t.chunk ≡ chunk) × (t.at.row ≡ r)
+  lies t i = mine_is (flagged []) layout table own given found.0 chunk found.1 parity ws 0 [] [] r ws mine t i
+
+  none_left : ShareNoRow layout ws new
+  none_left t u i j same none eq =
+      let m = lies t i in
+      let later = next.behind u j (sym same ∙ m.0) in
+      omega (arith, m.1, eq, later)
+
+  as_row : (images : Images) (b : Bool) → is_row_needed images layout row ≡ b → (t : Target) → In t (targets layout ws)
+      → is_needed images layout (targets layout ws) t ≡ b
+  as_row images b e t i =
+      let m = lies t i in
+      ap (λ c. cond (is_none (mirrors c)) (is_row_needed images layout (row_of (flagged []) (targets layout ws) c t.at.row)) (is_copy_needed images layout t))
+      m.0
+      ∙ ap (λ n. cond (is_none (mirrors chunk)) (is_row_needed images layout (row_of (flagged []) (targets layout ws) chunk n))
+      (is_copy_needed images layout t)) m.1
+      ∙ ap (λ o. cond (is_none o) (is_row_needed images layout row) (is_copy_needed images layout t)) parity ∙ e
+
+  placed : (w : Want) → In w ws → (t : Target) × (sought layout w ≡ Ok t)
+  placed w i = let e = next.each w i in (e.0, e.1)
+
+  module _ (held : Option Images) (x y : Sifted) where
+    sifts_next : Sifts layout held ws x y → SiftsNext layout held first old new x y
+    sifts_next s = record {
+      more = got.1.more;
+      split = got.1.split;
+      sifts = subst (λ vs. Sifts layout held vs x y) got.1.are s;
+      rows = subst (λ vs. ShareNoRow layout vs new) got.1.are none_left;
+    }
+
+    -- all its blocks are kept
+    pub row_kept : CanSift layout x → IfSome held (λ images. None ≡ sound_in images layout row) → AddsAll x.kept y.kept ws → y.sound ≡ x.sound
+        → y.nodesize ≡ x.nodesize → HasRooms layout y.room.buffer → SiftsNext layout held first old new x y
+    row_kept can none adds same nodesize rooms = sifts_next (sifts_kept layout held ws x y can
+        (tell held (λ images. (t : Target) → In t (targets layout ws) → is_needed images layout (targets layout ws) t ≡ true) (λ images h.
+        as_row images true (none_sound images layout row (told held (λ images. None ≡ sound_in images layout row) images h none))))
+        adds same nodesize rooms)
+
+    -- they are counted
+    pub row_out : (n : ℕ) → CanSift layout y → IfSome held (λ images. Some n ≡ sound_in images layout row) → y.kept ≡ x.kept
+        → ((m : ℕ) → x.sound ≡ stood m → y.sound ≡ stood (m + n)) → SiftsNext layout held first old new x y
+    row_out n can sound same grows = sifts_next (sifts_out layout held ws x y placed can n
+        (tell held (λ images. n ≡ count_by is_checked (targets layout ws)) (λ images h. (is images h).1 ∙ ap (count_by is_checked) blocks_are))
+        (tell held (λ images. (t : Target) → In t (targets layout ws) → is_needed images layout (targets layout ws) t ≡ false) (λ images h.
+        as_row images false (is images h).0)) same grows)
+      where
+        is : (images : Images) → held ≡ Some images → (is_row_needed images layout row ≡ false) × (n ≡ count_by is_checked row.blocks)
+        is images h = some_sound images layout row n (told held (λ images. Some n ≡ sound_in images layout row) images h sound)

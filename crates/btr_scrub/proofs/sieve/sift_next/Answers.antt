@@ -1,0 +1,30 @@
+use Rattle.std.proofs.Common.{◌+◌, sym, ap, ◌∙◌, subst, arith, is_none, is_some, not}
+use Rattle.btr_chunk.specs.Chunk.{mirrors}
+use Rattle.btr_read.specs.Fate.{sought}
+use Rattle.btr_read.specs.Layout.{Layout}
+use Rattle.btr_read.specs.Want.{addr_of, len_of}
+use Rattle.btr_scrub.specs.Sifting.{PassesCalm}
+use Rattle.btr_scrub.proofs.Doubting.{the_sought}
+use Rattle.btr_scrub.proofs.Lists.{some_if}
+use Rattle.btr_scrub.proofs.Sieving.{calm_next, none_if}
+use Rattle.btr_scrub.proofs.sieve.sift_next.Goals as goal
+
+pub sift_row-requires-clause-parity : goal.sift_row-requires-clause-parity
+sift_row-requires-clause-parity g c t e =
+    none_if (mirrors t.chunk) (ap is_some (sym (c.copies_of.ensures t e)) ∙ c.is_none.ensures ∙ ap not c.if-is_none.true)
+
+pub sift_one-requires-clause-copies : goal.sift_one-requires-clause-copies
+sift_one-requires-clause-copies g c t e =
+    some_if (mirrors t.chunk) (ap is_none (sym (c.copies_of.ensures t e)) ∙ ap not c.is_none.ensures ∙ ap (λ b. not (not b)) c.if-is_none.false)
+
+pub returns-clause-sifts : goal.returns-clause-sifts
+returns-clause-sifts g c =
+    let layout = c.args.store.now.layout in
+    let held = (g.R.Rack.seen c.args.rack.now).held in
+    let want = c.args.want in
+    let t = the_sought (sought layout want) c.requires.apart.1 in
+    let p = subst (λ (l : Layout). PassesCalm l want c.args.blocks.now c.pass_calm.new.blocks) c.in-Ok.ensures.loans.layout c.pass_calm.ensures in
+    calm_next layout held want (addr_of want + len_of layout.setting want) c.args.blocks.now c.pass_calm.new.blocks p c.requires.apart.2 (omega arith)
+    c.sift_one.new.sifted c.in-Ok.ensures.sifts.can c.requires.ready.table c.args.sifted.now t.0 t.1
+    (some_if (mirrors t.0.chunk) (ap is_none (sym (c.copies_of.ensures t.0 t.1)) ∙ ap not c.is_none.ensures ∙ ap (λ b. not (not b)) c.if-is_none.false))
+    c.in-Ok.ensures.sifts
