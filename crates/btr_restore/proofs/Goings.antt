@@ -77,7 +77,10 @@ module _ {A : Type 0} where
     done = e.done;
     sink = e.sink;
     text = e.text;
-    content = record { calls = calls_none (λ sure. if_some (λ images. Goes (unread_by layout rack rack) part [] (maps_of layout sure images) p e.done ans) rack.held (λ images. e.goes layout rack rack (maps_of layout sure images))) };
+    content = record {
+      calls = calls_none (λ sure. if_some (λ images. Goes (unread_by layout rack rack) part [] (maps_of layout sure images) p e.done ans)
+          rack.held (λ images. e.goes layout rack rack (maps_of layout sure images)));
+    };
   }
 
   -- a lookup, which does no step

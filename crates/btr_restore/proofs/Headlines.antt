@@ -40,7 +40,8 @@ module _ (plan : RestorePlan) (dest : List ℕ) (images : Images) (start : Start
   lost_at : (m : Loses (volume_map start (fate images)) There Cut) → m.fault ≡ Lost (addr_of (want_of m.want))
   lost_at m =
       let well = each_there (λ w. EndsInOrder (volume_map start (committed C images) w)) (wants_of m.before) (wants_of m.behind) m.want
-      (subst (Each (λ w. EndsInOrder (volume_map start (committed C images) w))) (ap wants_of m.place ∙ wants_of-append m.before (Wants m.want ∷ m.behind)) (all_well plan dest images start C table honest closed)) in
+      (subst (Each (λ w. EndsInOrder (volume_map start (committed C images) w))) (ap wants_of m.place ∙ wants_of-append m.before (Wants m.want ∷ m.behind))
+      (all_well plan dest images start C table honest closed)) in
       lost_there plan dest images start C 0 m.want m.fault well (first_choice images start m.want ∙ m.lost)
 
   -- a run that is cut has the outcome of the steps before

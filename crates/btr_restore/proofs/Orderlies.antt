@@ -226,7 +226,8 @@ module _ (plan : RestorePlan) (dest : List ℕ) (start : Start) (wet : plan.dry 
       let last : Counts → Program Step (Result Counts OpenFault) = λ counts. Return (Ok counts) in
       let rest : List Chunk → Program Step (Result Counts OpenFault) = λ table. bind inside last in
       let Same : Claim TableResult = λ u e found. (u ≡ t) × (e ≡ no_counts) in
-      let listed = leads_bind (Stands 0) Ended t no_counts inside last (leads_looks (Stands 0) t no_counts (tree_of start.sup plan.root) (from_root plan dest start.sup) (root_leads t fresh)) (λ u e counts h. h) in
+      let listed = leads_bind (Stands 0) Ended t no_counts inside last
+      (leads_looks (Stands 0) t no_counts (tree_of start.sup plan.root) (from_root plan dest start.sup) (root_leads t fresh)) (λ u e counts h. h) in
       leads_bind Same Ended t no_counts (renamed Early (quiet (table_scan start)))
       (unless_refused (λ fault. Err (refusal_of fault)) (λ (table : List Chunk). renamed (Late table) (rest table)))
       (leads_renamed Early Same t no_counts (quiet (table_scan start)) (leads_quiet Same t no_counts (table_scan start) (λ found. (refl, refl))))

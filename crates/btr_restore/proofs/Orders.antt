@@ -50,10 +50,12 @@ module _ (plan : RestorePlan) (dest : List ℕ) (images : Images) (start : Start
         → (m : Drops (λ i. volume_map start (choices images i)) q r) → done ≡ steps_of m.before → answer ≡ Err (halt_fault m.fault)
         → LostAt plan dest images start C done answer
     dropped q r goes m steps is =
-        let wants = (blind_law plain (λ j. volume_map start (committed_choices C images j)) (volume_map start (committed C images)) (journey plan dest start) q (journey_blind plan dest start) all_alike goes).0 in
+        let wants = (blind_law plain (λ j. volume_map start (committed_choices C images j)) (volume_map start (committed C images)) (journey plan dest start) q
+        (journey_blind plan dest start) all_alike goes).0 in
         let well : EndsInOrder (volume_map start (committed C images) m.want) =
         each_there (λ w. EndsInOrder (volume_map start (committed C images) w)) (wants_of m.before) (wants_of m.behind) m.want
-        (subst (Each (λ w. EndsInOrder (volume_map start (committed C images) w))) (sym wants ∙ (ap wants_of m.place ∙ wants_of-append m.before (Wants m.want ∷ m.behind))) (all_well plan dest images start C table honest closed)) in
+        (subst (Each (λ w. EndsInOrder (volume_map start (committed C images) w)))
+        (sym wants ∙ (ap wants_of m.place ∙ wants_of-append m.before (Wants m.want ∷ m.behind))) (all_well plan dest images start C table honest closed)) in
         let lost : m.fault ≡ Lost (addr_of (want_of m.want)) = lost_there plan dest images start C m.choice m.want m.fault well m.lost in
         record {
           run = q;

@@ -12,6 +12,7 @@ use Rattle.btr_prog.proofs.Cursors.{cursor_halts}
 use Rattle.btr_prog.proofs.Follow.{follows_alone, follows_value, follows_halt, follows_as}
 use Rattle.btr_prog.proofs.SoFars.{SoFar, so_far_none, so_far_more, so_far_ends, Answers, threads_map, some_run}
 use Rattle.btr_prog.proofs.Successive.{calls_then, calls_as, calls_none}
+use Rattle.btr_prog.proofs.Tries.{steps_of-marks, wants_of-marks}
 use Rattle.btr_rack.specs.Rack.{Seen, OnlyReads}
 use Rattle.btr_read.specs.Fate.{Fault}
 use Rattle.btr_read.specs.Layout.{Layout}
@@ -24,7 +25,6 @@ use Rattle.btr_walk.specs.Reading.{Map, UnreadBlock, unread_by, halt_of, HasCaus
 use Rattle.btr_walk.specs.Rests.{rest_left, met_last}
 use Rattle.btr_walk.proofs.Turns.{base_layout}
 use Rattle.btr_walk.proofs.Fetched.{since, cause_since}
-use Rattle.btr_walk.proofs.Marks.{steps_back, wants_back}
 use Rattle.btr_volume.specs.Lookup.{Program, each}
 use Rattle.btr_volume.specs.Looking.{SameVolume}
 use Rattle.btr_volume.specs.Readable.{CanRead}
@@ -102,9 +102,9 @@ module _ {St : Type 0} (put : St → Piece → Program Step St) (Bs : ℕ → Ma
         (λ r h. (prepend (want_marks g.past) (first (Does piece) h.0), g.goes h.0 h.1, past_in g.past st (first (Does piece) h.0) r h.2)) l.so_far in
         record {
           seen = l.seen ++ g.past;
-          so_far = subst (λ (x : List Want). SoFar Whole (WritesFrom put kind Bs st piece file') (l.seen ++ x) done) (wants_back Step g.past)
+          so_far = subst (λ (x : List Want). SoFar Whole (WritesFrom put kind Bs st piece file') (l.seen ++ x) done) (wants_of-marks Step g.past)
               (subst (λ (x : List Step). SoFar Whole (WritesFrom put kind Bs st piece file') (l.seen ++ wants_of ws) x) (ap (λ (x : List Step). done ++ x)
-              (steps_back g.past) ∙ append-nil done) more);
+              (steps_of-marks Step g.past) ∙ append-nil done) more);
           on = g.on;
         }
 

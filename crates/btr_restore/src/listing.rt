@@ -19,14 +19,18 @@ use btr_volume::Stop;
 /// Where a directory is listed: how far that has come, and a place for the name of an entry.
 #[derive(Clone, Copy, Debug)]
 pub struct OpenDir {
+    /// What of the directory is still to be listed.
     pub dir: Dir,
+    /// The name of the entry that was met last.
     pub name: NameBuf,
 }
 
 /// An entry that was met, and its name.
 #[derive(Clone, Copy)]
 pub struct NamedRow<'a> {
+    /// What the entry says, but for its name.
     pub row: DirRow,
+    /// Its name.
     pub name: &'a NameBuf,
 }
 

@@ -2,7 +2,8 @@
 use Rattle.std.proofs.Common.{ℕ, ◌+◌, ◌<◌, ◌≤◌, List, [], ◌∷◌, length, refl, sym, ap, subst, arith}
 use Rattle.std.proofs.lemmas.List.{length-append, length-drop}
 use Rattle.btr_run.specs.Restores.{options_words}
-use Rattle.btr_run.specs.Words.{Destination, File, IsSentence, Number, Part, ReadsParts, TakesDestination, Volume, Word, Words, command_of, images_of, nothing_of}
+use Rattle.btr_run.specs.Words.{Destination, File, IsSentence, Number, Part, ReadsParts, TakesDestination, Volume, Word, Words, command_of, images_of}
+use Rattle.btr_run.specs.Words.{nothing_of}
 use Rattle.btr_run.specs.SelfTested.{TakesImages}
 use Rattle.btr_run.specs.Words.{parts_of}
 use Rattle.btr_run.specs.declared.place.Read.{Read}
@@ -18,7 +19,8 @@ NamesImages (Volume ∷ left) = ⊥
 NamesImages (part ∷ left) = NamesImages left
 
 -- the word of the first image
-images_there : (left : List Part) (at : ℕ) (words : Words) (old new : Read) → NamesImages left → ReadsParts left at words old new → new.images < at + length words
+images_there : (left : List Part) (at : ℕ) (words : Words) (old new : Read) → NamesImages left → ReadsParts left at words old new
+    → new.images < at + length words
 images_there [] at [] old new named reads = absurd reads.0
 images_there [] at (first ∷ more) old new named reads = omega (arith, ap (λ (r : Read). r.images) reads.1)
 images_there (Volume ∷ left) at words old new named reads = absurd named

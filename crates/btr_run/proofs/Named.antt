@@ -11,7 +11,8 @@ use Rattle.btr_send.specs.Names.{IsStreamName}
 use Rattle.btr_run.specs.Commands.{IsFit}
 use Rattle.btr_run.specs.Queries.{IsQueryFit}
 use Rattle.btr_run.specs.Restores.{plan_by}
-use Rattle.btr_run.specs.Words.{Destination, File, IsSentence, Number, Part, ReadsParts, TakesDestination, Word, Words, command_of, is_file, is_name, nothing_of}
+use Rattle.btr_run.specs.Words.{Destination, File, IsSentence, Number, Part, ReadsParts, TakesDestination, Word, Words, command_of, is_file, is_name}
+use Rattle.btr_run.specs.Words.{nothing_of}
 use Rattle.btr_run.specs.Words.{Volume, images_of, is_volume, parts_of, restore_of}
 use Rattle.btr_run.specs.Images.{most_images}
 use Rattle.btr_run.specs.declared.plan.Command.TheVariants as command

@@ -110,7 +110,8 @@ module _ (seen : Seen) (settles : SettledLaw) (then : (plan : RestorePlan) (dest
         (halted plan dest start (λ n. fate images) (halt_fault f)
         (scan, goes_map (λ (n : ℕ). fate images (array_layout start)) 0 (table_scan start), (no_steps (steps_of scan.marks), scanned)))) refl
 
-  is_outcome : (plan : RestorePlan) (dest : List ℕ) (images : Images) → IsOutcomeOf (row_outcome (restore_row plan dest) images) (restore_outcome plan dest images)
+  is_outcome : (plan : RestorePlan) (dest : List ℕ) (images : Images)
+      → IsOutcomeOf (row_outcome (restore_row plan dest) images) (restore_outcome plan dest images)
   unfolding row_outcome
   is_outcome plan dest images = of (start_of images) refl
     where

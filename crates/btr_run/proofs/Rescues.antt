@@ -55,7 +55,8 @@ module _ (images left : Images) (fs : Filesystem) (start : Start) (C : Commit) (
       → IsWhole (or_lost addr (slice_get (passing left t) 0))
   block_had addr t there spared =
       let stands_for = in_any (λ c. (stands t c ≡ true) × (C t.want ≡ Some (value_of left t c))) (candidates t)
-      (all_in (λ t. CanBeSpared images (filesystem_as fs) C t → StandsFor left C t) (blocks images (filesystem_as fs)) t (keeps fs C opened known) there spared) in
+      (all_in (λ t. CanBeSpared images (filesystem_as fs) C t → StandsFor left C t) (blocks images (filesystem_as fs)) t
+      (keeps fs C opened known) there spared) in
       let c = stands_for.0 in
       let pass = told_at (C t.want) (λ bytes. passes fs.layout.setting t.want bytes ≡ true) (value_of left t c) stands_for.2.1 (known.pass t.want) in
       had left addr t c stands_for.1 stands_for.2.0

@@ -63,7 +63,8 @@ use Rattle.btr_run.proofs.Causing.{rose_behind, some_fresh}
 use Rattle.btr_run.proofs.Checks.{listed_no_image, listed_no_tree, listed_none, stop_calm, stop_line, stop_no_image, stop_none}
 use Rattle.btr_run.proofs.Faulting.{no_tree, tree_back, tree_in}
 use Rattle.btr_run.proofs.TreesShown.{NoneOf, mends_of, none_unread, steadily}
-use Rattle.btr_run.proofs.Mendings.{answered, each_told, images_by, the_images, left_nothing, outcome_by, steady_not_rose, stop_place, left_alone, told_at, unwritten}
+use Rattle.btr_run.proofs.Mendings.{answered, each_told, images_by, the_images, left_nothing, outcome_by, steady_not_rose, stop_place, left_alone, told_at}
+use Rattle.btr_run.proofs.Mendings.{unwritten}
 use Rattle.btr_run.proofs.Mendings.{writes_by}
 use Rattle.btr_volume.specs.Stops.{stop_halt}
 

@@ -163,7 +163,8 @@ is_plain volume number x y answer comes = of comes.how comes.ended
     some = some_trial volume number comes.outcome comes.is_one
 
     of : (how : How) → HasEnded (Unit {0}) x y comes.outcome answer how → IsPlain answer
-    of Whole e = subst IsPlain (sym (e.0 ∙ ap (λ (o : Outcome). o.answer) some.1)) (plain_by (eqb (differing (trial_of some.0 number)) 0) (differing (trial_of some.0 number)))
+    of Whole e = subst IsPlain (sym (e.0 ∙ ap (λ (o : Outcome). o.answer) some.1))
+        (plain_by (eqb (differing (trial_of some.0 number)) 0) (differing (trial_of some.0 number)))
     of SinkFailed e = subst IsPlain (sym e.0) plain_sink
     of OutFailed e = subst IsPlain (sym e.0) plain_out
     of Wanted e = subst IsPlain (sym e.0) plain_memory

@@ -3,7 +3,8 @@ use Rattle.std.specs.Prelude.{◌≡◌, ◌⊎◌, ℕ, Option}
 use Rattle.btr_run.specs.Answers.{code_of, error_line}
 use Rattle.btr_run.specs.CommandLine.{AreTexts}
 use Rattle.btr_run.specs.Outcomes.{IsPut}
-use Rattle.btr_run.specs.Run.{Eyes, HasWholeEffect, IsAnswered, KeepsFirstPart, LeavesItsImages, RestoresCommitted, Run, ShowsTrial, outside_behind, outside_before}
+use Rattle.btr_run.specs.Run.{Eyes, HasWholeEffect, IsAnswered, KeepsFirstPart, LeavesItsImages, RestoresCommitted, Run, ShowsTrial, outside_behind}
+use Rattle.btr_run.specs.Run.{outside_before}
 use Rattle.btr_run.specs.Words.{Words}
 use Rattle.btr_volume.specs.Start.{Images}
 use Rattle.btr_run.specs.declared.answer.Answer.{Answer}

@@ -41,7 +41,9 @@ impl Command {
 /// named.
 #[derive(Clone, Copy, Debug, PartialEq, Eq)]
 pub struct Plan {
+    /// What is to be done.
     pub command: Command,
+    /// The number of the first word that names an image.
     pub images: usize,
 }
 

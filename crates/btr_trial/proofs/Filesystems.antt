@@ -61,12 +61,14 @@ module _ (old new : Seen) (images : Images) (told : old.held ≡ Some images) (s
   -- a refusal by a chunk of the chunk tree
   by_table : (f : TableFault) → Starts images old new (Ok (Err f)) → filesystem_of images ≡ None
   by_table f s =
-      let scan = scanned s.start old new images (Ok (Err f)) told steady s.scans in by_start images ∙ ap (with_start images) s.is ∙ ap (with_table images s.start) scan.1
+      let scan = scanned s.start old new images (Ok (Err f)) told steady s.scans in
+      by_start images ∙ ap (with_start images) s.is ∙ ap (with_table images s.start) scan.1
 
   -- the chunk tree can't be read on
   by_fault : (f : Fault) → Starts images old new (Err (halts f)) → filesystem_of images ≡ None
   by_fault f s =
-      let scan = scanned s.start old new images (Err (halts f)) told steady s.scans in by_start images ∙ ap (with_start images) s.is ∙ ap (with_table images s.start) scan.1
+      let scan = scanned s.start old new images (Err (halts f)) told steady s.scans in
+      by_start images ∙ ap (with_start images) s.is ∙ ap (with_table images s.start) scan.1
 
   by_tree : (f : TreeFault) → OpenCause {T = Volume} old new (Err (opening.Tree f)) → Starts images old new (Err (halt_of f)) → filesystem_of images ≡ None
   by_tree (tree.Lost a) cause s = by_fault (fault.Lost a) s

@@ -136,7 +136,8 @@ name_holds P a b c (suc (suc (suc n))) below = absurd (omega (arith, below))
 
 pub image_stands : (rack : MemoryRack) → IsShelved rack → (slot : ℕ) → slot < 3 → IsSome (named rack (name_at slot))
 image_stands rack ready slot below =
-    let stands : (name : List ℕ) → IsSome (shelf_of rack name) → IsSome (named rack name) = λ name some. sym (ap is_some (shelf_closed rack name ready.closed)) ∙ some in
+    let stands : (name : List ℕ) → IsSome (shelf_of rack name) → IsSome (named rack name) =
+    λ name some. sym (ap is_some (shelf_closed rack name ready.closed)) ∙ some in
     name_holds (λ name. IsSome (named rack name)) (stands (codes "a") ready.a) (stands (codes "b") ready.b) (stands (codes "c") ready.c) slot below
 
 -- the bytes of the image of a name, open or not

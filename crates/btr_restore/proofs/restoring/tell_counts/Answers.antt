@@ -9,7 +9,13 @@ use Rattle.btr_restore.proofs.Stopping.{out_stops, outs_of_out, sinks_of_out}
 use Rattle.btr_restore.proofs.restoring.tell_counts.Goals as goal
 
 pub returns-in-Ok : goal.returns-in-Ok
-returns-in-Ok g c sink calls = record { did = emits_line (counts_line c.args.counts.now) c.args.counts.now sink _ _ c.in-Ok.ensures.text; sink_calls = refl; out_calls = c.in-Ok.ensures.account; stops = tt }
+returns-in-Ok g c sink calls =
+    record {
+      did = emits_line (counts_line c.args.counts.now) c.args.counts.now sink _ _ c.in-Ok.ensures.text;
+      sink_calls = refl;
+      out_calls = c.in-Ok.ensures.account;
+      stops = tt;
+    }
 
 pub returns-in-Err : goal.returns-in-Err
 returns-in-Err g c sink calls = record {

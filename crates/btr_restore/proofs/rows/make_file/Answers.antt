@@ -7,7 +7,8 @@ pub returns-then-plan-clause-wrote : goal.returns-then-plan-clause-wrote
 returns-then-plan-clause-wrote g c text calls = record { did = row_dry _ _ refl _ text c.if-plan.true; sink_calls = refl; out_calls = refl; stops = tt }
 
 pub returns-in-Ok-clause-wrote : goal.returns-in-Ok-clause-wrote
-returns-in-Ok-clause-wrote g c text calls = record { did = row_whole _ _ refl _ text _ c.if-plan.false c.in-Ok.ensures.step; sink_calls = c.in-Ok.ensures.account; out_calls = refl; stops = tt }
+returns-in-Ok-clause-wrote g c text calls =
+    record { did = row_whole _ _ refl _ text _ c.if-plan.false c.in-Ok.ensures.step; sink_calls = c.in-Ok.ensures.account; out_calls = refl; stops = tt }
 
 pub returns-in-Err-clause-wrote : goal.returns-in-Err-clause-wrote
 returns-in-Err-clause-wrote g c text calls = record {

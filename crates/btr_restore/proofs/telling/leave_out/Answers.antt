@@ -5,7 +5,13 @@ use Rattle.btr_restore.proofs.Stopping.{sinks_of_out, outs_of_out, out_stops}
 use Rattle.btr_restore.proofs.telling.leave_out.Goals as goal
 
 pub returns-in-Ok-clause-wrote : goal.returns-in-Ok-clause-wrote
-returns-in-Ok-clause-wrote g c sink calls = record { did = left_out _ c.args.counts.now sink _ _ c.more-counts.result c.more-counts.ensures c.in-Ok.ensures.text; sink_calls = refl; out_calls = c.in-Ok.ensures.account; stops = tt }
+returns-in-Ok-clause-wrote g c sink calls =
+    record {
+      did = left_out _ c.args.counts.now sink _ _ c.more-counts.result c.more-counts.ensures c.in-Ok.ensures.text;
+      sink_calls = refl;
+      out_calls = c.in-Ok.ensures.account;
+      stops = tt;
+    }
 
 pub returns-in-Err-clause-wrote : goal.returns-in-Err-clause-wrote
 returns-in-Err-clause-wrote g c sink calls = record {

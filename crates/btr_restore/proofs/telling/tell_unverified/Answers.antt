@@ -7,7 +7,8 @@ pub returns-then-not-plain : goal.returns-then-not-plain
 returns-then-not-plain g c sink calls = record { did = untold _ _ sink _ (sym c.if-not-plain.true); sink_calls = refl; out_calls = refl; stops = tt }
 
 pub returns-in-Ok : goal.returns-in-Ok
-returns-in-Ok g c sink calls = record { did = told_whole _ _ sink _ _ (sym c.if-not-plain.false) c.in-Ok.ensures.text; sink_calls = refl; out_calls = c.in-Ok.ensures.account; stops = tt }
+returns-in-Ok g c sink calls =
+    record { did = told_whole _ _ sink _ _ (sym c.if-not-plain.false) c.in-Ok.ensures.text; sink_calls = refl; out_calls = c.in-Ok.ensures.account; stops = tt }
 
 pub returns-in-Err : goal.returns-in-Err
 returns-in-Err g c sink calls = record {

@@ -20,7 +20,12 @@ returns-in-Ok-clause-wrote g c text calls =
     subst (λ (p : Piece). Wrote (put c.args.plain (piece_of p))
     (outside (g.T.TreeSink.sink c.args.tree.now) (g.T.TreeSink.account c.args.tree.now) text calls)
     (outside (g.T.TreeSink.sink c.gap.new.self) (g.T.TreeSink.account c.gap.new.self) text calls) (Ok c.args.plain)) (sym c.in-Gap.is)
-    (record { did = emits_step (Zeros c.in-Gap.count) _ _ text c.args.plain refl c.in-Ok.ensures.step; sink_calls = c.in-Ok.ensures.account; out_calls = refl; stops = tt })
+    (record {
+      did = emits_step (Zeros c.in-Gap.count) _ _ text c.args.plain refl c.in-Ok.ensures.step;
+      sink_calls = c.in-Ok.ensures.account;
+      out_calls = refl;
+      stops = tt;
+    })
 
 pub returns-in-Err-clause-wrote : goal.returns-in-Err-clause-wrote
 returns-in-Err-clause-wrote g c text calls =
@@ -46,7 +51,12 @@ returns-in-Ok-put-clause-wrote g c text calls =
     (subst (λ (b : Bool). Wrote (put c.args.plain (piece_of (lending.Bytes c.in-Bytes.bytes c.in-Bytes.verified c.in-Bytes.crc)))
     (outside (g.T.TreeSink.sink c.args.tree.now) (g.T.TreeSink.account c.args.tree.now) text calls)
     (outside (g.T.TreeSink.sink c.put.new.self) (g.T.TreeSink.account c.put.new.self) text calls) (Ok b)) (sym c.is_plain.ensures)
-    (record { did = emits_step (Bytes c.in-Bytes.bytes.now) _ _ text _ refl c.in-Ok-put.ensures.step; sink_calls = c.in-Ok-put.ensures.account; out_calls = refl; stops = tt }))
+    (record {
+      did = emits_step (Bytes c.in-Bytes.bytes.now) _ _ text _ refl c.in-Ok-put.ensures.step;
+      sink_calls = c.in-Ok-put.ensures.account;
+      out_calls = refl;
+      stops = tt;
+    }))
 
 pub returns-in-Err-put-clause-wrote : goal.returns-in-Err-put-clause-wrote
 returns-in-Err-put-clause-wrote g c text calls =

@@ -130,7 +130,8 @@ module _ (layout : Layout) (old new : Seen) where
   no_sink c (Err stop.Sink) cause = absurd cause
   no_sink c e cause = refl
 
-  counts_are : (calls calls' : CallAccount) (e : Result ℕ Stop) → call.ResolveStopCause layout old new e → call.StopCounts calls calls' e → OutCounts calls calls' e
+  counts_are : (calls calls' : CallAccount) (e : Result ℕ Stop) → call.ResolveStopCause layout old new e → call.StopCounts calls calls' e
+      → OutCounts calls calls' e
   counts_are calls calls' (Err stop.Sink) cause counts = absurd cause
   counts_are calls calls' e cause counts = counts
 
