@@ -1,5 +1,6 @@
 -- Reads and writes one after another.
-use Rattle.std.proofs.Common.{◌≡◌, ◌⊎◌, ℕ, Bool, List, [], ◌∷◌, ◌++◌, All, IfSome, IsSomeAnd, Option, Some, None, Result, Ok, Err, get_or, refl, sym, ap, ◌∙◌}
+use Rattle.std.proofs.Common.{◌≡◌, ◌⊎◌, ℕ, Bool, List, [], ◌∷◌, ◌++◌, All, IfSome, IsSomeAnd, Option, Some, None, Result, Ok, Err, IsErrAnd, get_or, refl}
+use Rattle.std.proofs.Common.{sym, ap, ◌∙◌}
 use Rattle.std.proofs.Common.{subst, inl, inr, arith, append_assoc, append-nil}
 use Rattle.std.specs.Prelude.{fold}
 use Rattle.std.proofs.lemmas.List.Elements.{All-append, All-nil}
@@ -73,7 +74,8 @@ leaves_halt A B ws vs (Some images) b e h = some_and (IsStopped ws images) (IsSt
 
 -- the same writes, said otherwise, and another value
 leaves_as : {A B : Type 0} (f g : Images → List Write) (a b : Option Images) (x : A) (y : B)
-    → ((images : Images) → a ≡ Some images → f images ≡ g images) → LeaveImages {A = A} {E = MendFault} f a b (Ok x) → LeaveImages {A = B} {E = MendFault} g a b (Ok y)
+    → ((images : Images) → a ≡ Some images → f images ≡ g images) → LeaveImages {A = A} {E = MendFault} f a b (Ok x)
+    → LeaveImages {A = B} {E = MendFault} g a b (Ok y)
 leaves_as f g None b x y e h = h
 leaves_as f g (Some images) b x y e h = h ∙ ap (λ ws. Some (fold write_on images ws)) (e images refl)
 
@@ -131,7 +133,8 @@ own_as f g rs (Some images) e h = subst (λ ws. AreAmong rs (ranges_of ws)) (e i
 
 only_then : {a b c : Seen} (rs qs : List Range) → OnlyWrites rs a b → OnlyWrites qs b c → OnlyWrites (rs ++ qs) a c
 only_then {a = a} {b = b} {c = c} rs qs h g = record {
-  same = g.same ∙ ap (λ (s : Seen). record s { held = c.held; unsynced = s.unsynced ++ qs; account = c.account }) h.same ∙ ap (λ u. record a { held = c.held; unsynced = u; account = c.account }) (append_assoc a.unsynced rs qs);
+  same = g.same ∙ ap (λ (s : Seen). record s { held = c.held; unsynced = s.unsynced ++ qs; account = c.account }) h.same
+      ∙ ap (λ u. record a { held = c.held; unsynced = u; account = c.account }) (append_assoc a.unsynced rs qs);
   later = omega (arith, h.later, g.later);
   same_shut = g.same_shut ∙ h.same_shut;
 }
@@ -139,7 +142,8 @@ only_then {a = a} {b = b} {c = c} rs qs h g = record {
 -- reading writes nothing
 pub only_reads : {a b : Seen} → OnlyReads a b → OnlyWrites [] a b
 only_reads {a = a} {b = b} h = record {
-  same = h.same ∙ ap (λ u. record a { held = a.held; unsynced = u; account = b.account }) (sym (append-nil a.unsynced)) ∙ ap (λ o. record a { held = o; unsynced = a.unsynced ++ []; account = b.account }) (sym (ap (λ (s : Seen). s.held) h.same));
+  same = h.same ∙ ap (λ u. record a { held = a.held; unsynced = u; account = b.account }) (sym (append-nil a.unsynced))
+      ∙ ap (λ o. record a { held = o; unsynced = a.unsynced ++ []; account = b.account }) (sym (ap (λ (s : Seen). s.held) h.same));
   later = h.later;
   same_shut = h.same_shut;
 }
@@ -173,9 +177,19 @@ account_then P a b c (Ok x) sure none h = none_more a.account b.account c.accoun
 account_then P a b c (Err (Image slot)) sure none h = fails_after P slot a b c sure none h
 account_then P a b c (Err Memory) sure none h = none_more a.account b.account c.account none h
 
-account_halt : (A B : Type 0) (P : Range → Type 0) (a b : Seen) (f : MendFault) → AccountsMend {A = A} P a b (Err f) → AccountsMend {A = B} P a b (Err f)
+-- what holds of a fault holds of the answer that passes it on
+pub passed : {A : Type 0} (P : Result A MendFault → Type 0) (r : Result A MendFault) (fault : MendFault) → IsErrAnd r (λ e. e ≡ fault) → P (Err fault) → P r
+passed P (Ok a) fault h p = absurd h
+passed P (Err e) fault h p = subst (λ x. P (Err x)) (sym h) p
+
+pub account_halt : (A B : Type 0) (P : Range → Type 0) (a b : Seen) (f : MendFault) → AccountsMend {A = A} P a b (Err f) → AccountsMend {A = B} P a b (Err f)
 account_halt A B P a b (Image slot) h = h
 account_halt A B P a b Memory h = h
+
+-- what a call did that failed was done where its fault is passed on
+pub does_passed : {A : Type 0} {P : Range → Type 0} {f : Images → List Write} {m n : List Bool} {a b : Seen} {r : Result A MendFault} {fault : MendFault}
+    → IsErrAnd r (λ e. e ≡ fault) → Does {A = A} P f m n a b (Err fault) → Does P f m n a b r
+does_passed {P = P} {f = f} {m = m} {n = n} {a = a} {b = b} {r = r} {fault = fault} is h = passed (λ r. Does P f m n a b r) r fault is h
 
 module _ (P : Range → Type 0) where
   -- nothing was done, or only reading
@@ -192,7 +206,8 @@ module _ (P : Range → Type 0) where
   }
 
   pub does_nothing : (marks : List Bool) (a : Seen) → Does {A = Unit {0}} P (λ i. []) marks marks a a (Ok tt)
-  does_nothing marks a = does_reads marks a a tt (record { same = refl; later = omega arith; same_shut = refl }) (record { faults = refl; fresh = refl; missed = refl; last = refl; opening = refl; shut = refl })
+  does_nothing marks a = does_reads marks a a tt (record { same = refl; later = omega arith; same_shut = refl })
+      (record { faults = refl; fresh = refl; missed = refl; last = refl; opening = refl; shut = refl })
 
   -- a read failed
   pub does_failed : (A B : Type 0) (f : Images → List Write) (marks : List Bool) (a b : Seen) (x : MendFault) → OnlyReads a b
@@ -234,11 +249,27 @@ module _ (P : Range → Type 0) where
   -- the same writes, said otherwise
   pub does_as : {A B : Type 0} (f g : Images → List Write) (m n : List Bool) (a b : Seen) (x : A) (y : B)
       → ((images : Images) → a.held ≡ Some images → f images ≡ g images) → Does P f m n a b (Ok x) → Does P g m n a b (Ok y)
-  does_as f g m n a b x y e h = record { ranges = h.ranges; only = h.only; own = own_as f g h.ranges a.held e h.own; lie = h.lie; marked = h.marked; held = leaves_as f g a.held b.held x y e h.held; account = h.account }
+  does_as f g m n a b x y e h = record {
+    ranges = h.ranges;
+    only = h.only;
+    own = own_as f g h.ranges a.held e h.own;
+    lie = h.lie;
+    marked = h.marked;
+    held = leaves_as f g a.held b.held x y e h.held;
+    account = h.account;
+  }
 
   pub does_as_halt : (A B : Type 0) (f g : Images → List Write) (m n : List Bool) (a b : Seen) (x : MendFault)
       → ((images : Images) → a.held ≡ Some images → f images ≡ g images) → Does {A = A} P f m n a b (Err x) → Does {A = B} P g m n a b (Err x)
-  does_as_halt A B f g m n a b x e h = record { ranges = h.ranges; only = h.only; own = own_as f g h.ranges a.held e h.own; lie = h.lie; marked = h.marked; held = leaves_as_halt A B f g a.held b.held x e h.held; account = account_halt A B P a b x h.account }
+  does_as_halt A B f g m n a b x e h = record {
+    ranges = h.ranges;
+    only = h.only;
+    own = own_as f g h.ranges a.held e h.own;
+    lie = h.lie;
+    marked = h.marked;
+    held = leaves_as_halt A B f g a.held b.held x e h.held;
+    account = account_halt A B P a b x h.account;
+  }
 
   -- reads before
   pub does_behind : {A : Type 0} (f : Images → List Write) (m n : List Bool) (a b c : Seen) (r : Result A MendFault) → OnlyReads a b

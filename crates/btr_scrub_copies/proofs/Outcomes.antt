@@ -1,5 +1,6 @@
 -- What mending a block comes to.
 use Rattle.std.proofs.Common.{◌≡◌, ℕ, ◌<◌, Bool, true, false, List, [], get_or, set, take, Option, Some, None, IsSome, Result, Ok, Err, refl, sym, ap, ◌∙◌}
+use Rattle.std.proofs.Common.{IsErrAnd}
 use Rattle.std.proofs.Common.{subst}
 use Rattle.std.proofs.lemmas.Bool.{false≢true}
 use Rattle.std.specs.Option.{option_map}
@@ -25,7 +26,7 @@ use Rattle.btr_scrub_copies.specs.Mending.{AreBad, AreFlagged, CountsMended, IsF
 use Rattle.btr_scrub_copies.specs.Writes.{AccountsMend, Does, Images, Write, writes_if}
 use Rattle.btr_scrub_copies.specs.declared.mended.MendFault.{MendFault}
 use Rattle.btr_scrub_copies.specs.declared.mended.Mended.{Mended}
-use Rattle.btr_scrub_copies.proofs.Doing.{does_as, does_as_halt, does_behind, does_failed, does_reads, does_then}
+use Rattle.btr_scrub_copies.proofs.Doing.{does_as, does_as_halt, does_behind, does_failed, does_reads, does_then, passed}
 use Rattle.btr_scrub_copies.proofs.Flags.{StandAll}
 use Rattle.btr_scrub_copies.proofs.Freshness.{stale_counts, stale_read, stale_written, unstale_counts, unstale_writes}
 use Rattle.btr_scrub_copies.proofs.Firsts.{counted_lost, counted_read, counted_write, none_written, writes_are}
@@ -38,10 +39,21 @@ has_bytes store loan live = of (loan_in store loan.slot) refl live.live
     of None e h = absurd (false≢true h)
     of (Some bytes) e h = (take loan.len bytes, ap (option_map (take loan.len)) e)
 
+-- what a call did that failed was done where its fault is passed on
+pub repairs_passed : {t : Target} {write : Bool} {W : Images → List Write} {C : Images → Mended} {m n : List Bool} {a b : Seen} {r : Result Mended MendFault}
+    {fault : MendFault}
+    → IsErrAnd r (λ e. e ≡ fault) → Repairs t write W C m n a b (Err fault) → Repairs t write W C m n a b r
+repairs_passed {t = t} {write = write} {W = W} {C = C} {m = m} {n = n} {a = a} {b = b} {r = r} {fault = fault} is h =
+    passed (λ r. Repairs t write W C m n a b r) r fault is h
+
 module _ (t : Target) (write : Bool) (W : Images → List Write) (C : Images → Mended) (marks : List Bool) (a b : Seen) (reads : OnlyReads a b) where
   -- a read failed
   pub repairs_failed : (B : Type 0) (fault : MendFault) → AccountsMend {A = B} (IsOfCopy t) a b (Err fault) → Repairs t write W C marks marks a b (Err fault)
-  repairs_failed B fault account = record { does = does_failed (IsOfCopy t) Mended B (λ images. writes_if write (W images)) marks a b fault reads account; counts = tt; unwritten = λ w. reads }
+  repairs_failed B fault account = record {
+    does = does_failed (IsOfCopy t) Mended B (λ images. writes_if write (W images)) marks a b fault reads account;
+    counts = tt;
+    unwritten = λ w. reads;
+  }
 
   module _ (none : NoneFailed a.account b.account) where
     -- nothing was written

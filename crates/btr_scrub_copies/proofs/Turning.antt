@@ -1,6 +1,6 @@
 -- Writes in two turns, put together.
 use Rattle.std.proofs.Common.{◌≡◌, ◌⊎◌, ℕ, suc, ◌<◌, Bool, true, false, List, [], ◌∷◌, ◌++◌, length, get_or, All, Option, Some, None, IfSome, IsSomeAnd, Result}
-use Rattle.std.proofs.Common.{Ok, Err, refl, sym, ap, ◌∙◌, subst, inl, inr, arith, append-nil}
+use Rattle.std.proofs.Common.{Ok, Err, refl, sym, ap, ◌∙◌, subst, inl, inr, arith, append-nil, IsErrAnd}
 use Rattle.std.specs.Prelude.{fold}
 use Rattle.std.proofs.lemmas.Bool.{cases_lt, false≢true}
 use Rattle.std.proofs.lemmas.List.{get_or_past}
@@ -14,7 +14,7 @@ use Rattle.btr_scrub_copies.specs.Turns.{IsInTurn, TakesTurns, WaitsAt, WaitsInT
 use Rattle.btr_scrub_copies.specs.Writes.{AccountsMend, AreAmong, Does, Images, In, IsMarked, IsStopped, IsTorn, LeaveImages, Marks, Write, ranges_of, write_on}
 use Rattle.btr_scrub_copies.specs.declared.mended.MendFault.{MendFault}
 use Rattle.btr_scrub_copies.specs.declared.mended.MendFault.TheVariants.{Image, Memory}
-use Rattle.btr_scrub_copies.proofs.Doing.{does_behind, does_failed, does_halt, does_reads, does_then, own_none, stopped_first, some_and}
+use Rattle.btr_scrub_copies.proofs.Doing.{does_behind, does_failed, does_halt, does_reads, does_then, own_none, stopped_first, some_and, passed}
 use Rattle.btr_scrub_copies.proofs.Syncs.{passing_filter, sync_held}
 
 -- ---- a rack, whatever waits for a sync
@@ -217,6 +217,11 @@ module _ (a b : Seen) (reads : OnlyReads a b) where
 
 -- ---- the turns
 
+-- what a call did that failed was done where its fault is passed on
+pub turns_passed : {A : Type 0} {P : Range → Type 0} {ws vs : List Write} {m n : List Bool} {a b : Seen} {r : Result A MendFault} {fault : MendFault}
+    → IsErrAnd r (λ e. e ≡ fault) → TakesTurns {A = A} P ws vs m n a b (Err fault) → TakesTurns P ws vs m n a b r
+turns_passed {P = P} {ws = ws} {vs = vs} {m = m} {n = n} {a = a} {b = b} {r = r} {fault = fault} is h = passed (λ r. TakesTurns P ws vs m n a b r) r fault is h
+
 module _ (P : Range → Type 0) (ws vs : List Write) (m n : List Bool) (a b : Seen) where
   weak : (range : Range) → P range → IsSyncOr P range
   weak range p = inr p
@@ -321,7 +326,8 @@ module _ (P : Range → Type 0) (ws vs : List Write) (m n : List Bool) (a b : Se
             | inl j ↦ let among = s.synced.0.among range j in
                 elim (in_either range a.unsynced first.ranges (subst (In range) (now_waits P (λ i. ws) m n a b (Ok u) first) among.0)) [
                   | inl k ↦ in_left range a.unsynced a.never_synced k
-                  | inr k ↦ let marked = own_marked P (λ i. ws) m n a b (Ok u) first range k in absurd (false≢true (sym (among.1 (marked_below n range.slot marked)) ∙ marked))
+                  | inr k ↦ let marked = own_marked P (λ i. ws) m n a b (Ok u) first range k in
+                      absurd (false≢true (sym (among.1 (marked_below n range.slot marked)) ∙ marked))
                 ]
             | inr j ↦ in_right range a.unsynced a.never_synced (subst (In range) (s.synced.1 ∙ same_never P (λ i. ws) m n a b (Ok u) first) j)
           ]
@@ -330,7 +336,8 @@ module _ (P : Range → Type 0) (ws vs : List Write) (m n : List Bool) (a b : Se
       pub turns_alone : (ws ≡ []) ⊎ (vs ≡ []) → d ≡ b → o ≡ n → TakesTurns P ws vs m q a z r
       turns_alone empty same marks = record {
         does = all_done (subst (λ s. Does (IsSyncOr P) (λ i. []) [] [] (plain b) (plain s) (Ok (tt {0}))) (sym same)
-            (does_reads (IsSyncOr P) [] (plain b) (plain b) tt (record { same = refl; later = omega arith; same_shut = refl }) (record { faults = refl; fresh = refl; missed = refl; last = refl; opening = refl; shut = refl })));
+            (does_reads (IsSyncOr P) [] (plain b) (plain b) tt (record { same = refl; later = omega arith; same_shut = refl })
+            (record { faults = refl; fresh = refl; missed = refl; last = refl; opening = refl; shut = refl })));
         waits = tell a.held (λ images. WaitsInTurn ws vs images a z) (λ images is.
             let now : d.held ≡ Some (fold write_on images ws) = ap (λ (s : Seen). s.held) same ∙ done images is in
             record {
@@ -353,10 +360,11 @@ module _ (P : Range → Type 0) (ws vs : List Write) (m n : List Bool) (a b : Se
         where
           among : AreAmong (waiting z) (waiting a ++ (first.ranges ++ second.ranges))
           among range i = elim (in_either range (waiting d) second.ranges (among_after P (λ i. vs) o q d z r second range i)) [
-            | inl j ↦ elim (in_either range (waiting a) first.ranges (among_after P (λ i. ws) m n a b (Ok u) first range (subst (λ s. In range (waiting s)) same j))) [
-              | inl k ↦ in_left range (waiting a) (first.ranges ++ second.ranges) k
-              | inr k ↦ in_right range (waiting a) (first.ranges ++ second.ranges) (in_left range first.ranges second.ranges k)
-            ]
+            | inl j ↦ elim (in_either range (waiting a) first.ranges
+                (among_after P (λ i. ws) m n a b (Ok u) first range (subst (λ s. In range (waiting s)) same j))) [
+                  | inl k ↦ in_left range (waiting a) (first.ranges ++ second.ranges) k
+                  | inr k ↦ in_right range (waiting a) (first.ranges ++ second.ranges) (in_left range first.ranges second.ranges k)
+                ]
             | inr j ↦ in_right range (waiting a) (first.ranges ++ second.ranges) (in_right range first.ranges second.ranges j)
           ]
 
@@ -371,7 +379,8 @@ module _ (P : Range → Type 0) (ws vs : List Write) (m n : List Bool) (a b : Se
             ],
           )
           one_turn images left f g t (inr none) =
-              let whole : left ≡ fold write_on images ws = stopped_none (fold write_on images ws) left (subst (λ qs. IsStopped qs (fold write_on images ws) left) none t) in
+              let whole : left ≡ fold write_on images ws = stopped_none (fold write_on images ws) left
+              (subst (λ qs. IsStopped qs (fold write_on images ws) left) none t) in
               inl (
                 subst (IsStopped ws images) (sym whole) (stopped_whole ws images),
                 λ range i. elim (in_either range first.ranges second.ranges i) [

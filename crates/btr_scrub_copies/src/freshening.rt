@@ -95,16 +95,15 @@ fn has_bytes<R: Rack>(
         OfLoan store.old loan.now (λ bytes. same ≡ bytes_eq (element images t (Mirror mirror)) bytes))) }
     ensures account { AccountsCopies store.old want.now (R.seen rack.old) (R.seen rack.new) result }
 {
-    match lend_copy(want, mirror, rack, store) {
-        Ok(Some(copy)) => {
+    match lend_copy(want, mirror, rack, store)? {
+        Some(copy) => {
             let bytes = store.bytes(&copy);
             let wanted = store.bytes(loan);
             let same = bytes == wanted;
             store.give(copy);
             Ok(same)
         }
-        Ok(None) => Ok(true),
-        Err(fault) => Err(fault),
+        None => Ok(true),
     }
 }
 
@@ -196,10 +195,7 @@ fn mend_stale<R: Rack>(
     ensures mends { MendsFresh store.old want.now write failing.now marks.old marks.new (R.seen rack.old) (R.seen rack.new) result }
 {
     let copies = copies_of(want, store);
-    let stale = match stale_copies(want, copies, failing, loan, rack, store) {
-        Ok(stale) => stale,
-        Err(fault) => return Err(fault),
-    };
+    let stale = stale_copies(want, copies, failing, loan, rack, store)?;
     if !write {
         return Ok(Mended {
             bad: stale.count,
@@ -208,14 +204,12 @@ fn mend_stale<R: Rack>(
         });
     }
     store.forget_kept();
-    match write_over(want, &stale, copies, loan, rack, store, marks) {
-        Ok(()) => Ok(Mended {
-            bad: stale.count,
-            repaired: stale.count,
-            lost: false,
-        }),
-        Err(fault) => Err(fault),
-    }
+    write_over(want, &stale, copies, loan, rack, store, marks)?;
+    Ok(Mended {
+        bad: stale.count,
+        repaired: stale.count,
+        lost: false,
+    })
 }
 
 /// Brings the copies of a plain sector, which has no checksum, up to date. Its fresh bytes are those of the first copy that lies on no image in doubt.
@@ -255,14 +249,13 @@ pub fn mend_plain<R: Rack>(
             lost: false,
         });
     }
-    match lend_fresh(want, failing, rack, store) {
-        Err(fault) => Err(fault),
-        Ok(None) => Ok(Mended {
+    match lend_fresh(want, failing, rack, store)? {
+        None => Ok(Mended {
             bad: 0,
             repaired: 0,
             lost: false,
         }),
-        Ok(Some(loan)) => {
+        Some(loan) => {
             let mended = mend_stale(want, write, failing, &loan, rack, store, marks);
             store.give(loan);
             mended

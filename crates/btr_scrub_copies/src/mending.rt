@@ -41,10 +41,7 @@ fn mend_others<R: Rack>(
     ensures loans { SameLoans store.old store.new }
     ensures mends { MendsWant store.old want.now write marks.old marks.new (R.seen rack.old) (R.seen rack.new) result }
 {
-    let bad = match bad_copies(want, copies, first, rack, store) {
-        Ok(bad) => bad,
-        Err(fault) => return Err(fault),
-    };
+    let bad = bad_copies(want, copies, first, rack, store)?;
     if !write {
         return Ok(Mended {
             bad: bad.count,
@@ -53,14 +50,12 @@ fn mend_others<R: Rack>(
         });
     }
     store.forget_kept();
-    match write_over(want, &bad, copies, &first.loan, rack, store, marks) {
-        Ok(()) => Ok(Mended {
-            bad: bad.count,
-            repaired: bad.count,
-            lost: false,
-        }),
-        Err(fault) => Err(fault),
-    }
+    write_over(want, &bad, copies, &first.loan, rack, store, marks)?;
+    Ok(Mended {
+        bad: bad.count,
+        repaired: bad.count,
+        lost: false,
+    })
 }
 
 /// Mends a block by its copies: each copy that is bad, as it doesn't pass or isn't the bytes of the first that does, is written over with these, by one
@@ -87,14 +82,13 @@ pub fn mend_copies<R: Rack>(
     ensures mends { MendsWant store.old want.now write marks.old marks.new (R.seen rack.old) (R.seen rack.new) result }
 {
     let copies = copies_of(want, store);
-    match first_good(want, copies, rack, store) {
-        Err(fault) => Err(fault),
-        Ok(None) => Ok(Mended {
+    match first_good(want, copies, rack, store)? {
+        None => Ok(Mended {
             bad: copies,
             repaired: 0,
             lost: true,
         }),
-        Ok(Some(first)) => {
+        Some(first) => {
             let mended = mend_others(want, write, copies, &first, rack, store, marks);
             let First { mirror: _, loan } = first;
             store.give(loan);

@@ -98,10 +98,7 @@ pub(crate) fn write_over<R: Rack>(
 {
     for mirror in 0..copies {
         let is_bad = bad.flags[mirror as usize];
-        match overwrite_if(is_bad, want, mirror, loan, rack, store, marks) {
-            Ok(()) => {}
-            Err(fault) => return Err(fault),
-        }
+        overwrite_if(is_bad, want, mirror, loan, rack, store, marks)?;
     }
     Ok(())
 }

@@ -27,10 +27,8 @@ pub fn sync_marked<R: Rack>(rack: &mut R, marks: &mut [bool]) -> Result<(), Mend
     ensures { SyncsMarked marks.old marks.new (R.seen rack.old) (R.seen rack.new) result }
 {
     for slot in 0..marks.len() {
-        match sync_one(marks[slot], slot, rack) {
-            Ok(()) => marks[slot] = false,
-            Err(fault) => return Err(fault),
-        }
+        sync_one(marks[slot], slot, rack)?;
+        marks[slot] = false;
     }
     Ok(())
 }

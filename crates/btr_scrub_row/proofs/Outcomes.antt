@@ -1,5 +1,5 @@
 -- What mending a row comes to.
-use Rattle.std.proofs.Common.{◌≡◌, ℕ, Bool, true, false, cond, List, [], ◌++◌, length, IfSome, Result, Some, Ok, Err, inr, sym, ap, ◌∙◌, subst}
+use Rattle.std.proofs.Common.{◌≡◌, ℕ, Bool, true, false, cond, List, [], ◌++◌, length, IfSome, Result, Some, Ok, Err, IsErrAnd, inr, sym, ap, ◌∙◌, subst}
 use Rattle.std.specs.List.{sum_by}
 use Rattle.std.proofs.lemmas.Bool.{false≢true}
 use Rattle.std.proofs.lemmas.Option.{same_Some}
@@ -14,8 +14,7 @@ use Rattle.btr_scrub_copies.specs.Syncing.{IsSyncOr, plain}
 use Rattle.btr_scrub_copies.specs.Turns.{TakesTurns, WaitsInTurn}
 use Rattle.btr_scrub_copies.specs.Writes.{AccountsMend, Images, Write, writes_if}
 use Rattle.btr_scrub_copies.specs.declared.mended.MendFault.{MendFault}
-use Rattle.btr_scrub_copies.specs.declared.mended.MendFault.TheVariants.{Image, Memory}
-use Rattle.btr_scrub_copies.proofs.Doing.{does_as, does_as_halt, does_failed, does_reads}
+use Rattle.btr_scrub_copies.proofs.Doing.{does_as, does_as_halt, does_failed, does_reads, passed}
 use Rattle.btr_scrub_copies.proofs.Turning.{fails_plain, read_at, read_marked, read_stranded, read_waits, reads_plain, strands_same, told_of, turns_behind}
 use Rattle.btr_scrub_row.specs.Rows.{Row, parities, parities_writes, parity_writes, rebuilt_writes, row_writes}
 use Rattle.btr_scrub_row.specs.Mending.{HasRoom, IsOfRow, IsRowOf, MendsRow, mended_row}
@@ -38,11 +37,11 @@ pub row_of : (layout : Layout) (stripe : FullStripe) (chunk number : ℕ) (wants
     → IsRowOf layout chunk number wants row → IsRowOf layout stripe.chunk stripe.number wants row
 row_of layout stripe chunk number wants row of is = record { stripe = of.is; blocks = is.blocks; lie = is.lie }
 
--- at a fault the account doesn't hang on what would have come out
-pub account_halt : (A B : Type 0) (P : Range → Type 0) (a b : Seen) (fault : MendFault) → AccountsMend {A = A} P a b (Err fault)
-    → AccountsMend {A = B} P a b (Err fault)
-account_halt A B P a b (Image slot) h = h
-account_halt A B P a b Memory h = h
+-- what a call did that failed was done where its fault is passed on
+pub mends_passed : {layout : Layout} {row : Row} {write : Bool} {m n : List Bool} {a b : Seen} {r : Result MendedRow MendFault} {fault : MendFault}
+    → IsErrAnd r (λ e. e ≡ fault) → MendsRow layout row write m n a b (Err fault) → MendsRow layout row write m n a b r
+mends_passed {layout = layout} {row = row} {write = write} {m = m} {n = n} {a = a} {b = b} {r = r} {fault = fault} is h =
+    passed (λ r. MendsRow layout row write m n a b r) r fault is h
 
 abbrev pub made : Judged → ℕ → ℕ → MendedRow
 made judged repaired parity = record { blocks = judged.blocks; bad = judged.bad; repaired = repaired; lost = judged.lost; parity = parity }
@@ -83,7 +82,8 @@ module _ (layout : Layout) (row : Row) (write : Bool) (marks : List Bool) (a b :
 
   module _ (none : NoneFailed a.account b.account) (judged : Judged) (buffer : RowBuffer)
       (prepared : (images : Images) → a.held ≡ Some images → IsPrepared images layout row judged buffer) (parity : ℕ)
-      (counted : (images : Images) → a.held ≡ Some images → parity ≡ sum_by (λ part. length (parity_writes images layout row part)) (parities row.chunk.profile)) where
+      (counted : (images : Images) → a.held ≡ Some images → parity ≡ sum_by (λ part. length (parity_writes images layout row part))
+      (parities row.chunk.profile)) where
     -- it was only to be read
     pub mends_read : write ≡ false → MendsRow layout row write marks marks a b (Ok (made judged 0 parity))
     mends_read no_write = record {
@@ -146,7 +146,9 @@ module _ (layout : Layout) (row : Row) (write : Bool) (marks : List Bool) (a b :
           marked = h.marked;
           stranded = h.stranded;
           counts = tell a.held (λ images. made judged judged.rebuilt parity ≡ mended_row images layout row write)
-              (λ images e. let is = prepared images e in counts_are images layout row write judged buffer judged.rebuilt parity is (is.blocks.rebuilt ∙ ap (λ w. cond w (sum_by (λ t. length (mending_writes images row.failing t)) row.blocks) 0) (sym written)) (counted images e));
+              (λ images e. let is = prepared images e in counts_are images layout row write judged buffer judged.rebuilt parity is
+              (is.blocks.rebuilt ∙ ap (λ w. cond w (sum_by (λ t. length (mending_writes images row.failing t)) row.blocks) 0) (sym written))
+              (counted images e));
           unwritten = λ w. absurd (false≢true (sym w ∙ written));
         }
 
@@ -170,4 +172,5 @@ module _ (layout : Layout) (row : Row) (write : Bool) (marks : List Bool) (a b :
 -- what was prepared is what is told
 pub tells_prepared : (layout : Layout) (row : Row) (judged : Judged) (buffer : RowBuffer) (a b : Seen) → OnlyReads a b
     → ((images : Images) → a.held ≡ Some images → IsPrepared images layout row judged buffer) → TellsRow layout row judged buffer a.held b.held
-tells_prepared layout row judged buffer a b reads prepared = record { known = tell a.held (λ images. IsPrepared images layout row judged buffer) prepared; untold = λ e. same_held reads ∙ e }
+tells_prepared layout row judged buffer a b reads prepared = record
+    { known = tell a.held (λ images. IsPrepared images layout row judged buffer) prepared; untold = λ e. same_held reads ∙ e }

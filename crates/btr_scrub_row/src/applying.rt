@@ -61,7 +61,7 @@ fn write_parities<R: Rack>(
         (λ images row. flat_map (parity_writes images store.now.layout row) (parities row.chunk.profile))
         marks.old marks.new (R.seen rack.old) (R.seen rack.new) result }
 {
-    match write_parity(
+    write_parity(
         Parity::P,
         stripe,
         judged,
@@ -70,10 +70,7 @@ fn write_parities<R: Rack>(
         &buffer.elements,
         &buffer.p,
         marks,
-    ) {
-        Ok(()) => {}
-        Err(fault) => return Err(fault),
-    }
+    )?;
     match stripe.shape.profile {
         Profile::Raid6 => write_parity(
             Parity::Q,
@@ -169,13 +166,7 @@ pub(crate) fn write_row<R: Rack>(
         marks.old marks.new (R.seen rack.old) (R.seen rack.new) result }
 {
     let both = has_both(stripe, judged, store, buffer);
-    match write_rebuilt(wants, stripe, doubts, judged, rack, store, buffer, marks) {
-        Ok(()) => {}
-        Err(fault) => return Err(fault),
-    }
-    match sync_if(both, rack, marks) {
-        Ok(()) => {}
-        Err(fault) => return Err(fault),
-    }
+    write_rebuilt(wants, stripe, doubts, judged, rack, store, buffer, marks)?;
+    sync_if(both, rack, marks)?;
     write_parities(stripe, judged, rack, store, buffer, marks)
 }

@@ -80,10 +80,7 @@ pub(crate) fn write_blocks<R: Rack>(
         marks.old marks.new (R.seen rack.old) (R.seen rack.new) result }
 {
     for want in wants {
-        match write_block(want, stripe, doubts, rack, store, old, block, spare, marks) {
-            Ok(()) => {}
-            Err(fault) => return Err(fault),
-        }
+        write_block(want, stripe, doubts, rack, store, old, block, spare, marks)?;
     }
     Ok(())
 }

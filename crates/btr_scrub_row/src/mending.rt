@@ -59,10 +59,7 @@ pub fn mend_row<R: Rack>(
 {
     let stripe = full_stripe(at.chunk, at.number, at.nodesize, store);
     let doubts = doubts_of(&stripe, failing, store);
-    let judged = match prepare(wants, &stripe, &doubts, rack, store, buffer) {
-        Ok(judged) => judged,
-        Err(fault) => return Err(fault),
-    };
+    let judged = prepare(wants, &stripe, &doubts, rack, store, buffer)?;
     if !write {
         return Ok(MendedRow {
             blocks: judged.blocks,
@@ -73,14 +70,12 @@ pub fn mend_row<R: Rack>(
         });
     }
     store.forget_kept();
-    match write_row(wants, &stripe, &doubts, &judged, rack, store, buffer, marks) {
-        Ok(()) => Ok(MendedRow {
-            blocks: judged.blocks,
-            bad: judged.bad,
-            repaired: judged.rebuilt,
-            lost: judged.lost,
-            parity: count_parities(&stripe, &judged, store, buffer),
-        }),
-        Err(fault) => Err(fault),
-    }
+    write_row(wants, &stripe, &doubts, &judged, rack, store, buffer, marks)?;
+    Ok(MendedRow {
+        blocks: judged.blocks,
+        bad: judged.bad,
+        repaired: judged.rebuilt,
+        lost: judged.lost,
+        parity: count_parities(&stripe, &judged, store, buffer),
+    })
 }

@@ -58,10 +58,7 @@ pub(crate) fn prepare<R: Rack>(
     ensures prepared { IfOk result (Prepares store.now.layout stripe.now wants.now doubts.now (R.seen rack.old) buffer.new) }
     ensures account { AccountsRow store.now.layout stripe.now (R.seen rack.old) (R.seen rack.new) result }
 {
-    match read_row(stripe, rack, store, &mut buffer.elements) {
-        Ok(()) => {}
-        Err(fault) => return Err(fault),
-    }
+    read_row(stripe, rack, store, &mut buffer.elements)?;
     let judged = judge(
         wants,
         stripe,

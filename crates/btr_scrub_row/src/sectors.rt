@@ -149,12 +149,9 @@ pub(crate) fn write_parity<R: Rack>(
         marks.old marks.new (R.seen rack.old) (R.seen rack.new) result }
 {
     for column in 0..16 {
-        match write_sector(
+        write_sector(
             column, parity, stripe, judged, rack, store, old, sums, marks,
-        ) {
-            Ok(()) => {}
-            Err(fault) => return Err(fault),
-        }
+        )?;
     }
     Ok(())
 }

@@ -8,7 +8,7 @@ use Rattle.btr_read.proofs.Serving.{serves_given}
 use Rattle.btr_scrub_copies.specs.Fresh.{flagged, fresh_writes, freshened}
 use Rattle.btr_scrub_copies.specs.Freshening.{FindsFresh, LendsAny}
 use Rattle.btr_scrub_copies.proofs.Freshness.{none_fresh, none_stale}
-use Rattle.btr_scrub_copies.proofs.Outcomes.{freshens_none, given_behind, repairs_behind, repairs_failed}
+use Rattle.btr_scrub_copies.proofs.Outcomes.{freshens_none, given_behind, repairs_behind, repairs_failed, repairs_passed}
 use Rattle.btr_scrub_copies.proofs.freshening.mend_plain.Goals as goal
 
 pub returns-then-not-lies_behind-clause-mends : goal.returns-then-not-lies_behind-clause-mends
@@ -23,43 +23,45 @@ returns-then-not-lies_behind-clause-mends g c t e =
 pub mend_stale-mended-requires-clause-fresh : goal.mend_stale-mended-requires-clause-fresh
 mend_stale-mended-requires-clause-fresh g c t images e told =
     let old = c.args.store.now in
-    let lent = subst (λ v. LendsAny c.args.want.now old c.lend_fresh.new.store (Ok v)) c.in-Ok-Some.field-0-is c.in-Ok-Some.ensures.lent in
-    subst (λ v. FindsFresh images (flagged c.args.failing.now) t c.lend_fresh.new.store (Ok v)) c.in-Ok-Some.field-0-is
-    (c.in-Ok-Some.ensures.found t images (sym (ap (λ (l : Layout). sought l c.args.want.now) lent.layout) ∙ e)
-    (sym (same_held c.in-Ok-Some.ensures.reads) ∙ told))
+    let lent = subst (λ v. LendsAny c.args.want.now old c.lend_fresh.new.store (Ok v)) c.in-Some.is c.in_ok-lend_fresh.ensures.lent in
+    subst (λ v. FindsFresh images (flagged c.args.failing.now) t c.lend_fresh.new.store (Ok v)) c.in-Some.is
+    (c.in_ok-lend_fresh.ensures.found t images (sym (ap (λ (l : Layout). sought l c.args.want.now) lent.layout) ∙ e)
+    (sym (same_held c.in_ok-lend_fresh.ensures.reads) ∙ told))
 
-pub returns-in-Err-clause-mends : goal.returns-in-Err-clause-mends
-returns-in-Err-clause-mends g c t e =
+pub returns-in_err-lend_fresh-clause-mends : goal.returns-in_err-lend_fresh-clause-mends
+returns-in_err-lend_fresh-clause-mends g c t e =
     let failing = flagged c.args.failing.now in
-    repairs_failed t c.args.write (λ images. fresh_writes images failing t) (λ images. freshened images failing t c.args.write) c.args.marks.now
-    (g.R.Rack.seen c.args.rack.now) (g.R.Rack.seen c.lend_fresh.new.rack) c.in-Err.ensures.reads (Option Lent) c.in-Err.fault (c.in-Err.ensures.account t e)
+    repairs_passed c.from_residual.ensures.1 (repairs_failed t c.args.write (λ images. fresh_writes images failing t)
+    (λ images. freshened images failing t c.args.write) c.args.marks.now
+    (g.R.Rack.seen c.args.rack.now) (g.R.Rack.seen c.lend_fresh.new.rack) c.in_err-lend_fresh.ensures.reads (Option Lent) c.in_err-lend_fresh.field-0.0
+    (c.in_err-lend_fresh.ensures.account t e))
 
-pub returns-in-Ok-None-clause-mends : goal.returns-in-Ok-None-clause-mends
-returns-in-Ok-None-clause-mends g c t e =
+pub returns-in-None-clause-mends : goal.returns-in-None-clause-mends
+returns-in-None-clause-mends g c t e =
     let failing = flagged c.args.failing.now in
     freshens_none failing t c.args.write c.args.marks.now (g.R.Rack.seen c.args.rack.now) (g.R.Rack.seen c.lend_fresh.new.rack)
-    c.in-Ok-None.ensures.reads (c.in-Ok-None.ensures.account t e)
-    (λ images told. none_fresh images failing t (sym (subst (λ v. FindsFresh images failing t c.lend_fresh.new.store (Ok v)) c.in-Ok-None.field-0-is
-    (c.in-Ok-None.ensures.found t images e told))))
+    c.in_ok-lend_fresh.ensures.reads (c.in_ok-lend_fresh.ensures.account t e)
+    (λ images told. none_fresh images failing t (sym (subst (λ v. FindsFresh images failing t c.lend_fresh.new.store (Ok v)) c.in-None.is
+    (c.in_ok-lend_fresh.ensures.found t images e told))))
 
-pub returns-in-Ok-Some-clause-serves : goal.returns-in-Ok-Some-clause-serves
-returns-in-Ok-Some-clause-serves g c =
+pub returns-in-Some-clause-serves : goal.returns-in-Some-clause-serves
+returns-in-Some-clause-serves g c =
     subst (Serves (g.R.Rack.seen c.mend_stale-mended.new.rack)) (sym c.give.ensures)
-    (serves_given (g.R.Rack.seen c.mend_stale-mended.new.rack) c.mend_stale-mended.new.store c.in-Ok-Some.loan.slot c.mend_stale-mended.ensures.serves)
+    (serves_given (g.R.Rack.seen c.mend_stale-mended.new.rack) c.mend_stale-mended.new.store c.in-Some.loan.slot c.mend_stale-mended.ensures.serves)
 
-pub returns-in-Ok-Some-clause-loans : goal.returns-in-Ok-Some-clause-loans
-returns-in-Ok-Some-clause-loans g c =
+pub returns-in-Some-clause-loans : goal.returns-in-Some-clause-loans
+returns-in-Some-clause-loans g c =
     let old = c.args.store.now in
-    let lent = subst (λ v. LendsAny c.args.want.now old c.lend_fresh.new.store (Ok v)) c.in-Ok-Some.field-0-is c.in-Ok-Some.ensures.lent in
-    subst (SameLoans old) (sym c.give.ensures) (given_behind old c.lend_fresh.new.store c.mend_stale-mended.new.store c.args.want.now c.in-Ok-Some.loan lent
+    let lent = subst (λ v. LendsAny c.args.want.now old c.lend_fresh.new.store (Ok v)) c.in-Some.is c.in_ok-lend_fresh.ensures.lent in
+    subst (SameLoans old) (sym c.give.ensures) (given_behind old c.lend_fresh.new.store c.mend_stale-mended.new.store c.args.want.now c.in-Some.loan lent
     c.mend_stale-mended.ensures.loans)
 
-pub returns-in-Ok-Some-clause-mends : goal.returns-in-Ok-Some-clause-mends
-returns-in-Ok-Some-clause-mends g c t e =
+pub returns-in-Some-clause-mends : goal.returns-in-Some-clause-mends
+returns-in-Some-clause-mends g c t e =
     let old = c.args.store.now in
     let failing = flagged c.args.failing.now in
-    let lent = subst (λ v. LendsAny c.args.want.now old c.lend_fresh.new.store (Ok v)) c.in-Ok-Some.field-0-is c.in-Ok-Some.ensures.lent in
+    let lent = subst (λ v. LendsAny c.args.want.now old c.lend_fresh.new.store (Ok v)) c.in-Some.is c.in_ok-lend_fresh.ensures.lent in
     repairs_behind t c.args.write (λ images. fresh_writes images failing t) (λ images. freshened images failing t c.args.write) c.args.marks.now
     c.mend_stale-mended.new.marks (g.R.Rack.seen c.args.rack.now) (g.R.Rack.seen c.lend_fresh.new.rack) (g.R.Rack.seen c.mend_stale-mended.new.rack)
-    c.mend_stale-mended.result c.in-Ok-Some.ensures.reads (c.in-Ok-Some.ensures.account t e)
+    c.mend_stale-mended.result c.in_ok-lend_fresh.ensures.reads (c.in_ok-lend_fresh.ensures.account t e)
     (c.mend_stale-mended.ensures.mends t (ap (λ (l : Layout). sought l c.args.want.now) lent.layout ∙ e))

@@ -9,49 +9,51 @@ use Rattle.btr_scrub_copies.specs.Blocks.{block_writes}
 use Rattle.btr_scrub_copies.specs.Mending.{FindsFirst, LendsFirst, mended_of}
 use Rattle.btr_scrub_copies.specs.declared.finding.First.{First}
 use Rattle.btr_scrub_copies.proofs.Copied.{copy_stands}
-use Rattle.btr_scrub_copies.proofs.Outcomes.{given_behind, mends_lost, repairs_behind, repairs_failed}
+use Rattle.btr_scrub_copies.proofs.Outcomes.{given_behind, mends_lost, repairs_behind, repairs_failed, repairs_passed}
 use Rattle.btr_scrub_copies.proofs.mending.mend_copies.Goals as goal
 
 pub mend_others-mended-requires-clause-first : goal.mend_others-mended-requires-clause-first
 mend_others-mended-requires-clause-first g c t images e told =
     let old = c.args.store.now in
-    let lent = subst (λ v. LendsFirst c.args.want.now old c.first_good.new.store (Ok v)) c.in-Ok-Some.field-0-is c.in-Ok-Some.ensures.lent in
-    subst (λ v. FindsFirst images t c.first_good.new.store (Ok v)) c.in-Ok-Some.field-0-is
-    (c.in-Ok-Some.ensures.found t images (sym (ap (λ (l : Layout). sought l c.args.want.now) lent.layout) ∙ e)
-    (sym (same_held c.in-Ok-Some.ensures.reads) ∙ told))
+    let lent = subst (λ v. LendsFirst c.args.want.now old c.first_good.new.store (Ok v)) c.in-Some.is c.in_ok-first_good.ensures.lent in
+    subst (λ v. FindsFirst images t c.first_good.new.store (Ok v)) c.in-Some.is
+    (c.in_ok-first_good.ensures.found t images (sym (ap (λ (l : Layout). sought l c.args.want.now) lent.layout) ∙ e)
+    (sym (same_held c.in_ok-first_good.ensures.reads) ∙ told))
 
-pub returns-in-Err-clause-mends : goal.returns-in-Err-clause-mends
-returns-in-Err-clause-mends g c t e =
-    repairs_failed t c.args.write (λ images. block_writes images t) (λ images. mended_of images t c.args.write) c.args.marks.now
-    (g.R.Rack.seen c.args.rack.now) (g.R.Rack.seen c.first_good.new.rack) c.in-Err.ensures.reads
-    (Option First) c.in-Err.fault (c.in-Err.ensures.account t e)
+pub returns-in_err-first_good-clause-mends : goal.returns-in_err-first_good-clause-mends
+returns-in_err-first_good-clause-mends g c t e =
+    repairs_passed c.from_residual.ensures.1 (repairs_failed t c.args.write (λ images. block_writes images t) (λ images. mended_of images t c.args.write)
+    c.args.marks.now
+    (g.R.Rack.seen c.args.rack.now) (g.R.Rack.seen c.first_good.new.rack) c.in_err-first_good.ensures.reads
+    (Option First) c.in_err-first_good.field-0.0 (c.in_err-first_good.ensures.account t e))
 
-pub returns-in-Ok-None-clause-mends : goal.returns-in-Ok-None-clause-mends
-returns-in-Ok-None-clause-mends g c t e =
-    mends_lost t c.args.write c.args.marks.now (g.R.Rack.seen c.args.rack.now) (g.R.Rack.seen c.first_good.new.rack) c.in-Ok-None.ensures.reads
-    (c.in-Ok-None.ensures.account t e)
+pub returns-in-None-clause-mends : goal.returns-in-None-clause-mends
+returns-in-None-clause-mends g c t e =
+    mends_lost t c.args.write c.args.marks.now (g.R.Rack.seen c.args.rack.now) (g.R.Rack.seen c.first_good.new.rack) c.in_ok-first_good.ensures.reads
+    (c.in_ok-first_good.ensures.account t e)
     c.copies_of-copies.result (c.copies_of-copies.ensures.copies t e) (λ k has. copy_stands c.args.store.now.layout c.args.want.now t k c.requires.copied e has)
-    (λ images told. subst (λ v. FindsFirst images t c.first_good.new.store (Ok v)) c.in-Ok-None.field-0-is (c.in-Ok-None.ensures.found t images e told))
+    (λ images told. subst (λ v. FindsFirst images t c.first_good.new.store (Ok v)) c.in-None.is (c.in_ok-first_good.ensures.found t images e told))
 
-pub returns-in-Ok-Some-clause-serves : goal.returns-in-Ok-Some-clause-serves
-returns-in-Ok-Some-clause-serves g c =
+pub returns-in-Some-clause-serves : goal.returns-in-Some-clause-serves
+returns-in-Some-clause-serves g c =
     subst (Serves (g.R.Rack.seen c.mend_others-mended.new.rack)) (sym c.give.ensures)
-    (serves_given (g.R.Rack.seen c.mend_others-mended.new.rack) c.mend_others-mended.new.store c.in-Ok-Some.first.loan.slot
+    (serves_given (g.R.Rack.seen c.mend_others-mended.new.rack) c.mend_others-mended.new.store c.in-Some.first.loan.slot
     c.mend_others-mended.ensures.serves)
 
-pub returns-in-Ok-Some-clause-loans : goal.returns-in-Ok-Some-clause-loans
-returns-in-Ok-Some-clause-loans g c =
+pub returns-in-Some-clause-loans : goal.returns-in-Some-clause-loans
+returns-in-Some-clause-loans g c =
     let old = c.args.store.now in
-    let lent = subst (λ v. LendsFirst c.args.want.now old c.first_good.new.store (Ok v)) c.in-Ok-Some.field-0-is c.in-Ok-Some.ensures.lent in
+    let lent = subst (λ v. LendsFirst c.args.want.now old c.first_good.new.store (Ok v)) c.in-Some.is c.in_ok-first_good.ensures.lent in
     subst (SameLoans old) (sym c.give.ensures) (given_behind old c.first_good.new.store c.mend_others-mended.new.store c.args.want.now
-    c.in-Ok-Some.first.loan lent c.mend_others-mended.ensures.loans)
+    c.in-Some.first.loan lent c.mend_others-mended.ensures.loans)
 
-pub returns-in-Ok-Some-clause-mends : goal.returns-in-Ok-Some-clause-mends
-returns-in-Ok-Some-clause-mends g c t e =
+pub returns-in-Some-clause-mends : goal.returns-in-Some-clause-mends
+returns-in-Some-clause-mends g c t e =
     let old = c.args.store.now in
-    let lent = subst (λ v. LendsFirst c.args.want.now old c.first_good.new.store (Ok v)) c.in-Ok-Some.field-0-is c.in-Ok-Some.ensures.lent in
+    let lent = subst (λ v. LendsFirst c.args.want.now old c.first_good.new.store (Ok v)) c.in-Some.is c.in_ok-first_good.ensures.lent in
     repairs_behind t c.args.write (λ images. block_writes images t)
-    (λ images. mended_of images t c.args.write) c.args.marks.now c.mend_others-mended.new.marks (g.R.Rack.seen c.args.rack.now) (g.R.Rack.seen c.first_good.new.rack)
+    (λ images. mended_of images t c.args.write) c.args.marks.now c.mend_others-mended.new.marks (g.R.Rack.seen c.args.rack.now)
+    (g.R.Rack.seen c.first_good.new.rack)
     (g.R.Rack.seen c.mend_others-mended.new.rack) c.mend_others-mended.result
-    c.in-Ok-Some.ensures.reads (c.in-Ok-Some.ensures.account t e)
+    c.in_ok-first_good.ensures.reads (c.in_ok-first_good.ensures.account t e)
     (c.mend_others-mended.ensures.mends t (ap (λ (l : Layout). sought l c.args.want.now) lent.layout ∙ e))

@@ -5,15 +5,15 @@ use Rattle.btr_chunk.specs.declared.place.Part.TheVariants.{Mirror}
 use Rattle.btr_scrub_copies.specs.Blocks.{copy_writes}
 use Rattle.btr_scrub_copies.specs.Mending.{IsOfCopy, Overwrites, flagged_copies}
 use Rattle.btr_scrub_copies.specs.Writes.{Does}
-use Rattle.btr_scrub_copies.proofs.Doing.{does_halt, does_then}
+use Rattle.btr_scrub_copies.proofs.Doing.{does_halt, does_passed, does_then}
 use Rattle.btr_scrub_copies.proofs.Flags.{copy_writes-append, flagged_more, flagged_rest}
 use Rattle.btr_scrub_copies.proofs.overwriting.write_over.Goals as goal
 
 pub overwrite_if-requires-clause-open : goal.overwrite_if-requires-clause-open
 overwrite_if-requires-clause-open g c = subst (λ s. AreOpen s c.args.store.now.layout.devices) (sym c.loop-mirror.invariant.slots) c.requires.open
 
-pub returns-in-Err-clause-writes : goal.returns-in-Err-clause-writes
-returns-in-Err-clause-writes g c t bytes e block =
+pub returns-in_err-overwrite_if-clause-writes : goal.returns-in_err-overwrite_if-clause-writes
+returns-in_err-overwrite_if-clause-writes g c t bytes e block =
     let flags = c.args.bad.now.flags in
     let m = c.loop-mirror.mirror in
     let one : List Part = cond (get_or flags m false) (Mirror m ∷ []) [] in
@@ -28,11 +28,13 @@ returns-in-Err-clause-writes g c t bytes e block =
     let second = copy_writes t bytes one in
     let third = copy_writes t bytes rest.0 in
     let writes : copy_writes t bytes (flagged_copies flags c.args.copies) ≡ (first ++ second) ++ third =
-    ap (copy_writes t bytes) parts ∙ copy_writes-append t bytes (flagged_copies flags m ++ one) rest.0 ∙ ap (λ ws. ws ++ third) (copy_writes-append t bytes (flagged_copies flags m) one) in
-    subst (λ ws. Does {A = Unit {0}} (IsOfCopy t) (λ i. ws) c.args.marks.now c.overwrite_if.new.marks a d (Err c.in-Err.fault)) (sym writes)
-    (does_halt (IsOfCopy t) (Unit {0}) (Unit {0}) (first ++ second) third c.args.marks.now c.overwrite_if.new.marks a d c.in-Err.fault
+    ap (copy_writes t bytes) parts ∙ copy_writes-append t bytes (flagged_copies flags m ++ one) rest.0
+    ∙ ap (λ ws. ws ++ third) (copy_writes-append t bytes (flagged_copies flags m) one) in
+    does_passed c.from_residual.ensures.1 (subst (λ ws. Does {A = Unit {0}} (IsOfCopy t) (λ i. ws) c.args.marks.now c.overwrite_if.new.marks a d
+    (Err c.in_err-overwrite_if.field-0.0)) (sym writes)
+    (does_halt (IsOfCopy t) (Unit {0}) (Unit {0}) (first ++ second) third c.args.marks.now c.overwrite_if.new.marks a d c.in_err-overwrite_if.field-0.0
     (does_then (IsOfCopy t) (Unit {0}) (Unit {0}) first second c.args.marks.now c.loop-mirror.marks c.overwrite_if.new.marks a b d tt
-    (Err c.in-Err.fault) (c.loop-mirror.invariant.done t bytes e block) (c.in-Err.ensures.writes t bytes e block)))
+    (Err c.in_err-overwrite_if.field-0.0) (c.loop-mirror.invariant.done t bytes e block) (c.in_err-overwrite_if.ensures.writes t bytes e block))))
 
 pub loop-mirror-preserved : goal.loop-mirror-preserved
 loop-mirror-preserved g c = record {
@@ -48,7 +50,7 @@ loop-mirror-preserved g c = record {
       (sym (ap (copy_writes t bytes) (flagged_more flags m) ∙ copy_writes-append t bytes (flagged_copies flags m) one))
       (does_then (IsOfCopy t) (Unit {0}) (Unit {0}) (copy_writes t bytes (flagged_copies flags m)) (copy_writes t bytes one) c.args.marks.now
       c.loop-mirror.marks c.overwrite_if.new.marks a b d tt (Ok tt) (c.loop-mirror.invariant.done t bytes e block)
-      (c.in-Ok.ensures.writes t bytes e block));
+      (c.in_ok-overwrite_if.ensures.writes t bytes e block));
 }
 
 pub returns-clause-writes : goal.returns-clause-writes

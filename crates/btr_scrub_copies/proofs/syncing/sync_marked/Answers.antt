@@ -3,10 +3,11 @@ use Rattle.std.proofs.lemmas.Bool.{cases_lt}
 use Rattle.btr_rack.specs.Rack.{Seen}
 use Rattle.std.proofs.lemmas.List.{get_or_past, get_or-set_other}
 use Rattle.btr_read.proofs.Keeping.{none_more}
-use Rattle.btr_scrub_copies.specs.Syncing.{AreSynced, SyncsOne, Unmarks, WaitsBehind}
+use Rattle.btr_scrub_copies.specs.Syncing.{AreSynced, SyncsMarked, SyncsOne, Unmarks, WaitsBehind}
 use Rattle.btr_scrub_copies.specs.declared.mended.MendFault.{MendFault}
 use Rattle.btr_scrub_copies.specs.declared.mended.MendFault.TheVariants.{Image, Memory}
 use Rattle.btr_scrub_copies.proofs.Syncs.{SyncedSoFar, behind_more, only_more, sync_account, synced_more, taken_more, waits_behind}
+use Rattle.btr_scrub_copies.proofs.Doing.{passed}
 use Rattle.btr_scrub_copies.proofs.syncing.sync_marked.Goals as goal
 
 pub loop-slot-preserved : goal.loop-slot-preserved
@@ -14,7 +15,7 @@ loop-slot-preserved g c =
     let a = g.R.Rack.seen c.args.rack.now in
     let b = g.R.Rack.seen c.loop-slot.rack in
     let z = g.R.Rack.seen c.sync_one.new.rack in
-    let one : SyncsOne (get_or c.loop-slot.marks c.loop-slot.slot false) c.loop-slot.slot b z (Ok tt) = c.in-Ok.ensures in
+    let one : SyncsOne (get_or c.loop-slot.marks c.loop-slot.slot false) c.loop-slot.slot b z (Ok tt) = c.in_ok-sync_one.ensures in
     let inv = c.loop-slot.invariant in
     record {
       only = only_more a b z inv.only one.only;
@@ -49,17 +50,17 @@ unmarked : (marks now : List Bool) (n : ℕ) (m : Bool) (a b c : Seen) (fault : 
 unmarked marks now n m a b c (Image slot) h w = λ k le. h.left k (omega (arith, le, w.0))
 unmarked marks now n m a b c Memory h w = absurd w
 
-pub returns-in-Err : goal.returns-in-Err
-returns-in-Err g c =
+pub returns-in_err-sync_one : goal.returns-in_err-sync_one
+returns-in_err-sync_one g c =
     let a = g.R.Rack.seen c.args.rack.now in
     let b = g.R.Rack.seen c.loop-slot.rack in
     let z = g.R.Rack.seen c.sync_one.new.rack in
     let now = c.loop-slot.marks in
-    let one : SyncsOne (get_or now c.loop-slot.slot false) c.loop-slot.slot b z (Err c.in-Err.fault) = c.in-Err.ensures in
+    let one : SyncsOne (get_or now c.loop-slot.slot false) c.loop-slot.slot b z (Err c.in_err-sync_one.field-0.0) = c.in_err-sync_one.ensures in
     let inv = c.loop-slot.invariant in
-    record {
+    passed (λ r. SyncsMarked c.args.marks.now now a z r) c.from_residual.result c.in_err-sync_one.field-0.0 c.from_residual.ensures.1 (record {
       only = only_more a b z inv.only one.only;
-      account = sync_account {A = Unit {0}} c.args.marks.now now c.loop-slot.slot a b z (Err c.in-Err.fault) inv one.account;
-      synced = waits_behind c.args.marks.now now c.loop-slot.slot (get_or now c.loop-slot.slot false) a b z c.in-Err.fault inv one.synced;
-      unmarks = unmarked c.args.marks.now now c.loop-slot.slot (get_or now c.loop-slot.slot false) a b z c.in-Err.fault inv one.synced;
-    }
+      account = sync_account {A = Unit {0}} c.args.marks.now now c.loop-slot.slot a b z (Err c.in_err-sync_one.field-0.0) inv one.account;
+      synced = waits_behind c.args.marks.now now c.loop-slot.slot (get_or now c.loop-slot.slot false) a b z c.in_err-sync_one.field-0.0 inv one.synced;
+      unmarks = unmarked c.args.marks.now now c.loop-slot.slot (get_or now c.loop-slot.slot false) a b z c.in_err-sync_one.field-0.0 inv one.synced;
+    })

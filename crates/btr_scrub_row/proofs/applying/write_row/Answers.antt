@@ -1,7 +1,7 @@
 use Rattle.std.proofs.Common.{length, Ok, sym, ap, ◌∙◌, subst, arith}
 use Rattle.btr_read.specs.Layout.{AreOpen}
 use Rattle.btr_scrub_copies.specs.Writes.{AreWritable}
-use Rattle.btr_scrub_copies.proofs.Turning.{if_held, turns_done, turns_failed, turns_first}
+use Rattle.btr_scrub_copies.proofs.Turning.{if_held, turns_done, turns_failed, turns_first, turns_passed}
 use Rattle.btr_scrub_row.specs.Rows.{parities_writes, rebuilt_writes}
 use Rattle.btr_scrub_row.specs.Mending.{IsOfRow}
 use Rattle.btr_scrub_row.specs.Preparing.{IsPrepared, TellsRow}
@@ -15,24 +15,24 @@ sync_if-requires g c = c.write_rebuilt.ensures.marks ∙ c.requires.slots ∙ sy
 
 pub write_parities-requires-clause-open : goal.write_parities-requires-clause-open
 write_parities-requires-clause-open g c =
-    subst (λ s. AreOpen s c.args.store.now.layout.devices) (sym (c.in-Ok-sync_if.ensures.slots ∙ c.write_rebuilt.ensures.slots)) c.requires.open
+    subst (λ s. AreOpen s c.args.store.now.layout.devices) (sym (c.in_ok-sync_if.ensures.slots ∙ c.write_rebuilt.ensures.slots)) c.requires.open
 
 pub write_parities-requires-clause-writable : goal.write_parities-requires-clause-writable
 write_parities-requires-clause-writable g c =
-    subst AreWritable (sym (c.in-Ok-sync_if.ensures.slots ∙ c.write_rebuilt.ensures.slots)) c.requires.writable
+    subst AreWritable (sym (c.in_ok-sync_if.ensures.slots ∙ c.write_rebuilt.ensures.slots)) c.requires.writable
 
 pub write_parities-requires-clause-slots : goal.write_parities-requires-clause-slots
 write_parities-requires-clause-slots g c =
-    let slots = ap length (c.in-Ok-sync_if.ensures.slots ∙ c.write_rebuilt.ensures.slots) in
+    let slots = ap length (c.in_ok-sync_if.ensures.slots ∙ c.write_rebuilt.ensures.slots) in
     omega (arith, slots, c.sync_if.auto.marks, c.write_rebuilt.ensures.marks, c.requires.slots)
 
-pub returns-in-Err-clause-prepared : goal.returns-in-Err-clause-prepared
-returns-in-Err-clause-prepared g c = λ images row is.
+pub returns-in_err-write_rebuilt-clause-prepared : goal.returns-in_err-write_rebuilt-clause-prepared
+returns-in_err-write_rebuilt-clause-prepared g c = λ images row is.
     let e = c.write_rebuilt.ensures in
     prepared_same images c.args.store.now.layout row c.args.judged.now c.args.buffer.now c.write_rebuilt.new.buffer e.elements e.made e.p e.q is
 
-pub returns-in-Err-sync_if-clause-prepared : goal.returns-in-Err-sync_if-clause-prepared
-returns-in-Err-sync_if-clause-prepared g c = λ images row is.
+pub returns-in_err-sync_if-clause-prepared : goal.returns-in_err-sync_if-clause-prepared
+returns-in_err-sync_if-clause-prepared g c = λ images row is.
     let e = c.write_rebuilt.ensures in
     prepared_same images c.args.store.now.layout row c.args.judged.now c.args.buffer.now c.write_rebuilt.new.buffer e.elements e.made e.p e.q is
 
@@ -53,8 +53,8 @@ returns-clause-writes g c told row of rows knows tells =
     let both = c.has_both-both.result in
     let rebuilt = told_writes (λ images. rebuilt_writes images layout row) told in
     let parities = told_writes (λ images. parities_writes images layout row) told in
-    let first = c.in-Ok.ensures.writes told row of rows knows tells in
-    let same = if_held both c.write_rebuilt.new.marks c.sync_if.new.marks b d (Ok tt) c.in-Ok-sync_if.ensures.syncs in
+    let first = c.in_ok-write_rebuilt.ensures.writes told row of rows knows tells in
+    let same = if_held both c.write_rebuilt.new.marks c.sync_if.new.marks b d (Ok tt) c.in_ok-sync_if.ensures.syncs in
     let still : TellsRow layout row judged c.write_rebuilt.new.buffer told d.held = record {
       known = told_map told (λ images. IsPrepared images layout row judged c.args.buffer.now)
           (λ images. IsPrepared images layout row judged c.write_rebuilt.new.buffer)
@@ -63,20 +63,22 @@ returns-clause-writes g c told row of rows knows tells =
     } in
     turns_done (IsOfRow layout row) rebuilt parities c.args.marks.now c.write_rebuilt.new.marks a b tt first c.sync_if.new.marks d
     c.write_parities.new.marks z c.write_parities.result
-    (c.write_parities.ensures.writes told row of still) both c.in-Ok-sync_if.ensures.syncs
+    (c.write_parities.ensures.writes told row of still) both c.in_ok-sync_if.ensures.syncs
     (λ no. one_turn layout row judged c.args.buffer.now told tells.known (λ images is. c.has_both-both.ensures no images row of is))
 
-pub returns-in-Err-clause-writes : goal.returns-in-Err-clause-writes
-returns-in-Err-clause-writes g c told row of rows knows tells =
+pub returns-in_err-write_rebuilt-clause-writes : goal.returns-in_err-write_rebuilt-clause-writes
+returns-in_err-write_rebuilt-clause-writes g c told row of rows knows tells =
     let layout = c.args.store.now.layout in
-    turns_first (IsOfRow layout row) (told_writes (λ images. rebuilt_writes images layout row) told)
+    turns_passed c.from_residual.ensures.1 (turns_first (IsOfRow layout row) (told_writes (λ images. rebuilt_writes images layout row) told)
     (told_writes (λ images. parities_writes images layout row) told)
-    c.args.marks.now c.write_rebuilt.new.marks (g.R.Rack.seen c.args.rack.now) (g.R.Rack.seen c.write_rebuilt.new.rack) (Unit {0}) (Unit {0}) c.in-Err.fault (c.in-Err.ensures.writes told row of rows knows tells)
+    c.args.marks.now c.write_rebuilt.new.marks (g.R.Rack.seen c.args.rack.now) (g.R.Rack.seen c.write_rebuilt.new.rack) (Unit {0}) (Unit {0})
+    c.in_err-write_rebuilt.field-0.0 (c.in_err-write_rebuilt.ensures.writes told row of rows knows tells))
 
-pub returns-in-Err-sync_if-clause-writes : goal.returns-in-Err-sync_if-clause-writes
-returns-in-Err-sync_if-clause-writes g c told row of rows knows tells =
+pub returns-in_err-sync_if-clause-writes : goal.returns-in_err-sync_if-clause-writes
+returns-in_err-sync_if-clause-writes g c told row of rows knows tells =
     let layout = c.args.store.now.layout in
-    turns_failed (IsOfRow layout row) (told_writes (λ images. rebuilt_writes images layout row) told)
+    turns_passed c.from_residual-in_err-sync_if.ensures.1 (turns_failed (IsOfRow layout row) (told_writes (λ images. rebuilt_writes images layout row) told)
     (told_writes (λ images. parities_writes images layout row) told)
-    c.args.marks.now c.write_rebuilt.new.marks (g.R.Rack.seen c.args.rack.now) (g.R.Rack.seen c.write_rebuilt.new.rack) tt (c.in-Ok.ensures.writes told row of rows knows tells)
-    c.sync_if.new.marks (g.R.Rack.seen c.sync_if.new.rack) c.has_both-both.result (Unit {0}) c.in-Err-sync_if.fault c.in-Err-sync_if.ensures.syncs
+    c.args.marks.now c.write_rebuilt.new.marks (g.R.Rack.seen c.args.rack.now) (g.R.Rack.seen c.write_rebuilt.new.rack) tt
+    (c.in_ok-write_rebuilt.ensures.writes told row of rows knows tells)
+    c.sync_if.new.marks (g.R.Rack.seen c.sync_if.new.rack) c.has_both-both.result (Unit {0}) c.in_err-sync_if.field-0.0 c.in_err-sync_if.ensures.syncs)

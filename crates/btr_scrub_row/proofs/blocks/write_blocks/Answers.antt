@@ -2,6 +2,7 @@ use Rattle.std.proofs.Common.{take, Ok, refl, sym, ◌∙◌, subst, arith}
 use Rattle.std.specs.List.{flat_map}
 use Rattle.std.proofs.lemmas.List.{take_all}
 use Rattle.btr_read.specs.Layout.{AreOpen}
+use Rattle.btr_scrub_copies.proofs.Doing.{does_passed}
 use Rattle.btr_scrub_row.specs.Wanted.{mending_writes}
 use Rattle.btr_scrub_copies.specs.Writes.{Does}
 use Rattle.btr_scrub_row.specs.Mending.{IsOfRow}
@@ -48,12 +49,15 @@ loop-want-preserved g c = record {
       let b = g.R.Rack.seen c.loop-want.rack in
       let d = g.R.Rack.seen c.write_block.new.rack in
       let h = c.loop-want.invariant.done told row of is knows tells in
-      let still = tells_still (IsOfRow layout row) (λ i'. told_writes (λ images. flat_map (mending_writes images row.failing) (take i row.blocks)) told) layout row c.args.old.now told c.args.marks.now c.loop-want.marks a b (Ok tt) h tells in
-      flat_next (λ images. mending_writes images row.failing) told (IsOfRow layout row) (Unit {0}) (Unit {0}) row.blocks i w.target w.below (w.at w.target) c.args.marks.now c.loop-want.marks c.write_block.new.marks a b d tt tt h (c.in-Ok.ensures.writes told row w.target of knows still w.is_sought);
+      let still = tells_still (IsOfRow layout row) (λ i'. told_writes (λ images. flat_map (mending_writes images row.failing) (take i row.blocks)) told)
+      layout row c.args.old.now told c.args.marks.now c.loop-want.marks a b (Ok tt) h tells in
+      flat_next (λ images. mending_writes images row.failing) told (IsOfRow layout row) (Unit {0}) (Unit {0}) row.blocks i w.target w.below (w.at w.target)
+      c.args.marks.now c.loop-want.marks c.write_block.new.marks a b d tt tt h
+      (c.in_ok-write_block.ensures.writes told row w.target of knows still w.is_sought);
 }
 
-pub returns-in-Err-clause-writes : goal.returns-in-Err-clause-writes
-returns-in-Err-clause-writes g c told row of is knows tells =
+pub returns-in_err-write_block-clause-writes : goal.returns-in_err-write_block-clause-writes
+returns-in_err-write_block-clause-writes g c told row of is knows tells =
     let layout = c.args.store.now.layout in
     let i = c.loop-want.want-index in
     let w = want_at layout c.args.wants.now row.blocks i _ is.blocks c.loop-want-test.true in
@@ -61,8 +65,11 @@ returns-in-Err-clause-writes g c told row of is knows tells =
     let b = g.R.Rack.seen c.loop-want.rack in
     let d = g.R.Rack.seen c.write_block.new.rack in
     let h = c.loop-want.invariant.done told row of is knows tells in
-    let still = tells_still (IsOfRow layout row) (λ i'. told_writes (λ images. flat_map (mending_writes images row.failing) (take i row.blocks)) told) layout row c.args.old.now told c.args.marks.now c.loop-want.marks a b (Ok tt) h tells in
-    flat_cut (λ images. mending_writes images row.failing) told (IsOfRow layout row) (Unit {0}) (Unit {0}) row.blocks i w.target w.below (w.at w.target) c.args.marks.now c.loop-want.marks c.write_block.new.marks a b d tt c.in-Err.fault h (c.in-Err.ensures.writes told row w.target of knows still w.is_sought)
+    let still = tells_still (IsOfRow layout row) (λ i'. told_writes (λ images. flat_map (mending_writes images row.failing) (take i row.blocks)) told) layout
+    row c.args.old.now told c.args.marks.now c.loop-want.marks a b (Ok tt) h tells in
+    does_passed c.from_residual.ensures.1 (flat_cut (λ images. mending_writes images row.failing) told (IsOfRow layout row) (Unit {0}) (Unit {0}) row.blocks i
+    w.target w.below (w.at w.target) c.args.marks.now c.loop-want.marks c.write_block.new.marks a b d tt c.in_err-write_block.field-0.0 h
+    (c.in_err-write_block.ensures.writes told row w.target of knows still w.is_sought))
 
 pub returns-clause-writes : goal.returns-clause-writes
 returns-clause-writes g c told row of is knows tells =

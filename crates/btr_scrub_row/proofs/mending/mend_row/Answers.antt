@@ -3,7 +3,8 @@ use Rattle.btr_read.specs.Layout.{AreOpen, Layout}
 use Rattle.btr_read.specs.Store.{Blocks}
 use Rattle.btr_read.proofs.ReadsOn.{open_still, same_held, same_slots}
 use Rattle.btr_read.proofs.Serving.{serves_as, serving}
-use Rattle.btr_scrub_copies.specs.Writes.{Images}
+use Rattle.btr_scrub_copies.specs.Writes.{AccountsMend, Images}
+use Rattle.btr_scrub_copies.proofs.Doing.{account_halt, passed}
 use Rattle.btr_scrub_copies.proofs.Outcomes.{serves_forgot}
 use Rattle.std.specs.List.{sum_by}
 use Rattle.std.proofs.lemmas.Bool.{false≢true}
@@ -13,33 +14,35 @@ use Rattle.btr_scrub_row.specs.Mending.{IsOfRow}
 use Rattle.btr_scrub_row.specs.declared.judged.Judged.{Judged}
 use Rattle.btr_scrub_row.specs.declared.mended.MendedRow.{MendedRow}
 use Rattle.btr_scrub_row.specs.Preparing.{IsPrepared, WritesInTurn}
-use Rattle.btr_scrub_row.proofs.Outcomes.{account_halt, mends_cut, mends_failed, mends_read, mends_wrote, room_all, row_of, tells_prepared}
+use Rattle.btr_scrub_row.proofs.Outcomes.{mends_cut, mends_failed, mends_passed, mends_read, mends_wrote, room_all, row_of, tells_prepared}
 use Rattle.btr_scrub_row.proofs.mending.mend_row.Goals as goal
 
 pub prepare-requires-clause-open : goal.prepare-requires-clause-open
 prepare-requires-clause-open g c = let was = serving (g.R.Rack.seen c.args.rack.now) c.args.store.now c.requires.serves in was.are_open
 
-pub returns-in-Err-clause-serves : goal.returns-in-Err-clause-serves
-returns-in-Err-clause-serves g c = serves_as (g.R.Rack.seen c.args.rack.now) (g.R.Rack.seen c.prepare.new.rack) c.args.store.now c.args.store.now
+pub returns-in_err-judged-clause-serves : goal.returns-in_err-judged-clause-serves
+returns-in_err-judged-clause-serves g c = serves_as (g.R.Rack.seen c.args.rack.now) (g.R.Rack.seen c.prepare.new.rack) c.args.store.now c.args.store.now
     (same_slots c.prepare.ensures.reads) (same_held c.prepare.ensures.reads) refl refl c.requires.serves
 
 pub returns-then-not-write-clause-serves : goal.returns-then-not-write-clause-serves
 returns-then-not-write-clause-serves g c = serves_as (g.R.Rack.seen c.args.rack.now) (g.R.Rack.seen c.prepare.new.rack) c.args.store.now
     c.args.store.now (same_slots c.prepare.ensures.reads) (same_held c.prepare.ensures.reads) refl refl c.requires.serves
 
-pub returns-in-Err-clause-mends : goal.returns-in-Err-clause-mends
-returns-in-Err-clause-mends g c row is fails =
+pub returns-in_err-judged-clause-mends : goal.returns-in_err-judged-clause-mends
+returns-in_err-judged-clause-mends g c row is fails =
     let layout = c.args.store.now.layout in
     let of = c.full_stripe-stripe.ensures row is.stripe in
-    mends_failed layout row c.args.write c.args.marks.now (g.R.Rack.seen c.args.rack.now) (g.R.Rack.seen c.prepare.new.rack) c.prepare.ensures.reads
-    c.in-Err.fault (c.in-Err.ensures.account row of)
+    mends_passed c.from_residual.ensures.1 (mends_failed layout row c.args.write c.args.marks.now (g.R.Rack.seen c.args.rack.now)
+    (g.R.Rack.seen c.prepare.new.rack) c.prepare.ensures.reads
+    c.in_err-judged.field-0.0 (c.in_err-judged.ensures.account row of))
 
 pub count_parities-requires-clause-room : goal.count_parities-requires-clause-room
 count_parities-requires-clause-room g c = λ row of.
     let layout = c.args.store.now.layout in
     let r = c.requires.row in
     let of0 = c.full_stripe-stripe.ensures r.row r.is.stripe in
-    c.prepare.ensures.room (length row.chunk.stripes) (room_all layout c.full_stripe-stripe.result r.row row c.args.buffer.now of0 of (c.requires.room r.row r.is))
+    c.prepare.ensures.room (length row.chunk.stripes) (room_all layout c.full_stripe-stripe.result r.row row c.args.buffer.now of0 of
+    (c.requires.room r.row r.is))
 
 pub returns-then-not-write-clause-mends : goal.returns-then-not-write-clause-mends
 returns-then-not-write-clause-mends g c row is fails =
@@ -49,10 +52,11 @@ returns-then-not-write-clause-mends g c row is fails =
     let rows = row_of layout stripe c.args.at.chunk c.args.at.number c.args.wants.now row of is in
     let a = g.R.Rack.seen c.args.rack.now in
     let b = g.R.Rack.seen c.prepare.new.rack in
-    let judged = c.in-Ok.judged in
+    let judged = c.in_ok-judged.judged in
     let buffer = c.prepare.new.buffer in
-    let prepared = λ (images : Images) (e : a.held ≡ Some images). c.in-Ok.ensures.prepared images row e of rows (c.doubts_of-doubts.ensures row of fails) in
-    mends_read layout row c.args.write c.args.marks.now a b c.prepare.ensures.reads (c.in-Ok.ensures.account row of) judged buffer prepared
+    let prepared = λ (images : Images) (e : a.held ≡ Some images). c.in_ok-judged.ensures.prepared images row e of rows
+    (c.doubts_of-doubts.ensures row of fails) in
+    mends_read layout row c.args.write c.args.marks.now a b c.prepare.ensures.reads (c.in_ok-judged.ensures.account row of) judged buffer prepared
     c.count_parities.result
     (λ images e. c.count_parities.ensures images row of (prepared images e)) c.if-not-write.true
 
@@ -72,8 +76,8 @@ write_row-requires-clause-room g c = λ row of.
     c.prepare.ensures.room (length row.chunk.stripes) (room_all layout c.full_stripe-stripe.result r.row row c.args.buffer.now of0
     (subst (λ l. IsStripeOf l c.full_stripe-stripe.result row) same of) (c.requires.room r.row r.is))
 
-pub count_parities-requires-in-Ok-write_row-clause-room : goal.count_parities-requires-in-Ok-write_row-clause-room
-count_parities-requires-in-Ok-write_row-clause-room g c = λ row of.
+pub count_parities-requires-2-clause-room : goal.count_parities-requires-2-clause-room
+count_parities-requires-2-clause-room g c = λ row of.
     let layout = c.args.store.now.layout in
     let same : c.forget_kept.new.self.layout ≡ layout = ap (λ (s : Blocks). s.layout) c.forget_kept.ensures in
     let r = c.requires.row in
@@ -82,24 +86,24 @@ count_parities-requires-in-Ok-write_row-clause-room g c = λ row of.
     (c.prepare.ensures.room (length row.chunk.stripes) (room_all layout c.full_stripe-stripe.result r.row row c.args.buffer.now of0
     (subst (λ l. IsStripeOf l c.full_stripe-stripe.result row) same of) (c.requires.room r.row r.is)))
 
-pub returns-in-Ok-write_row-clause-serves : goal.returns-in-Ok-write_row-clause-serves
-returns-in-Ok-write_row-clause-serves g c =
+pub returns-clause-serves : goal.returns-clause-serves
+returns-clause-serves g c =
     serves_forgot (g.R.Rack.seen c.args.rack.now) (g.R.Rack.seen c.write_row.new.rack) c.args.store.now c.forget_kept.new.self c.requires.serves
     c.forget_kept.ensures (c.write_row.ensures.slots ∙ same_slots c.prepare.ensures.reads)
 
-pub returns-in-Err-write_row-clause-serves : goal.returns-in-Err-write_row-clause-serves
-returns-in-Err-write_row-clause-serves g c =
+pub returns-in_err-write_row-clause-serves : goal.returns-in_err-write_row-clause-serves
+returns-in_err-write_row-clause-serves g c =
     serves_forgot (g.R.Rack.seen c.args.rack.now) (g.R.Rack.seen c.write_row.new.rack) c.args.store.now c.forget_kept.new.self c.requires.serves
     c.forget_kept.ensures (c.write_row.ensures.slots ∙ same_slots c.prepare.ensures.reads)
 
-pub returns-in-Ok-write_row-clause-room : goal.returns-in-Ok-write_row-clause-room
-returns-in-Ok-write_row-clause-room g c = λ n room. c.write_row.ensures.room n (c.prepare.ensures.room n room)
+pub returns-clause-room : goal.returns-clause-room
+returns-clause-room g c = λ n room. c.write_row.ensures.room n (c.prepare.ensures.room n room)
 
-pub returns-in-Err-write_row-clause-room : goal.returns-in-Err-write_row-clause-room
-returns-in-Err-write_row-clause-room g c = λ n room. c.write_row.ensures.room n (c.prepare.ensures.room n room)
+pub returns-in_err-write_row-clause-room : goal.returns-in_err-write_row-clause-room
+returns-in_err-write_row-clause-room g c = λ n room. c.write_row.ensures.room n (c.prepare.ensures.room n room)
 
-pub returns-in-Ok-write_row-clause-mends : goal.returns-in-Ok-write_row-clause-mends
-returns-in-Ok-write_row-clause-mends g c row is fails =
+pub returns-clause-mends : goal.returns-clause-mends
+returns-clause-mends g c row is fails =
     let layout = c.args.store.now.layout in
     let stripe = c.full_stripe-stripe.result in
     let same : c.forget_kept.new.self.layout ≡ layout = ap (λ (s : Blocks). s.layout) c.forget_kept.ensures in
@@ -108,24 +112,27 @@ returns-in-Ok-write_row-clause-mends g c row is fails =
     let a = g.R.Rack.seen c.args.rack.now in
     let b = g.R.Rack.seen c.prepare.new.rack in
     let d = g.R.Rack.seen c.write_row.new.rack in
-    let judged = c.in-Ok.judged in
+    let judged = c.in_ok-judged.judged in
     let buffer = c.prepare.new.buffer in
     let m = c.args.marks.now in
     let m' = c.write_row.new.marks in
-    let prepared = λ (images : Images) (e : a.held ≡ Some images). c.in-Ok.ensures.prepared images row e of rows (c.doubts_of-doubts.ensures row of fails) in
-    let turns = subst (λ (l : Layout). WritesInTurn {A = Unit {0}} l stripe c.args.wants.now c.doubts_of-doubts.result judged buffer m m' b d (Ok tt)) same c.in-Ok-write_row.ensures.writes in
-    let later = subst (λ (l : Layout). (images : Images) (row : Row) → IsPrepared images l row judged buffer → IsPrepared images l row judged c.write_row.new.buffer) same c.in-Ok-write_row.ensures.prepared in
+    let prepared = λ (images : Images) (e : a.held ≡ Some images). c.in_ok-judged.ensures.prepared images row e of rows
+    (c.doubts_of-doubts.ensures row of fails) in
+    let turns = subst (λ (l : Layout). WritesInTurn {A = Unit {0}} l stripe c.args.wants.now c.doubts_of-doubts.result judged buffer m m' b d (Ok tt)) same
+    c.in_ok-write_row.ensures.writes in
+    let later = subst (λ (l : Layout). (images : Images) (row : Row) → IsPrepared images l row judged buffer
+    → IsPrepared images l row judged c.write_row.new.buffer) same c.in_ok-write_row.ensures.prepared in
     let of' : IsStripeOf c.forget_kept.new.self.layout stripe row = subst (λ l. IsStripeOf l stripe row) (sym same) of in
-    mends_wrote layout row c.args.write m a b c.prepare.ensures.reads c.if-not-write.false m' d (c.in-Ok.ensures.account row of) judged buffer
-    prepared c.count_parities-in-Ok-write_row.result
-    (λ images e. subst (λ (l : Layout). c.count_parities-in-Ok-write_row.result
+    mends_wrote layout row c.args.write m a b c.prepare.ensures.reads c.if-not-write.false m' d (c.in_ok-judged.ensures.account row of) judged buffer
+    prepared c.count_parities-2.result
+    (λ images e. subst (λ (l : Layout). c.count_parities-2.result
     ≡ sum_by (λ part. length (parity_writes images l row part)) (parities row.chunk.profile)) same
-    (c.count_parities-in-Ok-write_row.ensures images row of'
+    (c.count_parities-2.ensures images row of'
     (subst (λ (l : Layout). IsPrepared images l row judged c.write_row.new.buffer) (sym same) (later images row (prepared images e)))))
     (turns a.held row of rows (c.doubts_of-doubts.ensures row of fails) (tells_prepared layout row judged buffer a b c.prepare.ensures.reads prepared))
 
-pub returns-in-Err-write_row-clause-mends : goal.returns-in-Err-write_row-clause-mends
-returns-in-Err-write_row-clause-mends g c row is fails =
+pub returns-in_err-write_row-clause-mends : goal.returns-in_err-write_row-clause-mends
+returns-in_err-write_row-clause-mends g c row is fails =
     let layout = c.args.store.now.layout in
     let stripe = c.full_stripe-stripe.result in
     let same : c.forget_kept.new.self.layout ≡ layout = ap (λ (s : Blocks). s.layout) c.forget_kept.ensures in
@@ -134,25 +141,31 @@ returns-in-Err-write_row-clause-mends g c row is fails =
     let a = g.R.Rack.seen c.args.rack.now in
     let b = g.R.Rack.seen c.prepare.new.rack in
     let d = g.R.Rack.seen c.write_row.new.rack in
-    let judged = c.in-Ok.judged in
+    let judged = c.in_ok-judged.judged in
     let buffer = c.prepare.new.buffer in
     let m = c.args.marks.now in
     let m' = c.write_row.new.marks in
-    let prepared = λ (images : Images) (e : a.held ≡ Some images). c.in-Ok.ensures.prepared images row e of rows (c.doubts_of-doubts.ensures row of fails) in
-    let fault = c.in-Err-write_row.fault in
-    let turns = subst (λ (l : Layout). WritesInTurn {A = Unit {0}} l stripe c.args.wants.now c.doubts_of-doubts.result judged buffer m m' b d (Err fault)) same c.in-Err-write_row.ensures.writes in
-    mends_cut layout row c.args.write m a b c.prepare.ensures.reads c.if-not-write.false m' d (c.in-Ok.ensures.account row of) fault (turns a.held row of rows (c.doubts_of-doubts.ensures row of fails) (tells_prepared layout row judged buffer a b c.prepare.ensures.reads prepared))
+    let prepared = λ (images : Images) (e : a.held ≡ Some images). c.in_ok-judged.ensures.prepared images row e of rows
+    (c.doubts_of-doubts.ensures row of fails) in
+    let fault = c.in_err-write_row.field-0.0 in
+    let turns = subst (λ (l : Layout). WritesInTurn {A = Unit {0}} l stripe c.args.wants.now c.doubts_of-doubts.result judged buffer m m' b d (Err fault))
+    same c.in_err-write_row.ensures.writes in
+    mends_passed c.from_residual-in_err-write_row.ensures.1 (mends_cut layout row c.args.write m a b c.prepare.ensures.reads c.if-not-write.false m' d
+    (c.in_ok-judged.ensures.account row of) fault (turns a.held row of rows (c.doubts_of-doubts.ensures row of fails)
+    (tells_prepared layout row judged buffer a b c.prepare.ensures.reads prepared)))
 
-pub returns-in-Err-clause-account : goal.returns-in-Err-clause-account
-returns-in-Err-clause-account g c unwritten row is =
-    account_halt Judged MendedRow (IsOfRow c.args.store.now.layout row) (g.R.Rack.seen c.args.rack.now) (g.R.Rack.seen c.prepare.new.rack)
-    c.in-Err.fault (c.in-Err.ensures.account row (c.full_stripe-stripe.ensures row is.stripe))
+pub returns-in_err-judged-clause-account : goal.returns-in_err-judged-clause-account
+returns-in_err-judged-clause-account g c unwritten row is =
+    passed (λ r. AccountsMend (IsOfRow c.args.store.now.layout row) (g.R.Rack.seen c.args.rack.now) (g.R.Rack.seen c.prepare.new.rack) r)
+    c.from_residual.result c.in_err-judged.field-0.0 c.from_residual.ensures.1
+    (account_halt Judged MendedRow (IsOfRow c.args.store.now.layout row) (g.R.Rack.seen c.args.rack.now) (g.R.Rack.seen c.prepare.new.rack)
+    c.in_err-judged.field-0.0 (c.in_err-judged.ensures.account row (c.full_stripe-stripe.ensures row is.stripe)))
 
 pub returns-then-not-write-clause-account : goal.returns-then-not-write-clause-account
-returns-then-not-write-clause-account g c unwritten row is = c.in-Ok.ensures.account row (c.full_stripe-stripe.ensures row is.stripe)
+returns-then-not-write-clause-account g c unwritten row is = c.in_ok-judged.ensures.account row (c.full_stripe-stripe.ensures row is.stripe)
 
-pub returns-in-Ok-write_row-clause-account : goal.returns-in-Ok-write_row-clause-account
-returns-in-Ok-write_row-clause-account g c unwritten = absurd (false≢true (sym unwritten ∙ c.if-not-write.false))
+pub returns-clause-account : goal.returns-clause-account
+returns-clause-account g c unwritten = absurd (false≢true (sym unwritten ∙ c.if-not-write.false))
 
-pub returns-in-Err-write_row-clause-account : goal.returns-in-Err-write_row-clause-account
-returns-in-Err-write_row-clause-account g c unwritten = absurd (false≢true (sym unwritten ∙ c.if-not-write.false))
+pub returns-in_err-write_row-clause-account : goal.returns-in_err-write_row-clause-account
+returns-in_err-write_row-clause-account g c unwritten = absurd (false≢true (sym unwritten ∙ c.if-not-write.false))

@@ -4,6 +4,7 @@ use Rattle.std.proofs.lemmas.List.{take_all}
 use Rattle.std.proofs.lemmas.List.FromFn.{length-range_with_len}
 use Rattle.btr_read.specs.Layout.{AreOpen}
 use Rattle.btr_scrub_copies.specs.Writes.{Does}
+use Rattle.btr_scrub_copies.proofs.Doing.{does_passed}
 use Rattle.btr_scrub_row.specs.Rows.{parity_writes}
 use Rattle.btr_scrub_row.specs.Mending.{IsOfRow}
 use Rattle.btr_scrub_row.specs.Memory.{part_of}
@@ -39,12 +40,19 @@ loop-column-preserved g c = record {
       let b = g.R.Rack.seen c.loop-column.rack in
       let d = g.R.Rack.seen c.write_sector.new.rack in
       let h = c.loop-column.invariant.done told row of tells in
-      let still : TellsParity layout row c.args.parity c.args.judged.now c.args.old.now c.args.sums.now told b.held = record { known = tells.known; untold = λ e. still_untold (IsOfRow layout row) (λ i'. told_writes (λ images. flat_map (F images) (take i (range_with_len 0 16))) told) c.args.marks.now c.loop-column.marks a b (Ok tt) h (tells.untold e) } in
-      flat_next F told (IsOfRow layout row) (Unit {0}) (Unit {0}) (range_with_len 0 16) i i (omega (arith, c.loop-column-test.true, length-range_with_len 0 16)) (column_at i i c.loop-column-test.true) c.args.marks.now c.loop-column.marks c.write_sector.new.marks a b d tt tt h (c.in-Ok.ensures.writes told row of still);
+      let still : TellsParity layout row c.args.parity c.args.judged.now c.args.old.now c.args.sums.now told b.held = record {
+        known = tells.known;
+        untold = λ e. still_untold (IsOfRow layout row)
+            (λ i'. told_writes (λ images. flat_map (F images) (take i (range_with_len 0 16))) told) c.args.marks.now c.loop-column.marks a b (Ok tt) h
+            (tells.untold e);
+      } in
+      flat_next F told (IsOfRow layout row) (Unit {0}) (Unit {0}) (range_with_len 0 16) i i
+      (omega (arith, c.loop-column-test.true, length-range_with_len 0 16)) (column_at i i c.loop-column-test.true) c.args.marks.now c.loop-column.marks
+      c.write_sector.new.marks a b d tt tt h (c.in_ok-write_sector.ensures.writes told row of still);
 }
 
-pub returns-in-Err-clause-writes : goal.returns-in-Err-clause-writes
-returns-in-Err-clause-writes g c told row of tells =
+pub returns-in_err-write_sector-clause-writes : goal.returns-in_err-write_sector-clause-writes
+returns-in_err-write_sector-clause-writes g c told row of tells =
     let layout = c.args.store.now.layout in
     let i = c.loop-column.column in
     let part = part_of c.args.parity in
@@ -53,11 +61,19 @@ returns-in-Err-clause-writes g c told row of tells =
     let b = g.R.Rack.seen c.loop-column.rack in
     let d = g.R.Rack.seen c.write_sector.new.rack in
     let h = c.loop-column.invariant.done told row of tells in
-    let still : TellsParity layout row c.args.parity c.args.judged.now c.args.old.now c.args.sums.now told b.held = record { known = tells.known; untold = λ e. still_untold (IsOfRow layout row) (λ i'. told_writes (λ images. flat_map (F images) (take i (range_with_len 0 16))) told) c.args.marks.now c.loop-column.marks a b (Ok tt) h (tells.untold e) } in
-    subst (λ ws. Does {A = Unit {0}} (IsOfRow layout row) (λ i'. ws) c.args.marks.now c.write_sector.new.marks a d (Err c.in-Err.fault))
+    let still : TellsParity layout row c.args.parity c.args.judged.now c.args.old.now c.args.sums.now told b.held = record {
+      known = tells.known;
+      untold = λ e. still_untold (IsOfRow layout row)
+          (λ i'. told_writes (λ images. flat_map (F images) (take i (range_with_len 0 16))) told) c.args.marks.now c.loop-column.marks a b (Ok tt) h
+          (tells.untold e);
+    } in
+    does_passed c.from_residual.ensures.1 (subst (λ ws. Does {A = Unit {0}} (IsOfRow layout row) (λ i'. ws) c.args.marks.now c.write_sector.new.marks a d
+    (Err c.in_err-write_sector.field-0.0))
     (told-same (λ images. flat_map (F images) (range_with_len 0 16)) (λ images. parity_writes images layout row part) told
     (λ images. columns_are images layout row part))
-    (flat_cut F told (IsOfRow layout row) (Unit {0}) (Unit {0}) (range_with_len 0 16) i i (omega (arith, c.loop-column-test.true, length-range_with_len 0 16)) (column_at i i c.loop-column-test.true) c.args.marks.now c.loop-column.marks c.write_sector.new.marks a b d tt c.in-Err.fault h (c.in-Err.ensures.writes told row of still))
+    (flat_cut F told (IsOfRow layout row) (Unit {0}) (Unit {0}) (range_with_len 0 16) i i (omega (arith, c.loop-column-test.true, length-range_with_len 0 16))
+    (column_at i i c.loop-column-test.true) c.args.marks.now c.loop-column.marks c.write_sector.new.marks a b d tt c.in_err-write_sector.field-0.0 h
+    (c.in_err-write_sector.ensures.writes told row of still)))
 
 pub returns-clause-writes : goal.returns-clause-writes
 returns-clause-writes g c told row of tells =
@@ -66,7 +82,8 @@ returns-clause-writes g c told row of tells =
     let F = column_writes layout row part in
     let a = g.R.Rack.seen c.args.rack.now in
     let b = g.R.Rack.seen c.loop-column.rack in
-    let all = ap (λ xs. told_writes (λ images. flat_map (F images) xs) told) (take_all c.loop-column.column (range_with_len 0 16) (omega (arith, c.loop-column-test.false, length-range_with_len 0 16))) in
+    let all = ap (λ xs. told_writes (λ images. flat_map (F images) xs) told)
+    (take_all c.loop-column.column (range_with_len 0 16) (omega (arith, c.loop-column-test.false, length-range_with_len 0 16))) in
     subst (λ ws. Does {A = Unit {0}} (IsOfRow layout row) (λ i'. ws) c.args.marks.now c.loop-column.marks a b (Ok tt))
     (all ∙ told-same (λ images. flat_map (F images) (range_with_len 0 16)) (λ images. parity_writes images layout row part) told
     (λ images. columns_are images layout row part))
