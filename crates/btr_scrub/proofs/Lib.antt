@@ -33,6 +33,7 @@ pub mod RowWrites
 pub mod AcrossChunks
 pub mod Working
 pub mod Placing
+pub mod PlainRows
 pub mod Refusing
 pub mod Ends
 pub mod Unitwise

@@ -1,7 +1,7 @@
 -- The blocks of one full stripe.
 use Rattle.std.specs.List.{All}
 use Rattle.std.specs.Option.{option_map_or}
-use Rattle.std.specs.Prelude.{◌≡◌, ◌≢◌, ◌⊎◌, ℕ, ◌-◌, ◌*◌, ◌<◌, ◌≤◌, Bool, true, false, List, [], ◌∷◌, ◌++◌, Option, Some, None, if◌then◌else◌}
+use Rattle.std.specs.Prelude.{◌≡◌, ◌≢◌, ◌⊎◌, ℕ, ◌+◌, ◌-◌, ◌*◌, ◌<◌, ◌≤◌, Bool, true, false, List, [], ◌∷◌, ◌++◌, Option, Some, None, if◌then◌else◌}
 use Rattle.btr_chunk.specs.Mapping.{elements_of, holds, position}
 use Rattle.btr_chunk.specs.declared.chunk.Chunk.{Chunk}
 use Rattle.btr_read.specs.Fate.{is_plain}
@@ -11,7 +11,7 @@ use Rattle.btr_read.specs.declared.want.Want.{Want}
 use Rattle.btr_scrub_row.specs.Rows.{Row, has_doubtful}
 use Rattle.btr_scrub_row.specs.declared.mended.MendedRow.{MendedRow}
 use Rattle.btr_scrub.specs.BlocksInRows.{In}
-use Rattle.btr_scrub.specs.Listed.{PassesFrom}
+use Rattle.btr_scrub.specs.Listed.{AddsAll, Kept, PassesFrom, plains_from}
 use Rattle.btr_scrub.specs.Repair.{ok_or_none}
 
 -- the row of a chunk in which an address lies, if it lies in the chunk
@@ -78,3 +78,20 @@ PassesRows chunk old new = (new ≡ old) ⊎ PassesTo chunk old new
 abbrev pub PassesUnless : Bool → Chunk → List Want → List Want → Type 0
 PassesUnless true chunk old new = new ≡ old
 PassesUnless false chunk old new = PassesRows chunk old new
+
+-- a reader passes over plain sectors one behind another, which reach just to the start of a row, and they were put behind a list
+pub record KeepsTo (chunk : Chunk) (old new : List Want) (before after : Kept) : Type 0 where
+  pub from : ℕ
+  pub start : ℕ
+  pub count : ℕ
+  pub some : 1 ≤ count
+  pub split : old ≡ plains_from from count ++ new
+  pub below : (i : ℕ) → i < count → from + i * 4096 < start
+  pub reaches : start ≤ from + count * 4096
+  pub row : ℕ
+  pub starts : StartsRow chunk start row
+  pub adds : AddsAll before after (plains_from from count)
+
+-- plain sectors up to the start of a row were put behind a list, or none
+abbrev pub KeepsRows : Chunk → List Want → List Want → Kept → Kept → Type 0
+KeepsRows chunk old new before after = ((new ≡ old) × (after ≡ before)) ⊎ KeepsTo chunk old new before after

@@ -10,13 +10,15 @@ ghost use Rattle.btr_read.specs.Want.{addr_of};
 ghost use Rattle.btr_scrub_copies.specs.Fresh.{flagged};
 ghost use Rattle.btr_scrub_row.specs.Mending.{IsRow, IsRowOf, mended_row};
 ghost use Rattle.btr_scrub_row.specs.Rows.{Row, row_writes};
+ghost use Rattle.btr_scrub.specs.Listed.{IsList};
 ghost use Rattle.btr_scrub.specs.WrittenRanges.{alone};
 ghost use Rattle.btr_scrub.specs.Order.{targets};
 ghost use Rattle.btr_scrub.specs.Repair.{rows_in};
-ghost use Rattle.btr_scrub.specs.Rowing.{Collects, CollectsRow, GivesInRow, IsCalm, PassesRows, PassesUnless, StartsRow, row_in, row_start, untouched};
+ghost use Rattle.btr_scrub.specs.Rowing.{Collects, CollectsRow, GivesInRow, IsCalm, KeepsRows, PassesRows, PassesUnless, StartsRow, row_in, row_start, untouched};
 ghost use Rattle.btr_scrub.specs.Scrubbing.{CanMend, HasRooms, PassesChunk, RowsComeNext, Scrubs, ScrubsChunk, counted_row, rows_count, rows_writes};
 
 use crate::copied::next_below;
+use crate::listed::Listed;
 use crate::reader::Reader;
 use crate::tally::Tally;
 use crate::task::ChunkTask;
@@ -251,7 +253,51 @@ pub(crate) fn pass_rows(chunk: &Chunk, blocks: &mut Reader<'_>)
     pass_to(chunk, from, row_start(chunk, end.min(last)), blocks);
 }
 
-// The same in the chunk of a number, unless some image of it is in doubt.
+// Puts the sectors without a checksum that come next from an address on behind a list, and passes over them, if they reach a place at which a row starts.
+fn keep_to(
+    chunk: &Chunk,
+    from: u64,
+    start: u64,
+    blocks: &mut Reader<'_>,
+    kept: &mut Listed,
+) -> Result<(), Memory>
+    requires chunk { IsChunk chunk.now }
+    requires is_list { IsList kept.old }
+    ensures { OnOk result (KeepsRows chunk.now blocks.old blocks.new kept.old kept.new) }
+{
+    let Some(_row) = row_from(chunk, start) else {
+        return Ok(());
+    };
+    let mut ahead = blocks.again();
+    let end = ahead.pass_from(from, start);
+    let count = end.saturating_sub(from) / 4096;
+    if end < start || count == 0 || count > u64::from(u32::MAX) {
+        return Ok(());
+    }
+    *blocks = ahead;
+    kept.push_plains(from, count as u32)
+}
+
+/// Puts the sectors without a checksum that come next and follow each other behind a list, up to the start of the last row that they reach, and passes
+/// over them. After `Memory` the list isn't used again.
+pub(crate) fn keep_rows(
+    chunk: &Chunk,
+    blocks: &mut Reader<'_>,
+    kept: &mut Listed,
+) -> Result<(), Memory>
+    requires chunk { IsChunk chunk.now }
+    requires is_list { IsList kept.old }
+    ensures { OnOk result (KeepsRows chunk.now blocks.old blocks.new kept.old kept.new) }
+{
+    let Some(from) = blocks.plain_at() else {
+        return Ok(());
+    };
+    let last = chunk.start + (chunk.length - 1);
+    let end = blocks.again().pass_from(from, last);
+    keep_to(chunk, from, row_start(chunk, end.min(last)), blocks, kept)
+}
+
+// Passes over the rows of the chunk of a number that hold nothing else, unless some image of it is in doubt.
 fn pass_calm(number: usize, doubtful: bool, blocks: &mut Reader<'_>, store: &Store)
     requires { number < length store.now.layout.chunks }
     ensures { (chunk : Chunk) → slice_get store.now.layout.chunks number ≡ Some chunk

@@ -1,5 +1,5 @@
 // What is kept of the blocks that are listed: those for which something may have to be written, and of a full stripe all or none.
-ghost use Rattle.std.specs.Prelude.{◌≡◌, ◌+◌, ◌<◌, ◌≤◌, ◌^◌, ◌||◌, nat_lt, [], ◌∷◌, false, Err, Ok, IfOk, IfSome, IsOk, IsSome, OnOk, Option};
+ghost use Rattle.std.specs.Prelude.{◌≡◌, ◌+◌, ◌<◌, ◌≤◌, ◌^◌, ◌||◌, nat_lt, [], ◌∷◌, false, Err, Ok, IfOk, IfSome, IsOk, IsSome, OnOk, Option, Some};
 ghost use Rattle.btr_rack.specs.Rack.{OnlyReads};
 ghost use Rattle.btr_read.specs.Fate.{sought};
 ghost use Rattle.btr_read.specs.Layout.{Layout};
@@ -10,7 +10,9 @@ ghost use Rattle.btr_scrub.specs.Listed.{AreOfKind, IsList, IsOfKind, kept_wants
 ghost use Rattle.btr_scrub.specs.Order.{AreApart};
 ghost use Rattle.btr_scrub.specs.Scanning.{IsSpanIn};
 ghost use Rattle.btr_scrub.specs.Scrubbing.{CanMend, HasRooms};
-ghost use Rattle.btr_chunk.specs.Table.{IsTable};
+ghost use Rattle.btr_chunk.specs.Table.{IsTable, chunk_at};
+ghost use Rattle.btr_chunk.specs.declared.chunk.Chunk.{Chunk};
+ghost use Rattle.btr_scrub.specs.Rowing.{KeepsRows};
 ghost use Rattle.btr_chunk.specs.Chunk.{mirrors};
 ghost use Rattle.btr_scrub.specs.Sifting.{CanSift, PassesCalm, Sifts, SiftsNext, Stands, WentIn, is_copy_needed, lies_in};
 ghost use Rattle.btr_scrub.specs.Judged.{has_older};
@@ -25,10 +27,10 @@ use crate::gathered::Gathered;
 use crate::judging::judge_blocks;
 use crate::listed::Listed;
 use crate::reader::{Reader, read_all};
-use crate::rowed::RowRoom;
+use crate::rowed::{RowRoom, keep_rows};
 use crate::rows::sift_row;
 use crate::sifted::Sifted;
-use btr_base::SumKind;
+use btr_base::{Memory, SumKind};
 use btr_rack::Rack;
 use btr_read::{Store, Want};
 use btr_scrub_copies::{MendFault, Mended, mend_copies};
@@ -146,7 +148,25 @@ fn pass_calm(want: &Want, blocks: &mut Reader<'_>, store: &Store)
     }
 }
 
-// Sifts a block, and those that are judged with it: the others of its full stripe, or the plain sectors that follow one in a
+// Keeps the rows of a block's chunk that come next and hold nothing but sectors without a checksum one behind another: each of them is kept whole.
+fn keep_plain(
+    addr: u64,
+    blocks: &mut Reader<'_>,
+    store: &Store,
+    kept: &mut Listed,
+) -> Result<(), Memory>
+    requires chunk { IsSome (chunk_at store.now.layout.chunks addr) }
+    requires is_list { IsList kept.old }
+    ensures { (chunk : Chunk) → chunk_at store.now.layout.chunks addr ≡ Some chunk
+        → OnOk result (KeepsRows chunk blocks.old blocks.new kept.old kept.new) }
+{
+    let Some(chunk) = store.chunks().find(addr) else {
+        unreachable!();
+    };
+    keep_rows(chunk, blocks, kept)
+}
+
+// Sifts a block, and those that are sifted with it: the others of its full stripe and the plain rows behind it, or the plain sectors that follow one in a
 // chunk with copies.
 fn sift_next<R: Rack>(
     want: Want,
@@ -167,7 +187,15 @@ fn sift_next<R: Rack>(
     ensures account { AccountsMend (LiesInStripe store.old.layout) (R.seen rack.old) (R.seen rack.new) result }
 {
     if copies_of(&want, store).is_none() {
-        return sift_row(want, blocks, rack, store, marks, sifted);
+        let addr = want.addr();
+        match sift_row(want, blocks, rack, store, marks, sifted) {
+            Ok(()) => {}
+            Err(fault) => return Err(fault),
+        }
+        return match keep_plain(addr, blocks, store, &mut sifted.kept) {
+            Ok(()) => Ok(()),
+            Err(_) => Err(MendFault::Memory),
+        };
     }
     match sift_one(&want, rack, store, marks, sifted) {
         Ok(()) => {}
