@@ -1,5 +1,5 @@
 -- Calls that read a volume, one after another.
-use Rattle.std.proofs.Common.{◌≡◌, None, true, Result, Ok, Err, refl, ap, ◌∙◌, subst}
+use Rattle.std.proofs.Common.{◌≡◌, None, true, Result, Ok, Err, IsErrAnd, refl, ap, ◌∙◌, subst}
 use Rattle.std.specs.Bool.{⊤}
 use Rattle.btr_rack.specs.Rack.{Seen, OnlyReads}
 use Rattle.btr_rack.proofs.Reading.{reads_none, reads_more}
@@ -162,6 +162,11 @@ ran_stop {A} {C} P S x y stop one f =
     let r : Result A Stop = Err stop in
     let t : Result C Stop = Err stop in
     ran_as P S x y r t one (λ h. h) (λ h. h) f (λ B h. h)
+
+-- the answer of a `?` that passes a stop on
+pub stop_is : {A : Type 0} {stop : Stop} (r : Result A Stop) → IsErrAnd r (λ s. s ≡ stop) → r ≡ Err stop
+stop_is (Ok a) is = absurd is
+stop_is (Err s) is = ap Err is
 
 -- the same, where more is wanted
 pub ran_stop_within : {A C : Type 0} {W U : Filesystem → Want → Type 0} (P S : Filesystem → Type 0) (x y : World) (stop : Stop)

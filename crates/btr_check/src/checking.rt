@@ -39,10 +39,7 @@ fn put_extents<R: Rack>(
         (AddsFindingsAnd (IsWalked checked.entry.listed.now checked.entry.trees.now walk) IsRunsOf found_on_extents found.old found.new result)
         (world (R.seen rack.old) vol.old) (world (R.seen rack.new) vol.new) result }
 {
-    let extents = match put_references(alloc, found, checked, walk, rack, vol) {
-        Ok(extents) => extents,
-        Err(stop) => return Err(stop),
-    };
+    let extents = put_references(alloc, found, checked, walk, rack, vol)?;
     put_sums(alloc, found, checked.listed, extents.as_slice(), rack, vol)
 }
 
@@ -85,10 +82,7 @@ fn put_contents<R: Rack>(
         (λ fs. data_if checked.entry.read_data fs ++ found_on_files fs) found.old found.new result)
         (world (R.seen rack.old) vol.old) (world (R.seen rack.new) vol.new) result }
 {
-    match put_data_if(checked.read_data, found, checked.listed, &runs, rack, vol) {
-        Ok(()) => {}
-        Err(stop) => return Err(stop),
-    }
+    put_data_if(checked.read_data, found, checked.listed, &runs, rack, vol)?;
     match sum_ranges(alloc, runs.as_slice()) {
         Ok(sums) => put_files(alloc, found, checked.listed, &sums, rack, vol),
         Err(Memory) => Err(Stop::Memory),
@@ -110,14 +104,9 @@ fn put_rules<R: Rack>(
         found.old found.new result)
         (world (R.seen rack.old) vol.old) (world (R.seen rack.new) vol.new) result }
 {
-    let runs = match put_extents(alloc, found, checked, walk, rack, vol) {
-        Ok(runs) => runs,
-        Err(stop) => return Err(stop),
-    };
-    match put_devices(alloc, found, checked.listed, rack, vol) {
-        Ok(()) => put_contents(alloc, found, checked, runs, rack, vol),
-        Err(stop) => Err(stop),
-    }
+    let runs = put_extents(alloc, found, checked, walk, rack, vol)?;
+    put_devices(alloc, found, checked.listed, rack, vol)?;
+    put_contents(alloc, found, checked, runs, rack, vol)
 }
 
 // All that is wrong, as a set: with the trees themselves, and else with what they say.
@@ -138,10 +127,7 @@ fn find_all<R: Rack>(
         Err(Memory) => return Err(Stop::Memory),
     };
     let trees = all.as_slice();
-    let walk = match walk_trees(alloc, trees, rack, vol) {
-        Ok(walk) => walk,
-        Err(stop) => return Err(stop),
-    };
+    let walk = walk_trees(alloc, trees, rack, vol)?;
     let mut found = Found::new(alloc);
     if walk.is_sound() {
         let checked = Checked {
@@ -149,10 +135,8 @@ fn find_all<R: Rack>(
             listed,
             trees,
         };
-        match put_rules(alloc, &mut found, checked, walk, rack, vol) {
-            Ok(()) => Ok(found),
-            Err(stop) => Err(stop),
-        }
+        put_rules(alloc, &mut found, checked, walk, rack, vol)?;
+        Ok(found)
     } else {
         match put_walk_findings(&mut found, &walk) {
             Ok(()) => Ok(found),
@@ -180,14 +164,8 @@ pub fn check<R: Rack>(
         (λ fs. Answers (λ all. (refusal fs ≡ None) × (all ≡ findings read_data fs)) fs result)
         (world (R.seen rack.old) vol.old) (world (R.seen rack.new) vol.new) result }
 {
-    let trees = match read_trees(alloc, rack, vol) {
-        Ok(trees) => trees,
-        Err(stop) => return Err(stop),
-    };
-    let found = match find_all(alloc, read_data, &trees, rack, vol) {
-        Ok(found) => found,
-        Err(stop) => return Err(stop),
-    };
+    let trees = read_trees(alloc, rack, vol)?;
+    let found = find_all(alloc, read_data, &trees, rack, vol)?;
     match found.list(alloc) {
         Ok(all) => Ok(all),
         Err(Memory) => Err(Stop::Memory),

@@ -26,10 +26,8 @@ pub(crate) fn collect<R: Rack, V: Visitor<Memory> + Drop>(
     let Some(tree) = tree else {
         return Ok(visitor);
     };
-    match visit_tree(&tree.place, &mut visitor, rack, vol) {
-        Ok(()) => Ok(visitor),
-        Err(stop) => Err(stop),
-    }
+    visit_tree(&tree.place, &mut visitor, rack, vol)?;
+    Ok(visitor)
 }
 
 /// How a call ends that may want memory.

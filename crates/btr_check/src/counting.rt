@@ -91,10 +91,7 @@ fn count_blocks<R: Rack>(
 {
     for place in places {
         let by_address = full.contains(&place.addr);
-        match count_block(forward, place, by_address, rack, vol) {
-            Ok(()) => {}
-            Err(stop) => return Err(stop),
-        }
+        count_block(forward, place, by_address, rack, vol)?;
     }
     Ok(())
 }
@@ -121,8 +118,6 @@ pub fn count_uses<R: Rack>(
         Ok(()) => {}
         Err(Memory) => return Err(Stop::Memory),
     }
-    match count_blocks(&mut forward, places, full, rack, vol) {
-        Ok(()) => Ok(forward),
-        Err(stop) => Err(stop),
-    }
+    count_blocks(&mut forward, places, full, rack, vol)?;
+    Ok(forward)
 }

@@ -34,14 +34,9 @@ fn collect_each<R: Rack, A: Visitor<Memory> + Drop, B: Visitor<Memory> + Drop>(
         }) result)
         (world (R.seen rack.old) vol.old) (world (R.seen rack.new) vol.new) result }
 {
-    let first = match collect(first, both.first, rack, vol) {
-        Ok(first) => first,
-        Err(stop) => return Err(stop),
-    };
-    match collect(second, both.second, rack, vol) {
-        Ok(second) => Ok(Both { first, second }),
-        Err(stop) => Err(stop),
-    }
+    let first = collect(first, both.first, rack, vol)?;
+    let second = collect(second, both.second, rack, vol)?;
+    Ok(Both { first, second })
 }
 
 /// Collects what the extent tree stores, and the block groups: in one visit, unless block groups have a tree of their own. These are the

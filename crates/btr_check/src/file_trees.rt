@@ -160,10 +160,8 @@ fn put_names<R: Rack>(
 {
     names_law();
     let nothing = TreeNames::new(alloc, tree.id, tree.dirid);
-    match collect(Some(*tree), nothing, rack, vol) {
-        Err(stop) => Err(stop),
-        Ok(all) => or_memory(put_all_names(alloc, found, subvolumes, &all)),
-    }
+    let all = collect(Some(*tree), nothing, rack, vol)?;
+    or_memory(put_all_names(alloc, found, subvolumes, &all))
 }
 
 // Visits a tree of files, puts what is wrong with it, and keeps its names of subvolumes, and the tree where it is sound.
@@ -186,10 +184,7 @@ fn put_visited<R: Rack>(
     unpaired_law();
     keeps_law();
     let tree = rooted.tree;
-    let met = match collect(Some(tree), FileTree::new(alloc, &tree), rack, vol) {
-        Ok(met) => met,
-        Err(stop) => return Err(stop),
-    };
+    let met = collect(Some(tree), FileTree::new(alloc, &tree), rack, vol)?;
     let chunks = vol.store.chunks();
     let places = SumPlaces { chunks, sums };
     let paired = match put_met(alloc, found, kept, rooted, met, &places) {
@@ -265,10 +260,7 @@ fn put_file_tree<R: Rack>(
         (tree.now ∷ []) found.old found.new kept.old.subvolumes kept.new.subvolumes kept.new.sound.items) result)
         (world (R.seen rack.old) vol.old) (world (R.seen rack.new) vol.new) result }
 {
-    let rooted = match read_rooted(alloc, tree, rack, vol) {
-        Ok(rooted) => rooted,
-        Err(stop) => return Err(stop),
-    };
+    let rooted = read_rooted(alloc, tree, rack, vol)?;
     match pass_like(kept.sound.as_slice(), &rooted, &mut kept.subvolumes) {
         Ok(true) => Ok(()),
         Ok(false) => put_unlike(alloc, found, kept, rooted, sums, rack, vol),
@@ -293,10 +285,7 @@ fn put_file_trees<R: Rack>(
         (world (R.seen rack.old) vol.old) (world (R.seen rack.new) vol.new) result }
 {
     for tree in files {
-        match put_file_tree(alloc, found, kept, tree, sums, rack, vol) {
-            Ok(()) => {}
-            Err(stop) => return Err(stop),
-        }
+        put_file_tree(alloc, found, kept, tree, sums, rack, vol)?;
     }
     Ok(())
 }
@@ -339,16 +328,11 @@ pub(crate) fn put_files<R: Rack>(
         Ok(files) => files,
         Err(Memory) => return Err(Stop::Memory),
     };
-    let subvolumes = match read_subvolumes(alloc, rack, vol) {
-        Ok(subvolumes) => subvolumes,
-        Err(stop) => return Err(stop),
-    };
+    let subvolumes = read_subvolumes(alloc, rack, vol)?;
     let mut kept = KeptTrees {
         subvolumes,
         sound: Vec::new(alloc),
     };
-    match put_file_trees(alloc, found, &mut kept, &files, sums, rack, vol) {
-        Err(stop) => Err(stop),
-        Ok(()) => or_memory(put_subvolume_findings(alloc, found, &kept.subvolumes)),
-    }
+    put_file_trees(alloc, found, &mut kept, &files, sums, rack, vol)?;
+    or_memory(put_subvolume_findings(alloc, found, &kept.subvolumes))
 }

@@ -159,10 +159,9 @@ fn is_readable<R: Rack>(
         (λ can. can ≡ is_readable fs (tree_behind sums.entry) sector.addr) result))
         (world (R.seen rack.old) vol.old) (world (R.seen rack.new) vol.new) result }
 {
-    match sector_want(sector.addr, sums, ahead, rack, vol) {
-        Err(stop) => Err(stop),
-        Ok(None) => Ok(false),
-        Ok(Some(want)) => can_read(&want, sector.left, copies, rack, vol),
+    match sector_want(sector.addr, sums, ahead, rack, vol)? {
+        None => Ok(false),
+        Some(want) => can_read(&want, sector.left, copies, rack, vol),
     }
 }
 
@@ -194,12 +193,10 @@ fn put_sector<R: Rack>(
         (option_to_list (data_lost fs (tree_behind sums.entry) sector.addr)) found.old found.new) result))
         (world (R.seen rack.old) vol.old) (world (R.seen rack.new) vol.new) result }
 {
-    match is_readable(sector, sums, ahead, copies, rack, vol) {
-        Err(stop) => Err(stop),
-        Ok(readable) => match put_lost(found, readable, sector.addr) {
-            Ok(()) => Ok(()),
-            Err(Memory) => Err(Stop::Memory),
-        },
+    let readable = is_readable(sector, sums, ahead, copies, rack, vol)?;
+    match put_lost(found, readable, sector.addr) {
+        Ok(()) => Ok(()),
+        Err(Memory) => Err(Stop::Memory),
     }
 }
 
@@ -234,10 +231,7 @@ fn put_run<R: Rack>(
     let mut ahead = SumsAhead::new();
     for i in 0..run.count {
         let sector = sector_at(run, i);
-        match put_sector(found, sector, sums, &mut ahead, copies, rack, vol) {
-            Ok(()) => {}
-            Err(stop) => return Err(stop),
-        }
+        put_sector(found, sector, sums, &mut ahead, copies, rack, vol)?;
     }
     Ok(())
 }
@@ -261,10 +255,7 @@ pub(crate) fn put_data_findings<R: Rack>(
 {
     let mut copies = DataAhead::new();
     for run in runs {
-        match put_run(found, run, sums, &mut copies, rack, vol) {
-            Ok(()) => {}
-            Err(stop) => return Err(stop),
-        }
+        put_run(found, run, sums, &mut copies, rack, vol)?;
     }
     Ok(())
 }

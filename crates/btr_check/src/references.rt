@@ -69,12 +69,10 @@ fn put_stored<R: Rack>(
         (AddsFindingsAnd (ListsSound listed.now) IsBegun (λ fs. found_on_totals fs ++ found_on_groups fs) found.old found.new result)
         (world (R.seen rack.old) vol.old) (world (R.seen rack.new) vol.new) result }
 {
-    match read_extents(alloc, listed, rack, vol) {
-        Err(stop) => Err(stop),
-        Ok(both) => match put_collected(alloc, found, both, vol) {
-            Ok(begun) => Ok(begun),
-            Err(Memory) => Err(Stop::Memory),
-        },
+    let both = read_extents(alloc, listed, rack, vol)?;
+    match put_collected(alloc, found, both, vol) {
+        Ok(begun) => Ok(begun),
+        Err(Memory) => Err(Stop::Memory),
     }
 }
 
@@ -102,19 +100,17 @@ fn put_counted<R: Rack>(
         (AddsFindingsAnd (IsCounted trees.now places.items begun) ListExtents (λ fs. found_on_counts fs ++ found_on_uses fs) found.old found.new result)
         (world (R.seen rack.old) vol.old) (world (R.seen rack.new) vol.new) result }
 {
-    match count_uses(
+    let forward = count_uses(
         begun.forward,
         trees,
         places.as_slice(),
         &begun.full,
         rack,
         vol,
-    ) {
-        Err(stop) => Err(stop),
-        Ok(forward) => match put_uses(found, forward) {
-            Ok(extents) => Ok(extents),
-            Err(Memory) => Err(Stop::Memory),
-        },
+    )?;
+    match put_uses(found, forward) {
+        Ok(extents) => Ok(extents),
+        Err(Memory) => Err(Stop::Memory),
     }
 }
 
@@ -137,8 +133,6 @@ pub(crate) fn put_references<R: Rack>(
         (world (R.seen rack.old) vol.old) (world (R.seen rack.new) vol.new) result }
 {
     let places = walk.into_places();
-    match put_stored(alloc, found, checked.listed, rack, vol) {
-        Ok(begun) => put_counted(found, checked.trees, places, begun, rack, vol),
-        Err(stop) => Err(stop),
-    }
+    let begun = put_stored(alloc, found, checked.listed, rack, vol)?;
+    put_counted(found, checked.trees, places, begun, rack, vol)
 }

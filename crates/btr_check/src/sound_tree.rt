@@ -142,13 +142,12 @@ pub(crate) fn read_rooted<R: Rack>(
         up: None,
     };
     let mut walk = Walk::new(alloc, kind_of(&vol.sup));
-    match open_block(tree.place.level, &spot, &mut walk, rack, vol) {
-        Err(stop) => Err(stop),
-        Ok(Opened::Whole(_)) => Ok(RootedTree {
+    match open_block(tree.place.level, &spot, &mut walk, rack, vol)? {
+        Opened::Whole(_) => Ok(RootedTree {
             tree: *tree,
             children: Vec::new(alloc),
         }),
-        Ok(Opened::Children(children)) => Ok(RootedTree {
+        Opened::Children(children) => Ok(RootedTree {
             tree: *tree,
             children,
         }),

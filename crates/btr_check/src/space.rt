@@ -51,19 +51,14 @@ pub(crate) fn put_devices<R: Rack>(
 {
     collects_law();
     let device_tree = last_of(listed, DEVICE_TREE);
-    let extents = match collect(device_tree, DeviceExtents::new(alloc), rack, vol) {
-        Ok(extents) => extents,
-        Err(stop) => return Err(stop),
-    };
+    let extents = collect(device_tree, DeviceExtents::new(alloc), rack, vol)?;
     let chunk_tree = named_root(CHUNK_TREE, chunk_root(&vol.sup));
-    match collect(Some(chunk_tree), Devices::new(alloc), rack, vol) {
-        Err(stop) => Err(stop),
-        Ok(devices) => or_memory(put_device_findings(
-            alloc,
-            found,
-            vol.store.chunks(),
-            extents.as_slice(),
-            devices.as_slice(),
-        )),
-    }
+    let devices = collect(Some(chunk_tree), Devices::new(alloc), rack, vol)?;
+    or_memory(put_device_findings(
+        alloc,
+        found,
+        vol.store.chunks(),
+        extents.as_slice(),
+        devices.as_slice(),
+    ))
 }

@@ -36,10 +36,7 @@ pub(crate) fn put_sums<R: Rack>(
     keeps_law();
     let tree = last_of(listed, SUM_TREE);
     let nothing = Runs::new(alloc, kind_of(&vol.sup));
-    let runs = match collect(tree, nothing, rack, vol) {
-        Ok(runs) => runs,
-        Err(stop) => return Err(stop),
-    };
+    let runs = collect(tree, nothing, rack, vol)?;
     match put_sum_findings(alloc, found, runs.as_slice(), extents) {
         Ok(()) => Ok(runs),
         Err(Memory) => Err(Stop::Memory),

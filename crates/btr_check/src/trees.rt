@@ -29,12 +29,10 @@ fn walk_root<R: Rack>(alloc: Global, rack: &mut R, vol: &mut Volume) -> Result<V
 {
     let mut walk = RootWalk::new(alloc, kind_of(&vol.sup));
     let root = root_root(&vol.sup);
-    match visit_tree(&root, &mut walk, rack, vol) {
-        Err(stop) => Err(stop),
-        Ok(()) => match walk.end() {
-            Ok(trees) => Ok(trees),
-            Err(fault) => Err(fault.stop()),
-        },
+    visit_tree(&root, &mut walk, rack, vol)?;
+    match walk.end() {
+        Ok(trees) => Ok(trees),
+        Err(fault) => Err(fault.stop()),
     }
 }
 
@@ -55,12 +53,10 @@ pub fn read_trees<R: Rack>(
         (λ trees. (refusal fs ≡ None) × (trees.items ≡ listed fs.sup fs.blocks)) fs result)
         (world (R.seen rack.old) vol.old) (world (R.seen rack.new) vol.new) result }
 {
-    match walk_root(alloc, rack, vol) {
-        Err(stop) => Err(stop),
-        Ok(trees) => match refusal_in(&trees) {
-            Some(stop) => Err(stop),
-            None => Ok(trees),
-        },
+    let trees = walk_root(alloc, rack, vol)?;
+    match refusal_in(&trees) {
+        Some(stop) => Err(stop),
+        None => Ok(trees),
     }
 }
 

@@ -66,10 +66,8 @@ fn walk_block<R: Rack>(
     if let Some(edges) = subtrees.find(level, spot) {
         return pass(walk, edges);
     }
-    match walk_below(level, spot, walk, subtrees, rack, vol) {
-        Ok(edges) => keep(level, spot, edges, walk, subtrees),
-        Err(stop) => Err(stop),
-    }
+    let edges = walk_below(level, spot, walk, subtrees, rack, vol)?;
+    keep(level, spot, edges, walk, subtrees)
 }
 
 // The same of one that wasn't walked before.
@@ -89,10 +87,9 @@ fn walk_below<R: Rack>(
         subtrees.old.known.entries subtrees.new.known.entries result)
         (world (R.seen rack.old) vol.old) (world (R.seen rack.new) vol.new) result }
 {
-    match open_block(level, spot, walk, rack, vol) {
-        Err(stop) => Err(stop),
-        Ok(Opened::Whole(edges)) => Ok(edges),
-        Ok(Opened::Children(spots)) => {
+    match open_block(level, spot, walk, rack, vol)? {
+        Opened::Whole(edges) => Ok(edges),
+        Opened::Children(spots) => {
             walk_children(level - 1, spots.as_slice(), walk, subtrees, rack, vol)
         }
     }
@@ -117,10 +114,8 @@ fn walk_children<R: Rack>(
 {
     let mut edges = None;
     for spot in spots {
-        match walk_block(level, spot, walk, subtrees, rack, vol) {
-            Ok(more) => edges = join(edges, more),
-            Err(stop) => return Err(stop),
-        }
+        let more = walk_block(level, spot, walk, subtrees, rack, vol)?;
+        edges = join(edges, more);
     }
     Ok(edges)
 }
@@ -150,10 +145,8 @@ fn walk_tree<R: Rack>(
         first: None,
         up: None,
     };
-    match walk_block(tree.place.level, &spot, walk, subtrees, rack, vol) {
-        Ok(_) => Ok(()),
-        Err(stop) => Err(stop),
-    }
+    walk_block(tree.place.level, &spot, walk, subtrees, rack, vol)?;
+    Ok(())
 }
 
 // Walks trees, one after another.
@@ -173,10 +166,7 @@ fn walk_more<R: Rack>(
         (world (R.seen rack.old) vol.old) (world (R.seen rack.new) vol.new) result }
 {
     for tree in trees {
-        match walk_tree(tree, walk, subtrees, rack, vol) {
-            Ok(()) => {}
-            Err(stop) => return Err(stop),
-        }
+        walk_tree(tree, walk, subtrees, rack, vol)?;
     }
     Ok(())
 }
@@ -201,8 +191,6 @@ pub fn walk_trees<R: Rack>(
 {
     let mut walk = Walk::new(alloc, kind_of(&vol.sup));
     let mut subtrees = Subtrees::new(alloc, trees);
-    match walk_more(trees, &mut walk, &mut subtrees, rack, vol) {
-        Ok(()) => Ok(walk),
-        Err(stop) => Err(stop),
-    }
+    walk_more(trees, &mut walk, &mut subtrees, rack, vol)?;
+    Ok(walk)
 }

@@ -8,16 +8,19 @@ use Rattle.btr_check.specs.Passes.{AreExtents, IsWalked, Lists}
 use Rattle.btr_check.specs.Running.{world, filesystem, is_outside}
 use Rattle.btr_check.specs.Uses.{reference_findings}
 use Rattle.btr_check.proofs.Passes.{unless_more}
-use Rattle.btr_check.proofs.Runs.{ran_stop, ran_then}
+use Rattle.btr_check.proofs.Runs.{ran_stop, ran_then, stop_is}
 use Rattle.btr_check.proofs.checking.put_extents.Goals as goal
 
-pub returns-in-Err : goal.returns-in-Err
-returns-in-Err g c =
+pub returns-in_err-extents : goal.returns-in_err-extents
+returns-in_err-extents g c =
     let x = world (g.R.Rack.seen c.args.rack.now) c.args.vol.now in
     let y = world (g.R.Rack.seen c.put_references.new.rack) c.put_references.new.vol in
     let known : Filesystem → Type 0 = IsWalked c.args.checked.listed.now c.args.checked.trees.now c.args.walk in
-    let stop = c.in-Err.stop in
-    record { ran = ran_stop (λ fs. known fs → is_outside stop ≡ true) (λ fs. known fs → is_outside stop ≡ true) x y stop c.in-Err.ensures.ran (λ B h. h) }
+    let stop = c.in_err-extents.field-0.0 in
+    record {
+      ran = rw (stop_is c.from_residual.result c.from_residual.ensures.1)
+          (ran_stop (λ fs. known fs → is_outside stop ≡ true) (λ fs. known fs → is_outside stop ≡ true) x y stop c.in_err-extents.ensures.ran (λ B h. h));
+    }
 
 pub returns : goal.returns
 returns g c =
@@ -26,7 +29,7 @@ returns g c =
     let z = world (g.R.Rack.seen c.put_sums.new.rack) c.put_sums.new.vol in
     let listed = c.args.checked.listed.now in
     let known : Filesystem → Type 0 = IsWalked listed c.args.checked.trees.now c.args.walk in
-    let extents = c.in-Ok.extents in
+    let extents = c.in_ok-extents.extents in
     let all = c.as_slice.result.now in
     let one = c.args.found.now in
     let two = c.put_references.new.found in
@@ -35,7 +38,7 @@ returns g c =
       ran = ran_then (λ fs. known fs → AreExtents extents.items fs × Adds (reference_findings fs ++ found_on_groups fs) one two)
           (λ fs. Lists listed fs × AreExtents all fs → Unless (λ runs. IsRunsOf fs runs × Adds (found_on_sums fs) two three) c.put_sums.result)
           (λ fs. known fs → Unless (λ runs. IsRunsOf fs runs × Adds (found_on_extents fs) one three) c.put_sums.result) x y z extents c.put_sums.result
-          c.in-Ok.ensures.ran c.put_sums.ensures.ran
+          c.in_ok-extents.ensures.ran c.put_sums.ensures.ran
           (λ B p q k. unless_more _ _ c.put_sums.result
           (λ runs h. (
             h.0,

@@ -8,43 +8,45 @@ use Rattle.btr_check.specs.Findings.{data_if, rule_findings}
 use Rattle.btr_check.specs.Passes.{IsWalked, Lists, AddsFindings}
 use Rattle.btr_check.specs.Running.{world, filesystem, is_outside}
 use Rattle.btr_check.proofs.Passes.{unless_more}
-use Rattle.btr_check.proofs.Runs.{nothing, ran_both, ran_stop_within, ran_then}
+use Rattle.btr_check.proofs.Runs.{nothing, ran_both, ran_stop_within, ran_then, stop_is}
 use Rattle.btr_check.proofs.checking.put_rules.Goals as goal
 
-pub returns-in-Err : goal.returns-in-Err
-returns-in-Err g c =
+pub returns-in_err-runs : goal.returns-in_err-runs
+returns-in_err-runs g c =
     let x = world (g.R.Rack.seen c.args.rack.now) c.args.vol.now in
     let y = world (g.R.Rack.seen c.put_extents.new.rack) c.put_extents.new.vol in
     let known : Filesystem → Type 0 = IsWalked c.args.checked.listed.now c.args.checked.trees.now c.args.walk in
     record {
-      ran = ran_stop_within (λ fs. known fs → is_outside c.in-Err.stop ≡ true)
-          (λ fs. known fs → is_outside c.in-Err.stop ≡ true) x y c.in-Err.stop c.in-Err.ensures.ran (λ B h. h)
-          (λ B want w k. inl (w k));
+      ran = rw (stop_is c.from_residual.result c.from_residual.ensures.1)
+          (ran_stop_within (λ fs. known fs → is_outside c.in_err-runs.field-0.0 ≡ true)
+          (λ fs. known fs → is_outside c.in_err-runs.field-0.0 ≡ true) x y c.in_err-runs.field-0.0 c.in_err-runs.ensures.ran (λ B h. h)
+          (λ B want w k. inl (w k)));
     }
 
-pub returns-in-Err-put_devices : goal.returns-in-Err-put_devices
-returns-in-Err-put_devices g c =
+pub returns-in_err-put_devices : goal.returns-in_err-put_devices
+returns-in_err-put_devices g c =
     let x = world (g.R.Rack.seen c.args.rack.now) c.args.vol.now in
     let y = world (g.R.Rack.seen c.put_extents.new.rack) c.put_extents.new.vol in
     let z = world (g.R.Rack.seen c.put_devices.new.rack) c.put_devices.new.vol in
     let known : Filesystem → Type 0 = IsWalked c.args.checked.listed.now c.args.checked.trees.now c.args.walk in
-    let runs = c.in-Ok.runs in
-    let stop = c.in-Err-put_devices.stop in
+    let runs = c.in_ok-runs.runs in
+    let stop = c.in_err-put_devices.field-0.0 in
     record {
-      ran = ran_then (λ fs. known fs → IsRunsOf fs runs × Adds (found_on_extents fs) c.args.found.now c.put_extents.new.found)
+      ran = rw (stop_is c.from_residual-in_err-put_devices.result c.from_residual-in_err-put_devices.ensures.1)
+          (ran_then (λ fs. known fs → IsRunsOf fs runs × Adds (found_on_extents fs) c.args.found.now c.put_extents.new.found)
           (λ fs. Lists c.args.checked.listed.now fs → is_outside stop ≡ true) (λ fs. known fs → is_outside stop ≡ true)
-          x y z runs (Err stop) c.in-Ok.ensures.ran c.in-Err-put_devices.ensures.ran (λ B p q k. q k.lists)
-          (λ B p want w k. inl (w k.lists));
+          x y z runs (Err stop) c.in_ok-runs.ensures.ran c.in_err-put_devices.ensures.ran (λ B p q k. q k.lists)
+          (λ B p want w k. inl (w k.lists)));
     }
 
-pub returns-in-Ok-put_devices : goal.returns-in-Ok-put_devices
-returns-in-Ok-put_devices g c =
+pub returns : goal.returns
+returns g c =
     let x = world (g.R.Rack.seen c.args.rack.now) c.args.vol.now in
     let y = world (g.R.Rack.seen c.put_extents.new.rack) c.put_extents.new.vol in
     let z = world (g.R.Rack.seen c.put_devices.new.rack) c.put_devices.new.vol in
     let w = world (g.R.Rack.seen c.put_contents.new.rack) c.put_contents.new.vol in
     let known : Filesystem → Type 0 = IsWalked c.args.checked.listed.now c.args.checked.trees.now c.args.walk in
-    let runs = c.in-Ok.runs in
+    let runs = c.in_ok-runs.runs in
     let one = c.args.found.now in
     let two = c.put_extents.new.found in
     let three = c.put_devices.new.found in
@@ -53,7 +55,7 @@ returns-in-Ok-put_devices g c =
     let to_three = ran_both {C = Unit {0}} {U = nothing} (λ fs. known fs → IsRunsOf fs runs × Adds (found_on_extents fs) one two)
     (λ fs. Lists c.args.checked.listed.now fs → Adds (found_on_devices fs) two three)
     (λ fs. known fs → IsRunsOf fs runs × Adds (found_on_extents fs ++ found_on_devices fs) one three) x y z runs
-    tt c.in-Ok.ensures.ran c.in-Ok-put_devices.ensures.ran
+    tt c.in_ok-runs.ensures.ran c.in_ok-put_devices.ensures.ran
     (λ B p q k. (
       (p k).0,
       adds_then (found_on_extents (filesystem c.args.vol.now B)) (found_on_devices (filesystem c.args.vol.now B)) one two three (p k).1

@@ -5,7 +5,7 @@ use Rattle.btr_walk.specs.declared.place.RootPlace.{RootPlace}
 use Rattle.btr_check.specs.Counting.{BlockCounts, CountedTo, BlocksCount}
 use Rattle.btr_check.specs.Running.{world}
 use Rattle.btr_check.proofs.Counts.{counted_none, counted_next, counted_stop, counted_end}
-use Rattle.btr_check.proofs.Runs.{ran_both, ran_none, ran_then, ran_value}
+use Rattle.btr_check.proofs.Runs.{ran_both, ran_none, ran_then, ran_value, stop_is}
 use Rattle.btr_check.proofs.counting.count_blocks.Goals as goal
 
 pub loop-place-init : goal.loop-place-init
@@ -25,26 +25,27 @@ loop-place-preserved g c =
           (λ fs. BlockCounts fs.blocks here c.contains-by_address.result l.forward c.count_block.new.forward (Ok tt))
           (λ fs. CountedTo fs.blocks (l.place-index + 1) c.args.places.now c.args.full.now c.args.forward.now c.count_block.new.forward)
           (world (g.R.Rack.seen c.args.rack.now) c.args.vol.now) (world (g.R.Rack.seen l.rack) l.vol)
-          (world (g.R.Rack.seen c.count_block.new.rack) c.count_block.new.vol) tt tt l.invariant.ran c.in-Ok.ensures.ran
+          (world (g.R.Rack.seen c.count_block.new.rack) c.count_block.new.vol) tt tt l.invariant.ran c.in_ok-count_block.ensures.ran
           (λ B p q. counted_next B c.args.places.now c.args.full.now c.args.forward.now l.place-index none c.contains-by_address.result l.forward
           c.count_block.new.forward c.loop-place-test.true p c.contains-by_address.ensures q);
     }
 
-pub returns-in-Err : goal.returns-in-Err
-returns-in-Err g c =
+pub returns-in_err-count_block : goal.returns-in_err-count_block
+returns-in_err-count_block g c =
     let l = c.loop-place in
     let none : RootPlace = record { addr = 0; generation = 0; level = 0 } in
     let here : RootPlace = get_or c.args.places.now l.place-index none in
-    let stopped : Result (Unit {0}) Stop = Err c.in-Err.stop in
+    let stopped : Result (Unit {0}) Stop = Err c.in_err-count_block.field-0.0 in
     record {
-      ran = ran_then {A = Unit {0}} {C = Unit {0}} (λ fs. CountedTo fs.blocks l.place-index c.args.places.now c.args.full.now c.args.forward.now l.forward)
+      ran = rw (stop_is c.from_residual.result c.from_residual.ensures.1)
+          (ran_then {A = Unit {0}} {C = Unit {0}} (λ fs. CountedTo fs.blocks l.place-index c.args.places.now c.args.full.now c.args.forward.now l.forward)
           (λ fs. BlockCounts fs.blocks here c.contains-by_address.result l.forward c.count_block.new.forward stopped)
           (λ fs. BlocksCount fs.blocks c.args.places.now c.args.full.now c.args.forward.now c.count_block.new.forward stopped)
           (world (g.R.Rack.seen c.args.rack.now) c.args.vol.now) (world (g.R.Rack.seen l.rack) l.vol)
-          (world (g.R.Rack.seen c.count_block.new.rack) c.count_block.new.vol) tt stopped l.invariant.ran c.in-Err.ensures.ran
+          (world (g.R.Rack.seen c.count_block.new.rack) c.count_block.new.vol) tt stopped l.invariant.ran c.in_err-count_block.ensures.ran
           (λ B p q. counted_stop B c.args.places.now c.args.full.now c.args.forward.now l.place-index none c.contains-by_address.result l.forward
-          c.count_block.new.forward c.count_block.new.forward c.in-Err.stop c.loop-place-test.true q)
-          (λ B p want w. (here, Contains-get_or c.args.places.now l.place-index none c.loop-place-test.true, w));
+          c.count_block.new.forward c.count_block.new.forward c.in_err-count_block.field-0.0 c.loop-place-test.true q)
+          (λ B p want w. (here, Contains-get_or c.args.places.now l.place-index none c.loop-place-test.true, w)));
     }
 
 pub returns : goal.returns

@@ -11,7 +11,7 @@ use Rattle.btr_check.specs.Running.{world, filesystem, is_outside}
 use Rattle.btr_check.specs.SoundTrees.{AreKept, TreatsAll}
 use Rattle.btr_check.proofs.FileTrees.{files_put}
 use Rattle.btr_check.proofs.Passes.{on_done, ran_put, ran_memory}
-use Rattle.btr_check.proofs.Runs.{nothing, ran_both, ran_stop_within, ran_then}
+use Rattle.btr_check.proofs.Runs.{nothing, ran_both, ran_stop_within, ran_then, stop_is}
 use Rattle.btr_check.proofs.Wanting.{files_wanted}
 use Rattle.btr_check.proofs.file_trees.put_files.Goals as goal
 
@@ -22,32 +22,34 @@ returns-in-Err g c =
       ran = ran_memory (λ fs. Lists c.args.listed.now fs × AreSumRanges fs c.args.sums.now → is_outside NoMemory ≡ true) x c.requires.ready (λ B known. refl);
     }
 
-pub returns-in-Err-read_subvolumes : goal.returns-in-Err-read_subvolumes
-returns-in-Err-read_subvolumes g c =
+pub returns-in_err-subvolumes : goal.returns-in_err-subvolumes
+returns-in_err-subvolumes g c =
     let x = world (g.R.Rack.seen c.args.rack.now) c.args.vol.now in
     let y = world (g.R.Rack.seen c.read_subvolumes.new.rack) c.read_subvolumes.new.vol in
-    let stop = c.in-Err-read_subvolumes.stop in
+    let stop = c.in_err-subvolumes.field-0.0 in
     record {
-      ran = ran_stop_within (λ fs. is_outside stop ≡ true) (λ fs. Lists c.args.listed.now fs × AreSumRanges fs c.args.sums.now
-          → is_outside stop ≡ true) x y stop c.in-Err-read_subvolumes.ensures.ran (λ B h known. h)
-          (λ B want w lists. w);
+      ran = rw (stop_is c.from_residual.result c.from_residual.ensures.1)
+          (ran_stop_within (λ fs. is_outside stop ≡ true) (λ fs. Lists c.args.listed.now fs × AreSumRanges fs c.args.sums.now
+          → is_outside stop ≡ true) x y stop c.in_err-subvolumes.ensures.ran (λ B h known. h)
+          (λ B want w lists. w));
     }
 
-pub returns-in-Err-put_file_trees : goal.returns-in-Err-put_file_trees
-returns-in-Err-put_file_trees g c =
+pub returns-in_err-put_file_trees : goal.returns-in_err-put_file_trees
+returns-in_err-put_file_trees g c =
     let x = world (g.R.Rack.seen c.args.rack.now) c.args.vol.now in
     let y = world (g.R.Rack.seen c.read_subvolumes.new.rack) c.read_subvolumes.new.vol in
     let z = world (g.R.Rack.seen c.put_file_trees.new.rack) c.put_file_trees.new.vol in
-    let stop = c.in-Err-put_file_trees.stop in
-    let names = c.in-Ok-read_subvolumes.subvolumes in
+    let stop = c.in_err-put_file_trees.field-0.0 in
+    let names = c.in_ok-subvolumes.subvolumes in
     record {
-      ran = ran_then {C = Unit {0}} (λ fs. names ≡ subvolumes_in (root_items fs) [])
+      ran = rw (stop_is c.from_residual-in_err-put_file_trees.result c.from_residual-in_err-put_file_trees.ensures.1)
+          (ran_then {C = Unit {0}} (λ fs. names ≡ subvolumes_in (root_items fs) [])
           (λ fs. AreSumRanges fs c.args.sums.now → AreKept fs c.new.result.items → is_outside stop ≡ true)
           (λ fs. Lists c.args.listed.now fs × AreSumRanges fs c.args.sums.now → is_outside stop ≡ true)
-          x y z names (Err stop) c.in-Ok-read_subvolumes.ensures.ran c.in-Err-put_file_trees.ensures.ran
+          x y z names (Err stop) c.in_ok-subvolumes.ensures.ran c.in_err-put_file_trees.ensures.ran
           (λ B p q known. q known.1 (subst (AreKept (filesystem c.args.vol.now B)) (sym c.new.ensures.items) tt))
           (λ B p want w lists. files_wanted (filesystem c.args.vol.now B) c.args.listed.now c.deref.result.now want lists
-          (c.deref.ensures.value ∙ c.in-Ok.ensures) w);
+          (c.deref.ensures.value ∙ c.in-Ok.ensures) w));
     }
 
 pub returns : goal.returns
@@ -55,7 +57,7 @@ returns g c =
     let x = world (g.R.Rack.seen c.args.rack.now) c.args.vol.now in
     let y = world (g.R.Rack.seen c.read_subvolumes.new.rack) c.read_subvolumes.new.vol in
     let z = world (g.R.Rack.seen c.put_file_trees.new.rack) c.put_file_trees.new.vol in
-    let names = c.in-Ok-read_subvolumes.subvolumes in
+    let names = c.in_ok-subvolumes.subvolumes in
     let kept = c.put_file_trees.new.kept in
     let names' = kept.subvolumes in
     let files = c.deref.result.now in
@@ -65,7 +67,7 @@ returns g c =
     (λ fs. AreSumRanges fs c.args.sums.now → AreKept fs c.new.result.items → TreatsAll fs files found found' names names' kept.sound.items)
     (λ fs. (names ≡ subvolumes_in (root_items fs) [])
     × (AreSumRanges fs c.args.sums.now → Treats fs.blocks fs.chunks (sum_runs fs) files found found' names names'))
-    x y z names tt c.in-Ok-read_subvolumes.ensures.ran c.in-Ok-put_file_trees.ensures.ran
+    x y z names tt c.in_ok-subvolumes.ensures.ran c.in_ok-put_file_trees.ensures.ran
     (λ B p q. (p, λ same. (q same (subst (AreKept (filesystem c.args.vol.now B)) (sym c.new.ensures.items) tt)).treats)) in
     record {
       ran = ran_put {A = Unit {0}} (λ fs. (names ≡ subvolumes_in (root_items fs) [])

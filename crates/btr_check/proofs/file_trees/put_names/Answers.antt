@@ -9,32 +9,34 @@ use Rattle.btr_check.specs.Passes.{marks_if}
 use Rattle.btr_check.specs.Running.{world, filesystem, is_outside}
 use Rattle.btr_check.proofs.FileTrees.{all_names_met, treats_names}
 use Rattle.btr_check.proofs.Passes.{on_both, ran_put}
-use Rattle.btr_check.proofs.Runs.{ran_more, ran_stop_within}
+use Rattle.btr_check.proofs.Runs.{ran_more, ran_stop_within, stop_is}
 use Rattle.btr_check.proofs.Wanting.{one_wanted}
 use Rattle.btr_check.specs.Wanted.{OfTree}
 use Rattle.btr_check.proofs.file_trees.put_names.Goals as goal
 
-pub returns-in-Err : goal.returns-in-Err
-returns-in-Err g c =
+pub returns-in_err-all : goal.returns-in_err-all
+returns-in_err-all g c =
     let x = world (g.R.Rack.seen c.args.rack.now) c.args.vol.now in
     let y = world (g.R.Rack.seen c.collect.new.rack) c.collect.new.vol in
     record {
-      ran = ran_stop_within (λ fs. is_outside c.in-Err.stop ≡ true) (λ fs. is_outside c.in-Err.stop ≡ true) x y c.in-Err.stop c.in-Err.ensures.ran (λ B h. h)
-          (λ B want w. one_wanted (filesystem c.args.vol.now B) c.args.tree.now want w);
+      ran = rw (stop_is c.from_residual.result c.from_residual.ensures.1)
+          (ran_stop_within (λ fs. is_outside c.in_err-all.field-0.0 ≡ true)
+          (λ fs. is_outside c.in_err-all.field-0.0 ≡ true) x y c.in_err-all.field-0.0 c.in_err-all.ensures.ran (λ B h. h)
+          (λ B want w. one_wanted (filesystem c.args.vol.now B) c.args.tree.now want w));
     }
 
-pub returns-in-Ok : goal.returns-in-Ok
-returns-in-Ok g c =
+pub returns : goal.returns
+returns g c =
     let x = world (g.R.Rack.seen c.args.rack.now) c.args.vol.now in
     let y = world (g.R.Rack.seen c.collect.new.rack) c.collect.new.vol in
     let tree = c.args.tree.now in
-    let all = c.in-Ok.all in
+    let all = c.in_ok-all.all in
     let found = c.args.found.now in
     let found' = c.put_all_names.new.found in
     let names = c.args.subvolumes.now in
     let names' = c.put_all_names.new.subvolumes in
     let put = ran_put {U = OfTree tree.place} (λ fs. all ≡ fold names_step c.new-nothing.result (marks_if fs.blocks (Some tree))) (λ fs. ⊤)
-    (λ fs. TreatsNames fs.blocks tree found found' names names') x y all c.put_all_names.result c.or_memory.result c.in-Ok.ensures.ran c.or_memory.ensures
+    (λ fs. TreatsNames fs.blocks tree found found' names names') x y all c.put_all_names.result c.or_memory.result c.in_ok-all.ensures.ran c.or_memory.ensures
     (λ B h known.
     let is = all_names_met B c.names_law.ensures tree c.new-nothing.result all c.new-nothing.ensures h in
     on_both (Adds (names_findings all) found found') (names' ≡ subvolumes_at names all.tree all.indexed)

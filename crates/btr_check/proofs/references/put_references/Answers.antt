@@ -7,30 +7,31 @@ use Rattle.btr_check.specs.Running.{world, filesystem, is_outside}
 use Rattle.btr_check.specs.Uses.{found_on_counts, found_on_totals, found_on_uses, reference_findings}
 use Rattle.btr_check.proofs.Passes.{unless_more}
 use Rattle.btr_check.proofs.Referring.{adds_turned}
-use Rattle.btr_check.proofs.Runs.{ran_stop_within, ran_then}
+use Rattle.btr_check.proofs.Runs.{ran_stop_within, ran_then, stop_is}
 use Rattle.btr_check.proofs.references.put_references.Goals as goal
 
-pub returns-in-Err : goal.returns-in-Err
-returns-in-Err g c =
+pub returns-in_err-begun : goal.returns-in_err-begun
+returns-in_err-begun g c =
     let x = world (g.R.Rack.seen c.args.rack.now) c.args.vol.now in
     let y = world (g.R.Rack.seen c.put_stored.new.rack) c.put_stored.new.vol in
     let listed = c.args.checked.listed.now in
     let trees = c.args.checked.trees.now in
-    let stop = c.in-Err.stop in
+    let stop = c.in_err-begun.field-0.0 in
     record {
-      ran = ran_stop_within (λ fs. ListsSound listed fs → is_outside stop ≡ true)
-          (λ fs. IsWalked listed trees c.args.walk fs → is_outside stop ≡ true) x y stop c.in-Err.ensures.ran
-          (λ B h known. h (record { lists = known.lists; sound = known.sound })) (λ B want w known. w known.lists);
+      ran = rw (stop_is c.from_residual.result c.from_residual.ensures.1)
+          (ran_stop_within (λ fs. ListsSound listed fs → is_outside stop ≡ true)
+          (λ fs. IsWalked listed trees c.args.walk fs → is_outside stop ≡ true) x y stop c.in_err-begun.ensures.ran
+          (λ B h known. h (record { lists = known.lists; sound = known.sound })) (λ B want w known. w known.lists));
     }
 
-pub returns-in-Ok : goal.returns-in-Ok
-returns-in-Ok g c =
+pub returns : goal.returns
+returns g c =
     let x = world (g.R.Rack.seen c.args.rack.now) c.args.vol.now in
     let y = world (g.R.Rack.seen c.put_stored.new.rack) c.put_stored.new.vol in
     let z = world (g.R.Rack.seen c.put_counted.new.rack) c.put_counted.new.vol in
     let listed = c.args.checked.listed.now in
     let trees = c.args.checked.trees.now in
-    let begun = c.in-Ok.begun in
+    let begun = c.in_ok-begun.begun in
     let places = c.into_places-places.result in
     let one = c.args.found.now in
     let two = c.put_stored.new.found in
@@ -40,7 +41,7 @@ returns-in-Ok g c =
           (AddsFindingsAnd (IsCounted trees places.items begun) ListExtents (λ fs. found_on_counts fs ++ found_on_uses fs) two three c.put_counted.result)
           (AddsFindingsAnd (IsWalked listed trees c.args.walk) ListExtents (λ fs. reference_findings fs ++ found_on_groups fs) one three
           c.put_counted.result) x y z begun
-          c.put_counted.result c.in-Ok.ensures.ran c.put_counted.ensures.ran
+          c.put_counted.result c.in_ok-begun.ensures.ran c.put_counted.ensures.ran
           (λ B p q known.
           let fs = filesystem c.args.vol.now B in
           let kept = p (record { lists = known.lists; sound = known.sound }) in

@@ -9,7 +9,7 @@ use Rattle.btr_check.specs.Passing.{Opens, Walks, children_marks, subtree_marks}
 use Rattle.btr_check.specs.Running.{world, filesystem}
 use Rattle.btr_check.proofs.Openings.{AreChildren, kept_outside, passed_outside, ran_kept, ran_passed, walks_child, walks_end, walks_node, walks_whole}
 use Rattle.btr_check.proofs.Passing.{walked_nothing}
-use Rattle.btr_check.proofs.Runs.{nothing, ran_both, ran_none, ran_stop_within, ran_then, ran_value}
+use Rattle.btr_check.proofs.Runs.{nothing, ran_both, ran_none, ran_stop_within, ran_then, ran_value, stop_is}
 use Rattle.btr_check.proofs.Wanting.{below_wanted, here_wanted}
 use Rattle.btr_check.proofs.walking.+walking.Goals as goal
 
@@ -22,42 +22,53 @@ walk_block-returns-in-Some-clause-ran g t c =
     ran_passed (world (g.R.Rack.seen c.args.rack.now) c.args.vol.now) c.args.level c.args.spot.now c.args.walk.now c.pass.new.walk
     c.args.subtrees.now.known.entries c.in-Some.edges c.pass.result c.requires.ready c.in-Some.ensures c.pass.ensures
 
-pub walk_block-returns-in-Ok-clause-outside : goal.walk_block-returns-in-Ok-clause-outside
-walk_block-returns-in-Ok-clause-outside g t c =
-    kept_outside c.walk_below.new.subtrees.keeps c.args.level c.args.spot.now c.in-Ok.edges c.walk_below.new.walk
+pub walk_block-returns-clause-outside : goal.walk_block-returns-clause-outside
+walk_block-returns-clause-outside g t c =
+    kept_outside c.walk_below.new.subtrees.keeps c.args.level c.args.spot.now c.in_ok-edges.edges c.walk_below.new.walk
     c.walk_below.new.subtrees.known.entries c.keep.new.subtrees.known.entries c.keep.result c.keep.ensures
 
-pub walk_block-returns-in-Ok-clause-ran : goal.walk_block-returns-in-Ok-clause-ran
-walk_block-returns-in-Ok-clause-ran g t c =
+pub walk_block-returns-clause-ran : goal.walk_block-returns-clause-ran
+walk_block-returns-clause-ran g t c =
     ran_kept c.walk_below.new.subtrees.keeps c.args.level c.args.spot.now c.args.walk.now c.walk_below.new.walk c.args.subtrees.now.known.entries
-    c.walk_below.new.subtrees.known.entries c.keep.new.subtrees.known.entries c.in-Ok.edges
+    c.walk_below.new.subtrees.known.entries c.keep.new.subtrees.known.entries c.in_ok-edges.edges
     (world (g.R.Rack.seen c.args.rack.now) c.args.vol.now) (world (g.R.Rack.seen c.walk_below.new.rack) c.walk_below.new.vol) c.keep.result
-    c.in-Ok.ensures.ran c.keep.ensures
+    c.in_ok-edges.ensures.ran c.keep.ensures
 
-pub walk_below-returns-in-Err-clause-ran : goal.walk_below-returns-in-Err-clause-ran
-walk_below-returns-in-Err-clause-ran g t c =
-    ran_stop_within {A = Opened} {C = Option Edges} (λ fs. ⊤) (λ fs. ⊤) (world (g.R.Rack.seen c.args.rack.now) c.args.vol.now)
-    (world (g.R.Rack.seen c.open_block.new.rack) c.open_block.new.vol) c.in-Err.stop c.in-Err.ensures.ran (λ B h. tt)
-    (λ B want w. here_wanted (filesystem c.args.vol.now B) c.args.level c.args.spot.now want w)
+pub walk_block-returns-in_err-edges-clause-outside : goal.walk_block-returns-in_err-edges-clause-outside
+walk_block-returns-in_err-edges-clause-outside g t c = rw (stop_is c.from_residual.result c.from_residual.ensures.1) c.in_err-edges.ensures.outside
 
-pub walk_below-returns-in-Ok-Whole-clause-ran : goal.walk_below-returns-in-Ok-Whole-clause-ran
-walk_below-returns-in-Ok-Whole-clause-ran g t c =
-    let opened = c.in-Ok-Whole.field-0 in
+pub walk_block-returns-in_err-edges-clause-ran : goal.walk_block-returns-in_err-edges-clause-ran
+walk_block-returns-in_err-edges-clause-ran g t c = rw (stop_is c.from_residual.result c.from_residual.ensures.1) c.in_err-edges.ensures.ran
+
+pub walk_below-returns-in_err-edges-clause-outside : goal.walk_below-returns-in_err-edges-clause-outside
+walk_below-returns-in_err-edges-clause-outside g t c =
+    rw (stop_is c.from_residual.result c.from_residual.ensures.1) c.in_err-edges.ensures.outside
+
+pub walk_below-returns-in_err-edges-clause-ran : goal.walk_below-returns-in_err-edges-clause-ran
+walk_below-returns-in_err-edges-clause-ran g t c =
+    rw (stop_is c.from_residual.result c.from_residual.ensures.1)
+    (ran_stop_within {A = Opened} {C = Option Edges} (λ fs. ⊤) (λ fs. ⊤) (world (g.R.Rack.seen c.args.rack.now) c.args.vol.now)
+    (world (g.R.Rack.seen c.open_block.new.rack) c.open_block.new.vol) c.in_err-edges.field-0.0 c.in_err-edges.ensures.ran (λ B h. tt)
+    (λ B want w. here_wanted (filesystem c.args.vol.now B) c.args.level c.args.spot.now want w))
+
+pub walk_below-returns-in-Whole-clause-ran : goal.walk_below-returns-in-Whole-clause-ran
+walk_below-returns-in-Whole-clause-ran g t c =
+    let opened = c.in_ok-edges.field-0 in
     let level = c.args.level in
     let spot = c.args.spot.now in
     let old = c.args.walk.now in
     let new = c.open_block.new.walk in
     let known = c.args.subtrees.now.known.entries in
     ran_value (λ fs. Opens fs level spot old new opened)
-    (λ fs. Walks fs (subtree_marks fs level spot) old new known known (Ok c.in-Ok-Whole.edges))
-    (world (g.R.Rack.seen c.args.rack.now) c.args.vol.now) (world (g.R.Rack.seen c.open_block.new.rack) c.open_block.new.vol) opened c.in-Ok-Whole.edges
-    c.in-Ok-Whole.ensures.ran
-    (λ B h. walks_whole (filesystem c.args.vol.now B) level spot old new known c.in-Ok-Whole.edges
-    (subst (Opens (filesystem c.args.vol.now B) level spot old new) c.in-Ok-Whole.field-0-is h))
+    (λ fs. Walks fs (subtree_marks fs level spot) old new known known (Ok c.in-Whole.edges))
+    (world (g.R.Rack.seen c.args.rack.now) c.args.vol.now) (world (g.R.Rack.seen c.open_block.new.rack) c.open_block.new.vol) opened c.in-Whole.edges
+    c.in_ok-edges.ensures.ran
+    (λ B h. walks_whole (filesystem c.args.vol.now B) level spot old new known c.in-Whole.edges
+    (subst (Opens (filesystem c.args.vol.now B) level spot old new) c.in-Whole.is h))
 
-pub walk_below-returns-in-Ok-Children-clause-ran : goal.walk_below-returns-in-Ok-Children-clause-ran
-walk_below-returns-in-Ok-Children-clause-ran g t c =
-    let opened = c.in-Ok-Children.field-0 in
+pub walk_below-returns-in-Children-clause-ran : goal.walk_below-returns-in-Children-clause-ran
+walk_below-returns-in-Children-clause-ran g t c =
+    let opened = c.in_ok-edges.field-0 in
     let level = c.args.level in
     let spot = c.args.spot.now in
     let old = c.args.walk.now in
@@ -67,12 +78,12 @@ walk_below-returns-in-Ok-Children-clause-ran g t c =
     let after = c.walk_children.new.subtrees.known.entries in
     let spots = c.as_slice.result.now in
     let r = c.walk_children.result in
-    let are : AreChildren opened spots = subst (λ o. AreChildren o spots) (sym c.in-Ok-Children.field-0-is) c.as_slice.ensures.value in
+    let are : AreChildren opened spots = subst (λ o. AreChildren o spots) (sym c.in-Children.is) c.as_slice.ensures.value in
     ran_then (λ fs. Opens fs level spot old mid opened)
     (λ fs. (addr : ℕ) → Walks fs (children_marks fs addr (level - 1) spots) mid new known after r)
     (λ fs. Walks fs (subtree_marks fs level spot) old new known after r)
     (world (g.R.Rack.seen c.args.rack.now) c.args.vol.now) (world (g.R.Rack.seen c.open_block.new.rack) c.open_block.new.vol)
-    (world (g.R.Rack.seen c.walk_children.new.rack) c.walk_children.new.vol) opened r c.in-Ok-Children.ensures.ran c.walk_children.ensures.ran
+    (world (g.R.Rack.seen c.walk_children.new.rack) c.walk_children.new.vol) opened r c.in_ok-edges.ensures.ran c.walk_children.ensures.ran
     (λ B h walks. walks_node (filesystem c.args.vol.now B) level spot old new mid known after opened spots r h are walks)
     (λ B h want w. below_wanted (filesystem c.args.vol.now B) level spot old mid opened spots want h are w)
 
@@ -99,29 +110,33 @@ walk_children-loop-spot-preserved g t c =
     let after = c.walk_block.new.subtrees.known.entries in
     record {
       ran = ran_both (λ fs. (addr : ℕ) → Walks fs (children_marks fs addr level (take l.spot-index spots)) old mid first known (Ok l.edges))
-          (λ fs. Walks fs (subtree_marks fs level (get_or spots l.spot-index none)) mid new known after (Ok c.in-Ok.more))
+          (λ fs. Walks fs (subtree_marks fs level (get_or spots l.spot-index none)) mid new known after (Ok c.in_ok-more.more))
           (λ fs. (addr : ℕ) → Walks fs (children_marks fs addr level (take (l.spot-index + 1) spots)) old new first after (Ok c.join-edges.result))
           (world (g.R.Rack.seen c.args.rack.now) c.args.vol.now) (world (g.R.Rack.seen l.rack) l.vol)
           (world (g.R.Rack.seen c.walk_block.new.rack) c.walk_block.new.vol) l.edges c.join-edges.result l.invariant.ran
-          (ran_value {U = nothing} (λ fs. Walks fs (subtree_marks fs level (get_or spots l.spot-index none)) mid new known after (Ok c.in-Ok.more))
-          (λ fs. Walks fs (subtree_marks fs level (get_or spots l.spot-index none)) mid new known after (Ok c.in-Ok.more))
-          (world (g.R.Rack.seen l.rack) l.vol) (world (g.R.Rack.seen c.walk_block.new.rack) c.walk_block.new.vol) c.in-Ok.more c.join-edges.result
-          c.in-Ok.ensures.ran
+          (ran_value {U = nothing} (λ fs. Walks fs (subtree_marks fs level (get_or spots l.spot-index none)) mid new known after (Ok c.in_ok-more.more))
+          (λ fs. Walks fs (subtree_marks fs level (get_or spots l.spot-index none)) mid new known after (Ok c.in_ok-more.more))
+          (world (g.R.Rack.seen l.rack) l.vol) (world (g.R.Rack.seen c.walk_block.new.rack) c.walk_block.new.vol) c.in_ok-more.more c.join-edges.result
+          c.in_ok-more.ensures.ran
           (λ B h. h))
-          (λ B p q addr. walks_child (filesystem c.args.vol.now B) addr level spots l.spot-index none old mid new first known after l.edges c.in-Ok.more
+          (λ B p q addr. walks_child (filesystem c.args.vol.now B) addr level spots l.spot-index none old mid new first known after l.edges c.in_ok-more.more
           c.join-edges.result c.loop-spot-test.true c.join-edges.ensures (p addr) q);
     }
 
-pub walk_children-returns-in-Err-clause-ran : goal.walk_children-returns-in-Err-clause-ran
-walk_children-returns-in-Err-clause-ran g t c =
+pub walk_children-returns-in_err-more-clause-outside : goal.walk_children-returns-in_err-more-clause-outside
+walk_children-returns-in_err-more-clause-outside g t c = rw (stop_is c.from_residual.result c.from_residual.ensures.1) c.in_err-more.ensures.outside
+
+pub walk_children-returns-in_err-more-clause-ran : goal.walk_children-returns-in_err-more-clause-ran
+walk_children-returns-in_err-more-clause-ran g t c =
     let l = c.loop-spot in
     let none : Spot = record { addr = 0; generation = 0; first = None; up = None } in
-    let stopped : Result (Option Edges) Stop = Err c.in-Err.stop in
-    ran_then (λ fs. (addr : ℕ) → Walks fs (children_marks fs addr c.args.level (take l.spot-index c.args.spots.now)) c.args.walk.now l.walk
+    let stopped : Result (Option Edges) Stop = Err c.in_err-more.field-0.0 in
+    rw (stop_is c.from_residual.result c.from_residual.ensures.1)
+    (ran_then (λ fs. (addr : ℕ) → Walks fs (children_marks fs addr c.args.level (take l.spot-index c.args.spots.now)) c.args.walk.now l.walk
     c.args.subtrees.now.known.entries l.subtrees.known.entries (Ok l.edges))
     (λ fs. ⊤) (λ fs. (addr : ℕ) → ⊤) (world (g.R.Rack.seen c.args.rack.now) c.args.vol.now) (world (g.R.Rack.seen l.rack) l.vol)
-    (world (g.R.Rack.seen c.walk_block.new.rack) c.walk_block.new.vol) l.edges stopped l.invariant.ran c.in-Err.ensures.ran (λ B p q addr. tt)
-    (λ B p want w. (get_or c.args.spots.now l.spot-index none, Contains-get_or c.args.spots.now l.spot-index none c.loop-spot-test.true, w))
+    (world (g.R.Rack.seen c.walk_block.new.rack) c.walk_block.new.vol) l.edges stopped l.invariant.ran c.in_err-more.ensures.ran (λ B p q addr. tt)
+    (λ B p want w. (get_or c.args.spots.now l.spot-index none, Contains-get_or c.args.spots.now l.spot-index none c.loop-spot-test.true, w)))
 
 pub walk_children-returns-clause-ran : goal.walk_children-returns-clause-ran
 walk_children-returns-clause-ran g t c =
