@@ -81,10 +81,9 @@ fn meet_next<R: Rack>(
     ensures cause { HasCause store.old.layout (R.seen rack.old) (R.seen rack.new) result }
     ensures content { TellsMet store.old store.new (R.seen rack.old) (R.seen rack.new) tour.old tour.new name.new result }
 {
-    match next(store, tour, rack) {
-        Err(fault) => Err(fault),
-        Ok(None) => Ok(None),
-        Ok(Some(met)) => match met {
+    match next(store, tour, rack)? {
+        None => Ok(None),
+        Some(met) => match met {
             Met::Block { .. } => Ok(Some(Found::Passing)),
             Met::Child { .. } => Ok(Some(Found::Passing)),
             Met::Item(found) => Ok(Some(in_item(&found, name))),
@@ -136,14 +135,10 @@ impl Folder {
         ensures cause { HasCause vol.old.store.layout (R.seen rack.old) (R.seen rack.new) result }
         ensures content { TellsFound vol.old (R.seen rack.old) (R.seen rack.new) self.old self.new name.new result }
     {
-        match self.rest.tour(rack, &mut vol.store) {
-            Err(fault) => Err(fault),
-            Ok(mut tour) => {
-                let found = meet_next(&mut tour, rack, &mut vol.store, name);
-                let after = tour.rest(&mut vol.store);
-                self.rest = after;
-                found
-            }
-        }
+        let mut tour = self.rest.tour(rack, &mut vol.store)?;
+        let found = meet_next(&mut tour, rack, &mut vol.store, name);
+        let after = tour.rest(&mut vol.store);
+        self.rest = after;
+        found
     }
 }

@@ -27,10 +27,9 @@ fn pass_next<R: Rack>(
     ensures room { SameLoans (without_file vol.old.store file.old) (without_file vol.new.store file.new) }
     ensures nears { PassNears (bytes_left file.old) (bytes_left file.new) result }
 {
-    match next_piece(vol, file, rack) {
-        Err(fault) => Err(fault),
-        Ok(None) => Ok(false),
-        Ok(Some(_)) => Ok(true),
+    match next_piece(vol, file, rack)? {
+        None => Ok(false),
+        Some(_) => Ok(true),
     }
 }
 
@@ -45,13 +44,8 @@ fn pass_pieces<R: Rack>(
     ensures passes { PassesRest file.old file.new (R.seen rack.old) vol.old (R.seen rack.new) vol.new result }
     ensures ready { IsReading (R.seen rack.new) vol.new.store file.new }
 {
-    loop {
-        match pass_next(file, rack, vol) {
-            Err(fault) => return Err(fault),
-            Ok(true) => {}
-            Ok(false) => return Ok(()),
-        }
-    }
+    while pass_next(file, rack, vol)? {}
+    Ok(())
 }
 
 /// Reads all bytes of a file, and puts none: so it is known that they can be had.

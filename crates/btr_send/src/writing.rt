@@ -51,13 +51,11 @@ fn put_piece<T: TreeSink>(
             verified,
             crc,
         } => {
-            match put_writes(path, now.offset, bytes, crc, buffer, tree) {
-                Err(stop) => Err(stop),
-                Ok(()) => Ok(Progress {
-                    offset: behind(now.offset, bytes.len() as u64),
-                    plain: is_plain(now.plain, verified),
-                }),
-            }
+            put_writes(path, now.offset, bytes, crc, buffer, tree)?;
+            Ok(Progress {
+                offset: behind(now.offset, bytes.len() as u64),
+                plain: is_plain(now.plain, verified),
+            })
         }
     }
 }
@@ -86,10 +84,10 @@ fn put_next<R: Rack, T: TreeSink>(
     match next_piece(vol, file, rack) {
         Err(fault) => Err(Stop::Tree(fault)),
         Ok(None) => Ok(None),
-        Ok(Some(piece)) => match put_piece(so_far.path, so_far.sent, piece, buffer, tree) {
-            Ok(after) => Ok(Some(after)),
-            Err(stop) => Err(stop),
-        },
+        Ok(Some(piece)) => {
+            let after = put_piece(so_far.path, so_far.sent, piece, buffer, tree)?;
+            Ok(Some(after))
+        }
     }
 }
 
@@ -118,10 +116,9 @@ fn put_pieces<R: Rack, T: TreeSink>(
     };
     loop {
         let so_far = SentFile { path, sent: now };
-        match put_next(&so_far, file, buffer, rack, vol, tree) {
-            Err(stop) => return Err(stop),
-            Ok(None) => return Ok(now),
-            Ok(Some(after)) => now = after,
+        match put_next(&so_far, file, buffer, rack, vol, tree)? {
+            None => return Ok(now),
+            Some(after) => now = after,
         }
     }
 }

@@ -17,7 +17,7 @@ returns-in-Block-clause-content g c =
     (λ B. IsNextMet is B old new c.args.tour.now c.next.new.tour c.args.name.now (Ok (Some Passing)))
     (λ B h seen on held. met_block is B seen old new c.args.tour.now c.next.new.tour c.next.ensures.scope c.args.name.now _ _
     (subst (λ r. IsNextMark is B old new c.args.tour.now c.next.new.tour r)
-    (c.in-Ok-Some.is ∙ ap Ok c.in-Ok-Some.field-0-is ∙ ap (λ (m : Met). Ok (Some m)) c.in-Block.is) h seen on held))
+    (c.in_ok-next.was ∙ ap Ok c.in-Some.is ∙ ap (λ (m : Met). Ok (Some m)) c.in-Block.is) h seen on held))
     c.next.follows.holds-at-none.content
 
 pub returns-in-Item-clause-content : goal.returns-in-Item-clause-content
@@ -30,14 +30,14 @@ returns-in-Item-clause-content g c =
     (λ B h seen on held. met_item is B seen old new c.args.tour.now c.next.new.tour c.next.ensures.scope c.in_item.new.name c.in-Item.found c.in_item.result
     c.in_item.ensures
     (subst (λ r. IsNextMark is B old new c.args.tour.now c.next.new.tour r)
-    (c.in-Ok-Some.is ∙ ap Ok c.in-Ok-Some.field-0-is ∙ ap (λ (m : Met). Ok (Some m)) c.in-Item.is) h seen on held))
+    (c.in_ok-next.was ∙ ap Ok c.in-Some.is ∙ ap (λ (m : Met). Ok (Some m)) c.in-Item.is) h seen on held))
     c.next.follows.holds-at-none.content
 
 pub returns-in-Fault-clause-cause : goal.returns-in-Fault-clause-cause
 returns-in-Fault-clause-cause g c = left_cause c.args.store.now.layout (g.R.Rack.seen c.args.rack.now)
     (g.R.Rack.seen c.next.new.rack) c.args.tour.now c.next.new.tour c.in-Fault.fault c.args.name.now c.left_out.result (c.left_out.ensures c.args.name.now)
     (subst (λ r. NextCause c.args.store.now.layout (g.R.Rack.seen c.args.rack.now) (g.R.Rack.seen c.next.new.rack) c.args.tour.now c.next.new.tour r)
-    (c.in-Ok-Some.is ∙ ap Ok c.in-Ok-Some.field-0-is ∙ ap (λ (m : Met). Ok (Some m)) c.in-Fault.is) c.next.ensures.cause)
+    (c.in_ok-next.was ∙ ap Ok c.in-Some.is ∙ ap (λ (m : Met). Ok (Some m)) c.in-Fault.is) c.next.ensures.cause)
 
 pub returns-in-Fault-clause-content : goal.returns-in-Fault-clause-content
 returns-in-Fault-clause-content g c =
@@ -49,5 +49,5 @@ returns-in-Fault-clause-content g c =
     (λ B h seen on held. met_left is B seen old new c.args.tour.now c.next.new.tour c.next.ensures.scope c.args.name.now c.in-Fault.fault c.left_out.result
     (c.left_out.ensures c.args.name.now)
     (subst (λ r. IsNextMark is B old new c.args.tour.now c.next.new.tour r)
-    (c.in-Ok-Some.is ∙ ap Ok c.in-Ok-Some.field-0-is ∙ ap (λ (m : Met). Ok (Some m)) c.in-Fault.is) h seen on held))
+    (c.in_ok-next.was ∙ ap Ok c.in-Some.is ∙ ap (λ (m : Met). Ok (Some m)) c.in-Fault.is) h seen on held))
     c.next.follows.holds-at-none.content

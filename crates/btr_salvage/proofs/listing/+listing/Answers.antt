@@ -248,7 +248,8 @@ list_entry-returns-in_err-treat-clause-ran g t c s e =
     (world_of g.R.Rack.seen g.T.TreeSink.sink g.T.TreeSink.account g.O.Out.text g.O.Out.account c.treat.new.ends) c.in_err-treat.field-0.0
     (treated_in c.args.dir.now.job.now.plan s c.args.dir.now.job.now.sums c.is_empty.result c.args.dir.now.tree c.args.dir.now.dirid c.args.path.now _
     c.args.salvaged.now
-    (named_row c.args.named.now.row c.args.named.now.name.now) _ _ _ (c.as_bytes-2.ensures ∙ (c.in-Ok.ensures ∙ ap (path_in c.args.path.now) c.as_bytes.ensures))
+    (named_row c.args.named.now.row c.args.named.now.name.now) _ _ _
+    (c.as_bytes-2.ensures ∙ (c.in-Ok.ensures ∙ ap (path_in c.args.path.now) c.as_bytes.ensures))
     (c.in_err-treat.ensures.ran s e)))
 
 pub list_entry-returns-in-Over-clause-ran : goal.list_entry-returns-in-Over-clause-ran
@@ -260,13 +261,15 @@ list_entry-returns-in-Over-clause-ran g t c s e =
     (world_of g.R.Rack.seen g.T.TreeSink.sink g.T.TreeSink.account g.O.Out.text g.O.Out.account c.treat.new.ends)
     (world_of g.R.Rack.seen g.T.TreeSink.sink g.T.TreeSink.account g.O.Out.text g.O.Out.account c.treat.new.ends) c.treat.new.salvaged
     (subst (λ (r : Treated). Ran (treated c.args.dir.now.job.now.plan s c.args.dir.now.job.now.sums
-    (met_in c.is_empty.result c.args.dir.now.tree c.args.dir.now.dirid c.args.path.now (named_row c.args.named.now.row c.args.named.now.name.now)) c.args.salvaged.now)
+    (met_in c.is_empty.result c.args.dir.now.tree c.args.dir.now.dirid c.args.path.now (named_row c.args.named.now.row c.args.named.now.name.now))
+    c.args.salvaged.now)
     (world_of g.R.Rack.seen g.T.TreeSink.sink g.T.TreeSink.account g.O.Out.text g.O.Out.account c.args.ends.now)
     (world_of g.R.Rack.seen g.T.TreeSink.sink g.T.TreeSink.account g.O.Out.text g.O.Out.account c.treat.new.ends) (Ok
     (came_to c.treat.new.salvaged r))) c.in-Over.is
     (treated_in c.args.dir.now.job.now.plan s c.args.dir.now.job.now.sums c.is_empty.result c.args.dir.now.tree c.args.dir.now.dirid c.args.path.now _
     c.args.salvaged.now
-    (named_row c.args.named.now.row c.args.named.now.name.now) _ _ _ (c.as_bytes-2.ensures ∙ (c.in-Ok.ensures ∙ ap (path_in c.args.path.now) c.as_bytes.ensures))
+    (named_row c.args.named.now.row c.args.named.now.name.now) _ _ _
+    (c.as_bytes-2.ensures ∙ (c.in-Ok.ensures ∙ ap (path_in c.args.path.now) c.as_bytes.ensures))
     (c.in_ok-treat.ensures.ran s e)))
 
 pub list_entry-returns-in-Over-clause-stands : goal.list_entry-returns-in-Over-clause-stands
@@ -276,13 +279,15 @@ list_entry-returns-in-Over-clause-stands g t c n h =
 pub list_entry-returns-in-Within-clause-ran : goal.list_entry-returns-in-Within-clause-ran
 list_entry-returns-in-Within-clause-ran g t c s e =
     let h = subst (λ (r : Treated). Ran (treated c.args.dir.now.job.now.plan s c.args.dir.now.job.now.sums
-    (met_in c.is_empty.result c.args.dir.now.tree c.args.dir.now.dirid c.args.path.now (named_row c.args.named.now.row c.args.named.now.name.now)) c.args.salvaged.now)
+    (met_in c.is_empty.result c.args.dir.now.tree c.args.dir.now.dirid c.args.path.now (named_row c.args.named.now.row c.args.named.now.name.now))
+    c.args.salvaged.now)
     (world_of g.R.Rack.seen g.T.TreeSink.sink g.T.TreeSink.account g.O.Out.text g.O.Out.account c.args.ends.now)
     (world_of g.R.Rack.seen g.T.TreeSink.sink g.T.TreeSink.account g.O.Out.text g.O.Out.account c.treat.new.ends) (Ok
     (came_to c.treat.new.salvaged r))) c.in-Within.is
     (treated_in c.args.dir.now.job.now.plan s c.args.dir.now.job.now.sums c.is_empty.result c.args.dir.now.tree c.args.dir.now.dirid c.args.path.now _
     c.args.salvaged.now
-    (named_row c.args.named.now.row c.args.named.now.name.now) _ _ _ (c.as_bytes-2.ensures ∙ (c.in-Ok.ensures ∙ ap (path_in c.args.path.now) c.as_bytes.ensures))
+    (named_row c.args.named.now.row c.args.named.now.name.now) _ _ _
+    (c.as_bytes-2.ensures ∙ (c.in-Ok.ensures ∙ ap (path_in c.args.path.now) c.as_bytes.ensures))
     (c.in_ok-treat.ensures.ran s e)) in
     entry_within c.args.dir.now.job.now.plan s c.args.dir.now.job.now.sums (length c.args.below.now) c.is_empty.result
     (c.is_empty.ensures ∙ deep_is (length c.args.below.now)) c.args.dir.now.tree c.args.dir.now.dirid c.args.path.now c.args.salvaged.now

@@ -18,7 +18,8 @@ decreases-list_within g l = 4 * length l.folders.now
 
 abbrev pub invariant-list-loop-fault : goal.invariant-list-loop-fault
 invariant-list-loop-fault g l =
-    SameEnds l.initial.ends l.ends × IsUnderway l.dir.job.now.plan l.dir.job.now.sums (length l.initial.below) l.dir.tree l.dir.dirid l.initial.path l.initial.salvaged
+    SameEnds l.initial.ends l.ends
+    × IsUnderway l.dir.job.now.plan l.dir.job.now.sums (length l.initial.below) l.dir.tree l.dir.dirid l.initial.path l.initial.salvaged
     (world_of g.R.Rack.seen g.T.TreeSink.sink g.T.TreeSink.account g.O.Out.text g.O.Out.account l.initial.ends)
     (world_of g.R.Rack.seen g.T.TreeSink.sink g.T.TreeSink.account g.O.Out.text g.O.Out.account l.ends)
     l.salvaged l.here.folder l.path (length l.below)

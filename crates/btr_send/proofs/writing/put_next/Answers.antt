@@ -1,4 +1,5 @@
 use Rattle.std.proofs.Common.{Ok, ap, ◌∙◌}
+use Rattle.std.proofs.lemmas.Result.{err_from_is_err_and}
 use Rattle.btr_send.specs.Sending.{put}
 use Rattle.btr_restore.proofs.Writings.{writing_end, writing_fault, writing_halt, writing_on}
 use Rattle.btr_send.proofs.writing.put_next.Goals as goal
@@ -15,14 +16,18 @@ returns-in-Ok-None-clause-writes g c whole x text calls l = writing_end (put c.a
     (g.R.Rack.seen c.next_piece.new.rack) c.next_piece.follows.lender-at-none l c.next_piece.ensures.reads c.next_piece.result (c.in-Ok-None.is
     ∙ ap Ok c.in-Ok-None.field-0-is) c.next_piece.follows.holds-at-none
 
-pub returns-in-Ok-clause-writes : goal.returns-in-Ok-clause-writes
-returns-in-Ok-clause-writes g c whole x text calls l = writing_on (put c.args.so_far.now.path.now) whole x _ c.args.so_far.now.sent c.args.file.now
+pub returns-in_ok-after-in-Ok-Some-clause-writes : goal.returns-in_ok-after-in-Ok-Some-clause-writes
+returns-in_ok-after-in-Ok-Some-clause-writes g c whole x text calls l =
+    writing_on (put c.args.so_far.now.path.now) whole x _ c.args.so_far.now.sent c.args.file.now
     c.next_piece.new.file
     (g.R.Rack.seen c.next_piece.new.rack) c.next_piece.follows.lender-at-none l c.next_piece.ensures.reads c.in-Ok-Some.piece c.next_piece.result
-    (c.in-Ok-Some.is ∙ ap Ok c.in-Ok-Some.field-0-is) c.next_piece.follows.holds-at-none _ c.in-Ok.after (c.in-Ok.ensures.wrote text calls)
+    (c.in-Ok-Some.is ∙ ap Ok c.in-Ok-Some.field-0-is) c.next_piece.follows.holds-at-none _ c.in_ok-after-in-Ok-Some.after
+    (c.in_ok-after-in-Ok-Some.ensures.wrote text calls)
 
-pub returns-in-Err-put_piece-clause-writes : goal.returns-in-Err-put_piece-clause-writes
-returns-in-Err-put_piece-clause-writes g c whole x text calls l = writing_halt (put c.args.so_far.now.path.now) whole x _ c.args.so_far.now.sent c.args.file.now
+pub returns-in_err-after-in-Ok-Some-clause-writes : goal.returns-in_err-after-in-Ok-Some-clause-writes
+returns-in_err-after-in-Ok-Some-clause-writes g c whole x text calls l =
+    let p = err_from_is_err_and c.from_residual.result c.from_residual.ensures.1 in
+    rw (p.1, p.2) (writing_halt (put c.args.so_far.now.path.now) whole x _ c.args.so_far.now.sent c.args.file.now
     c.next_piece.new.file (g.R.Rack.seen c.next_piece.new.rack) c.next_piece.follows.lender-at-none l c.next_piece.ensures.reads c.in-Ok-Some.piece
-    c.next_piece.result (c.in-Ok-Some.is ∙ ap Ok c.in-Ok-Some.field-0-is) c.next_piece.follows.holds-at-none _ c.in-Err-put_piece.stop
-    (c.in-Err-put_piece.ensures.wrote text calls)
+    c.next_piece.result (c.in-Ok-Some.is ∙ ap Ok c.in-Ok-Some.field-0-is) c.next_piece.follows.holds-at-none _ c.in_err-after-in-Ok-Some.field-0.0
+    (c.in_err-after-in-Ok-Some.ensures.wrote text calls))
