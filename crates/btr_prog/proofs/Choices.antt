@@ -101,10 +101,12 @@ module _ {W F S I : Type 0} (Bs : I → BlockMap W F) where
         subst (GoesTo Bs (k a)) (sym g.1) g.2
     goes_bind (Stop f) q r d h = subst (λ (x : Run W F S A). AfterTo x.marks x.ending (λ b. GoesTo Bs (k b)) r) d h
     goes_bind (Need w g) q r d h =
-        let t = after_first (Wants w) d.1.marks d.1.ending (λ a. GoesTo Bs (k a)) r (subst (λ (x : Run W F S A). AfterTo x.marks x.ending (λ b. GoesTo Bs (k b)) r) d.2 h) in
+        let t = after_first (Wants w) d.1.marks d.1.ending (λ a. GoesTo Bs (k a)) r
+        (subst (λ (x : Run W F S A). AfterTo x.marks x.ending (λ b. GoesTo Bs (k b)) r) d.2 h) in
         (d.0, t.0, t.1, given_bind (Bs d.0 w) g d.1 t.0 (λ bytes u s e c. goes_bind (g bytes) u s e c) d.3 t.2)
     goes_bind (Emit s p) q r d h =
-        let t = after_first (Does s) d.0.marks d.0.ending (λ a. GoesTo Bs (k a)) r (subst (λ (x : Run W F S A). AfterTo x.marks x.ending (λ b. GoesTo Bs (k b)) r) d.1 h) in
+        let t = after_first (Does s) d.0.marks d.0.ending (λ a. GoesTo Bs (k a)) r
+        (subst (λ (x : Run W F S A). AfterTo x.marks x.ending (λ b. GoesTo Bs (k b)) r) d.1 h) in
         (t.0, t.1, goes_bind p d.0 t.0 d.2 t.2)
 
     -- each run of one program and then another is a run of the first, and then one of the other

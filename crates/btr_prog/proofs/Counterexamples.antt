@@ -8,7 +8,7 @@ use Rattle.btr_prog.specs.Maps.{Each, IsWithin, IsWhole, cut, Loses}
 use Rattle.btr_prog.specs.Answers.{Halt, Fault, Unread, Broke, Names, Leaves, no_part, Breaks, Follows}
 use Rattle.btr_prog.specs.Goes.{goes_given, GoesTo, ThreadsTo, Goes}
 use Rattle.btr_prog.specs.Blind.{IsBlind, IsAlike, Drops}
-use Rattle.btr_prog.specs.Outcomes.{Outcome}
+use Rattle.btr_prog.specs.Outcomes.{RunOutcome}
 use Rattle.btr_prog.specs.Trying.{Trying, Done, Try, tried, attempt, gathered}
 use Rattle.btr_prog.specs.TryingLaws.{attempted, gathered_by}
 
@@ -188,7 +188,8 @@ names_five [] ys e n = n
 names_five (x ∷ xs) ys e n =
     let i : x ≡ Wants 0 = cc in
     let t : [] ≡ xs ++ ys = cc in
-    let m : Names Is 5 (0 ∷ []) = subst (λ (ms : List (Mark ℕ ℕ)). Names Is 5 (wants_of ms)) (ap (λ z. z ∷ xs) i ∙ ap (λ z. Wants 0 ∷ z) (no_marks xs ys t)) n in
+    let m : Names Is 5 (0 ∷ []) =
+    subst (λ (ms : List (Mark ℕ ℕ)). Names Is 5 (wants_of ms)) (ap (λ z. z ∷ xs) i ∙ ap (λ z. Wants 0 ∷ z) (no_marks xs ys t)) n in
     elim m [ inl e ↦ omega (arith, e) | inr e ↦ e ]
 
 -- that a want could not be read doesn't follow where the answer names another one
@@ -198,7 +199,15 @@ want_unread_twin h = let b = h 5 0 (ended 1) in names_five b.before b.behind b.p
 place_twin : ((B C : Map) (p : P) (done : List ℕ) (a : ℕ) → Follows Is no_part [] (exec B p) done (Err (Unread a))
     → Follows Is no_part [] (exec C p) done (Err (Unread a))) → ⊥
 place_twin h =
-    let b = h one nil looks_on [] 5 (record { before = Wants 0 ∷ (Wants 5 ∷ []); behind = []; left = None; place = refl; steps = refl; leaves = tt; holds = inr (inl refl) }) in
+    let b = h one nil looks_on [] 5 (record {
+      before = Wants 0 ∷ (Wants 5 ∷ []);
+      behind = [];
+      left = None;
+      place = refl;
+      steps = refl;
+      leaves = tt;
+      holds = inr (inl refl);
+    }) in
     names_five b.before b.behind b.place b.holds
 
 held_twin : ((B C : Map) (p : P) (done : List ℕ) (ans : Ans) → Follows Is no_part [] (exec B p) done ans → Follows Is no_part [] (exec C p) done ans
@@ -286,7 +295,8 @@ goes_held_twin_within : ((plain : ℕ → Bool) (Bs Cs : Bool → Map) (C : Map)
     ⊎ ((q : R) × (r : R) × GoesTo Cs p q × (m : Drops Bs q r) × (done ≡ steps_of m.before) × (ans ≡ Err (Fault m.fault)))) → ⊥
 goes_held_twin_within h =
     let blind : IsBlind (λ w. false) asks = (elim [ [] ↦ tt | x ∷ xs ↦ tt ], λ e bytes others. let no : ⊥ = cc in absurd no) in
-    elim (h (λ w. false) (λ i. one) (λ j. two) two asks [] (Ok 1) blind ((λ j. inl refl), tt) (run (Wants 0 ∷ []) (Ok 1), (true, ended 1, refl, refl), (refl, refl))) [
+    elim (h (λ w. false) (λ i. one) (λ j. two) two asks [] (Ok 1) blind ((λ j. inl refl), tt)
+    (run (Wants 0 ∷ []) (Ok 1), (true, ended 1, refl, refl), (refl, refl))) [
       | inl g ↦ two_one (sym (ap value (g.1.2 ∙ ap (first (Wants 0)) g.1.3)) ∙ g.2.1)
       | inr g ↦ value_halt 1 (Fault g.3.fault) g.5
     ]
@@ -319,7 +329,8 @@ goes_held_twin_blind : ((plain : ℕ → Bool) (Bs Cs : Bool → Map) (C : Map) 
     × (ans ≡ Err (Fault m.fault)))) → ⊥
 goes_held_twin_blind h =
     let alike : Each (λ w. (j : Bool) → IsAlike true (eight j w) (eight true w)) (0 ∷ []) = (elim [ true ↦ inl refl | false ↦ inr (refl, tt, tt) ], tt) in
-    let came : Goes Is no_part [] (λ (i : Bool). seven) looks_on [] (Ok 7) = (run (Wants 0 ∷ (Wants 5 ∷ [])) (Ok 7), (true, run (Wants 5 ∷ []) (Ok 7), refl, (true, ended 7, refl, refl)), (refl, refl)) in
+    let came : Goes Is no_part [] (λ (i : Bool). seven) looks_on [] (Ok 7) =
+    (run (Wants 0 ∷ (Wants 5 ∷ [])) (Ok 7), (true, run (Wants 5 ∷ []) (Ok 7), refl, (true, ended 7, refl, refl)), (refl, refl)) in
     elim (h (λ w. true) (λ i. seven) eight (eight true) looks_on [] (Ok 7) alike ((λ i. (false, refl)), tt) came) [
       | inl g ↦ no_seven g.1.0 g.1.1 g.1.3 (sym (ap value g.1.2) ∙ g.2.1)
       | inr g ↦ value_halt 7 (Fault g.3.fault) g.5
@@ -337,7 +348,8 @@ looks_blind (suc x ∷ xs) = (told_blind, λ e bytes others. let no : ⊥ = cc i
 -- maps that differ where there is a test
 blind_twin_alike : ((plain : ℕ → Bool) (Cs : Bool → Map) (C : Map) (p : P) (q : R) → IsBlind plain p → GoesTo Cs p q → (wants_of q.marks ≡ needs C p)
     × (q.ending ≡ (exec C p).ending)) → ⊥
-blind_twin_alike h = values 1 2 one_two (h (λ w. false) each_one two asks (run (Wants 0 ∷ []) (Ok 1)) (told_blind, λ e bytes others. let no : ⊥ = cc in absurd no) (true, ended 1, refl, refl)).1
+blind_twin_alike h = values 1 2 one_two (h (λ w. false) each_one two asks (run (Wants 0 ∷ []) (Ok 1))
+    (told_blind, λ e bytes others. let no : ⊥ = cc in absurd no) (true, ended 1, refl, refl)).1
 
 goes_held_twin_alike : ((plain : ℕ → Bool) (Bs Cs : Bool → Map) (C : Map) (p : P) (done : List ℕ) (ans : Ans) → IsBlind plain p
     → Each (λ w. (i : Bool) → (j : Bool) × IsWithin (Bs i w) (Cs j w)) (needs C p) → Goes Is no_part [] Bs p done ans
@@ -345,7 +357,8 @@ goes_held_twin_alike : ((plain : ℕ → Bool) (Bs Cs : Bool → Map) (C : Map) 
     × (ans ≡ Err (Fault m.fault)))) → ⊥
 goes_held_twin_alike h =
     let blind : IsBlind (λ w. false) looks_on = (looks_blind, λ e bytes others. let no : ⊥ = cc in absurd no) in
-    let came : Goes Is no_part [] (λ (i : Bool). seven) looks_on [] (Ok 7) = (run (Wants 0 ∷ (Wants 5 ∷ [])) (Ok 7), (true, run (Wants 5 ∷ []) (Ok 7), refl, (true, ended 7, refl, refl)), (refl, refl)) in
+    let came : Goes Is no_part [] (λ (i : Bool). seven) looks_on [] (Ok 7) =
+    (run (Wants 0 ∷ (Wants 5 ∷ [])) (Ok 7), (true, run (Wants 5 ∷ []) (Ok 7), refl, (true, ended 7, refl, refl)), (refl, refl)) in
     elim (h (λ w. false) (λ i. seven) eight (eight true) looks_on [] (Ok 7) blind ((λ i. (false, refl)), tt) came) [
       | inl g ↦ no_seven g.1.0 g.1.1 g.1.3 (sym (ap value g.1.2) ∙ g.2.1)
       | inr g ↦ value_halt 7 (Fault g.3.fault) g.5
@@ -370,7 +383,20 @@ goes_nowhere_twin h = (h no_map asks).1.0
 
 goes_halt_twin_some : ((Bs : ⊥ → Map) (p : P) (k : ℕ → P) (done : List ℕ) (x : Halt ℕ ℕ) → Goes Is no_part [] Bs p done (Err x)
     → Goes Is no_part [] Bs (bind p k) done (Err x)) → ⊥
-goes_halt_twin_some h = (h no_map (Return 0) (λ a. asks) [] Broke (ended 0, refl, record { before = []; behind = []; left = None; place = refl; steps = refl; leaves = tt; holds = tt })).1.0
+goes_halt_twin_some h =
+    (h no_map (Return 0) (λ a. asks) [] Broke (
+      ended 0,
+      refl,
+      record {
+        before = [];
+        behind = [];
+        left = None;
+        place = refl;
+        steps = refl;
+        leaves = tt;
+        holds = tt;
+      },
+    )).1.0
 
 -- a step that was done under another map
 abbrev shows : List ℕ → P
@@ -393,7 +419,15 @@ none_left xs (Some t) ms e f l =
 
 part_twin : ((B C : Map) (p : P) (done : List ℕ) → Follows Is no_part [] (exec B p) done (Err Broke) → Follows Is no_part [] (exec C p) done (Err Broke)) → ⊥
 part_twin h =
-    let b = h one nil (Need 0 shows) (3 ∷ []) (record { before = Wants 0 ∷ (Does 3 ∷ []); behind = []; left = None; place = refl; steps = refl; leaves = tt; holds = tt }) in
+    let b = h one nil (Need 0 shows) (3 ∷ []) (record {
+      before = Wants 0 ∷ (Does 3 ∷ []);
+      behind = [];
+      left = None;
+      place = refl;
+      steps = refl;
+      leaves = tt;
+      holds = tt;
+    }) in
     none_left (steps_of b.before) b.left b.behind (no_steps b.before b.behind b.place) b.steps b.leaves
 
 -- ---- programs that go on behind faults
@@ -421,7 +455,7 @@ inner (Err f) = Err f
 follows_attempt_twin : ((p : P) (done : List ℕ) (ans : Ans) → Follows Is no_part [] (tried one (attempt p)) done (attempted ans)) → ⊥
 follows_attempt_twin h = values 0 5 (λ e. absurd (omega (arith, e))) (ap inner (h (Return 0) [] (Ok 5)).1)
 
-abbrev inner_ending : Result (Outcome ℕ ℕ ℕ) ℕ → Result ℕ ℕ
+abbrev inner_ending : Result (RunOutcome ℕ ℕ ℕ) ℕ → Result ℕ ℕ
 inner_ending (Ok o) = o.ending
 inner_ending (Err f) = Err f
 

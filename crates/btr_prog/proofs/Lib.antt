@@ -16,5 +16,6 @@ pub mod SoFars
 pub mod Cursors
 pub mod Blinds
 pub mod Tries
+pub mod Attempts
 pub mod Counterexamples
 pub mod PartCounterexamples

@@ -31,7 +31,8 @@ staged_cut_twin h = values 1 2 one_two (ap parts_value (h one one (λ t. one) (�
 staged_lost_twin : ((B C : Map) (D E : ℕ → Map) (p : First) (k : ℕ → P)
     → (exec (both B D) (staged refused p k) ≡ exec (both C E) (staged refused p k))
     ⊎ Loses (both B D) (exec (both C E) (staged refused p k)) (exec (both B D) (staged refused p k))) → ⊥
-staged_lost_twin h = elim (h one one (λ t. one) (λ t. two) (Return (Ok 0)) (λ t. asks)) [ inl e ↦ values 1 2 one_two (ap parts_value e) | inr m ↦ value_fault 1 m.fault m.ending ]
+staged_lost_twin h = elim (h one one (λ t. one) (λ t. two) (Return (Ok 0)) (λ t. asks))
+    [ inl e ↦ values 1 2 one_two (ap parts_value e) | inr m ↦ value_fault 1 m.fault m.ending ]
 
 -- the rest run under another table than the first part gave, or where it refused
 staged_then_twin : ((B : Map) (D : ℕ → Map) (p : First) (k : ℕ → P) (t : ℕ) (done more : List ℕ) (ans : Ans)

@@ -55,7 +55,8 @@ module _ {W F S A C : Type 0} (R : S → S → Type 0) where
     shows_bind (Need w f) k h g = (λ b. shows_bind (f b) k (h.0 b) g, λ t b c. alike_bind (f b) (f c) k k (h.1 t b c) (λ a. alike_refl R all (k a)))
     shows_bind (Emit s p) k h g = shows_bind p k h g
 
-module _ {W F S T A St X : Type 0} (R : S → S → Type 0) (Q : T → T → Type 0) (all : (t : T) → Q t t) (body : St → S → Prog W F T (Result St X)) (done : St → A → X) where
+module _ {W F S T A St X : Type 0} (R : S → S → Type 0) (Q : T → T → Type 0) (all : (t : T) → Q t t) (body : St → S → Prog W F T (Result St X))
+    (done : St → A → X) where
   alike_on : (k l : St → Prog W F T X) → ((st : St) → AreAlike Q (k st) (l st)) → (r : Result St X) → AreAlike Q (go_on k r) (go_on l r)
   alike_on k l h (Ok st) = h st
   alike_on k l h (Err x) = refl

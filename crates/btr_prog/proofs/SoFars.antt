@@ -101,7 +101,8 @@ module _ {W F S A T St R : Type 0} (Body : St → S → Run W F T (Result St R) 
       (so_far_ends Is part Whole (ThreadsTo Body fin st [] (Ok a)) seen done [] (Ok (fin st a)) sofar (run [] (Ok (fin st a)), refl, (refl, refl)))
 
 -- Where the items that are left are known, and not the wants between them: the next item, or the end
-module _ {W F S A T St R : Type 0} (Body : St → S → Run W F T (Result St R) → Type 0) (fin : St → A → R) (e : Result A F) (Whole : Run W F T R → Type 0) (done : List T) (st : St) where
+module _ {W F S A T St R : Type 0} (Body : St → S → Run W F T (Result St R) → Type 0) (fin : St → A → R) (e : Result A F) (Whole : Run W F T R → Type 0)
+    (done : List T) (st : St) where
   abbrev Ahead : List (Mark W S) → List W → Type 0
   Ahead ms seen = SoFar Whole (ThreadsTo Body fin st ms e) seen done
 

@@ -2,18 +2,18 @@
 use Rattle.std.proofs.Common.{◌≡◌, List, [], ◌∷◌, ◌++◌, Result, Ok, Err, refl, ap, ◌∙◌}
 use Rattle.btr_prog.specs.Prog.{BlockMap, Prog, Mark, Wants, Does, Run, exec, after, steps_of}
 use Rattle.btr_prog.specs.Thread.{go_on_run, thread, thread_run}
-use Rattle.btr_prog.specs.Outcomes.{Outcome, outcome, outcome_of, after_steps, go_on_outcome, thread_outcome}
+use Rattle.btr_prog.specs.Outcomes.{RunOutcome, outcome, outcome_of, after_steps, go_on_outcome, thread_outcome}
 use Rattle.btr_prog.proofs.Runs.{steps_of-append}
 use Rattle.btr_prog.proofs.Threads.{exec-thread}
 
 module _ {W F : Type 0} where
-  outcome_of-after : {S A C : Type 0} (ms : List (Mark W S)) (e : Result A F) (k : A → Run W F S C) (h : A → Outcome F S C)
+  outcome_of-after : {S A C : Type 0} (ms : List (Mark W S)) (e : Result A F) (k : A → Run W F S C) (h : A → RunOutcome F S C)
       → ((a : A) → outcome_of (k a) ≡ h a) → outcome_of (after ms e k) ≡ after_steps (steps_of ms) e h
   outcome_of-after ms (Ok a) k h e = ap (λ x. outcome x (k a).ending) (steps_of-append ms (k a).marks)
-      ∙ ap (λ (o : Outcome F _ _). outcome (steps_of ms ++ o.steps) o.ending) (e a)
+      ∙ ap (λ (o : RunOutcome F _ _). outcome (steps_of ms ++ o.steps) o.ending) (e a)
   outcome_of-after ms (Err f) k h e = refl
 
-  go_outcome : {T St R : Type 0} (k : St → Run W F T R) (h : St → Outcome F T R) → ((st : St) → outcome_of (k st) ≡ h st) → (x : Result St R)
+  go_outcome : {T St R : Type 0} (k : St → Run W F T R) (h : St → RunOutcome F T R) → ((st : St) → outcome_of (k st) ≡ h st) → (x : Result St R)
       → outcome_of (go_on_run k x) ≡ go_on_outcome h x
   go_outcome k h e (Ok st) = e st
   go_outcome k h e (Err r) = refl

@@ -2,7 +2,7 @@
 use Rattle.std.proofs.Common.{◌≡◌, ℕ, List, [], ◌∷◌, ◌++◌, Option, None, IsOk, Result, Ok, Err, refl, sym, ap, ◌∙◌, subst, append-nil}
 use Rattle.btr_prog.specs.Prog.{BlockMap, Prog, Return, Stop, Need, Emit, Mark, Wants, Does, Run, run, first, given, exec, after, and_then, steps_of, wants_of}
 use Rattle.btr_prog.specs.Prog.{want_marks}
-use Rattle.btr_prog.specs.Outcomes.{Outcome, outcome, outcome_of}
+use Rattle.btr_prog.specs.Outcomes.{RunOutcome, outcome, outcome_of}
 use Rattle.btr_prog.specs.Maps.{Each}
 use Rattle.btr_prog.specs.Answers.{Halt, Fault, Unread, Broke, Breaks, Follows}
 use Rattle.btr_prog.specs.Trying.{Trying, Done, Try, Act, tried, try_then, by_fate, attempt, gathered}
@@ -66,7 +66,7 @@ module _ {W F S : Type 0} where
 
 module _ {W F S T : Type 0} where
   -- a run without its steps, which are handed on with its ending
-  abbrev collected : {A : Type 0} → Run W F T A → Run W F S (Outcome F T A)
+  abbrev collected : {A : Type 0} → Run W F T A → Run W F S (RunOutcome F T A)
   collected r = run (want_marks (wants_of r.marks)) (Ok (outcome_of r))
 
   given_collected : {A : Type 0} (B : BlockMap W F) (x : Result (List ℕ) F) (k : List ℕ → Prog W F T A)
@@ -81,7 +81,7 @@ module _ {W F S T : Type 0} where
   tried-gathered B (Need w k) = ap (first (Wants w)) (given_collected B (B w) k (λ b. tried-gathered B (k b)))
   tried-gathered B (Emit t p) =
       let r = exec B p in
-      let more : Outcome F T _ → Trying W F S (Outcome F T _) = λ o. Done (outcome (t ∷ o.steps) o.ending) in
+      let more : RunOutcome F T _ → Trying W F S (RunOutcome F T _) = λ o. Done (outcome (t ∷ o.steps) o.ending) in
       tried-then B (gathered p) more
       ∙ ap (λ x. and_then x (λ o. tried B (more o))) (tried-gathered B p)
       ∙ ap (λ ms. run ms (Ok (outcome (t ∷ steps_of r.marks) r.ending))) (append-nil (want_marks (wants_of r.marks)))
@@ -94,7 +94,8 @@ module _ {W F S U : Type 0} (Is : U → W → Type 0) (part : S → ℕ → Opti
   -- a place of a run is one of each run with these marks
   same_place : {A C : Type 0} (own : S → ℕ → Option S) (P : List W → Type 0) (ms : List (Mark W S)) (e : Result A F) (e' : Result C F) (done : List S)
       → Breaks own P (run ms e) done → Breaks own P (run ms e') done
-  same_place own P ms e e' done b = record { before = b.before; behind = b.behind; left = b.left; place = b.place; steps = b.steps; leaves = b.leaves; holds = b.holds }
+  same_place own P ms e e' done b =
+      record { before = b.before; behind = b.behind; left = b.left; place = b.place; steps = b.steps; leaves = b.leaves; holds = b.holds }
 
   follows_handed : {A : Type 0} (seen : List W) (r : Run W F S A) (done : List S) (ans : Result A (Halt F U)) → Follows Is part seen r done ans
       → Follows Is part seen (handed r) done (attempted ans)

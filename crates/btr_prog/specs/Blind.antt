@@ -57,4 +57,5 @@ module _ (W F S A J I U : Type 0) (Is : U → W → Type 0) where
       → Each (λ w. (j : J) → IsAlike (plain w) (Cs j w) (C w)) (needs C p)
       → Each (λ w. (i : I) → (j : J) × IsWithin (Bs i w) (Cs j w)) (needs C p)
       → Goes Is part seen Bs p done ans
-      → Goes Is part seen Cs p done ans ⊎ ((q : Run W F S A) × (r : Run W F S A) × GoesTo Cs p q × (m : Drops Bs q r) × (done ≡ steps_of m.before) × (ans ≡ Err (Fault m.fault)))
+      → Goes Is part seen Cs p done ans ⊎ ((q : Run W F S A) × (r : Run W F S A) × GoesTo Cs p q × (m : Drops Bs q r) × (done ≡ steps_of m.before)
+      × (ans ≡ Err (Fault m.fault)))

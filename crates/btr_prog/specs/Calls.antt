@@ -7,8 +7,8 @@ pub record Seen (H : Type 0) : Type 0 where
   pub faults : ℕ
 
 -- no read failed: the count is as before, and not at its last value, where it would stand still
-abbrev pub IsCalm : ℕ → ℕ → Type 0
-IsCalm before now = (now ≡ before) × (now < 2 ^ 64 - 1)
+abbrev pub NoReadFailed : ℕ → ℕ → Type 0
+NoReadFailed before now = (now ≡ before) × (now < 2 ^ 64 - 1)
 
 -- how surely it is known which copy of a block was read: the first that passes its test, or any that does
 pub data Sure : Type 0 where
@@ -18,7 +18,7 @@ pub data Sure : Type 0 where
 -- What was read can be told: as the first copies where no read failed, and as any where all that pass agree.
 -- `Agreed` says that they do wherever there is a test.
 abbrev pub CanTell : {H : Type 0} → (H → Type 0) → Sure → Seen H → Seen H → Type 0
-CanTell Agreed First before now = IsCalm before.faults now.faults
+CanTell Agreed First before now = NoReadFailed before.faults now.faults
 CanTell Agreed Any before now = Agreed before.held
 
 -- A call, or several in a row: what is held stays, the count never falls, and so far as what they read

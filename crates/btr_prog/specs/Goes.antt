@@ -23,7 +23,8 @@ module _ {W F S : Type 0} where
   AfterTo ms (Err f) K r = r ≡ run ms (Err f)
 
   -- what was done, and the answer, are those of some run
-  abbrev pub Goes : {I A U : Type 0} → (U → W → Type 0) → (S → ℕ → Option S) → List W → (I → BlockMap W F) → Prog W F S A → List S → Result A (Halt F U) → Type 0
+  abbrev pub Goes : {I A U : Type 0} → (U → W → Type 0) → (S → ℕ → Option S) → List W → (I → BlockMap W F) → Prog W F S A → List S → Result A (Halt F U)
+      → Type 0
   Goes Is part seen Bs p done ans = (r : Run W F S _) × GoesTo Bs p r × Follows Is part seen r done ans
 
 module _ {W F : Type 0} where
@@ -33,7 +34,9 @@ module _ {W F : Type 0} where
   GoOnTo K (Err x) r = r ≡ run [] (Ok x)
 
   -- r treats the steps among some marks one after another, each by a run that Body allows
-  abbrev pub ThreadsTo : {S A T St R : Type 0} → (St → S → Run W F T (Result St R) → Type 0) → (St → A → R) → St → List (Mark W S) → Result A F → Run W F T R → Type 0
+  abbrev pub ThreadsTo : {S A T St R : Type 0} → (St → S → Run W F T (Result St R) → Type 0) → (St → A → R) → St → List (Mark W S) → Result A F
+      → Run W F T R → Type 0
   ThreadsTo Body done st [] e r = r ≡ end_of done st e
   ThreadsTo Body done st (Wants w ∷ ms) e r = (q : Run W F _ _) × (r ≡ first (Wants w) q) × ThreadsTo Body done st ms e q
-  ThreadsTo {T = T} {St = St} {R = R} Body done st (Does s ∷ ms) e r = (b : Run W F T (Result St R)) × Body st s b × AfterTo b.marks b.ending (GoOnTo (λ st'. ThreadsTo Body done st' ms e)) r
+  ThreadsTo {T = T} {St = St} {R = R} Body done st (Does s ∷ ms) e r =
+      (b : Run W F T (Result St R)) × Body st s b × AfterTo b.marks b.ending (GoOnTo (λ st'. ThreadsTo Body done st' ms e)) r

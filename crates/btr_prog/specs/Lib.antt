@@ -14,3 +14,4 @@ pub mod Blind
 pub mod Shows
 pub mod Trying
 pub mod TryingLaws
+pub mod Attempts

@@ -15,5 +15,6 @@ module _ {W F S A : Type 0} where
   abbrev pub OnlyShows : (S → S → Type 0) → (W → Bool) → Prog W F S A → Type 0
   OnlyShows R plain (Return a) = Unit {0}
   OnlyShows R plain (Stop f) = Unit {0}
-  OnlyShows R plain (Need w k) = ((bytes : List ℕ) → OnlyShows R plain (k bytes)) × (IsTrue (plain w) → (bytes others : List ℕ) → AreAlike R (k bytes) (k others))
+  OnlyShows R plain (Need w k) =
+      ((bytes : List ℕ) → OnlyShows R plain (k bytes)) × (IsTrue (plain w) → (bytes others : List ℕ) → AreAlike R (k bytes) (k others))
   OnlyShows R plain (Emit s p) = OnlyShows R plain p

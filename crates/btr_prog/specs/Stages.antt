@@ -65,7 +65,8 @@ module _ {T X W F S A : Type 0} where
 
   -- B has, of each want of C's run, C's bytes or none; so has D of E's, under the table that C's run gives
   abbrev pub IsWithinBoth : (B C : BlockMap W F) (D E : T → BlockMap W F) → Prog W F S (Result T X) → (T → Prog W F S A) → Type 0
-  IsWithinBoth B C D E p k = Each (λ w. IsWithin (B w) (C w)) (needs C p) × ((t : T) → (exec C p).ending ≡ Ok (Ok t) → Each (λ w. IsWithin (D t w) (E t w)) (needs (E t) (k t)))
+  IsWithinBoth B C D E p k =
+      Each (λ w. IsWithin (B w) (C w)) (needs C p) × ((t : T) → (exec C p).ending ≡ Ok (Ok t) → Each (λ w. IsWithin (D t w) (E t w)) (needs (E t) (k t)))
 
 module _ (V W F S A : Type 0) where
   -- the run of a program whose wants go by other names

@@ -1,7 +1,7 @@
 -- Programs that go on behind faults: a want is tried, and its fault is handed on. No fault ends their runs.
 use Rattle.std.specs.Prelude.{ℕ, List, [], ◌∷◌, Result, Ok, Err}
 use Rattle.btr_prog.specs.Prog.{BlockMap, Prog, Return, Stop, Need, Emit, Wants, Does, Run, run, first}
-use Rattle.btr_prog.specs.Outcomes.{Outcome, outcome}
+use Rattle.btr_prog.specs.Outcomes.{RunOutcome, outcome}
 
 -- A trying program is done with a value, tries a want and goes on by its bytes
 -- or its fault, or does a step and goes on.
@@ -41,7 +41,7 @@ module _ {W F S : Type 0} where
   attempt (Emit s p) = Act s (attempt p)
 
   -- a program as a part of a trying one whose steps are not done but gathered: steps and ending are handed on
-  abbrev pub gathered : {T A : Type 0} → Prog W F T A → Trying W F S (Outcome F T A)
+  abbrev pub gathered : {T A : Type 0} → Prog W F T A → Trying W F S (RunOutcome F T A)
   gathered (Return a) = Done (outcome [] (Ok a))
   gathered (Stop f) = Done (outcome [] (Err f))
   gathered (Need w k) = Try w (λ fate. by_fate fate (λ bytes. gathered (k bytes)) (λ f. outcome [] (Err f)))

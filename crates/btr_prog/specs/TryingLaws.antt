@@ -1,7 +1,7 @@
 -- The laws of programs that go on behind faults. What is answered of their runs follows the laws of answers.
 use Rattle.std.specs.Prelude.{◌≡◌, ℕ, List, [], ◌∷◌, ◌++◌, Option, IsOk, Result, Ok, Err}
 use Rattle.btr_prog.specs.Prog.{BlockMap, Prog, run, exec, and_then, needs, wants_of, want_marks}
-use Rattle.btr_prog.specs.Outcomes.{Outcome, outcome, outcome_of}
+use Rattle.btr_prog.specs.Outcomes.{RunOutcome, outcome, outcome_of}
 use Rattle.btr_prog.specs.Maps.{Each}
 use Rattle.btr_prog.specs.Answers.{Halt, Fault, Unread, Broke, Follows}
 use Rattle.btr_prog.specs.Trying.{Trying, Try, tried, try_then, attempt, gathered}
@@ -14,7 +14,7 @@ attempted (Err (Unread u)) = Err (Unread u)
 attempted (Err Broke) = Err Broke
 
 -- an answer of a program, where its own fault and the steps that were gathered are handed on
-abbrev pub gathered_by : {F S A U : Type 0} → List S → Result A (Halt F U) → Result (Outcome F S A) (Halt F U)
+abbrev pub gathered_by : {F S A U : Type 0} → List S → Result A (Halt F U) → Result (RunOutcome F S A) (Halt F U)
 gathered_by done (Ok a) = Ok (outcome done (Ok a))
 gathered_by done (Err (Fault f)) = Ok (outcome done (Err f))
 gathered_by done (Err (Unread u)) = Err (Unread u)

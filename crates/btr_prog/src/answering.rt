@@ -1,5 +1,6 @@
 //! The answers of calls that run programs.
-ghost use Rattle.btr_prog.specs.AnswerLaws.{FollowsThen, FollowsHalt, WantCame, WantFaults, WantUnread, StepDone, StepBroke, BrokeHere, UnreadHere, FollowsSeen, PlaceLaw, PartLaw, HeldLaw};
+ghost use Rattle.btr_prog.specs.AnswerLaws.{FollowsThen, FollowsHalt, WantCame, WantFaults, WantUnread, StepDone, StepBroke, BrokeHere, UnreadHere};
+ghost use Rattle.btr_prog.specs.AnswerLaws.{FollowsSeen, PlaceLaw, PartLaw, HeldLaw};
 ghost use Rattle.btr_prog.specs.Quiet.{ExecQuiet, FollowsQuiet, GoesQuiet};
 
 use crate::Cause;

@@ -1,6 +1,7 @@
 //! Runs where a want may come to any of several things.
 ghost use Rattle.btr_prog.specs.Blind.{BlindLaw, GoesHeldLaw};
-ghost use Rattle.btr_prog.specs.GoesLaws.{GoesOne, GoesSome, GoesMore, GoesBind, GoesThread, ThreadGoes, GoesThen, GoesHalt, GoesCame, GoesFaults, GoesUnread, GoesStep, GoesBroke, GoesNowhere};
+ghost use Rattle.btr_prog.specs.GoesLaws.{GoesOne, GoesSome, GoesMore, GoesBind, GoesThread, ThreadGoes, GoesThen, GoesHalt, GoesCame, GoesFaults};
+ghost use Rattle.btr_prog.specs.GoesLaws.{GoesUnread, GoesStep, GoesBroke, GoesNowhere};
 
 use crate::Cause;
 

@@ -1,5 +1,6 @@
 //! Two block maps one after another.
-ghost use Rattle.btr_prog.specs.Stages.{ExecRenamed, FollowsRenamed, GoesRenamed, ExecStaged, NeedsStaged, StagedCut, StagedLost, StagedThen, StagedRefused, StagedHalt, GoesStaged, GoesStagedRefused, GoesStagedHalt};
+ghost use Rattle.btr_prog.specs.Stages.{ExecRenamed, FollowsRenamed, GoesRenamed, ExecStaged, NeedsStaged, StagedCut, StagedLost, StagedThen};
+ghost use Rattle.btr_prog.specs.Stages.{StagedRefused, StagedHalt, GoesStaged, GoesStagedRefused, GoesStagedHalt};
 
 use crate::{Cause, StagedCause};
 

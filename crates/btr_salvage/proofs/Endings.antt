@@ -1,6 +1,6 @@
 -- Programs that come to an end, and the steps that they do.
 use Rattle.std.proofs.Common.{◌≡◌, ℕ, List, [], ◌∷◌, ◌++◌, Bool, true, false, cond, Result, Ok, Err, refl, sym, ap, ◌∙◌, append-nil}
-use Rattle.btr_prog.specs.Outcomes.{Outcome, outcome_of, thread_outcome}
+use Rattle.btr_prog.specs.Outcomes.{RunOutcome, outcome_of, thread_outcome}
 use Rattle.btr_prog.specs.Prog.{BlockMap, Prog, Return, Stop, Need, Emit, Mark, Wants, Does, Run, given, exec, bind, steps_of, wants_of}
 use Rattle.btr_prog.specs.Quiet.{quiet, quiet_marks}
 use Rattle.btr_prog.specs.Thread.{go_on}
@@ -12,7 +12,7 @@ use Rattle.btr_prog.proofs.Tries.{steps_of-marks, tried-attempt, tried-gathered,
 use Rattle.btr_read.specs.Fate.{Fault}
 use Rattle.btr_walk.specs.Reading.{Map}
 use Rattle.btr_volume.specs.Lookup.{Program, each}
-use Rattle.btr_salvage.specs.Attempts.{ending_of, on_value, value_then}
+use Rattle.btr_prog.specs.Attempts.{ending_of, on_value, value_then}
 
 pub ok_same : {A F : Type 0} (x : Result A F) (a b : A) → x ≡ Ok a → x ≡ Ok b → a ≡ b
 ok_same x a b e f = cc
@@ -152,5 +152,5 @@ module _ {S T St : Type 0} (B : Map) (treat : St → S → Program T St) where
       ≡ outcome_of (exec B (each treat st q))
   each_same p q st same =
       outcome_of-thread B one (λ st u. st) st p
-      ∙ (ap (λ (o : Outcome Fault S (Unit {0})). thread_outcome (λ st s. outcome_of (exec B (one st s))) (λ st u. st) st o.steps o.ending) same
+      ∙ (ap (λ (o : RunOutcome Fault S (Unit {0})). thread_outcome (λ st s. outcome_of (exec B (one st s))) (λ st u. st) st o.steps o.ending) same
       ∙ sym (outcome_of-thread B one (λ st u. st) st q))

@@ -35,7 +35,7 @@ use Rattle.btr_files.specs.declared.name.NameBuf.{NameBuf}
 use Rattle.btr_salvage.specs.declared.folder.Folder.{Folder}
 use Rattle.btr_salvage.specs.declared.folder.Found.{Found}
 use Rattle.btr_salvage.specs.declared.folder.Found.TheVariants as found
-use Rattle.btr_salvage.specs.Folders.{found_in, folder_left, IsItemFound, IsLeftOut, IsNextFound, MeetsFound, MetNears, FolderNears}
+use Rattle.btr_salvage.specs.Folders.{found_in, folder_left, IsItemFound, IsLeftOut, IsNextFound, MeetsFound, MetRankFalls, FolderRankFalls}
 use Rattle.btr_salvage.specs.Folders.{NextMetBy, IsNextMet}
 use Rattle.btr_salvage.specs.Marks.{InFolder, Part, mark_in}
 
@@ -92,7 +92,7 @@ left_cause layout a b tour tour' fault name (Ok f) e h = tt
 left_cause layout a b tour tour' fault name (Err f) e h = absurd (some_reason fault e.0 h.1)
 
 pub left_nears : (tour tour' : Tour) (fault : TreeFault) (name : NameBuf) (result : Result (Option Found) TreeFault) → IsLeftOut fault name result
-    → rank_of tour' < rank_of tour → MetNears tour tour' result
+    → rank_of tour' < rank_of tour → MetRankFalls tour tour' result
 left_nears tour tour' fault name (Ok (Some f)) e h = h
 left_nears tour tour' fault name (Ok None) e h = tt
 left_nears tour tour' fault name (Err f) e h = tt
@@ -136,7 +136,7 @@ rest_cause layout a b None f h = absurd h
 rest_cause layout a b (Some frame) f h = cause_is layout a b (Some (want_of 0 frame.spot)) f h
 
 pub folder_nears : (rest after : Rest) (tour tour' : Tour) (store : Blocks) (result : Result (Option Found) TreeFault) → rank_of tour ≡ rank_left rest
-    → Rests store tour' after → MetNears tour tour' result → FolderNears (record { rest = rest }) (record { rest = after }) result
+    → Rests store tour' after → MetRankFalls tour tour' result → FolderRankFalls (record { rest = rest }) (record { rest = after }) result
 folder_nears rest after tour tour' store (Ok (Some f)) e r h = omega (arith, h, r.rank, e)
 folder_nears rest after tour tour' store (Ok None) e r h = tt
 folder_nears rest after tour tour' store (Err f) e r h = tt

@@ -31,7 +31,7 @@ use Rattle.btr_restore.specs.Journey.{closed, done_about, empty, entered, has_no
 use Rattle.btr_restore.specs.Journey.{told, unverified, written}
 use Rattle.btr_restore.specs.Journey as journey
 use Rattle.btr_salvage.specs.declared.salvaged.Salvaged.{Salvaged}
-use Rattle.btr_salvage.specs.Attempts.{came_of, on_value, tried_run, value_then}
+use Rattle.btr_prog.specs.Attempts.{came_of, on_value, tried_run, value_then}
 use Rattle.btr_salvage.specs.Laws.{HonestSalvage}
 use Rattle.btr_salvage.specs.Left.{ByDecision, IsEntered, IsKept, IsLeft, IsMissing, IsTreated, NeedsLost, OfDirectory, way_up}
 use Rattle.btr_salvage.specs.Lines.{missing_line, nothing_yet, salvaged, salvaged_line, with_broken}
@@ -74,7 +74,7 @@ module _ (plan : RestorePlan) (wet : plan.dry ≡ false) (s : Super) (sums : Opt
     broken_line want = Line (missing_line (codes "broken") (Lost (addr_of want)) met.path)
 
     -- an entry came to this, and then what is in it was listed: it was left out, or something is left of it
-    pub record Outcome (p : Attempt Treated) (decision : Decision) (whole : List Step) : Type 0 where
+    pub record LeftOutcome (p : Attempt Treated) (decision : Decision) (whole : List Step) : Type 0 where
       pub to : Treated
       pub first : List Step
       pub came : Came B p first (Ok to)
@@ -86,7 +86,7 @@ module _ (plan : RestorePlan) (wet : plan.dry ≡ false) (s : Super) (sums : Opt
           ⊎ (want : Want) × NeedsLost plan s sums B C met want × (first ++ rest ≡ broken_line want ∷ [])
 
     outcome_as : (p q : Attempt Treated) (decision : Decision) (whole : List Step)
-        → ((ss : List Step) (to : Treated) → Came B p ss (Ok to) → Came B q ss (Ok to)) → Outcome p decision whole → Outcome q decision whole
+        → ((ss : List Step) (to : Treated) → Came B p ss (Ok to) → Came B q ss (Ok to)) → LeftOutcome p decision whole → LeftOutcome q decision whole
     outcome_as p q decision whole f o = record {
       to = o.to;
       first = o.first;
@@ -100,7 +100,7 @@ module _ (plan : RestorePlan) (wet : plan.dry ≡ false) (s : Super) (sums : Opt
 
     -- it is left out
     missed : (p : Attempt Treated) (want : Want) (decision : Decision) (whole : List Step) → NeedsLost plan s sums B C met want
-        → Came B p (broken_line want ∷ []) (Ok (Over (with_broken so_far))) → Outcome p decision whole
+        → Came B p (broken_line want ∷ []) (Ok (Over (with_broken so_far))) → LeftOutcome p decision whole
     missed p want decision whole lost came = record {
       to = Over (with_broken so_far);
       first = broken_line want ∷ [];
@@ -127,7 +127,7 @@ module _ (plan : RestorePlan) (wet : plan.dry ≡ false) (s : Super) (sums : Opt
           → ByDecision plan s sums B C Inside met decision w l)
           → ((n : Counts) → Did C (done_about plan s sums met n decision) ss (Ok (journey.Over (c n))))
           → Did B (done_about plan s sums met so_far.counts decision) ss (Ok (journey.Over c'))
-          → Outcome (carried_out plan s sums met so_far decision) decision whole
+          → LeftOutcome (carried_out plan s sums met so_far decision) decision whole
       kept ss c c' how there done =
           let over = ok_same (exec C (done_about plan s sums met counts decision)).ending t (journey.Over (c counts)) ends (there counts).1 in
           let is : whole ≡ done_there = all ∙ ap (λ x. done_there ++ inside_there x) over ∙ append-nil done_there in
@@ -152,7 +152,7 @@ module _ (plan : RestorePlan) (wet : plan.dry ≡ false) (s : Super) (sums : Opt
           → IsEntered plan s sums B C (Inside tree dirid met.path) met decision w l → ByDecision plan s sums B C Inside met decision w l)
           → ((n : Counts) → Did C (done_about plan s sums met n decision) es (Ok (journey.Within tree dirid (with_dir n))))
           → Did B (done_about plan s sums met so_far.counts decision) es (Ok (journey.Within tree dirid (with_dir so_far.counts)))
-          → Outcome (carried_out plan s sums met so_far decision) decision whole
+          → LeftOutcome (carried_out plan s sums met so_far decision) decision whole
       entered_into tree dirid es how there done =
           let up : Counts → Program Step Counts = λ after. row plan step.Up (Return after) in
           let went = ok_same (exec C (done_about plan s sums met counts decision)).ending t (journey.Within tree dirid (with_dir counts)) ends
@@ -211,7 +211,7 @@ module _ (plan : RestorePlan) (wet : plan.dry ≡ false) (s : Super) (sums : Opt
 
       -- they could be had in the images too: so they are put
       file_put : (plain : Bool) → (exec C puts).ending ≡ Ok plain → (exec B bytes).ending ≡ Ok tt → (exec B puts ≡ exec C puts)
-          ⊎ Loses B (exec C puts) (exec B puts) → Outcome the_file (File inode) whole
+          ⊎ Loses B (exec C puts) (exec B puts) → LeftOutcome the_file (File inode) whole
       file_put plain e h (inr m) = absurd (not_ok (exec B puts).ending m.fault m.ending
           (read_twice plan s sums B met.tree (target met) inode (came_ending B bytes (Ok tt) h).1))
       file_put plain e h (inl same) =
@@ -225,7 +225,7 @@ module _ (plan : RestorePlan) (wet : plan.dry ≡ false) (s : Super) (sums : Opt
           (λ n. written_did plan C s sums met.tree (target met) inode met.entry.name met.path n plain e) (done_same, done.1))
 
       file_by : (plain : Bool) → (exec C puts).ending ≡ Ok plain → (exec B bytes ≡ exec C bytes) ⊎ Loses B (exec C bytes) (exec B bytes)
-          → Outcome the_file (File inode) whole
+          → LeftOutcome the_file (File inode) whole
       file_by plain e (inl same) =
           file_put plain e (ap (λ (r : Run Want Fault Piece (Unit {0})). r.ending) same ∙ bytes_ended plain e) (same_or_lost B C keeps puts plain e)
       file_by plain e (inr m) =
@@ -233,7 +233,7 @@ module _ (plan : RestorePlan) (wet : plan.dry ≡ false) (s : Super) (sums : Opt
           missed the_file m.want (File inode) whole (inr (inode, comes, (m, refl)))
           (on_bytes (Err (Lost (addr_of m.want))) (broken_line m.want ∷ []) (Over (with_broken so_far)) stops (refl, refl))
 
-      file_did : Outcome the_file (File inode) whole
+      file_did : LeftOutcome the_file (File inode) whole
       file_did =
           let v = pieces_value plan C s sums met.tree (target met) inode met.entry.name met.path counts t ends in
           file_by v.0 v.1 (same_or_lost B C keeps bytes tt (bytes_ended v.0 v.1))
@@ -244,7 +244,7 @@ module _ (plan : RestorePlan) (wet : plan.dry ≡ false) (s : Super) (sums : Opt
         → (exec C (journey.listed_in plan s sums below met.path t)).ending ≡ Ok end
         → whole ≡ steps_of (exec C (done_about plan s sums met counts decision)).marks
         ++ steps_of (exec C (journey.listed_in plan s sums below met.path t)).marks
-        → Outcome (on_decision plan s sums met so_far decision) decision whole
+        → LeftOutcome (on_decision plan s sums met so_far decision) decision whole
     by_decision (Skip cause) comes t whole ends goes all =
         kept (Skip cause) t whole ends goes all (Line (skip_line (cause_text cause) met.path) ∷ []) with_skip (with_skip so_far.counts) (λ w l i. i)
         (λ n. (refl, refl)) (refl, refl)
@@ -270,7 +270,7 @@ module _ (plan : RestorePlan) (wet : plan.dry ≡ false) (s : Super) (sums : Opt
         (goes : (exec C (journey.listed_in plan s sums below met.path t)).ending ≡ Ok end)
         (all : whole ≡ steps_of (exec C (done_about plan s sums met counts decision)).marks
         ++ steps_of (exec C (journey.listed_in plan s sums below met.path t)).marks) where
-      entry_by : (exec B lookups ≡ exec C lookups) ⊎ Loses B (exec C lookups) (exec B lookups) → Outcome the_entry decision whole
+      entry_by : (exec B lookups ≡ exec C lookups) ⊎ Loses B (exec C lookups) (exec B lookups) → LeftOutcome the_entry decision whole
       entry_by (inl same) =
           outcome_as (on_decision plan s sums met so_far decision) the_entry decision whole
           (λ ss to came. on_lookup (Ok decision) ss to (ap (λ (r : Run Want Fault ⊥ Decision). r.ending) same ∙ comes) came)
@@ -280,7 +280,7 @@ module _ (plan : RestorePlan) (wet : plan.dry ≡ false) (s : Super) (sums : Opt
           (on_lookup (Err (Lost (addr_of m.want))) (broken_line m.want ∷ []) (Over (with_broken so_far)) (stops_lost B C keeps lookups decision comes m)
           (refl, refl))
 
-      pub entry_did : Outcome the_entry decision whole
+      pub entry_did : LeftOutcome the_entry decision whole
       entry_did = entry_by (same_or_lost B C keeps lookups decision comes)
 
   -- ---- an entry of a directory, and the directory

@@ -1,4 +1,3 @@
-pub mod Attempts
 mod Cycles
 mod Countless
 mod Endings

@@ -40,13 +40,13 @@ use Rattle.btr_restore.proofs.Listings.{all_of, both_all, both_none, both_then}
 use Rattle.btr_salvage.specs.declared.folder.Folder.{Folder}
 use Rattle.btr_salvage.specs.declared.folder.Found.{Found}
 use Rattle.btr_salvage.specs.declared.salvaged.Salvaged.{Salvaged}
-use Rattle.btr_salvage.specs.Attempts.{TriesTo, Tries, treat_each}
+use Rattle.btr_prog.specs.Attempts.{TriesTo, Tries, treat_each}
 use Rattle.btr_salvage.specs.Folders.{GivesFound, IsFolderOn, IsNextFound, folder_left, found_in}
 use Rattle.btr_salvage.specs.Listing.{Left, LeftOf, Listed, MetOf, TreatsMark, by_mark, last_of, meet_in}
 use Rattle.btr_salvage.specs.Running.{Ran}
 use Rattle.btr_salvage.specs.Marks.{InFolder, folder_tour}
 use Rattle.btr_salvage.specs.Salvaging.{Attempt, directory}
-use Rattle.btr_salvage.proofs.Attempts.{comes_some, comes_tried, tries_each, tried_ends}
+use Rattle.btr_prog.proofs.Attempts.{comes_some, comes_tried, tries_each, tried_ends}
 use Rattle.btr_tour.proofs.Resting.{rest_on_more}
 use Rattle.btr_salvage.proofs.Rans.{tries_as}
 

@@ -8,7 +8,7 @@ use Rattle.btr_items.specs.declared.entry.Entry.{Entry as IndexEntry}
 use Rattle.btr_items.specs.declared.fault.ItemFault.{ItemFault}
 use Rattle.btr_node.specs.declared.node.Node.{Node}
 use Rattle.btr_node.specs.declared.node.Node.TheVariants.{Leaf, Inner}
-use Rattle.btr_prog.specs.Outcomes.{Outcome, outcome, outcome_of}
+use Rattle.btr_prog.specs.Outcomes.{RunOutcome, outcome, outcome_of}
 use Rattle.btr_prog.specs.Prog.{Return, Stop, Emit, exec, bind, given, steps_of}
 use Rattle.btr_prog.specs.Thread.{go_on}
 use Rattle.btr_prog.specs.Trying.{Done, Try, Act, act_all, tried}
@@ -34,7 +34,7 @@ use Rattle.btr_listing.specs.Deciding.{met_in}
 use Rattle.btr_listing.specs.Step.{Step, Line}
 use Rattle.btr_restore.specs.Journey as journey
 use Rattle.btr_salvage.specs.declared.salvaged.Salvaged.{Salvaged}
-use Rattle.btr_salvage.specs.Attempts.{treat_each, value_then}
+use Rattle.btr_prog.specs.Attempts.{treat_each, value_then}
 use Rattle.btr_salvage.specs.Left.{InTurn, Joined, IsMissing, IsPart, IsThere, IsTreated, OfBlock, OfItem, OfListed, OfNode, treat_entry, treat_items}
 use Rattle.btr_salvage.specs.Lines.{folder_path, missing_line, with_broken}
 use Rattle.btr_salvage.specs.Marks.{folder_tour, item_in, mark_in}
@@ -86,7 +86,7 @@ module _ (C : Map) where
 
   emitted : (xs : List TreeItem) → outcome_of (exec C (emit_all xs (Return tt))) ≡ outcome xs (Ok tt)
   emitted [] = refl
-  emitted (x ∷ xs) = ap (λ (o : Outcome Fault TreeItem (Unit {0})). outcome (x ∷ o.steps) o.ending) (emitted xs)
+  emitted (x ∷ xs) = ap (λ (o : RunOutcome Fault TreeItem (Unit {0})). outcome (x ∷ o.steps) o.ending) (emitted xs)
 
 -- ---- entries
 

@@ -37,10 +37,10 @@ use Rattle.btr_restore.proofs.Emitting.{text_none}
 use Rattle.btr_restore.proofs.Goings.{if_both, if_map, if_some}
 use Rattle.btr_restore.proofs.Rans.{ran_wrote}
 use Rattle.btr_restore.proofs.Stopping.{outs_then, sinks_then}
-use Rattle.btr_salvage.specs.Attempts.{TriesTo, Tries, on_value, value_then}
+use Rattle.btr_prog.specs.Attempts.{TriesTo, Tries, on_value, value_then}
 use Rattle.btr_salvage.specs.Running.{Does, Ran}
 use Rattle.btr_salvage.specs.Salvaging.{Attempt, tries}
-use Rattle.btr_salvage.proofs.Attempts.{comes_some, tries_attempt, tries_then, tries_value}
+use Rattle.btr_prog.proofs.Attempts.{comes_some, tries_attempt, tries_then, tries_value}
 
 -- what is handed on of an answer: a value, or a program's own fault
 abbrev Hands : {A : Type 0} → Result A (Halt fate.Fault UnreadBlock) → Result A fate.Fault → Type 0

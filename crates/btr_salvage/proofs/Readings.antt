@@ -40,10 +40,10 @@ use Rattle.btr_restore.specs.Running.{Outside, world}
 use Rattle.btr_restore.proofs.Emitting.{text_none}
 use Rattle.btr_restore.proofs.Goings.{if_map, if_some}
 use Rattle.btr_restore.proofs.Listings.{all_of, both_all}
-use Rattle.btr_salvage.specs.Attempts.{Tries, ending_of}
+use Rattle.btr_prog.specs.Attempts.{Tries, ending_of}
 use Rattle.btr_salvage.specs.Reading.{LeftToRead, IsPassing, WasPassed}
 use Rattle.btr_salvage.specs.Running.{Ran, stopped}
-use Rattle.btr_salvage.proofs.Attempts.{follows_wants, tries_ending}
+use Rattle.btr_prog.proofs.Attempts.{follows_wants, tries_ending}
 
 module _ (Bs : ℕ → Map) (whole : Program Piece (Unit {0})) (kind : SumKind) where
   abbrev Whole : Run Want Fault Piece (Unit {0}) → Type 0

@@ -20,7 +20,7 @@ use Rattle.btr_volume.specs.Stops.{stop_halt}
 use Rattle.btr_restore.specs.Running.{World, outside, scene_of, world}
 use Rattle.btr_restore.proofs.Goings.{if_map}
 use Rattle.btr_restore.proofs.Storing.{broken, out_before, sink_behind}
-use Rattle.btr_salvage.specs.Attempts.{Tries}
+use Rattle.btr_prog.specs.Attempts.{Tries}
 use Rattle.btr_salvage.specs.Running.{Does, Ran}
 use Rattle.btr_salvage.specs.Salvaging.{Attempt}
 

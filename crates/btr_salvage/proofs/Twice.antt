@@ -1,6 +1,6 @@
 -- A file that could be read once can be written.
 use Rattle.std.proofs.Common.{◌≡◌, ℕ, Bool, true, false, cond, List, IsOk, Result, Ok, Err, refl, sym, ap, ◌∙◌}
-use Rattle.btr_prog.specs.Outcomes.{Outcome}
+use Rattle.btr_prog.specs.Outcomes.{RunOutcome}
 use Rattle.btr_prog.specs.Prog.{Return, Stop, Need, Emit, Run, given, exec, and_then}
 use Rattle.btr_prog.specs.Trying.{Trying, Done, gathered, tried}
 use Rattle.btr_prog.proofs.Tries.{tried-gathered, tried-then}
@@ -13,14 +13,14 @@ use Rattle.btr_files.specs.Content as piece
 use Rattle.btr_files.specs.Sums.{kind_in}
 use Rattle.btr_listing.specs.Step.{Step}
 use Rattle.btr_restore.specs.Journey.{has_no_sums, put}
-use Rattle.btr_salvage.specs.Attempts.{ending_of}
+use Rattle.btr_prog.specs.Attempts.{ending_of}
 use Rattle.btr_salvage.specs.Laws.{ReadTwice}
 
 module _ (B : Map) where
   -- how a program ends, tried
   ending_is : (p : Program Piece (Unit {0})) → (tried {S = Step} B (ending_of p)).ending ≡ Ok (exec B p).ending
   ending_is p =
-      let handed : Outcome Fault Piece (Unit {0}) → Trying Want Fault Step (Result (Unit {0}) Fault) = λ o. Done o.ending in
+      let handed : RunOutcome Fault Piece (Unit {0}) → Trying Want Fault Step (Result (Unit {0}) Fault) = λ o. Done o.ending in
       ap (λ (r : Run Want Fault Step (Result (Unit {0}) Fault)). r.ending)
       (tried-then B (gathered p) handed ∙ ap (λ r. and_then r (λ o. tried B (handed o))) (tried-gathered B p))
 

@@ -112,17 +112,17 @@ TellsMet old new before now tour tour' name result =
     TellsOf old before now (λ Is B. IsNextMet Is B old new tour tour' name result)
 
 -- a tour comes nearer to its end with all that is found
-abbrev pub MetNears : Tour → Tour → Result (Option Found) TreeFault → Type 0
-MetNears tour tour' (Ok (Some found)) = rank_of tour' < rank_of tour
-MetNears tour tour' (Ok None) = Unit {0}
-MetNears tour tour' (Err f) = Unit {0}
+abbrev pub MetRankFalls : Tour → Tour → Result (Option Found) TreeFault → Type 0
+MetRankFalls tour tour' (Ok (Some found)) = rank_of tour' < rank_of tour
+MetRankFalls tour tour' (Ok None) = Unit {0}
+MetRankFalls tour tour' (Err f) = Unit {0}
 
 -- how much is still to do, whatever the tree holds: the measure of a loop over a directory
 abbrev pub rank_of_folder : Folder → ℕ
 rank_of_folder folder = rank_left folder.rest
 
 -- a directory comes nearer to its end with all that is found
-abbrev pub FolderNears : Folder → Folder → Result (Option Found) TreeFault → Type 0
-FolderNears folder folder' (Ok (Some found)) = rank_of_folder folder' < rank_of_folder folder
-FolderNears folder folder' (Ok None) = Unit {0}
-FolderNears folder folder' (Err f) = Unit {0}
+abbrev pub FolderRankFalls : Folder → Folder → Result (Option Found) TreeFault → Type 0
+FolderRankFalls folder folder' (Ok (Some found)) = rank_of_folder folder' < rank_of_folder folder
+FolderRankFalls folder folder' (Ok None) = Unit {0}
+FolderRankFalls folder folder' (Err f) = Unit {0}

@@ -16,7 +16,7 @@ use Rattle.btr_listing.specs.Step.{Step}
 use Rattle.btr_restore.specs.Committed.{Commit, IsHonest, committed}
 use Rattle.btr_restore.specs.Journey.{listing, pieces}
 use Rattle.btr_salvage.specs.declared.salvaged.Salvaged.{Salvaged}
-use Rattle.btr_salvage.specs.Attempts.{TriesTo}
+use Rattle.btr_prog.specs.Attempts.{TriesTo}
 use Rattle.btr_salvage.specs.Left.{IsLeft}
 use Rattle.btr_salvage.specs.Salvaging.{reading, salvage_run, salvaging}
 

@@ -1,5 +1,4 @@
 pub mod Lines
-pub mod Attempts
 pub mod Marks
 pub mod Salvaging
 pub mod Damages

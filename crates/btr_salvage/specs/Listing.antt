@@ -26,7 +26,7 @@ use Rattle.btr_restore.specs.Running.{Stands, World}
 use Rattle.btr_salvage.specs.declared.folder.Folder.{Folder}
 use Rattle.btr_salvage.specs.declared.folder.Found.{Found}
 use Rattle.btr_salvage.specs.declared.salvaged.Salvaged.{Salvaged}
-use Rattle.btr_salvage.specs.Attempts.{TriesTo, treat_each}
+use Rattle.btr_prog.specs.Attempts.{TriesTo, treat_each}
 use Rattle.btr_salvage.specs.Folders.{IsFolder, IsFolderOn, folder_left, found_in}
 use Rattle.btr_salvage.specs.Marks.{InFolder, folder_tour, mark_in}
 use Rattle.btr_salvage.specs.Salvaging.{Attempt, SalvageListing, Within, directory, listed_in, meet, treat}

@@ -63,7 +63,7 @@ PassesRest file file' rack vol rack' vol' answer =
     → IsPassing whole first began rack vol file → WasPassed whole first began rack' vol' file' answer
 
 -- a file comes nearer to its end with each piece
-abbrev pub PassNears : ℕ → ℕ → Result Bool TreeFault → Type 0
-PassNears before now (Ok true) = now < before
-PassNears before now (Ok false) = Unit {0}
-PassNears before now (Err f) = Unit {0}
+abbrev pub PassRankFalls : ℕ → ℕ → Result Bool TreeFault → Type 0
+PassRankFalls before now (Ok true) = now < before
+PassRankFalls before now (Ok false) = Unit {0}
+PassRankFalls before now (Err f) = Unit {0}

@@ -16,7 +16,7 @@ use Rattle.btr_listing.specs.Step.{part}
 use Rattle.btr_restore.specs.Restoring.{Scene, Did, RestoreStopCause, SinkCounts, OutCounts}
 use Rattle.btr_volume.specs.Stops.{ended}
 use Rattle.btr_restore.specs.Running.{Outside, World, scene_of, world}
-use Rattle.btr_salvage.specs.Attempts.{Tries}
+use Rattle.btr_prog.specs.Attempts.{Tries}
 use Rattle.btr_salvage.specs.Salvaging.{Attempt}
 
 -- what was done and answered follows a run of a program that tries its wants

@@ -22,7 +22,7 @@ use Rattle.btr_listing.specs.Step.{Step, Start, Up, Line}
 use Rattle.btr_restore.specs.Journey.{done_about, has_no_sums, most_depth, row, rules_of}
 use Rattle.btr_restore.specs.Journey as journey
 use Rattle.btr_salvage.specs.declared.salvaged.Salvaged.{Salvaged}
-use Rattle.btr_salvage.specs.Attempts.{tried_run, value_then, ending_of, treat_each}
+use Rattle.btr_prog.specs.Attempts.{tried_run, value_then, ending_of, treat_each}
 use Rattle.btr_salvage.specs.Marks.{InFolder, Passing, Entry, Part, folder_tour, mark_in}
 use Rattle.btr_salvage.specs.Lines.{folder_path, missing_line, nothing_yet, salvaged, salvaged_line, with_broken}
 

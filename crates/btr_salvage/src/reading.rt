@@ -3,7 +3,7 @@ ghost use Rattle.std.specs.Prelude.{◌≤◌};
 ghost use Rattle.btr_read.specs.Store.{SameLoans, free_count};
 ghost use Rattle.btr_files.specs.Streaming.{bytes_left, IsReading, without_file};
 ghost use Rattle.btr_volume.specs.Readable.{CanRead};
-ghost use Rattle.btr_salvage.specs.Reading.{PassesNext, PassesRest, PassNears};
+ghost use Rattle.btr_salvage.specs.Reading.{PassesNext, PassesRest, PassRankFalls};
 ghost use Rattle.btr_salvage.specs.Running.{ReadFor};
 ghost use Rattle.btr_salvage.specs.Treating.{reading_for};
 
@@ -25,7 +25,7 @@ fn pass_next<R: Rack>(
     ensures passes { PassesNext file.old file.new (R.seen rack.old) vol.old (R.seen rack.new) vol.new result }
     ensures ready { IsReading (R.seen rack.new) vol.new.store file.new }
     ensures room { SameLoans (without_file vol.old.store file.old) (without_file vol.new.store file.new) }
-    ensures nears { PassNears (bytes_left file.old) (bytes_left file.new) result }
+    ensures nears { PassRankFalls (bytes_left file.old) (bytes_left file.new) result }
 {
     match next_piece(vol, file, rack)? {
         None => Ok(false),

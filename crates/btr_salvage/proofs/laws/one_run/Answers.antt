@@ -1,5 +1,5 @@
 use Rattle.btr_salvage.specs.Salvaging.{salvaging}
-use Rattle.btr_salvage.proofs.Attempts.{tries_one}
+use Rattle.btr_prog.proofs.Attempts.{tries_one}
 use Rattle.btr_salvage.proofs.laws.one_run.Goals as goal
 
 pub returns : goal.returns

@@ -11,9 +11,9 @@ use Rattle.btr_restore.proofs.Cycles.{deep_is, room_above, room_below, room_left
 use Rattle.btr_volume.proofs.Onward.{reads_on}
 use Rattle.btr_salvage.specs.declared.folder.Found.{Found}
 use Rattle.btr_salvage.specs.declared.salvaged.Salvaged.{Salvaged}
-use Rattle.btr_salvage.specs.Attempts.{treat_each}
+use Rattle.btr_prog.specs.Attempts.{treat_each}
 use Rattle.btr_salvage.specs.Damages.{fault_by}
-use Rattle.btr_salvage.specs.Folders.{FolderNears, found_in}
+use Rattle.btr_salvage.specs.Folders.{FolderRankFalls, found_in}
 use Rattle.btr_salvage.specs.Listing.{by_mark, listing_in, meet_in}
 use Rattle.btr_salvage.specs.Running.{Ran}
 use Rattle.btr_salvage.specs.Marks.{folder_tour}
@@ -116,7 +116,7 @@ list-list_found-requires g t c κs within = (
 )
 
 pub list-loop-fault-smaller : goal.list-loop-fault-smaller
-list-loop-fault-smaller g t c = subst (λ (r : Option Found). FolderNears c.loop-fault.here.folder c.next.new.self (Ok r)) c.in-Ok-Some.field-0-is
+list-loop-fault-smaller g t c = subst (λ (r : Option Found). FolderRankFalls c.loop-fault.here.folder c.next.new.self (Ok r)) c.in-Ok-Some.field-0-is
     c.in-Ok-Some.ensures.nears
 
 pub list-loop-fault-preserved : goal.list-loop-fault-preserved

@@ -7,7 +7,7 @@ use Rattle.btr_restore.specs.Journey.{row}
 use Rattle.btr_restore.specs.Ends.{world_of}
 use Rattle.btr_restore.specs.Running.{outside, world}
 use Rattle.btr_salvage.specs.declared.salvaged.Salvaged.{Salvaged}
-use Rattle.btr_salvage.specs.Attempts.{value_then}
+use Rattle.btr_prog.specs.Attempts.{value_then}
 use Rattle.btr_salvage.specs.Lines.{nothing_yet}
 use Rattle.btr_salvage.specs.Running.{Ran}
 use Rattle.btr_salvage.specs.Salvaging.{directory, summed_up}

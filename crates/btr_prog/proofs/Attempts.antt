@@ -4,16 +4,13 @@ use Rattle.btr_prog.specs.Prog.{BlockMap, Prog, Return, Stop, Need, Emit, Mark, 
 use Rattle.btr_prog.specs.Prog.{want_marks}
 use Rattle.btr_prog.specs.Answers.{Halt, Fault, Unread, Broke, Breaks, Follows, Names, no_part}
 use Rattle.btr_prog.specs.Goes.{goes_given, AfterTo, GoesTo, GoOnTo, ThreadsTo}
-use Rattle.btr_prog.specs.Outcomes.{Outcome, outcome, outcome_of}
+use Rattle.btr_prog.specs.Outcomes.{RunOutcome, outcome, outcome_of}
 use Rattle.btr_prog.specs.Trying.{Trying, Done, Try, Act, tried, try_then, by_fate, attempt, gathered}
 use Rattle.btr_prog.proofs.Runs.{wants_of-append}
 use Rattle.btr_prog.proofs.Tries.{steps_of-marks, wants_of-marks, want_marks-append}
-use Rattle.btr_salvage.specs.Attempts.{ComesTo, TriesTo, came_of, on_value, tried_run, value_then, ending_of, treat_each}
+use Rattle.btr_prog.specs.Attempts.{ComesTo, TriesTo, came_of, on_value, tried_run, value_then, ending_of, treat_each}
 
 module _ {W F S I : Type 0} (Bs : I → BlockMap W F) where
-  abbrev Comes : {X : Type 0} → Trying W F S X → List (Mark W S) → X → Type 0
-  Comes p ms x = ComesTo Bs p ms x
-
   -- one after another
   pub comes_then : {A C : Type 0} (p : Trying W F S A) (k : A → Trying W F S C) (ms ns : List (Mark W S)) (a : A) (c : C) → ComesTo Bs p ms a
       → ComesTo Bs (k a) ns c → ComesTo Bs (try_then p k) (ms ++ ns) c
@@ -103,7 +100,7 @@ module _ {W F T I : Type 0} (S : Type 0) (Bs : I → BlockMap W F) where
       )
   comes_gathered (Emit t p) r g =
       let q = g.0 in
-      let more : Outcome F T _ → Trying W F S (Outcome F T _) = λ o. Done (outcome (t ∷ o.steps) o.ending) in
+      let more : RunOutcome F T _ → Trying W F S (RunOutcome F T _) = λ o. Done (outcome (t ∷ o.steps) o.ending) in
       let both = comes_then Bs (gathered p) more (wants_in q) [] (outcome_of q) (outcome (t ∷ steps_of q.marks) q.ending) (comes_gathered p q g.2)
       (refl, refl) in
       subst (λ x. ComesTo Bs (try_then (gathered p) more) (wants_in x) (outcome_of x)) (sym g.1)
