@@ -51,7 +51,8 @@ module _ (images : Images) (t : Target) where
 
   -- ---- the candidate at a place in the order
 
-  module _ (n k m : ℕ) (has : mirrors t.chunk ≡ Some n) (lt : k < n) (at : IsWayAt k m t) (standing : stands t (Read (Mirror m)) ≡ true) (so_far : passing_of images t (take k (candidates t)) ≡ []) where
+  module _ (n k m : ℕ) (has : mirrors t.chunk ≡ Some n) (lt : k < n) (at : IsWayAt k m t) (standing : stands t (Read (Mirror m)) ≡ true)
+      (so_far : passing_of images t (take k (candidates t)) ≡ []) where
     copy_is : slice_get (candidates t) k ≡ Some (Read (Mirror m))
     copy_is = (copy_in_order t n k m has lt at).1
 
@@ -59,7 +60,11 @@ module _ (images : Images) (t : Target) where
     first_differs test = none_then images t k (Read (Mirror m)) copy_is (slice_get_within (candidates t) k (Read (Mirror m)) copy_is) standing so_far test
 
     pub first_passes : good m ≡ true → IsFirst images t m
-    first_passes test = record { good = test; accepts = first_then images t k (Read (Mirror m)) copy_is (slice_get_within (candidates t) k (Read (Mirror m)) copy_is) standing so_far test }
+    first_passes test = record {
+      good = test;
+      accepts = first_then images t k (Read (Mirror m)) copy_is
+          (slice_get_within (candidates t) k (Read (Mirror m)) copy_is) standing so_far test;
+    }
 
   -- ---- of n copies, which all stand
 
@@ -104,18 +109,21 @@ module _ (images : Images) (t : Target) where
     bad_count flags count are = are.count ∙ ap length (sym bad_are)
 
     -- what is counted where a copy passes and it is only read
-    pub counted_read : (m : ℕ) (flags : List Bool) (count : ℕ) → m < n → IsFirst images t m → AreBad images t n flags count → record { bad = count; repaired = 0; lost = false } ≡ mended_of images t false
+    pub counted_read : (m : ℕ) (flags : List Bool) (count : ℕ) → m < n → IsFirst images t m → AreBad images t n flags count
+        → record { bad = count; repaired = 0; lost = false } ≡ mended_of images t false
     counted_read m flags count lt first are =
         ap (λ c. record { bad = c; repaired = 0; lost = false }) (bad_count flags count are)
         ∙ ap (λ l. record { bad = length (bad_parts images t); repaired = 0; lost = l }) (sym (ap is_none first.accepts))
 
     -- what is counted where a copy passes and the bad ones are written
-    pub counted_write : (m : ℕ) (flags : List Bool) (count : ℕ) → m < n → IsFirst images t m → AreBad images t n flags count → record { bad = count; repaired = count; lost = false } ≡ mended_of images t true
+    pub counted_write : (m : ℕ) (flags : List Bool) (count : ℕ) → m < n → IsFirst images t m → AreBad images t n flags count
+        → record { bad = count; repaired = count; lost = false } ≡ mended_of images t true
     counted_write m flags count lt first are =
         let number = bad_count flags count are in
         let writes : length (block_writes images t) ≡ length (bad_parts images t) =
         ap (λ o. length (option_map_or (λ b. copy_writes t b (bad_parts images t)) o [])) first.accepts
-        ∙ ap (λ ps. length (copy_writes t (element images t (Mirror m)) ps)) bad_are ∙ all_written t bad (element images t (Mirror m)) 0 n all_stand ∙ ap length (sym bad_are) in
+        ∙ ap (λ ps. length (copy_writes t (element images t (Mirror m)) ps)) bad_are ∙ all_written t bad (element images t (Mirror m)) 0 n all_stand
+        ∙ ap length (sym bad_are) in
         ap (λ c. record { bad = c; repaired = c; lost = false }) number
         ∙ ap (λ r. record { bad = length (bad_parts images t); repaired = r; lost = false }) (sym writes)
         ∙ ap (λ l. record { bad = length (bad_parts images t); repaired = length (block_writes images t); lost = l }) (sym (ap is_none first.accepts))
@@ -133,4 +141,5 @@ module _ (images : Images) (t : Target) where
     counted_lost write h =
         ap (λ c. record { bad = c; repaired = 0; lost = true }) (sym (ap length bad_are ∙ all_bad 0 n (λ k l u. none_sound h k (omega (arith, u)))))
         ∙ ap (λ ws. record { bad = length (bad_parts images t); repaired = length ws; lost = true }) (none_written write h)
-        ∙ ap (λ l. record { bad = length (bad_parts images t); repaired = length (writes_if write (block_writes images t)); lost = l }) (sym (ap is_none (accepts_none h)))
+        ∙ ap (λ l. record { bad = length (bad_parts images t); repaired = length (writes_if write (block_writes images t)); lost = l })
+        (sym (ap is_none (accepts_none h)))

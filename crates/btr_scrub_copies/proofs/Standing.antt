@@ -66,7 +66,8 @@ placed slots layout w t m place are e at =
       len = sym len ∙ ap (λ s. want.len_of s t.want) is.setting_is ∙ ap (want.len_of layout.setting) is.want_is;
     }
 
-module _ (t : Target) (m : ℕ) (bytes : List ℕ) (place : Range) (marks : List Bool) (a b : Seen) (at : range_of t (Mirror m) ≡ Some place) (has : HasMirror m t) (len : place.len ≡ length bytes) (below : place.slot < length marks) where
+module _ (t : Target) (m : ℕ) (bytes : List ℕ) (place : Range) (marks : List Bool) (a b : Seen) (at : range_of t (Mirror m) ≡ Some place)
+    (has : HasMirror m t) (len : place.len ≡ length bytes) (below : place.slot < length marks) where
   abbrev the_write : Write
   the_write = record { range = place; bytes = bytes }
 
@@ -84,7 +85,8 @@ module _ (t : Target) (m : ℕ) (bytes : List ℕ) (place : Range) (marks : List
   of_copy = record {
     mirror = m;
     has = has;
-    lies = subst (λ o. Any (LiesIn place) (cons_option o [])) (sym at) (0, place, omega arith, refl, record { slot = refl; from = omega arith; to = omega arith });
+    lies = subst (λ o. Any (LiesIn place) (cons_option o [])) (sym at)
+        (0, place, omega arith, refl, record { slot = refl; from = omega arith; to = omega arith });
   }
 
   marked : Marks (place ∷ []) marks (set marks place.slot true)
@@ -111,7 +113,8 @@ module _ (t : Target) (m : ℕ) (bytes : List ℕ) (place : Range) (marks : List
         → LeaveImages {A = A} {E = MendFault} (λ i. the_write ∷ []) held left (Err e)
     leaves_err None left x e h = h
     leaves_err (Some images) left x e h =
-        subst (λ o. IsSomeAnd o (IsStopped (the_write ∷ []) images)) (sym h.2) (record { before = []; behind = the_write ∷ []; place = refl; stands = inr (h.0, h.1, refl) })
+        subst (λ o. IsSomeAnd o (IsStopped (the_write ∷ []) images)) (sym h.2)
+        (record { before = []; behind = the_write ∷ []; place = refl; stands = inr (h.0, h.1, refl) })
 
     module _ (unsyncs : Unsyncs (range_in place.slot place.off (length bytes)) a b) where
       same_place : b ≡ record a { held = b.held; unsynced = a.unsynced ++ place ∷ []; account = b.account }
@@ -133,20 +136,21 @@ module _ (t : Target) (m : ℕ) (bytes : List ℕ) (place : Range) (marks : List
       pub wrote_not : Writes {T = Unit {0}} place.slot place.off bytes a.held b.held (Err error.Failed)
           → Accounts {T = Unit {0}} (range_in place.slot place.off (length bytes)) a.account b.account (Err error.Failed) → a.sure ≡ false
           → Overwrites {A = A} t bytes (Mirror m ∷ []) marks (set marks place.slot true) a b (Err (Image place.slot))
-      wrote_not held account unsure = subst (λ ws. Does {A = A} (IsOfCopy t) (λ i. ws) marks (set marks place.slot true) a b (Err (Image place.slot))) (sym one_write) (record {
-        ranges = place ∷ [];
-        only = record { same = same_place; later = account.0.faults.0; same_shut = account.2 };
-        own = own_one a.held;
-        lie = own_lies;
-        marked = marked;
-        held = leaves_err a.held b.held error.Failed (Image place.slot) held;
-        account = record {
-          place = range_in place.slot place.off (length bytes);
-          failed = record { one = account.0; read = account.1; shut = account.2; unsure = unsure };
-          on_slot = refl;
-          lies = subst (IsOfCopy t) (sym is_range) of_copy;
-        };
-      })
+      wrote_not held account unsure =
+          subst (λ ws. Does {A = A} (IsOfCopy t) (λ i. ws) marks (set marks place.slot true) a b (Err (Image place.slot))) (sym one_write) (record {
+            ranges = place ∷ [];
+            only = record { same = same_place; later = account.0.faults.0; same_shut = account.2 };
+            own = own_one a.held;
+            lie = own_lies;
+            marked = marked;
+            held = leaves_err a.held b.held error.Failed (Image place.slot) held;
+            account = record {
+              place = range_in place.slot place.off (length bytes);
+              failed = record { one = account.0; read = account.1; shut = account.2; unsure = unsure };
+              on_slot = refl;
+              lies = subst (IsOfCopy t) (sym is_range) of_copy;
+            };
+          })
 
       pub wrote_memory : Writes {T = Unit {0}} place.slot place.off bytes a.held b.held (Err error.Memory)
           → Accounts {T = Unit {0}} (range_in place.slot place.off (length bytes)) a.account b.account (Err error.Memory)

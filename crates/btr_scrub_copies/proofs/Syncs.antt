@@ -124,7 +124,8 @@ waits_behind marks now n m a b c Memory h w = absurd w
 account_behind : {A : Type 0} (a b c : Seen) (r : Result A MendFault) → b.sure ≡ a.sure → NoneFailed a.account b.account → AccountsMend IsSync b c r
     → AccountsMend IsSync a c r
 account_behind a b c (Ok x) sure none h = none_more a.account b.account c.account none h
-account_behind a b c (Err (Image slot)) sure none h = record { place = h.place; failed = one_after h.place a b c sure none h.failed; on_slot = h.on_slot; lies = h.lies }
+account_behind a b c (Err (Image slot)) sure none h =
+    record { place = h.place; failed = one_after h.place a b c sure none h.failed; on_slot = h.on_slot; lies = h.lies }
 account_behind a b c (Err Memory) sure none h = none_more a.account b.account c.account none h
 
 pub sync_account : {A : Type 0} (marks now : List Bool) (n : ℕ) (a b c : Seen) (r : Result A MendFault) → SyncedSoFar marks now n a b

@@ -51,7 +51,8 @@ CountsMended held count (Err fault) = Unit {0}
 
 -- A block was read, and written by its copies: exactly these writes, or those up to one that failed. What was written is
 -- marked by its slot. Where it was only to be read, it was.
-pub record Repairs (t : Target) (write : Bool) (writes : Images → List Write) (count : Images → Mended) (marks marks' : List Bool) (old new : Seen) (result : Result Mended MendFault) : Type 0 where
+pub record Repairs (t : Target) (write : Bool) (writes : Images → List Write) (count : Images → Mended) (marks marks' : List Bool) (old new : Seen)
+    (result : Result Mended MendFault) : Type 0 where
   pub does : Does (IsOfCopy t) (λ images. writes_if write (writes images)) marks marks' old new result
   pub counts : CountsMended old.held count result
   pub unwritten : write ≡ false → OnlyReads old new

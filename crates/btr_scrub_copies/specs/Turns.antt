@@ -29,7 +29,8 @@ pub record WaitsInTurn (first second : List Write) (images : Images) (old new : 
 
 -- Images were written in two turns, and the marked ones synced between them where there is something to write in both:
 -- exactly those writes, or those up to a call that failed. Where all that waited was marked, it is.
-pub record TakesTurns {A : Type 0} (P : Range → Type 0) (first second : List Write) (marks marks' : List Bool) (old new : Seen) (result : Result A MendFault) : Type 0 where
+pub record TakesTurns {A : Type 0} (P : Range → Type 0) (first second : List Write) (marks marks' : List Bool) (old new : Seen)
+    (result : Result A MendFault) : Type 0 where
   pub does : Does (IsSyncOr P) (λ images. first ++ second) [] [] (plain old) (plain new) result
   pub waits : IfSome old.held (λ images. WaitsInTurn first second images old new)
   pub lie : WaitsAt P old new

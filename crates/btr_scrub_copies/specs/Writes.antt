@@ -1,5 +1,6 @@
 -- Writes to the images, and what is left where one of them fails.
-use Rattle.std.specs.Prelude.{◌≡◌, ◌⊎◌, ℕ, ◌≤◌, Bool, true, false, List, [], ◌∷◌, ◌++◌, length, map, fold, slice_index_or, All, Option, Some, None, IfSome, IsSomeAnd, Result, Ok, Err, if◌then◌else◌}
+use Rattle.std.specs.Prelude.{◌≡◌, ◌⊎◌, ℕ, ◌≤◌, Bool, true, false, List, [], ◌∷◌, ◌++◌, length, map, fold, slice_index_or, All, Option, Some, None}
+use Rattle.std.specs.Prelude.{IfSome, IsSomeAnd, Result, Ok, Err, if◌then◌else◌}
 use Rattle.btr_rack.specs.Rack.{NoneFailed, Seen, Slot, written}
 use Rattle.btr_rack.specs.declared.place.Place.{Place as Range}
 use Rattle.btr_read.specs.Cause.{ReadFailed}
@@ -89,7 +90,8 @@ AccountsMend P old new (Err Memory) = NoneFailed old.account new.account
 
 -- Images were read and written: exactly the writes that follow from what they held, or those up to one that failed.
 -- Ranges of these writes, at places of which P holds, wait for a sync, and are marked by their slots.
-pub record Does {A : Type 0} (P : Range → Type 0) (writes : Images → List Write) (marks marks' : List Bool) (old new : Seen) (result : Result A MendFault) : Type 0 where
+pub record Does {A : Type 0} (P : Range → Type 0) (writes : Images → List Write) (marks marks' : List Bool) (old new : Seen)
+    (result : Result A MendFault) : Type 0 where
   pub ranges : List Range
   pub only : OnlyWrites ranges old new
   pub own : IfSome old.held (λ images. AreAmong ranges (ranges_of (writes images)))

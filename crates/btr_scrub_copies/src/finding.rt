@@ -12,6 +12,7 @@ ghost use Rattle.btr_scrub_copies.specs.Blocks.{is_sound};
 ghost use Rattle.btr_scrub_copies.specs.Mending.{AccountsCopies, AreBad, FindsFirst, HasFirst, InTold, IsCopied, LendsFirst};
 
 use crate::MendFault;
+use crate::comparing::same_bytes;
 use btr_rack::Rack;
 use btr_read::{Loan, Store, Tried, TryFault, Want, try_mirror, way_at};
 
@@ -85,7 +86,7 @@ fn is_sound<R: Rack>(
         Ok(Tried::Passed(copy)) => {
             let bytes = store.bytes(&copy);
             let accepted = store.bytes(&first.loan);
-            let same = bytes == accepted;
+            let same = same_bytes(bytes, accepted);
             store.give(copy);
             Ok(same)
         }

@@ -12,6 +12,7 @@
 //! `specs/Syncing.antt` what waits behind syncs, and `specs/Turns.antt` what writes with a sync between them leave wherever they are stopped.
 #![tactic(auto)]
 
+mod comparing;
 mod copies;
 mod doubts;
 mod finding;
@@ -24,6 +25,7 @@ mod syncing;
 #[cfg(test)]
 mod tests;
 
+pub use comparing::same_bytes;
 pub use doubts::{is_behind, is_doubtful};
 pub use freshening::mend_plain;
 pub use mended::{MendFault, Mended};

@@ -39,7 +39,8 @@ loop-mirror-preserved g c =
       few = omega (arith, c.counted-count.ensures, cond_few bad, inv.few);
       bad = λ t images e told.
           let is = c.in_ok-bad.ensures.bad t images (sought_as ∙ e) (same_held inv.reads ∙ told) in
-          one_flag_more (λ part. not (is_sound images t part)) m flags (set flags m bad) c.loop-mirror.count c.counted-count.result (inv.bad t images e told) (ap (set flags m) is)
+          one_flag_more (λ part. not (is_sound images t part)) m flags (set flags m bad) c.loop-mirror.count c.counted-count.result
+          (inv.bad t images e told) (ap (set flags m) is)
           (omega (arith, inv.long, c.loop-mirror-test.true, c.requires.few)) (c.counted-count.ensures ∙ ap (λ v. c.loop-mirror.count + cond v 1 0) is);
       account = none_more a.account b.account d.account inv.account
           (c.in_ok-bad.ensures.account c.requires.copied.target (sought_as ∙ c.requires.copied.is_sought));

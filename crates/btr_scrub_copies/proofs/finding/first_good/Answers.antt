@@ -27,9 +27,11 @@ loop-k-preserved g c =
     let m = c.way_at-mirror.result in
     let copied = c.requires.copied in
     let sought_now = ap (λ l. sought l c.args.want.now) layout ∙ copied.is_sought in
-    let account = at_target (λ t. AccountsTried t (mirror_candidate m) b d (Ok Differs)) (sought c.loop-k.store.layout c.args.want.now) copied.target sought_now c.in-Ok-Differs.ensures.account in
+    let account = at_target (λ t. AccountsTried t (mirror_candidate m) b d (Ok Differs))
+    (sought c.loop-k.store.layout c.args.want.now) copied.target sought_now c.in-Ok-Differs.ensures.account in
     let layout_now = c.loop-k.store.layout in
-    let answer = subst (λ v. IfOk (sought layout_now c.args.want.now) (λ t. FitsTried t (mirror_candidate m) b.held c.try_mirror.new.store (Ok v))) c.in-Ok-Differs.field-0-is c.in-Ok-Differs.ensures.answer in
+    let answer = subst (λ v. IfOk (sought layout_now c.args.want.now) (λ t. FitsTried t (mirror_candidate m) b.held c.try_mirror.new.store (Ok v)))
+    c.in-Ok-Differs.field-0-is c.in-Ok-Differs.ensures.answer in
     let lent = subst (λ v. LendsTried c.args.want.now c.loop-k.store c.try_mirror.new.store (Ok v)) c.in-Ok-Differs.field-0-is c.in-Ok-Differs.ensures.lent in
     record {
       serves = c.try_mirror.ensures.serves;
@@ -37,7 +39,8 @@ loop-k-preserved g c =
       same = same_loans_then c.args.store.now c.loop-k.store c.try_mirror.new.store c.loop-k.invariant.same lent;
       none = λ t images e told.
           let seeks = ap (λ l. sought l c.args.want.now) layout ∙ e in
-          let fits = at_target (λ t. FitsTried t (mirror_candidate m) b.held c.try_mirror.new.store (Ok Differs)) (sought layout_now c.args.want.now) t seeks answer in
+          let fits = at_target (λ t. FitsTried t (mirror_candidate m) b.held c.try_mirror.new.store (Ok Differs))
+          (sought layout_now c.args.want.now) t seeks answer in
           let at = at_target (IsWayAt c.loop-k.k m) (sought layout_now c.args.want.now) t seeks c.way_at-mirror.ensures in
           first_differs images t c.args.copies c.loop-k.k m (c.requires.copies t e) c.loop-k-test.true at fits.0 (c.loop-k.invariant.none t images e told)
           (differs_bad t m images b.held (same_held c.loop-k.invariant.reads ∙ told) fits.1);
@@ -64,7 +67,8 @@ returns-in-Ok-Passed-clause-found g c t images e told =
     let b = g.R.Rack.seen c.loop-k.rack in
     let loan = c.in-Ok-Passed.loan in
     let seeks = ap (λ l. sought l want) c.loop-k.invariant.same.layout ∙ e in
-    let answer = subst (λ v. IfOk (sought store.layout want) (λ t. FitsTried t (mirror_candidate m) b.held c.try_mirror.new.store (Ok v))) c.in-Ok-Passed.field-0-is c.in-Ok-Passed.ensures.answer in
+    let answer = subst (λ v. IfOk (sought store.layout want) (λ t. FitsTried t (mirror_candidate m) b.held c.try_mirror.new.store (Ok v)))
+    c.in-Ok-Passed.field-0-is c.in-Ok-Passed.ensures.answer in
     let fits = at_target (λ t. FitsTried t (mirror_candidate m) b.held c.try_mirror.new.store (Ok (Passed loan))) (sought store.layout want) t seeks answer in
     let good = passed_good t m images b.held (same_held c.loop-k.invariant.reads ∙ told) c.try_mirror.new.store loan fits.1 in
     let at = at_target (IsWayAt c.loop-k.k m) (sought store.layout want) t seeks c.way_at-mirror.ensures in (
@@ -94,7 +98,8 @@ unreachable-requires g c =
     let seeks = ap (λ l. sought l want) c.loop-k.invariant.same.layout ∙ c.requires.copied.is_sought in
     let at = at_target (IsWayAt c.loop-k.k m) (sought store.layout want) t seeks c.way_at-mirror.ensures in
     let place = copy_in_order t c.args.copies c.loop-k.k m has c.loop-k-test.true at in
-    let answer = subst (λ v. IfOk (sought store.layout want) (λ t. FitsTried t (mirror_candidate m) b.held c.try_mirror.new.store (Ok v))) c.in-Ok-Absent.field-0-is c.in-Ok-Absent.ensures.answer in
+    let answer = subst (λ v. IfOk (sought store.layout want) (λ t. FitsTried t (mirror_candidate m) b.held c.try_mirror.new.store (Ok v)))
+    c.in-Ok-Absent.field-0-is c.in-Ok-Absent.ensures.answer in
     let absent = at_target (λ t. FitsTried t (mirror_candidate m) b.held c.try_mirror.new.store (Ok Absent)) (sought store.layout want) t seeks answer in
     not_absent t m (copy_stands c.args.store.now.layout want t m c.requires.copied c.requires.copied.is_sought
     (has_mirror t c.args.copies m has place.0)) absent
@@ -116,7 +121,8 @@ returns-in-Err-Failed-clause-account g c t e =
     let place = copy_in_order t c.args.copies c.loop-k.k m has c.loop-k-test.true at in
     let fault = the_slot c.in-Err-Failed.field-0 in
     let is : c.in-Err-Failed.field-0 ≡ Failed fault.0 = fault.1 in
-    let account = at_target (λ t. AccountsTried t (mirror_candidate m) b d (Err c.in-Err-Failed.field-0)) (sought store.layout want) t seeks c.in-Err-Failed.ensures.account in
+    let account = at_target (λ t. AccountsTried t (mirror_candidate m) b d (Err c.in-Err-Failed.field-0))
+    (sought store.layout want) t seeks c.in-Err-Failed.ensures.account in
     let missed = subst (λ (f : TryFault). AccountsTried t (mirror_candidate m) b d (Err f)) is account in
     rw is (fails_after (IsOfCopy t) fault.0 a b d (same_sure c.loop-k.invariant.reads) c.loop-k.invariant.account
     (missed_fails t m fault.0 b d (has_mirror t c.args.copies m has place.0) missed))
@@ -124,5 +130,6 @@ returns-in-Err-Failed-clause-account g c t e =
 pub returns-clause-found : goal.returns-clause-found
 returns-clause-found g c t images e told =
     let has = c.requires.copies t e in
-    let le : length (candidates t) ≤ c.loop-k.k = omega (arith, c.loop-k-test.false, length-candidates t ∙ ap length (with_copies t c.args.copies has) ∙ length-copies c.args.copies) in
+    let le : length (candidates t) ≤ c.loop-k.k =
+    omega (arith, c.loop-k-test.false, length-candidates t ∙ ap length (with_copies t c.args.copies has) ∙ length-copies c.args.copies) in
     none_of_all images t c.loop-k.k le (c.loop-k.invariant.none t images e told)

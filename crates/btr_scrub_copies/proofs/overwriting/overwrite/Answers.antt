@@ -10,21 +10,24 @@ pub bounds-marks-place : goal.bounds-marks-place
 bounds-marks-place g c =
     let slots = (g.R.Rack.seen c.args.rack.now).slots in
     let t = c.requires.copied.target in
-    let is = placed slots c.args.store.now.layout c.args.want.now t c.args.mirror c.place_of_copy-place.result c.requires.open c.requires.copied.is_sought (c.place_of_copy-place.ensures t c.requires.copied.is_sought) in
+    let is = placed slots c.args.store.now.layout c.args.want.now t c.args.mirror c.place_of_copy-place.result c.requires.open c.requires.copied.is_sought
+    (c.place_of_copy-place.ensures t c.requires.copied.is_sought) in
     omega (arith, is.slot, c.requires.slots)
 
 pub write_at-requires-clause-open : goal.write_at-requires-clause-open
 write_at-requires-clause-open g c =
     let slots = (g.R.Rack.seen c.args.rack.now).slots in
     let t = c.requires.copied.target in
-    let is = placed slots c.args.store.now.layout c.args.want.now t c.args.mirror c.place_of_copy-place.result c.requires.open c.requires.copied.is_sought (c.place_of_copy-place.ensures t c.requires.copied.is_sought) in
+    let is = placed slots c.args.store.now.layout c.args.want.now t c.args.mirror c.place_of_copy-place.result c.requires.open c.requires.copied.is_sought
+    (c.place_of_copy-place.ensures t c.requires.copied.is_sought) in
     is.slot
 
 pub write_at-requires-clause-range : goal.write_at-requires-clause-range
 write_at-requires-clause-range g c =
     let slots = (g.R.Rack.seen c.args.rack.now).slots in
     let t = c.requires.copied.target in
-    let is = placed slots c.args.store.now.layout c.args.want.now t c.args.mirror c.place_of_copy-place.result c.requires.open c.requires.copied.is_sought (c.place_of_copy-place.ensures t c.requires.copied.is_sought) in
+    let is = placed slots c.args.store.now.layout c.args.want.now t c.args.mirror c.place_of_copy-place.result c.requires.open c.requires.copied.is_sought
+    (c.place_of_copy-place.ensures t c.requires.copied.is_sought) in
     omega (arith, is.within, is.len, c.bytes-bytes.ensures.len, c.requires.len)
 
 pub returns-in-Ok-clause-writes : goal.returns-in-Ok-clause-writes

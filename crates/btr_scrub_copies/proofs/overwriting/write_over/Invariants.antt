@@ -9,5 +9,6 @@ abbrev pub invariant-loop-mirror : goal.invariant-loop-mirror
 invariant-loop-mirror g l = record {
   slots : (g.R.Rack.seen l.rack).slots ≡ (g.R.Rack.seen l.initial.rack).slots;
   done : (t : Target) (bytes : List ℕ) → sought l.store.layout l.want ≡ Ok t → block_of l.store l.loan ≡ Some bytes
-      → Overwrites {A = Unit {0}} t bytes (flagged_copies l.bad.flags l.mirror) l.initial.marks l.marks (g.R.Rack.seen l.initial.rack) (g.R.Rack.seen l.rack) (Ok tt);
+      → Overwrites {A = Unit {0}} t bytes (flagged_copies l.bad.flags l.mirror) l.initial.marks l.marks (g.R.Rack.seen l.initial.rack)
+      (g.R.Rack.seen l.rack) (Ok tt);
 }

@@ -20,7 +20,8 @@ loop-mirror-preserved c k below =
     let device = c.in-Some-device.device in
     let P : StripePlace → Type 0 = λ p. IsSome (range_on p.offset (size_of t) (device_in layout.devices p.devid)) in
     let le : place.offset + size_of t ≤ device.len = omega (arith, c.requires, c.if-place-device.false, c.if-len-device.false) in
-    let here = subst P c.place_of-place.ensures (stands_on place.offset (size_of t) (device_in layout.devices place.devid) device (sym c.device.ensures ∙ c.in-Some-device.is) le) in
+    let here = subst P c.place_of-place.ensures (stands_on place.offset (size_of t) (device_in layout.devices place.devid) device
+    (sym c.device.ensures ∙ c.in-Some-device.is) le) in
     elim (cases_lt k m) [
       | inl before ↦ c.loop-mirror.invariant k before
       | inr after ↦ let same : m ≡ k = omega (arith, below, after) in subst (λ j. IsSome (range_of t (Mirror j))) same here
