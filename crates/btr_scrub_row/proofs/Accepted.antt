@@ -85,7 +85,8 @@ own_good good own way same zero = by (eqb way 0) refl
 
 -- ---- standing candidates
 
-module _ (t : Target) (parity : mirrors t.chunk ≡ None) (stand : (part : Part) → HasPart t.chunk.profile (length t.chunk.stripes) part → IsSome (range_of t part)) where
+module _ (t : Target) (parity : mirrors t.chunk ≡ None) (stand : (part : Part) → HasPart t.chunk.profile (length t.chunk.stripes) part
+    → IsSome (range_of t part)) where
   none : IsNone (mirrors t.chunk)
   none = subst IsNone (sym parity) refl
 
@@ -203,4 +204,8 @@ module _ (t : Target) (spot : Spot) (sited : IsSited spot t) (count : ℕ) (is :
       ≡ [] → IsGone images t
   none_accepted images k stands le so_far =
       let none = none_of_all images t k (omega (arith, le, length-candidates_are)) so_far in
-      record { bytes = ap (λ xs. slice_get xs 0) none; good = fails_where_none images t (Read (Slice t.at.index)) none (in_candidates t (Read (Slice t.at.index)) own_way) (ap (λ b. b && true) stands) }
+      record {
+        bytes = ap (λ xs. slice_get xs 0) none;
+        good = fails_where_none images t (Read (Slice t.at.index)) none
+            (in_candidates t (Read (Slice t.at.index)) own_way) (ap (λ b. b && true) stands);
+      }

@@ -1,5 +1,5 @@
 -- All writes of a row, put together.
-use Rattle.std.proofs.Common.{◌≡◌, ◌≢◌, ◌⊎◌, ℕ, ◌+◌, List, [], ◌∷◌, ◌++◌, length, Option, Some, None, IfSome, refl, sym, ap, ◌∙◌, subst, inl, inr, arith}
+use Rattle.std.proofs.Common.{◌≡◌, ◌≢◌, ◌⊎◌, ℕ, ◌+◌, ◌≤◌, List, [], ◌∷◌, ◌++◌, length, Option, Some, None, IfSome, refl, sym, ap, ◌∙◌, subst, inl, inr, arith}
 use Rattle.std.specs.List.{flat_map, sum_by}
 use Rattle.std.proofs.lemmas.List.Concat.{flat_map-cons, length-flat_map}
 use Rattle.std.proofs.lemmas.List.Sums.{sum_by-cons}
@@ -14,17 +14,23 @@ use Rattle.btr_scrub_row.specs.Wanted.{mending_writes}
 use Rattle.btr_scrub_copies.specs.Writes.{Images, Write}
 use Rattle.btr_scrub_row.specs.Mending.{parity_count}
 use Rattle.btr_scrub_row.specs.Rows.{Row, parities, parities_writes, parity_writes, rebuilt_writes}
-use Rattle.btr_scrub_row.specs.Preparing.{HasOneTurn, IsPrepared, TellsRow}
-use Rattle.btr_scrub_row.specs.Memory.{HoldsRow}
-use Rattle.btr_scrub_row.specs.Judging.{AreJudged}
-use Rattle.btr_scrub_row.specs.Writing.{KnowsParity, Tells, TellsParity, told_writes}
+use Rattle.btr_scrub_row.specs.Preparing.{HasOneTurn, IsPrepared, IsWhole, TellsRow, sums_of}
+use Rattle.btr_scrub_row.specs.Memory.{HasParity, HoldsRow, IsStripeOf}
+use Rattle.btr_scrub_row.specs.Writing.{AreTold, KnowsParity, Tells, told_writes}
 use Rattle.btr_scrub_row.specs.declared.buffer.RowBuffer.{RowBuffer}
 use Rattle.btr_scrub_row.specs.declared.judged.Judged.{Judged}
+use Rattle.btr_scrub_row.specs.declared.parity.Parity.{Parity}
 use Rattle.btr_scrub_row.specs.declared.parity.Parity.TheVariants as parity
+use Rattle.btr_scrub_row.specs.declared.prepared_row.PreparedRow.{PreparedRow}
+use Rattle.btr_scrub_row.specs.declared.stripe.FullStripe.{FullStripe}
 
-pub told_map : {X : Type 0} (o : Option X) (A B : X → Type 0) → ((x : X) → A x → B x) → IfSome o A → IfSome o B
-told_map None A B f h = tt
-told_map (Some x) A B f h = f x h
+-- what follows from what is known is told too
+pub tells_more : {A B : Images → Type 0} {told held : Option Images} → ((images : Images) → A images → B images) → AreTold A told held → AreTold B told held
+tells_more {A = A} {B = B} {told = told} f t = record { known = more told t.known; untold = t.untold }
+  where
+    more : (o : Option Images) → IfSome o A → IfSome o B
+    more None h = tt
+    more (Some images) h = f images h
 
 -- the parities of a row
 pub only_p : (row : Row) → mirrors row.chunk ≡ None → row.chunk.profile ≢ Raid6 → parities row.chunk.profile ≡ P ∷ []
@@ -48,34 +54,22 @@ pub told-cons : {X : Type 0} (F : Images → X → List Write) (x : X) (xs : Lis
 told-cons F x xs None = refl
 told-cons F x xs (Some images) = flat_map-cons (F images) x xs
 
--- what is known of one part of what was prepared
-pub tells_p : (layout : Layout) (row : Row) (judged : Judged) (buffer : RowBuffer) (told held : Option Images) (old sums : List ℕ)
-    → TellsRow layout row judged buffer told held → old ≡ buffer.elements.items → sums ≡ buffer.p.items
-    → TellsParity layout row parity.P judged old sums told held
-tells_p layout row judged buffer told held old sums t e h = record {
-  known = told_map told (λ images. IsPrepared images layout row judged buffer) (λ images. KnowsParity images layout row parity.P judged old sums)
-      (λ images is. subst (λ o. KnowsParity images layout row parity.P judged o sums) (sym e)
-      (subst (λ s. KnowsParity images layout row parity.P judged buffer.elements.items s) (sym h) is.p)) t.known;
-  untold = t.untold;
-}
+-- what is known of a parity of a row that was prepared
+pub knows_of : (images : Images) (layout : Layout) (stripe : FullStripe) (row : Row) → IsStripeOf layout stripe row → (judged : Judged) (buffer : RowBuffer)
+    → IsPrepared images layout row judged buffer → (p : Parity) → HasParity stripe.shape.profile p
+    → KnowsParity images layout row p judged buffer.elements.items (sums_of p buffer)
+knows_of images layout stripe row of judged buffer is parity.P has = is.p
+knows_of images layout stripe row of judged buffer is parity.Q has = is.q (sym of.shape.profile ∙ has)
 
-pub tells_q : (layout : Layout) (row : Row) (judged : Judged) (buffer : RowBuffer) (told held : Option Images) (old sums : List ℕ) → row.chunk.profile
-    ≡ Raid6 → TellsRow layout row judged buffer told held → old ≡ buffer.elements.items → sums ≡ buffer.q.items
-    → TellsParity layout row parity.Q judged old sums told held
-tells_q layout row judged buffer told held old sums six t e h = record {
-  known = told_map told (λ images. IsPrepared images layout row judged buffer) (λ images. KnowsParity images layout row parity.Q judged old sums)
-      (λ images is. subst (λ o. KnowsParity images layout row parity.Q judged o sums) (sym e)
-      (subst (λ s. KnowsParity images layout row parity.Q judged buffer.elements.items s) (sym h) (is.q six))) t.known;
-  untold = t.untold;
-}
+-- each parity fills an element
+pub sums_long : (p : Parity) (prepared : PreparedRow) → IsWhole prepared → 65536 ≤ length (sums_of p prepared.buffer.now)
+sums_long parity.P prepared whole = whole.p
+sums_long parity.Q prepared whole = whole.q
 
+-- the row as it was read
 pub tells_blocks : (layout : Layout) (row : Row) (judged : Judged) (buffer : RowBuffer) (told held : Option Images) (old : List ℕ)
     → TellsRow layout row judged buffer told held → old ≡ buffer.elements.items → Tells layout row old told held
-tells_blocks layout row judged buffer told held old t e = record {
-  known = told_map told (λ images. IsPrepared images layout row judged buffer) (λ images. HoldsRow images layout row old)
-      (λ images is. subst (HoldsRow images layout row) (sym e) is.holds) t.known;
-  untold = t.untold;
-}
+tells_blocks layout row judged buffer told held old t e = tells_more (λ images is. subst (HoldsRow images layout row) (sym e) is.holds) t
 
 -- the counts of the parities
 pub sum_p : (images : Images) (layout : Layout) (row : Row) → parities row.chunk.profile ≡ P ∷ [] → length (parity_writes images layout row P)
@@ -123,15 +117,3 @@ no_parities images layout row none = by (parities_writes images layout row)
     by : (ws : List Write) → length ws ≡ 0 → ws ≡ []
     by [] e = refl
     by (w ∷ ws) e = absurd (omega (arith, e))
-
--- what was prepared stays so where only scratch was written
-pub prepared_same : (images : Images) (layout : Layout) (row : Row) (judged : Judged) (a b : RowBuffer) → b.elements ≡ a.elements → b.slices
-    ≡ a.slices → b.p ≡ a.p → b.q ≡ a.q → IsPrepared images layout row judged a → IsPrepared images layout row judged b
-prepared_same images layout row judged a b e s p q is = record {
-  holds = subst (λ v. HoldsRow images layout row v.items) (sym e) is.holds;
-  blocks = subst (λ v. AreJudged images layout row row.blocks v.items judged) (sym s) is.blocks;
-  p = subst (λ v. KnowsParity images layout row parity.P judged b.elements.items v.items) (sym p)
-      (subst (λ v. KnowsParity images layout row parity.P judged v.items a.p.items) (sym e) is.p);
-  q = λ six. subst (λ v. KnowsParity images layout row parity.Q judged b.elements.items v.items) (sym q)
-      (subst (λ v. KnowsParity images layout row parity.Q judged v.items a.q.items) (sym e) (is.q six));
-}

@@ -1,14 +1,14 @@
 -- The write that mends a block, as it is made from the bytes in memory.
-use Rattle.std.proofs.Common.{◌≡◌, ℕ, ◌+◌, ◌^◌, ◌<◌, ◌≤◌, ◌||◌, Bool, false, not, List, [], ◌∷◌, length, take, Some, None, Ok, IsNone, refl, sym, ap, ◌∙◌}
+use Rattle.std.proofs.Common.{◌≡◌, ℕ, ◌+◌, ◌≤◌, ◌||◌, Bool, false, not, List, [], ◌∷◌, length, take, Some, None, Ok, IsNone, refl, sym, ap, ◌∙◌}
 use Rattle.std.proofs.Common.{subst, arith, length-take}
 use Rattle.btr_chunk.specs.Chunk.{mirrors}
 use Rattle.btr_chunk.specs.Mapping.{HasPart}
 use Rattle.btr_chunk.specs.declared.place.Part.TheVariants.{Slice}
-use Rattle.btr_rack.specs.Rack.{Seen, Slot, len_of, range_in}
+use Rattle.btr_rack.specs.Rack.{Seen, len_of, range_in}
 use Rattle.btr_rack.specs.declared.place.Place.{Place as Range}
 use Rattle.btr_read.specs.Candidates.{Target, range_of, size_of}
 use Rattle.btr_read.specs.Fate.{sought}
-use Rattle.btr_read.specs.Layout.{AreOpen, Layout}
+use Rattle.btr_read.specs.Layout.{Layout}
 use Rattle.btr_read.specs.declared.want.Want.{Want}
 use Rattle.btr_read.proofs.Fates.{sought_of}
 use Rattle.btr_read.proofs.Keeping.{none_failed}
@@ -19,7 +19,7 @@ use Rattle.btr_scrub_row.specs.Rows.{Row, range_in_element}
 use Rattle.btr_scrub_row.specs.Mending.{IsOfRow, IsOn}
 use Rattle.btr_scrub_row.specs.Memory.{IsSettled, IsStripeOf}
 use Rattle.btr_scrub_row.specs.Judging.{IsPlaced}
-use Rattle.btr_scrub_row.specs.Writing.{write_at}
+use Rattle.btr_scrub_row.specs.Writing.{CanWrite, CanWriteIn, write_at}
 use Rattle.btr_scrub_row.specs.declared.spot.Spot.{Spot}
 use Rattle.btr_scrub_row.specs.declared.stripe.FullStripe.{FullStripe}
 use Rattle.btr_scrub_row.proofs.Elements.{Lies, block_lies, is_at, is_of_row, lies, open_at}
@@ -31,7 +31,8 @@ use Rattle.btr_scrub_row.proofs.Settled.{writes_one, written_at}
 pub does_nothing : (P : Range → Type 0) (marks : List Bool) (a : Seen) → Does {A = Unit {0}} P (λ i. []) marks marks a a (Ok tt)
 does_nothing P marks a = does_reads P marks a a tt (record { same = refl; later = omega arith; same_shut = refl }) (none_failed a.account)
 
-module _ (layout : Layout) (stripe : FullStripe) (row : Row) (of : IsStripeOf layout stripe row) (want : Want) (t : Target) (e : sought layout want ≡ Ok t) (on : IsOn row t) (spot : Spot) (p : IsPlaced stripe.shape t spot) where
+module _ (layout : Layout) (stripe : FullStripe) (row : Row) (of : IsStripeOf layout stripe row) (want : Want) (t : Target) (e : sought layout want ≡ Ok t)
+    (on : IsOn row t) (spot : Spot) (p : IsPlaced stripe.shape t spot) where
   no_copies : mirrors t.chunk ≡ None
   no_copies = ap mirrors on.chunk ∙ of.is.parity
 
@@ -40,12 +41,6 @@ module _ (layout : Layout) (stripe : FullStripe) (row : Row) (of : IsStripeOf la
 
   l : Lies layout row (Slice t.at.index)
   l = lies layout stripe.chunk stripe.number row (good layout stripe row of) (Slice t.at.index) has
-
-  -- the element's place, as it is computed
-  pub record Written (element : Range) (slots : List Slot) : Type 0 where
-    pub open_slot : element.slot < length slots
-    pub within : element.off + spot.rest + spot.len ≤ len_of slots element.slot
-    pub small : element.off + spot.rest < 2 ^ 64
 
   -- the block's own place
   pub own_range : (range : Range) × (range_of t (Slice t.at.index) ≡ Some range)
@@ -59,13 +54,16 @@ module _ (layout : Layout) (stripe : FullStripe) (row : Row) (of : IsStripeOf la
     is' : range_in_element layout row (Slice t.at.index) 0 65536 ≡ Some element
     is' = ap (λ i. range_in_element layout row (Slice i) 0 65536) (sym p.index) ∙ is
 
-    pub written : (slots : List Slot) → AreOpen slots layout.devices → Written element slots
-    written slots are =
+    -- the block can be written there
+    pub written : {rack : Seen} {marks : List Bool} → CanWrite layout rack marks → CanWriteIn element spot.rest spot.len rack marks
+    written {rack = rack} can =
         let a = is_at layout stripe.chunk stripe.number row (good layout stripe row of) (Slice t.at.index) has l element is' in
-        let there = open_at layout stripe.chunk stripe.number row (good layout stripe row of) (Slice t.at.index) has l slots are in
+        let there = open_at layout stripe.chunk stripe.number row (good layout stripe row of) (Slice t.at.index) has l rack.slots can.are_open in
         record {
-          open_slot = omega (arith, a.slot, there.0);
-          within = omega (arith, ap (len_of slots) a.slot, a.off, there.1, p.rest, p.len, p.inside);
+          is_open = omega (arith, a.slot, there.0);
+          writable = can.writable;
+          slots = can.slots;
+          within = omega (arith, ap (len_of rack.slots) a.slot, a.off, there.1, p.rest, p.len, p.inside);
           small = omega (arith, a.off, l.small, p.rest, p.len, p.inside);
         }
 
@@ -85,7 +83,8 @@ module _ (layout : Layout) (stripe : FullStripe) (row : Row) (of : IsStripeOf la
     writes_it images block settled long is some =
         let at = is_at layout stripe.chunk stripe.number row (good layout stripe row of) (Slice t.at.index) has l element is' in
         let devices = sought_of layout want t e in
-        let stands : range_of t (Slice t.at.index) ≡ Some (range_in l.slot (l.off + t.at.rest) (size_of t)) = block_lies layout stripe.chunk stripe.number row (good layout stripe row of) (Slice t.at.index) has l t on devices.devices_is p.position p.inside in
+        let stands : range_of t (Slice t.at.index) ≡ Some (range_in l.slot (l.off + t.at.rest) (size_of t)) =
+        block_lies layout stripe.chunk stripe.number row (good layout stripe row of) (Slice t.at.index) has l t on devices.devices_is p.position p.inside in
         let bytes = take (size_of t) block in
         let size : length bytes ≡ size_of t = omega (arith, length-take (size_of t) block, long) in
         ap (λ n. write_at element.slot (element.off + spot.rest) (take n block) ∷ []) p.len

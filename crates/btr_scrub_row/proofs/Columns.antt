@@ -1,5 +1,5 @@
 -- The sectors of a parity, column by column.
-use Rattle.std.proofs.Common.{◌≡◌, ℕ, suc, ◌+◌, ◌*◌, ◌^◌, ◌<◌, ◌≤◌, ◌&&◌, ◌||◌, Bool, true, false, not, cond, List, [], ◌∷◌, ◌++◌, length, take, get_or}
+use Rattle.std.proofs.Common.{◌≡◌, ℕ, suc, ◌+◌, ◌*◌, ◌<◌, ◌≤◌, ◌&&◌, ◌||◌, Bool, true, false, not, cond, List, [], ◌∷◌, ◌++◌, length, take, get_or}
 use Rattle.std.proofs.Common.{slice_range, Option, Some, None, IsSome, count_by, refl, sym, ap, ◌∙◌, subst, arith}
 use Rattle.std.proofs.lemmas.Bool.{false≢true}
 use Rattle.std.specs.List.{cons_option, filter, filter_map, flat_map, list_all, list_any, range_with_len}
@@ -9,16 +9,16 @@ use Rattle.std.proofs.lemmas.List.FromFn.{get_or-range_with_len, length-range_wi
 use Rattle.std.specs.Str.{bytes_eq}
 use Rattle.btr_chunk.specs.Mapping.{HasPart}
 use Rattle.btr_chunk.specs.declared.place.Part.{Part}
-use Rattle.btr_rack.specs.Rack.{Slot, len_of, range_in}
+use Rattle.btr_rack.specs.Rack.{Seen, len_of, range_in}
 use Rattle.btr_rack.specs.declared.place.Place.{Place as Range}
 use Rattle.btr_read.specs.Candidates.{Target}
-use Rattle.btr_read.specs.Layout.{AreOpen, Layout}
+use Rattle.btr_read.specs.Layout.{Layout}
 use Rattle.btr_scrub_row.specs.Wanted.{new_bytes}
 use Rattle.btr_scrub_copies.specs.Writes.{Images, Write}
 use Rattle.btr_scrub_row.specs.Rows.{Row, column_of, differs, element, element_with, is_decided, is_sure, meets, parity_writes, range_in_element, sector_write}
 use Rattle.btr_scrub_row.specs.Mending.{IsOfRow}
 use Rattle.btr_scrub_row.specs.Memory.{IsStripeOf, element_in}
-use Rattle.btr_scrub_row.specs.Writing.{column_writes, write_at}
+use Rattle.btr_scrub_row.specs.Writing.{CanWrite, CanWriteIn, column_writes, write_at}
 use Rattle.btr_scrub_row.specs.declared.stripe.FullStripe.{FullStripe}
 use Rattle.btr_read.proofs.Pieces.{range-range}
 use Rattle.btr_scrub_row.proofs.Elements.{Lies, is_at, is_of_row, lies, lies_at, open_at}
@@ -107,7 +107,8 @@ columns_are images layout row part = flat_filter (sector_write images layout row
 pub column_at : (i d : ℕ) → i < 16 → get_or (range_with_len 0 16) i d ≡ i
 column_at i d lt = get_or-range_with_len 0 16 i d lt ∙ omega arith
 
-module _ (layout : Layout) (stripe : FullStripe) (row : Row) (of : IsStripeOf layout stripe row) (part : Part) (has : HasPart row.chunk.profile (length row.chunk.stripes) part) where
+module _ (layout : Layout) (stripe : FullStripe) (row : Row) (of : IsStripeOf layout stripe row) (part : Part)
+    (has : HasPart row.chunk.profile (length row.chunk.stripes) part) where
   l : Lies layout row part
   l = lies layout stripe.chunk stripe.number row (good layout stripe row of) part has
 
@@ -124,20 +125,17 @@ module _ (layout : Layout) (stripe : FullStripe) (row : Row) (of : IsStripeOf la
       (λ i d lt. let below : i < 16 = omega (arith, lt, length-range_with_len 0 16) in
       subst IsSome (sym (ap (sector_write images layout row part) (column_at i d below) ∙ sector_at images i below)) refl))
 
-  -- the sector's place, as it is computed
-  pub record Written (element : Range) (column : ℕ) (slots : List Slot) : Type 0 where
-    pub open_slot : element.slot < length slots
-    pub within : element.off + column * 4096 + 4096 ≤ len_of slots element.slot
-    pub small : element.off + column * 4096 < 2 ^ 64
-
   module _ (element : Range) (is : range_in_element layout row part 0 65536 ≡ Some element) (column : ℕ) (lt : column < 16) where
-    pub written : (slots : List Slot) → AreOpen slots layout.devices → Written element column slots
-    written slots are =
+    -- the sector can be written there
+    pub written : {rack : Seen} {marks : List Bool} → CanWrite layout rack marks → CanWriteIn element (column * 4096) 4096 rack marks
+    written {rack = rack} can =
         let a = is_at layout stripe.chunk stripe.number row (good layout stripe row of) part has l element is in
-        let there = open_at layout stripe.chunk stripe.number row (good layout stripe row of) part has l slots are in
+        let there = open_at layout stripe.chunk stripe.number row (good layout stripe row of) part has l rack.slots can.are_open in
         record {
-          open_slot = omega (arith, a.slot, there.0);
-          within = omega (arith, ap (len_of slots) a.slot, a.off, there.1, lt);
+          is_open = omega (arith, a.slot, there.0);
+          writable = can.writable;
+          slots = can.slots;
+          within = omega (arith, ap (len_of rack.slots) a.slot, a.off, there.1, lt);
           small = omega (arith, a.off, l.small, lt);
         }
 
@@ -150,14 +148,16 @@ module _ (layout : Layout) (stripe : FullStripe) (row : Row) (of : IsStripeOf la
 
     -- one write, where the parity is wrong
     pub writes_sector : (images : Images) (sums : List ℕ) → 65536 ≤ length sums → take 65536 sums
-        ≡ element_with images layout (new_bytes images row.failing) row part → (is_decided images layout row column && differs images layout row part column) ≡ true
+        ≡ element_with images layout (new_bytes images row.failing) row part
+        → (is_decided images layout row column && differs images layout row part column) ≡ true
         → write_at element.slot (element.off + column * 4096) (slice_range sums (column * 4096) (column * 4096 + 4096)) ∷ []
         ≡ column_writes layout row part images column
     writes_sector images sums room new wrong =
         let a = is_at layout stripe.chunk stripe.number row (good layout stripe row of) part has l element is in
         let bytes = slice_range sums (column * 4096) (column * 4096 + 4096) in
         let long : length bytes ≡ 4096 = length-range sums (column * 4096) 4096 (omega (arith, room, lt)) in
-        let same : bytes ≡ column_of column (element_with images layout (new_bytes images row.failing) row part) = sym (front_range sums 65536 (column * 4096) (column * 4096 + 4096) (omega arith) (omega (arith, lt))) ∙ ap (column_of column) new in
+        let same : bytes ≡ column_of column (element_with images layout (new_bytes images row.failing) row part) =
+        sym (front_range sums 65536 (column * 4096) (column * 4096 + 4096) (omega arith) (omega (arith, lt))) ∙ ap (column_of column) new in
         ap (λ s. write_at s (element.off + column * 4096) bytes ∷ []) a.slot
         ∙ ap (λ o. write_at l.slot (o + column * 4096) bytes ∷ []) a.off
         ∙ ap (λ n. made (range_in l.slot (l.off + column * 4096) n) bytes ∷ []) long

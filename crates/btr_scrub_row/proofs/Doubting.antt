@@ -3,7 +3,7 @@ use Rattle.std.proofs.Common.{◌≡◌, ℕ, zero, suc, ◌+◌, ◌<◌, ◌�
 use Rattle.std.proofs.Common.{Some, None, slice_get, refl, sym, ap, ◌∙◌, subst, inl, inr, arith}
 use Rattle.std.specs.List.{filter, list_any, range_with_len}
 use Rattle.std.specs.Option.{option_map_or}
-use Rattle.std.proofs.lemmas.Bool.{cases_lt, or_from, or_left, or_right}
+use Rattle.std.proofs.lemmas.Bool.{cases_lt}
 use Rattle.std.proofs.lemmas.List.{get_or-set_other, get_or-set_same}
 use Rattle.std.proofs.lemmas.Option.{same_Some}
 use Rattle.btr_chunk.specs.Chunk.{IsChunk, data_count, mirrors}
@@ -28,17 +28,6 @@ use Rattle.btr_scrub_row.specs.declared.doubts.Doubts.{Doubts}
 use Rattle.btr_scrub_row.specs.declared.spot.Spot.{Spot}
 use Rattle.btr_scrub_row.proofs.Elements.{stripe-row}
 use Rattle.btr_scrub_row.proofs.Shapes.{Counted, part_p, part_q, part_slice, row_counted}
-
--- one of a list is so
-pub any_there : {X : Type 0} (p : X → Bool) (xs : List X) (i : ℕ) (x : X) → slice_get xs i ≡ Some x → p x ≡ true → list_any p xs ≡ true
-any_there p [] i x e h = cc
-any_there p (y ∷ ys) zero x e h = or_left (p y) (list_any p ys) (ap p (same_Some y x e) ∙ h)
-any_there p (y ∷ ys) (suc i) x e h = or_right (p y) (list_any p ys) (any_there p ys i x e h)
-
--- or none
-pub any_none : {X : Type 0} (p : X → Bool) (xs : List X) → ((i : ℕ) (x : X) → slice_get xs i ≡ Some x → p x ≡ false) → list_any p xs ≡ false
-any_none p [] h = refl
-any_none p (y ∷ ys) h = or_from (p y) (list_any p ys) (h 0 y refl) (any_none p ys (λ i x e. h (suc i) x e))
 
 -- one more flag
 pub flag_more : (flags : List Bool) (n k : ℕ) (b : Bool) (f : ℕ → Bool) → n < length flags → ((k : ℕ) → k < n → get_or flags k false ≡ f k)
@@ -93,7 +82,8 @@ devid-row chunk part at bt none e =
     ∙ ap (λ i. option_map_or (λ (stripe : Stripe). stripe.devid) (slice_get chunk.stripes i) 0) (stripe-row p n part at bt none e)
     ∙ sym (devid_on (slice_get chunk.stripes (stripe_of p n part bt)) bt)
 
-module _ (layout : Layout) (row : Row) (t : Target) (spot : Spot) (doubts : Doubts) (at : LiesAt layout row t spot) (knows : KnowsDoubts layout row doubts) where
+module _ (layout : Layout) (row : Row) (t : Target) (spot : Spot) (doubts : Doubts) (at : LiesAt layout row t spot)
+    (knows : KnowsDoubts layout row doubts) where
   none : mirrors row.chunk ≡ None
   none = sym (ap mirrors at.on.chunk) ∙ at.sited.parity
 
@@ -107,7 +97,8 @@ module _ (layout : Layout) (row : Row) (t : Target) (spot : Spot) (doubts : Doub
   index_below = omega (arith, at.sited.position.index, slices_are)
 
   device : (part : Part) → (place_at t.chunk part t.at).devid ≡ devid_at row part
-  device part = ap (λ c. (place_at c part t.at).devid) at.on.chunk ∙ devid-row row.chunk part t.at (record { row = row.number; index = 0; rest = 0 }) none at.on.number
+  device part = ap (λ c. (place_at c part t.at).devid) at.on.chunk
+      ∙ devid-row row.chunk part t.at (record { row = row.number; index = 0; rest = 0 }) none at.on.number
 
   on_doubtful : (e : ℕ) (part : Part) → e < element_count row → part_at (slice_count row) e ≡ part
       → flag_of doubts.doubtful e ≡ is_on_doubtful row.failing t part
@@ -142,9 +133,11 @@ module _ (layout : Layout) (row : Row) (t : Target) (spot : Spot) (doubts : Doub
       by : (b : Bool)
           → list_any (λ slice. reads_slice t.at.index c slice && flag_of doubts.doubtful slice) (range_with_len (a + 1) len)
           ≡ list_any (is_on_doubtful row.failing t) (map Slice (filter (reads_slice t.at.index c) (range_with_len (a + 1) len)))
-          → ((b && flag_of doubts.doubtful a) || list_any (λ slice. reads_slice t.at.index c slice && flag_of doubts.doubtful slice) (range_with_len (a + 1) len))
+          → ((b && flag_of doubts.doubtful a) || list_any (λ slice. reads_slice t.at.index c slice && flag_of doubts.doubtful slice)
+          (range_with_len (a + 1) len))
           ≡ list_any (is_on_doubtful row.failing t)
-          (map Slice (cond b (a ∷ filter (reads_slice t.at.index c) (range_with_len (a + 1) len)) (filter (reads_slice t.at.index c) (range_with_len (a + 1) len))))
+          (map Slice (cond b (a ∷ filter (reads_slice t.at.index c) (range_with_len (a + 1) len))
+          (filter (reads_slice t.at.index c) (range_with_len (a + 1) len))))
       by true e =
           ap (λ b. b || list_any (λ slice. reads_slice t.at.index c slice && flag_of doubts.doubtful slice) (range_with_len (a + 1) len))
           (slice_doubtful a (omega (arith, le))) ∙ ap (λ b. is_on_doubtful row.failing t (Slice a) || b) e
@@ -173,7 +166,8 @@ module _ (layout : Layout) (row : Row) (t : Target) (spot : Spot) (doubts : Doub
 
   reads_is : (c : Candidate) → IsTwoParities k t.at.index c → (ReadsQ c → t.chunk.profile ≡ Raid6)
       → reads_flagged doubts.doubtful k t.at.index c ≡ reads_doubtful row.failing t c
-  reads_is (Read part) two q = slice_doubtful t.at.index index_below ∙ ap (is_on_doubtful row.failing t) (sym two) ∙ sym (or_none (is_on_doubtful row.failing t part))
+  reads_is (Read part) two q =
+      slice_doubtful t.at.index index_below ∙ ap (is_on_doubtful row.failing t) (sym two) ∙ sym (or_none (is_on_doubtful row.failing t part))
   reads_is ByP two q = ap (λ b. b || reads_flagged_slice doubts.doubtful k t.at.index ByP) p_doubtful
       ∙ ap (λ b. is_on_doubtful row.failing t P || b) (slices_read ByP)
   reads_is ByQ two q = ap (λ b. b || reads_flagged_slice doubts.doubtful k t.at.index ByQ) (q_doubtful (q tt))

@@ -80,7 +80,8 @@ pub record Lies (layout : Layout) (row : Row) (q : Part) : Type 0 where
   pub small : off + 65536 < 2 ^ 64
   pub at : (at : Elements) → at.row ≡ row.number → IsPosition row.chunk at → place_at row.chunk q at ≡ record { devid = devid; offset = off + at.rest }
 
-module _ (layout : Layout) (start number : ℕ) (row : Row) (g : IsGood layout start number row) (q : Part) (has : HasPart row.chunk.profile (length row.chunk.stripes) q) where
+module _ (layout : Layout) (start number : ℕ) (row : Row) (g : IsGood layout start number row) (q : Part)
+    (has : HasPart row.chunk.profile (length row.chunk.stripes) q) where
   abbrev first : Elements
   first = record { row = row.number; index = 0; rest = 0 }
 
@@ -91,8 +92,10 @@ module _ (layout : Layout) (start number : ℕ) (row : Row) (g : IsGood layout s
   lies =
       let position : IsPosition row.chunk first = record { index = some_slices; inside = omega (arith, g.is.inside, g.is.number_is) } in
       let one = placed_part row.chunk q first g.keeps_rule has position in
-      let at0 : place_at row.chunk q first ≡ record { devid = one.stripe.devid; offset = one.stripe.offset + row.number * 65536 } = one.place ∙ ap (λ o. record { devid = one.stripe.devid; offset = o }) (omega arith) in
-      let s = stands_on (one.stripe.offset + row.number * 65536) 65536 (device_in layout.devices one.stripe.devid) (subst IsSome (ap (λ place. range_on place.offset 65536 (device_in layout.devices place.devid)) at0) (g.is.stand q has)) in
+      let at0 : place_at row.chunk q first ≡ record { devid = one.stripe.devid; offset = one.stripe.offset + row.number * 65536 } =
+      one.place ∙ ap (λ o. record { devid = one.stripe.devid; offset = o }) (omega arith) in
+      let s = stands_on (one.stripe.offset + row.number * 65536) 65536 (device_in layout.devices one.stripe.devid)
+      (subst IsSome (ap (λ place. range_on place.offset 65536 (device_in layout.devices place.devid)) at0) (g.is.stand q has)) in
       record {
         slot = s.device.slot;
         off = one.stripe.offset + row.number * 65536;
@@ -110,7 +113,9 @@ module _ (layout : Layout) (start number : ℕ) (row : Row) (g : IsGood layout s
         );
         at = λ at e position.
             let two = placed_part row.chunk q at g.keeps_rule has position in
-            let same : Some two.stripe ≡ Some one.stripe = sym two.there ∙ ap (slice_get row.chunk.stripes) (stripe-row row.chunk.profile (length row.chunk.stripes) q at first g.is.parity e) ∙ one.there in
+            let same : Some two.stripe ≡ Some one.stripe =
+            sym two.there ∙ ap (slice_get row.chunk.stripes) (stripe-row row.chunk.profile (length row.chunk.stripes) q at first g.is.parity e)
+            ∙ one.there in
             let stripe : two.stripe ≡ one.stripe = same_Some two.stripe one.stripe same in
             two.place ∙ ap (λ s. place_on s at) stripe ∙ ap (λ n. record { devid = one.stripe.devid; offset = one.stripe.offset + n * 65536 + at.rest }) e;
       }
@@ -119,7 +124,8 @@ module _ (layout : Layout) (start number : ℕ) (row : Row) (g : IsGood layout s
   pub lies_at : (l : Lies layout row q) (rest len : ℕ) → rest < 65536 → rest + len ≤ 65536 → range_in_element layout row q rest len
       ≡ Some (range_in l.slot (l.off + rest) len)
   lies_at l rest len lt le =
-      let position : IsPosition row.chunk (record { row = row.number; index = 0; rest = rest }) = record { index = some_slices; inside = omega (arith, g.is.inside, g.is.number_is, lt) } in
+      let position : IsPosition row.chunk (record { row = row.number; index = 0; rest = rest }) =
+      record { index = some_slices; inside = omega (arith, g.is.inside, g.is.number_is, lt) } in
       ap (λ place. range_on place.offset len (device_in layout.devices place.devid)) (l.at (record { row = row.number; index = 0; rest = rest }) refl position)
       ∙ range_stands (l.off + rest) len (device_in layout.devices l.devid) l.device l.there (omega (arith, l.within, le))
       ∙ ap (λ slot. Some (range_in slot (l.off + rest) len)) l.slot_is
@@ -160,7 +166,8 @@ module _ (layout : Layout) (start number : ℕ) (row : Row) (g : IsGood layout s
   is_of_row l rest len le = record {
     part = q;
     has = has;
-    lies = subst (λ o. IsSomeAnd o (LiesIn (range_in l.slot (l.off + rest) len))) (sym (whole l)) (record { slot = refl; from = omega arith; to = omega (arith, le) });
+    lies = subst (λ o. IsSomeAnd o (LiesIn (range_in l.slot (l.off + rest) len))) (sym (whole l))
+        (record { slot = refl; from = omega arith; to = omega (arith, le) });
   }
 
   -- what a block's candidates read of it
@@ -174,8 +181,3 @@ module _ (layout : Layout) (start number : ℕ) (row : Row) (g : IsGood layout s
       ∙ ap (λ end. slice_range image (l.off + t.at.rest) end) (omega arith)
       ∙ sym (range-range image l.off 65536 t.at.rest (t.at.rest + size_of t) (omega arith) le)
       ∙ ap (λ o. slice_range (bytes o) t.at.rest (t.at.rest + size_of t)) (sym (whole l))
-
--- the bytes of an element, where it lies
-pub element_bytes : (images : List (List ℕ)) (layout : Layout) (row : Row) (q : Part) (place : Range) → range_in_element layout row q 0 65536
-    ≡ Some place → element images layout row q ≡ bytes_of images place.slot place.off place.len
-element_bytes images layout row q place e = ap (λ (o : Option Range). option_map_or (λ range. bytes_of images range.slot range.off range.len) o []) e

@@ -111,14 +111,17 @@ pub start_in : (bytes : List ℕ) (spot : Spot) (p : Parity) → FitsIn bytes sp
 start_in bytes spot parity.P fits has = omega (arith, fits.p, fits.inside)
 start_in bytes spot parity.Q fits has = omega (arith, fits.q has, fits.inside)
 
-module _ (images : Images) (t : Target) (spot : Spot) (bytes : List ℕ) (all : All (λ b. b < 256) bytes) (fits : FitsIn bytes spot) (h : IsHeld images t spot bytes) (c : Candidate) (p : Parity) where
+module _ (images : Images) (t : Target) (spot : Spot) (bytes : List ℕ) (all : All (λ b. b < 256) bytes) (fits : FitsIn bytes spot)
+    (h : IsHeld images t spot bytes) (c : Candidate) (p : Parity) where
   its_element : HasParity spot.shape.profile p → slice_range bytes (element_of p spot.shape.slices * 65536 + spot.rest)
       (element_of p spot.shape.slices * 65536 + spot.rest + spot.len) ≡ element images t (part_of p)
   its_element = of p
     where
-      of : (p : Parity) → HasParity spot.shape.profile p → slice_range bytes (element_of p spot.shape.slices * 65536 + spot.rest) (element_of p spot.shape.slices * 65536 + spot.rest + spot.len) ≡ element images t (part_of p)
+      of : (p : Parity) → HasParity spot.shape.profile p → slice_range bytes (element_of p spot.shape.slices * 65536 + spot.rest)
+          (element_of p spot.shape.slices * 65536 + spot.rest + spot.len) ≡ element images t (part_of p)
       of parity.P has = ap (λ n. slice_range bytes (n * 65536 + spot.rest) (n * 65536 + spot.rest + spot.len)) h.place.slices ∙ h.block.p
-      of parity.Q has = ap (λ n. slice_range bytes ((n + 1) * 65536 + spot.rest) ((n + 1) * 65536 + spot.rest + spot.len)) h.place.slices ∙ h.block.q (sym h.place.profile ∙ has)
+      of parity.Q has = ap (λ n. slice_range bytes ((n + 1) * 65536 + spot.rest) ((n + 1) * 65536 + spot.rest + spot.len)) h.place.slices
+          ∙ h.block.q (sym h.place.profile ∙ has)
 
   sized : (a : ℕ) → a + spot.len ≤ length bytes → IsSlice (size_of t) (slice_range bytes a (a + spot.len))
   sized a le = subst (λ n. IsSlice n (slice_range bytes a (a + spot.len))) h.place.len (cut_slice bytes a spot.len all le)
@@ -127,7 +130,8 @@ module _ (images : Images) (t : Target) (spot : Spot) (bytes : List ℕ) (all : 
   pub left_begun : (start : ℕ) (sum : List ℕ) → HasParity spot.shape.profile p → start ≡ element_of p spot.shape.slices * 65536 + spot.rest → sum
       ≡ slice_range bytes start (start + spot.len) → LeftSoFar images t c p 0 sum
   left_begun start sum has at e =
-      let is : sum ≡ slice_range bytes (element_of p spot.shape.slices * 65536 + spot.rest) (element_of p spot.shape.slices * 65536 + spot.rest + spot.len) = e ∙ ap (λ a. slice_range bytes a (a + spot.len)) at in
+      let is : sum ≡ slice_range bytes (element_of p spot.shape.slices * 65536 + spot.rest)
+      (element_of p spot.shape.slices * 65536 + spot.rest + spot.len) = e ∙ ap (λ a. slice_range bytes a (a + spot.len)) at in
       left_none images t c p sum (is ∙ its_element has) (subst (IsSlice (size_of t)) (sym is)
       (sized (element_of p spot.shape.slices * 65536 + spot.rest) (start_in bytes spot p fits has)))
 
@@ -136,9 +140,11 @@ module _ (images : Images) (t : Target) (spot : Spot) (bytes : List ℕ) (all : 
       ≡ k * 65536 + spot.rest → new ≡ plus old (weighed p k (slice_range bytes start (start + spot.len))) → LeftSoFar images t c p (k + 1) new
   left_more k start old new lt so_far reads at e =
       let below : k < slice_count t = omega (arith, lt, h.place.slices) in
-      let is : slice_range bytes start (start + spot.len) ≡ element images t (Slice k) = ap (λ a. slice_range bytes a (a + spot.len)) at ∙ h.block.slices k below in
+      let is : slice_range bytes start (start + spot.len) ≡ element images t (Slice k) =
+      ap (λ a. slice_range bytes a (a + spot.len)) at ∙ h.block.slices k below in
       let reads' : reads_slice t.at.index c k ≡ true = subst (λ i. reads_slice i c k ≡ true) h.place.index reads in
-      let slice : IsSlice (size_of t) (element images t (Slice k)) = subst (IsSlice (size_of t)) is (sized start (omega (arith, at, lt, fits.p, fits.inside))) in
+      let slice : IsSlice (size_of t) (element images t (Slice k)) =
+      subst (IsSlice (size_of t)) is (sized start (omega (arith, at, lt, fits.p, fits.inside))) in
       step images t c p k old new (element images t (Slice k)) so_far (is_read images t c k reads') slice (e ∙ ap (λ d. plus old (weighed p k d)) is)
 
   -- or it isn't read

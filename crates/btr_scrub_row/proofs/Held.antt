@@ -1,5 +1,5 @@
 -- A row in memory has all that the candidates of its blocks read.
-use Rattle.std.proofs.Common.{◌≡◌, ℕ, ◌+◌, ◌*◌, ◌<◌, ◌≤◌, List, length, slice_range, Ok, IsNone, IsSome, Result, refl, sym, ap, ◌∙◌, subst, arith}
+use Rattle.std.proofs.Common.{◌≡◌, ℕ, ◌+◌, ◌*◌, ◌<◌, ◌≤◌, List, length, slice_range, Ok, IsNone, IsOkAnd, IsSome, Result, refl, sym, ap, ◌∙◌, subst, arith}
 use Rattle.std.proofs.lemmas.Option.{same_Some}
 use Rattle.btr_chunk.specs.Chunk.{data_count, mirrors}
 use Rattle.btr_chunk.specs.Mapping.{HasPart}
@@ -10,13 +10,15 @@ use Rattle.btr_read.specs.Candidates as candidates
 use Rattle.btr_read.specs.Candidates.{Target, range_of, size_of}
 use Rattle.btr_read.specs.Fate.{Fault, sought}
 use Rattle.btr_read.specs.Layout.{Layout}
+use Rattle.btr_read.specs.Want.{len_of}
 use Rattle.btr_read.specs.declared.want.Want.{Want}
 use Rattle.btr_read.proofs.Fates.{sought_of}
 use Rattle.btr_scrub_copies.specs.Writes.{Images}
 use Rattle.btr_scrub_row.specs.Rows.{Row, element, parities, slice_count}
 use Rattle.btr_scrub_row.specs.Mending.{IsOn}
-use Rattle.btr_scrub_row.specs.Memory.{FitsIn, HoldsRow, IsHeld, IsSited, IsStripeOf, LiesAt, element_count, part_at, piece_in}
+use Rattle.btr_scrub_row.specs.Memory.{FitsIn, HoldsRow, IsHeld, IsSited, IsSpotOf, IsStripeOf, IsViewed, LiesAt, element_count, part_at, piece_in}
 use Rattle.btr_scrub_row.specs.Judging.{IsIn, IsPlaced}
+use Rattle.btr_scrub_row.specs.declared.row_view.RowView.{RowView}
 use Rattle.btr_scrub_row.specs.declared.spot.Spot.{Spot}
 use Rattle.btr_scrub_row.specs.declared.stripe.FullStripe.{FullStripe}
 use Rattle.btr_read.proofs.Pieces.{range-range}
@@ -40,7 +42,8 @@ on_row layout stripe want row t within of e =
       number = ap (λ (u : Target). u.at.row) (sym same) ∙ within.on.number ∙ within.of.is.number_is ∙ sym of.is.number_is;
     }
 
-module _ (layout : Layout) (stripe : FullStripe) (row : Row) (of : IsStripeOf layout stripe row) (want : Want) (t : Target) (e : sought layout want ≡ Ok t) (on : IsOn row t) (spot : Spot) (p : IsPlaced stripe.shape t spot) where
+module _ (layout : Layout) (stripe : FullStripe) (row : Row) (of : IsStripeOf layout stripe row) (want : Want) (t : Target) (e : sought layout want ≡ Ok t)
+    (on : IsOn row t) (spot : Spot) (p : IsPlaced stripe.shape t spot) where
   slices_are : slice_count row ≡ candidates.slice_count t
   slices_are = ap (λ c. data_count c.profile (length c.stripes)) (sym on.chunk)
 
@@ -129,3 +132,17 @@ module _ (layout : Layout) (stripe : FullStripe) (row : Row) (of : IsStripeOf la
             let two : length (parities row.chunk.profile) ≡ 2 = ap (λ p. length (parities p)) six' in
             omega (arith, spot_slices, count.whole, two, room);
       }
+
+-- the place that was computed for a block of a row that was read
+pub spot_is : (view : RowView) → IsViewed view → (want : Want) → IsIn view.store.now.layout view.wanted.stripe want → (spot : Spot)
+    → ((t : Target) → sought view.store.now.layout want ≡ Ok t → IsPlaced view.wanted.stripe.shape t spot) → IsSpotOf view want spot
+spot_is view viewed want w spot at =
+    let layout = view.store.now.layout in
+    let p = at w.target w.is_sought in
+    let is = sought_of layout want w.target w.is_sought in
+    record {
+      within = fits_in layout view.wanted.stripe w.row w.of want w.target w.is_sought w.on spot p view.old.now (viewed.room w.row w.of);
+      placed = subst (λ r. IsOkAnd r (IsSited spot)) (sym w.is_sought)
+          (sited layout view.wanted.stripe w.row w.of want w.target w.is_sought w.on spot p);
+      len = p.len ∙ ap (λ s. len_of s w.target.want) is.setting_is ∙ ap (len_of layout.setting) is.want_is;
+    }

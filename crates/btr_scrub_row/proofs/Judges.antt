@@ -6,11 +6,9 @@ use Rattle.std.specs.List.{filter, fold, list_any, sum_by}
 use Rattle.std.specs.Option.{option_map_or}
 use Rattle.std.proofs.lemmas.Bool.{cases_eq, eq-eqb, ne_eqb}
 use Rattle.std.proofs.lemmas.List.{get_or-replicate, length-map}
-use Rattle.std.proofs.lemmas.Option.{same_Some}
 use Rattle.std.proofs.lemmas.List.Elements.{filter-append}
 use Rattle.std.proofs.lemmas.List.Folds.{list_any-append}
 use Rattle.std.proofs.lemmas.List.Sums.{fold-append, sum_by_push}
-use Rattle.btr_chunk.specs.Chunk.{IsChunk, data_count}
 use Rattle.btr_chunk.specs.declared.place.Part.TheVariants.{Slice}
 use Rattle.btr_rack.specs.Rack.{pasted}
 use Rattle.btr_read.specs.Candidates.{Target, size_of}
@@ -20,7 +18,7 @@ use Rattle.btr_read.specs.declared.want.Want.{Want}
 use Rattle.btr_scrub_copies.specs.Writes.{Images}
 use Rattle.btr_scrub_row.specs.Wanted.{new_bytes, is_checked, is_lost_block, mending_writes, wrong_parts}
 use Rattle.btr_scrub_row.specs.Rows.{Row, element, is_sure, meets, slice_count, with_block}
-use Rattle.btr_scrub_row.specs.Mending.{IsFullStripe, IsOn, IsRowOf, is_at}
+use Rattle.btr_scrub_row.specs.Mending.{IsOn, IsRowOf, is_at}
 use Rattle.btr_scrub_row.specs.Memory.{HoldsRow, IsStripeOf, element_count, element_in}
 use Rattle.btr_scrub_row.specs.Judging.{AreJudged, FitsVerdict, IsCounted, IsIn, meets_spot}
 use Rattle.btr_scrub_row.specs.declared.stripe.FullStripe.{FullStripe}
@@ -44,7 +42,8 @@ any_one p xs x = list_any-append p xs (x ∷ []) ∙ ap (λ b. list_any p xs || 
 
 module _ (images : Images) (layout : Layout) (row : Row) (ts : List Target) (t : Target) (old new : List ℕ) (judged judged' : Judged) (verdict : Verdict)
     (below : t.at.index < slice_count row) (inside : t.at.rest + size_of t ≤ 65536) (room : slice_count row * 65536 ≤ length old)
-    (so_far : AreJudged images layout row ts old judged) (fits : FitsVerdict images layout row t old new verdict) (counts : IsCounted judged verdict judged') where
+    (so_far : AreJudged images layout row ts old judged) (fits : FitsVerdict images layout row t old new verdict)
+    (counts : IsCounted judged verdict judged') where
   meets_same : (c : ℕ) → meets_spot c verdict.spot ≡ meets c t
   meets_same c = ap (λ r. nat_lt r (c * 4096 + 4096) && nat_lt (c * 4096) (r + verdict.spot.len)) fits.spot.rest
       ∙ ap (λ n. nat_lt t.at.rest (c * 4096 + 4096) && nat_lt (c * 4096) (t.at.rest + n)) fits.spot.len
@@ -57,7 +56,9 @@ module _ (images : Images) (layout : Layout) (row : Row) (ts : List Target) (t :
       let z = element images layout row (Slice i) in
       let f = with_block images layout (new_bytes images row.failing) in
       let p = λ (t : Target). t.at.index == i in
-      let split : fold f z (filter p (ts ++ t ∷ [])) ≡ fold f (element_in old i) (filter p (t ∷ [])) = ap (fold f z) (filter-append p ts (t ∷ [])) ∙ fold-append f z (filter p ts) (filter p (t ∷ [])) ∙ ap (λ x. fold f x (filter p (t ∷ []))) (sym (so_far.slices i lt)) in
+      let split : fold f z (filter p (ts ++ t ∷ [])) ≡ fold f (element_in old i) (filter p (t ∷ [])) =
+      ap (fold f z) (filter-append p ts (t ∷ [])) ∙ fold-append f z (filter p ts) (filter p (t ∷ []))
+      ∙ ap (λ x. fold f x (filter p (t ∷ []))) (sym (so_far.slices i lt)) in
       ap (λ xs. element_in xs i) fits.pasted_is ∙ by (new_bytes images row.failing t) refl i lt ∙ sym split
     where
       by : (o : Option (List ℕ)) → new_bytes images row.failing t ≡ o → (i : ℕ) → i < slice_count row
@@ -89,7 +90,8 @@ module _ (images : Images) (layout : Layout) (row : Row) (ts : List Target) (t :
               let n = long bytes e in
               element_other old t.at.index t.at.rest i bytes (omega (arith, n, below, inside, room)) (omega (arith, n, inside)) (λ s. other (sym s))
 
-  pub judged_more : ((bytes : List ℕ) → new_bytes images row.failing t ≡ Some bytes → length bytes ≡ size_of t) → AreJudged images layout row (ts ++ t ∷ []) new judged'
+  pub judged_more : ((bytes : List ℕ) → new_bytes images row.failing t ≡ Some bytes → length bytes ≡ size_of t)
+      → AreJudged images layout row (ts ++ t ∷ []) new judged'
   judged_more long = record {
     slices = slice_more long;
     blocks = counts.blocks ∙ ap (λ n. n + cond verdict.checked 1 0) so_far.blocks ∙ ap (λ b. count_by is_checked ts + cond b 1 0) fits.checked
@@ -133,21 +135,6 @@ want_at layout (x ∷ wants) (t ∷ blocks) (suc i) w e lt =
 
 pub same_count : (layout : Layout) (wants : List Want) (blocks : List Target) → map (sought layout) wants ≡ map is_at blocks → length blocks ≡ length wants
 same_count layout wants blocks e = sym (length-map blocks is_at) ∙ sym (ap length e) ∙ length-map wants (sought layout)
-
--- a full stripe is each row that is so called
-pub stripe_same : (layout : Layout) (stripe : FullStripe) (row row' : Row) → IsStripeOf layout stripe row
-    → IsFullStripe layout stripe.chunk stripe.number row' → IsStripeOf layout stripe row'
-stripe_same layout stripe row row' of is =
-    let chunk : row.chunk ≡ row'.chunk = same_Some row.chunk row'.chunk (sym of.is.chunk ∙ is.chunk) in
-    record {
-      is = is;
-      shape = record {
-        slices = of.shape.slices ∙ ap (λ c. data_count c.profile (length c.stripes)) chunk;
-        profile = of.shape.profile ∙ ap (λ c. c.profile) chunk;
-      };
-      keeps_rule = subst IsChunk chunk of.keeps_rule;
-      nodesize = of.nodesize;
-    }
 
 -- a want of a row lies in it
 pub in_row : (layout : Layout) (stripe : FullStripe) (wants : List Want) (row : Row) (i : ℕ) (w : Want) → IsStripeOf layout stripe row

@@ -6,7 +6,6 @@ use Rattle.std.proofs.lemmas.Option.{same_Some}
 use Rattle.btr_rack.specs.Rack.{NoneFailed, OnlyReads, Seen}
 use Rattle.btr_rack.specs.declared.place.Place.{Place as Range}
 use Rattle.btr_read.specs.Layout.{Layout}
-use Rattle.btr_read.specs.declared.want.Want.{Want}
 use Rattle.btr_read.proofs.ReadsOn.{same_held}
 use Rattle.btr_read.proofs.Trials.{told as tell}
 use Rattle.btr_scrub_row.specs.Wanted.{mending_writes}
@@ -17,7 +16,7 @@ use Rattle.btr_scrub_copies.specs.declared.mended.MendFault.{MendFault}
 use Rattle.btr_scrub_copies.proofs.Doing.{does_as, does_as_halt, does_failed, does_reads, passed}
 use Rattle.btr_scrub_copies.proofs.Turning.{fails_plain, read_at, read_marked, read_stranded, read_waits, reads_plain, strands_same, told_of, turns_behind}
 use Rattle.btr_scrub_row.specs.Rows.{Row, parities, parities_writes, parity_writes, rebuilt_writes, row_writes}
-use Rattle.btr_scrub_row.specs.Mending.{HasRoom, IsOfRow, IsRowOf, MendsRow, mended_row}
+use Rattle.btr_scrub_row.specs.Mending.{HasRoom, IsOfRow, MendsRow, mended_row}
 use Rattle.btr_scrub_row.specs.Memory.{IsStripeOf}
 use Rattle.btr_scrub_row.specs.Preparing.{IsPrepared, TellsRow}
 use Rattle.btr_scrub_row.specs.Writing.{told_writes}
@@ -27,15 +26,11 @@ use Rattle.btr_scrub_row.specs.declared.mended.MendedRow.{MendedRow}
 use Rattle.btr_scrub_row.specs.declared.stripe.FullStripe.{FullStripe}
 
 -- a buffer that has room for a row has room for each that is so called
-pub room_all : (layout : Layout) (stripe : FullStripe) (row row' : Row) (buffer : RowBuffer) → IsStripeOf layout stripe row
+pub room_all : {layout : Layout} {stripe : FullStripe} {row row' : Row} {buffer : RowBuffer} → IsStripeOf layout stripe row
     → IsStripeOf layout stripe row' → HasRoom buffer (length row.chunk.stripes) → HasRoom buffer (length row'.chunk.stripes)
-room_all layout stripe row row' buffer of of' room =
+room_all {row = row} {row' = row'} {buffer = buffer} of of' room =
     let same : row.chunk ≡ row'.chunk = same_Some row.chunk row'.chunk (sym of.is.chunk ∙ of'.is.chunk) in
     subst (λ c. HasRoom buffer (length c.stripes)) same room
-
-pub row_of : (layout : Layout) (stripe : FullStripe) (chunk number : ℕ) (wants : List Want) (row : Row) → IsStripeOf layout stripe row
-    → IsRowOf layout chunk number wants row → IsRowOf layout stripe.chunk stripe.number wants row
-row_of layout stripe chunk number wants row of is = record { stripe = of.is; blocks = is.blocks; lie = is.lie }
 
 -- what a call did that failed was done where its fault is passed on
 pub mends_passed : {layout : Layout} {row : Row} {write : Bool} {m n : List Bool} {a b : Seen} {r : Result MendedRow MendFault} {fault : MendFault}

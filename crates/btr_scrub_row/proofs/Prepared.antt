@@ -18,13 +18,15 @@ use Rattle.btr_scrub_row.specs.declared.stripe.FullStripe.{FullStripe}
 use Rattle.btr_scrub_row.proofs.Columns.{decided_is}
 use Rattle.btr_scrub_row.proofs.Shapes.{part_p, part_q, row_counted}
 
-module _ (images : Images) (layout : Layout) (stripe : FullStripe) (row : Row) (of : IsStripeOf layout stripe row) (old new : List ℕ) (judged : Judged) (holds : HoldsRow images layout row old) (are : AreJudged images layout row row.blocks new judged) where
+module _ (images : Images) (layout : Layout) (stripe : FullStripe) (row : Row) (of : IsStripeOf layout stripe row) (old new : List ℕ) (judged : Judged)
+    (holds : HoldsRow images layout row old) (are : AreJudged images layout row row.blocks new judged) where
   -- the new data
   slices_are : map (element_in new) (range_with_len 0 stripe.shape.slices) ≡ slices_with images layout (new_bytes images row.failing) row
   slices_are =
       let f = element_in new in
       let g = slice_with images layout (new_bytes images row.failing) row in
-      let long : length (map f (range_with_len 0 stripe.shape.slices)) ≡ length (map g (range_with_len 0 (slice_count row))) = length-map-range_with_len f 0 stripe.shape.slices ∙ of.shape.slices ∙ sym (length-map-range_with_len g 0 (slice_count row)) in
+      let long : length (map f (range_with_len 0 stripe.shape.slices)) ≡ length (map g (range_with_len 0 (slice_count row))) =
+      length-map-range_with_len f 0 stripe.shape.slices ∙ of.shape.slices ∙ sym (length-map-range_with_len g 0 (slice_count row)) in
       same_lists (map f (range_with_len 0 stripe.shape.slices)) (map g (range_with_len 0 (slice_count row))) long (λ i d lt.
       let below : i < stripe.shape.slices = omega (arith, lt, length-map-range_with_len f 0 stripe.shape.slices) in
       let below' : i < slice_count row = omega (arith, below, of.shape.slices) in

@@ -1,7 +1,7 @@
 -- What a block of a row gets, and what is written and counted for it.
 use Rattle.std.proofs.Common.{◌≡◌, ℕ, suc, ◌≤◌, ◌&&◌, ◌||◌, Bool, true, false, not, cond, List, [], ◌∷◌, length, map, take, nat_lt, Option, Some, None}
 use Rattle.std.proofs.Common.{is_none, is_some, refl, sym, ap, ◌∙◌, arith, length-take}
-use Rattle.std.specs.List.{cons_option, filter, list_any, range_with_len}
+use Rattle.std.specs.List.{cons_option, filter, range_with_len}
 use Rattle.std.specs.Option.{option_map, option_map_or}
 use Rattle.std.specs.Str.{bytes_eq}
 use Rattle.std.proofs.lemmas.Bool.{false≢true, lt-ltb}
@@ -16,10 +16,9 @@ use Rattle.btr_read.specs.Layout.{Layout}
 use Rattle.btr_scrub_copies.specs.Blocks.{accepted, bad_parts, block_writes, copy_writes, is_good, is_lost, is_sound, own_parts}
 use Rattle.btr_scrub_copies.specs.Fresh.{fresh, fresh_writes, is_on_behind, is_stale, stale_beside, stale_parts}
 use Rattle.btr_scrub_copies.specs.Writes.{Images, Write}
-use Rattle.btr_scrub_copies.proofs.Freshness.{none_fresh, none_stale}
 use Rattle.btr_scrub_row.specs.Wanted.{new_bytes, is_checked, is_lost_block, mending_writes, renewed, wrong_parts}
 use Rattle.btr_scrub_row.specs.Rows.{Row, has_doubtful, is_sure}
-use Rattle.btr_scrub_row.specs.Memory.{IsAccepted, IsGone, IsRenewed, IsSettled, KnowsDoubts, LiesAt, flag_of}
+use Rattle.btr_scrub_row.specs.Memory.{IsAccepted, IsRenewed, IsSettled, KnowsDoubts, LiesAt, flag_of}
 use Rattle.btr_scrub_row.specs.declared.doubts.Doubts.{Doubts}
 use Rattle.btr_scrub_row.specs.declared.settling.Settled.{Settled}
 use Rattle.btr_scrub_row.specs.declared.spot.Spot.{Spot}
@@ -65,18 +64,6 @@ module _ (images : Images) (row : Row) (t : Target) (none : mirrors t.chunk ≡ 
   or_none true = refl
   or_none false = refl
 
-  -- its image isn't behind
-  pub renewed_not : (block : List ℕ) → is_on_behind row.failing t (Slice t.at.index) ≡ false → IsRenewed images row t block false
-  renewed_not block e = record {
-    parts = none_stale images row.failing t (ap (λ parts. list_any (is_on_behind row.failing t) parts) (own images t none)
-        ∙ or_none (is_on_behind row.failing t (Slice t.at.index)) ∙ e);
-    bytes = λ h. absurd (false≢true h);
-  }
-
-  -- no bytes are fresh
-  pub renewed_none : (block : List ℕ) → fresh images row.failing t ≡ None → IsRenewed images row t block false
-  renewed_none block e = record { parts = none_fresh images row.failing t e; bytes = λ h. absurd (false≢true h) }
-
   -- some are, and they are compared
   pub renewed_as : (block bytes : List ℕ) (same : Bool) → is_on_behind row.failing t (Slice t.at.index) ≡ true
       → fresh images row.failing t ≡ Some (take (size_of t) block) → bytes ≡ element images t (Slice t.at.index)
@@ -118,14 +105,6 @@ module _ (images : Images) (row : Row) (t : Target) (none : mirrors t.chunk ≡ 
   settled_accepted block good checked is = record {
     wrong = ap (λ b. cond b (stale_parts images row.failing t) (bad_parts images t)) checked ∙ bad_are images t none
         ∙ ap (λ b. cond (not b) (Slice t.at.index ∷ []) []) is.good ∙ not_wrong good;
-    gets = ap (λ b. cond b (renewed images row.failing t) (accepted images t)) checked ∙ is.bytes;
-  }
-
-  pub settled_gone : (block : List ℕ) → is_plain t.want ≡ false → IsGone images t
-      → IsSettled images row t block (record { good = false; given = false })
-  settled_gone block checked is = record {
-    wrong = ap (λ b. cond b (stale_parts images row.failing t) (bad_parts images t)) checked ∙ bad_are images t none
-        ∙ ap (λ b. cond (not b) (Slice t.at.index ∷ []) []) is.good;
     gets = ap (λ b. cond b (renewed images row.failing t) (accepted images t)) checked ∙ is.bytes;
   }
 
@@ -198,7 +177,8 @@ module _ (images : Images) (row : Row) (t : Target) (block : List ℕ) (settled 
   long_is room bytes e = by settled.given (sym is.gets ∙ e)
     where
       by : (b : Bool) → cond b (Some (take (size_of t) block)) None ≡ Some bytes → length bytes ≡ size_of t
-      by true h = let same : take (size_of t) block ≡ bytes = same_Some (take (size_of t) block) bytes h in omega (arith, ap length same, length-take (size_of t) block, room)
+      by true h = let same : take (size_of t) block ≡ bytes = same_Some (take (size_of t) block) bytes h in
+          omega (arith, ap length same, length-take (size_of t) block, room)
       by false h = cc
 
   -- what stands in its place in the new data is sure

@@ -19,19 +19,14 @@ pub record Counted (p : Profile) (n : ℕ) : Type 0 where
 
 pub counted : (p : Profile) (n : ℕ) → mirror_count p n ≡ None → has_count p n ≡ true → Counted p n
 counted p n none has = elim (without_copies p n none) [
-  | inl five ↦ subst (λ p. Counted p n) (sym five) (let two : 2 ≤ n = leb-true 2 n (subst (λ p. has_count p n ≡ true) five has) in record { whole = omega (arith, two); some = omega (arith, two); few = omega arith })
-  | inr six ↦ subst (λ p. Counted p n) (sym six) (let three : 3 ≤ n = leb-true 3 n (subst (λ p. has_count p n ≡ true) six has) in record { whole = omega (arith, three); some = omega (arith, three); few = omega arith })
+  | inl five ↦ subst (λ p. Counted p n) (sym five) (let two : 2
+      ≤ n = leb-true 2 n (subst (λ p. has_count p n ≡ true) five has) in record { whole = omega (arith, two); some = omega (arith, two); few = omega arith })
+  | inr six ↦ subst (λ p. Counted p n) (sym six) (let three : 3
+      ≤ n = leb-true 3 n (subst (λ p. has_count p n ≡ true) six has) in record { whole = omega (arith, three); some = omega (arith, three); few = omega arith })
 ]
 
 pub row_counted : (row : Row) → mirrors row.chunk ≡ None → IsChunk row.chunk → Counted row.chunk.profile (length row.chunk.stripes)
 row_counted row none is = counted row.chunk.profile (length row.chunk.stripes) none (facts row.chunk is).count
-
--- a profile with parity has no copies, however many stripes
-pub no_mirrors : (p : Profile) (n m : ℕ) → mirror_count p n ≡ None → mirror_count p m ≡ None
-no_mirrors p n m none = elim (without_copies p n none) [
-  | inl five ↦ subst (λ p. mirror_count p m ≡ None) (sym five) refl
-  | inr six ↦ subst (λ p. mirror_count p m ≡ None) (sym six) refl
-]
 
 -- the parts by number
 not_lt : (a b : ℕ) → b ≤ a → nat_lt a b ≡ false

@@ -10,15 +10,15 @@ use Rattle.btr_rack.specs.Rack.{Accounts, Seen, Unsyncs, Writes, range_in}
 use Rattle.btr_rack.specs.declared.error.RackError.{RackError}
 use Rattle.btr_rack.specs.declared.error.RackError.TheVariants as error
 use Rattle.btr_rack.specs.declared.place.Place.{Place as Range}
-use Rattle.btr_scrub_copies.specs.Writes.{AreAmong, Does, Images, In, IsMarked, IsStopped, LeaveImages, Marks, Write, ranges_of}
+use Rattle.btr_scrub_copies.specs.Writes.{AreAmong, AreWritable, Does, Images, In, IsMarked, IsStopped, LeaveImages, Marks, Write, ranges_of}
 use Rattle.btr_scrub_copies.proofs.Doing.{does_halt, does_then}
 use Rattle.btr_scrub_copies.specs.declared.mended.MendFault.{MendFault}
 use Rattle.btr_scrub_copies.specs.declared.mended.MendFault.TheVariants.{Image, Memory}
-use Rattle.btr_read.specs.Layout.{Layout}
-use Rattle.btr_scrub_row.specs.Rows.{Row}
-use Rattle.btr_scrub_row.specs.Writing.{Tells, told_writes, write_at}
+use Rattle.btr_read.specs.Layout.{AreOpen, Layout}
+use Rattle.btr_scrub_row.specs.Writing.{AreTold, CanWrite, told_writes, write_at}
 
-module _ (P : Range → Type 0) (slot off : ℕ) (bytes : List ℕ) (marks : List Bool) (a b : Seen) (lies : P (range_in slot off (length bytes))) (below : slot < length marks) where
+module _ (P : Range → Type 0) (slot off : ℕ) (bytes : List ℕ) (marks : List Bool) (a b : Seen) (lies : P (range_in slot off (length bytes)))
+    (below : slot < length marks) where
   abbrev place : Range
   place = range_in slot off (length bytes)
 
@@ -50,7 +50,8 @@ module _ (P : Range → Type 0) (slot off : ℕ) (bytes : List ℕ) (marks : Lis
         → LeaveImages {A = A} {E = MendFault} (λ i. write_at slot off bytes ∷ []) held left (Err e)
     leaves_err None left x e h = h
     leaves_err (Some images) left x e h =
-        subst (λ o. IsSomeAnd o (IsStopped (write_at slot off bytes ∷ []) images)) (sym h.2) (record { before = []; behind = write_at slot off bytes ∷ []; place = refl; stands = inr (h.0, h.1, refl) })
+        subst (λ o. IsSomeAnd o (IsStopped (write_at slot off bytes ∷ []) images)) (sym h.2)
+        (record { before = []; behind = write_at slot off bytes ∷ []; place = refl; stands = inr (h.0, h.1, refl) })
 
     module _ (unsyncs : Unsyncs place a b) where
       pub wrote : (x : Unit {0}) (y : A) → Writes {T = Unit {0}} slot off bytes a.held b.held (Ok x) → Accounts {T = Unit {0}} place a.account b.account (Ok x)
@@ -138,10 +139,19 @@ still_untold P f marks marks' a b r h none = of a.held none h.held
         some_none x e = cc
 
 -- what was told is still known after some writes
-pub tells_still : {A : Type 0} (P : Range → Type 0) (f : Images → List Write) (layout : Layout) (row : Row) (bytes : List ℕ) (told : Option Images)
-    (marks marks' : List Bool) (a b : Seen) (r : Result A MendFault) → Does P f marks marks' a b r → Tells layout row bytes told a.held
-    → Tells layout row bytes told b.held
-tells_still P f layout row bytes told marks marks' a b r h t = record { known = t.known; untold = λ e. still_untold P f marks marks' a b r h (t.untold e) }
+pub tells_still : {A : Type 0} {P : Range → Type 0} {f : Images → List Write} {Known : Images → Type 0} {told : Option Images} {marks marks' : List Bool}
+    {a b : Seen} {r : Result A MendFault} → Does P f marks marks' a b r → AreTold Known told a.held → AreTold Known told b.held
+tells_still {P = P} {f = f} {marks = marks} {marks' = marks'} {a = a} {b = b} {r = r} h t =
+    record { known = t.known; untold = λ e. still_untold P f marks marks' a b r h (t.untold e) }
+
+-- the images can still be written
+pub can_still : {layout : Layout} {a b : Seen} {marks marks' : List Bool} → b.slots ≡ a.slots → length marks' ≡ length marks → CanWrite layout a marks
+    → CanWrite layout b marks'
+can_still {layout = layout} {marks' = marks'} same long can = record {
+  are_open = subst (λ s. AreOpen s layout.devices) (sym same) can.are_open;
+  writable = subst AreWritable (sym same) can.writable;
+  slots = omega (arith, ap length same, long, can.slots);
+}
 
 -- the same writes as those that are told
 pub does_told : {A : Type 0} (P : Range → Type 0) (w : List Write) (f : Images → List Write) (told : Option Images) (marks marks' : List Bool)
@@ -149,12 +159,6 @@ pub does_told : {A : Type 0} (P : Range → Type 0) (w : List Write) (f : Images
     → Does P (λ i. w) marks marks' a b r → Does P (λ i. told_writes f told) marks marks' a b r
 does_told P w f None marks marks' a b r same none h = does_untold P (λ i. w) (λ i. []) marks marks' a b r (none refl) h
 does_told P w f (Some images) marks marks' a b r same none h = subst (λ ws. Does P (λ i. ws) marks marks' a b r) (same images refl) h
-
--- told writes, put together
-pub told-append : (f g : Images → List Write) (told : Option Images) → told_writes (λ images. f images ++ g images) told ≡ told_writes f told
-    ++ told_writes g told
-told-append f g None = refl
-told-append f g (Some images) = refl
 
 pub told-same : (f g : Images → List Write) (told : Option Images) → ((images : Images) → f images ≡ g images) → told_writes f told ≡ told_writes g told
 told-same f g None e = refl
@@ -187,7 +191,8 @@ module _ {X : Type 0} (F : Images → X → List Write) (told : Option Images) w
       by None = refl
       by (Some images) = refl
 
-  module _ (P : Range → Type 0) (A U : Type 0) (xs : List X) (i : ℕ) (x : X) (lt : i < length xs) (at : get_or xs i x ≡ x) (m n o : List Bool) (a b c : Seen) (u : U) where
+  module _ (P : Range → Type 0) (A U : Type 0) (xs : List X) (i : ℕ) (x : X) (lt : i < length xs) (at : get_or xs i x ≡ x) (m n o : List Bool)
+      (a b c : Seen) (u : U) where
     more : take (i + 1) xs ≡ take i xs ++ x ∷ []
     more = take_more xs i x lt ∙ ap (λ y. take i xs ++ y ∷ []) at
 

@@ -1,5 +1,6 @@
 -- What comes of one block, and of the first blocks of a row; plain sectors are among them.
-use Rattle.std.specs.Prelude.{◌≡◌, ℕ, ◌+◌, ◌*◌, ◌≤◌, ◌<◌, ◌&&◌, ◌||◌, Bool, false, not, List, length, nat_lt, slice_index_or, Some, None, IsSome, Ok, count_by, ◌==◌, if◌then◌else◌}
+use Rattle.std.specs.Prelude.{◌≡◌, ℕ, ◌+◌, ◌*◌, ◌≤◌, ◌<◌, ◌&&◌, ◌||◌, Bool, false, not, List, length, nat_lt, slice_index_or, Some, None, IsSome, Ok}
+use Rattle.std.specs.Prelude.{count_by, ◌==◌, if◌then◌else◌}
 use Rattle.std.specs.List.{filter, fold, list_any, sum_by}
 use Rattle.std.specs.Option.{option_map_or}
 use Rattle.btr_chunk.specs.Chunk.{IsChunk, mirrors}
@@ -14,11 +15,11 @@ use Rattle.btr_read.specs.declared.want.Want.{Want}
 use Rattle.btr_scrub_copies.specs.Writes.{Images}
 use Rattle.btr_scrub_row.specs.Wanted.{new_bytes, is_checked, is_lost_block, mending_writes, wrong_parts}
 use Rattle.btr_scrub_row.specs.Rows.{Row, element, is_sure, meets, slice_count, with_block}
-use Rattle.btr_scrub_row.specs.Mending.{IsOn, IsRowOf}
-use Rattle.btr_scrub_row.specs.Memory.{HoldsRow, IsSpot, IsStripeOf, KnowsDoubts, element_in}
-use Rattle.btr_scrub_row.specs.declared.doubts.Doubts.{Doubts}
+use Rattle.btr_scrub_row.specs.Mending.{IsOn}
+use Rattle.btr_scrub_row.specs.Memory.{HoldsRow, IsSpot, IsStripeOf, IsWantedRow, KnowsDoubts, element_in}
 use Rattle.btr_scrub_row.specs.declared.judged.Judged.{Judged}
 use Rattle.btr_scrub_row.specs.declared.judging.Verdict.{Verdict}
+use Rattle.btr_scrub_row.specs.declared.row_view.RowView.{RowView}
 use Rattle.btr_scrub_row.specs.declared.settling.Settled.{Settled}
 use Rattle.btr_scrub_row.specs.declared.shape.Shape.{Shape}
 use Rattle.btr_scrub_row.specs.declared.spot.Spot.{Spot}
@@ -66,10 +67,11 @@ pub record FitsVerdict (images : Images) (layout : Layout) (row : Row) (t : Targ
   pub pasted_is : new ≡ option_map_or (pasted old (t.at.index * 65536 + t.at.rest)) (new_bytes images row.failing t) old
 
 -- what comes of a wanted block of a row in memory
-abbrev pub JudgesBlock : Layout → FullStripe → Doubts → Want → List ℕ → List ℕ → List ℕ → Verdict → Type 0
-JudgesBlock layout stripe doubts want bytes old new verdict =
-    (images : Images) (row : Row) (t : Target) → IsStripeOf layout stripe row → KnowsDoubts layout row doubts → HoldsRow images layout row bytes
-    → sought layout want ≡ Ok t → FitsVerdict images layout row t old new verdict
+abbrev pub JudgesBlock : RowView → Want → List ℕ → List ℕ → Verdict → Type 0
+JudgesBlock view want old new verdict =
+    (images : Images) (row : Row) (t : Target) → IsStripeOf view.store.now.layout view.wanted.stripe row
+    → KnowsDoubts view.store.now.layout row view.wanted.doubts → HoldsRow images view.store.now.layout row view.old.now
+    → sought view.store.now.layout want ≡ Ok t → FitsVerdict images view.store.now.layout row t old new verdict
 
 -- a column's flag
 abbrev pub flag : List Bool → ℕ → Bool
@@ -86,11 +88,13 @@ pub record IsCounted (old : Judged) (verdict : Verdict) (new : Judged) : Type 0 
   pub rebuilt : new.rebuilt ≡ old.rebuilt + (if not verdict.good && verdict.given then 1 else 0)
   pub lost : new.lost ≡ old.lost + (if verdict.checked && not verdict.given then 1 else 0)
   pub met : (column : ℕ) → column < 16 → slice_index_or new.met column false ≡ (slice_index_or old.met column false || meets_spot column verdict.spot)
-  pub broken : (column : ℕ) → column < 16 → slice_index_or new.broken column false ≡ (slice_index_or old.broken column false || (not verdict.sure && meets_spot column verdict.spot))
+  pub broken : (column : ℕ) → column < 16 → slice_index_or new.broken column false
+      ≡ (slice_index_or old.broken column false || (not verdict.sure && meets_spot column verdict.spot))
 
 -- what some blocks of a row come to: the new data, the counts, and the columns
 pub record AreJudged (images : Images) (layout : Layout) (row : Row) (ts : List Target) (new : List ℕ) (judged : Judged) : Type 0 where
-  pub slices : (i : ℕ) → i < slice_count row → element_in new i ≡ fold (with_block images layout (new_bytes images row.failing)) (element images layout row (Slice i)) (filter (λ t. t.at.index == i) ts)
+  pub slices : (i : ℕ) → i < slice_count row → element_in new i
+      ≡ fold (with_block images layout (new_bytes images row.failing)) (element images layout row (Slice i)) (filter (λ t. t.at.index == i) ts)
   pub blocks : judged.blocks ≡ count_by is_checked ts
   pub bad : judged.bad ≡ sum_by (λ t. length (wrong_parts images row.failing t)) ts
   pub rebuilt : judged.rebuilt ≡ sum_by (λ t. length (mending_writes images row.failing t)) ts
@@ -99,7 +103,7 @@ pub record AreJudged (images : Images) (layout : Layout) (row : Row) (ts : List 
   pub broken : (column : ℕ) → column < 16 → slice_index_or judged.broken column false ≡ list_any (λ t. not (is_sure images layout row t) && meets column t) ts
 
 -- the wanted blocks of a row in memory were judged
-abbrev pub JudgesRow : Layout → FullStripe → List Want → Doubts → List ℕ → List ℕ → Judged → Type 0
-JudgesRow layout stripe wants doubts old new judged =
-    (images : Images) (row : Row) → IsStripeOf layout stripe row → IsRowOf layout stripe.chunk stripe.number wants row → KnowsDoubts layout row doubts → HoldsRow images layout row old
-    → AreJudged images layout row row.blocks new judged
+abbrev pub JudgesRow : RowView → List ℕ → Judged → Type 0
+JudgesRow view new judged =
+    (images : Images) (row : Row) → IsWantedRow view.store.now.layout view.wanted row → HoldsRow images view.store.now.layout row view.old.now
+    → AreJudged images view.store.now.layout row row.blocks new judged

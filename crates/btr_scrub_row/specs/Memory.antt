@@ -1,6 +1,7 @@
 -- A row's bytes in memory, element by element: the slices, P, and Q; and a block of it.
 use Rattle.std.specs.List.{All, list_any, range_with_len}
-use Rattle.std.specs.Prelude.{◌≡◌, ℕ, ◌+◌, ◌*◌, ◌<◌, ◌≤◌, ◌==◌, ◌&&◌, ◌||◌, Bool, true, false, List, [], ◌∷◌, length, map, nat_lt, take, Option, Some, None, IfSome, IsSome}
+use Rattle.std.specs.Prelude.{◌≡◌, ℕ, ◌+◌, ◌*◌, ◌<◌, ◌≤◌, ◌==◌, ◌&&◌, ◌||◌, Bool, true, false, List, [], ◌∷◌, length, map, nat_lt, take, Option, Some}
+use Rattle.std.specs.Prelude.{None, IfSome, IsOkAnd, IsSome}
 use Rattle.std.specs.Prelude.{Result, Ok, slice_get, slice_index_or, slice_range, if◌then◌else◌}
 use Rattle.btr_chunk.specs.Chunk.{IsChunk, mirrors}
 use Rattle.btr_chunk.specs.Mapping.{HasPart, IsPosition, place_at}
@@ -15,6 +16,7 @@ use Rattle.btr_read.specs.Candidates.{Target, range_of, reads_slice, rebuilt, si
 use Rattle.btr_read.specs.Fate.{sought}
 use Rattle.btr_read.specs.Gathering.{read_slices}
 use Rattle.btr_read.specs.Layout.{Layout}
+use Rattle.btr_read.specs.Want.{len_of}
 use Rattle.btr_read.specs.declared.candidate.Candidate.{Candidate}
 use Rattle.btr_read.specs.declared.candidate.Candidate.TheVariants.{Read, ByP, ByQ, ByBoth}
 use Rattle.btr_read.specs.declared.want.Want.{Want}
@@ -25,14 +27,16 @@ use Rattle.btr_scrub_copies.specs.Writes.{AccountsMend, Images}
 use Rattle.btr_scrub_copies.specs.declared.mended.MendFault.{MendFault}
 use Rattle.btr_scrub_row.specs.Wanted.{new_bytes, wrong_parts}
 use Rattle.btr_scrub_row.specs.Rows.{Row, element, has_doubtful, parities, slice_count}
-use Rattle.btr_scrub_row.specs.Mending.{IsFullStripe, IsOfRow, IsOn}
+use Rattle.btr_scrub_row.specs.Mending.{IsFullStripe, IsOfRow, IsOn, IsRowOf}
 use Rattle.btr_scrub_row.specs.declared.doubts.Doubts.{Doubts}
 use Rattle.btr_scrub_row.specs.declared.settling.Settled.{Settled}
 use Rattle.btr_scrub_row.specs.declared.stripe.FullStripe.{FullStripe}
 use Rattle.btr_scrub_row.specs.declared.parity.Parity.{Parity}
 use Rattle.btr_scrub_row.specs.declared.parity.Parity.TheVariants as parity
 use Rattle.btr_scrub_row.specs.declared.shape.Shape.{Shape}
+use Rattle.btr_scrub_row.specs.declared.row_view.RowView.{RowView}
 use Rattle.btr_scrub_row.specs.declared.spot.Spot.{Spot}
+use Rattle.btr_scrub_row.specs.declared.wanted_row.WantedRow.{WantedRow}
 
 -- the profile of a row, and how many slices it has
 pub record IsShape (row : Row) (shape : Shape) : Type 0 where
@@ -211,9 +215,9 @@ Accepts images t block (Some own) = IsAccepted images t block own
 Accepts images t block None = IsGone images t
 
 -- the same for a wanted block
-abbrev pub AcceptsWant : Layout → Want → Spot → List ℕ → List ℕ → Option Bool → Type 0
-AcceptsWant layout want spot bytes block own =
-    (images : Images) (t : Target) → sought layout want ≡ Ok t → IsHeld images t spot bytes → Accepts images t block own
+abbrev pub AcceptsWant : RowView → Want → Spot → List ℕ → Option Bool → Type 0
+AcceptsWant view want spot block own =
+    (images : Images) (t : Target) → sought view.store.now.layout want ≡ Ok t → IsHeld images t spot view.old.now → Accepts images t block own
 
 -- ---- images in doubt
 
@@ -228,7 +232,8 @@ devid_at row part = (place_at row.chunk part (record { row = row.number; index =
 -- what is known of the images of a row: by the number of an element, whether its image is in doubt, and whether it is
 -- behind; and whether some image of the chunk is in doubt
 pub record KnowsDoubts (layout : Layout) (row : Row) (doubts : Doubts) : Type 0 where
-  pub doubtful : (e : ℕ) → e < element_count row → flag_of doubts.doubtful e ≡ is_doubtful layout.devices row.failing (devid_at row (part_at (slice_count row) e))
+  pub doubtful : (e : ℕ) → e < element_count row → flag_of doubts.doubtful e
+      ≡ is_doubtful layout.devices row.failing (devid_at row (part_at (slice_count row) e))
   pub behind : (e : ℕ) → e < element_count row → flag_of doubts.behind e ≡ is_behind layout.devices row.failing (devid_at row (part_at (slice_count row) e))
   pub some : doubts.some ≡ has_doubtful layout.devices row.failing row.chunk
 
@@ -250,11 +255,33 @@ pub record LiesAt (layout : Layout) (row : Row) (t : Target) (spot : Spot) : Typ
   pub sited : IsSited spot t
   pub stand : (part : Part) → HasPart t.chunk.profile (length t.chunk.stripes) part → IsSome (range_of t part)
 
+-- a row is that of some wants, and what is known of its images is so
+pub record IsWantedRow (layout : Layout) (wanted : WantedRow) (row : Row) : Type 0 where
+  pub of : IsStripeOf layout wanted.stripe row
+  pub is : IsRowOf layout wanted.stripe.chunk wanted.stripe.number wanted.wants.now row
+  pub knows : KnowsDoubts layout row wanted.doubts
+
+-- there is a row of those wants
+pub record IsWanted (layout : Layout) (wanted : WantedRow) : Type 0 where
+  pub stripe : IsStripe layout wanted.stripe
+  pub is : IsRowOf layout wanted.stripe.chunk wanted.stripe.number wanted.wants.now stripe.row
+
+-- there is one, and all its elements are in memory
+pub record IsViewed (view : RowView) : Type 0 where
+  pub wanted : IsWanted view.store.now.layout view.wanted
+  pub room : OfRow view.store.now.layout view.wanted.stripe (λ row. length row.chunk.stripes * 65536 ≤ length view.old.now)
+
+-- a wanted block's place, in a row that was read
+pub record IsSpotOf (view : RowView) (want : Want) (spot : Spot) : Type 0 where
+  pub within : FitsIn view.old.now spot
+  pub placed : IsOkAnd (sought view.store.now.layout want) (IsSited spot)
+  pub len : spot.len ≡ len_of view.store.now.layout.setting want
+
 -- this holds of the images, of a row of which the doubts are known, and of a wanted block in it all of whose candidates are in memory
-abbrev pub OfHeld : Layout → Doubts → Want → Spot → List ℕ → (Images → Row → Target → Type 0) → Type 0
-OfHeld layout doubts want spot bytes Fact =
-    (images : Images) (row : Row) (t : Target) → sought layout want ≡ Ok t → LiesAt layout row t spot → KnowsDoubts layout row doubts
-    → IsHeld images t spot bytes → Fact images row t
+abbrev pub OfHeld : RowView → Want → Spot → (Images → Row → Target → Type 0) → Type 0
+OfHeld view want spot Fact =
+    (images : Images) (row : Row) (t : Target) → sought view.store.now.layout want ≡ Ok t → LiesAt view.store.now.layout row t spot
+    → KnowsDoubts view.store.now.layout row view.wanted.doubts → IsHeld images t spot view.old.now → Fact images row t
 
 -- the fresh bytes of a plain sector are in the front of a buffer, if there are any
 abbrev pub HasFresh : Images → Row → Target → List ℕ → Bool → Type 0

@@ -1,5 +1,6 @@
 -- What mending a full stripe did.
-use Rattle.std.specs.Prelude.{◌≡◌, ℕ, ◌+◌, ◌*◌, ◌≤◌, Bool, List, [], false, length, map, Option, None, IfSome, IsSome, IsSomeAnd, Some, Result, Ok, Err, if◌then◌else◌, count_by}
+use Rattle.std.specs.Prelude.{◌≡◌, ℕ, ◌+◌, ◌*◌, ◌≤◌, Bool, List, [], false, length, map, Option, None, IfSome, IsSome, IsSomeAnd, Some, Result, Ok}
+use Rattle.std.specs.Prelude.{Err, if◌then◌else◌, count_by}
 use Rattle.std.specs.List.{All, sum_by}
 use Rattle.btr_chunk.specs.Chunk.{mirrors, stripe_length}
 use Rattle.btr_chunk.specs.Mapping.{HasPart}
@@ -97,9 +98,11 @@ CountsRow held layout row write (Err fault) = Unit {0}
 -- A row was read, and written where it is to be mended: exactly the writes that mend it, or those up to a call that
 -- failed. Its parities are written in a turn of their own, behind its blocks. Where all that waited for a sync was
 -- marked, it is. Where the row was only to be read, it was.
-pub record MendsRow (layout : Layout) (row : Row) (write : Bool) (marks marks' : List Bool) (old new : Seen) (result : Result MendedRow MendFault) : Type 0 where
+pub record MendsRow (layout : Layout) (row : Row) (write : Bool) (marks marks' : List Bool) (old new : Seen)
+    (result : Result MendedRow MendFault) : Type 0 where
   pub does : Does (IsSyncOr (IsOfRow layout row)) (λ images. writes_if write (row_writes images layout row)) [] [] (plain old) (plain new) result
-  pub waits : IfSome old.held (λ images. WaitsInTurn (writes_if write (rebuilt_writes images layout row)) (writes_if write (parities_writes images layout row)) images old new)
+  pub waits : IfSome old.held (λ images. WaitsInTurn (writes_if write (rebuilt_writes images layout row))
+      (writes_if write (parities_writes images layout row)) images old new)
   pub lie : WaitsAt (IsOfRow layout row) old new
   pub marked : AreMarked marks old.unsynced → AreMarked marks' new.unsynced
   pub stranded : Strands old.never_synced new.never_synced result

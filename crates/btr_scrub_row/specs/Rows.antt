@@ -109,7 +109,8 @@ module _ (images : List (List ℕ)) (layout : Layout) where
   -- the write of a column of a parity, as the new data give it, if its element has an image
   abbrev pub sector_write : Row → Part → ℕ → Option Write
   sector_write row part column =
-      option_map (λ range. record { range = range; bytes = column_of column (element_with (new_bytes images row.failing) row part) }) (range_in_element layout row part (column * 4096) 4096)
+      option_map (λ range. record { range = range; bytes = column_of column (element_with (new_bytes images row.failing) row part) })
+      (range_in_element layout row part (column * 4096) 4096)
 
   -- the writes that mend a parity, by ascending column
   abbrev pub parity_writes : Row → Part → List Write

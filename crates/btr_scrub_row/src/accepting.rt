@@ -1,14 +1,14 @@
 // What is accepted for a block: the bytes of its first candidate that passes.
-ghost use Rattle.std.specs.Prelude.{◌≡◌, ◌≢◌, ◌==◌, ◌||◌, ℕ, ◌+◌, ◌<◌, ◌≤◌, IsOkAnd, length, take};
+ghost use Rattle.std.specs.Prelude.{◌≡◌, ◌≢◌, ◌==◌, ◌||◌, ℕ, ◌+◌, ◌<◌, ◌≤◌, length, take};
 ghost use Rattle.btr_chunk.specs.declared.profile.Profile.{Profile};
 ghost use Rattle.btr_chunk.specs.declared.profile.Profile.TheVariants as profile;
 ghost use Rattle.btr_read.specs.Sought.{IsTwoParities};
 ghost use Rattle.btr_read.specs.Want.{len_of, passes};
-ghost use Rattle.btr_scrub_row.specs.Memory.{AcceptsWant, Computes, FitsIn, IsCandidate, IsSited, ReadsQ, piece_in};
-ghost use Rattle.btr_read.specs.Fate.{sought};
+ghost use Rattle.btr_scrub_row.specs.Memory.{AcceptsWant, Computes, FitsIn, IsCandidate, IsSpotOf, ReadsQ, piece_in};
 
 use crate::gathering::{copy_front, divide_front, gather, solve_front};
 use crate::parity::Parity;
+use crate::row_view::RowView;
 use crate::spot::Spot;
 use btr_chunk::{Part, Profile};
 use btr_read::{Candidate, Store, Want, passes, way_at};
@@ -56,9 +56,7 @@ pub(crate) fn compute(
     requires spare_fits { spot.now.len ≤ length spare.old }
     requires parts { IsTwoParities spot.now.shape.slices spot.now.index candidate }
     requires q { ReadsQ candidate → spot.now.shape.profile ≡ Profile.Raid6 }
-    ensures value { Computes spot.now bytes.now candidate block.new }
-    ensures long { length block.new ≡ length block.old }
-    ensures spare_long { length spare.new ≡ length spare.old }
+    ensures { Computes spot.now bytes.now candidate block.new }
 {
     match candidate {
         Candidate::Read(_) => copy_front(block, bytes, spot.start(spot.index), spot.len),
@@ -102,25 +100,20 @@ fn own_passes(way: u32, want: &Want, spot: &Spot, store: &Store, bytes: &[u8]) -
 pub(crate) fn accept(
     want: &Want,
     spot: &Spot,
-    store: &Store,
-    bytes: &[u8],
+    view: &RowView<'_>,
     block: &mut [u8],
     spare: &mut [u8],
 ) -> Option<bool>
-    requires within { FitsIn bytes.now spot.now }
-    requires placed { IsOkAnd (sought store.now.layout want.now) (IsSited spot.now) }
+    requires spot { IsSpotOf view.now want.now spot.now }
     requires fits { spot.now.len ≤ length block.old }
     requires spare_fits { spot.now.len ≤ length spare.old }
-    requires len { spot.now.len ≡ len_of store.now.layout.setting want.now }
-    ensures accepts { AcceptsWant store.now.layout want.now spot.now bytes.now block.new result }
-    ensures long { length block.new ≡ length block.old }
-    ensures spare_long { length spare.new ≡ length spare.old }
+    ensures { AcceptsWant view.now want.now spot.now block.new result }
 {
     for k in 0..way_count(spot) {
-        let way = way_at(want, k, store);
-        compute(bytes, spot, way_of(spot.index, way), block, spare);
-        if front_passes(want, store, block, spot.len) {
-            return Some(own_passes(way, want, spot, store, bytes));
+        let way = way_at(want, k, view.store);
+        compute(view.old, spot, way_of(spot.index, way), block, spare);
+        if front_passes(want, view.store, block, spot.len) {
+            return Some(own_passes(way, want, spot, view.store, view.old));
         }
     }
     None

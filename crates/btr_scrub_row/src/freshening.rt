@@ -6,13 +6,15 @@ ghost use Rattle.btr_read.specs.Candidates.{Target};
 ghost use Rattle.btr_read.specs.Fate.{sought};
 ghost use Rattle.btr_read.specs.Sought.{IsTwoParities};
 ghost use Rattle.btr_scrub_copies.specs.Fresh.{first_trusted};
-ghost use Rattle.btr_scrub_row.specs.Memory.{FitsIn, HasFresh, IsRenewed, IsSited, KnowsDoubts, LiesAt, OfHeld, ReadsQ, piece_at, reads_flagged, reads_flagged_slice};
+ghost use Rattle.btr_scrub_row.specs.Memory.{HasFresh, IsRenewed, IsSited, IsSpotOf, KnowsDoubts, LiesAt, OfHeld, ReadsQ, piece_at, reads_flagged};
+ghost use Rattle.btr_scrub_row.specs.Memory.{reads_flagged_slice};
 ghost use Rattle.btr_scrub_row.specs.Rows.{Row};
 
 use crate::accepting::{compute, way_count, way_of};
 use crate::doubts::{Doubts, flag_of};
 use crate::gathering::reads;
 use crate::parity::Parity;
+use crate::row_view::RowView;
 use crate::spot::Spot;
 use btr_read::{Candidate, Store, Want};
 
@@ -67,24 +69,18 @@ fn first_trusted(want: &Want, spot: &Spot, doubts: &Doubts, store: &Store) -> Op
 fn find_fresh(
     want: &Want,
     spot: &Spot,
-    doubts: &Doubts,
-    store: &Store,
-    bytes: &[u8],
+    view: &RowView<'_>,
     block: &mut [u8],
     spare: &mut [u8],
 ) -> bool
-    requires within { FitsIn bytes.now spot.now }
-    requires placed { IsOkAnd (sought store.now.layout want.now) (IsSited spot.now) }
+    requires spot { IsSpotOf view.now want.now spot.now }
     requires fits { spot.now.len ≤ length block.old }
     requires spare_fits { spot.now.len ≤ length spare.old }
-    ensures fresh { OfHeld store.now.layout doubts.now want.now spot.now bytes.now
-        (λ images row t. HasFresh images row t block.new result) }
-    ensures long { length block.new ≡ length block.old }
-    ensures spare_long { length spare.new ≡ length spare.old }
+    ensures { OfHeld view.now want.now spot.now (λ images row t. HasFresh images row t block.new result) }
 {
-    match first_trusted(want, spot, doubts, store) {
+    match first_trusted(want, spot, &view.wanted.doubts, view.store) {
         Some(candidate) => {
-            compute(bytes, spot, candidate, block, spare);
+            compute(view.old, spot, candidate, block, spare);
             true
         }
         None => false,
@@ -104,26 +100,20 @@ fn same_front(bytes: &[u8], start: usize, front: &[u8], len: usize) -> bool
 pub(crate) fn is_stale(
     want: &Want,
     spot: &Spot,
-    doubts: &Doubts,
-    store: &Store,
-    bytes: &[u8],
+    view: &RowView<'_>,
     block: &mut [u8],
     spare: &mut [u8],
 ) -> bool
-    requires within { FitsIn bytes.now spot.now }
-    requires placed { IsOkAnd (sought store.now.layout want.now) (IsSited spot.now) }
+    requires spot { IsSpotOf view.now want.now spot.now }
     requires fits { spot.now.len ≤ length block.old }
     requires spare_fits { spot.now.len ≤ length spare.old }
-    ensures renewed { OfHeld store.now.layout doubts.now want.now spot.now bytes.now
-        (λ images row t. IsRenewed images row t block.new result) }
-    ensures long { length block.new ≡ length block.old }
-    ensures spare_long { length spare.new ≡ length spare.old }
+    ensures { OfHeld view.now want.now spot.now (λ images row t. IsRenewed images row t block.new result) }
 {
-    if !flag_of(&doubts.behind, spot.index) {
+    if !flag_of(&view.wanted.doubts.behind, spot.index) {
         return false;
     }
-    if !find_fresh(want, spot, doubts, store, bytes, block, spare) {
+    if !find_fresh(want, spot, view, block, spare) {
         return false;
     }
-    !same_front(bytes, spot.start(spot.index), block, spot.len)
+    !same_front(view.old, spot.start(spot.index), block, spot.len)
 }

@@ -14,8 +14,7 @@ use btr_read::Candidate;
 pub(crate) fn copy_front(front: &mut [u8], bytes: &[u8], start: usize, len: usize)
     requires fits { len ≤ length front.old }
     requires within { start + len ≤ length bytes.now }
-    ensures front { take len front.new ≡ piece_at bytes.now start len }
-    ensures long { length front.new ≡ length front.old }
+    ensures { take len front.new ≡ piece_at bytes.now start len }
 {
     front[..len].copy_from_slice(&bytes[start..start + len]);
 }
@@ -32,8 +31,7 @@ pub(crate) fn add_front(
     requires fits { len ≤ length front.old }
     requires within { start + len ≤ length bytes.now }
     requires is_index { index ≤ 62 }
-    ensures sum { take len front.new ≡ plus (take len front.old) (weighed parity index (piece_at bytes.now start len)) }
-    ensures long { length front.new ≡ length front.old }
+    ensures { take len front.new ≡ plus (take len front.old) (weighed parity index (piece_at bytes.now start len)) }
 {
     let piece = &bytes[start..start + len];
     match parity {
@@ -46,8 +44,7 @@ pub(crate) fn add_front(
 pub(crate) fn divide_front(front: &mut [u8], len: usize, index: u8)
     requires fits { len ≤ length front.old }
     requires is_index { index ≤ 62 }
-    ensures one { IsTheOne len (Weighs index (take len front.old)) (take len front.new) }
-    ensures long { length front.new ≡ length front.old }
+    ensures { IsTheOne len (Weighs index (take len front.old)) (take len front.new) }
 {
     rebuild_q(&mut front[..len], index);
 }
@@ -59,8 +56,7 @@ pub(crate) fn solve_front(p: &mut [u8], q: &[u8], len: usize, index: u8, other: 
     requires is_index { index ≤ 62 }
     requires is_other_index { other ≤ 62 }
     requires differ { index ≢ other }
-    ensures one { IsTheOne len (WeighsWith (take len p.old) (take len q.now) index other) (take len p.new) }
-    ensures long { length p.new ≡ length p.old }
+    ensures { IsTheOne len (WeighsWith (take len p.old) (take len q.now) index other) (take len p.new) }
 {
     rebuild_pq(&mut p[..len], &q[..len], index, other);
 }
@@ -88,8 +84,7 @@ pub(crate) fn gather(
     requires within { FitsIn bytes.now spot.now }
     requires fits { spot.now.len ≤ length sum.old }
     requires has { HasParity spot.now.shape.profile parity }
-    ensures left { Gathers spot.now bytes.now candidate parity sum.new }
-    ensures long { length sum.new ≡ length sum.old }
+    ensures { Gathers spot.now bytes.now candidate parity sum.new }
 {
     let element = parity.element(spot.shape.slices);
     copy_front(sum, bytes, spot.start(element), spot.len);

@@ -1,16 +1,13 @@
 // The counts of the blocks of a row, and its columns.
 ghost use Rattle.std.specs.Prelude.{◌≡◌, ℕ, ◌+◌, ◌*◌, ◌<◌, ◌≤◌, ◌^◌, ◌||◌, length};
-ghost use Rattle.btr_scrub_row.specs.Mending.{IsRow};
-ghost use Rattle.btr_scrub_row.specs.Memory.{IsStripe, OfRow};
+ghost use Rattle.btr_scrub_row.specs.Memory.{IsViewed, OfRow};
 ghost use Rattle.btr_scrub_row.specs.Judging.{IsCounted, JudgesRow, flag, meets_spot};
 
 use crate::buffer::ELEMENT;
-use crate::doubts::Doubts;
 use crate::gathering::copy_front;
 use crate::judging::{Verdict, judge_block};
+use crate::row_view::RowView;
 use crate::spot::Spot;
-use crate::stripe::FullStripe;
-use btr_read::{Store, Want};
 
 // What the blocks of a row come to: checked blocks, and plain sectors.
 #[derive(Clone, Copy, Debug, PartialEq, Eq)]
@@ -83,27 +80,19 @@ fn counted(judged: &Judged, verdict: &Verdict) -> Judged
 
 // Judges the blocks of a row as it was read, and makes the new data.
 pub(crate) fn judge(
-    wants: &[Want],
-    stripe: &FullStripe,
-    doubts: &Doubts,
-    store: &Store,
-    old: &[u8],
+    view: &RowView<'_>,
     new: &mut [u8],
     block: &mut [u8],
     spare: &mut [u8],
 ) -> Judged
-    requires row { IsRow store.now.layout stripe.now.chunk stripe.now.number wants.now }
-    requires stripe { IsStripe store.now.layout stripe.now }
-    requires room { OfRow store.now.layout stripe.now (λ row. length row.chunk.stripes * 65536 ≤ length old.now) }
-    requires new_room { OfRow store.now.layout stripe.now (λ row. length row.chunk.stripes * 65536 ≤ length new.old) }
+    requires view { IsViewed view.now }
+    requires new_room { OfRow view.now.store.now.layout view.now.wanted.stripe (λ row. length row.chunk.stripes * 65536 ≤ length new.old) }
     requires block { 65536 ≤ length block.old }
     requires spare { 65536 ≤ length spare.old }
-    ensures judged { JudgesRow store.now.layout stripe.now wants.now doubts.now old.now new.new result }
-    ensures long { length new.new ≡ length new.old }
-    ensures block_long { length block.new ≡ length block.old }
-    ensures spare_long { length spare.new ≡ length spare.old }
+    ensures { JudgesRow view.now new.new result }
 {
-    copy_front(new, old, 0, stripe.shape.slices as usize * ELEMENT);
+    let slices = view.wanted.stripe.shape.slices;
+    copy_front(new, view.old, 0, slices as usize * ELEMENT);
     let mut judged = Judged {
         blocks: 0,
         bad: 0,
@@ -112,8 +101,8 @@ pub(crate) fn judge(
         met: [false; 16],
         broken: [false; 16],
     };
-    for want in wants {
-        let verdict = judge_block(want, stripe, doubts, store, old, new, block, spare);
+    for want in view.wanted.wants {
+        let verdict = judge_block(want, view, new, block, spare);
         judged = counted(&judged, &verdict);
     }
     judged

@@ -5,9 +5,10 @@ ghost use Rattle.btr_read.specs.Candidates.{Target};
 ghost use Rattle.btr_read.specs.Fate.{sought};
 ghost use Rattle.btr_read.specs.Want.{len_of};
 ghost use Rattle.btr_scrub_row.specs.Judging.{IsIn, IsPlaced, IsVerdict, JudgesBlock};
-ghost use Rattle.btr_scrub_row.specs.Memory.{OfRow, flag_of};
+ghost use Rattle.btr_scrub_row.specs.Memory.{IsViewed, OfRow, flag_of};
 
 use crate::doubts::{Doubts, flag_of};
+use crate::row_view::RowView;
 use crate::settling::{Settled, is_plain, settle};
 use crate::spot::Spot;
 use crate::stripe::FullStripe;
@@ -63,8 +64,7 @@ pub(crate) fn spot_of(want: &Want, stripe: &FullStripe, store: &Store) -> Spot
 fn paste(given: bool, bytes: &mut [u8], start: usize, front: &[u8], len: usize)
     requires fits { len ≤ length front.now }
     requires within { start + len ≤ length bytes.old }
-    ensures pasted { bytes.new ≡ (if given then pasted bytes.old start (take len front.now) else bytes.old) }
-    ensures long { length bytes.new ≡ length bytes.old }
+    ensures { bytes.new ≡ (if given then pasted bytes.old start (take len front.now) else bytes.old) }
 {
     if given {
         bytes[start..start + len].copy_from_slice(&front[..len]);
@@ -94,27 +94,22 @@ fn verdict_of(checked: bool, settled: Settled, surer: bool, spot: Spot) -> Verdi
 // Judges a block by the row as it was read, and puts what it gets into the new data.
 pub(crate) fn judge_block(
     want: &Want,
-    stripe: &FullStripe,
-    doubts: &Doubts,
-    store: &Store,
-    old: &[u8],
+    view: &RowView<'_>,
     new: &mut [u8],
     block: &mut [u8],
     spare: &mut [u8],
 ) -> Verdict
-    requires within { IsIn store.now.layout stripe.now want.now }
-    requires room { OfRow store.now.layout stripe.now (λ row. length row.chunk.stripes * 65536 ≤ length old.now) }
-    requires new_room { OfRow store.now.layout stripe.now (λ row. length row.chunk.stripes * 65536 ≤ length new.old) }
+    requires view { IsViewed view.now }
+    requires within { IsIn view.now.store.now.layout view.now.wanted.stripe want.now }
+    requires new_room { OfRow view.now.store.now.layout view.now.wanted.stripe (λ row. length row.chunk.stripes * 65536 ≤ length new.old) }
     requires block { 65536 ≤ length block.old }
     requires spare { 65536 ≤ length spare.old }
-    ensures verdict { JudgesBlock store.now.layout stripe.now doubts.now want.now old.now new.old new.new result }
+    ensures verdict { JudgesBlock view.now want.now new.old new.new result }
     ensures inside { result.spot.rest + result.spot.len ≤ 65536 }
-    ensures long { length new.new ≡ length new.old }
-    ensures block_long { length block.new ≡ length block.old }
-    ensures spare_long { length spare.new ≡ length spare.old }
 {
-    let spot = spot_of(want, stripe, store);
-    let settled = settle(want, &spot, doubts, store, old, block, spare);
+    let spot = spot_of(want, &view.wanted.stripe, view.store);
+    let settled = settle(want, &spot, view, block, spare);
     paste(settled.given, new, spot.start(spot.index), block, spot.len);
-    verdict_of(!is_plain(want), settled, is_surer(&spot, doubts), spot)
+    let surer = is_surer(&spot, &view.wanted.doubts);
+    verdict_of(!is_plain(want), settled, surer, spot)
 }

@@ -12,8 +12,7 @@ use btr_parity::double_and_add;
 fn double_front(front: &mut [u8], bytes: &[u8], start: usize, len: usize)
     requires fits { len ≤ length front.old }
     requires within { start + len ≤ length bytes.now }
-    ensures sum { take len front.new ≡ plus (scaled 2 (take len front.old)) (piece_at bytes.now start len) }
-    ensures long { length front.new ≡ length front.old }
+    ensures { take len front.new ≡ plus (scaled 2 (take len front.old)) (piece_at bytes.now start len) }
 {
     double_and_add(&mut front[..len], &bytes[start..start + len]);
 }
@@ -24,8 +23,7 @@ pub(crate) fn make_p(slices: u32, bytes: &[u8], p: &mut [u8])
     requires some { 0 < slices }
     requires few { slices ≤ 63 }
     requires within { slices * 65536 ≤ length bytes.now }
-    ensures p { take 65536 p.new ≡ parity_p 65536 (slices_in bytes.now slices) }
-    ensures long { length p.new ≡ length p.old }
+    ensures { take 65536 p.new ≡ parity_p 65536 (slices_in bytes.now slices) }
 {
     copy_front(p, bytes, 0, ELEMENT);
     for slice in 1..slices {
@@ -40,8 +38,7 @@ pub(crate) fn make_q(slices: u32, bytes: &[u8], q: &mut [u8])
     requires some { 0 < slices }
     requires few { slices ≤ 63 }
     requires within { slices * 65536 ≤ length bytes.now }
-    ensures q { take 65536 q.new ≡ parity_q 65536 (slices_in bytes.now slices) }
-    ensures long { length q.new ≡ length q.old }
+    ensures { take 65536 q.new ≡ parity_q 65536 (slices_in bytes.now slices) }
 {
     let last = (slices - 1) as usize * ELEMENT;
     copy_front(q, bytes, last, ELEMENT);

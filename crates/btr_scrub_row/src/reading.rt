@@ -26,7 +26,6 @@ fn read_element<R: Rack>(
     requires few { number ≤ 64 }
     requires room { (number + 1) * 65536 ≤ length bytes.old }
     ensures reads { OnlyReads (R.seen rack.old) (R.seen rack.new) }
-    ensures long { length bytes.new ≡ length bytes.old }
     ensures others { (e : ℕ) → e ≢ number → element_in bytes.new e ≡ element_in bytes.old e }
     ensures bytes { OnOk result
         (ReadsElement store.now.layout stripe.now part (element_in bytes.new number) (R.seen rack.old).held) }
@@ -52,7 +51,6 @@ pub(crate) fn read_row<R: Rack>(
     requires stripe { IsStripe store.now.layout stripe.now }
     requires room { OfRow store.now.layout stripe.now (λ row. length row.chunk.stripes * 65536 ≤ length bytes.old) }
     ensures reads { OnlyReads (R.seen rack.old) (R.seen rack.new) }
-    ensures long { length bytes.new ≡ length bytes.old }
     ensures bytes { OnOk result (ReadsRow store.now.layout stripe.now bytes.new (R.seen rack.old).held) }
     ensures account { AccountsRow store.now.layout stripe.now (R.seen rack.old) (R.seen rack.new) result }
 {

@@ -1,14 +1,13 @@
 // What a wanted block of a row gets: a checked block, or a plain sector.
-ghost use Rattle.std.specs.Prelude.{◌≡◌, ◌≤◌, length, IsOkAnd};
-ghost use Rattle.btr_read.specs.Fate.{is_plain, sought};
-ghost use Rattle.btr_read.specs.Want.{len_of};
-ghost use Rattle.btr_scrub_row.specs.Memory.{FitsIn, IsSettled, IsSited, OfHeld};
+ghost use Rattle.std.specs.Prelude.{◌≡◌, ◌≤◌, length};
+ghost use Rattle.btr_read.specs.Fate.{is_plain};
+ghost use Rattle.btr_scrub_row.specs.Memory.{IsSettled, IsSpotOf, OfHeld};
 
 use crate::accepting::accept;
-use crate::doubts::Doubts;
 use crate::freshening::is_stale;
+use crate::row_view::RowView;
 use crate::spot::Spot;
-use btr_read::{Store, Want};
+use btr_read::Want;
 
 // What comes of a block.
 #[derive(Clone, Copy, Debug, PartialEq, Eq)]
@@ -30,30 +29,23 @@ pub fn is_plain(want: &Want) -> bool
 pub(crate) fn settle(
     want: &Want,
     spot: &Spot,
-    doubts: &Doubts,
-    store: &Store,
-    bytes: &[u8],
+    view: &RowView<'_>,
     block: &mut [u8],
     spare: &mut [u8],
 ) -> Settled
-    requires within { FitsIn bytes.now spot.now }
-    requires placed { IsOkAnd (sought store.now.layout want.now) (IsSited spot.now) }
+    requires spot { IsSpotOf view.now want.now spot.now }
     requires fits { spot.now.len ≤ length block.old }
     requires spare_fits { spot.now.len ≤ length spare.old }
-    requires len { spot.now.len ≡ len_of store.now.layout.setting want.now }
-    ensures settled { OfHeld store.now.layout doubts.now want.now spot.now bytes.now
-        (λ images row t. IsSettled images row t block.new result) }
-    ensures long { length block.new ≡ length block.old }
-    ensures spare_long { length spare.new ≡ length spare.old }
+    ensures { OfHeld view.now want.now spot.now (λ images row t. IsSettled images row t block.new result) }
 {
     if is_plain(want) {
-        let stale = is_stale(want, spot, doubts, store, bytes, block, spare);
+        let stale = is_stale(want, spot, view, block, spare);
         return Settled {
             good: !stale,
             given: stale,
         };
     }
-    match accept(want, spot, store, bytes, block, spare) {
+    match accept(want, spot, view, block, spare) {
         Some(good) => Settled { good, given: true },
         None => Settled {
             good: false,

@@ -1,8 +1,6 @@
 // Writing what mends a row.
-ghost use Rattle.std.specs.Prelude.{◌≡◌, ◌+◌, ◌≤◌, ◌<◌, ◌^◌, length, take};
-ghost use Rattle.btr_rack.specs.Rack.{len_of};
-ghost use Rattle.btr_scrub_copies.specs.Writes.{AreWritable};
-ghost use Rattle.btr_scrub_row.specs.Writing.{WritesBytes};
+ghost use Rattle.std.specs.Prelude.{◌≡◌, ◌+◌, ◌≤◌, length, take};
+ghost use Rattle.btr_scrub_row.specs.Writing.{CanWriteIn, WritesBytes};
 ghost use Rattle.btr_scrub_row.specs.Memory.{piece_at};
 
 use btr_rack::{Place, Rack, RackError};
@@ -16,13 +14,8 @@ pub(crate) fn write_in<R: Rack>(
     rack: &mut R,
     marks: &mut [bool],
 ) -> Result<(), MendFault>
-    requires open { element.slot < length (R.seen rack.old).slots }
-    requires writable { AreWritable (R.seen rack.old).slots }
-    requires slots { length (R.seen rack.old).slots ≤ length marks.old }
-    requires range { element.off + rest + length bytes.now ≤ len_of (R.seen rack.old).slots element.slot }
-    requires small { element.off + rest < 2 ^ 64 }
+    requires { CanWriteIn element rest (length bytes.now) (R.seen rack.old) marks.old }
     ensures slots { (R.seen rack.new).slots ≡ (R.seen rack.old).slots }
-    ensures marks { length marks.new ≡ length marks.old }
     ensures writes { WritesBytes element.slot (element.off + rest) bytes.now
         marks.old marks.new (R.seen rack.old) (R.seen rack.new) result }
 {
@@ -44,13 +37,8 @@ pub(crate) fn write_range<R: Rack>(
     marks: &mut [bool],
 ) -> Result<(), MendFault>
     requires fits { start + len ≤ length buffer.now }
-    requires open { element.slot < length (R.seen rack.old).slots }
-    requires writable { AreWritable (R.seen rack.old).slots }
-    requires slots { length (R.seen rack.old).slots ≤ length marks.old }
-    requires range { element.off + start + len ≤ len_of (R.seen rack.old).slots element.slot }
-    requires small { element.off + start < 2 ^ 64 }
+    requires can { CanWriteIn element start len (R.seen rack.old) marks.old }
     ensures slots { (R.seen rack.new).slots ≡ (R.seen rack.old).slots }
-    ensures marks { length marks.new ≡ length marks.old }
     ensures writes { WritesBytes element.slot (element.off + start) (piece_at buffer.now start len)
         marks.old marks.new (R.seen rack.old) (R.seen rack.new) result }
 {
@@ -73,13 +61,8 @@ pub(crate) fn write_front<R: Rack>(
     marks: &mut [bool],
 ) -> Result<(), MendFault>
     requires fits { len ≤ length front.now }
-    requires open { element.slot < length (R.seen rack.old).slots }
-    requires writable { AreWritable (R.seen rack.old).slots }
-    requires slots { length (R.seen rack.old).slots ≤ length marks.old }
-    requires range { element.off + rest + len ≤ len_of (R.seen rack.old).slots element.slot }
-    requires small { element.off + rest < 2 ^ 64 }
+    requires can { CanWriteIn element rest len (R.seen rack.old) marks.old }
     ensures slots { (R.seen rack.new).slots ≡ (R.seen rack.old).slots }
-    ensures marks { length marks.new ≡ length marks.old }
     ensures writes { WritesBytes element.slot (element.off + rest) (take len front.now)
         marks.old marks.new (R.seen rack.old) (R.seen rack.new) result }
 {

@@ -13,7 +13,7 @@ use Rattle.btr_scrub_row.proofs.Accepted.{way_below}
 use Rattle.btr_scrub_row.proofs.accepting.accept.Goals as goal
 
 pub loop-k-init : goal.loop-k-init
-loop-k-init c = record { long = refl; spare_long = refl; tried = λ images t e h. refl }
+loop-k-init c = λ images t e h. refl
 
 pub compute-requires-clause-parts : goal.compute-requires-clause-parts
 compute-requires-clause-parts c =
@@ -21,9 +21,9 @@ compute-requires-clause-parts c =
     let n = c.way_count-k-end.result in
     let way = c.way_at-way.result in
     let count : IsCount spot n = record { six = c.way_count-k-end.ensures.six; five = c.way_count-k-end.ensures.five } in
-    let within = c.requires.within in
-    let target = the_target (sought c.args.store.now.layout c.args.want.now) (IsSited spot) c.requires.placed in
-    let order = at_target (IsWayAt c.loop-k.k way) (sought c.args.store.now.layout c.args.want.now) target.0 target.1 c.way_at-way.ensures in
+    let within = c.requires.spot.within in
+    let target = the_target (sought c.args.view.now.store.now.layout c.args.want.now) (IsSited spot) c.requires.spot.placed in
+    let order = at_target (IsWayAt c.loop-k.k way) (sought c.args.view.now.store.now.layout c.args.want.now) target.0 target.1 c.way_at-way.ensures in
     c.way_of.ensures.parts spot.shape.slices within.index (in_count spot n way count (omega (arith, within.index))
     (way_below target.0 spot target.2 n count c.loop-k.k way c.loop-k-test.true order))
 
@@ -33,71 +33,70 @@ compute-requires-clause-q c =
     let n = c.way_count-k-end.result in
     let way = c.way_at-way.result in
     let count : IsCount spot n = record { six = c.way_count-k-end.ensures.six; five = c.way_count-k-end.ensures.five } in
-    let at : IsAt spot.index way c.way_of.result = record { one = c.way_of.ensures.one; two = c.way_of.ensures.two; parts = c.way_of.ensures.parts; first = c.way_of.ensures.first } in
-    let target = the_target (sought c.args.store.now.layout c.args.want.now) (IsSited spot) c.requires.placed in
-    let order = at_target (IsWayAt c.loop-k.k way) (sought c.args.store.now.layout c.args.want.now) target.0 target.1 c.way_at-way.ensures in
+    let at : IsAt spot.index way c.way_of.result =
+    record { one = c.way_of.ensures.one; two = c.way_of.ensures.two; parts = c.way_of.ensures.parts; first = c.way_of.ensures.first } in
+    let target = the_target (sought c.args.view.now.store.now.layout c.args.want.now) (IsSited spot) c.requires.spot.placed in
+    let order = at_target (IsWayAt c.loop-k.k way) (sought c.args.view.now.store.now.layout c.args.want.now) target.0 target.1 c.way_at-way.ensures in
     λ reads. q_there spot n way c.way_of.result count (way_below target.0 spot target.2 n count c.loop-k.k way c.loop-k-test.true order) at reads
 
 pub loop-k-preserved : goal.loop-k-preserved
-loop-k-preserved c =
+loop-k-preserved c = λ images t e h.
     let spot = c.args.spot.now in
-    let layout = c.args.store.now.layout in
+    let layout = c.args.view.now.store.now.layout in
     let k = c.loop-k.k in
     let n = c.way_count-k-end.result in
     let way = c.way_at-way.result in
     let candidate = c.way_of.result in
     let count : IsCount spot n = record { six = c.way_count-k-end.ensures.six; five = c.way_count-k-end.ensures.five } in
-    let at : IsAt spot.index way candidate = record { one = c.way_of.ensures.one; two = c.way_of.ensures.two; parts = c.way_of.ensures.parts; first = c.way_of.ensures.first } in
-    record {
-      long = c.compute.ensures.long ∙ c.loop-k.invariant.long;
-      spare_long = c.compute.ensures.spare_long ∙ c.loop-k.invariant.spare_long;
-      tried = λ images t e h.
-          let of = sought_of layout c.args.want.now t e in
-          let value = c.compute.ensures.value images t h in
-          let test : passes t.setting t.want (value_of images t candidate) ≡ false =
-          ap (λ s. passes s t.want (value_of images t candidate)) of.setting_is ∙ ap (λ w. passes layout.setting w (value_of images t candidate)) of.want_is
-          ∙ ap (passes layout.setting c.args.want.now) value ∙ sym c.front_passes.ensures ∙ c.if-front_passes.false in
-          let order = at_target (IsWayAt k way) (sought layout c.args.want.now) t e c.way_at-way.ensures in
-          tried_more t spot (sited_at (sought layout c.args.want.now) spot t e c.requires.placed) n count k way c.loop-k-test.true order candidate at
-          h.block.stand images (c.loop-k.invariant.tried images t e h) test;
-    }
+    let at : IsAt spot.index way candidate =
+    record { one = c.way_of.ensures.one; two = c.way_of.ensures.two; parts = c.way_of.ensures.parts; first = c.way_of.ensures.first } in
+    let of = sought_of layout c.args.want.now t e in
+    let value = c.compute.ensures images t h in
+    let test : passes t.setting t.want (value_of images t candidate) ≡ false =
+    ap (λ s. passes s t.want (value_of images t candidate)) of.setting_is ∙ ap (λ w. passes layout.setting w (value_of images t candidate)) of.want_is
+    ∙ ap (passes layout.setting c.args.want.now) value ∙ sym c.front_passes.ensures ∙ c.if-front_passes.false in
+    let order = at_target (IsWayAt k way) (sought layout c.args.want.now) t e c.way_at-way.ensures in
+    tried_more t spot (sited_at (sought layout c.args.want.now) spot t e c.requires.spot.placed) n count k way c.loop-k-test.true order candidate at
+    h.block.stand images (c.loop-k.invariant images t e h) test
 
-pub returns-then-front_passes-clause-accepts : goal.returns-then-front_passes-clause-accepts
-returns-then-front_passes-clause-accepts c = λ images t e h.
+pub returns-then-front_passes : goal.returns-then-front_passes
+returns-then-front_passes c = λ images t e h.
     let spot = c.args.spot.now in
-    let layout = c.args.store.now.layout in
+    let layout = c.args.view.now.store.now.layout in
     let k = c.loop-k.k in
     let n = c.way_count-k-end.result in
     let way = c.way_at-way.result in
     let candidate = c.way_of.result in
     let block = c.compute.new.block in
     let count : IsCount spot n = record { six = c.way_count-k-end.ensures.six; five = c.way_count-k-end.ensures.five } in
-    let at : IsAt spot.index way candidate = record { one = c.way_of.ensures.one; two = c.way_of.ensures.two; parts = c.way_of.ensures.parts; first = c.way_of.ensures.first } in
+    let at : IsAt spot.index way candidate =
+    record { one = c.way_of.ensures.one; two = c.way_of.ensures.two; parts = c.way_of.ensures.parts; first = c.way_of.ensures.first } in
     let of = sought_of layout c.args.want.now t e in
-    let value = c.compute.ensures.value images t h in
-    let test = ap (λ s. passes s t.want (value_of images t candidate)) of.setting_is ∙ ap (λ w. passes layout.setting w (value_of images t candidate)) of.want_is
+    let value = c.compute.ensures images t h in
+    let test = ap (λ s. passes s t.want (value_of images t candidate)) of.setting_is
+    ∙ ap (λ w. passes layout.setting w (value_of images t candidate)) of.want_is
     ∙ ap (passes layout.setting c.args.want.now) value ∙ sym c.front_passes.ensures ∙ c.if-front_passes.true in
     let order = at_target (IsWayAt k way) (sought layout c.args.want.now) t e c.way_at-way.ensures in
-    let sited = sited_at (sought layout c.args.want.now) spot t e c.requires.placed in
-    let so_far = c.loop-k.invariant.tried images t e h in
+    let sited = sited_at (sought layout c.args.want.now) spot t e c.requires.spot.placed in
+    let so_far = c.loop-k.invariant images t e h in
     let own = element images t (Slice t.at.index) in
-    let piece : passes layout.setting c.args.want.now (piece_in c.args.bytes.now spot spot.index) ≡ is_good images t (Slice t.at.index) =
-    ap (λ i. passes layout.setting c.args.want.now (piece_in c.args.bytes.now spot i)) h.place.index
+    let piece : passes layout.setting c.args.want.now (piece_in c.args.view.now.old.now spot spot.index) ≡ is_good images t (Slice t.at.index) =
+    ap (λ i. passes layout.setting c.args.want.now (piece_in c.args.view.now.old.now spot i)) h.place.index
     ∙ ap (passes layout.setting c.args.want.now) (h.block.slices t.at.index sited.position.index)
     ∙ sym (ap (λ s. passes s t.want own) of.setting_is ∙ ap (λ w. passes layout.setting w own) of.want_is) in
     record {
       bytes = one_accepted t spot sited n count k way c.loop-k-test.true order candidate at h.block.stand images so_far test
           ∙ ap Some (value ∙ ap (λ m. take m block) h.place.len);
-      good = own_good (is_good images t (Slice t.at.index)) (passes layout.setting c.args.want.now (piece_in c.args.bytes.now spot spot.index)) way piece
+      good = own_good (is_good images t (Slice t.at.index)) (passes layout.setting c.args.want.now (piece_in c.args.view.now.old.now spot spot.index)) way piece
           (λ z. sym (ap (passes t.setting t.want) (own_value t spot sited n count k way c.loop-k-test.true order candidate at h.block.stand images
           so_far z)) ∙ test) ∙ sym c.own_passes.ensures;
     }
 
-pub returns-clause-accepts : goal.returns-clause-accepts
-returns-clause-accepts c = λ images t e h.
+pub returns : goal.returns
+returns c = λ images t e h.
     let spot = c.args.spot.now in
     let n = c.way_count-k-end.result in
     let count : IsCount spot n = record { six = c.way_count-k-end.ensures.six; five = c.way_count-k-end.ensures.five } in
-    let sited = sited_at (sought c.args.store.now.layout c.args.want.now) spot t e c.requires.placed in
+    let sited = sited_at (sought c.args.view.now.store.now.layout c.args.want.now) spot t e c.requires.spot.placed in
     none_accepted t spot sited n count images c.loop-k.k (h.block.stand (Slice t.at.index)
-    (subst IsNone (sym sited.parity) refl, sited.position.index)) c.loop-k-test.false (c.loop-k.invariant.tried images t e h)
+    (subst IsNone (sym sited.parity) refl, sited.position.index)) c.loop-k-test.false (c.loop-k.invariant images t e h)

@@ -1,4 +1,4 @@
-use Rattle.std.proofs.Common.{◌≡◌, [], length, take, Ok}
+use Rattle.std.proofs.Common.{◌≡◌, [], take, Ok}
 use Rattle.btr_read.specs.Candidates.{Target, candidates}
 use Rattle.btr_read.specs.Fate.{sought}
 use Rattle.btr_read.specs.Trial.{passing_of}
@@ -7,9 +7,5 @@ use Rattle.btr_scrub_row.specs.Memory.{IsHeld}
 use Rattle.btr_scrub_row.proofs.accepting.accept.Given as goal
 
 abbrev pub invariant-loop-k : goal.invariant-loop-k
-invariant-loop-k l = record {
-  long : length l.block ≡ length l.fn.block;
-  spare_long : length l.spare ≡ length l.fn.spare;
-  tried : (images : Images) (t : Target) → sought l.store.layout l.want ≡ Ok t → IsHeld images t l.spot l.bytes
-      → passing_of images t (take l.k (candidates t)) ≡ [];
-}
+invariant-loop-k l = (images : Images) (t : Target) → sought l.view.store.now.layout l.want ≡ Ok t → IsHeld images t l.spot l.view.old.now
+    → passing_of images t (take l.k (candidates t)) ≡ []

@@ -4,32 +4,35 @@ use Rattle.btr_read.specs.Candidates.{size_of, slice_count, value_of}
 use Rattle.btr_read.proofs.Rebuilt.{by_p, by_q, by_both}
 use Rattle.btr_scrub_row.proofs.accepting.compute.Goals as goal
 
-pub returns-in-ByP-clause-value : goal.returns-in-ByP-clause-value
-returns-in-ByP-clause-value c = λ images t h.
-    let left = c.gather.ensures.left images t h in
+pub returns-in-ByP : goal.returns-in-ByP
+returns-in-ByP c = λ images t h.
+    let left = c.gather.ensures images t h in
     ap (value_of images t) c.in-ByP.is
     ∙ by_p images t (take c.args.spot.now.len c.gather.new.sum) h.block.position.index (record { slices = left.slices; whole = left.whole; sum = left.sum })
 
-pub returns-in-ByQ-clause-value : goal.returns-in-ByQ-clause-value
-returns-in-ByQ-clause-value c = λ images t h.
-    let left = c.gather-in-ByQ.ensures.left images t h in
+pub returns-in-ByQ : goal.returns-in-ByQ
+returns-in-ByQ c = λ images t h.
+    let left = c.gather-in-ByQ.ensures images t h in
     let sum = take c.args.spot.now.len c.gather-in-ByQ.new.sum in
     let X = take c.args.spot.now.len c.divide_front.new.front in
-    let sized : IsTheOne (size_of t) (Weighs c.args.spot.now.index sum) X = subst (λ n. IsTheOne n (Weighs c.args.spot.now.index sum) X) h.place.len c.divide_front.ensures.one in
+    let sized : IsTheOne (size_of t) (Weighs c.args.spot.now.index sum) X =
+    subst (λ n. IsTheOne n (Weighs c.args.spot.now.index sum) X) h.place.len c.divide_front.ensures in
     let one : IsTheOne (size_of t) (Weighs t.at.index sum) X = subst (λ i. IsTheOne (size_of t) (Weighs i sum) X) h.place.index sized in
     ap (value_of images t) c.in-ByQ.is
     ∙ by_q images t sum X h.block.position.index (record { slices = left.slices; whole = left.whole; sum = left.sum }) one
 
-pub returns-in-ByBoth-clause-value : goal.returns-in-ByBoth-clause-value
-returns-in-ByBoth-clause-value c = λ images t h.
+pub returns-in-ByBoth : goal.returns-in-ByBoth
+returns-in-ByBoth c = λ images t h.
     let j = c.in-ByBoth.other in
-    let p = c.gather-in-ByBoth.ensures.left images t h in
-    let q = c.gather-in-ByBoth-2.ensures.left images t h in
+    let p = c.gather-in-ByBoth.ensures images t h in
+    let q = c.gather-in-ByBoth-2.ensures images t h in
     let sum = take c.args.spot.now.len c.gather-in-ByBoth.new.sum in
     let weighted = take c.args.spot.now.len c.gather-in-ByBoth-2.new.sum in
     let X = take c.args.spot.now.len c.solve_front.new.p in
-    let sized : IsTheOne (size_of t) (WeighsWith sum weighted c.args.spot.now.index j) X = subst (λ n. IsTheOne n (WeighsWith sum weighted c.args.spot.now.index j) X) h.place.len c.solve_front.ensures.one in
-    let one : IsTheOne (size_of t) (WeighsWith sum weighted t.at.index j) X = subst (λ i. IsTheOne (size_of t) (WeighsWith sum weighted i j) X) h.place.index sized in
+    let sized : IsTheOne (size_of t) (WeighsWith sum weighted c.args.spot.now.index j) X =
+    subst (λ n. IsTheOne n (WeighsWith sum weighted c.args.spot.now.index j) X) h.place.len c.solve_front.ensures in
+    let one : IsTheOne (size_of t) (WeighsWith sum weighted t.at.index j) X =
+    subst (λ i. IsTheOne (size_of t) (WeighsWith sum weighted i j) X) h.place.index sized in
     let parts = rw c.in-ByBoth.is at c.requires.parts in
     let below : j < slice_count t = omega (arith, parts.0, h.place.slices) in
     let differ : t.at.index ≢ j = λ e. parts.1 (sym e ∙ sym h.place.index) in

@@ -10,7 +10,7 @@ use Rattle.btr_scrub_row.proofs.Wrote.{does_told}
 use Rattle.btr_scrub_row.proofs.applying.write_rebuilt.Goals as goal
 
 pub returns-then-judged-eq0-clause-writes : goal.returns-then-judged-eq0-clause-writes
-returns-then-judged-eq0-clause-writes g c told row of rows knows tells =
+returns-then-judged-eq0-clause-writes g c told row wanted tells =
     let layout = c.args.store.now.layout in
     let a = g.R.Rack.seen c.args.rack.now in
     does_told (IsOfRow layout row) [] (λ images. flat_map (mending_writes images row.failing) row.blocks) told c.args.marks.now c.args.marks.now a a (Ok tt)
@@ -19,7 +19,10 @@ returns-then-judged-eq0-clause-writes g c told row of rows knows tells =
     tells.untold (does_nothing (IsOfRow layout row) c.args.marks.now a)
 
 pub returns-clause-writes : goal.returns-clause-writes
-returns-clause-writes g c told row of rows knows tells =
+returns-clause-writes g c told row wanted tells =
     let held = (g.R.Rack.seen c.args.rack.now).held in
     let blocks = tells_blocks c.args.store.now.layout row c.args.judged.now c.args.buffer.now told held c.deref.result.now tells c.deref.ensures.value in
-    c.write_blocks.ensures.writes told row of rows knows blocks
+    c.write_blocks.ensures.writes told row wanted blocks
+
+pub returns-clause-prepared : goal.returns-clause-prepared
+returns-clause-prepared g c = λ images row is. record { holds = is.holds; blocks = is.blocks; p = is.p; q = is.q }

@@ -15,7 +15,16 @@ loop-number-preserved c =
     let of0 = c.requires.of in
     let row0 = c.requires.row in
     let count = row_counted row0 of0.is.parity of0.keeps_rule in
-    let few : n < 64 = omega (arith, c.loop-number-test.true, c.elements-number-end.ensures, of0.shape.slices, ap (λ p. length (parities p)) of0.shape.profile, count.whole, of0.keeps_rule.few) in
+    let few : n < 64 = omega (
+      arith,
+      c.loop-number-test.true,
+      c.elements-number-end.ensures,
+      of0.shape.slices,
+      ap
+          (λ p. length (parities p)) of0.shape.profile,
+      count.whole,
+      of0.keeps_rule.few,
+    ) in
     record {
       doubtful_long = length-set c.loop-number.doubtful n c.is_doubtful.result ∙ c.loop-number.invariant.doubtful_long;
       behind_long = length-set c.loop-number.behind n c.is_behind.result ∙ c.loop-number.invariant.behind_long;

@@ -17,7 +17,8 @@ returns-then-not-reads_flagged-clause-first c = λ row t e lies knows.
     let way = c.way_of-way.result in
     let below = c.loop-k-test.true in
     let count : IsCount spot n = record { six = c.way_count-k-end.ensures.six; five = c.way_count-k-end.ensures.five } in
-    let at : IsAt spot.index k way = record { one = c.way_of-way.ensures.one; two = c.way_of-way.ensures.two; parts = c.way_of-way.ensures.parts; first = c.way_of-way.ensures.first } in
+    let at : IsAt spot.index k way =
+    record { one = c.way_of-way.ensures.one; two = c.way_of-way.ensures.two; parts = c.way_of-way.ensures.parts; first = c.way_of-way.ensures.first } in
     let two = parts_are t spot lies.sited n count k below way at in
     let q = q_is t spot lies.sited n count k below way at in
     let no : c.reads_flagged.result ≡ false = search rules in
@@ -43,7 +44,8 @@ loop-k-preserved c = λ row t e lies knows.
     let way = c.way_of-way.result in
     let below = c.loop-k-test.true in
     let count : IsCount spot n = record { six = c.way_count-k-end.ensures.six; five = c.way_count-k-end.ensures.five } in
-    let at : IsAt spot.index k way = record { one = c.way_of-way.ensures.one; two = c.way_of-way.ensures.two; parts = c.way_of-way.ensures.parts; first = c.way_of-way.ensures.first } in
+    let at : IsAt spot.index k way =
+    record { one = c.way_of-way.ensures.one; two = c.way_of-way.ensures.two; parts = c.way_of-way.ensures.parts; first = c.way_of-way.ensures.first } in
     let two = parts_are t spot lies.sited n count k below way at in
     let q = q_is t spot lies.sited n count k below way at in
     let yes : c.reads_flagged.result ≡ true = search rules in

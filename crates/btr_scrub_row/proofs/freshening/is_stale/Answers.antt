@@ -8,16 +8,17 @@ use Rattle.btr_scrub_row.proofs.Doubting.{own_behind}
 use Rattle.btr_scrub_row.proofs.Settled.{renewed_as}
 use Rattle.btr_scrub_row.proofs.freshening.is_stale.Goals as goal
 
-pub returns-clause-renewed : goal.returns-clause-renewed
-returns-clause-renewed c = λ images row t e lies knows h.
+pub returns : goal.returns
+returns c = λ images row t e lies knows h.
     let spot = c.args.spot.now in
-    let bytes = c.args.bytes.now in
+    let bytes = c.args.view.now.old.now in
     let block = c.find_fresh.new.block in
     let start = c.start.result in
     let flagged : c.flag_of.result ≡ true = search rules in
     let found : c.find_fresh.result ≡ true = search rules in
-    let behind : is_on_behind row.failing t (Slice t.at.index) ≡ true = sym (own_behind c.args.store.now.layout row t spot c.args.doubts.now lies knows) ∙ sym c.flag_of.ensures ∙ flagged in
-    let is = c.find_fresh.ensures.fresh images row t e lies knows h ∙ ap (λ b. cond b (Some (take (size_of t) block)) None) found in
+    let behind : is_on_behind row.failing t (Slice t.at.index) ≡ true =
+    sym (own_behind c.args.view.now.store.now.layout row t spot c.args.view.now.wanted.doubts lies knows) ∙ sym c.flag_of.ensures ∙ flagged in
+    let is = c.find_fresh.ensures images row t e lies knows h ∙ ap (λ b. cond b (Some (take (size_of t) block)) None) found in
     renewed_as images row t lies.sited.parity block (piece_at bytes start spot.len) c.same_front.result behind is
     (ap (λ s. slice_range bytes s (s + spot.len)) c.start.ensures ∙ ap (piece_in bytes spot) h.place.index ∙ h.block.slices t.at.index h.block.position.index)
     (c.same_front.ensures ∙ ap (λ n. bytes_eq (piece_at bytes start spot.len) (take n block)) h.place.len)

@@ -1,37 +1,28 @@
-use Rattle.std.proofs.Common.{◌+◌, ◌*◌, length, take, sym, ap, ◌∙◌, subst}
+use Rattle.std.proofs.Common.{◌+◌, ◌*◌, take, sym, ap, ◌∙◌, subst}
 use Rattle.btr_parity.proofs.Solving.{bytes_of}
 use Rattle.btr_scrub_row.proofs.Gathered.{LeftSoFar, left_begun, left_more, left_same}
 use Rattle.btr_scrub_row.proofs.gathering.gather.Goals as goal
 use Rattle.btr_scrub_row.proofs.gathering.gather.Goals.{then-reads, else-reads}
 
 pub loop-slice-init : goal.loop-slice-init
-loop-slice-init c = record {
-  long = c.copy_front.ensures.long;
-  left = λ images t h.
-      left_begun images t c.args.spot.now c.args.bytes.now (bytes_of c.args.bytes.now c.type_inv.bytes) c.requires.within h c.args.candidate
-      c.args.parity c.start.result (take c.args.spot.now.len c.copy_front.new.front) c.requires.has
-      (c.start.ensures ∙ ap (λ e. e * 65536 + c.args.spot.now.rest) c.element-element.ensures) c.copy_front.ensures.front;
-}
+loop-slice-init c = λ images t h.
+    left_begun images t c.args.spot.now c.args.bytes.now (bytes_of c.args.bytes.now c.type_inv.bytes) c.requires.within h c.args.candidate
+    c.args.parity c.start.result (take c.args.spot.now.len c.copy_front.new.front) c.requires.has
+    (c.start.ensures ∙ ap (λ e. e * 65536 + c.args.spot.now.rest) c.element-element.ensures) c.copy_front.ensures
 
 pub loop-slice-preserved : goal.loop-slice-preserved
-loop-slice-preserved c =
+loop-slice-preserved c = λ images t h.
     let spot = c.args.spot.now in
     let bytes = c.args.bytes.now in
     elim c.if-reads.branch [
-      | then-reads w ↦ record {
-        long = ap length w.sum-is ∙ w.add_front.ensures.long ∙ c.loop-slice.invariant.long;
-        left = λ images t h.
-            left_more images t spot bytes (bytes_of c.args.bytes.now c.type_inv.bytes) c.requires.within h c.args.candidate c.args.parity
-            c.loop-slice.slice w.start-then-reads.result (take spot.len c.loop-slice.sum) (take spot.len c.if-reads.sum)
-            c.loop-slice-test.true (c.loop-slice.invariant.left images t h) (sym c.reads.ensures ∙ w.if-reads.true) w.start-then-reads.ensures
-            (ap (take spot.len) w.sum-is ∙ w.add_front.ensures.sum);
-      }
-      | else-reads w ↦ record {
-        long = ap length w.sum-is ∙ c.loop-slice.invariant.long;
-        left = λ images t h.
-            left_same images t spot bytes (bytes_of c.args.bytes.now c.type_inv.bytes) c.requires.within h c.args.candidate c.args.parity
-            c.loop-slice.slice (take spot.len c.if-reads.sum)
-            (subst (λ s. LeftSoFar images t c.args.candidate c.args.parity c.loop-slice.slice (take spot.len s)) (sym w.sum-is)
-            (c.loop-slice.invariant.left images t h)) (sym c.reads.ensures ∙ w.if-reads.false);
-      }
+      | then-reads w ↦
+          left_more images t spot bytes (bytes_of c.args.bytes.now c.type_inv.bytes) c.requires.within h c.args.candidate c.args.parity
+          c.loop-slice.slice w.start-then-reads.result (take spot.len c.loop-slice.sum) (take spot.len c.if-reads.sum)
+          c.loop-slice-test.true (c.loop-slice.invariant images t h) (sym c.reads.ensures ∙ w.if-reads.true) w.start-then-reads.ensures
+          (ap (take spot.len) w.sum-is ∙ w.add_front.ensures)
+      | else-reads w ↦
+          left_same images t spot bytes (bytes_of c.args.bytes.now c.type_inv.bytes) c.requires.within h c.args.candidate c.args.parity
+          c.loop-slice.slice (take spot.len c.if-reads.sum)
+          (subst (λ s. LeftSoFar images t c.args.candidate c.args.parity c.loop-slice.slice (take spot.len s)) (sym w.sum-is)
+          (c.loop-slice.invariant images t h)) (sym c.reads.ensures ∙ w.if-reads.false)
     ]

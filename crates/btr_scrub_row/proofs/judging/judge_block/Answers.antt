@@ -1,31 +1,20 @@
-use Rattle.std.proofs.Common.{◌≡◌, ◌+◌, ◌*◌, ◌&&◌, ◌||◌, not, cond, take, Some, None, List, ℕ, Bool, true, false, IsNone, IsOkAnd, refl, sym, ap, ◌∙◌, subst, arith}
+use Rattle.std.proofs.Common.{◌≡◌, ◌+◌, ◌*◌, ◌&&◌, ◌||◌, not, cond, take, Some, None, List, ℕ, Bool, true, false, IsNone, refl, sym, ap, ◌∙◌}
+use Rattle.std.proofs.Common.{subst, arith}
 use Rattle.std.specs.Option.{option_map_or}
 use Rattle.btr_chunk.specs.declared.place.Part.TheVariants.{Slice}
 use Rattle.btr_rack.specs.Rack.{pasted}
 use Rattle.btr_read.specs.Candidates.{size_of}
 use Rattle.btr_read.specs.Fate.{is_plain}
-use Rattle.btr_read.specs.Want.{len_of}
 use Rattle.btr_read.proofs.Fates.{sought_of}
-use Rattle.btr_scrub_row.specs.Memory.{IsSited}
 use Rattle.btr_scrub_row.specs.Wanted.{is_checked}
-use Rattle.btr_scrub_row.proofs.Held.{held, lies_at, on_row, sited}
+use Rattle.btr_scrub_row.proofs.Held.{held, lies_at, on_row, spot_is}
 use Rattle.btr_scrub_row.proofs.Settled.{length-writes, length-wrong, long_is, lost_is, sure_is}
 use Rattle.btr_scrub_row.proofs.BlockWrites.{own_range}
 use Rattle.btr_scrub_row.proofs.judging.judge_block.Goals as goal
 
-pub settle-settled-requires-clause-len : goal.settle-settled-requires-clause-len
-settle-settled-requires-clause-len c =
-    let w = c.requires.within in
-    let p = c.spot_of-spot.ensures w.target w.is_sought in
-    let is = sought_of c.args.store.now.layout c.args.want.now w.target w.is_sought in
-    p.len ∙ ap (λ s. len_of s w.target.want) is.setting_is ∙ ap (len_of c.args.store.now.layout.setting) is.want_is
-
-pub settle-settled-requires-clause-placed : goal.settle-settled-requires-clause-placed
-settle-settled-requires-clause-placed c =
-    let w = c.requires.within in
-    let spot = c.spot_of-spot.result in
-    subst (λ r. IsOkAnd r (IsSited spot)) (sym w.is_sought) (sited c.args.store.now.layout c.args.stripe.now w.row w.of c.args.want.now w.target
-    w.is_sought w.on spot (c.spot_of-spot.ensures w.target w.is_sought))
+pub settle-settled-requires-clause-spot : goal.settle-settled-requires-clause-spot
+settle-settled-requires-clause-spot c =
+    spot_is c.args.view.now c.requires.view c.args.want.now c.requires.within c.spot_of-spot.result c.spot_of-spot.ensures
 
 -- what is given is pasted
 pasted_as : (bytes block : List ℕ) (at : ℕ) (n : ℕ) (b : Bool) → cond b (pasted bytes at (take n block)) bytes
@@ -35,16 +24,16 @@ pasted_as bytes block at n false = refl
 
 pub returns-clause-verdict : goal.returns-clause-verdict
 returns-clause-verdict c = λ images row t of knows holds e.
-    let layout = c.args.store.now.layout in
-    let stripe = c.args.stripe.now in
+    let layout = c.args.view.now.store.now.layout in
+    let stripe = c.args.view.now.wanted.stripe in
     let spot = c.spot_of-spot.result in
     let settled = c.settle-settled.result in
     let p = c.spot_of-spot.ensures t e in
     let on = on_row layout stripe c.args.want.now row t c.requires.within of e in
-    let h = held layout stripe row of c.args.want.now t e on spot p images c.args.old.now holds in
+    let h = held layout stripe row of c.args.want.now t e on spot p images c.args.view.now.old.now holds in
     let at = lies_at layout stripe row of c.args.want.now t e on spot p in
     let block = c.settle-settled.new.block in
-    let is = c.settle-settled.ensures.settled images row t e at knows h in
+    let is = c.settle-settled.ensures images row t e at knows h in
     let v = c.verdict_of.ensures in
     let new = c.args.new.now in
     let range = own_range layout stripe row of c.args.want.now t e on spot p in
@@ -55,7 +44,7 @@ returns-clause-verdict c = λ images row t of knows holds e.
       index = h.block.position.index;
       inside = p.inside;
       stand = h.block.stand (Slice t.at.index) (subst IsNone (sym h.block.parity) refl, h.block.position.index);
-      long = long_is images row t block settled is (omega (arith, c.settle-settled.ensures.long, c.requires.block, p.inside));
+      long = long_is images row t block settled is (omega (arith, c.settle-settled.auto.block, c.requires.block, p.inside));
       spot = record {
         slices = ap (λ s. s.shape.slices) v.spot_is ∙ h.place.slices;
         profile = ap (λ s. s.shape.profile) v.spot_is ∙ h.place.profile;
@@ -70,10 +59,10 @@ returns-clause-verdict c = λ images row t of knows holds e.
           ∙ ap (λ b. cond (not c.verdict_of.result.good && b) 1 0) (sym v.given_is);
       lost = lost_is images row t block settled is ∙ ap (λ b. b && not settled.given) (sym checked)
           ∙ ap (λ b. c.verdict_of.result.checked && not b) (sym v.given_is);
-      sure = v.sure ∙ ap (λ b. settled.given || not b && c.is_surer.result) (sym v.checked_is ∙ checked)
-          ∙ ap (λ b. settled.given || not (is_checked t) && b) c.is_surer.ensures
-          ∙ sure_is images row t block settled is layout spot c.args.doubts.now at knows;
-      pasted_is = c.paste.ensures.pasted
+      sure = v.sure ∙ ap (λ b. settled.given || not b && c.is_surer-surer.result) (sym v.checked_is ∙ checked)
+          ∙ ap (λ b. settled.given || not (is_checked t) && b) c.is_surer-surer.ensures
+          ∙ sure_is images row t block settled is layout spot c.args.view.now.wanted.doubts at knows;
+      pasted_is = c.paste.ensures
           ∙ ap (λ at. cond settled.given (pasted new at (take spot.len block)) new)
           (c.start.ensures ∙ ap (λ i. i * 65536 + spot.rest) p.index ∙ ap (λ r. t.at.index * 65536 + r) p.rest)
           ∙ ap (λ n. cond settled.given (pasted new (t.at.index * 65536 + t.at.rest) (take n block)) new) p.len

@@ -14,20 +14,13 @@ loop-slice-init c =
     let bytes = c.args.bytes.now in
     let d = slice_range bytes 0 (0 + 65536) in
     let slice : IsSlice 65536 d = cut_slice bytes 0 65536 (bytes_of bytes c.type_inv.bytes) (omega (arith, c.requires.some, c.requires.within)) in
-    record {
-      long = c.copy_front.ensures.long;
-      sum = c.copy_front.ensures.front ∙ sym (p_of_one 65536 d slice);
-    }
+    c.copy_front.ensures ∙ sym (p_of_one 65536 d slice)
 
 pub loop-slice-preserved : goal.loop-slice-preserved
 loop-slice-preserved c =
     let bytes = c.args.bytes.now in
     let k = c.loop-slice.slice in
-    record {
-      long = c.add_front.ensures.long ∙ c.loop-slice.invariant.long;
-      sum = c.add_front.ensures.sum
-          ∙ ap (λ p. plus p (element_in bytes k)) c.loop-slice.invariant.sum
-          ∙ sym (parity_by_folding.p_of_one_more 65536 (map (element_in bytes) (range_with_len 0 k)) (element_in bytes k)
-          (cut_slice bytes (k * 65536) 65536 (bytes_of bytes c.type_inv.bytes) (omega (arith, c.loop-slice-test.true, c.requires.within))))
-          ∙ ap (parity_p 65536) (sym (map-range_with_len_more (element_in bytes) 0 k k (omega arith)));
-    }
+    c.add_front.ensures ∙ ap (λ p. plus p (element_in bytes k)) c.loop-slice.invariant
+    ∙ sym (parity_by_folding.p_of_one_more 65536 (map (element_in bytes) (range_with_len 0 k)) (element_in bytes k)
+    (cut_slice bytes (k * 65536) 65536 (bytes_of bytes c.type_inv.bytes) (omega (arith, c.loop-slice-test.true, c.requires.within))))
+    ∙ ap (parity_p 65536) (sym (map-range_with_len_more (element_in bytes) 0 k k (omega arith)))

@@ -1,11 +1,8 @@
-use Rattle.std.proofs.Common.{◌≡◌, length, map, take}
+use Rattle.std.proofs.Common.{◌≡◌, map, take}
 use Rattle.std.specs.List.{range_with_len}
 use Rattle.btr_parity.specs.Slices.{parity_p}
 use Rattle.btr_scrub_row.specs.Memory.{element_in}
 use Rattle.btr_scrub_row.proofs.parities.make_p.Given as goal
 
 abbrev pub invariant-loop-slice : goal.invariant-loop-slice
-invariant-loop-slice l = record {
-  long : length l.p ≡ length l.fn.p;
-  sum : take 65536 l.p ≡ parity_p 65536 (map (element_in l.bytes) (range_with_len 0 l.slice));
-}
+invariant-loop-slice l = take 65536 l.p ≡ parity_p 65536 (map (element_in l.bytes) (range_with_len 0 l.slice))

@@ -30,10 +30,7 @@ loop-done-init c =
     let a = c.args.slices - 1 in
     let d = element_in bytes a in
     let slice : IsSlice 65536 d = cut_slice bytes (a * 65536) 65536 (bytes_of bytes c.type_inv.bytes) (omega (arith, c.requires.some, c.requires.within)) in
-    record {
-      long = c.copy_front.ensures.long;
-      sum = c.copy_front.ensures.front ∙ sym (q_of_one 65536 d slice);
-    }
+    c.copy_front.ensures ∙ sym (q_of_one 65536 d slice)
 
 pub loop-done-preserved : goal.loop-done-preserved
 loop-done-preserved c =
@@ -43,20 +40,16 @@ loop-done-preserved c =
     let a = c.args.slices - 1 - n in
     let b = c.args.slices - n in
     let next : b ≡ a + 1 = omega (arith, c.loop-done-test.true) in
-    record {
-      long = c.double_front.ensures.long ∙ c.loop-done.invariant.long;
-      sum = c.double_front.ensures.sum
-          ∙ ap (λ q. plus (scaled 2 q) (element_in bytes a)) c.loop-done.invariant.sum
-          ∙ sym (parity_by_folding.q_of_one_before 65536 (map (element_in bytes) (range_with_len b n)) (element_in bytes a)
-          (elements_are bytes b n all (omega (arith, c.loop-done-test.true, c.requires.within)))
-          (cut_slice bytes (a * 65536) 65536 all (omega (arith, c.loop-done-test.true, c.requires.within))))
-          ∙ ap (parity_q 65536) (sym (one_before bytes a b n next))
-          ∙ ap (λ s. parity_q 65536 (map (element_in bytes) (range_with_len s (n + 1)))) (omega (arith, c.loop-done-test.true));
-    }
+    c.double_front.ensures ∙ ap (λ q. plus (scaled 2 q) (element_in bytes a)) c.loop-done.invariant
+    ∙ sym (parity_by_folding.q_of_one_before 65536 (map (element_in bytes) (range_with_len b n)) (element_in bytes a)
+    (elements_are bytes b n all (omega (arith, c.loop-done-test.true, c.requires.within)))
+    (cut_slice bytes (a * 65536) 65536 all (omega (arith, c.loop-done-test.true, c.requires.within))))
+    ∙ ap (parity_q 65536) (sym (one_before bytes a b n next))
+    ∙ ap (λ s. parity_q 65536 (map (element_in bytes) (range_with_len s (n + 1)))) (omega (arith, c.loop-done-test.true))
 
-pub returns-clause-q : goal.returns-clause-q
-returns-clause-q c =
+pub returns : goal.returns
+returns c =
     let whole : c.loop-done.done ≡ c.args.slices = omega arith in
     let first : c.args.slices - c.loop-done.done ≡ 0 = omega (arith, whole) in
-    c.loop-done.invariant.sum ∙ ap (λ a. parity_q 65536 (map (element_in c.args.bytes.now) (range_with_len a c.loop-done.done))) first
+    c.loop-done.invariant ∙ ap (λ a. parity_q 65536 (map (element_in c.args.bytes.now) (range_with_len a c.loop-done.done))) first
     ∙ ap (λ n. parity_q 65536 (map (element_in c.args.bytes.now) (range_with_len 0 n))) whole

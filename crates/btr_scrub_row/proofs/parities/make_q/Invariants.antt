@@ -1,11 +1,8 @@
-use Rattle.std.proofs.Common.{◌≡◌, ◌-◌, length, map, take}
+use Rattle.std.proofs.Common.{◌≡◌, ◌-◌, map, take}
 use Rattle.std.specs.List.{range_with_len}
 use Rattle.btr_parity.specs.Slices.{parity_q}
 use Rattle.btr_scrub_row.specs.Memory.{element_in}
 use Rattle.btr_scrub_row.proofs.parities.make_q.Given as goal
 
 abbrev pub invariant-loop-done : goal.invariant-loop-done
-invariant-loop-done l = record {
-  long : length l.q ≡ length l.fn.q;
-  sum : take 65536 l.q ≡ parity_q 65536 (map (element_in l.bytes) (range_with_len (l.slices - l.done) l.done));
-}
+invariant-loop-done l = take 65536 l.q ≡ parity_q 65536 (map (element_in l.bytes) (range_with_len (l.slices - l.done) l.done))

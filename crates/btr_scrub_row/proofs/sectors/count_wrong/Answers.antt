@@ -14,17 +14,17 @@ cond_few true = omega arith
 cond_few false = omega arith
 
 pub loop-column-init : goal.loop-column-init
-loop-column-init c = record { few = omega arith; count = λ images layout row of k. refl }
+loop-column-init c = record { few = omega arith; count = λ layout images row of k. refl }
 
 pub loop-column-preserved : goal.loop-column-preserved
 loop-column-preserved c =
     let i = c.loop-column.column in
     record {
       few = omega (arith, c.loop-column.invariant.few, c.counted-count.ensures, cond_few c.is_wrong-wrong.result);
-      count = λ images layout row of k.
+      count = λ layout images row of k.
           let p = λ (column : ℕ). is_decided images layout row column && differs images layout row (part_of c.args.parity) column in
-          c.counted-count.ensures ∙ ap (λ n. n + cond c.is_wrong-wrong.result 1 0) (c.loop-column.invariant.count images layout row of k)
-          ∙ ap (λ b. count_by p (take i (range_with_len 0 16)) + cond b 1 0) (c.is_wrong-wrong.ensures images layout row of k)
+          c.counted-count.ensures ∙ ap (λ n. n + cond c.is_wrong-wrong.result 1 0) (c.loop-column.invariant.count layout images row of k)
+          ∙ ap (λ b. count_by p (take i (range_with_len 0 16)) + cond b 1 0) (c.is_wrong-wrong.ensures layout images row of k)
           ∙ sym (sum_by_push (λ x. cond (p x) 1 0) (take i (range_with_len 0 16)) i)
           ∙ sym (ap (count_by p) (take_more (range_with_len 0 16) i i (omega (arith, c.loop-column-test.true, length-range_with_len 0 16))
           ∙ ap (λ x. take i (range_with_len 0 16) ++ x ∷ []) (column_at i i c.loop-column-test.true)));
@@ -34,8 +34,10 @@ pub returns-clause-few : goal.returns-clause-few
 returns-clause-few c = omega (arith, c.loop-column.invariant.few)
 
 pub returns-clause-count : goal.returns-clause-count
-returns-clause-count c = λ images layout row of k.
-    let p = λ (column : ℕ). is_decided images layout row column && differs images layout row (part_of c.args.parity) column in
-    c.loop-column.invariant.count images layout row of k
+returns-clause-count c = λ layout images row of k.
+    let part = part_of c.args.parity in
+    let stripe = c.args.prepared.now.stripe in
+    let p = λ (column : ℕ). is_decided images layout row column && differs images layout row part column in
+    c.loop-column.invariant.count layout images row of k
     ∙ ap (count_by p) (take_all c.loop-column.column (range_with_len 0 16) (omega (arith, c.loop-column-test.false, length-range_with_len 0 16)))
-    ∙ counted_all layout c.args.stripe.now row of (part_of c.args.parity) (parity_there layout c.args.stripe.now row of c.args.parity c.requires.has) images
+    ∙ counted_all layout stripe row of part (parity_there layout stripe row of c.args.parity c.requires.has) images

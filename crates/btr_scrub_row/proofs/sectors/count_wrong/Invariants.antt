@@ -1,16 +1,15 @@
 use Rattle.std.proofs.Common.{◌≡◌, ◌≤◌, ◌&&◌, take, count_by}
 use Rattle.std.specs.List.{range_with_len}
 use Rattle.btr_read.specs.Layout.{Layout}
-use Rattle.btr_scrub_copies.specs.Writes.{Images}
-use Rattle.btr_scrub_row.specs.Rows.{Row, differs, is_decided}
-use Rattle.btr_scrub_row.specs.Memory.{IsStripeOf, part_of}
-use Rattle.btr_scrub_row.specs.Writing.{KnowsParity}
+use Rattle.btr_scrub_row.specs.Rows.{differs, is_decided}
+use Rattle.btr_scrub_row.specs.Memory.{part_of}
+use Rattle.btr_scrub_row.specs.Preparing.{WherePrepared}
 use Rattle.btr_scrub_row.proofs.sectors.count_wrong.Given as goal
 
 abbrev pub invariant-loop-column : goal.invariant-loop-column
 invariant-loop-column l = record {
   few : l.count ≤ l.column;
-  count : (images : Images) (layout : Layout) (row : Row) → IsStripeOf layout l.stripe row → KnowsParity images layout row l.parity l.judged l.old l.sums
-      → l.count ≡ count_by (λ column. is_decided images layout row column && differs images layout row (part_of l.parity) column)
-      (take l.column (range_with_len 0 16));
+  count : (layout : Layout) → WherePrepared layout l.prepared.stripe l.prepared.judged.now l.prepared.buffer.now (λ images row. l.count
+      ≡ count_by (λ column. is_decided images layout row column && differs images layout row (part_of l.parity) column)
+      (take l.column (range_with_len 0 16)));
 }

@@ -1,23 +1,21 @@
-use Rattle.std.proofs.Common.{take, Ok, Err, refl, sym, ap, ◌∙◌, subst, arith}
+use Rattle.std.proofs.Common.{Ok, Err, refl, sym, ap, ◌∙◌, subst, arith}
 use Rattle.std.specs.List.{flat_map, range_with_len}
 use Rattle.std.proofs.lemmas.List.{take_all}
 use Rattle.std.proofs.lemmas.List.FromFn.{length-range_with_len}
-use Rattle.btr_read.specs.Layout.{AreOpen}
 use Rattle.btr_scrub_copies.specs.Writes.{Does}
 use Rattle.btr_scrub_copies.proofs.Doing.{does_passed}
 use Rattle.btr_scrub_row.specs.Rows.{parity_writes}
 use Rattle.btr_scrub_row.specs.Mending.{IsOfRow}
 use Rattle.btr_scrub_row.specs.Memory.{part_of}
-use Rattle.btr_scrub_row.specs.Writing.{TellsParity, column_writes, told_writes}
+use Rattle.btr_scrub_row.specs.Writing.{column_writes, told_writes}
 use Rattle.btr_scrub_row.proofs.BlockWrites.{does_nothing}
 use Rattle.btr_scrub_row.proofs.Columns.{column_at, columns_are}
-use Rattle.btr_scrub_row.proofs.Wrote.{flat_cut, flat_next, flat_told-none, still_untold, told-same}
+use Rattle.btr_scrub_row.proofs.Wrote.{can_still, flat_cut, flat_next, flat_told-none, tells_still, told-same}
 use Rattle.btr_scrub_row.proofs.sectors.write_parity.Goals as goal
 
 pub loop-column-init : goal.loop-column-init
 loop-column-init g c = record {
   slots = refl;
-  marks = refl;
   done = λ told row of tells.
       let a = g.R.Rack.seen c.args.rack.now in
       let layout = c.args.store.now.layout in
@@ -25,13 +23,12 @@ loop-column-init g c = record {
       (sym (flat_told-none (column_writes layout row (part_of c.args.parity)) told)) (does_nothing (IsOfRow layout row) c.args.marks.now a);
 }
 
-pub write_sector-requires-clause-open : goal.write_sector-requires-clause-open
-write_sector-requires-clause-open g c = subst (λ s. AreOpen s c.args.store.now.layout.devices) (sym c.loop-column.invariant.slots) c.requires.open
+pub write_sector-requires-clause-can : goal.write_sector-requires-clause-can
+write_sector-requires-clause-can g c = can_still c.loop-column.invariant.slots c.loop-column.auto.marks c.requires.can
 
 pub loop-column-preserved : goal.loop-column-preserved
 loop-column-preserved g c = record {
   slots = c.write_sector.ensures.slots ∙ c.loop-column.invariant.slots;
-  marks = c.write_sector.ensures.marks ∙ c.loop-column.invariant.marks;
   done = λ told row of tells.
       let layout = c.args.store.now.layout in
       let i = c.loop-column.column in
@@ -40,15 +37,9 @@ loop-column-preserved g c = record {
       let b = g.R.Rack.seen c.loop-column.rack in
       let d = g.R.Rack.seen c.write_sector.new.rack in
       let h = c.loop-column.invariant.done told row of tells in
-      let still : TellsParity layout row c.args.parity c.args.judged.now c.args.old.now c.args.sums.now told b.held = record {
-        known = tells.known;
-        untold = λ e. still_untold (IsOfRow layout row)
-            (λ i'. told_writes (λ images. flat_map (F images) (take i (range_with_len 0 16))) told) c.args.marks.now c.loop-column.marks a b (Ok tt) h
-            (tells.untold e);
-      } in
       flat_next F told (IsOfRow layout row) (Unit {0}) (Unit {0}) (range_with_len 0 16) i i
       (omega (arith, c.loop-column-test.true, length-range_with_len 0 16)) (column_at i i c.loop-column-test.true) c.args.marks.now c.loop-column.marks
-      c.write_sector.new.marks a b d tt tt h (c.in_ok-write_sector.ensures.writes told row of still);
+      c.write_sector.new.marks a b d tt tt h (c.in_ok-write_sector.ensures.writes told row of (tells_still h tells));
 }
 
 pub returns-in_err-write_sector-clause-writes : goal.returns-in_err-write_sector-clause-writes
@@ -61,19 +52,13 @@ returns-in_err-write_sector-clause-writes g c told row of tells =
     let b = g.R.Rack.seen c.loop-column.rack in
     let d = g.R.Rack.seen c.write_sector.new.rack in
     let h = c.loop-column.invariant.done told row of tells in
-    let still : TellsParity layout row c.args.parity c.args.judged.now c.args.old.now c.args.sums.now told b.held = record {
-      known = tells.known;
-      untold = λ e. still_untold (IsOfRow layout row)
-          (λ i'. told_writes (λ images. flat_map (F images) (take i (range_with_len 0 16))) told) c.args.marks.now c.loop-column.marks a b (Ok tt) h
-          (tells.untold e);
-    } in
     does_passed c.from_residual.ensures.1 (subst (λ ws. Does {A = Unit {0}} (IsOfRow layout row) (λ i'. ws) c.args.marks.now c.write_sector.new.marks a d
     (Err c.in_err-write_sector.field-0.0))
     (told-same (λ images. flat_map (F images) (range_with_len 0 16)) (λ images. parity_writes images layout row part) told
     (λ images. columns_are images layout row part))
     (flat_cut F told (IsOfRow layout row) (Unit {0}) (Unit {0}) (range_with_len 0 16) i i (omega (arith, c.loop-column-test.true, length-range_with_len 0 16))
     (column_at i i c.loop-column-test.true) c.args.marks.now c.loop-column.marks c.write_sector.new.marks a b d tt c.in_err-write_sector.field-0.0 h
-    (c.in_err-write_sector.ensures.writes told row of still)))
+    (c.in_err-write_sector.ensures.writes told row of (tells_still h tells))))
 
 pub returns-clause-writes : goal.returns-clause-writes
 returns-clause-writes g c told row of tells =
