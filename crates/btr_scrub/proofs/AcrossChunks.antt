@@ -1,9 +1,8 @@
 -- What is written in one chunk leaves the others.
-use Rattle.std.proofs.Common.{◌≡◌, ℕ, zero, suc, ◌+◌, ◌*◌, ◌/◌, ◌<◌, ◌≤◌, Bool, true, false, cond, eqb, List, [], ◌∷◌, map, length, take, slice_get, All}
-use Rattle.std.proofs.Common.{Option, Some, None, is_none, IsSome, is_some, IsSomeAnd, refl, sym, ap, ◌∙◌, subst, inl, inr, arith}
-use Rattle.std.proofs.lemmas.Bool.{and_parts, cases_order, eqb-true}
-use Rattle.std.proofs.lemmas.Option.{same_Some}
-use Rattle.std.specs.List.{count_by, fold, list_any, range_with_len, sum_by}
+use Rattle.std.proofs.Common.{◌≡◌, ℕ, zero, suc, ◌+◌, ◌*◌, ◌/◌, ◌<◌, ◌≤◌, Bool, true, false, cond, eqb, List, [], ◌∷◌, length, take, slice_get, All, ◌⊎◌}
+use Rattle.std.proofs.Common.{Option, Some, None, is_none, IsSome, is_some, refl, sym, ap, ◌∙◌, subst, inl, inr, arith}
+use Rattle.std.proofs.lemmas.Bool.{and_parts, eqb-true}
+use Rattle.std.specs.List.{count_by, list_any, range_with_len, sum_by}
 use Rattle.btr_chunk.specs.Apart.{LiesIn}
 use Rattle.btr_chunk.specs.Chunk.{IsChunk, mirrors, stripe_length}
 use Rattle.btr_chunk.specs.Mapping.{HasPart, place_at, stripe_of}
@@ -17,14 +16,13 @@ use Rattle.btr_chunk.proofs.Apart.{stripes_apart}
 use Rattle.btr_chunk.proofs.Bytes.{placed_part}
 use Rattle.btr_chunk.proofs.Rule.{data_count-some, facts}
 use Rattle.btr_rack.specs.declared.place.Place.{Place as Range}
-use Rattle.btr_read.specs.Candidates.{Target, range_of}
+use Rattle.btr_read.specs.Candidates.{Target}
 use Rattle.btr_read.specs.Layout.{HaveOwnSlots, Layout, device_in}
 use Rattle.btr_read.specs.declared.device.Device.{Device}
 use Rattle.btr_read.specs.declared.want.Want.{Want}
 use Rattle.btr_read.proofs.Ones.{in_below}
 use Rattle.btr_scrub_copies.proofs.Syncs.{passing_filter}
-use Rattle.btr_scrub_copies.specs.Writes.{Images, Write, write_on, writes_if}
-use Rattle.btr_scrub_copies.proofs.Copied.{has_mirror}
+use Rattle.btr_scrub_copies.specs.Writes.{Images, Write}
 use Rattle.btr_scrub_row.specs.Rows.{Row, parities, parity_writes, range_in_element, row_writes}
 use Rattle.btr_scrub_row.specs.Wanted.{is_checked, is_lost_block, mending_writes, wrong_parts}
 use Rattle.btr_scrub.specs.Devices.{HaveLengths}
@@ -33,22 +31,23 @@ use Rattle.btr_scrub.specs.WrittenRanges.{KeepsOutside}
 use Rattle.btr_scrub.specs.Order.{IsSought, targets}
 use Rattle.btr_scrub.specs.Places.{IsOfElement}
 use Rattle.btr_scrub.specs.Repair.{covers, first_missing, is_in_chunk, is_in_row, row_of, rows_in}
-use Rattle.btr_scrub.specs.Scrubbing.{chunk_count_for, chunk_writes_for, all_writes_for, count_row, count_site}
-use Rattle.btr_scrub.specs.Scrubbing.{count_row_of, rows_count, rows_writes, sites_count, sites_in, sites_writes}
+use Rattle.btr_scrub.specs.Scrubbing.{chunk_count_for, chunk_writes_for, all_writes_for, count_row, count_site, count_row_of, rows_count, rows_writes}
+use Rattle.btr_scrub.specs.Scrubbing.{sites_count, sites_in, sites_writes}
 use Rattle.btr_scrub.specs.declared.tally.Tally.{Tally}
-use Rattle.btr_scrub.proofs.Agreeing.{SiteAlike, site_alike}
-use Rattle.btr_scrub.proofs.Blockwise.{of_targets, stripe_stands}
-use Rattle.btr_scrub.proofs.CopyWrites.{same_element, written_byte}
+use Rattle.btr_scrub.proofs.Agreeing.{SiteAlike}
+use Rattle.btr_scrub.proofs.Blockwise.{stripe_stands, with_one_start, target_sought}
+use Rattle.btr_scrub.proofs.CopyWrites.{written_byte, site_stays}
 use Rattle.btr_scrub_row.proofs.Elements.{range_stands, stands_on}
 use Rattle.btr_scrub.proofs.Places.{is_at}
-use Rattle.btr_scrub.proofs.Positions.{IsCopyByte, is_sought, of_range, on_stripe}
-use Rattle.btr_scrub.proofs.RowAgreeing.{RowAlike, beside, flat_same, fold_same, row_writes_alike}
+use Rattle.btr_scrub.proofs.Positions.{IsCopyByte, on_stripe}
+use Rattle.btr_scrub.proofs.RowAgreeing.{RowAlike, beside, flat_same, fold_same, row_writes_alike, flat_mapped, fold_mapped}
 use Rattle.btr_scrub.proofs.RowWrites.{IsBlockOf, IsRowIn, row_short, row_stays, written_row}
 use Rattle.btr_scrub.proofs.Scrubbing.{IsUnmoved}
-use Rattle.btr_scrub.proofs.Shorts.{site_short, flat_short}
+use Rattle.btr_scrub.proofs.Shorts.{site_short}
 use Rattle.btr_scrub_copies.specs.Fresh.{Failing}
-use Rattle.btr_scrub.proofs.Pasting.{Short, shorts_keep_if, unwritten}
-use Rattle.btr_scrub.proofs.Lists.{of_mapped, any_flat}
+use Rattle.btr_scrub.proofs.Pasting.{Short, flat_short, unmoved_by}
+use Rattle.btr_scrub.proofs.Lists.{of_mapped, any_flat, of_flat, at_in}
+use Rattle.btr_scrub.proofs.RowNumbers.{all_rows, each_row}
 
 -- ---- which chunk a byte of a device is of
 
@@ -65,7 +64,8 @@ pub one_chunk : (layout : Layout) (i j slot off : ℕ) → IsTable layout.chunks
     → InChunk layout j slot off → i ≡ j
 one_chunk layout i j slot off table own a b =
     let devid : a.devid ≡ b.devid = own a.devid b.devid a.device b.device a.given b.given (a.same_slot ∙ sym b.same_slot) in
-    (stripes_apart layout.chunks (record { devid = a.devid; offset = off }) i j a.stripe b.stripe table a.lies (subst (λ d. LiesIn layout.chunks (record { devid = d; offset = off }) j b.stripe) (sym devid) b.lies)).0
+    (stripes_apart layout.chunks (record { devid = a.devid; offset = off }) i j a.stripe b.stripe table a.lies
+    (subst (λ d. LiesIn layout.chunks (record { devid = d; offset = off }) j b.stripe) (sym devid) b.lies)).0
 
 pub copy_in_chunk : (layout : Layout) (t : Target) (slot off : ℕ) → IsTable layout.chunks → (is : IsSought layout t) → IsCopyByte layout t slot off
     → InChunk layout is.number slot off
@@ -78,14 +78,27 @@ copy_in_chunk layout t slot off table is b =
       given = b.given;
       same_slot = b.same_slot;
       stripe = on.number;
-      lies = record { chunk = t.chunk; there = is.there; stripe = on.stripe; stripe_there = on.there; inside = record { device = on.devid; begin = omega (arith, on.begin, b.offset); end = omega (arith, on.end, b.offset, b.below) } };
+      lies = record {
+        chunk = t.chunk;
+        there = is.there;
+        stripe = on.stripe;
+        stripe_there = on.there;
+        inside = record { device = on.devid; begin = omega (arith, on.begin, b.offset); end = omega (arith, on.end, b.offset, b.below) };
+      };
     }
 
 pub element_in_chunk : (layout : Layout) (row : Row) (q : Part) (slot off : ℕ) → IsTable layout.chunks → (e : IsOfElement layout row q slot off)
     → InChunk layout e.number slot off
 element_in_chunk layout row q slot off table e =
     let a = is_at layout row q slot off table e in
-    record { devid = a.stripe.devid; device = a.device; given = a.given; same_slot = a.same_slot; stripe = stripe_of row.chunk.profile (length row.chunk.stripes) q (record { row = row.number; index = 0; rest = 0 }); lies = a.lies }
+    record {
+      devid = a.stripe.devid;
+      device = a.device;
+      given = a.given;
+      same_slot = a.same_slot;
+      stripe = stripe_of row.chunk.profile (length row.chunk.stripes) q (record { row = row.number; index = 0; rest = 0 });
+      lies = a.lies;
+    }
 
 -- ---- lists
 
@@ -105,41 +118,72 @@ in_take (suc n) (y ∷ xs) x (inr i) = let r = in_take n xs x i in (suc r.0, ome
 -- ---- a chunk of the table
 
 -- what is counted for a row is the same
-pub row_counted : (images images' : Images) (layout : Layout) (write : Bool) (row : Row) (also : Failing) (tally : Tally) → RowAlike images images' layout row also
+pub row_counted : (images images' : Images) (layout : Layout) (write : Bool) (row : Row) (also : Failing) (tally : Tally)
+    → RowAlike images images' layout row also
     → count_row images' layout write tally (beside also row) ≡ count_row images layout write tally row
 row_counted images images' layout write row also tally a =
     let f = row.failing in
     let bad = sum_same (λ t. length (wrong_parts images' also t)) (λ t. length (wrong_parts images f t)) row.blocks (λ t i. ap length (a.blocks t i).wrong) in
-    let repaired = sum_same (λ t. length (mending_writes images' also t)) (λ t. length (mending_writes images f t)) row.blocks (λ t i. ap length (a.blocks t i).writes) in
+    let repaired = sum_same (λ t. length (mending_writes images' also t)) (λ t. length (mending_writes images f t)) row.blocks
+    (λ t i. ap length (a.blocks t i).writes) in
     let lost = count_same (is_lost_block images') (is_lost_block images) row.blocks (λ t i. (a.blocks t i).lost) in
-    let parity = sum_same (λ q. length (parity_writes images' layout (beside also row) q)) (λ q. length (parity_writes images layout row q)) (parities row.chunk.profile) (λ q i. ap length (a.parities q i)) in
+    let parity = sum_same (λ q. length (parity_writes images' layout (beside also row) q)) (λ q. length (parity_writes images layout row q))
+    (parities row.chunk.profile) (λ q i. ap length (a.parities q i)) in
     ap (count_row_of row.blocks tally)
     (λ i. record { blocks = count_by is_checked row.blocks; bad = bad i; repaired = cond write (repaired i) 0; lost = lost i; parity = parity i })
 
-module _ (kept : Failing) (layout : Layout) (table : IsTable layout.chunks) (own : HaveOwnSlots layout.devices) (none : first_missing layout ≡ None) (number : ℕ) (chunk : Chunk) (there : slice_get layout.chunks number ≡ Some chunk) (wants : List Want) where
+-- what comes of a chunk in some images, beside some that fail, where it is the same of each of its full stripes or blocks
+module _ (kept also : Failing) (images images' : Images) (layout : Layout) (wants : List Want) (chunk : Chunk)
+    (rows : mirrors chunk ≡ None → (k : ℕ) → k < stripe_length chunk / 65536
+    → RowAlike images images' layout (row_of also (targets layout wants) chunk k) kept)
+    (sites : (n : ℕ) → mirrors chunk ≡ Some n → (t : Target) → In t (sites_in layout chunk wants) → SiteAlike also kept images images' t) where
+  abbrev ts : List Target
+  ts = targets layout wants
+
+  abbrev numbers : List ℕ
+  numbers = range_with_len 0 (stripe_length chunk / 65536)
+
+  pub chunk_alike : chunk_writes_for kept layout chunk wants images' ≡ chunk_writes_for also layout chunk wants images
+  chunk_alike = by (mirrors chunk) refl
+    where
+      by : (o : Option ℕ) → mirrors chunk ≡ o
+          → cond (is_none o) (rows_writes layout (rows_in kept ts chunk) images') (sites_writes kept (sites_in layout chunk wants) images')
+          ≡ cond (is_none o) (rows_writes layout (rows_in also ts chunk) images) (sites_writes also (sites_in layout chunk wants) images)
+      by None parity =
+          ap (λ rs. rows_writes layout rs images') (all_rows kept ts chunk parity)
+          ∙ flat_mapped (row_writes images' layout) (row_writes images layout) (row_of kept ts chunk) (row_of also ts chunk) numbers
+          (λ k i. row_writes_alike images images' layout (row_of also ts chunk k) kept (rows parity k (in_below (stripe_length chunk / 65536) k i)))
+          ∙ sym (ap (λ rs. rows_writes layout rs images) (all_rows also ts chunk parity))
+      by (Some n) copies = flat_same (mending_writes images' kept) (mending_writes images also) (sites_in layout chunk wants)
+          (λ t i. (sites n copies t i).writes)
+
+  pub chunk_counted : (write : Bool) (x : Tally) → chunk_count_for kept layout write chunk wants images' x
+      ≡ chunk_count_for also layout write chunk wants images x
+  chunk_counted write x = by (mirrors chunk) refl
+    where
+      by : (o : Option ℕ) → mirrors chunk ≡ o
+          → cond (is_none o) (rows_count layout write (rows_in kept ts chunk) images' x) (sites_count kept write (sites_in layout chunk wants) images' x)
+          ≡ cond (is_none o) (rows_count layout write (rows_in also ts chunk) images x) (sites_count also write (sites_in layout chunk wants) images x)
+      by None parity =
+          ap (λ rs. rows_count layout write rs images' x) (all_rows kept ts chunk parity)
+          ∙ fold_mapped (count_row images' layout write) (count_row images layout write) (row_of kept ts chunk) (row_of also ts chunk) numbers x
+          (λ k i z. row_counted images images' layout write (row_of also ts chunk k) kept z (rows parity k (in_below (stripe_length chunk / 65536) k i)))
+          ∙ sym (ap (λ rs. rows_count layout write rs images x) (all_rows also ts chunk parity))
+      by (Some n) copies = fold_same (count_site kept images' write) (count_site also images write) (sites_in layout chunk wants) x
+          (λ t i z. (sites n copies t i).counts write z)
+
+module _ (kept : Failing) (layout : Layout) (table : IsTable layout.chunks) (own : HaveOwnSlots layout.devices) (none : first_missing layout ≡ None)
+    (number : ℕ) (chunk : Chunk) (there : slice_get layout.chunks number ≡ Some chunk) (wants : List Want) where
   sound : IsChunk chunk
   sound = (table.sound number chunk there).0
 
   -- a chunk has one number
   number_same : (k j : ℕ) (c : Chunk) → slice_get layout.chunks k ≡ Some c → slice_get layout.chunks j ≡ Some c → k ≡ j
-  number_same k j c e f = elim (cases_order k j) [
-    | inl same ↦ same
-    | inr (inl before) ↦ absurd (omega (arith, (table.apart k j c c before e f).0, (facts c (table.sound k c e).0).some))
-    | inr (inr after) ↦ absurd (omega (arith, (table.apart j k c c after f e).0, (facts c (table.sound k c e).0).some))
-  ]
+  number_same k j c e f = (with_one_start layout table k j c c e f refl).0
 
   -- a block in a chunk with this start is in this chunk
   start_same : (t : Target) (is : IsSought layout t) → t.chunk.start ≡ chunk.start → (is.number ≡ number) × (t.chunk ≡ chunk)
-  start_same t is e = elim (cases_order is.number number) [
-    | inl same ↦ (same, same_Some t.chunk chunk (sym is.there ∙ ap (slice_get layout.chunks) same ∙ there))
-    | inr (inl before) ↦ absurd (omega (
-      arith,
-      (table.apart is.number number t.chunk chunk before is.there there).0,
-      e,
-      (facts t.chunk (table.sound is.number t.chunk is.there).0).some,
-    ))
-    | inr (inr after) ↦ absurd (omega (arith, (table.apart number is.number chunk t.chunk after there is.there).0, e, (facts chunk sound).some))
-  ]
+  start_same t is e = with_one_start layout table is.number number t.chunk chunk is.there there e
 
   pub record OfChunk (t : Target) : Type 0 where
     pub is : IsSought layout t
@@ -149,8 +193,7 @@ module _ (kept : Failing) (layout : Layout) (table : IsTable layout.chunks) (own
   pub of_chunk : (t : Target) → In t (sites_in layout chunk wants) → OfChunk t
   of_chunk t i =
       let f = passing_filter (is_in_chunk chunk) t (targets layout wants) i in
-      let w = of_targets layout t wants f.0 in
-      let is = is_sought layout w.0 t w.2 in
+      let is = target_sought layout wants t f.0 in
       let same = start_same t is (eqb-true t.chunk.start chunk.start f.1) in
       record { is = is; number_is = same.0; chunk_is = same.1 }
 
@@ -165,13 +208,17 @@ module _ (kept : Failing) (layout : Layout) (table : IsTable layout.chunks) (own
       → HasPart chunk.profile (length chunk.stripes) q → IsSome (range_in_element layout (row_of kept (targets layout wants) chunk r) q 0 65536)
   element_stands r q parity inside has =
       let at0 : Elements = record { row = r; index = 0; rest = 0 } in
-      let p = placed_part chunk q at0 sound has (record { index = data_count-some chunk.profile (length chunk.stripes) (facts chunk sound).count; inside = omega (arith, inside) }) in
+      let p = placed_part chunk q at0 sound has (record {
+        index = data_count-some chunk.profile (length chunk.stripes) (facts chunk sound).count;
+        inside = omega (arith, inside);
+      }) in
       let place = place_at chunk q at0 in
       let k = stripe_of chunk.profile (length chunk.stripes) q at0 in
       let stands = stands_on p.stripe.offset (stripe_length chunk) (device_in layout.devices p.stripe.devid)
       (stripe_stands layout number k chunk p.stripe none there p.there) in
       let offset : place.offset ≡ p.stripe.offset + r * 65536 + 0 = ap (λ (x : StripePlace). x.offset) p.place in
-      let given : device_in layout.devices place.devid ≡ Some stands.device = ap (λ (x : StripePlace). device_in layout.devices x.devid) p.place ∙ stands.there in
+      let given : device_in layout.devices place.devid ≡ Some stands.device =
+      ap (λ (x : StripePlace). device_in layout.devices x.devid) p.place ∙ stands.there in
       ap is_some (range_stands place.offset 65536 (device_in layout.devices place.devid) stands.device given (omega (arith, stands.within, offset, inside)))
 
   pub row_is : (r : ℕ) → mirrors chunk ≡ None → r * 65536 + 65536 ≤ stripe_length chunk → OfRows (row_of kept (targets layout wants) chunk r)
@@ -187,18 +234,13 @@ module _ (kept : Failing) (layout : Layout) (table : IsTable layout.chunks) (own
     blocks = λ t i.
         let f = passing_filter (is_in_row chunk r) t (targets layout wants) i in
         let both = and_parts (is_in_chunk chunk t) (eqb t.at.row r) f.1 in
-        let w = of_targets layout t wants f.0 in
-        let is = is_sought layout w.0 t w.2 in
+        let is = target_sought layout wants t f.0 in
         record { is = is; chunk = (start_same t is (eqb-true t.chunk.start chunk.start both.0)).1; number = eqb-true t.at.row r both.1 };
   }
 
   of_rows : (parity : mirrors chunk ≡ None) (row : Row) → In row (rows_in kept (targets layout wants) chunk) → OfRows row
-  of_rows parity row i =
-      let n = stripe_length chunk / 65536 in
-      let listed : rows_in kept (targets layout wants) chunk ≡ map (row_of kept (targets layout wants) chunk) (range_with_len 0 n) = ap (λ o. cond (is_none o) (map (row_of kept (targets layout wants) chunk) (range_with_len 0 n)) []) parity in
-      let r = of_mapped (row_of kept (targets layout wants) chunk) row (range_with_len 0 n) (subst (In row) listed i) in
-      let lt = in_below n r.0 r.1 in
-      subst OfRows r.2 (row_is r.0 parity (omega (arith, lt)))
+  of_rows parity row i = each_row kept (targets layout wants) chunk (stripe_length chunk / 65536) OfRows (λ k lt. row_is k parity (omega (arith, lt))) row
+      (subst (In row) (all_rows kept (targets layout wants) chunk parity) i)
 
   module _ (images : Images) (lengths : HaveLengths images layout) where
     -- each byte that is written lies in the chunk
@@ -227,7 +269,8 @@ module _ (kept : Failing) (layout : Layout) (table : IsTable layout.chunks) (own
       where
         by : (o : Option ℕ) → mirrors chunk ≡ o → All (Short images)
             (cond (is_none o) (rows_writes layout (rows_in kept (targets layout wants) chunk) images) (sites_writes kept (sites_in layout chunk wants) images))
-        by None parity = flat_short images (row_writes images layout) (rows_in kept (targets layout wants) chunk) (λ row i. let of = of_rows parity row i in row_short layout row table of.is images lengths of.blocks)
+        by None parity = flat_short images (row_writes images layout) (rows_in kept (targets layout wants) chunk)
+            (λ row i. let of = of_rows parity row i in row_short layout row table of.is images lengths of.blocks)
         by (Some n) copies = flat_short images (λ t. mending_writes images kept t) (sites_in layout chunk wants)
             (λ t i. site_short images layout lengths t (of_chunk t i).is kept)
 
@@ -236,59 +279,86 @@ module _ (kept : Failing) (layout : Layout) (table : IsTable layout.chunks) (own
         → ((slot off : ℕ) → InChunk layout number slot off → list_any (covers slot off) ranges ≡ false)
         → (chunk_writes_for kept layout chunk wants images' ≡ chunk_writes_for kept layout chunk wants images)
         × ((x : Tally) → chunk_count_for kept layout write chunk wants images' x ≡ chunk_count_for kept layout write chunk wants images x)
-    chunk_stays write images' ranges keeps free = (by_writes (mirrors chunk) refl, λ x. by_counts x (mirrors chunk) refl)
+    chunk_stays write images' ranges keeps free = (
+      chunk_alike kept kept images images' layout wants chunk each_row each_block,
+      chunk_counted kept kept images images' layout wants chunk each_row each_block write,
+    )
       where
-        each_row : (parity : mirrors chunk ≡ None) (r : Row) → In r (rows_in kept (targets layout wants) chunk) → RowAlike images images' layout r r.failing
-        each_row parity r i =
-            let of = of_rows parity r i in
-            row_stays layout r table of.is images lengths images' ranges of.blocks keeps
+        each_row : mirrors chunk ≡ None → (k : ℕ) → k < stripe_length chunk / 65536
+            → RowAlike images images' layout (row_of kept (targets layout wants) chunk k) kept
+        each_row parity k lt =
+            let row = row_of kept (targets layout wants) chunk k in
+            let of = row_is k parity (omega (arith, lt)) in
+            row_stays layout row table of.is images lengths images' ranges of.blocks keeps
             (λ q slot off e. free slot off (subst (λ k. InChunk layout k slot off)
-            (number_same e.number of.is.chunk_number r.chunk e.there of.is.there ∙ of.number_is) (element_in_chunk layout r q slot off table e)))
+            (number_same e.number number chunk e.there there) (element_in_chunk layout row q slot off table e)))
 
-        each_block : (n : ℕ) → mirrors chunk ≡ Some n → (t : Target) → In t (sites_in layout chunk wants) → SiteAlike kept images images' t
+        each_block : (n : ℕ) → mirrors chunk ≡ Some n → (t : Target) → In t (sites_in layout chunk wants) → SiteAlike kept kept images images' t
         each_block n copies t i =
             let of = of_chunk t i in
-            let has : mirrors t.chunk ≡ Some n = ap mirrors of.chunk_is ∙ copies in
-            site_alike images images' t n has (λ k lt. same_element images images' layout ranges t (Mirror k) lengths of.is keeps
-            (λ slot off c. free slot off (subst (λ j. InChunk layout j slot off) of.number_is
-            (copy_in_chunk layout t slot off table of.is (byte t of.is n k has lt slot off (range_of t (Mirror k)) refl c))))) kept
-          where
-            byte : (t : Target) → IsSought layout t → (n k : ℕ) → mirrors t.chunk ≡ Some n → k < n → (slot off : ℕ) (o : Option Range)
-                → range_of t (Mirror k) ≡ o → IsSomeAnd o (λ range. covers slot off range ≡ true) → IsCopyByte layout t slot off
-            byte t is n k has lt slot off None e c = absurd c
-            byte t is n k has lt slot off (Some range) e c = of_range layout t k slot off range is (has_mirror t n k has lt) e c
+            site_stays kept images layout lengths t of.is n (ap mirrors of.chunk_is ∙ copies) images' ranges keeps
+            (λ slot off b. free slot off (subst (λ j. InChunk layout j slot off) of.number_is (copy_in_chunk layout t slot off table of.is b)))
 
-        by_writes : (o : Option ℕ) → mirrors chunk ≡ o → cond (is_none o) (rows_writes layout (rows_in kept (targets layout wants) chunk) images')
-            (sites_writes kept (sites_in layout chunk wants) images')
-            ≡ cond (is_none o) (rows_writes layout (rows_in kept (targets layout wants) chunk) images) (sites_writes kept (sites_in layout chunk wants) images)
-        by_writes None parity = flat_same (row_writes images' layout) (row_writes images layout) (rows_in kept (targets layout wants) chunk)
-            (λ r i. row_writes_alike images images' layout r r.failing (each_row parity r i))
-        by_writes (Some n) copies = flat_same (mending_writes images' kept) (mending_writes images kept) (sites_in layout chunk wants)
-            (λ t i. (each_block n copies t i).writes)
+-- ---- what a write is for
 
-        by_counts : (x : Tally) (o : Option ℕ) → mirrors chunk ≡ o
-            → cond (is_none o) (rows_count layout write (rows_in kept (targets layout wants) chunk) images' x)
-            (sites_count kept write (sites_in layout chunk wants) images' x)
-            ≡ cond (is_none o) (rows_count layout write (rows_in kept (targets layout wants) chunk) images x)
-            (sites_count kept write (sites_in layout chunk wants) images x)
-        by_counts x None parity = fold_same (count_row images' layout write) (count_row images layout write)
-            (rows_in kept (targets layout wants) chunk) x (λ r i z. row_counted images images' layout write r r.failing z (each_row parity r i))
-        by_counts x (Some n) copies = fold_same (count_site kept images' write) (count_site kept images write) (sites_in layout chunk wants) x
-            (λ t i z. (each_block n copies t i).counts write z)
+-- for a block with copies
+pub record ForCopies (kept : Failing) (images : Images) (layout : Layout) (wants : List Want) (w : Write) : Type 0 where
+  pub block : Target
+  pub among : In block (targets layout wants)
+  pub is : IsSought layout block
+  pub copies : ℕ
+  pub has : mirrors block.chunk ≡ Some copies
+  pub written : In w (mending_writes images kept block)
+
+-- for a full stripe
+pub record ForRow (kept : Failing) (images : Images) (layout : Layout) (wants : List Want) (w : Write) : Type 0 where
+  pub number : ℕ
+  pub chunk : Chunk
+  pub there : slice_get layout.chunks number ≡ Some chunk
+  pub parity : mirrors chunk ≡ None
+  pub row : ℕ
+  pub inside : row * 65536 + 65536 ≤ stripe_length chunk
+  pub written : In w (row_writes images layout (row_of kept (targets layout wants) chunk row))
+
+pub for_one : (kept : Failing) (layout : Layout) → IsTable layout.chunks → HaveOwnSlots layout.devices → first_missing layout ≡ None → (wants : List Want)
+    (images : Images) (w : Write) → In w (all_writes_for kept layout layout.chunks wants images)
+    → ForCopies kept images layout wants w ⊎ ForRow kept images layout wants w
+for_one kept layout table own none wants images w i =
+    let f = of_flat (λ c. chunk_writes_for kept layout c wants images) w layout.chunks i in
+    let j = at_in f.0 layout.chunks f.1 in
+    by f.0 j.0 j.1 (mirrors f.0) refl f.2
+  where
+    by : (chunk : Chunk) (number : ℕ) → slice_get layout.chunks number ≡ Some chunk → (o : Option ℕ) → mirrors chunk ≡ o
+        → In w (cond (is_none o) (rows_writes layout (rows_in kept (targets layout wants) chunk) images)
+        (sites_writes kept (sites_in layout chunk wants) images)) → ForCopies kept images layout wants w ⊎ ForRow kept images layout wants w
+    by chunk number there None parity i =
+        let n = stripe_length chunk / 65536 in
+        let f = of_flat (row_writes images layout) w (rows_in kept (targets layout wants) chunk) i in
+        let r = of_mapped (row_of kept (targets layout wants) chunk) f.0 (range_with_len 0 n)
+        (subst (In f.0) (all_rows kept (targets layout wants) chunk parity) f.1) in
+        let lt = in_below n r.0 r.1 in
+        inr (record {
+          number = number;
+          chunk = chunk;
+          there = there;
+          parity = parity;
+          row = r.0;
+          inside = omega (arith, lt);
+          written = subst (λ row. In w (row_writes images layout row)) (sym r.2) f.2;
+        })
+    by chunk number there (Some n) copies i =
+        let f = of_flat (mending_writes images kept) w (sites_in layout chunk wants) i in
+        let of = of_chunk kept layout table own none number chunk there wants f.0 f.1 in
+        inl (record {
+          block = f.0;
+          among = (passing_filter (is_in_chunk chunk) f.0 (targets layout wants) f.1).0;
+          is = of.is;
+          copies = n;
+          has = ap mirrors of.chunk_is ∙ copies;
+          written = f.2;
+        })
 
 -- ---- the chunks before one
-
-module _ (kept : Failing) (layout : Layout) (table : IsTable layout.chunks) (own : HaveOwnSlots layout.devices) (none : first_missing layout ≡ None) (wants : List Want) (images : Images) (lengths : HaveLengths images layout) (number : ℕ) (chunk : Chunk) (there : slice_get layout.chunks number ≡ Some chunk) where
-  before_short : All (Short images) (all_writes_for kept layout (take number layout.chunks) wants images)
-  before_short = flat_short images (λ c. chunk_writes_for kept layout c wants images) (take number layout.chunks)
-      (λ c i. let j = in_take number layout.chunks c i in chunk_short kept layout table own none j.0 c j.2 wants images lengths)
-
-  before_free : (slot off : ℕ) → InChunk layout number slot off
-      → list_any (covers slot off) (map (λ (w : Write). w.range) (all_writes_for kept layout (take number layout.chunks) wants images)) ≡ false
-  before_free slot off b = unwritten slot off (λ c. chunk_writes_for kept layout c wants images) (take number layout.chunks) (λ c i h.
-      let j = in_take number layout.chunks c i in
-      let same = one_chunk layout j.0 number slot off table own (chunk_byte kept layout table own none j.0 c j.2 wants images lengths slot off h) b in
-      omega (arith, same, j.1))
 
 -- what was written in the chunks before one leaves what is to be written and counted there
 pub chunk_unmoved : (kept : Failing) (layout : Layout) (write : Bool) (wants : List Want) (held : Option Images) (number : ℕ) (chunk : Chunk)
@@ -297,8 +367,13 @@ pub chunk_unmoved : (kept : Failing) (layout : Layout) (write : Bool) (wants : L
     → IsUnmoved layout write (all_writes_for kept layout (take number layout.chunks) wants) (chunk_writes_for kept layout chunk wants)
     (chunk_count_for kept layout write chunk wants) held
 chunk_unmoved kept layout write wants held number chunk table own none there lengths images e =
-    let ws = all_writes_for kept layout (take number layout.chunks) wants images in
     let l = lengths images e in
-    chunk_stays kept layout table own none number chunk there wants images l write (fold write_on images (writes_if write ws)) (map (λ (w : Write). w.range) ws)
-    (shorts_keep_if write images ws (before_short kept layout table own none wants images l number chunk there))
-    (before_free kept layout table own none wants images l number chunk there)
+    unmoved_by write images (λ c. chunk_writes_for kept layout c wants images) (take number layout.chunks) (InChunk layout number)
+    (λ after. (chunk_writes_for kept layout chunk wants after ≡ chunk_writes_for kept layout chunk wants images)
+    × ((x : Tally) → chunk_count_for kept layout write chunk wants after x ≡ chunk_count_for kept layout write chunk wants images x))
+    (λ c i. let j = in_take number layout.chunks c i in chunk_short kept layout table own none j.0 c j.2 wants images l)
+    (λ c i slot off h here.
+    let j = in_take number layout.chunks c i in
+    let same = one_chunk layout j.0 number slot off table own (chunk_byte kept layout table own none j.0 c j.2 wants images l slot off h) here in
+    omega (arith, same, j.1))
+    (chunk_stays kept layout table own none number chunk there wants images l write)

@@ -1,13 +1,11 @@
 -- The blocks of a chunk with copies, one after another.
-use Rattle.std.proofs.Common.{◌≡◌, ℕ, ◌+◌, ◌<◌, ◌≤◌, Bool, true, false, cond, leb, ltb, List, [], ◌∷◌, ◌++◌, map, length, get_or}
-use Rattle.std.proofs.Common.{slice_get, Option, Some, None, IsSome, is_some, Result, Ok, Err, IsOk, refl, sym, ap, ◌∙◌, subst, inl, inr, arith}
-use Rattle.std.proofs.Common.{append_assoc, append-nil}
-use Rattle.std.proofs.lemmas.Bool.{false≢true, and_parts, cases_order, eq-eqb, eqb-true, leb-true, ltb-true, false_from_ne_true}
+use Rattle.std.proofs.Common.{◌≡◌, ℕ, ◌+◌, ◌<◌, ◌≤◌, Bool, true, false, cond, List, [], ◌∷◌, ◌++◌, map, length, get_or, slice_get, Option, Some, None, IsSome}
+use Rattle.std.proofs.Common.{is_some, Result, Ok, Err, IsOk, refl, sym, ap, ◌∙◌, subst, inl, inr, arith, append_assoc, append-nil}
+use Rattle.std.proofs.lemmas.Bool.{false≢true, cases_order, eq-eqb, eqb-true, false_from_ne_true}
 use Rattle.std.proofs.lemmas.List.Elements.{filter-append, filter_map-append}
-use Rattle.std.proofs.lemmas.Grind.{flat_map-append}
 use Rattle.std.proofs.lemmas.List.{get_or-map, length-map}
 use Rattle.std.proofs.lemmas.Option.{same_Some}
-use Rattle.std.specs.List.{cons_option, filter, flat_map, fold}
+use Rattle.std.specs.List.{cons_option, filter, flat_map}
 use Rattle.btr_chunk.specs.Chunk.{mirrors, stripe_length}
 use Rattle.btr_chunk.specs.Mapping.{HasPart, place_at}
 use Rattle.btr_chunk.specs.declared.place.Part.{Part}
@@ -22,7 +20,7 @@ use Rattle.btr_read.specs.Want.{addr_of, len_of}
 use Rattle.btr_read.specs.declared.want.Want.{Want}
 use Rattle.btr_scrub_copies.specs.Mending.{IsCopied}
 use Rattle.btr_scrub_copies.specs.declared.mended.MendFault.{MendFault}
-use Rattle.btr_scrub_copies.specs.Writes.{Images, write_on, writes_if}
+use Rattle.btr_scrub_copies.specs.Writes.{Images}
 use Rattle.btr_scrub_row.specs.Wanted.{mending_writes}
 use Rattle.btr_scrub.specs.BlocksInRows.{In}
 use Rattle.btr_scrub.specs.Order.{AreApart, IsSought, targets}
@@ -32,28 +30,30 @@ use Rattle.btr_scrub.specs.Scrubbing.{BeginsBehind, IsPastChunk, Scrubs, count_s
 use Rattle.btr_scrub.specs.Devices.{HaveLengths}
 use Rattle.btr_scrub.specs.WrittenRanges.{alone}
 use Rattle.btr_scrub.specs.declared.tally.Tally.{Tally}
-use Rattle.btr_scrub.proofs.Scrubbing.{IsUnmoved, scrubs_as, scrubs_cut, scrubs_none, scrubs_then, told}
+use Rattle.btr_scrub.proofs.Scrubbing.{IsUnmoved, scrubs_none, told}
 use Rattle.btr_chunk.proofs.Rule.{facts}
 use Rattle.btr_read.proofs.Fates.{sought_of}
-use Rattle.btr_scrub.proofs.Positions.{is_sought, on_stripe}
+use Rattle.btr_scrub.proofs.Positions.{is_sought, on_stripe, IsCopyByte, bounds_of, shares}
 use Rattle.btr_scrub_row.proofs.Elements.{range_stands, stands_on}
-use Rattle.btr_scrub.proofs.CopyWrites.{AreCopied, behind_alike}
-use Rattle.btr_scrub.proofs.Shorts.{flat_short, site_short}
-use Rattle.btr_scrub.proofs.Pasting.{shorts_keep_if}
+use Rattle.btr_scrub.proofs.CopyWrites.{site_stays, written_byte}
+use Rattle.btr_scrub.proofs.Shorts.{site_short}
+use Rattle.btr_scrub.proofs.Pasting.{unmoved_by}
 use Rattle.btr_scrub.proofs.Lists.{some_of, some_if, in_flat, in_some, in_filter}
 use Rattle.btr_read.proofs.Ones.{in_either}
-use Rattle.std.proofs.lemmas.List.Sums.{fold-append}
 use Rattle.btr_chunk.specs.declared.stripe.Stripe.{Stripe}
+use Rattle.btr_scrub.proofs.Itemwise.{one_cut, one_more, scrubs_steps}
 
 -- some blocks of a chunk are past, and mended
-pub record IsUnderway (fails : Failing) (layout : Layout) (write : Bool) (chunk : Chunk) (wants left : List Want) (marks marks' : List Bool) (old new : Seen) (tally tally' : Tally) : Type 0 where
+pub record IsUnderway (fails : Failing) (layout : Layout) (write : Bool) (chunk : Chunk) (wants left : List Want) (marks marks' : List Bool)
+    (old new : Seen) (tally tally' : Tally) : Type 0 where
   pub past : List Want
   pub split : wants ≡ past ++ left
   pub end : ℕ
   pub from : chunk.start ≤ end
   pub sound : (t : Target) → In t (targets layout past) → IsSought layout t × (t.chunk ≡ chunk) × (addr_of t.want + size_of t ≤ end)
   pub apart : AreApart layout end left
-  pub done : Scrubs {A = Unit {0}} (alone layout chunk) write (sites_writes fails (targets layout past)) (sites_count fails write (targets layout past)) marks marks' old new
+  pub done : Scrubs {A = Unit {0}} (alone layout chunk) write (sites_writes fails (targets layout past))
+      (sites_count fails write (targets layout past)) marks marks' old new
       tally tally' (Ok tt)
 
 -- ---- lists
@@ -78,61 +78,64 @@ of_targets layout t (want ∷ wants) i = by (sought layout want) refl i (of_targ
     by (Ok u) e (inl same) rest = (want, inl refl, e ∙ ap Ok same)
     by (Ok u) e (inr j) rest = let r = rest j in (r.0, inr r.1, r.2)
 
+pub target_sought : (layout : Layout) (wants : List Want) (t : Target) → In t (targets layout wants) → IsSought layout t
+target_sought layout wants t i = let w = of_targets layout t wants i in is_sought layout w.0 t w.2
+
+pub targets_both : (layout : Layout) (xs ys : List Want) → targets layout (xs ++ ys) ≡ targets layout xs ++ targets layout ys
+targets_both layout xs ys = filter_map-append (λ w. ok_or_none (sought layout w)) xs ys
+
 -- the targets with one more
 pub one_target : (layout : Layout) (past : List Want) (want : Want) (t : Target) (rest : List Want) → sought layout want ≡ Ok t
     → targets layout (past ++ want ∷ rest) ≡ targets layout past ++ t ∷ targets layout rest
 one_target layout past want t rest e =
-    filter_map-append (λ w. ok_or_none (sought layout w)) past (want ∷ rest)
+    targets_both layout past (want ∷ rest)
     ∙ ap (λ r. targets layout past ++ cons_option (ok_or_none r) (targets layout rest)) e
 
 -- each of some blocks that are apart begins behind where they may begin
 pub all_behind : (layout : Layout) (end : ℕ) (wants : List Want) → AreApart layout end wants → (want : Want) → In want wants → end ≤ addr_of want
 all_behind layout end [] apart want i = absurd i
 all_behind layout end (w ∷ ws) apart want (inl e) = subst (λ x. end ≤ addr_of x) e apart.0
-all_behind layout end (w ∷ ws) apart want (inr i) = let later = all_behind layout (addr_of w + len_of layout.setting w) ws apart.2 want i in omega (arith, apart.0, later)
+all_behind layout end (w ∷ ws) apart want (inr i) =
+    let later = all_behind layout (addr_of w + len_of layout.setting w) ws apart.2 want i in omega (arith, apart.0, later)
+
+pub apart_past : (layout : Layout) (from end : ℕ) (wants : List Want) → BeginsBehind end wants → AreApart layout from wants → AreApart layout end wants
+apart_past layout from end [] begins apart = tt
+apart_past layout from end (want ∷ wants) begins apart = (begins, apart.1, apart.2)
 
 -- ---- one chunk of the table
 
+-- two chunks of a table that overlap are one
+overlapping : (layout : Layout) → IsTable layout.chunks → (i j : ℕ) (c d : Chunk) → slice_get layout.chunks i ≡ Some c → slice_get layout.chunks j ≡ Some d
+    → c.start < d.start + d.length → d.start < c.start + c.length → (i ≡ j) × (c ≡ d)
+overlapping layout table i j c d at there before behind = elim (cases_order i j) [
+  | inl same ↦ (same, same_Some c d (sym at ∙ ap (slice_get layout.chunks) same ∙ there))
+  | inr (inl lt) ↦ absurd (omega (arith, (table.apart i j c d lt at there).0, behind))
+  | inr (inr lt) ↦ absurd (omega (arith, (table.apart j i d c lt there at).0, before))
+]
+
+pub with_one_start : (layout : Layout) → IsTable layout.chunks → (i j : ℕ) (c d : Chunk) → slice_get layout.chunks i ≡ Some c
+    → slice_get layout.chunks j ≡ Some d → c.start ≡ d.start → (i ≡ j) × (c ≡ d)
+with_one_start layout table i j c d at there e = overlapping layout table i j c d at there (omega (arith, e, (facts d (table.sound j d there).0).some))
+    (omega (arith, e, (facts c (table.sound i c at).0).some))
+
 module _ (layout : Layout) (table : IsTable layout.chunks) (number : ℕ) (chunk : Chunk) (there : slice_get layout.chunks number ≡ Some chunk) where
-  some_length : 0 < chunk.length
-  some_length = (facts chunk (table.sound number chunk there).0).some
-
-  inside_of : (t : Target) (is : IsSought layout t) → (t.chunk.start ≤ addr_of t.want) × (addr_of t.want < t.chunk.start + t.chunk.length)
-  inside_of t is =
-      let h = and_parts (leb t.chunk.start (addr_of t.want)) (ltb (addr_of t.want) (t.chunk.start + t.chunk.length)) is.held in
-      (leb-true t.chunk.start (addr_of t.want) h.0, ltb-true (addr_of t.want) (t.chunk.start + t.chunk.length) h.1)
-
   -- a block whose address the chunk has lies in it
   pub chunk_same : (t : Target) (is : IsSought layout t) → chunk.start ≤ addr_of t.want → addr_of t.want < chunk.start + chunk.length → t.chunk ≡ chunk
-  chunk_same t is from to = elim (cases_order is.number number) [
-    | inl same ↦ same_Some t.chunk chunk (sym is.there ∙ ap (slice_get layout.chunks) same ∙ there)
-    | inr (inl before) ↦ absurd (omega (arith, (table.apart is.number number t.chunk chunk before is.there there).0, (inside_of t is).1, from))
-    | inr (inr behind) ↦ absurd (omega (arith, (table.apart number is.number chunk t.chunk behind there is.there).0, (inside_of t is).0, to))
-  ]
+  chunk_same t is from to =
+      let b = bounds_of t.chunk (addr_of t.want) is.held in
+      (overlapping layout table is.number number t.chunk chunk is.there there (omega (arith, b.0, to)) (omega (arith, b.1, from))).1
 
   -- one with an address behind it doesn't
-  pub behind_not : (t : Target) (is : IsSought layout t) → chunk.start + chunk.length ≤ addr_of t.want → is_in_chunk chunk t ≡ false
+  behind_not : (t : Target) (is : IsSought layout t) → chunk.start + chunk.length ≤ addr_of t.want → is_in_chunk chunk t ≡ false
   behind_not t is behind = false_from_ne_true (is_in_chunk chunk t) (λ e.
-      let start = eqb-true t.chunk.start chunk.start e in
-      elim (cases_order is.number number) [
-        | inl same ↦
-            let chunks : t.chunk ≡ chunk = same_Some t.chunk chunk (sym is.there ∙ ap (slice_get layout.chunks) same ∙ there) in
-            absurd (omega (arith, behind, (inside_of t is).1, start, ap (λ (c : Chunk). c.length) chunks))
-        | inr (inl before) ↦ absurd (omega (
-          arith,
-          (table.apart is.number number t.chunk chunk before is.there there).0,
-          (inside_of t is).0,
-          (inside_of t is).1,
-          start,
-        ))
-        | inr (inr after) ↦ absurd (omega (arith, (table.apart number is.number chunk t.chunk after there is.there).0, some_length, start))
-      ])
+      let same = (with_one_start layout table is.number number t.chunk chunk is.there there (eqb-true t.chunk.start chunk.start e)).1 in
+      absurd (omega (arith, behind, (bounds_of t.chunk (addr_of t.want) is.held).1, ap (λ (c : Chunk). c.start + c.length) same)))
 
   -- the blocks of the chunk are those that are past
   pub blocks_are : (past left : List Want) → ((t : Target) → In t (targets layout past) → t.chunk ≡ chunk)
       → ((want : Want) → In want left → chunk.start + chunk.length ≤ addr_of want) → sites_in layout chunk (past ++ left) ≡ targets layout past
   blocks_are past left inside behind =
-      ap (filter (is_in_chunk chunk)) (filter_map-append (λ w. ok_or_none (sought layout w)) past left)
+      ap (filter (is_in_chunk chunk)) (targets_both layout past left)
       ∙ filter-append (is_in_chunk chunk) (targets layout past) (targets layout left)
       ∙ ap (λ xs. xs ++ filter (is_in_chunk chunk) (targets layout left))
       (filter_all (is_in_chunk chunk) (targets layout past) (λ t i. eq-eqb t.chunk.start chunk.start (ap (λ (c : Chunk). c.start) (inside t i))))
@@ -153,44 +156,41 @@ module _ (layout : Layout) (table : IsTable layout.chunks) (number : ℕ) (chunk
       ∙ ap (λ b. targets layout past ++ cond b (t ∷ sites_in layout chunk rest) (sites_in layout chunk rest))
       (eq-eqb t.chunk.start chunk.start (ap (λ (c : Chunk). c.start) mine))
 
--- ---- one block more
-
--- lists of writes for blocks, one more
-writes_more : (fails : Failing) (images : Images) (ts : List Target) (t : Target) → sites_writes fails ts images ++ mending_writes images fails t ≡ sites_writes fails (ts ++ t ∷ []) images
-writes_more fails images ts t = ap (λ ws. sites_writes fails ts images ++ ws) (sym (append-nil (mending_writes images fails t)))
-    ∙ sym (flat_map-append (mending_writes images fails) ts (t ∷ []))
-
-writes_rest : (fails : Failing) (images : Images) (ts : List Target) (t : Target) (us : List Target) → (sites_writes fails ts images ++ mending_writes images fails t)
-    ++ sites_writes fails us images ≡ sites_writes fails (ts ++ t ∷ us) images
-writes_rest fails images ts t us = append_assoc (sites_writes fails ts images) (mending_writes images fails t) (sites_writes fails us images)
-    ∙ sym (flat_map-append (mending_writes images fails) ts (t ∷ us))
-
 -- images have the lengths of the devices
 pub have_lengths : (rack : Seen) (layout : Layout) (images : Images) → IsRack rack → AreOpen rack.slots layout.devices → rack.held ≡ Some images
     → HaveLengths images layout
 have_lengths rack layout images is open' held devid device given =
     let o = open' devid device given in
-    let sized : map length images ≡ map (λ (slot : Slot). slot.len) rack.slots = told rack.held (λ images. map length images ≡ map (λ (slot : Slot). slot.len) rack.slots) images held is.sized in
+    let sized : map length images ≡ map (λ (slot : Slot). slot.len) rack.slots =
+    told rack.held (λ images. map length images ≡ map (λ (slot : Slot). slot.len) rack.slots) images held is.sized in
     let few : length images ≡ length rack.slots = sym (length-map images length) ∙ ap length sized ∙ length-map rack.slots (λ (slot : Slot). slot.len) in
-    let one : get_or (map length images) device.slot 0 ≡ length (get_or images device.slot []) = get_or-map length images device.slot [] 0 (omega (arith, o.slot, few)) in
-    let two : get_or (map (λ (slot : Slot). slot.len) rack.slots) device.slot 0 ≡ (get_or rack.slots device.slot no_slot).len = get_or-map (λ (slot : Slot). slot.len) rack.slots device.slot no_slot 0 o.slot in
+    let one : get_or (map length images) device.slot 0 ≡ length (get_or images device.slot []) =
+    get_or-map length images device.slot [] 0 (omega (arith, o.slot, few)) in
+    let two : get_or (map (λ (slot : Slot). slot.len) rack.slots) device.slot 0 ≡ (get_or rack.slots device.slot no_slot).len =
+    get_or-map (λ (slot : Slot). slot.len) rack.slots device.slot no_slot 0 o.slot in
     sym one ∙ ap (λ xs. get_or xs device.slot 0) sized ∙ two ∙ o.len
 
-module _ (fails : Failing) (layout : Layout) (write : Bool) (chunk : Chunk) (n : ℕ) (copies : mirrors chunk ≡ Some n) (table : IsTable layout.chunks) (own : HaveOwnSlots layout.devices) where
+module _ (fails : Failing) (layout : Layout) (write : Bool) (chunk : Chunk) (n : ℕ) (copies : mirrors chunk ≡ Some n) (table : IsTable layout.chunks)
+    (own : HaveOwnSlots layout.devices) where
   -- what is told of a block stays when those before it are mended
   unmoved : (past : List Want) (end : ℕ) (held : Option Images) (t : Target)
       → ((u : Target) → In u (targets layout past) → IsSought layout u × (u.chunk ≡ chunk) × (addr_of u.want + size_of u ≤ end))
       → IsSought layout t → t.chunk ≡ chunk → end ≤ addr_of t.want → ((images : Images) → held ≡ Some images → HaveLengths images layout)
-      → IsUnmoved layout write (sites_writes fails (targets layout past)) (λ images. mending_writes images fails t) (λ images tally. count_site fails images write tally t) held
+      → IsUnmoved layout write (sites_writes fails (targets layout past)) (λ images. mending_writes images fails t)
+      (λ images tally. count_site fails images write tally t) held
   unmoved past end held t sound is mine behind lengths images e =
-      let ts = targets layout past in
-      let are : AreCopied fails images layout (lengths images e) ts = λ u i. let s = sound u i in (s.0, (n, ap mirrors s.1 ∙ copies)) in
-      let ws = sites_writes fails ts images in
-      let after = fold write_on images (writes_if write ws) in
-      let shorts = flat_short images (mending_writes images fails) ts (λ u i. site_short images layout (lengths images e) u (are u i).0 fails) in
-      let alike = behind_alike fails images layout (lengths images e) table own ts t are is n (ap mirrors mine ∙ copies)
-      (λ u i. let s = (sound u i).2 in omega (arith, s, behind)) after (shorts_keep_if write images ws shorts) in
-      (alike.writes, alike.counts write)
+      let l = lengths images e in
+      let has = λ (u : Target) (i : In u (targets layout past)). ap mirrors (sound u i).1 ∙ copies in
+      unmoved_by write images (mending_writes images fails) (targets layout past) (IsCopyByte layout t)
+      (λ after. (mending_writes after fails t ≡ mending_writes images fails t)
+      × ((x : Tally) → count_site fails after write x t ≡ count_site fails images write x t))
+      (λ u i. site_short images layout l u (sound u i).0 fails)
+      (λ u i slot off h here.
+      let b = written_byte fails images layout l u (sound u i).0 n (has u i) slot off h in
+      let s = shares layout u t slot off table own (sound u i).0 is b here in
+      omega (arith, s.same, s.below, (sound u i).2, behind))
+      (λ after ranges keeps free. let a = site_stays fails images layout l t is n (ap mirrors mine ∙ copies) after ranges keeps free in
+      (a.writes, a.counts write))
 
 -- ---- which stripes stand
 
@@ -206,7 +206,8 @@ stripe_stands layout i k chunk stripe none there at =
     let test = is_missing layout.devices (stripe_length chunk) in
     some_if (range_on stripe.offset (stripe_length chunk) (device_in layout.devices stripe.devid)) (false_from_ne_true (test stripe) (λ e.
     subst (In stripe) (none_first (flat_map missing layout.chunks) none)
-    (in_flat missing chunk stripe layout.chunks (in_some chunk layout.chunks i there) (in_filter test stripe chunk.stripes (in_some stripe chunk.stripes k at) e))))
+    (in_flat missing chunk stripe layout.chunks (in_some chunk layout.chunks i there)
+    (in_filter test stripe chunk.stripes (in_some stripe chunk.stripes k at) e))))
 
 -- each part of a block stands where no device is missing
 pub part_is_given : (layout : Layout) (t : Target) (part : Part) → IsTable layout.chunks → IsSought layout t
@@ -216,7 +217,8 @@ part_is_given layout t part table is has none =
     let place = place_at t.chunk part t.at in
     let stands = stands_on on.stripe.offset (stripe_length t.chunk) (device_in layout.devices on.stripe.devid)
     (stripe_stands layout is.number on.number t.chunk on.stripe none is.there on.there) in
-    let given : device_in t.devices place.devid ≡ Some stands.device = ap (λ ds. device_in ds place.devid) is.devices ∙ ap (device_in layout.devices) on.devid ∙ stands.there in
+    let given : device_in t.devices place.devid ≡ Some stands.device =
+    ap (λ ds. device_in ds place.devid) is.devices ∙ ap (device_in layout.devices) on.devid ∙ stands.there in
     ap is_some (range_stands place.offset (size_of t) (device_in t.devices place.devid) stands.device given (omega (arith, stands.within, on.end)))
 
 -- ---- the next block
@@ -265,48 +267,60 @@ next_copied layout table chunk end want rest copies none next = record {
   stand = λ m has. part_is_given layout next.target (Mirror m) table next.is has none;
 }
 
-module _ (fails : Failing) (layout : Layout) (write : Bool) (table : IsTable layout.chunks) (own : HaveOwnSlots layout.devices) (number : ℕ) (chunk : Chunk) (there : slice_get layout.chunks number ≡ Some chunk) (copies : IsSome (mirrors chunk)) (wants : List Want) (m : List Bool) (a : Seen) (tally : Tally) where
+module _ (fails : Failing) (layout : Layout) (write : Bool) (table : IsTable layout.chunks) (own : HaveOwnSlots layout.devices) (number : ℕ) (chunk : Chunk)
+    (there : slice_get layout.chunks number ≡ Some chunk) (copies : IsSome (mirrors chunk)) (wants : List Want) (m : List Bool) (a : Seen) (tally : Tally) where
   pub underway_first : AreApart layout chunk.start wants → IsUnderway fails layout write chunk wants wants m m a a tally tally
-  underway_first apart = record { past = []; split = refl; end = chunk.start; from = omega arith; sound = λ t i. absurd i; apart = apart; done = scrubs_none (alone layout chunk) write m a tally tt }
+  underway_first apart =
+      record {
+        past = [];
+        split = refl;
+        end = chunk.start;
+        from = omega arith;
+        sound = λ t i. absurd i;
+        apart = apart;
+        done = scrubs_none (alone layout chunk) write m a tally tt;
+      }
+
+  -- what was done for some blocks
+  abbrev Over : List Target → List Bool → Seen → Tally → Result (Unit {0}) MendFault → Type 0
+  Over ts n z u r = Scrubs {A = Unit {0}} (alone layout chunk) write (sites_writes fails ts) (sites_count fails write ts) m n a z tally u r
 
   module _ (left : List Want) (m' : List Bool) (b : Seen) (tally' : Tally) (h : IsUnderway fails layout write chunk wants left m m' a b tally tally') where
     -- those of the chunk are past
     pub past_chunk : BeginsBehind (chunk.start + chunk.length) left → IsPastChunk layout chunk wants left
-    past_chunk begins = record { past = h.past; split = h.split; inside = λ t i. (h.sound t i).1; behind = later left begins h.apart }
-      where
-        later : (ws : List Want) → BeginsBehind (chunk.start + chunk.length) ws → AreApart layout h.end ws → AreApart layout (chunk.start + chunk.length) ws
-        later [] begins apart = tt
-        later (w ∷ ws) begins apart = (begins, apart.1, apart.2)
+    past_chunk begins = record {
+      past = h.past;
+      split = h.split;
+      inside = λ t i. (h.sound t i).1;
+      behind = apart_past layout h.end (chunk.start + chunk.length) left begins h.apart;
+    }
 
     pub chunk_mended : (left' : List Want) → IsPastChunk layout chunk wants left' → left' ≡ left
-        → Scrubs {A = Unit {0}} (alone layout chunk) write (sites_writes fails (sites_in layout chunk wants)) (sites_count fails write (sites_in layout chunk wants)) m m' a
-        b tally tally' (Ok tt)
+        → Over (sites_in layout chunk wants) m' b tally' (Ok tt)
     chunk_mended left' past same =
-        let are : sites_in layout chunk wants ≡ targets layout h.past = ap (sites_in layout chunk) h.split ∙ blocks_are layout table number chunk there h.past left (λ t i. (h.sound t i).1)
+        let are : sites_in layout chunk wants ≡ targets layout h.past =
+        ap (sites_in layout chunk) h.split ∙ blocks_are layout table number chunk there h.past left (λ t i. (h.sound t i).1)
         (λ w i. all_behind layout (chunk.start + chunk.length) left (subst (AreApart layout (chunk.start + chunk.length)) same past.behind) w i) in
-        subst (λ ts. Scrubs {A = Unit {0}} (alone layout chunk) write (sites_writes fails ts) (sites_count fails write ts) m m' a b tally tally' (Ok tt)) (sym are) h.done
+        subst (λ ts. Over ts m' b tally' (Ok tt)) (sym are) h.done
 
-    module _ (lengths : (images : Images) → a.held ≡ Some images → HaveLengths images layout) (want : Want) (rest : List Want) (is : left ≡ want ∷ rest) (next : IsNext layout chunk h.end want rest) (m'' : List Bool) (z : Seen) (tally'' : Tally) where
+    module _ (lengths : (images : Images) → a.held ≡ Some images → HaveLengths images layout) (want : Want) (rest : List Want) (is : left ≡ want ∷ rest)
+        (next : IsNext layout chunk h.end want rest) (m'' : List Bool) (z : Seen) (tally'' : Tally) where
       same_before : IsUnmoved layout write (sites_writes fails (targets layout h.past)) (λ images. mending_writes images fails next.target)
           (λ images tally. count_site fails images write tally next.target) a.held
       same_before =
           let n = some_of (mirrors chunk) copies in
           unmoved fails layout write chunk n.0 n.1 table own h.past h.end a.held next.target h.sound next.is next.mine next.behind lengths
 
-      both_done : (r : Result (Unit {0}) MendFault) → Scrubs {A = Unit {0}} (alone layout chunk) write (λ images. mending_writes images fails next.target)
+      -- what was done for it
+      abbrev ForNext : Result (Unit {0}) MendFault → Type 0
+      ForNext r = Scrubs {A = Unit {0}} (alone layout chunk) write (λ images. mending_writes images fails next.target)
           (λ images tally. count_site fails images write tally next.target) m' m'' b z tally' tally'' r
-          → Scrubs {A = Unit {0}} (alone layout chunk) write (λ images. sites_writes fails (targets layout h.past) images ++ mending_writes images fails next.target)
-          (λ images y. count_site fails images write (sites_count fails write (targets layout h.past) images y) next.target) m m'' a z tally tally'' r
-      both_done r one = scrubs_then (alone layout chunk) write (Unit {0}) (Unit {0}) (sites_writes fails (targets layout h.past))
-          (λ images. mending_writes images fails next.target) (sites_count fails write (targets layout h.past))
-          (λ images tally. count_site fails images write tally next.target) m m' m'' a b z tally tally' tally'' tt r same_before h.done one
 
       -- one more is past
-      pub underway_more : Scrubs {A = Unit {0}} (alone layout chunk) write (λ images. mending_writes images fails next.target)
-          (λ images tally. count_site fails images write tally next.target) m' m'' b z tally' tally'' (Ok tt)
-          → IsUnderway fails layout write chunk wants rest m m'' a z tally tally''
+      pub underway_more : ForNext (Ok tt) → IsUnderway fails layout write chunk wants rest m m'' a z tally tally''
       underway_more one =
-          let ts : targets layout (h.past ++ want ∷ []) ≡ targets layout h.past ++ next.target ∷ [] = one_target layout h.past want next.target [] next.is_sought in
+          let ts : targets layout (h.past ++ want ∷ []) ≡ targets layout h.past ++ next.target ∷ [] =
+          one_target layout h.past want next.target [] next.is_sought in
           record {
             past = h.past ++ want ∷ [];
             split = h.split ∙ ap (λ ws. h.past ++ ws) is ∙ sym (append_assoc h.past (want ∷ []) rest);
@@ -319,33 +333,18 @@ module _ (fails : Failing) (layout : Layout) (write : Bool) (table : IsTable lay
               | inr (inr j) ↦ absurd j
             ];
             apart = next.apart;
-            done = subst (λ us. Scrubs {A = Unit {0}} (alone layout chunk) write (sites_writes fails us) (sites_count fails write us) m m'' a z tally tally'' (Ok tt)) (sym ts)
-                (scrubs_as (alone layout chunk) write (λ images. sites_writes fails (targets layout h.past) images ++ mending_writes images fails next.target)
-                (sites_writes fails (targets layout h.past ++ next.target ∷ []))
-                (λ images y. count_site fails images write (sites_count fails write (targets layout h.past) images y) next.target)
-                (sites_count fails write (targets layout h.past ++ next.target ∷ [])) m m'' a z tally tally'' (Ok tt)
-                (λ images e. (
-                  writes_more fails images (targets layout h.past) next.target,
-                  sym
-                      (fold-append (count_site fails images write) tally (targets layout h.past) (next.target ∷ [])),
-                )) (both_done (Ok tt) one));
+            done = subst (λ us. Over us m'' z tally'' (Ok tt)) (sym ts)
+                (one_more (scrubs_steps (alone layout chunk) write) (λ images. mending_writes images fails)
+                (λ images. count_site fails images write) (targets layout h.past) next.target same_before h.done one);
           }
 
       -- it came to a halt
-      pub underway_cut : (fault : MendFault) → Scrubs {A = Unit {0}} (alone layout chunk) write (λ images. mending_writes images fails next.target)
-          (λ images tally. count_site fails images write tally next.target) m' m'' b z tally' tally'' (Err fault)
-          → Scrubs {A = Unit {0}} (alone layout chunk) write (sites_writes fails (sites_in layout chunk wants)) (sites_count fails write (sites_in layout chunk wants)) m
-          m'' a z tally tally'' (Err fault)
+      pub underway_cut : (fault : MendFault) → ForNext (Err fault) → Over (sites_in layout chunk wants) m'' z tally'' (Err fault)
       underway_cut fault one =
           let us = sites_in layout chunk rest in
           let are : sites_in layout chunk wants ≡ targets layout h.past ++ next.target ∷ us =
-          ap (sites_in layout chunk) (h.split ∙ ap (λ ws. h.past ++ ws) is) ∙ blocks_begin layout table number chunk there h.past want next.target rest (λ t i. (h.sound t i).1) next.mine next.is_sought in
-          let ts = targets layout h.past ++ next.target ∷ us in
-          subst (λ ts. Scrubs {A = Unit {0}} (alone layout chunk) write (sites_writes fails ts) (sites_count fails write ts) m m'' a z tally tally'' (Err fault)) (sym are)
-          (scrubs_as (alone layout chunk) write (λ images. (sites_writes fails (targets layout h.past) images ++ mending_writes images fails next.target)
-          ++ sites_writes fails us images) (sites_writes fails ts) (sites_count fails write ts) (sites_count fails write ts) m m'' a z tally tally'' (Err fault)
-          (λ images e. (writes_rest fails images (targets layout h.past) next.target us, refl))
-          (scrubs_cut (alone layout chunk) write (Unit {0}) (Unit {0}) (λ images. sites_writes fails (targets layout h.past) images ++ mending_writes images fails next.target)
-          (sites_writes fails us)
-          (λ images y. count_site fails images write (sites_count fails write (targets layout h.past) images y) next.target) (sites_count fails write ts) m m'' a z
-          tally tally'' fault (both_done (Err fault) one)))
+          ap (sites_in layout chunk) (h.split ∙ ap (λ ws. h.past ++ ws) is)
+          ∙ blocks_begin layout table number chunk there h.past want next.target rest (λ t i. (h.sound t i).1) next.mine next.is_sought in
+          subst (λ ts. Over ts m'' z tally'' (Err fault)) (sym are)
+          (one_cut (scrubs_steps (alone layout chunk) write) (λ images. mending_writes images fails)
+          (λ images. count_site fails images write) (targets layout h.past) next.target same_before h.done us fault one)

@@ -58,7 +58,11 @@ pub gathers_scan : (s : Super) (sums : Option TreeRoot) (chunk : Chunk) (x y : S
     → Gathers (items_met s sums chunk 0 p) x (scene y.rack after y.list) r
 gathers_scan s sums chunk x y scan scan' r after p h same sup back serves none program = record {
   reads = h.reads;
-  volume = record { sup = sup ∙ h.sup; store = same_then (subst (λ b. SameLoans b (without_leaf y.vol.store scan')) (no_leaf x.vol.store scan none) h.others) back };
+  volume = record {
+    sup = sup ∙ h.sup;
+    store = same_then (subst (λ b. SameLoans b (without_leaf y.vol.store scan'))
+        (no_leaf x.vol.store scan none) h.others) back;
+  };
   serves = serves;
   done = h.done;
   lists = h.lists;

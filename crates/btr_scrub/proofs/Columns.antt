@@ -32,8 +32,8 @@ use Rattle.btr_scrub.specs.Survival.{AreBehind, FewAreFewAt, IsSoundBlock, IsSou
 use Rattle.btr_scrub.proofs.Elements.{block_of_element, part_stands}
 use Rattle.btr_scrub.proofs.Lists.{any_in, in_any, in_filter, some_of}
 use Rattle.btr_scrub.proofs.Stripes.{any_of, row_gives_blocks}
-use Rattle.btr_scrub.proofs.OwnPlaces.{wrong_own}
-use Rattle.btr_scrub.proofs.Survival.{at_range, block_there, own_slice, range_same, right, right_checked, right_is, right_long, right_part, slice_there}
+use Rattle.btr_scrub.proofs.OwnPlaces.{wrong_own, own_slice}
+use Rattle.btr_scrub.proofs.Survival.{at_range, block_there, range_same, right, right_checked, right_is, right_long, right_part, slice_there}
 use Rattle.btr_scrub.proofs.Wrong.{bad_block_is_wrong}
 
 -- without copies a block's own place is a candidate
@@ -66,14 +66,8 @@ behind_same (v ∷ ts) end x t u behind (inr i) (inl f) a b c d =
 behind_same (v ∷ ts) end x t u behind (inr i) (inr j) a b c d = behind_same ts (v.at.rest + size_of v) x t u behind.1 i j a b c d
 
 -- slices of one element have its number
-same_index : {i j : ℕ} → Slice i ≡ Slice j → i ≡ j
-same_index e = ap index_of e
-  where
-    index_of : Part → ℕ
-    index_of (Mirror i) = i
-    index_of (Slice i) = i
-    index_of P = 0
-    index_of Q = 0
+pub same_index : {i j : ℕ} → Slice i ≡ Slice j → i ≡ j
+same_index e = cc e
 
 -- a block meets the column of each of its bytes
 pub meets_at : (t : Target) (c x : ℕ) → t.at.rest ≤ x → x < t.at.rest + size_of t → c * 4096 ≤ x → x < c * 4096 + 4096 → meets c t ≡ true

@@ -1,7 +1,7 @@
 -- Flagging the images on which a block doesn't pass.
-use Rattle.std.proofs.Common.{◌≡◌, ℕ, ◌+◌, ◌<◌, ◌≤◌, Bool, true, false, cond, ◌&&◌, ◌||◌, not, eqb, leb, List, [], ◌∷◌, ◌++◌, length, map, set, get_or, Option}
-use Rattle.std.proofs.Common.{Some, None, IfSome, IsNone, IsOk, IsOkAnd, inl, inr, Result, Ok, Err, refl, sym, ap, ◌∙◌, subst, arith}
-use Rattle.std.proofs.Math.Bool.{or-false}
+use Rattle.std.proofs.Common.{◌≡◌, ℕ, ◌+◌, ◌<◌, ◌≤◌, Bool, true, false, cond, ◌&&◌, ◌||◌, not, eqb, leb, List, [], ◌∷◌, ◌++◌, length, set, get_or, Option, Some}
+use Rattle.std.proofs.Common.{None, IfSome, IsNone, IsOk, IsOkAnd, inl, inr, Result, Ok, Err, refl, sym, ap, ◌∙◌, subst, arith}
+use Rattle.std.proofs.Math.Bool.{or-false, and-false, or-true, or_assoc}
 use Rattle.std.proofs.lemmas.Bool.{eq-eqb, eqb-true, false≢true}
 use Rattle.std.proofs.lemmas.List.{append_assoc, append-nil, get_or-set_other, get_or-set_same}
 use Rattle.std.proofs.lemmas.List.Folds.{list_any-append}
@@ -16,7 +16,7 @@ use Rattle.btr_chunk.specs.declared.place.Part.TheVariants.{Mirror, Slice}
 use Rattle.btr_rack.specs.Rack.{Seen, Slot, bytes_of, range_in}
 use Rattle.btr_rack.specs.declared.place.Place.{Place as Range}
 use Rattle.btr_read.specs.Candidates.{Target, element, range_of, range_on, size_of}
-use Rattle.btr_read.specs.Fate.{Fault, is_plain, sought}
+use Rattle.btr_read.specs.Fate.{is_plain, sought}
 use Rattle.btr_read.specs.Layout.{AreOpen, Layout, device_in}
 use Rattle.btr_read.specs.Want.{addr_of, len_of, passes}
 use Rattle.btr_read.specs.declared.device.Device.{Device}
@@ -37,9 +37,12 @@ use Rattle.btr_scrub.specs.WrittenRanges.{LiesInStripe}
 use Rattle.btr_scrub.specs.Listed.{PassesIf}
 use Rattle.btr_scrub.specs.Order.{AreApart, IsSought, targets}
 use Rattle.btr_scrub.proofs.Blockwise.{one_target}
+pub use Rattle.btr_scrub.proofs.Blockwise.{ok_of as the_sought}
 use Rattle.btr_scrub.proofs.Positions.{in_stripe}
 use Rattle.btr_chunk.proofs.Searches.{list_any-false}
 use Rattle.btr_scrub.proofs.Lists.{any_map}
+use Rattle.btr_scrub.proofs.OwnPlaces.{own_copies}
+use Rattle.btr_scrub_row.proofs.Settled.{own as own_are}
 
 -- ---- one part
 
@@ -79,11 +82,7 @@ module _ (images : Images) (t : Target) (part : Part) (flags : List Bool) where
 
   -- the block passes there
   pub part_good : is_good images t part ≡ true → Flags flags (λ slot. fails_at images t slot part) flags
-  part_good e = flags_still (λ slot. ap (λ b. is_on t slot part && not b) e ∙ none (is_on t slot part))
-    where
-      none : (b : Bool) → (b && false) ≡ false
-      none true = refl
-      none false = refl
+  part_good e = flags_still (λ slot. ap (λ b. is_on t slot part && not b) e ∙ and-false (is_on t slot part))
 
   -- it doesn't
   pub part_bad : (range : Range) → range_of t part ≡ Some range → range.slot < length flags → is_good images t part ≡ false
@@ -93,26 +92,16 @@ module _ (images : Images) (t : Target) (part : Part) (flags : List Bool) where
       ap (λ o. option_map_or (λ (range : Range). eqb range.slot slot) o false && not (is_good images t part)) is ∙ ap (λ b. eqb range.slot slot && not b) bad in
       by (eqb range.slot slot) refl ∙ ap (λ b. get_or flags slot false || b) (sym test)
     where
-      any : (b : Bool) → (b || true) ≡ true
-      any true = refl
-      any false = refl
-
       by : (b : Bool) → eqb range.slot slot ≡ b → get_or (set flags range.slot true) slot false ≡ (get_or flags slot false || (b && true))
       by true e =
           let same : range.slot ≡ slot = eqb-true range.slot slot e in
-          ap (λ s. get_or (set flags range.slot true) s false) (sym same) ∙ get_or-set_same flags range.slot true false lt ∙ sym (any (get_or flags slot false))
+          ap (λ s. get_or (set flags range.slot true) s false) (sym same) ∙ get_or-set_same flags range.slot true false lt
+          ∙ sym (or-true (get_or flags slot false))
       by false e =
-          get_or-set_other flags range.slot slot true false (λ same. absurd (other (sym e ∙ eq-eqb range.slot slot (sym same))))
+          get_or-set_other flags range.slot slot true false (λ same. absurd (false≢true (sym e ∙ eq-eqb range.slot slot (sym same))))
           ∙ sym (or-false (get_or flags slot false))
-        where
-          other : false ≡ true → ⊥
-          other e = cc
 
 -- ---- a part of a want
-
-pub the_sought : (r : Result Target Fault) → IsOk r → (t : Target) × (r ≡ Ok t)
-the_sought (Ok t) h = (t, refl)
-the_sought (Err f) h = absurd (false≢true h)
 
 -- its range can be read, and is as long as the block
 pub read_part : (layout : Layout) (want : Want) (slots : List Slot) (part : Part) (range : Range) → AreOpen slots layout.devices → HasOwn layout part want
@@ -170,13 +159,9 @@ parts_in_stripe layout t old new (Err (Image slot)) table is h = record {
 
 -- ---- one after another
 
-or_or : (a b c : Bool) → ((a || b) || c) ≡ (a || (b || c))
-or_or true b c = refl
-or_or false b c = refl
-
 pub flags_then : (old mid new : List Bool) (a b c : ℕ → Bool) → Flags old a mid → Flags mid b new → ((slot : ℕ) → (a slot || b slot) ≡ c slot) → Flags old c new
 flags_then old mid new a b c one two is slot =
-    two slot ∙ ap (λ x. x || b slot) (one slot) ∙ or_or (get_or old slot false) (a slot) (b slot) ∙ ap (λ x. get_or old slot false || x) (is slot)
+    two slot ∙ ap (λ x. x || b slot) (one slot) ∙ or_assoc (get_or old slot false) (a slot) (b slot) ∙ ap (λ x. get_or old slot false || x) (is slot)
 
 pub flags_none : (flags : List Bool) (none : ℕ → Bool) → ((slot : ℕ) → none slot ≡ false) → Flags flags none flags
 flags_none flags none is slot = sym (ap (λ b. get_or flags slot false || b) (is slot) ∙ or-false (get_or flags slot false))
@@ -185,13 +170,10 @@ flags_none flags none is slot = sym (ap (λ b. get_or flags slot false || b) (is
 pub fails_copies : (images : Images) (t : Target) (n slot : ℕ) → mirrors t.chunk ≡ Some n
     → list_any (λ k. fails_at images t slot (Mirror k)) (range_with_len 0 n) ≡ fails_on images slot t
 fails_copies images t n slot e =
-    sym (ap (λ o. list_any (fails_at images t slot) (option_map_or (λ copies. map Mirror (range_with_len 0 copies)) o (Slice t.at.index ∷ []))) e
-    ∙ any_map (fails_at images t slot) Mirror (range_with_len 0 n))
+    sym (ap (list_any (fails_at images t slot)) (own_copies t n e) ∙ any_map (fails_at images t slot) Mirror (range_with_len 0 n))
 
 pub fails_slice : (images : Images) (t : Target) (slot : ℕ) → mirrors t.chunk ≡ None → fails_at images t slot (Slice t.at.index) ≡ fails_on images slot t
-fails_slice images t slot e =
-    sym (ap (λ o. list_any (fails_at images t slot) (option_map_or (λ copies. map Mirror (range_with_len 0 copies)) o (Slice t.at.index ∷ []))) e
-    ∙ or-false (fails_at images t slot (Slice t.at.index)))
+fails_slice images t slot e = sym (ap (list_any (fails_at images t slot)) (own_are images t e) ∙ or-false (fails_at images t slot (Slice t.at.index)))
 
 pub all_of : (held : Option Images) (P : Images → Type 0) → ((images : Images) → P images) → IfSome held P
 all_of None P h = tt
@@ -210,17 +192,14 @@ pub flags_plain : (layout : Layout) (want : Want) (t : Target) (held : Option Im
     → IfSome held (λ images. Flags flags (λ slot. fails_on images slot t) flags)
 flags_plain layout want t held flags bare e =
     all_of held (λ images. Flags flags (λ slot. fails_on images slot t) flags)
-    (λ images. flags_none flags (λ slot. fails_on images slot t) (λ slot. list_any-false (fails_at images t slot) (own_parts t) (λ i part there. never images slot part)))
+    (λ images. flags_none flags (λ slot. fails_on images slot t)
+    (λ slot. list_any-false (fails_at images t slot) (own_parts t) (λ i part there. never images slot part)))
   where
-    nothing : (b : Bool) → (b && false) ≡ false
-    nothing true = refl
-    nothing false = refl
-
     never : (images : Images) (slot : ℕ) (part : Part) → fails_at images t slot part ≡ false
     never images slot part =
         ap (λ b. is_on t slot part && not b)
         (passes_plain t.setting t.want (element images t part) (ap is_plain (sought_of layout want t e).want_is ∙ bare))
-        ∙ nothing (is_on t slot part)
+        ∙ and-false (is_on t slot part)
 
 -- ---- the blocks of a list
 

@@ -76,7 +76,8 @@ module _ {X T St : Type 0} (treat : St → X → Program T St) (B : Map) where
   pub each_halts : (Is : UnreadBlock → Want → Type 0) (seen : List Want) (st : St) (p : Program X (Unit {0})) (h : Halt fate.Fault UnreadBlock)
       → Follows Is no_part seen (exec B p) [] (Err h) → Follows Is no_part seen (exec B (each treat st p)) [] (Err h)
   each_halts Is seen st p h f =
-      let g = cursor_halts Exec fin (λ st r. (thread_run (λ st x. exec B (body st x)) fin st r.marks r.ending, some_all st r.marks r.ending)) Is no_part seen st (exec B p) h f in
+      let g = cursor_halts Exec fin (λ st r. (thread_run (λ st x. exec B (body st x)) fin st r.marks r.ending, some_all st r.marks r.ending)) Is no_part
+      seen st (exec B p) h f in
       subst (λ q. Follows Is no_part seen q [] (Err h)) (threads_exec B body fin st p g.0 g.1) g.2
 
   all_none : (st : St) (ms : List (Mark Want X)) (e : Result (Unit {0}) fate.Fault) → [] ≡ steps_of ms → e ≡ Ok tt

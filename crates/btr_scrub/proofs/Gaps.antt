@@ -1,7 +1,8 @@
 -- Sectors without a checksum that follow each other are listed at once.
-use Rattle.std.proofs.Common.{◌≡◌, ℕ, zero, suc, ◌+◌, ◌-◌, ◌*◌, ◌^◌, ◌≤◌, List, [], ◌∷◌, ◌++◌, Option, None, Result, Ok, Err, OnOk}
+use Rattle.std.proofs.Common.{◌≡◌, ℕ, zero, suc, ◌+◌, ◌-◌, ◌*◌, ◌^◌, ◌≤◌, ◌<◌, List, [], ◌∷◌, ◌++◌, Option, None, Result, Ok, Err, OnOk}
 use Rattle.std.proofs.Common.{refl, sym, ap, ◌∙◌, subst, arith}
 use Rattle.std.specs.Prelude.{fold, min}
+use Rattle.btr_base.specs.declared.stored.Sum.{Sum}
 use Rattle.btr_prog.specs.Answers.{Follows, no_part}
 use Rattle.btr_prog.specs.Prog.{bind, exec, steps_of}
 use Rattle.btr_prog.specs.Quiet.{quiet}
@@ -21,9 +22,9 @@ use Rattle.btr_volume.specs.declared.volume.Volume.{Volume}
 use Rattle.btr_files.specs.Gaps.{HaveNone}
 use Rattle.btr_files.specs.Sums.{kind_in, sum_at}
 use Rattle.btr_files.proofs.Binds.{bind_assoc, bind_same}
-use Rattle.btr_scrub.specs.Gathering.{Gathers, Lists, Scene, count_met, gap_met, scene, wants_among}
+use Rattle.btr_scrub.specs.Gathering.{Gathers, Lists, Scene, count_met, gap_met, scene, sectors_met, wants_among}
 use Rattle.btr_scrub.specs.Listed.{AddsAll, kept_wants, plains_from}
-use Rattle.btr_scrub.specs.Units.{Unchecked, sector, sectors}
+use Rattle.btr_scrub.specs.Units.{sector, sector_met, sectors}
 use Rattle.btr_scrub.specs.declared.gathered.Gathered.{Gathered}
 use Rattle.btr_scrub.proofs.Gathering.{gathers_then, gathers_value}
 use Rattle.btr_scrub.proofs.OneSector.{met_of}
@@ -70,25 +71,28 @@ no_steps [] = refl
 no_steps (x ∷ xs) = absurd x
 
 module _ (Is : UnreadBlock → Want → Type 0) (B : Map) (s : Super) (sums : Option TreeRoot) where
-  -- a sector without a checksum was met
-  follows_none : (addr : ℕ) → (exec B (sum_at (kind_in s) sums addr)).ending ≡ Ok None
-      → Follows Is no_part [] (exec B (sector s sums addr)) (Unchecked addr ∷ []) (Ok tt)
-  follows_none addr none =
+  -- a sector was met, for which this was found
+  follows_found : (addr : ℕ) (found : Option Sum) → (exec B (sum_at (kind_in s) sums addr)).ending ≡ Ok found
+      → Follows Is no_part [] (exec B (sector s sums addr)) (sector_met addr found ∷ []) (Ok tt)
+  follows_found addr found is =
       let p = sum_at (kind_in s) sums addr in
-      subst (λ r. Follows Is no_part [] r (Unchecked addr ∷ []) (Ok tt)) (sym (exec-bind B (quiet p) (met_of addr)))
-      (follows_then Is no_part [] (exec B (quiet p)) None (λ found. exec B (met_of addr found)) [] (Unchecked addr ∷ []) (Ok tt)
-      (follows_quiet Is no_part [] B p [] (Ok None) (no_steps (steps_of (exec B p).marks), none)) (refl, refl))
+      subst (λ r. Follows Is no_part [] r (sector_met addr found ∷ []) (Ok tt)) (sym (exec-bind B (quiet p) (met_of addr)))
+      (follows_then Is no_part [] (exec B (quiet p)) found (λ o. exec B (met_of addr o)) [] (sector_met addr found ∷ []) (Ok tt)
+      (follows_quiet Is no_part [] B p [] (Ok found) (no_steps (steps_of (exec B p).marks), is)) (refl, refl))
 
-  -- the sectors of a gap were
-  pub follows_gap : (n addr : ℕ) → HaveNone (kind_in s) B sums addr n → Follows Is no_part [] (exec B (sectors s sums n addr)) (gap_met n addr) (Ok tt)
-  follows_gap zero addr none = (refl, refl)
-  follows_gap (suc n) addr none =
-      let None_at = λ (a : ℕ). (exec B (sum_at (kind_in s) sums a)).ending ≡ Ok None in
-      let first : None_at addr = subst None_at (omega arith) (none 0 (omega arith)) in
-      let rest = follows_gap n (addr + 4096) (λ i lt. subst None_at (omega arith) (none (suc i) (omega (arith, lt)))) in
-      subst (λ r. Follows Is no_part [] r (gap_met (suc n) addr) (Ok tt)) (sym (exec-bind B (sector s sums addr) (λ u. sectors s sums n (addr + 4096))))
-      (follows_then Is no_part [] (exec B (sector s sums addr)) tt (λ u. exec B (sectors s sums n (addr + 4096))) (Unchecked addr ∷ []) (gap_met n (addr + 4096))
-      (Ok tt) (follows_none addr first) rest)
+  -- sectors were, for each of which it was found
+  pub follows_sectors : (found : ℕ → Option Sum) (n addr : ℕ)
+      → ((i : ℕ) → i < n → (exec B (sum_at (kind_in s) sums (addr + i * 4096))).ending ≡ Ok (found (addr + i * 4096)))
+      → Follows Is no_part [] (exec B (sectors s sums n addr)) (sectors_met found n addr) (Ok tt)
+  follows_sectors found zero addr all = (refl, refl)
+  follows_sectors found (suc n) addr all =
+      let Is_at = λ (a : ℕ). (exec B (sum_at (kind_in s) sums a)).ending ≡ Ok (found a) in
+      let first : Is_at addr = subst Is_at (omega arith) (all 0 (omega arith)) in
+      let rest = follows_sectors found n (addr + 4096) (λ i lt. subst Is_at (omega arith) (all (suc i) (omega (arith, lt)))) in
+      subst (λ r. Follows Is no_part [] r (sectors_met found (suc n) addr) (Ok tt))
+      (sym (exec-bind B (sector s sums addr) (λ u. sectors s sums n (addr + 4096))))
+      (follows_then Is no_part [] (exec B (sector s sums addr)) tt (λ u. exec B (sectors s sums n (addr + 4096))) (sector_met addr (found addr) ∷ [])
+      (sectors_met found n (addr + 4096)) (Ok tt) (follows_found addr (found addr) first) rest)
 
 -- some sectors of a gap were listed
 pub gathers_gap : (s : Super) (sums : Option TreeRoot) (addr n len : ℕ) (old new : Seen) (vol vol' : Volume) (x y : Gathered) → n ≤ len
@@ -104,7 +108,7 @@ gathers_gap s sums addr n len old new vol vol' x y few serves reads same told li
       lists = listed;
       content = drawn layout (λ B. HaveNone (kind_in s) B sums addr len)
           (λ B. Follows (unread_by layout old new) no_part [] (exec B (sectors s sums n addr)) (gap_met n addr) (Ok tt))
-          (λ B none. follows_gap (unread_by layout old new) B s sums n addr (λ i lt. none i (omega (arith, lt, few)))) told;
+          (λ B none. follows_sectors (unread_by layout old new) B s sums (λ a. None) n addr (λ i lt. none i (omega (arith, lt, few)))) told;
       cause = tt;
     }
 

@@ -17,7 +17,7 @@ use Rattle.btr_read.specs.declared.want.Want.{Want}
 use Rattle.btr_read.specs.declared.want.Want.TheVariants.{Plain}
 use Rattle.btr_walk.specs.declared.fault.TreeFault.{TreeFault}
 use Rattle.btr_walk.specs.declared.fault.TreeFault.TheVariants as tree
-use Rattle.btr_walk.specs.Reading.{FaultCause, HasCause, halt_of, unread_by}
+use Rattle.btr_walk.specs.Reading.{FaultCause, HasCause, Map, Tells, halt_of, unread_by}
 use Rattle.btr_walk.proofs.Fetched.{cause_since, since}
 use Rattle.btr_volume.specs.Looking.{Looks, SameVolume}
 use Rattle.btr_volume.specs.Lookup.{Lookup}
@@ -33,7 +33,7 @@ use Rattle.btr_volume.specs.Stops.{ended, stop_halt}
 
 -- ---- what is listed
 
-among-append : (met more : List Met) → wants_among (met ++ more) ≡ wants_among met ++ wants_among more
+pub among-append : (met more : List Met) → wants_among (met ++ more) ≡ wants_among met ++ wants_among more
 among-append [] more = refl
 among-append (Checked want ∷ met) more = ap (λ q. want ∷ q) (among-append met more)
 among-append (Unchecked addr ∷ met) more = ap (λ q. Plain addr ∷ q) (among-append met more)
@@ -60,7 +60,13 @@ lists_added x y want a same = record { is_list = a.is_list; kind = a.kind; wants
 -- ---- what is told
 
 pub same_then : {a b c : Volume} → SameVolume a b → SameVolume b c → SameVolume a c
-same_then one two = record { sup = two.sup ∙ one.sup; store = record { layout = two.store.layout ∙ one.store.layout; loans = two.store.loans ∙ one.store.loans } }
+same_then one two = record {
+  sup = two.sup ∙ one.sup;
+  store = record {
+    layout = two.store.layout ∙ one.store.layout;
+    loans = two.store.loans ∙ one.store.loans;
+  };
+}
 
 pub same_self : (vol : Volume) → SameVolume vol vol
 same_self vol = record { sup = refl; store = record { layout = refl; loans = refl } }
@@ -124,6 +130,20 @@ gathers_value a x is serves = record {
   lists = lists_none x.list is;
   content = unread_on x.vol.store.layout (λ B. Follows {S = Met} (unread_by x.vol.store.layout x.rack x.rack) no_part [] (run [] (Ok a)) [] (Ok a))
       (λ B. (refl, refl));
+  cause = tt;
+}
+
+-- calls were made, of which something is told, and nothing was listed
+pub gathers_none : (P : Map → Type 0) (old new : Seen) (vol after : Volume) (x y : Gathered) → Lists x y [] → Serves new after.store → OnlyReads old new
+    → SameVolume vol after → Tells vol.store.layout old new P → Gathers {A = Unit {0}} (Return tt) (scene old vol x) (scene new after y) (Ok tt)
+gathers_none P old new vol after x y listed serves reads same told = record {
+  reads = reads;
+  volume = same;
+  serves = serves;
+  done = [];
+  lists = listed;
+  content = drawn vol.store.layout P (λ B. Follows {S = Met} (unread_by vol.store.layout old new) no_part [] (run [] (Ok tt)) [] (Ok tt))
+      (λ B p. (refl, refl)) told;
   cause = tt;
 }
 

@@ -1,24 +1,18 @@
 -- Wherever the mending of a full stripe is cut short, its blocks can be had.
-use Rattle.std.proofs.Common.{◌≡◌, ◌⊎◌, ℕ, ◌+◌, ◌-◌, ◌*◌, ◌<◌, ◌≤◌, Bool, true, false, not, cond, ◌&&◌, List, [], ◌∷◌, length, get_or, slice_range}
-use Rattle.std.proofs.Common.{slice_get, All, Option, Some, None, IsSome, is_some, IsNone, IsSomeAnd, refl, sym, ap, ◌∙◌, subst, inl, inr, arith}
-use Rattle.std.proofs.lemmas.Bool.{cases_lt, false≢true, false_from_ne_true}
-use Rattle.std.proofs.lemmas.List.{get_or_past, get_or-set_same}
+use Rattle.std.proofs.Common.{◌≡◌, ◌⊎◌, ℕ, ◌+◌, ◌-◌, ◌*◌, ◌<◌, ◌≤◌, Bool, true, false, not, cond, ◌&&◌, List, [], ◌∷◌, length, get_or, slice_range, slice_get}
+use Rattle.std.proofs.Common.{All, Option, Some, None, IsSome, is_some, IsNone, IsSomeAnd, refl, sym, ap, ◌∙◌, subst, inl, inr, arith}
+use Rattle.std.proofs.lemmas.Bool.{false≢true, false_from_ne_true}
 use Rattle.std.proofs.lemmas.Option.{same_Some}
-use Rattle.std.specs.List.{Contains, cons_option, flat_map, fold, list_any}
+use Rattle.std.specs.List.{Contains, cons_option, fold, list_any}
 use Rattle.std.specs.Option.{option_map, option_map_or}
-use Rattle.btr_chunk.specs.Chunk.{data_count, mirrors, stripe_length}
-use Rattle.btr_chunk.specs.Mapping.{IsPosition}
+use Rattle.btr_chunk.specs.Chunk.{data_count, stripe_length}
 use Rattle.btr_chunk.specs.declared.chunk.Chunk.{Chunk}
-use Rattle.btr_chunk.specs.declared.place.Part.{Part}
-use Rattle.btr_chunk.specs.declared.place.Part.TheVariants.{Mirror, Slice, P, Q}
-use Rattle.btr_chunk.proofs.Bytes.{IsPosition-position}
+use Rattle.btr_chunk.specs.declared.place.Part.TheVariants.{Slice, P, Q}
 use Rattle.btr_rack.specs.Rack.{bytes_of, image_of, pasted, range_in}
 use Rattle.btr_rack.specs.declared.place.Place.{Place as Range}
 use Rattle.btr_read.specs.Candidates.{Target, candidates, element, parts_read, range_of, size_of, slice_count, stands, value_of}
 use Rattle.btr_read.specs.Candidates as read
 use Rattle.btr_read.specs.Fate.{is_plain, passing}
-use Rattle.btr_read.specs.declared.setting.Setting.{Setting}
-use Rattle.btr_read.specs.declared.want.Want.TheVariants.{Block, Plain, Sector, Tree}
 use Rattle.btr_read.specs.Layout.{Layout}
 use Rattle.btr_read.specs.Want.{addr_of, passes}
 use Rattle.btr_read.specs.declared.candidate.Candidate.{Candidate}
@@ -28,12 +22,12 @@ use Rattle.btr_read.proofs.Trials.{fails_where_none}
 use Rattle.btr_read.proofs.Values.{value_by_ranges}
 use Rattle.btr_scrub_copies.specs.Blocks.{accepted, bad_parts, block_writes, copy_writes, is_good}
 use Rattle.btr_scrub_copies.specs.Fresh.{fresh_writes, Failing}
-use Rattle.btr_scrub_row.specs.Wanted.{mending_writes, new_bytes, wrong_parts}
+use Rattle.btr_scrub_row.specs.Wanted.{mending_writes}
 use Rattle.btr_scrub_copies.specs.Writes.{AreAmong, Images, IsStopped, Write, ranges_of, write_on}
 use Rattle.btr_scrub_copies.proofs.Syncs.{passing_filter}
 use Rattle.btr_scrub_row.specs.Rows.{Row, parities, parities_writes, parity_writes, range_in_element, rebuilt_writes}
-use Rattle.btr_scrub_row.proofs.Settled.{bad_are, mending_is, own as own_are, written_at}
-use Rattle.btr_scrub.proofs.OwnPlaces.{wrong_own}
+use Rattle.btr_scrub_row.proofs.Settled.{bad_are, written_at}
+use Rattle.btr_scrub.proofs.OwnPlaces.{wrong_own, own_slice, over_byte}
 use Rattle.btr_scrub_row.proofs.Pasted.{at_range, length-pasted, pasted-within, range_pasted}
 use Rattle.btr_scrub.specs.Devices.{HaveLengths}
 use Rattle.btr_scrub.specs.BlocksInRows.{In, IsInRow, LiesInRow}
@@ -43,20 +37,19 @@ use Rattle.btr_scrub.specs.Order.{targets}
 use Rattle.btr_scrub.specs.Places.{IsOfElement}
 use Rattle.btr_scrub.specs.Repair.{byte_at, covers, is_in_row}
 use Rattle.btr_scrub.proofs.AcrossChunks.{OfRows, row_is}
-use Rattle.btr_scrub.proofs.Columns.{own_candidate}
+use Rattle.btr_scrub.proofs.Columns.{own_candidate, same_index}
 use Rattle.btr_scrub.proofs.CopyWrites.{element_is, is_there, long_element, same_element}
 use Rattle.btr_scrub.proofs.Elements.{HasRanges, has_ranges}
 use Rattle.btr_scrub.proofs.Outliving.{same_block}
 use Rattle.btr_scrub.proofs.Outside.{left_short, right_short, stopped_keeps}
 use Rattle.btr_scrub.proofs.Places.{covered, covering, elements_apart}
 use Rattle.btr_scrub.proofs.RowAgreeing.{parity_has}
-use Rattle.btr_scrub.proofs.RowWrites.{IsBlockOf, block_byte, has_own, in_one_element, row_short, written_parity}
-use Rattle.btr_scrub.proofs.Shorts.{site_short}
+use Rattle.btr_scrub.proofs.RowWrites.{IsBlockOf, block_byte, has_own, row_short, written_parity, block_in_row, block_lies}
 use Rattle.btr_scrub.proofs.SoundRows.{address_is}
 use Rattle.btr_scrub.proofs.Survival.{of_filter, range_same}
-use Rattle.btr_scrub.proofs.Pasting.{Short, shorts_keep, written_by}
-use Rattle.btr_scrub.proofs.Lists.{in_of, of_filter_map, some_of, any_map, mapped, any_filter_map, any_is, is_any, first_in}
-use Rattle.std.proofs.lemmas.List.Sums.{fold-append}
+use Rattle.btr_scrub.proofs.Pasting.{Short, shorts_keep, written_by, stays_brought}
+use Rattle.btr_scrub.proofs.Lists.{in_of, of_filter_map, some_of, any_map, any_is, is_any, first_in, of_flat, in_flat, in_map}
+use Rattle.btr_scrub.proofs.Doubting.{passes_plain}
 
 -- ---- images that differ in ranges
 
@@ -96,47 +89,12 @@ had_by images t c i stand pass = by (passing images t) refl
 accepted_passes : (images : Images) (t : Target) (bytes : List ℕ) → accepted images t ≡ Some bytes → passes t.setting t.want bytes ≡ true
 accepted_passes images t bytes e = (passing_filter (passes t.setting t.want) bytes (read.readings images t) (first_in (passing images t) bytes e)).1
 
--- ---- bytes behind a write
-
-byte_written : (images : Images) (slot off : ℕ) (bytes : List ℕ) (k : ℕ) → off + length bytes ≤ length (image_of images slot) → k < length bytes
-    → byte_at (write_on images (written_at (range_in slot off (length bytes)) bytes)) slot (off + k) ≡ get_or bytes k 0
-byte_written images slot off bytes k fits below = elim (cases_lt slot (length images)) [
-  | inl lt ↦
-      let image = image_of images slot in
-      ap (λ xs. get_or xs (off + k) 0) (get_or-set_same images slot (pasted image off bytes) [] lt)
-      ∙ pasted-within image off bytes fits (off + k) 0 (omega arith) (omega (arith, below))
-      ∙ ap (λ j. get_or bytes j 0) (omega arith)
-  | inr past ↦ absurd (nothing (ap length (get_or_past images slot [] past)))
-]
-  where
-    nothing : length (image_of images slot) ≡ 0 → ⊥
-    nothing none = omega (arith, none, fits, below)
-
 same_address : (one other base base' rest rest' off from from' : ℕ) → one ≡ base + rest → other ≡ base' + rest' → base ≡ base' → from ≡ from' → from
     + rest ≤ off → from' + rest' ≤ off
     → one + (off - (from + rest)) ≡ other + (off - (from' + rest'))
 same_address one other base base' rest rest' off from from' a b same begin le le' = omega (arith, a, b, same, begin, le, le')
 
-abbrev index_in : Part → ℕ
-index_in (Mirror i) = i
-index_in (Slice i) = i
-index_in P = 0
-index_in Q = 0
-
-abbrev is_slice : Part → Bool
-is_slice (Mirror i) = false
-is_slice (Slice i) = true
-is_slice P = false
-is_slice Q = false
-
 -- ---- a full stripe
-
--- a plain sector always passes
-plain_passes : (s : Setting) (w : Want) (bytes : List ℕ) → is_plain w ≡ true → passes s w bytes ≡ true
-plain_passes s (Tree addr generation level) bytes e = absurd (false≢true e)
-plain_passes s (Block addr) bytes e = absurd (false≢true e)
-plain_passes s (Sector addr sum) bytes e = absurd (false≢true e)
-plain_passes s (Plain addr) bytes e = refl
 
 module _ (images : Images) (layout : Layout) (wants : List Want) (row : Row) (here : IsRowAmong images layout wants row) where
   abbrev ts : List Target
@@ -149,7 +107,8 @@ module _ (images : Images) (layout : Layout) (wants : List Want) (row : Row) (he
   kept = row.failing
 
   of : OfRows kept layout here.table here.own_slots here.given here.is_row.number row.chunk here.is_row.there wants row
-  of = subst (λ bs. OfRows kept layout here.table here.own_slots here.given here.is_row.number row.chunk here.is_row.there wants (record { chunk = row.chunk; number = row.number; blocks = bs; failing = row.failing })) (sym here.is_row.made)
+  of = subst (λ bs. OfRows kept layout here.table here.own_slots here.given here.is_row.number row.chunk here.is_row.there wants
+      (record { chunk = row.chunk; number = row.number; blocks = bs; failing = row.failing })) (sym here.is_row.made)
       (row_is kept layout here.table here.own_slots here.given here.is_row.number row.chunk here.is_row.there wants row.number here.is_row.parity inside)
 
   among : (t : Target) → In t row.blocks → In t ts
@@ -175,19 +134,14 @@ module _ (images : Images) (layout : Layout) (wants : List Want) (row : Row) (he
     block : IsBlockOf layout row t
     block = of.blocks t i
 
-    no_copies : mirrors t.chunk ≡ None
-    no_copies = ap mirrors block.chunk ∙ here.is_row.parity
-
     in_row : IsInRow t
-    in_row =
-        let rule = (here.table.sound block.is.number t.chunk block.is.there).0 in
-        record { keeps_rule = rule; position = subst (IsPosition t.chunk) (sym block.is.at) (IsPosition-position t.chunk (addr_of t.want) rule block.is.held); parity = no_copies }
+    in_row = block_in_row layout row here.table of.is t block
 
     lies : LiesInRow layout row t
-    lies = record { chunk = block.chunk; number = block.number; devices = block.is.devices; inside = in_one_element layout t block.is no_copies }
+    lies = block_lies layout row here.table of.is t block
 
     own : HasRanges images layout row t (Slice t.at.index)
-    own = has_ranges images layout row t (Slice t.at.index) in_row lies (subst IsNone (sym no_copies) refl, in_row.position.index)
+    own = has_ranges images layout row t (Slice t.at.index) in_row lies (subst IsNone (sym in_row.parity) refl, in_row.position.index)
         (of.is.stand (Slice t.at.index) (has_own layout row here.table of.is t block))
 
     abbrev place : Range
@@ -213,23 +167,10 @@ module _ (images : Images) (layout : Layout) (wants : List Want) (row : Row) (he
 
     -- what is written for it lies in its place
     written_there : (slot off : ℕ) → list_any (covers slot off) (ranges_of (mending_writes images row.failing t)) ≡ true → covers slot off place ≡ true
-    written_there slot off h = by (new_bytes images row.failing t) (subst (λ ws. list_any (covers slot off) (ranges_of ws) ≡ true) (mending_is images row t) h)
-      where
-        only : (q : Part) → In q (Slice t.at.index ∷ []) → Slice t.at.index ≡ q
-        only q (inl e) = e
-        only q (inr k) = absurd k
-
-        by : (o : Option (List ℕ)) → list_any (covers slot off)
-            (ranges_of (option_map_or (λ bytes. copy_writes t bytes (wrong_parts images row.failing t)) o [])) ≡ true → covers slot off place ≡ true
-        by None h = absurd (false≢true h)
-        by (Some bytes) h =
-            let parts = wrong_parts images row.failing t in
-            let any : list_any (λ (w : Write). covers slot off w.range) (copy_writes t bytes parts) ≡ true = sym (any_map (covers slot off) (λ (w : Write). w.range) (copy_writes t bytes parts)) ∙ h in
-            let f = any_filter_map (λ (w : Write). covers slot off w.range) (λ q. option_map (λ (range : Range). record { range = range; bytes = bytes }) (range_of t q)) parts any in
-            let q : Slice t.at.index ≡ f.0 = only f.0 (subst (In f.0) (own_are images t no_copies) (wrong_own images row.failing t f.0 f.1)) in
-            let m = mapped (λ (range : Range). record { range = range; bytes = bytes }) (range_of t f.0) f.2.0 f.2.1 in
-            let same : place ≡ m.0 = same_Some place m.0 (sym own.block ∙ ap (range_of t) q ∙ m.1) in
-            ap (covers slot off) same ∙ ap (λ (w : Write). covers slot off w.range) m.2 ∙ f.2.2
+    written_there slot off h =
+        let o = over_byte images row.failing t slot off (sym (any_map (covers slot off) (λ (w : Write). w.range) (mending_writes images row.failing t)) ∙ h) in
+        let q = own_slice t o.2.part in_row.parity (wrong_own images row.failing t o.2.part o.2.wrong) in
+        ap (covers slot off) (same_Some place o.0.range (sym own.block ∙ ap (range_of t) q ∙ o.2.range)) ∙ o.1
 
     -- what is written for a checked block
     module _ (checked : is_plain t.want ≡ false) where
@@ -237,14 +178,15 @@ module _ (images : Images) (layout : Layout) (wants : List Want) (row : Row) (he
       one bytes true = ap (λ o. cons_option (option_map (λ r. written_at r bytes) o) []) own.block
       one bytes false = refl
 
-      writes_are : mending_writes images row.failing t ≡ option_map_or (λ bytes. cond (not (is_good images t (Slice t.at.index))) (written_at place bytes ∷ []) [])
+      writes_are : mending_writes images row.failing t ≡ option_map_or
+          (λ bytes. cond (not (is_good images t (Slice t.at.index))) (written_at place bytes ∷ []) [])
           (accepted images t) []
       writes_are = ap (λ b. cond b (fresh_writes images row.failing t) (block_writes images t)) checked ∙ by (accepted images t)
         where
           by : (o : Option (List ℕ)) → option_map_or (λ bytes. copy_writes t bytes (bad_parts images t)) o []
               ≡ option_map_or (λ bytes. cond (not (is_good images t (Slice t.at.index))) (written_at place bytes ∷ []) []) o []
           by None = refl
-          by (Some bytes) = ap (copy_writes t bytes) (bad_are images t no_copies) ∙ one bytes (not (is_good images t (Slice t.at.index)))
+          by (Some bytes) = ap (copy_writes t bytes) (bad_are images t in_row.parity) ∙ one bytes (not (is_good images t (Slice t.at.index)))
 
       -- where it passes nothing is
       good_unwritten : is_good images t (Slice t.at.index) ≡ true → mending_writes images row.failing t ≡ []
@@ -261,7 +203,7 @@ module _ (images : Images) (layout : Layout) (wants : List Want) (row : Row) (he
   address : (t : Target) (i : In t row.blocks) → addr_of t.want ≡ base t.at.index + t.at.rest
   address t i =
       let b = of.blocks t i in
-      address_is layout t b.is (no_copies t i)
+      address_is layout t b.is (in_row t i).parity
       ∙ ap (λ (c : Chunk). c.start + (data_count c.profile (length c.stripes) * t.at.row + t.at.index) * 65536 + t.at.rest) b.chunk
       ∙ ap (λ n. row.chunk.start + (data_count row.chunk.profile (length row.chunk.stripes) * n + t.at.index) * 65536 + t.at.rest) b.number
 
@@ -271,10 +213,12 @@ module _ (images : Images) (layout : Layout) (wants : List Want) (row : Row) (he
   shared t u i j slot off c d =
       let a = covering slot off (place t i) c in
       let b = covering slot off (place u j) d in
-      let apart = elements_apart layout row row (Slice t.at.index) (Slice u.at.index) slot off here.table here.own_slots (own_byte t i slot off c) (own_byte u j slot off d) in
-      let index : t.at.index ≡ u.at.index = ap index_in apart.2 in
+      let apart = elements_apart layout row row (Slice t.at.index) (Slice u.at.index) slot off here.table here.own_slots (own_byte t i slot off c)
+      (own_byte u j slot off d) in
+      let index = same_index apart.2 in
       let ranges : range_in (own t i).slot (own t i).off 65536 ≡ range_in (own u j).slot (own u j).off 65536 =
-      same_Some (range_in (own t i).slot (own t i).off 65536) (range_in (own u j).slot (own u j).off 65536) (sym (own t i).element ∙ ap (λ k. range_in_element layout row (Slice k) 0 65536) index ∙ (own u j).element) in
+      same_Some (range_in (own t i).slot (own t i).off 65536) (range_in (own u j).slot (own u j).off 65536)
+      (sym (own t i).element ∙ ap (λ k. range_in_element layout row (Slice k) 0 65536) index ∙ (own u j).element) in
       let begin : (own t i).off ≡ (own u j).off = ap (λ (r : Range). r.off) ranges in
       same_block layout wants 0 t u (off - ((own t i).off + t.at.rest)) (off - ((own u j).off + u.at.rest)) here.apart (among t i) (among u j)
       (omega (arith, a.1, a.2)) (omega (arith, b.1, b.2))
@@ -287,7 +231,8 @@ module _ (images : Images) (layout : Layout) (wants : List Want) (row : Row) (he
       → list_any (covers slot off) (ranges_of (mending_writes images row.failing t)) ≡ true
   written_for t i slot off c h =
       let f = written_by slot off (mending_writes images row.failing) row.blocks h in
-      let mine : list_any (covers slot off) (ranges_of (mending_writes images row.failing f.0)) ≡ true = any_map (covers slot off) (λ (w : Write). w.range) (mending_writes images row.failing f.0) ∙ f.2 in
+      let mine : list_any (covers slot off) (ranges_of (mending_writes images row.failing f.0)) ≡ true =
+      any_map (covers slot off) (λ (w : Write). w.range) (mending_writes images row.failing f.0) ∙ f.2 in
       let same = shared t f.0 i f.1 slot off c (written_there f.0 f.1 slot off mine) in
       subst (λ u. list_any (covers slot off) (ranges_of (mending_writes images row.failing u)) ≡ true) (sym same) mine
 
@@ -297,7 +242,8 @@ module _ (images : Images) (layout : Layout) (wants : List Want) (row : Row) (he
     bytes : List ℕ
     long : length bytes ≡ size_of t
     pass : passes t.setting t.want bytes ≡ true
-    from : ((mending_writes images row.failing t ≡ []) × (bytes ≡ element images t (Slice t.at.index))) ⊎ (mending_writes images row.failing t ≡ written_at (place t i) bytes ∷ [])
+    from : ((mending_writes images row.failing t ≡ []) × (bytes ≡ element images t (Slice t.at.index)))
+        ⊎ (mending_writes images row.failing t ≡ written_at (place t i) bytes ∷ [])
 
   final : (t : Target) (i : In t row.blocks) → is_plain t.want ≡ false → IsHad images t → FillsPlace images t → Final t i
   final t i checked had fills = by (is_good images t (Slice t.at.index)) refl
@@ -322,34 +268,9 @@ module _ (images : Images) (layout : Layout) (wants : List Want) (row : Row) (he
       }
 
   module _ (t : Target) (i : In t row.blocks) (f : Final t i) where
-    abbrev Holds : Images → Type 0
-    Holds now = (k : ℕ) → k < size_of t → byte_at now (own t i).slot ((own t i).off + t.at.rest + k) ≡ get_or f.bytes k 0
-
-    abbrev SameLengths : Images → Type 0
-    SameLengths now = (slot : ℕ) → length (image_of now slot) ≡ length (image_of images slot)
-
-    covered_there : (k : ℕ) → k < size_of t → covers (own t i).slot ((own t i).off + t.at.rest + k) (place t i) ≡ true
-    covered_there k lt = covered (own t i).slot ((own t i).off + t.at.rest) (size_of t) ((own t i).off + t.at.rest + k) (omega arith) (omega (arith, lt))
-
-    -- its own write brings the bytes
-    own_write : (now : Images) → SameLengths now → mending_writes images row.failing t ≡ written_at (place t i) f.bytes ∷ []
-        → Holds (fold write_on now (mending_writes images row.failing t))
-    own_write now same is k lt =
-        let slot = (own t i).slot in
-        let off = (own t i).off + t.at.rest in
-        ap (λ ws. byte_at (fold write_on now ws) slot (off + k)) is
-        ∙ ap (λ n. byte_at (write_on now (written_at (range_in slot off n) f.bytes)) slot (off + k)) (sym f.long)
-        ∙ byte_written now slot off f.bytes k (omega (arith, place_within t i, same slot, f.long)) (omega (arith, lt, f.long))
-
-    lengths_then : (now : Images) (ws : List Write) → SameLengths now → All (Short images) ws → SameLengths (fold write_on now ws)
-    lengths_then now ws same short slot = (shorts_keep now ws (short_after images now ws same short)).lengths slot ∙ same slot
-
-    short_of : (u : Target) → In u row.blocks → All (Short images) (mending_writes images row.failing u)
-    short_of u j = site_short images layout here.lengths u (of.blocks u j).is row.failing
-
-    -- those of any block leave them
-    one_more : (now : Images) (u : Target) (j : In u row.blocks) → SameLengths now → Holds now → Holds (fold write_on now (mending_writes images row.failing u))
-    one_more now u j same holds k lt = by (list_any (covers slot (off + k)) (ranges_of (mending_writes images row.failing u))) refl
+    -- so they stand there behind all
+    holds : (k : ℕ) → k < size_of t → byte_at after (own t i).slot ((own t i).off + t.at.rest + k) ≡ get_or f.bytes k 0
+    holds k lt = by f.from
       where
         slot : ℕ
         slot = (own t i).slot
@@ -357,58 +278,35 @@ module _ (images : Images) (layout : Layout) (wants : List Want) (row : Row) (he
         off : ℕ
         off = (own t i).off + t.at.rest
 
-        keeps : KeepsOutside (ranges_of (mending_writes images row.failing u)) now (fold write_on now (mending_writes images row.failing u))
-        keeps = shorts_keep now (mending_writes images row.failing u) (short_after images now (mending_writes images row.failing u) same (short_of u j))
+        there : covers slot (off + k) (place t i) ≡ true
+        there = covered slot off (size_of t) (off + k) (omega arith) (omega (arith, lt))
 
-        of_itself : t ≡ u → list_any (covers slot (off + k)) (ranges_of (mending_writes images row.failing u)) ≡ true
-            → ((mending_writes images row.failing t ≡ []) × (f.bytes ≡ element images t (Slice t.at.index))) ⊎ (mending_writes images row.failing t ≡ written_at (place t i) f.bytes ∷ [])
-            → byte_at (fold write_on now (mending_writes images row.failing u)) slot (off + k) ≡ get_or f.bytes k 0
-        of_itself is h (inl none) = absurd (false≢true (subst (λ ws. list_any (covers slot (off + k)) (ranges_of ws) ≡ true)
-            (ap (mending_writes images row.failing) (sym is) ∙ none.0) h))
-        of_itself is h (inr one) = ap (λ u. byte_at (fold write_on now (mending_writes images row.failing u)) slot (off + k)) (sym is) ∙ own_write now same one k lt
+        -- its own write alone covers the byte
+        only : mending_writes images row.failing t ≡ written_at (place t i) f.bytes ∷ [] → (v : Write) → In v (rebuilt_writes images layout row)
+            → covers slot (off + k) v.range ≡ true → v ≡ written_at (place t i) f.bytes
+        only one v j c =
+            let u = of_flat (mending_writes images row.failing) v row.blocks j in
+            let on = is_any (covers slot (off + k)) v.range (ranges_of (mending_writes images row.failing u.0))
+            (in_map (λ (w : Write). w.range) v (mending_writes images row.failing u.0) u.2) c in
+            let same = shared t u.0 i u.1 slot (off + k) there (written_there u.0 u.1 slot (off + k) on) in
+            sole (subst (In v) one (subst (λ u. In v (mending_writes images row.failing u)) (sym same) u.2))
+          where
+            sole : In v (written_at (place t i) f.bytes ∷ []) → v ≡ written_at (place t i) f.bytes
+            sole (inl e) = sym e
+            sole (inr h) = absurd h
 
-        by : (b : Bool) → list_any (covers slot (off + k)) (ranges_of (mending_writes images row.failing u)) ≡ b
-            → byte_at (fold write_on now (mending_writes images row.failing u)) slot (off + k) ≡ get_or f.bytes k 0
-        by false e = keeps.bytes slot (off + k) e ∙ holds k lt
-        by true e = of_itself (shared t u i j slot (off + k) (covered_there k lt) (written_there u j slot (off + k) e)) e f.from
-
-    all_more : (now : Images) (us : List Target) → ((u : Target) → In u us → In u row.blocks) → SameLengths now → Holds now
-        → Holds (fold write_on now (flat_map (mending_writes images row.failing) us))
-    all_more now [] each same holds = holds
-    all_more now (u ∷ us) each same holds =
-        let j = each u (inl refl) in
-        let next = fold write_on now (mending_writes images row.failing u) in
-        subst Holds (sym (fold-append write_on now (mending_writes images row.failing u) (flat_map (mending_writes images row.failing) us)))
-        (all_more next us (λ v k. each v (inr k)) (lengths_then now (mending_writes images row.failing u) same (short_of u j)) (one_more now u j same holds))
-
-    -- so they stand there behind all
-    all_written : (now : Images) (us : List Target) → ((u : Target) → In u us → In u row.blocks) → In t us → SameLengths now → mending_writes images row.failing t
-        ≡ written_at (place t i) f.bytes ∷ [] → Holds (fold write_on now (flat_map (mending_writes images row.failing) us))
-    all_written now [] each j same is = absurd j
-    all_written now (u ∷ us) each (inl e) same is =
-        let next = fold write_on now (mending_writes images row.failing u) in
-        let first : Holds next = subst (λ v. Holds (fold write_on now (mending_writes images row.failing v))) (sym e) (own_write now same is) in
-        subst Holds (sym (fold-append write_on now (mending_writes images row.failing u) (flat_map (mending_writes images row.failing) us)))
-        (all_more next us (λ v k. each v (inr k)) (lengths_then now (mending_writes images row.failing u) same (short_of u (each u (inl refl)))) first)
-    all_written now (u ∷ us) each (inr j) same is =
-        let next = fold write_on now (mending_writes images row.failing u) in
-        subst Holds (sym (fold-append write_on now (mending_writes images row.failing u) (flat_map (mending_writes images row.failing) us)))
-        (all_written next us (λ v k. each v (inr k)) j (lengths_then now (mending_writes images row.failing u) same (short_of u (each u (inl refl)))) is)
-
-    stands_first : f.bytes ≡ element images t (Slice t.at.index) → Holds images
-    stands_first is k lt =
-        let slot = (own t i).slot in
-        let off = (own t i).off + t.at.rest in
-        sym (ap (λ xs. get_or xs k 0) (is ∙ element_is images t (Slice t.at.index) (place t i) (own t i).block)
-        ∙ at_range (image_of images slot) off (size_of t) k 0 lt)
-
-    holds : Holds after
-    holds = by f.from
-      where
         by : ((mending_writes images row.failing t ≡ []) × (f.bytes ≡ element images t (Slice t.at.index)))
-            ⊎ (mending_writes images row.failing t ≡ written_at (place t i) f.bytes ∷ []) → Holds after
-        by (inl none) = all_more images row.blocks (λ u j. j) (λ slot. refl) (stands_first none.1)
-        by (inr one) = all_written images row.blocks (λ u j. j) i (λ slot. refl) one
+            ⊎ (mending_writes images row.failing t ≡ written_at (place t i) f.bytes ∷ []) → byte_at after slot (off + k) ≡ get_or f.bytes k 0
+        by (inl none) =
+            rebuilt_keeps.bytes slot (off + k) (false_from_ne_true (list_any (covers slot (off + k)) (ranges_of (rebuilt_writes images layout row))) (λ e.
+            false≢true (subst (λ ws. list_any (covers slot (off + k)) (ranges_of ws) ≡ true) none.0 (written_for t i slot (off + k) there e))))
+            ∙ sym (ap (λ xs. get_or xs k 0) (none.1 ∙ element_is images t (Slice t.at.index) (place t i) (own t i).block)
+            ∙ at_range (image_of images slot) off (size_of t) k 0 lt)
+        by (inr one) =
+            let w = written_at (place t i) f.bytes in
+            let mine = in_flat (mending_writes images row.failing) t w row.blocks i (subst (In w) (sym one) (inl refl)) in
+            stays_brought slot (off + k) w f.long there images (rebuilt_writes images layout row) rebuilt_short (only one) (inr mine)
+            ∙ ap (λ j. get_or f.bytes j 0) (omega arith)
 
     element_after : element after t (Slice t.at.index) ≡ f.bytes
     element_after =
@@ -426,7 +324,8 @@ module _ (images : Images) (layout : Layout) (wants : List Want) (row : Row) (he
   -- ---- the first turn
 
   -- what stands at the place of a checked block that passes there stays
-  good_stays : (stored : Images) (t : Target) (i : In t row.blocks) → is_plain t.want ≡ false → KeepsOutside (ranges_of (rebuilt_writes images layout row)) images stored
+  good_stays : (stored : Images) (t : Target) (i : In t row.blocks) → is_plain t.want ≡ false
+      → KeepsOutside (ranges_of (rebuilt_writes images layout row)) images stored
       → is_good images t (Slice t.at.index) ≡ true → is_good stored t (Slice t.at.index) ≡ true
   good_stays stored t i checked keeps good =
       ap (passes t.setting t.want) (same_element images stored layout (ranges_of (rebuilt_writes images layout row)) t (Slice t.at.index) here.lengths
@@ -459,15 +358,16 @@ module _ (images : Images) (layout : Layout) (wants : List Want) (row : Row) (he
       → AreAmong waits (ranges_of (rebuilt_writes images layout row)) → KeepsOutside waits left stored
       → In t row.blocks → Withstands images layout row t → IsHad stored t
   first_keeps left stored waits t stopped among keeps i w =
-      let all = keeps_then (ranges_of (rebuilt_writes images layout row)) waits images left stored among (stopped_keeps images left (rebuilt_writes images layout row) rebuilt_short stopped) keeps in
+      let all = keeps_then (ranges_of (rebuilt_writes images layout row)) waits images left stored among
+      (stopped_keeps images left (rebuilt_writes images layout row) rebuilt_short stopped) keeps in
       by all w
     where
       by : KeepsOutside (ranges_of (rebuilt_writes images layout row)) images stored → Withstands images layout row t → IsHad stored t
-      by all (inl good) = had_by stored t (Read (Slice t.at.index)) (own_candidate t (no_copies t i)) (ap (λ b. b && true) (own_stands t i))
+      by all (inl good) = had_by stored t (Read (Slice t.at.index)) (own_candidate t (in_row t i).parity) (ap (λ b. b && true) (own_stands t i))
           (still (is_plain t.want) refl)
         where
           still : (b : Bool) → is_plain t.want ≡ b → is_good stored t (Slice t.at.index) ≡ true
-          still true plain = plain_passes t.setting t.want (element stored t (Slice t.at.index)) plain
+          still true plain = passes_plain t.setting t.want (element stored t (Slice t.at.index)) plain
           still false checked = good_stays stored t i checked all good
       by all (inr h) = had_by stored t h.way h.there h.stand (ap (passes t.setting t.want) (way_stays stored t i h all) ∙ h.pass)
 
@@ -479,12 +379,12 @@ module _ (images : Images) (layout : Layout) (wants : List Want) (row : Row) (he
   apart_from_parities t i slot off c h =
       let f = written_by slot off (parity_writes images layout row) (parities row.chunk.profile) h in
       let q = parity_has row.chunk.profile (length row.chunk.stripes) f.0 here.is_row.parity f.1 in
-      let e = elements_apart layout row row (Slice t.at.index) f.0 slot off here.table here.own_slots (own_byte t i slot off c) (written_parity layout row here.table of.is images f.0 slot off q.0 f.2) in
-      by f.0 (ap is_slice e.2) q.1
-    where
-      by : (q : Part) → true ≡ is_slice q → (q ≡ P) ⊎ (q ≡ Q) → ⊥
-      by q e (inl p) = false≢true (sym (e ∙ ap is_slice p))
-      by q e (inr p) = false≢true (sym (e ∙ ap is_slice p))
+      let e = elements_apart layout row row (Slice t.at.index) f.0 slot off here.table here.own_slots (own_byte t i slot off c)
+      (written_parity layout row here.table of.is images f.0 slot off q.0 f.2) in
+      elim q.1 [
+        | inl p ↦ let no : Slice t.at.index ≡ P = e.2 ∙ p in cc
+        | inr p ↦ let no : Slice t.at.index ≡ Q = e.2 ∙ p in cc
+      ]
 
   checked_keeps : (left stored : Images) (waits : List Range) (t : Target) → IsStopped (parities_writes images layout row) after left
       → AreAmong waits (ranges_of (parities_writes images layout row)) → KeepsOutside waits left stored
@@ -492,7 +392,8 @@ module _ (images : Images) (layout : Layout) (wants : List Want) (row : Row) (he
   checked_keeps left stored waits t stopped among keeps i checked had fills =
       let f = final t i checked had fills in
       let short = short_after images after (parities_writes images layout row) rebuilt_keeps.lengths parities_short in
-      let all = keeps_then (ranges_of (parities_writes images layout row)) waits after left stored among (stopped_keeps after left (parities_writes images layout row) short stopped) keeps in
+      let all = keeps_then (ranges_of (parities_writes images layout row)) waits after left stored among
+      (stopped_keeps after left (parities_writes images layout row) short stopped) keeps in
       ap (passes t.setting t.want)
       (same_element after stored layout (ranges_of (parities_writes images layout row)) t (Slice t.at.index)
       (lengths_after layout (ranges_of (rebuilt_writes images layout row)) images after rebuilt_keeps here.lengths) (block t i).is all free
@@ -510,7 +411,7 @@ module _ (images : Images) (layout : Layout) (wants : List Want) (row : Row) (he
   second_keeps left stored waits t stopped among keeps i had fills = by (is_plain t.want) refl
     where
       by : (b : Bool) → is_plain t.want ≡ b → is_good stored t (Slice t.at.index) ≡ true
-      by true plain = plain_passes t.setting t.want (element stored t (Slice t.at.index)) plain
+      by true plain = passes_plain t.setting t.want (element stored t (Slice t.at.index)) plain
       by false checked = checked_keeps left stored waits t stopped among keeps i checked had fills
 
 pub first_turn_keeps_blocks : FirstTurnKeepsBlocks

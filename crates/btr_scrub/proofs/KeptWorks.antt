@@ -26,19 +26,26 @@ use Rattle.btr_scrub.proofs.Sifting.{kept_counts, kept_writes}
 use Rattle.btr_scrub.proofs.Tallying.{unchecked_among}
 use Rattle.btr_scrub.proofs.Working.{works_as}
 
-module _ (layout : Layout) (write : Bool) (kept wants : List Want) (sound unchecked : ℕ) (b z : Seen) (table : IsTable layout.chunks) (needed : IfSome b.held (λ images. kept ≡ kept_of images layout wants)) (many : IfSome b.held (λ images. sound ≡ stood (left_out images layout wants))) (bare : ℕ) (bares : unchecked ≡ stood bare) where
+module _ (layout : Layout) (write : Bool) (kept wants : List Want) (sound unchecked : ℕ) (b z : Seen) (table : IsTable layout.chunks)
+    (needed : IfSome b.held (λ images. kept ≡ kept_of images layout wants)) (many : IfSome b.held (λ images. sound ≡ stood (left_out images layout wants)))
+    (bare : ℕ) (bares : unchecked ≡ stood bare) where
   same_writes : (images : Images) → b.held ≡ Some images → listed_writes_for layout kept images ≡ listed_writes_for layout wants images
-  same_writes images e = ap (λ ks. listed_writes_for layout ks images) (told b.held (λ images. kept ≡ kept_of images layout wants) images e needed) ∙ kept_writes images layout wants table
+  same_writes images e =
+      ap (λ ks. listed_writes_for layout ks images) (told b.held (λ images. kept ≡ kept_of images layout wants) images e needed)
+      ∙ kept_writes images layout wants table
 
-  same_counts : (images : Images) → b.held ≡ Some images → listed_count_for layout write kept images (begun sound unchecked) ≡ listed_count_for layout write wants images (first_tally unchecked)
+  same_counts : (images : Images) → b.held ≡ Some images → listed_count_for layout write kept images (begun sound unchecked)
+      ≡ listed_count_for layout write wants images (first_tally unchecked)
   same_counts images e =
       ap (λ ks. listed_count_for layout write ks images (begun sound unchecked)) (told b.held (λ images. kept ≡ kept_of images layout wants) images e needed)
-      ∙ ap (λ n. listed_count_for layout write (kept_of images layout wants) images (begun n unchecked)) (told b.held (λ images. sound ≡ stood (left_out images layout wants)) images e many)
+      ∙ ap (λ n. listed_count_for layout write (kept_of images layout wants) images (begun n unchecked))
+      (told b.held (λ images. sound ≡ stood (left_out images layout wants)) images e many)
       ∙ ap (λ n. listed_count_for layout write (kept_of images layout wants) images (begun (stood (left_out images layout wants)) n)) bares
       ∙ kept_counts images layout write wants bare table
       ∙ ap (λ n. listed_count_for layout write wants images (first_tally n)) (sym bares)
 
-  pub works_kept : (r : Result Tally Stop) → WorksFrom layout write kept (begun sound unchecked) b z r → WorksFrom layout write wants (first_tally unchecked) b z r
+  pub works_kept : (r : Result Tally Stop) → WorksFrom layout write kept (begun sound unchecked) b z r
+      → WorksFrom layout write wants (first_tally unchecked) b z r
   works_kept r h =
       let all = works_as layout write (listed_writes_for layout kept) (listed_writes_for layout wants) (listed_count_for layout write kept)
       (λ images t. listed_count_for layout write wants images (first_tally unchecked)) b z (begun sound unchecked) h.tally h.ended

@@ -16,6 +16,7 @@ pub mod Gathering
 pub mod Eachwise
 pub mod OneSector
 pub mod Gaps
+pub mod KeptSums
 pub mod Placed
 pub mod Extending
 pub mod Scanning
@@ -26,6 +27,7 @@ pub mod Agreeing
 pub mod Positions
 pub mod CopyWrites
 pub mod Scrubbing
+pub mod Itemwise
 pub mod Blockwise
 pub mod RowAgreeing
 pub mod Shorts
@@ -45,7 +47,7 @@ pub mod Rowwise
 pub mod OneRow
 pub mod Doubting
 pub mod Told
-pub mod Calm
+pub mod Inert
 pub mod Passing
 pub mod Sufficing
 pub mod Outside
@@ -63,5 +65,5 @@ pub mod Sieved
 pub mod KeptWorks
 pub mod Scrubbed
 pub mod RowValues
-pub mod CalmRows
+pub mod InertRows
 pub mod PassingRows

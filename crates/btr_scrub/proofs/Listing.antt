@@ -12,7 +12,8 @@ use Rattle.btr_scrub.specs.declared.run.Run.{Run}
 use Rattle.btr_scrub.specs.declared.run.RunKind.{RunKind}
 use Rattle.btr_scrub.specs.declared.run.RunKind.TheVariants.{TreeBlock, Sectors, Unsummed}
 use Rattle.btr_scrub.specs.declared.run.TreeMark.{TreeMark}
-use Rattle.btr_scrub.specs.Listed.{AddsAll, AddsTo, AreRuns, Begins, Extends, FewBytes, IsList, IsRun, Kept, Lengthens, all_plains, all_sectors, all_trees, kept_wants}
+use Rattle.btr_scrub.specs.Listed.{AddsAll, AddsTo, AreRuns, Begins, Extends, FewBytes, IsList, IsRun, Kept, Lengthens, all_plains, all_sectors}
+use Rattle.btr_scrub.specs.Listed.{all_trees, kept_wants}
 use Rattle.btr_scrub.specs.Listed.{plains_from, plains_of, run_wants, sectors_from, sectors_of, tree_from, trees_of, wants_of}
 
 -- the counts of runs one behind another
@@ -148,7 +149,8 @@ on_ok (Err e) f h = tt
 
 module _ (old : Kept) (is : IsList old) where
   -- a tree block behind the others
-  pub tree_added : (new : Kept) (addr generation level : ℕ) → new.kind ≡ old.kind → new.runs ≡ old.runs ++ record { addr = addr; kind = TreeBlock } ∷ [] → new.sums ≡ old.sums → new.marks ≡ old.marks ++ record { generation = generation; level = level } ∷ [] → AddsTo old new (Tree addr generation level)
+  pub tree_added : (new : Kept) (addr generation level : ℕ) → new.kind ≡ old.kind → new.runs ≡ old.runs ++ record { addr = addr; kind = TreeBlock } ∷ []
+      → new.sums ≡ old.sums → new.marks ≡ old.marks ++ record { generation = generation; level = level } ∷ [] → AddsTo old new (Tree addr generation level)
   tree_added new addr generation level k r s m =
       let run : Run = record { addr = addr; kind = TreeBlock } in
       let mark : TreeMark = record { generation = generation; level = level } in
@@ -169,7 +171,9 @@ module _ (old : Kept) (is : IsList old) where
       })
 
   -- a sector behind the others, which begins a run
-  pub sector_added : (new : Kept) (addr : ℕ) (bytes : List ℕ) → addr < 2 ^ 64 → sum_size old.kind ≤ length bytes → new.kind ≡ old.kind → new.runs ≡ old.runs ++ record { addr = addr; kind = Sectors 1 } ∷ [] → new.sums ≡ old.sums ++ take (sum_size old.kind) bytes → new.marks ≡ old.marks → AddsTo old new (Sector addr (stored_sum old.kind bytes))
+  pub sector_added : (new : Kept) (addr : ℕ) (bytes : List ℕ) → addr < 2 ^ 64 → sum_size old.kind ≤ length bytes → new.kind ≡ old.kind
+      → new.runs ≡ old.runs ++ record { addr = addr; kind = Sectors 1 } ∷ [] → new.sums ≡ old.sums ++ take (sum_size old.kind) bytes → new.marks ≡ old.marks
+      → AddsTo old new (Sector addr (stored_sum old.kind bytes))
   sector_added new addr bytes small many k r s m =
       let run : Run = record { addr = addr; kind = Sectors 1 } in
       let size = sum_size old.kind in
@@ -220,12 +224,14 @@ module _ (old : Kept) (is : IsList old) where
       let more : n + 1 ≡ suc n = omega arith in
       let longer_is : longer ≡ grown = l.more ∙ ap (λ q. record { addr = run.addr; kind = Sectors q }) more in
       let run_same : run ≡ record { addr = run.addr; kind = Sectors n } = ap (λ q. record { addr = run.addr; kind = q }) l.sectors in
-      let e = same_kept new old.kind (before ++ grown ∷ []) (xs ++ (ys ++ sum)) old.marks k (r ∙ ap (λ q. before ++ q ∷ []) longer_is) (s ∙ ap (λ q. q ++ sum) split ∙ append_assoc xs ys sum) m in
+      let e = same_kept new old.kind (before ++ grown ∷ []) (xs ++ (ys ++ sum)) old.marks k (r ∙ ap (λ q. before ++ q ∷ []) longer_is)
+      (s ∙ ap (λ q. q ++ sum) split ∙ append_assoc xs ys sum) m in
       let before_fit : AreRuns before = runs_before before (run ∷ []) (subst AreRuns b is.runs_fit) in
       let last : run.addr + (suc n - 1) * 4096 ≡ addr = omega (arith, l.next) in
       let fits : IsRun run.addr (Sectors (suc n)) = (omega arith, omega (arith, small, last)) in
       let grown_count : all_sectors (before ++ grown ∷ []) ≡ all_sectors before + suc n = sectors_both before (grown ∷ []) ∙ omega arith in
-      let grown_times : all_sectors (before ++ grown ∷ []) * size ≡ all_sectors before * size + suc n * size = ap (λ q. q * size) grown_count ∙ times_sum (all_sectors before) (suc n) size in
+      let grown_times : all_sectors (before ++ grown ∷ []) * size ≡ all_sectors before * size + suc n * size =
+      ap (λ q. q * size) grown_count ∙ times_sum (all_sectors before) (suc n) size in
       let step = suc-mul n size in
       let long1 = length-append xs (ys ++ sum) in
       let long2 = length-append ys sum in
@@ -236,10 +242,12 @@ module _ (old : Kept) (is : IsList old) where
       ∙ ap (λ q. wants_of old.kind (before ++ record { addr = run.addr; kind = Sectors n } ∷ []) (xs ++ ys) q) (sym (append-nil old.marks))
       ∙ wants_both old.kind before (record { addr = run.addr; kind = Sectors n } ∷ []) xs ys old.marks [] xlong mlong
       ∙ ap (λ q. wants_of old.kind before xs old.marks ++ q) (append-nil (sectors_from old.kind run.addr n ys)) in
-      let new_is : wants_of old.kind (before ++ grown ∷ []) (xs ++ (ys ++ sum)) old.marks ≡ wants_of old.kind before xs old.marks ++ (sectors_from old.kind run.addr n ys ++ Sector (run.addr + n * 4096) (stored_sum old.kind sum) ∷ []) =
+      let new_is : wants_of old.kind (before ++ grown ∷ []) (xs ++ (ys ++ sum)) old.marks
+      ≡ wants_of old.kind before xs old.marks ++ (sectors_from old.kind run.addr n ys ++ Sector (run.addr + n * 4096) (stored_sum old.kind sum) ∷ []) =
       ap (λ q. wants_of old.kind (before ++ grown ∷ []) (xs ++ (ys ++ sum)) q) (sym (append-nil old.marks))
       ∙ wants_both old.kind before (grown ∷ []) xs (ys ++ sum) old.marks [] xlong mlong
-      ∙ ap (λ q. wants_of old.kind before xs old.marks ++ q) (append-nil (sectors_from old.kind run.addr (suc n) (ys ++ sum)) ∙ sectors_more old.kind n run.addr ys sum ylong) in
+      ∙ ap (λ q. wants_of old.kind before xs old.marks ++ q) (append-nil (sectors_from old.kind run.addr (suc n) (ys ++ sum))
+      ∙ sectors_more old.kind n run.addr ys sum ylong) in
       subst (λ x. AddsTo old x (Sector addr (stored_sum old.kind bytes))) (sym e) (record {
         is_list = record {
           runs_fit = runs_both before (grown ∷ []) before_fit (fits, tt);
@@ -300,7 +308,8 @@ module _ (old : Kept) (is : IsList old) where
       let fits : IsRun run.addr (Unsummed (n + more)) = (omega (arith, some), omega (arith, some, small, l.next)) in
       let grown_count : all_sectors (before ++ grown ∷ []) ≡ all_sectors before = sectors_both before (grown ∷ []) ∙ omega arith in
       let grown_trees = trees_both before (grown ∷ []) in
-      let with_run : (q : ℕ) → wants_of old.kind (before ++ record { addr = run.addr; kind = Unsummed q } ∷ []) old.sums old.marks ≡ wants_of old.kind before old.sums old.marks ++ plains_from run.addr q =
+      let with_run : (q : ℕ) → wants_of old.kind (before ++ record { addr = run.addr; kind = Unsummed q } ∷ []) old.sums old.marks
+      ≡ wants_of old.kind before old.sums old.marks ++ plains_from run.addr q =
       λ q. ap (λ xs. wants_of old.kind (before ++ record { addr = run.addr; kind = Unsummed q } ∷ []) xs old.marks) (sym (append-nil old.sums))
       ∙ ap (λ ms. wants_of old.kind (before ++ record { addr = run.addr; kind = Unsummed q } ∷ []) (old.sums ++ []) ms) (sym (append-nil old.marks))
       ∙ wants_both old.kind before (record { addr = run.addr; kind = Unsummed q } ∷ []) old.sums [] old.marks [] xlong mlong
@@ -323,12 +332,17 @@ module _ (old : Kept) (is : IsList old) where
 
 -- the calls that put blocks behind the others
 module _ {E : Type 0} (result : Result (Unit {0}) E) (old : Kept) (is : IsList old) where
-  pub tree_pushed : (mid inner : Kept) (marks : List TreeMark) (addr generation level : ℕ) → Begins old mid (record { addr = addr; kind = TreeBlock }) → inner ≡ mid → OnOk result (marks ≡ inner.marks ++ record { generation = generation; level = level } ∷ []) → OnOk result (AddsTo old (made inner.kind inner.runs inner.sums marks) (Tree addr generation level))
+  pub tree_pushed : (mid inner : Kept) (marks : List TreeMark) (addr generation level : ℕ) → Begins old mid (record { addr = addr; kind = TreeBlock })
+      → inner ≡ mid → OnOk result (marks ≡ inner.marks ++ record { generation = generation; level = level } ∷ [])
+      → OnOk result (AddsTo old (made inner.kind inner.runs inner.sums marks) (Tree addr generation level))
   tree_pushed mid inner marks addr generation level b same h = on_ok result
       (λ m. tree_added old is (made inner.kind inner.runs inner.sums marks) addr generation level
-      (ap (λ (k : Kept). k.kind) same ∙ b.kind) (ap (λ (k : Kept). k.runs) same ∙ b.runs) (ap (λ (k : Kept). k.sums) same ∙ b.sums) (m ∙ ap (λ q. q ++ record { generation = generation; level = level } ∷ []) (ap (λ (k : Kept). k.marks) same ∙ b.marks))) h
+      (ap (λ (k : Kept). k.kind) same ∙ b.kind) (ap (λ (k : Kept). k.runs) same ∙ b.runs) (ap (λ (k : Kept). k.sums) same ∙ b.sums)
+      (m ∙ ap (λ q. q ++ record { generation = generation; level = level } ∷ []) (ap (λ (k : Kept). k.marks) same ∙ b.marks))) h
 
-  pub sector_begun : (mid inner : Kept) (sums bytes : List ℕ) (addr : ℕ) → addr < 2 ^ 64 → length bytes ≡ 32 → Begins old mid (record { addr = addr; kind = Sectors 1 }) → inner ≡ mid → OnOk result (sums ≡ inner.sums ++ take (sum_size inner.kind) bytes) → OnOk result (AddsTo old (made inner.kind inner.runs sums inner.marks) (Sector addr (stored_sum old.kind bytes)))
+  pub sector_begun : (mid inner : Kept) (sums bytes : List ℕ) (addr : ℕ) → addr < 2 ^ 64 → length bytes ≡ 32
+      → Begins old mid (record { addr = addr; kind = Sectors 1 }) → inner ≡ mid → OnOk result (sums ≡ inner.sums ++ take (sum_size inner.kind) bytes)
+      → OnOk result (AddsTo old (made inner.kind inner.runs sums inner.marks) (Sector addr (stored_sum old.kind bytes)))
   sector_begun mid inner sums bytes addr small long b same h = on_ok result (λ s.
       let kind : inner.kind ≡ old.kind = ap (λ (k : Kept). k.kind) same ∙ b.kind in
       let few = size_few old.kind in

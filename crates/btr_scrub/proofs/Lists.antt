@@ -1,14 +1,15 @@
 -- Members of lists, and what holds of some of them, or of none.
 use Rattle.std.proofs.Common.{◌≡◌, ℕ, zero, suc, ◌<◌, List, [], ◌∷◌, ◌++◌, map, length, get_or, slice_get, All, Some, refl, sym, ap, subst, inl, inr, arith}
+use Rattle.std.proofs.Common.{Bool, true, false, cond, ◌||◌, ◌⊎◌, ◌∙◌, Option, None, IsSome, is_some, is_none, Result, Ok, Err, IsErrAnd}
 use Rattle.std.proofs.lemmas.List.Elements.{All-cons, All-nil}
 use Rattle.std.proofs.lemmas.Option.{slice_get_within, same_Some, get_or_from_slice_get}
-use Rattle.std.specs.List.{Any, flat_map, Contains, cons_option, filter, filter_map, list_any}
+use Rattle.std.specs.List.{Any, flat_map, Contains, cons_option, filter, filter_map, list_any, fold}
 use Rattle.btr_scrub.specs.BlocksInRows.{In}
-use Rattle.std.proofs.Common.{Bool, true, false, cond, ◌||◌, ◌⊎◌, ◌∙◌, Option, None, IsSome, is_some, is_none, Result, Ok, Err, IsErrAnd}
 use Rattle.std.specs.Option.{option_map}
 use Rattle.std.proofs.lemmas.Bool.{false≢true, both_ways, false_from_ne_true, or_cases}
 use Rattle.std.proofs.lemmas.List.Folds.{Any-from_list_any, list_any-from_Any, list_any-append}
 use Rattle.btr_read.proofs.Ones.{in_either, in_left, in_right}
+pub use Rattle.btr_read.proofs.Ones.{in_map}
 
 -- one of a list has it
 pub any_at : {X : Type 0} (P : X → Type 0) (xs : List X) (i : ℕ) (x : X) → i < length xs → slice_get xs i ≡ Some x → P x → Any P xs
@@ -50,12 +51,6 @@ in_at (y ∷ xs) (suc k) x lt e = inr (in_at xs k x (omega (arith, lt)) e)
 pub in_any : {X : Type 0} (P : X → Type 0) (xs : List X) → Any P xs → (x : X) × In x xs × P x
 in_any P xs a = (a.1, in_at xs a.0 a.1 a.2 a.3, a.4)
 
--- members of maps
-pub in_map : {X Y : Type 0} (f : X → Y) (x : X) (xs : List X) → In x xs → In (f x) (map f xs)
-in_map f x [] i = absurd i
-in_map f x (y ∷ xs) (inl e) = inl (ap f e)
-in_map f x (y ∷ xs) (inr i) = inr (in_map f x xs i)
-
 pub of_flat : {X Y : Type 0} (f : X → List Y) (y : Y) (xs : List X) → In y (flat_map f xs) → (x : X) × In x xs × In y (f x)
 of_flat f y [] i = absurd i
 of_flat f y (x ∷ xs) i = elim (in_either y (f x) (flat_map f xs) i) [
@@ -83,6 +78,10 @@ of_filter_map g y (x ∷ xs) i = by (g x) refl i (of_filter_map g y xs)
     by (Some z) e (inl same) rest = (x, inl refl, e ∙ ap Some same)
     by (Some z) e (inr j) rest = let r = rest j in (r.0, inr r.1, r.2)
 
+pub in_more : {X : Type 0} (o : Option X) (x : X) (xs : List X) → In x xs → In x (cons_option o xs)
+in_more None x xs i = i
+in_more (Some y) x xs i = inr i
+
 pub in_filter : {X : Type 0} (p : X → Bool) (x : X) (xs : List X) → In x xs → p x ≡ true → In x (filter p xs)
 in_filter p x [] i e = absurd i
 in_filter p x (y ∷ xs) i e = by (p y) refl i (λ j. in_filter p x xs j e)
@@ -109,6 +108,15 @@ pub some_if : {X : Type 0} (o : Option X) → is_none o ≡ false → IsSome o
 some_if None e = absurd (false≢true (sym e))
 some_if (Some x) e = refl
 
+-- nothing comes of a list where nothing comes of each
+pub flat_none : {X Y : Type 0} (f : X → List Y) (xs : List X) → ((x : X) → In x xs → f x ≡ []) → flat_map f xs ≡ []
+flat_none f [] h = refl
+flat_none f (x ∷ xs) h = ap (λ ys. ys ++ flat_map f xs) (h x (inl refl)) ∙ flat_none f xs (λ y i. h y (inr i))
+
+pub fold_none : {X Y : Type 0} (f : Y → X → Y) (y : Y) (xs : List X) → ((x : X) → In x xs → f y x ≡ y) → fold f y xs ≡ y
+fold_none f y [] h = refl
+fold_none f y (x ∷ xs) h = ap (λ z. fold f z xs) (h x (inl refl)) ∙ fold_none f y xs (λ z i. h z (inr i))
+
 -- ---- tests of some, or of none
 
 pub any_is : {X : Type 0} (f : X → Bool) (xs : List X) → list_any f xs ≡ true → (x : X) × In x xs × (f x ≡ true)
@@ -133,13 +141,6 @@ any_flat f g xs h =
     let y = any_is f (flat_map g xs) h in
     let x = of_flat g y.0 xs y.1 in
     (x.0, x.1, is_any f y.0 (g x.0) x.2 y.2)
-
-pub any_filter_map : {X Y : Type 0} (f : Y → Bool) (g : X → Option Y) (xs : List X) → list_any f (filter_map g xs) ≡ true
-    → (x : X) × In x xs × ((y : Y) × (g x ≡ Some y) × (f y ≡ true))
-any_filter_map f g xs h =
-    let y = any_is f (filter_map g xs) h in
-    let x = of_filter_map g y.0 xs y.1 in
-    (x.0, x.1, (y.0, x.2, y.2))
 
 -- what holds of a fault holds of the answer that has it
 pub passed : {A E : Type 0} (P : Result A E → Type 0) (r : Result A E) (fault : E) → IsErrAnd r (λ e. e ≡ fault) → P (Err fault) → P r

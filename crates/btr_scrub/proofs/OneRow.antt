@@ -1,8 +1,6 @@
 -- One full stripe of the table, as it was mended.
-use Rattle.std.proofs.Common.{◌≡◌, ℕ, ◌+◌, ◌*◌, ◌≤◌, count_by, is_none, Bool, true, false, leb, cond, List, [], length, slice_get, Option, Some, None}
-use Rattle.std.proofs.Common.{IfSome, IsSomeAnd, is_some, Result, Ok, Err, refl, sym, ap, ◌∙◌, subst, inl, inr, arith}
-use Rattle.std.proofs.lemmas.Option.{same_Some, slice_get_within}
-use Rattle.btr_chunk.specs.Chunk.{stripe_length}
+use Rattle.std.proofs.Common.{◌≡◌, ℕ, ◌+◌, ◌*◌, Bool, List, [], length, slice_get, Option, Some, None, IsSomeAnd, Result, Ok, Err, refl, sym, ap, ◌∙◌, inl, inr}
+use Rattle.std.proofs.Common.{arith}
 use Rattle.btr_chunk.specs.Mapping.{elements_of, holds, place_at, stripe_of}
 use Rattle.btr_chunk.specs.declared.mapping.MapFault.{MapFault}
 use Rattle.btr_chunk.specs.declared.mapping.MapFault.TheVariants as map_fault
@@ -10,14 +8,13 @@ use Rattle.btr_chunk.specs.Table.{IsTable, chunk_at}
 use Rattle.btr_chunk.specs.declared.chunk.Chunk.{Chunk}
 use Rattle.btr_chunk.specs.declared.place.StripePlace.{StripePlace}
 use Rattle.btr_chunk.specs.declared.position.Elements.{Elements}
-use Rattle.btr_chunk.specs.declared.stripe.Stripe.{Stripe}
 use Rattle.btr_chunk.proofs.Bytes.{placed_part}
 use Rattle.btr_chunk.proofs.Rule.{data_count-some, facts}
-use Rattle.btr_rack.specs.Rack.{Seen, range_in}
+use Rattle.btr_rack.specs.Rack.{Seen}
 use Rattle.btr_rack.specs.declared.place.Place.{Place as Range}
-use Rattle.btr_read.specs.Candidates.{Target, range_on}
+use Rattle.btr_read.specs.Candidates.{Target}
 use Rattle.btr_read.specs.Cause.{LiesIn}
-use Rattle.btr_read.specs.Fate.{Fault, sought, sought_at, sought_in}
+use Rattle.btr_read.specs.Fate.{sought, sought_at, sought_in}
 use Rattle.btr_read.specs.Layout.{Layout, device_in}
 use Rattle.btr_read.specs.Serves.{Serves}
 use Rattle.btr_read.specs.Store.{Blocks, SameLoans}
@@ -25,21 +22,20 @@ use Rattle.btr_read.specs.Want.{addr_of, len_of}
 use Rattle.btr_read.specs.declared.want.Want.{Want}
 use Rattle.btr_scrub_copies.specs.Fresh.{flagged}
 use Rattle.btr_scrub_copies.specs.Syncing.{IsSyncOr, plain}
-use Rattle.btr_scrub_copies.specs.Writes.{AreWritable, Images, Write, writes_if}
+use Rattle.btr_scrub_copies.specs.Writes.{Images, Write, writes_if}
 use Rattle.btr_scrub_copies.specs.declared.mended.MendFault.{MendFault}
 use Rattle.btr_scrub_row.specs.Mending.{HasRoom, IsFullStripe, IsOfRow, IsOn, IsRow, IsRowOf, MendsRow, mended_row}
 use Rattle.btr_scrub_row.specs.Rows.{Row, range_in_element, row_writes}
 use Rattle.btr_scrub_row.specs.declared.buffer.RowBuffer.{RowBuffer}
 use Rattle.btr_scrub_row.specs.declared.mended.MendedRow.{MendedRow}
 use Rattle.btr_scrub.specs.WrittenRanges.{LiesInChunk, LiesInStripe, alone}
-use Rattle.btr_scrub.specs.Repair.{first_missing}
 use Rattle.btr_scrub.specs.Scrubbing.{CanMend, HasRooms, IsOfScrub, Scrubs, counted_row}
 use Rattle.btr_scrub.specs.declared.tally.Tally.{Tally}
 use Rattle.btr_scrub_copies.proofs.Turning.{strands_same}
-use Rattle.btr_scrub_row.proofs.Elements.{range_stands, stands_on}
 use Rattle.btr_scrub.proofs.Positions.{find_at, lies_alone}
-use Rattle.btr_scrub.proofs.Scrubbing.{does_fault, does_value, does_weaker, tell, told, waits_weaker}
-use Rattle.btr_scrub.proofs.Lists.{all_from, all_in, any_at}
+use Rattle.btr_scrub.proofs.Scrubbing.{does_fault, does_value, does_weaker, tell, told, waits_weaker, can_mend_then}
+use Rattle.btr_scrub.proofs.Lists.{all_from, all_in}
+use Rattle.btr_scrub.proofs.Places.{on_device, in_stripe_of}
 
 -- the number of its chunk
 pub chunk_number : (layout : Layout) (start number : ℕ) (row : Row) → IsFullStripe layout start number row → (i : ℕ)
@@ -69,52 +65,34 @@ flagged_row layout start number wants flags h =
 -- behind a call that left the slots, the layout and the loans all blocks can be mended still
 pub still_ready : (write : Bool) (a b : Seen) (old new : Blocks) (m n : List Bool) → CanMend write a old m → Serves b new → SameLoans old new
     → b.slots ≡ a.slots → length n ≡ length m → CanMend write b new n
-still_ready write a b old new m n can serves same slots long = record {
-  serves = serves;
-  room = subst (λ l. 2 ≤ count_by is_none l) (sym same.loans) can.room;
-  writable = λ w. subst AreWritable (sym slots) (can.writable w);
-  slots = long ∙ can.slots ∙ sym (ap length slots);
-  table = subst (λ (l : Layout). IsTable l.chunks) (sym same.layout) can.table;
-  given = ap first_missing same.layout ∙ can.given;
-}
+still_ready write a b old new m n can serves same slots long = can_mend_then write a b old new m n can slots same serves long
 
 -- a range in an element lies in a stripe of the row's chunk
 pub row_in_stripe : (layout : Layout) (start number : ℕ) (row : Row) (range : Range) → IsTable layout.chunks → IsFullStripe layout start number row
     → IsOfRow layout row range → LiesInStripe (alone layout row.chunk) range
 row_in_stripe layout start number row range table is of = lies_alone layout row.chunk range (by (range_in_element layout row of.part 0 65536) refl of.lies)
   where
-    pick : (b : Bool) (outer : Range) → LiesIn range outer → IfSome (cond b (Some outer) None) (LiesIn range)
-    pick true outer h = h
-    pick false outer h = tt
-
     by : (o : Option Range) → range_in_element layout row of.part 0 65536 ≡ o → IsSomeAnd o (LiesIn range) → LiesInChunk layout row.chunk range
     by None e h = absurd h
     by (Some outer) e h =
         let n = chunk_number layout start number row is in
         let sound = (table.sound n.0 row.chunk n.1).0 in
         let at0 : Elements = record { row = row.number; index = 0; rest = 0 } in
-        let p = placed_part row.chunk of.part at0 sound of.has (record { index = data_count-some row.chunk.profile (length row.chunk.stripes) (facts row.chunk sound).count; inside = omega (arith, is.inside, is.number_is) }) in
-        let k = stripe_of row.chunk.profile (length row.chunk.stripes) of.part at0 in
+        let p = placed_part row.chunk of.part at0 sound of.has (record {
+          index = data_count-some row.chunk.profile (length row.chunk.stripes)
+              (facts row.chunk sound).count;
+          inside = omega (arith, is.inside, is.number_is);
+        }) in
         let place = place_at row.chunk of.part at0 in
-        let s = stands_on place.offset 65536 (device_in layout.devices place.devid) (ap is_some e) in
-        let same : outer ≡ range_in s.device.slot place.offset 65536 = same_Some outer (range_in s.device.slot place.offset 65536) (sym e ∙ range_stands place.offset 65536 (device_in layout.devices place.devid) s.device s.there s.within) in
+        let d = on_device place.offset 65536 (device_in layout.devices place.devid) outer e in
         let offset : place.offset ≡ p.stripe.offset + row.number * 65536 + 0 = ap (λ (x : StripePlace). x.offset) p.place in
-        let given : device_in layout.devices p.stripe.devid ≡ Some s.device = ap (λ (x : StripePlace). device_in layout.devices x.devid) (sym p.place) ∙ s.there in
-        let slot : outer.slot ≡ s.device.slot = ap (λ (r : Range). r.slot) same in
-        let off : outer.off ≡ place.offset = ap (λ (r : Range). r.off) same in
-        let len : outer.len ≡ 65536 = ap (λ (r : Range). r.len) same in
-        let whole : IfSome (range_on p.stripe.offset (stripe_length row.chunk) (device_in layout.devices p.stripe.devid)) (LiesIn range) =
-        subst (λ o. IfSome (range_on p.stripe.offset (stripe_length row.chunk) o) (LiesIn range)) (sym given)
-        (pick (leb (p.stripe.offset + stripe_length row.chunk) s.device.len) (range_in s.device.slot p.stripe.offset (stripe_length row.chunk)) (record {
-          slot = h.slot ∙ slot;
-          from = omega (arith, h.from, off, offset);
-          to = omega (arith, h.to, off, len, offset, is.inside, is.number_is);
-        })) in
-        any_at (λ (stripe : Stripe). IfSome (range_on stripe.offset (stripe_length row.chunk) (device_in layout.devices stripe.devid))
-        (LiesIn range)) row.chunk.stripes k p.stripe (slice_get_within row.chunk.stripes k p.stripe p.there) p.there whole
+        in_stripe_of layout row.chunk (stripe_of row.chunk.profile (length row.chunk.stripes) of.part at0) p.stripe d.device range p.there
+        (ap (λ (x : StripePlace). device_in layout.devices x.devid) (sym p.place) ∙ d.there) (h.slot ∙ d.slot)
+        (omega (arith, h.from, d.begin, offset)) (omega (arith, h.to, d.begin, d.long, offset, is.inside, is.number_is))
 
 -- it was mended, and counted
-module _ (layout : Layout) (write : Bool) (row : Row) (m n : List Bool) (a b : Seen) (in_stripe : (range : Range) → IsOfRow layout row range → LiesInStripe (alone layout row.chunk) range) where
+module _ (layout : Layout) (write : Bool) (row : Row) (m n : List Bool) (a b : Seen)
+    (in_stripe : (range : Range) → IsOfRow layout row range → LiesInStripe (alone layout row.chunk) range) where
   abbrev the_writes : Images → List Write
   the_writes images = writes_if write (row_writes images layout row)
 
@@ -143,7 +121,8 @@ module _ (layout : Layout) (write : Bool) (row : Row) (m n : List Bool) (a b : S
       (λ images tally. counted_row tally (mended_row images layout row write)) m n a b tally tally (Err fault)
   scrubs_row_not tally fault h = record {
     does = does_fault {A = MendedRow} {B = Unit {0}} (IsOfScrub (alone layout row.chunk)) the_writes [] [] (plain a) (plain b) fault
-        (does_weaker {A = MendedRow} (IsSyncOr (IsOfRow layout row)) (IsOfScrub (alone layout row.chunk)) the_writes [] [] (plain a) (plain b) (Err fault) in_scrub h.does);
+        (does_weaker {A = MendedRow} (IsSyncOr (IsOfRow layout row)) (IsOfScrub (alone layout row.chunk)) the_writes [] [] (plain a) (plain b)
+        (Err fault) in_scrub h.does);
     waits = waits_weaker (IsOfRow layout row) (LiesInStripe (alone layout row.chunk)) a b in_stripe h.lie;
     marked = h.marked;
     stranded = strands_same MendedRow (Unit {0}) fault a.never_synced b.never_synced h.stranded;
@@ -158,11 +137,9 @@ chunk_of layout w t e = by (chunk_at layout.chunks (addr_of w)) e
     at : (chunk : Chunk) (r : Result Elements MapFault) → sought_at layout w chunk r ≡ Ok t → chunk ≡ t.chunk
     at chunk (Err map_fault.Unmapped) e = cc
     at chunk (Err map_fault.Crosses) e = cc
-    at chunk (Ok p) e = ap chunk_in e
-      where
-        chunk_in : Result Target Fault → Chunk
-        chunk_in (Ok t) = t.chunk
-        chunk_in (Err f) = chunk
+    at chunk (Ok p) e =
+        let same : record { want = w; setting = layout.setting; chunk = chunk; at = p; devices = layout.devices } ≡ t = cc e in
+        ap (λ (t : Target). t.chunk) same
 
     by : (o : Option Chunk) → sought_in layout w o ≡ Ok t → o ≡ Some t.chunk
     by None e = cc

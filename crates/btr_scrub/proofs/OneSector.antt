@@ -1,8 +1,8 @@
 -- A sector of a data extent.
-use Rattle.std.proofs.Common.{◌≡◌, ℕ, suc, ◌+◌, ◌<◌, ◌≤◌, Bool, true, false, cond, List, [], ◌∷◌, ◌++◌, drop, length, take, Option, Some, None, Result, Ok, Err}
-use Rattle.std.proofs.Common.{refl, sym, ap, ◌∙◌, subst, arith, length-append}
+use Rattle.std.proofs.Common.{◌≡◌, ℕ, suc, ◌+◌, ◌<◌, ◌≤◌, Bool, true, false, cond, List, [], ◌∷◌, drop, length, take, Option, Some, None, Result, Ok, Err}
+use Rattle.std.proofs.Common.{length-take, refl, sym, ap, ◌∙◌, subst, arith, length-append}
 use Rattle.std.specs.Prelude.{◌-◌, ◌/◌, ◌*◌, replicate}
-use Rattle.std.proofs.lemmas.List.{length-replicate, take-append-le, take-take}
+use Rattle.std.proofs.lemmas.List.{length-replicate, take-append-le, length-take-le, take_all}
 use Rattle.btr_base.specs.Sum.{stored_sum, sum_from, sum_size}
 use Rattle.btr_base.specs.declared.kind.SumKind.{SumKind}
 use Rattle.btr_base.specs.declared.stored.Sum.{Sum}
@@ -23,32 +23,37 @@ use Rattle.btr_read.specs.Serves.{Serves}
 use Rattle.btr_read.specs.declared.want.Want.{Want}
 use Rattle.btr_read.specs.declared.want.Want.TheVariants.{Sector}
 use Rattle.btr_walk.specs.Le.{TreeItem, le}
-use Rattle.btr_walk.specs.Reading.{Map, unread_by}
+use Rattle.btr_walk.specs.Reading.{HasCause, Map, Tells, unread_by}
+use Rattle.btr_walk.specs.declared.fault.TreeFault.{TreeFault}
 use Rattle.btr_volume.specs.Looking.{Looks, SameVolume}
 use Rattle.btr_volume.specs.Lookup.{formed}
 use Rattle.btr_volume.specs.Tree.{key}
 use Rattle.btr_volume.specs.declared.root.TreeRoot.{TreeRoot}
+use Rattle.btr_volume.specs.declared.stop.Stop.TheVariants as stop
 use Rattle.btr_volume.specs.declared.volume.Volume.{Volume}
 use Rattle.btr_walk.proofs.Joined.{drawn}
 use Rattle.btr_files.specs.Sums.{covers, is_sums, kind_in, sum_at, sum_found, sum_in, sums_objectid}
 use Rattle.btr_scrub.specs.Gathering.{Gathers, scene}
-use Rattle.btr_scrub.specs.Listed.{AddsTo}
+use Rattle.btr_scrub.specs.Listed.{AddsTo, IsList}
 use Rattle.btr_scrub.specs.Units.{Checked, Meeting, Met, sector, sector_met, sectors}
 use Rattle.btr_scrub.specs.declared.gathered.Gathered.{Gathered}
-use Rattle.btr_scrub.proofs.Gathering.{lists_added}
+use Rattle.btr_scrub.proofs.Gathering.{gathers_fault, gathers_halt, gathers_memory, gathers_none, gathers_then, lists_added, lists_none}
 use Rattle.btr_scrub.proofs.Listing.{size_few}
 
 -- a checksum that is stored again is the same
-again : (kind : SumKind) (bytes : List ℕ) (sum : Sum) → length sum.bytes ≡ 32 → sum ≡ stored_sum kind bytes → stored_sum kind sum.bytes ≡ sum
+pub stored_again : (kind : SumKind) (xs : List ℕ) → sum_size kind ≤ length xs → stored_sum kind (stored_sum kind xs).bytes ≡ stored_sum kind xs
+stored_again kind xs le =
+    let long = length-take-le (sum_size kind) xs le in
+    ap (sum_from kind) (take-append-le (sum_size kind) (take (sum_size kind) xs) (replicate (32 - sum_size kind) 0) (omega (arith, long))
+    ∙ take_all (sum_size kind) (take (sum_size kind) xs) (omega (arith, long)))
+
+pub again : (kind : SumKind) (bytes : List ℕ) (sum : Sum) → length sum.bytes ≡ 32 → sum ≡ stored_sum kind bytes → stored_sum kind sum.bytes ≡ sum
 again kind bytes sum long e =
     let size = sum_size kind in
-    let zeros = replicate (32 - size) 0 in
-    let is : sum.bytes ≡ take size bytes ++ zeros = ap (λ (s : Sum). s.bytes) e in
-    let all : length (take size bytes) + length zeros ≡ 32 = sym (length-append (take size bytes) zeros) ∙ sym (ap length is) ∙ long in
-    let behind : length zeros ≡ 32 - size = length-replicate (32 - size) 0 in
-    let few = size_few kind in
-    let le : size ≤ length (take size bytes) = omega (arith, all, behind, few) in
-    ap (stored_sum kind) is ∙ ap (sum_from kind) (take-append-le size (take size bytes) zeros le ∙ take-take size size bytes (omega arith)) ∙ sym e
+    let all = ap (λ (s : Sum). length s.bytes) (sym e) ∙ long in
+    let parts = length-append (take size bytes) (replicate (32 - size) 0) in
+    let le : size ≤ length bytes = omega (arith, all, parts, length-replicate {A = ℕ} (32 - size) 0, length-take size bytes, size_few kind) in
+    ap (λ (s : Sum). stored_sum kind s.bytes) e ∙ stored_again kind bytes le ∙ sym e
 
 module _ (B : Map) (kind : SumKind) (addr : ℕ) (sum : Sum) where
   abbrev Stored : Type 0
@@ -117,6 +122,24 @@ gathers_sector s sums addr old new vol vol' x y sum long serves reads same l add
           (ap (λ found. Checked (Sector addr found) ∷ []) (again kind stored.0 sum long stored.1), refl))) l;
       cause = tt;
     }
+
+-- a sector was not listed
+module _ (s : Super) (sums : Option TreeRoot) (addr : ℕ) (old new : Seen) (vol vol' : Volume) (x : Gathered) (serves : Serves new vol'.store)
+    (reads : OnlyReads old new) (same : SameVolume vol vol') where
+  -- as its checksum couldn't be looked up
+  pub sector_fault : (f : TreeFault) → HasCause {A = Option Sum} vol.store.layout old new (Err f)
+      → Looks vol.store.layout old new (sum_at (kind_in s) sums addr) (Err f)
+      → Gathers (sector s sums addr) (scene old vol x) (scene new vol' x) (Err (stop.Tree f))
+  sector_fault f cause l =
+      let p = sum_at (kind_in s) sums addr in
+      gathers_halt (quiet p) (met_of addr) (scene old vol x) (scene new vol' x) (stop.Tree f) (gathers_fault p old new vol vol' x f serves reads same cause l)
+
+  -- as no memory was had behind calls, of which something is told
+  pub sector_memory : (P : Map → Type 0) (y : Gathered) → IsList x.list → Tells vol.store.layout old new P
+      → Gathers (sector s sums addr) (scene old vol x) (scene new vol' y) (Err stop.Memory)
+  sector_memory P y is told =
+      gathers_then (Return tt) (λ (u : Unit {0}). sector s sums addr) (scene old vol x) (scene new vol' x) (scene new vol' y) tt (Err stop.Memory)
+      (gathers_none P old new vol vol' x x (lists_none x is) serves reads same told) (gathers_memory (sector s sums addr) new vol' x y serves)
 
 -- one sector more
 pub sectors_first : (s : Super) (sums : Option TreeRoot) (count addr i : ℕ) → i < count → sectors s sums (count - i) (addr + i * 4096)

@@ -1,6 +1,6 @@
 -- Whatever stands in the ranges of the writes, each checked block can be had.
-use Rattle.std.proofs.Common.{◌≡◌, ◌⊎◌, ℕ, ◌+◌, ◌*◌, ◌/◌, ◌<◌, ◌≤◌, Bool, true, false, not, cond, ◌&&◌, ◌||◌, eqb, List, [], ◌∷◌, map, slice_get}
-use Rattle.std.proofs.Common.{Option, Some, None, is_none, is_some, IsSome, IsSomeAnd, refl, sym, ap, ◌∙◌, subst, inl, inr, arith, Result, Ok, Err}
+use Rattle.std.proofs.Common.{◌≡◌, ◌⊎◌, ℕ, ◌+◌, ◌*◌, ◌<◌, ◌≤◌, Bool, true, false, not, cond, ◌&&◌, ◌||◌, eqb, List, [], ◌∷◌, map, slice_get, Option, Some, None}
+use Rattle.std.proofs.Common.{is_some, IsSome, IsSomeAnd, refl, sym, ap, ◌∙◌, subst, inl, inr, arith, Result, Ok, Err}
 use Rattle.std.proofs.lemmas.Bool.{false≢true, and_from, and_parts, eq-eqb, or_parts, both_ways, not-true, false_from_ne_true}
 use Rattle.std.specs.Str.{bytes_eq}
 use Rattle.std.proofs.lemmas.Option.{same_Some}
@@ -10,9 +10,8 @@ use Rattle.btr_chunk.specs.Apart.{IsOfCopy}
 use Rattle.btr_chunk.specs.Chunk.{mirrors, stripe_length}
 use Rattle.btr_chunk.specs.Mapping.{place_at}
 use Rattle.btr_chunk.specs.Table.{IsTable}
-use Rattle.btr_chunk.specs.declared.chunk.Chunk.{Chunk}
 use Rattle.btr_chunk.specs.declared.place.Part.{Part}
-use Rattle.btr_chunk.specs.declared.place.Part.TheVariants.{Mirror, Slice}
+use Rattle.btr_chunk.specs.declared.place.Part.TheVariants.{Mirror}
 use Rattle.btr_chunk.specs.declared.position.Elements.{Elements}
 use Rattle.btr_chunk.proofs.Apart.{copies_apart}
 use Rattle.btr_rack.specs.declared.place.Place.{Place as Range}
@@ -26,36 +25,34 @@ use Rattle.btr_read.specs.declared.want.Want.{Want}
 use Rattle.btr_read.proofs.Fates.{sought_of}
 use Rattle.btr_read.proofs.Ones.{in_below}
 use Rattle.btr_read.proofs.Order.{in_candidates, in_ways, with_copies}
-use Rattle.btr_scrub_copies.specs.Blocks.{accepted, bad_parts, block_writes, copy_writes, is_sound, own_parts, written_over}
+use Rattle.btr_scrub_copies.specs.Blocks.{accepted, bad_parts, is_sound, own_parts}
 use Rattle.btr_scrub_copies.proofs.Syncs.{passing_filter}
 use Rattle.btr_scrub_copies.specs.Writes.{Images, Write}
 use Rattle.btr_scrub_copies.proofs.Copied.{has_mirror}
 use Rattle.btr_scrub_row.specs.Rows.{row_writes}
-use Rattle.btr_scrub_row.specs.Wanted.{mending_writes}
+use Rattle.btr_scrub_row.specs.Wanted.{mending_writes, new_bytes, renewed, wrong_parts}
 use Rattle.btr_scrub.specs.Devices.{HaveLengths}
 use Rattle.btr_scrub.specs.BlocksInRows.{In}
 use Rattle.btr_scrub.specs.WrittenRanges.{KeepsOutside}
 use Rattle.btr_scrub.specs.Order.{AreApart, IsSought, targets}
-use Rattle.btr_scrub_copies.specs.Fresh.{Failing, first_trusted, fresh, fresh_writes, is_on_behind, is_on_doubtful, is_stale, reads_doubtful, stale_beside}
-use Rattle.btr_scrub_copies.specs.Fresh.{stale_parts}
-use Rattle.btr_scrub.specs.Repair.{covers, first_missing, is_in_chunk, is_in_row, ok_or_none, row_of, rows_in}
+use Rattle.btr_scrub_copies.specs.Fresh.{Failing, first_trusted, fresh, is_on_behind, is_on_doubtful, is_stale, reads_doubtful, stale_beside, stale_parts}
+use Rattle.btr_scrub.specs.Repair.{covers, first_missing, is_in_row, ok_or_none, row_of}
 use Rattle.btr_scrub.specs.Right.{Committed, HasFewWrongAt, HasRightPlace, StandsFor}
-use Rattle.btr_scrub.specs.Scrubbing.{all_writes_for, chunk_writes_for, rows_writes, sites_in, sites_writes}
+use Rattle.btr_scrub.specs.Scrubbing.{all_writes_for}
 use Rattle.btr_scrub.specs.Staying.{AvoidRight, IsInCopies, IsInWrong}
-use Rattle.btr_scrub.proofs.AcrossChunks.{copy_in_chunk, element_in_chunk, of_chunk, one_chunk, row_is}
+use Rattle.btr_scrub.proofs.AcrossChunks.{copy_in_chunk, element_in_chunk, one_chunk, row_is, ForCopies, ForRow, for_one}
 use Rattle.btr_scrub.proofs.Agreeing.{IsTrusted, trusted_from}
-use Rattle.btr_scrub.proofs.Blockwise.{all_behind, of_targets, part_is_given}
+use Rattle.btr_scrub.proofs.Blockwise.{all_behind, of_targets, part_is_given, target_sought}
 use Rattle.btr_scrub.proofs.CopyWrites.{same_element, written_byte}
-use Rattle.btr_scrub.proofs.OwnPlaces.{stale_own}
-use Rattle.btr_scrub.proofs.Lists.{any_in, at_in, in_any, in_map, of_mapped, in_filter, some_of, any_map, mapped, any_flat, any_filter_map}
-use Rattle.btr_scrub.proofs.Positions.{IsCopyByte, copy_of_range, is_of_copy, is_sought, of_range, shares}
+use Rattle.btr_scrub.proofs.OwnPlaces.{own_copies, over_byte, wrong_own}
+use Rattle.btr_scrub.proofs.Lists.{any_in, in_any, in_map, of_mapped, in_filter, some_of, any_map, any_is, is_any}
+use Rattle.btr_scrub.proofs.Positions.{IsCopyByte, copy_of_range, is_of_copy, of_range, shares}
 use Rattle.btr_scrub.proofs.RowWrites.{written_row}
 use Rattle.btr_scrub.proofs.RowNumbers.{row_fits}
 use Rattle.btr_scrub.proofs.SoundRows.{CanBeHad, is_row, right_is_sound, right_passes, right_there, sound_row}
 use Rattle.btr_scrub.proofs.Staying.{row_outlives_writes}
 use Rattle.btr_scrub.proofs.Writes.{row_writes_are_wrong}
-use Rattle.btr_scrub.proofs.Pasting.{written_by}
-use Rattle.btr_scrub.proofs.Calm.{sure_device}
+use Rattle.btr_scrub.proofs.Inert.{sure_device}
 
 -- blocks that are apart and have an address in common are the same
 pub same_block : (layout : Layout) (wants : List Want) (end : ℕ) (t u : Target) (one other : ℕ) → AreApart layout end wants
@@ -95,9 +92,11 @@ same_copy layout t slot off table own is b c =
     let p = place_at t.chunk (Mirror b.copy) t.at in
     let q = place_at t.chunk (Mirror c.copy) t.at in
     let devid : p.devid ≡ q.devid = own p.devid q.devid b.device c.device b.given c.given (b.same_slot ∙ sym c.same_slot) in
-    (copies_apart layout.chunks (record { devid = p.devid; offset = off }) is.number is.number b.copy c.copy (addr_of t.want + b.behind) (addr_of t.want + c.behind) table
+    (copies_apart layout.chunks (record { devid = p.devid; offset = off }) is.number is.number b.copy c.copy (addr_of t.want + b.behind)
+    (addr_of t.want + c.behind) table
     (is_of_copy layout t slot off table is b)
-    (subst (λ d. IsOfCopy layout.chunks (record { devid = d; offset = off }) is.number c.copy (addr_of t.want + c.behind)) (sym devid) (is_of_copy layout t slot off table is c))).1
+    (subst (λ d. IsOfCopy layout.chunks (record { devid = d; offset = off }) is.number c.copy (addr_of t.want + c.behind)) (sym devid)
+    (is_of_copy layout t slot off table is c))).1
 
 module _ (kept : Failing) (images : Images) (layout : Layout) (wants : List Want) (table : IsTable layout.chunks)
     (own : HaveOwnSlots layout.devices) (none : first_missing layout ≡ None) (lengths : HaveLengths images layout) (apart : AreApart layout 0 wants) where
@@ -115,55 +114,19 @@ module _ (kept : Failing) (images : Images) (layout : Layout) (wants : List Want
 
   -- ---- what a byte is written for
 
-  -- for a block with copies
-  record ForCopies (slot off : ℕ) : Type 0 where
-    block : Target
-    among : In block ts
-    is : IsSought layout block
-    copies : ℕ
-    has : mirrors block.chunk ≡ Some copies
-    written : list_any (covered_at slot off) (mending_writes images kept block) ≡ true
-
-  -- for a full stripe
-  record ForRow (slot off : ℕ) : Type 0 where
-    number : ℕ
-    chunk : Chunk
-    there : slice_get layout.chunks number ≡ Some chunk
-    parity : mirrors chunk ≡ None
-    row : ℕ
-    inside : row * 65536 + 65536 ≤ stripe_length chunk
-    written : list_any (covered_at slot off) (row_writes images layout (row_of kept ts chunk row)) ≡ true
-
-  for_chunk : (slot off number : ℕ) (chunk : Chunk) → slice_get layout.chunks number ≡ Some chunk
-      → list_any (covered_at slot off) (chunk_writes_for kept layout chunk wants images) ≡ true → ForCopies slot off ⊎ ForRow slot off
-  for_chunk slot off number chunk there h = by (mirrors chunk) refl h
-    where
-      by : (o : Option ℕ) → mirrors chunk ≡ o → list_any (covered_at slot off)
-          (cond (is_none o) (rows_writes layout (rows_in kept ts chunk) images) (sites_writes kept (sites_in layout chunk wants) images)) ≡ true
-          → ForCopies slot off ⊎ ForRow slot off
-      by None parity h =
-          let n = stripe_length chunk / 65536 in
-          let f = any_flat (covered_at slot off) (row_writes images layout) (rows_in kept ts chunk) h in
-          let listed : rows_in kept ts chunk ≡ map (row_of kept ts chunk) (range_with_len 0 n) = ap (λ o. cond (is_none o) (map (row_of kept ts chunk) (range_with_len 0 n)) []) parity in
-          let r = of_mapped (row_of kept ts chunk) f.0 (range_with_len 0 n) (subst (In f.0) listed f.1) in
-          let lt = in_below n r.0 r.1 in
-          inr (record { number = number; chunk = chunk; there = there; parity = parity; row = r.0; inside = omega (arith, lt); written = subst (λ row. list_any (covered_at slot off) (row_writes images layout row) ≡ true) (sym r.2) f.2 })
-      by (Some n) copies h =
-          let f = any_flat (covered_at slot off) (mending_writes images kept) (sites_in layout chunk wants) h in
-          let of = of_chunk kept layout table own none number chunk there wants f.0 f.1 in
-          inl (record { block = f.0; among = (passing_filter (is_in_chunk chunk) f.0 ts f.1).0; is = of.is; copies = n; has = ap mirrors of.chunk_is ∙ copies; written = f.2 })
-
-  for_what : (slot off : ℕ) → list_any (covers slot off) ranges ≡ true → ForCopies slot off ⊎ ForRow slot off
+  for_what : (slot off : ℕ) → list_any (covers slot off) ranges ≡ true → (w : Write) × (covers slot off w.range ≡ true)
+      × (ForCopies kept images layout wants w ⊎ ForRow kept images layout wants w)
   for_what slot off h =
-      let f = written_by slot off (λ c. chunk_writes_for kept layout c wants images) layout.chunks h in
-      let j = at_in f.0 layout.chunks f.1 in
-      for_chunk slot off j.0 f.0 j.1 f.2
+      let f = any_is (covered_at slot off) ws (sym (any_map (covers slot off) (λ (w : Write). w.range) ws) ∙ h) in
+      (f.0, f.2, for_one kept layout table own none wants images f.0 f.1)
 
   -- ---- writes for copies leave all else
 
-  in_copies : (slot off : ℕ) → ForCopies slot off → IsInCopies layout slot off
-  in_copies slot off c =
-      let b = copy_in_chunk layout c.block slot off table c.is (written_byte kept images layout lengths c.block c.is c.copies c.has slot off c.written) in
+  in_copies : (slot off : ℕ) (w : Write) → covers slot off w.range ≡ true → ForCopies kept images layout wants w → IsInCopies layout slot off
+  in_copies slot off w on c =
+      let b = copy_in_chunk layout c.block slot off table c.is
+      (written_byte kept images layout lengths c.block c.is c.copies c.has slot off
+      (is_any (covered_at slot off) w (mending_writes images kept c.block) c.written on)) in
       let same : c.block.chunk ≡ b.lies.chunk = same_Some c.block.chunk b.lies.chunk (sym c.is.there ∙ b.lies.there) in
       record {
         devid = b.devid;
@@ -179,9 +142,6 @@ module _ (kept : Failing) (images : Images) (layout : Layout) (wants : List Want
   -- ---- blocks and plain sectors with copies
 
   module _ (t : Target) (among : In t ts) (is : IsSought layout t) (n : ℕ) (has : mirrors t.chunk ≡ Some n) where
-    own_are : own_parts t ≡ map Mirror (range_with_len 0 n)
-    own_are = ap (λ o. option_map_or (λ copies. map Mirror (range_with_len 0 copies)) o (Slice t.at.index ∷ [])) has
-
     module _ (k : ℕ) (lt : k < n) (range : Range) (whole : range_of t (Mirror k) ≡ Some range) where
       abbrev byte : (slot off : ℕ) → covers slot off range ≡ true → IsCopyByte layout t slot off
       byte slot off c = of_range layout t k slot off range is (has_mirror t n k has lt) whole c
@@ -190,7 +150,7 @@ module _ (kept : Failing) (images : Images) (layout : Layout) (wants : List Want
       this_copy : (part : Part) → In part (own_parts t) → (slot off : ℕ) → covers slot off range ≡ true → (other : Range)
           → range_of t part ≡ Some other → covers slot off other ≡ true → part ≡ Mirror k
       this_copy part mine slot off c other at there =
-          let j = of_mapped Mirror part (range_with_len 0 n) (subst (In part) own_are mine) in
+          let j = of_mapped Mirror part (range_with_len 0 n) (subst (In part) (own_copies t n has) mine) in
           let mirror = has_mirror t n j.0 has (in_below n j.0 j.1) in
           let at_j : range_of t (Mirror j.0) ≡ Some other = ap (range_of t) j.2 ∙ at in
           let same : j.0 ≡ k =
@@ -199,32 +159,38 @@ module _ (kept : Failing) (images : Images) (layout : Layout) (wants : List Want
           ∙ copy_of_range layout t k slot off range is (has_mirror t n k has lt) whole c in
           sym j.2 ∙ ap Mirror same
 
-      -- bytes aren't written over a copy that isn't among the parts
-      not_over : (bytes : List ℕ) (parts : List Part) → ((part : Part) → In part parts → In part (own_parts t)) → (In (Mirror k) parts → ⊥)
-          → (slot off : ℕ) → covers slot off range ≡ true → list_any (covered_at slot off) (copy_writes t bytes parts) ≡ true → ⊥
-      not_over bytes parts mine never slot off c h =
-          let f = any_filter_map (covered_at slot off) (λ part. option_map (λ (range : Range). record { range = range; bytes = bytes }) (range_of t part)) parts h in
-          let m = mapped (λ (range : Range). record { range = range; bytes = bytes }) (range_of t f.0) f.2.0 f.2.1 in
-          let same = this_copy f.0 (mine f.0 f.1) slot off c m.0 m.1 (ap (λ (w : Write). covers slot off w.range) m.2 ∙ f.2.2) in
-          never (subst (λ part. In part parts) same f.1)
+      -- where it gets bytes, and nothing is wrong at this copy, it isn't written for itself
+      not_over : ((bytes : List ℕ) → new_bytes images kept t ≡ Some bytes → In (Mirror k) (wrong_parts images kept t) → ⊥) → (slot off : ℕ)
+          → covers slot off range ≡ true → list_any (covered_at slot off) (mending_writes images kept t) ≡ true → ⊥
+      not_over never slot off c h =
+          let o = over_byte images kept t slot off h in
+          let same = this_copy o.2.part (wrong_own images kept t o.2.part o.2.wrong) slot off c o.0.range o.2.range o.1 in
+          never o.0.bytes o.2.gets (subst (λ part. In part (wrong_parts images kept t)) same o.2.wrong)
 
       -- where it isn't written for itself
       module _ (not_own : (slot off : ℕ) → covers slot off range ≡ true → list_any (covered_at slot off) (mending_writes images kept t) ≡ true → ⊥) where
         -- it isn't for any other
-        not_written : (slot off : ℕ) → covers slot off range ≡ true → ForCopies slot off ⊎ ForRow slot off → ⊥
-        not_written slot off c (inl f) =
-            let s = shares layout t f.block slot off table own is f.is (byte slot off c) (written_byte kept images layout lengths f.block f.is f.copies f.has slot off f.written) in
+        not_written : (slot off : ℕ) → covers slot off range ≡ true → (w : Write) → covers slot off w.range ≡ true
+            → ForCopies kept images layout wants w ⊎ ForRow kept images layout wants w → ⊥
+        not_written slot off c w on (inl f) =
+            let written = is_any (covered_at slot off) w (mending_writes images kept f.block) f.written on in
+            let s = shares layout t f.block slot off table own is f.is (byte slot off c)
+            (written_byte kept images layout lengths f.block f.is f.copies f.has slot off written) in
             let same : t ≡ f.block = same_block layout wants 0 t f.block s.one s.other apart among f.among s.below s.under s.same in
-            not_own slot off c (subst (λ u. list_any (covered_at slot off) (mending_writes images kept u) ≡ true) (sym same) f.written)
-        not_written slot off c (inr f) =
+            not_own slot off c (subst (λ u. list_any (covered_at slot off) (mending_writes images kept u) ≡ true) (sym same) written)
+        not_written slot off c w on (inr f) =
+            let row = row_of kept ts f.chunk f.row in
             let of = row_is kept layout table own none f.number f.chunk f.there wants f.row f.parity f.inside in
-            let w = written_row layout (row_of kept ts f.chunk f.row) table of.is images slot off of.blocks f.written in
-            let number : is.number ≡ w.1.number = one_chunk layout is.number w.1.number slot off table own (copy_in_chunk layout t slot off table is (byte slot off c)) (element_in_chunk layout (row_of kept ts f.chunk f.row) w.0 slot off table w.1) in
+            let w = written_row layout row table of.is images slot off of.blocks (is_any (covered_at slot off) w (row_writes images layout row) f.written on) in
+            let number : is.number ≡ w.1.number =
+            one_chunk layout is.number w.1.number slot off table own (copy_in_chunk layout t slot off table is (byte slot off c))
+            (element_in_chunk layout row w.0 slot off table w.1) in
             let chunk : t.chunk ≡ f.chunk = same_Some t.chunk f.chunk (sym is.there ∙ ap (slice_get layout.chunks) number ∙ w.1.there) in
             false≢true (sym (ap is_some f.parity) ∙ ap (λ k. is_some (mirrors k)) (sym chunk) ∙ ap is_some has)
 
         free : (slot off : ℕ) → covers slot off range ≡ true → list_any (covers slot off) ranges ≡ false
-        free slot off c = false_from_ne_true (list_any (covers slot off) ranges) (λ e. absurd (not_written slot off c (for_what slot off e)))
+        free slot off c = false_from_ne_true (list_any (covers slot off) ranges) (λ e.
+            let f = for_what slot off e in absurd (not_written slot off c f.0 f.1 f.2))
 
         stays : (left : Images) → KeepsOutside ranges images left → element left t (Mirror k) ≡ element images t (Mirror k)
         stays left keeps = same_element images left layout ranges t (Mirror k) lengths is keeps
@@ -234,22 +200,15 @@ module _ (kept : Failing) (images : Images) (layout : Layout) (wants : List Want
     module _ (sector : is_plain t.want ≡ true) where
       not_freshened : (k : ℕ) (lt : k < n) → is_on_doubtful kept t (Mirror k) ≡ false → (range : Range) (whole : range_of t (Mirror k) ≡ Some range)
           → (slot off : ℕ) → covers slot off range ≡ true → list_any (covered_at slot off) (mending_writes images kept t) ≡ true → ⊥
-      not_freshened k lt sure range whole slot off c written =
-          by (fresh images kept t) refl
-          (subst (λ b. list_any (covered_at slot off) (cond b (fresh_writes images kept t) (block_writes images t)) ≡ true) sector written)
+      not_freshened k lt sure range whole = not_over k lt range whole (λ bytes gets i.
+          false≢true (sym (sure_device kept t.devices (place_at t.chunk (Mirror k) t.at).devid sure)
+          ∙ stale (fresh images kept t) (subst (λ b. In (Mirror k) (cond b (stale_parts images kept t) (bad_parts images t))) sector i)))
         where
           stale : (o : Option (List ℕ)) → In (Mirror k) (option_map_or (stale_beside images kept t) o []) → is_on_behind kept t (Mirror k) ≡ true
           stale None i = absurd i
           stale (Some bytes) i =
               let p = passing_filter (is_stale images kept t bytes) (Mirror k) (own_parts t) i in
               (and_parts (is_on_behind kept t (Mirror k)) (not (bytes_eq (element images t (Mirror k)) bytes)) p.1).0
-
-          by : (o : Option (List ℕ)) → fresh images kept t ≡ o
-              → list_any (covered_at slot off) (option_map_or (λ bytes. copy_writes t bytes (stale_parts images kept t)) o []) ≡ true → ⊥
-          by None e h = false≢true h
-          by (Some bytes) e h =
-              not_over k lt range whole bytes (stale_parts images kept t) (stale_own kept images t)
-              (λ i. false≢true (sym (sure_device kept t.devices (place_at t.chunk (Mirror k) t.at).devid sure) ∙ stale (fresh images kept t) i)) slot off c h
 
       fresh_stays : (left : Images) → KeepsOutside ranges images left → fresh left kept t ≡ fresh images kept t
       fresh_stays left keeps = by (first_trusted kept t) refl
@@ -275,24 +234,24 @@ module _ (kept : Failing) (images : Images) (layout : Layout) (wants : List Want
   pub fresh_outlives : (left : Images) (t : Target) → In t ts → is_plain t.want ≡ true → IsSome (mirrors t.chunk) → KeepsOutside ranges images left
       → fresh left kept t ≡ fresh images kept t
   fresh_outlives left t among sector copies keeps =
-      let w = of_targets layout t wants among in
       let n = some_of (mirrors t.chunk) copies in
-      fresh_stays t among (is_sought layout w.0 t w.2) n.0 n.1 sector left keeps
+      fresh_stays t among (target_sought layout wants t among) n.0 n.1 sector left keeps
 
   -- ---- blocks that can be had
 
   module _ (C : Committed) (had : CanBeHad kept images layout C wants) where
-    in_wrong : (slot off : ℕ) → ForRow slot off → IsInWrong images layout C kept ts slot off
-    in_wrong slot off f =
+    in_wrong : (slot off : ℕ) (w : Write) → covers slot off w.range ≡ true → ForRow kept images layout wants w → IsInWrong images layout C kept ts slot off
+    in_wrong slot off w on f =
         let row = row_of kept ts f.chunk f.row in
         row_writes_are_wrong images layout C kept ts row slot off table
         (is_row kept images layout C wants table own none lengths had apart f.number f.chunk f.there f.row f.parity f.inside)
         (sound_row kept images layout C wants table own none lengths had apart f.number f.chunk f.there f.row f.parity f.inside)
         (right_there kept images layout C wants table own none lengths had apart f.number f.chunk f.there f.row f.parity f.inside)
-        (any_map (covers slot off) (λ (w : Write). w.range) (row_writes images layout row) ∙ f.written)
+        (any_map (covers slot off) (λ (w : Write). w.range) (row_writes images layout row)
+        ∙ is_any (covered_at slot off) w (row_writes images layout row) f.written on)
 
     avoid : AvoidRight images layout C kept ts ranges
-    avoid slot off h = elim (for_what slot off h) [ inl c ↦ inr (in_copies slot off c) | inr f ↦ inl (in_wrong slot off f) ]
+    avoid slot off h = let f = for_what slot off h in elim f.2 [ inl c ↦ inr (in_copies slot off f.0 f.1 c) | inr r ↦ inl (in_wrong slot off f.0 f.1 r) ]
 
     module _ (t : Target) (among : In t ts) (is : IsSought layout t) (checked : is_plain t.want ≡ false) where
       -- ---- blocks of full stripes
@@ -319,23 +278,17 @@ module _ (kept : Failing) (images : Images) (layout : Layout) (wants : List Want
       module _ (n : ℕ) (has : mirrors t.chunk ≡ Some n) where
         not_mended : (k : ℕ) (lt : k < n) → C t.want ≡ Some (element images t (Mirror k)) → (range : Range) (whole : range_of t (Mirror k) ≡ Some range)
             → (slot off : ℕ) → covers slot off range ≡ true → list_any (covered_at slot off) (mending_writes images kept t) ≡ true → ⊥
-        not_mended k lt right range whole slot off c written =
-            by (accepted images t) refl
-            (subst (λ b. list_any (covered_at slot off) (cond b (fresh_writes images kept t) (block_writes images t)) ≡ true) checked written)
-          where
-            by : (o : Option (List ℕ)) → accepted images t ≡ o → list_any (covered_at slot off) (option_map_or (written_over images t) o []) ≡ true → ⊥
-            by None e h = false≢true h
-            by (Some bytes) e h =
-                not_over t among is n has k lt range whole bytes (bad_parts images t)
-                (λ part i. (passing_filter (λ part. not (is_sound images t part)) part (own_parts t) i).0)
-                (λ i. both_ways (is_sound images t (Mirror k)) (not-true (is_sound images t (Mirror k))
-                (passing_filter (λ part. not (is_sound images t part)) (Mirror k) (own_parts t) i).1)
-                (right_is_sound kept images layout C wants table own none lengths had t among checked is (Mirror k) bytes e right)) slot off c h
+        not_mended k lt right range whole = not_over t among is n has k lt range whole (λ bytes gets i.
+            let bad : In (Mirror k) (bad_parts images t) = subst (λ b. In (Mirror k) (cond b (stale_parts images kept t) (bad_parts images t))) checked i in
+            let accepts : accepted images t ≡ Some bytes = sym (ap (λ b. cond b (renewed images kept t) (accepted images t)) checked) ∙ gets in
+            both_ways (is_sound images t (Mirror k)) (not-true (is_sound images t (Mirror k))
+            (passing_filter (λ part. not (is_sound images t part)) (Mirror k) (own_parts t) bad).1)
+            (right_is_sound kept images layout C wants table own none lengths had t among checked is (Mirror k) bytes accepts right))
 
         copies_outlive : HasRightPlace images C t → (left : Images) → KeepsOutside ranges images left → StandsFor left C t
         copies_outlive right_copy left keeps =
             let a = in_any (λ part. C t.want ≡ Some (element images t part)) (own_parts t) right_copy in
-            let j = of_mapped Mirror a.0 (range_with_len 0 n) (subst (In a.0) (own_are t among is n has) a.1) in
+            let j = of_mapped Mirror a.0 (range_with_len 0 n) (subst (In a.0) (own_copies t n has) a.1) in
             let lt = in_below n j.0 j.1 in
             let right : C t.want ≡ Some (element images t (Mirror j.0)) = a.2 ∙ ap (λ part. Some (element images t part)) (sym j.2) in
             let given = part_is_given layout t (Mirror j.0) table is (has_mirror t n j.0 has lt) none in
@@ -353,7 +306,7 @@ module _ (kept : Failing) (images : Images) (layout : Layout) (wants : List Want
     block_outlives left t among checked spared keeps = by (mirrors t.chunk) refl spared
       where
         is : IsSought layout t
-        is = let w = of_targets layout t wants among in is_sought layout w.0 t w.2
+        is = target_sought layout wants t among
 
         by : (o : Option ℕ) → mirrors t.chunk ≡ o
             → HasRightPlace images C t ⊎ ((mirrors t.chunk ≡ None) × HasFewWrongAt images layout C (row_of kept ts t.chunk t.at.row) t) → StandsFor left C t

@@ -1,6 +1,6 @@
 -- Whatever failed, nothing changes but the ranges of the writes.
-use Rattle.std.proofs.Common.{◌≡◌, ℕ, zero, suc, Bool, true, false, ◌||◌, List, [], ◌∷◌, ◌++◌, map, All, Some, IsSomeAnd, Result, Ok, Err, refl, sym, ◌∙◌}
-use Rattle.std.proofs.Common.{subst, inl, inr, arith}
+use Rattle.std.proofs.Common.{◌≡◌, ℕ, zero, suc, Bool, true, false, List, [], ◌∷◌, ◌++◌, map, All, Some, IsSomeAnd, Result, Ok, Err, refl, sym, ◌∙◌, ap, subst}
+use Rattle.std.proofs.Common.{inl, inr, arith}
 use Rattle.std.proofs.lemmas.Option.{same_Some}
 use Rattle.std.specs.List.{fold, list_any}
 use Rattle.btr_rack.specs.declared.place.Place.{Place as Range}
@@ -12,9 +12,10 @@ use Rattle.btr_scrub.specs.Scrubbing.{chunk_writes_for}
 use Rattle.btr_scrub.specs.Whole.{WorksKeepTheRest, listed_failing, listed_writes_for}
 use Rattle.btr_scrub.proofs.AcrossChunks.{chunk_short}
 use Rattle.btr_scrub.proofs.Lists.{at_in}
-use Rattle.std.proofs.lemmas.Bool.{false≢true}
-use Rattle.btr_scrub.proofs.Pasting.{Short, one_short, shorts_keep, shorts_keep_if}
-use Rattle.btr_scrub.proofs.Shorts.{flat_short}
+use Rattle.std.proofs.lemmas.Bool.{or_parts, or_from}
+use Rattle.btr_scrub.proofs.Pasting.{Short, one_short, shorts_keep, shorts_keep_if, flat_short}
+use Rattle.std.proofs.lemmas.List.Folds.{list_any-append}
+use Rattle.std.proofs.lemmas.List.{map-append}
 
 pub left_short : (images : Images) (xs ys : List Write) → All (Short images) (xs ++ ys) → All (Short images) xs
 left_short images [] ys all i d below = absurd (omega (arith, below))
@@ -30,19 +31,8 @@ ranges ws = map (λ (w : Write). w.range) ws
 
 none_of_append : (slot off : ℕ) (xs ys : List Write) → list_any (covers slot off) (ranges (xs ++ ys)) ≡ false
     → (list_any (covers slot off) (ranges xs) ≡ false) × (list_any (covers slot off) (ranges ys) ≡ false)
-none_of_append slot off [] ys e = (refl, e)
-none_of_append slot off (x ∷ xs) ys e = by (covers slot off x.range) e (none_of_append slot off xs ys)
-  where
-    by : (b : Bool) → (b || list_any (covers slot off) (ranges (xs ++ ys))) ≡ false
-        → (list_any (covers slot off) (ranges (xs ++ ys)) ≡ false → (list_any (covers slot off) (ranges xs) ≡ false)
-        × (list_any (covers slot off) (ranges ys) ≡ false))
-        → ((b || list_any (covers slot off) (ranges xs)) ≡ false) × (list_any (covers slot off) (ranges ys) ≡ false)
-    by true e rest = absurd (false≢true (sym e))
-    by false e rest = rest e
-
-first_false : (a b : Bool) → (a || b) ≡ false → (a || false) ≡ false
-first_false true b e = e
-first_false false b e = refl
+none_of_append slot off xs ys e = or_parts (list_any (covers slot off) (ranges xs)) (list_any (covers slot off) (ranges ys))
+    (sym (list_any-append (covers slot off) (ranges xs) (ranges ys)) ∙ ap (list_any (covers slot off)) (sym (map-append (λ (w : Write). w.range) xs ys)) ∙ e)
 
 torn_keeps : (images left : Images) (before behind : List Write) → All (Short images) (before ++ behind)
     → IsTorn behind (fold write_on images before) left → KeepsOutside (ranges (before ++ behind)) images left
@@ -51,13 +41,15 @@ torn_keeps images left before (w ∷ behind) all t =
     let done = shorts_keep images before (left_short images before (w ∷ behind) all) in
     let f = right_short images before (w ∷ behind) all 0 w (omega arith) in
     let now = fold write_on images before in
-    let one = subst (KeepsOutside (w.range ∷ []) now) (sym t.2) (one_short now w.range t.0 (omega (arith, t.1, f.short)) (omega (arith, f.within, done.lengths w.range.slot))) in
+    let one = subst (KeepsOutside (w.range ∷ []) now) (sym t.2) (one_short now w.range t.0 (omega (arith, t.1, f.short))
+    (omega (arith, f.within, done.lengths w.range.slot))) in
     record {
       count = one.count ∙ done.count;
       lengths = λ slot. one.lengths slot ∙ done.lengths slot;
       bytes = λ slot off e.
           let apart = none_of_append slot off before (w ∷ behind) e in
-          one.bytes slot off (first_false (covers slot off w.range) (list_any (covers slot off) (ranges behind)) apart.1) ∙ done.bytes slot off apart.0;
+          one.bytes slot off (or_from (covers slot off w.range) false
+          (or_parts (covers slot off w.range) (list_any (covers slot off) (ranges behind)) apart.1).0 refl) ∙ done.bytes slot off apart.0;
     }
 
 pub stopped_keeps : (images left : Images) (ws : List Write) → All (Short images) ws → IsStopped ws images left → KeepsOutside (ranges ws) images left
@@ -66,7 +58,8 @@ stopped_keeps images left ws all s =
     subst (λ vs. KeepsOutside (ranges vs) images left) (sym s.place) (elim s.stands [
       | inl same ↦
           let done = shorts_keep images s.before (left_short images s.before s.behind shorts) in
-          subst (KeepsOutside (ranges (s.before ++ s.behind)) images) (sym same) (record { count = done.count; lengths = done.lengths; bytes = λ slot off e. done.bytes slot off (none_of_append slot off s.before s.behind e).0 })
+          subst (KeepsOutside (ranges (s.before ++ s.behind)) images) (sym same)
+          (record { count = done.count; lengths = done.lengths; bytes = λ slot off e. done.bytes slot off (none_of_append slot off s.before s.behind e).0 })
       | inr part ↦ torn_keeps images left s.before s.behind shorts part
     ])
 
@@ -81,16 +74,21 @@ pub works_keep_the_rest : WorksKeepTheRest
 works_keep_the_rest layout write wants count old new t u result images left table own given lengths held is h = by result h.does.held
   where
     shorts : All (Short images) (listed_writes_for layout wants images)
-    shorts = flat_short images (λ c. chunk_writes_for (listed_failing layout wants images) layout c wants images) layout.chunks (λ c i. let j = at_in c layout.chunks i in chunk_short (listed_failing layout wants images) layout table own given j.0 c j.1 wants images lengths)
+    shorts = flat_short images (λ c. chunk_writes_for (listed_failing layout wants images) layout c wants images) layout.chunks
+        (λ c i. let j = at_in c layout.chunks i in chunk_short (listed_failing layout wants images) layout table own given j.0 c j.1 wants images lengths)
 
     by : (r : Result (Unit {0}) MendFault) → LeaveImages (λ images. writes_if write (listed_writes_for layout wants images)) old.held new.held r
         → KeepsOutside (ranges (listed_writes_for layout wants images)) images left
     by (Ok x) l =
-        let after : new.held ≡ Some (fold write_on images (writes_if write (listed_writes_for layout wants images))) = subst (λ o. LeaveImages {A = Unit {0}} {E = MendFault} (λ images. writes_if write (listed_writes_for layout wants images)) o new.held (Ok x)) held l in
+        let after : new.held ≡ Some (fold write_on images (writes_if write (listed_writes_for layout wants images))) =
+        subst (λ o. LeaveImages {A = Unit {0}} {E = MendFault} (λ images. writes_if write (listed_writes_for layout wants images)) o new.held (Ok x))
+        held l in
         subst (KeepsOutside (ranges (listed_writes_for layout wants images)) images)
         (same_Some (fold write_on images (writes_if write (listed_writes_for layout wants images))) left (sym after ∙ is))
         (shorts_keep_if write images (listed_writes_for layout wants images) shorts)
     by (Err e) l =
-        let stopped : IsSomeAnd new.held (IsStopped (writes_if write (listed_writes_for layout wants images)) images) = subst (λ o. LeaveImages {A = Unit {0}} {E = MendFault} (λ images. writes_if write (listed_writes_for layout wants images)) o new.held (Err e)) held l in
+        let stopped : IsSomeAnd new.held (IsStopped (writes_if write (listed_writes_for layout wants images)) images) =
+        subst (λ o. LeaveImages {A = Unit {0}} {E = MendFault} (λ images. writes_if write (listed_writes_for layout wants images)) o new.held (Err e))
+        held l in
         stopped_if write images left (listed_writes_for layout wants images) shorts
         (subst (λ o. IsSomeAnd o (IsStopped (writes_if write (listed_writes_for layout wants images)) images)) is stopped)

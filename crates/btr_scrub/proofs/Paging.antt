@@ -94,15 +94,18 @@ module _ {T : Type 0} where
       → next ≡ [] → OnErr result (length (items_in full' next) ≤ length (items_in full last))
   made_fewer full full' last next (Ok u) refused none = tt
   made_fewer full full' last next (Err e) refused none =
-      let is : length (items_in full' next) ≡ length (items_in full []) = ap (λ xs. length (items_in xs next)) refused ∙ ap (λ xs. length (items_in full xs)) none in
+      let is : length (items_in full' next) ≡ length (items_in full []) =
+      ap (λ xs. length (items_in xs next)) refused ∙ ap (λ xs. length (items_in full xs)) none in
       omega (arith, is, counted full last)
 
   pub one_more : {E : Type 0} (full : List (Vec T Global)) (last last' : List T) (item : T) (result : Result (Unit {0}) E) (len : ℕ)
       → length (items_in full last) ≤ len → OnOk result (last' ≡ last ++ item ∷ []) → OnErr result (last' ≡ last) → length (items_in full last') ≤ len + 1
   one_more full last last' item (Ok u) len le grown refused =
-      let is : length (items_in full last') ≡ length (items_in full last) + 1 = ap (λ xs. length (items_in full xs)) grown ∙ ap length (pushed full last (item ∷ [])) ∙ length-append (items_in full last) (item ∷ []) in
+      let is : length (items_in full last') ≡ length (items_in full last) + 1 =
+      ap (λ xs. length (items_in full xs)) grown ∙ ap length (pushed full last (item ∷ [])) ∙ length-append (items_in full last) (item ∷ []) in
       omega (arith, is, le)
-  one_more full last last' item (Err e) len le grown refused = let is : length (items_in full last') ≡ length (items_in full last) = ap (λ xs. length (items_in full xs)) refused in omega (arith, is, le)
+  one_more full last last' item (Err e) len le grown refused =
+      let is : length (items_in full last') ≡ length (items_in full last) = ap (λ xs. length (items_in full xs)) refused in omega (arith, is, le)
 
   pub all_counted : (full : List (Vec T Global)) (last : List T) → AreFull full → length (items_in full last) ≡ length full * 4096 + length last
   all_counted [] last h = omega arith

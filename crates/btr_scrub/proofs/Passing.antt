@@ -1,6 +1,6 @@
 -- Plain sectors of a chunk no image of which is behind are passed at once.
-use Rattle.std.proofs.Common.{◌≡◌, ℕ, ◌+◌, ◌<◌, ◌≤◌, Bool, true, false, cond, List, [], ◌∷◌, ◌++◌, slice_get, Some, Ok, refl, sym, ap, ◌∙◌}
-use Rattle.std.proofs.Common.{subst, inl, inr, arith, append_assoc, append-nil}
+use Rattle.std.proofs.Common.{◌≡◌, ℕ, ◌+◌, ◌<◌, ◌≤◌, Bool, true, false, cond, List, [], ◌∷◌, ◌++◌, slice_get, Some, Ok, refl, sym, ap, ◌∙◌, subst, inl, inr}
+use Rattle.std.proofs.Common.{arith, append_assoc, append-nil}
 use Rattle.std.proofs.lemmas.Grind.{flat_map-append}
 use Rattle.std.specs.List.{fold}
 use Rattle.btr_chunk.specs.Chunk.{mirrors}
@@ -28,7 +28,7 @@ use Rattle.btr_scrub.specs.Repair.{stood}
 use Rattle.btr_scrub.specs.Scrubbing.{IsOfScrub, Scrubs, count_site, counted, counted_plain, sites_count, sites_writes}
 use Rattle.btr_scrub.specs.declared.tally.Tally.{Tally}
 use Rattle.btr_scrub.proofs.Blockwise.{IsNext, IsUnderway, next_block, one_target}
-use Rattle.btr_scrub.proofs.Calm.{none_fresh, none_freshened, nothing}
+use Rattle.btr_scrub.proofs.Inert.{none_fresh, none_freshened, nothing}
 use Rattle.btr_scrub.proofs.Scrubbing.{held_after, scrubs_as, told}
 use Rattle.btr_read.proofs.Ones.{in_either}
 use Rattle.std.proofs.lemmas.List.Sums.{fold-append}
@@ -58,7 +58,9 @@ counted_twice u =
 
 -- ---- a chunk no image of which is behind
 
-module _ (fails : Failing) (layout : Layout) (write : Bool) (table : IsTable layout.chunks) (number : ℕ) (chunk : Chunk) (there : slice_get layout.chunks number ≡ Some chunk) (n : ℕ) (copies : mirrors chunk ≡ Some n) (calm : has_behind layout.devices fails chunk ≡ false) where
+module _ (fails : Failing) (layout : Layout) (write : Bool) (table : IsTable layout.chunks) (number : ℕ) (chunk : Chunk)
+    (there : slice_get layout.chunks number ≡ Some chunk) (n : ℕ) (copies : mirrors chunk ≡ Some n)
+    (inert : has_behind layout.devices fails chunk ≡ false) where
   abbrev Still : Seen → Tally → Type 0
   Still a tally = (images : Images) → a.held ≡ Some images → counted_plain tally nothing ≡ tally
 
@@ -69,18 +71,18 @@ module _ (fails : Failing) (layout : Layout) (write : Bool) (table : IsTable lay
     has : mirrors t.chunk ≡ Some n
     has = ap mirrors next.mine ∙ copies
 
-    calm_there : has_behind layout.devices fails t.chunk ≡ false
-    calm_there = ap (has_behind layout.devices fails) next.mine ∙ calm
+    inert_there : has_behind layout.devices fails t.chunk ≡ false
+    inert_there = ap (has_behind layout.devices fails) next.mine ∙ inert
 
     is_sector : is_plain t.want ≡ true
     is_sector = ap is_plain (sought_of layout want t next.is_sought).want_is ∙ is_bare
 
     none_written : (images : Images) → mending_writes images fails t ≡ []
-    none_written images = as_plain fails images t is_sector ∙ none_fresh fails layout t n table next.is has calm_there images
+    none_written images = as_plain fails images t is_sector ∙ none_fresh fails layout t n table next.is has inert_there images
 
     none_counted : (images : Images) (u : Tally) → count_site fails images write u t ≡ counted_plain u nothing
     none_counted images u =
-        counts_as_plain fails images write u t is_sector ∙ ap (counted_plain u) (none_freshened fails layout t n table next.is has calm_there images write)
+        counts_as_plain fails images write u t is_sector ∙ ap (counted_plain u) (none_freshened fails layout t n table next.is has inert_there images write)
 
     -- the counts with it stay as they are with another one
     pub settled : (p : Images → List Write) (c : Images → Tally → Tally) (m m' m'' : List Bool) (a b z : Seen) (tally tally' tally'' : Tally)
@@ -91,11 +93,13 @@ module _ (fails : Failing) (layout : Layout) (write : Bool) (table : IsTable lay
     settled p c m m' m'' a b z tally tally' tally'' before one images held =
         let after = held_after (IsOfScrub (alone layout chunk)) (λ i. writes_if write (p i)) [] [] (plain a) (plain b) tt images held before.does in
         let now = fold write_on images (writes_if write (p images)) in
-        let is : tally'' ≡ counted_plain tally' nothing = told b.held (λ images. tally'' ≡ count_site fails images write tally' t) now after one.counts ∙ none_counted now tally' in
+        let is : tally'' ≡ counted_plain tally' nothing =
+        told b.held (λ images. tally'' ≡ count_site fails images write tally' t) now after one.counts ∙ none_counted now tally' in
         ap (λ u. counted_plain u nothing) is ∙ counted_twice tally' ∙ sym is
 
     -- it is past
-    module _ (wants : List Want) (m m' : List Bool) (a b : Seen) (tally tally' : Tally) (still : Still a tally') (h : IsUnderway fails layout write chunk wants (want ∷ rest) m m' a b tally tally') (here : h.end ≡ end) where
+    module _ (wants : List Want) (m m' : List Bool) (a b : Seen) (tally tally' : Tally) (still : Still a tally')
+        (h : IsUnderway fails layout write chunk wants (want ∷ rest) m m' a b tally tally') (here : h.end ≡ end) where
       abbrev ps : List Target
       ps = targets layout h.past
 
@@ -127,7 +131,8 @@ module _ (fails : Failing) (layout : Layout) (write : Bool) (table : IsTable lay
               | inr (inr j) ↦ absurd j
             ];
             apart = next.apart;
-            done = subst (λ us. Scrubs {A = Unit {0}} (alone layout chunk) write (sites_writes fails us) (sites_count fails write us) m m' a b tally tally' (Ok tt)) (sym ts)
+            done = subst (λ us. Scrubs {A = Unit {0}} (alone layout chunk) write (sites_writes fails us) (sites_count fails write us) m m' a b tally tally'
+                (Ok tt)) (sym ts)
                 (scrubs_as (alone layout chunk) write (sites_writes fails ps) (sites_writes fails (ps ++ t ∷ [])) (sites_count fails write ps)
                 (sites_count fails write (ps ++ t ∷ [])) m m' a b tally tally' (Ok tt)
                 (λ images held. (sym (writes_same images), sym (counts_same images held))) h.done);

@@ -1,17 +1,19 @@
 -- Writes that have at most as many bytes as their ranges change nothing but those.
-use Rattle.std.proofs.Common.{◌≡◌, ◌⊎◌, ℕ, suc, ◌+◌, ◌<◌, ◌≤◌, Bool, true, false, ◌&&◌, leb, ltb, List, [], ◌∷◌, map, length, get_or, set, refl, sym, ap}
-use Rattle.std.proofs.Common.{◌∙◌, inl, inr, arith, All}
+use Rattle.std.proofs.Common.{◌≡◌, ◌⊎◌, ℕ, suc, ◌+◌, ◌<◌, ◌≤◌, Bool, true, false, ◌&&◌, leb, ltb, List, [], ◌∷◌, map, length, get_or, set, refl, sym, ap, ◌-◌}
+use Rattle.std.proofs.Common.{subst, ◌∙◌, inl, inr, arith, All}
 use Rattle.std.proofs.lemmas.Bool.{false≢true, cases_eq, cases_lt, eq-eqb, le-leb, lt-ltb, or_parts, or_from, false_from_ne_true}
-use Rattle.std.proofs.lemmas.List.{length-set, get_or-set_same, get_or-set_other, set_past}
+use Rattle.std.proofs.lemmas.List.{length-set, get_or-set_same, get_or-set_other, set_past, get_or_past}
 use Rattle.std.specs.List.{fold, list_any, flat_map}
 use Rattle.btr_rack.specs.Rack.{image_of, pasted, written}
 use Rattle.btr_rack.specs.declared.place.Place.{Place as Range}
 use Rattle.btr_scrub.specs.WrittenRanges.{KeepsOutside, WritesKeepTheRest}
 use Rattle.btr_scrub.specs.Repair.{covers}
 use Rattle.btr_scrub_copies.specs.Writes.{Images, Write, write_on, writes_if}
-use Rattle.btr_scrub_row.proofs.Pasted.{length-pasted, pasted-outside}
+use Rattle.btr_scrub_row.proofs.Pasted.{length-pasted, pasted-outside, pasted-within}
 use Rattle.btr_scrub.proofs.Lists.{any_flat, any_map}
 use Rattle.btr_scrub.specs.BlocksInRows.{In}
+use Rattle.std.proofs.lemmas.List.Elements.{All-nil, All-append}
+use Rattle.btr_scrub.proofs.Places.{covering}
 
 -- a byte that a range doesn't cover lies outside
 pub not_covered : (slot off : ℕ) (range : Range) → covers slot off range ≡ false → range.slot ≡ slot → (off < range.off) ⊎ (range.off + range.len ≤ off)
@@ -73,7 +75,8 @@ one_short images range bytes short within =
           | inl lt ↦
               ap (λ k. get_or (get_or (set images range.slot new) k []) off 0) same
               ∙ ap (λ xs. get_or xs off 0) (get_or-set_same images range.slot new [] lt)
-              ∙ pasted-outside image range.off bytes fits off 0 (outside off (not_covered slot off range (or_parts (covers slot off range) false e).0 (sym same)))
+              ∙ pasted-outside image range.off bytes fits off 0 (outside off
+              (not_covered slot off range (or_parts (covers slot off range) false e).0 (sym same)))
               ∙ ap (λ k. get_or (get_or images k []) off 0) (sym same)
           | inr le ↦ ap (λ xs. get_or (get_or xs slot []) off 0) (set_past images range.slot new le)
         ]
@@ -109,9 +112,11 @@ writes_keep_the_rest images writes fit =
 -- ---- writes for some items
 
 -- a byte that is written for some items is written for one of them
-pub written_by : {X : Type 0} (slot off : ℕ) (f : X → List Write) (xs : List X) → list_any (covers slot off) (map (λ (w : Write). w.range) (flat_map f xs)) ≡ true
+pub written_by : {X : Type 0} (slot off : ℕ) (f : X → List Write) (xs : List X)
+    → list_any (covers slot off) (map (λ (w : Write). w.range) (flat_map f xs)) ≡ true
     → (x : X) × In x xs × (list_any (λ (w : Write). covers slot off w.range) (f x) ≡ true)
-written_by slot off f xs h = any_flat (λ (w : Write). covers slot off w.range) f xs (sym (any_map (covers slot off) (λ (w : Write). w.range) (flat_map f xs)) ∙ h)
+written_by slot off f xs h =
+    any_flat (λ (w : Write). covers slot off w.range) f xs (sym (any_map (covers slot off) (λ (w : Write). w.range) (flat_map f xs)) ∙ h)
 
 -- so one that is written for none of them isn't written
 pub unwritten : {X : Type 0} (slot off : ℕ) (f : X → List Write) (xs : List X)
@@ -119,3 +124,62 @@ pub unwritten : {X : Type 0} (slot off : ℕ) (f : X → List Write) (xs : List 
     → list_any (covers slot off) (map (λ (w : Write). w.range) (flat_map f xs)) ≡ false
 unwritten slot off f xs none = false_from_ne_true (list_any (covers slot off) (map (λ (w : Write). w.range) (flat_map f xs)))
     (λ e. let x = written_by slot off f xs e in none x.0 x.1 x.2)
+
+-- they have at most as many bytes as their ranges where those of each have
+pub flat_short : {X : Type 0} (images : Images) (f : X → List Write) (xs : List X) → ((x : X) → In x xs → All (Short images) (f x))
+    → All (Short images) (flat_map f xs)
+flat_short images f [] h = All-nil (Short images)
+flat_short images f (x ∷ xs) h = All-append (Short images) (f x) (flat_map f xs) (h x (inl refl)) (flat_short images f xs (λ y i. h y (inr i)))
+
+-- What is told of an item hangs on the bytes of some places. It stays when others are mended that write none of those, and when nothing is written.
+pub unmoved_by : {X : Type 0} (write : Bool) (images : Images) (f : X → List Write) (xs : List X) (Here : ℕ → ℕ → Type 0) (Told : Images → Type 0)
+    → ((x : X) → In x xs → All (Short images) (f x))
+    → ((x : X) → In x xs → (slot off : ℕ) → list_any (λ (w : Write). covers slot off w.range) (f x) ≡ true → Here slot off → ⊥)
+    → ((images' : Images) (ranges : List Range) → KeepsOutside ranges images images'
+    → ((slot off : ℕ) → Here slot off → list_any (covers slot off) ranges ≡ false) → Told images')
+    → Told (fold write_on images (writes_if write (flat_map f xs)))
+unmoved_by write images f xs Here Told short apart stays =
+    let ws = flat_map f xs in
+    stays (fold write_on images (writes_if write ws)) (map (λ (w : Write). w.range) ws) (shorts_keep_if write images ws (flat_short images f xs short))
+    (λ slot off here. unwritten slot off f xs (λ x i h. apart x i slot off h here))
+
+-- ---- a byte that one write brings
+
+module _ (slot off : ℕ) (w : Write) (long : length w.bytes ≡ w.range.len) (there : covers slot off w.range ≡ true) where
+  abbrev IsBrought : Images → Type 0
+  IsBrought images = get_or (image_of images slot) off 0 ≡ get_or w.bytes (off - w.range.off) 0
+
+  brought : (images : Images) → Short images w → IsBrought (write_on images w)
+  brought images f =
+      let c = covering slot off w.range there in
+      let image = image_of images w.range.slot in
+      elim (cases_lt w.range.slot (length images)) [
+        | inl lt ↦ ap (λ s. get_or (image_of (write_on images w) s) off 0) (sym c.0)
+            ∙ ap (λ xs. get_or xs off 0) (get_or-set_same images w.range.slot (pasted image w.range.off w.bytes) [] lt)
+            ∙ pasted-within image w.range.off w.bytes (omega (arith, f.within, long)) off 0 c.1 (omega (arith, c.2, long))
+        | inr past ↦ absurd (omega (arith, f.within, c.1, c.2, ap length (get_or_past images w.range.slot [] past)))
+      ]
+
+  -- it stays behind others that don't cover it, and is there where the write is among them
+  pub stays_brought : (images : Images) (ws : List Write) → All (Short images) ws → ((v : Write) → In v ws → covers slot off v.range ≡ true → v ≡ w)
+      → IsBrought images ⊎ In w ws → IsBrought (fold write_on images ws)
+  stays_brought images [] fit only (inl b) = b
+  stays_brought images [] fit only (inr i) = absurd i
+  stays_brought images (v ∷ ws) fit only h =
+      stays_brought (write_on images v) ws (λ i d below. let g = fit (suc i) d (omega (arith, below)) in
+      record { short = g.short; within = omega (arith, g.within, one.lengths (get_or ws i d).range.slot) }) (λ u i. only u (inr i))
+      (by (covers slot off v.range) refl h)
+    where
+      f : Short images v
+      f = fit 0 v (omega arith)
+
+      one : KeepsOutside (v.range ∷ []) images (write_on images v)
+      one = one_short images v.range v.bytes f.short f.within
+
+      by : (b : Bool) → covers slot off v.range ≡ b → IsBrought images ⊎ In w (v ∷ ws) → IsBrought (write_on images v) ⊎ In w ws
+      by true e h =
+          let same = only v (inl refl) e in
+          inl (subst (λ u. IsBrought (write_on images u)) (sym same) (brought images (subst (Short images) same f)))
+      by false e (inl b) = inl (one.bytes slot off (or_from (covers slot off v.range) false e refl) ∙ b)
+      by false e (inr (inl same)) = absurd (false≢true (sym e ∙ ap (λ (u : Write). covers slot off u.range) same ∙ there))
+      by false e (inr (inr i)) = inr i

@@ -1,9 +1,9 @@
 -- Each byte of a device is of one stripe, and of one element, at most.
 use Rattle.std.proofs.Common.{◌≡◌, ℕ, ◌+◌, ◌*◌, ◌<◌, ◌≤◌, true, ◌&&◌, eqb, leb, ltb, length, Option, Some, None, IsSome, IsSomeAnd, slice_get, refl, sym, ap}
-use Rattle.std.proofs.Common.{◌∙◌, subst, arith}
+use Rattle.std.proofs.Common.{IfSome, is_some, cond, false, Bool, ◌∙◌, subst, arith}
 use Rattle.std.proofs.lemmas.Bool.{and_from, and_parts, eq-eqb, eqb-true, le-leb, leb-true, lt-ltb, ltb-true}
-use Rattle.std.proofs.lemmas.Option.{same_Some}
-use Rattle.btr_chunk.specs.Chunk.{IsChunk}
+use Rattle.std.proofs.lemmas.Option.{same_Some, slice_get_within}
+use Rattle.btr_chunk.specs.Chunk.{IsChunk, stripe_length}
 use Rattle.btr_chunk.specs.Mapping.{HasPart, IsPosition, place_at, stripe_of}
 use Rattle.btr_chunk.specs.Table.{IsTable}
 use Rattle.btr_chunk.specs.declared.place.Part.{Part}
@@ -23,17 +23,24 @@ use Rattle.btr_scrub.specs.Places.{ElementsApart, IsOfElement}
 use Rattle.btr_scrub.specs.Repair.{covers}
 use Rattle.btr_scrub_row.specs.Rows.{Row, range_in_element}
 use Rattle.btr_scrub_row.proofs.Elements.{range_stands, stands_on}
+use Rattle.btr_read.specs.Cause.{LiesIn as LiesWithin}
+use Rattle.btr_scrub.specs.WrittenRanges.{LiesInChunk}
+use Rattle.btr_read.specs.Candidates.{range_on}
+use Rattle.btr_scrub.proofs.Lists.{any_at}
+use Rattle.btr_chunk.specs.declared.chunk.Chunk.{Chunk}
 
 -- the byte's place on its device, and in its element
 pub record IsAt (layout : Layout) (row : Row) (part : Part) (slot off : ℕ) (number : ℕ) : Type 0 where
   pub device : Device
   pub stripe : Stripe
-  pub stripe_there : slice_get row.chunk.stripes (stripe_of row.chunk.profile (length row.chunk.stripes) part (record { row = row.number; index = 0; rest = 0 })) ≡ Some stripe
+  pub stripe_there : slice_get row.chunk.stripes (stripe_of row.chunk.profile (length row.chunk.stripes) part
+      (record { row = row.number; index = 0; rest = 0 })) ≡ Some stripe
   pub given : device_in layout.devices stripe.devid ≡ Some device
   pub same_slot : device.slot ≡ slot
   pub from : stripe.offset + row.number * 65536 ≤ off
   pub to : off < stripe.offset + row.number * 65536 + 65536
-  pub lies : LiesIn layout.chunks (record { devid = stripe.devid; offset = off }) number (stripe_of row.chunk.profile (length row.chunk.stripes) part (record { row = row.number; index = 0; rest = 0 }))
+  pub lies : LiesIn layout.chunks (record { devid = stripe.devid; offset = off }) number
+      (stripe_of row.chunk.profile (length row.chunk.stripes) part (record { row = row.number; index = 0; rest = 0 }))
 
 pub covering : (slot off : ℕ) (range : Range) → covers slot off range ≡ true → (range.slot ≡ slot) × (range.off ≤ off) × (off < range.off + range.len)
 covering slot off range e =
@@ -45,6 +52,44 @@ pub covered : (slot off len i : ℕ) → off ≤ i → i < off + len → covers 
 covered slot off len i le lt =
     and_from (eqb slot slot && leb off i) (ltb i (off + len)) (and_from (eqb slot slot) (leb off i) (eq-eqb slot slot refl) (le-leb off i le))
     (lt-ltb i (off + len) lt)
+
+-- a range that stands: on which device, and where
+pub record IsOnDevice (off len : ℕ) (o : Option Device) (range : Range) : Type 0 where
+  pub device : Device
+  pub there : o ≡ Some device
+  pub within : off + len ≤ device.len
+  pub is : range ≡ range_in device.slot off len
+  pub slot : range.slot ≡ device.slot
+  pub begin : range.off ≡ off
+  pub long : range.len ≡ len
+
+pub on_device : (off len : ℕ) (o : Option Device) (range : Range) → range_on off len o ≡ Some range → IsOnDevice off len o range
+on_device off len o range e =
+    let s = stands_on off len o (ap is_some e) in
+    let is = same_Some range (range_in s.device.slot off len) (sym e ∙ range_stands off len o s.device s.there s.within) in
+    record {
+      device = s.device;
+      there = s.there;
+      within = s.within;
+      is = is;
+      slot = ap (λ (r : Range). r.slot) is;
+      begin = ap (λ (r : Range). r.off) is;
+      long = ap (λ (r : Range). r.len) is;
+    }
+
+-- a range within a stripe of a chunk lies in it
+pub in_stripe_of : (layout : Layout) (chunk : Chunk) (k : ℕ) (stripe : Stripe) (device : Device) (inner : Range) → slice_get chunk.stripes k ≡ Some stripe
+    → device_in layout.devices stripe.devid ≡ Some device → inner.slot ≡ device.slot → stripe.offset ≤ inner.off
+    → inner.off + inner.len ≤ stripe.offset + stripe_length chunk → LiesInChunk layout chunk inner
+in_stripe_of layout chunk k stripe device inner there given slot from to =
+    any_at (λ (stripe : Stripe). IfSome (range_on stripe.offset (stripe_length chunk) (device_in layout.devices stripe.devid)) (LiesWithin inner))
+    chunk.stripes k stripe (slice_get_within chunk.stripes k stripe there) there
+    (subst (λ o. IfSome (range_on stripe.offset (stripe_length chunk) o) (LiesWithin inner)) (sym given)
+    (by (leb (stripe.offset + stripe_length chunk) device.len)))
+  where
+    by : (b : Bool) → IfSome (cond b (Some (range_in device.slot stripe.offset (stripe_length chunk))) None) (LiesWithin inner)
+    by true = record { slot = slot; from = from; to = to }
+    by false = tt
 
 is_some_of : (o : Option Range) (P : Range → Type 0) → IsSomeAnd o P → IsSome o
 is_some_of None P h = absurd h
@@ -58,7 +103,8 @@ is_at layout row part slot off table e =
     let position : IsPosition row.chunk at0 = record { index = e.position.index; inside = omega (arith, e.position.inside) } in
     let p = placed_part row.chunk part at0 chunk e.has position in
     let place = place_at row.chunk part at0 in
-    let stands : IsSome (range_in_element layout row part 0 65536) = is_some_of (range_in_element layout row part 0 65536) (λ range. covers slot off range ≡ true) e.covers in
+    let stands : IsSome (range_in_element layout row part 0 65536) =
+    is_some_of (range_in_element layout row part 0 65536) (λ range. covers slot off range ≡ true) e.covers in
     let s = stands_on place.offset 65536 (device_in layout.devices place.devid) stands in
     let is = range_stands place.offset 65536 (device_in layout.devices place.devid) s.device s.there s.within in
     let c = covering slot off (range_in s.device.slot place.offset 65536) (subst (λ o. IsSomeAnd o (λ range. covers slot off range ≡ true)) is e.covers) in
@@ -91,9 +137,13 @@ elements_apart layout one other part also slot off table own e f =
     let both = stripes_apart layout.chunks (record { devid = a.stripe.devid; offset = off }) e.number f.number
     (stripe_of one.chunk.profile (length one.chunk.stripes) part (record { row = one.number; index = 0; rest = 0 }))
     (stripe_of other.chunk.profile (length other.chunk.stripes) also (record { row = other.number; index = 0; rest = 0 })) table a.lies
-    (subst (λ d. LiesIn layout.chunks (record { devid = d; offset = off }) f.number (stripe_of other.chunk.profile (length other.chunk.stripes) also (record { row = other.number; index = 0; rest = 0 }))) (sym devid) b.lies) in
+    (subst (λ d. LiesIn layout.chunks (record { devid = d; offset = off }) f.number
+    (stripe_of other.chunk.profile (length other.chunk.stripes) also (record { row = other.number; index = 0; rest = 0 }))) (sym devid) b.lies) in
     let chunk : one.chunk ≡ other.chunk = same_Some one.chunk other.chunk (sym e.there ∙ ap (slice_get layout.chunks) both.0 ∙ f.there) in
-    let stripe : a.stripe ≡ b.stripe = same_Some a.stripe b.stripe (sym a.stripe_there ∙ ap (slice_get one.chunk.stripes) both.1 ∙ ap (λ c. slice_get c.stripes (stripe_of other.chunk.profile (length other.chunk.stripes) also (record { row = other.number; index = 0; rest = 0 }))) chunk ∙ b.stripe_there) in
+    let stripe : a.stripe ≡ b.stripe =
+    same_Some a.stripe b.stripe (sym a.stripe_there ∙ ap (slice_get one.chunk.stripes) both.1
+    ∙ ap (λ c. slice_get c.stripes (stripe_of other.chunk.profile (length other.chunk.stripes) also
+    (record { row = other.number; index = 0; rest = 0 }))) chunk ∙ b.stripe_there) in
     let offset : a.stripe.offset ≡ b.stripe.offset = ap (λ (s : Stripe). s.offset) stripe in
     let number : one.number ≡ other.number = omega (arith, offset, a.from, a.to, b.from, b.to) in
     let on_one : stripe_of one.chunk.profile (length one.chunk.stripes) part (record { row = one.number; index = 0; rest = 0 })
@@ -102,6 +152,7 @@ elements_apart layout one other part also slot off table own e f =
     ∙ ap (λ n. stripe_of one.chunk.profile (length one.chunk.stripes) also (record { row = n; index = 0; rest = 0 })) (sym number) in (
       chunk,
       number,
-      stripe_of-same one.chunk.profile (length one.chunk.stripes) part also (record { row = one.number; index = 0; rest = 0 }) e.parity (facts one.chunk (table.sound e.number one.chunk e.there).0).count e.has
+      stripe_of-same one.chunk.profile (length one.chunk.stripes) part also (record { row = one.number; index = 0; rest = 0 }) e.parity
+          (facts one.chunk (table.sound e.number one.chunk e.there).0).count e.has
           (subst (λ c. HasPart c.profile (length c.stripes) also) (sym chunk) f.has) on_one,
     )

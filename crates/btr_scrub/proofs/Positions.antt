@@ -1,12 +1,12 @@
 -- Where blocks with copies lie.
 use Rattle.std.proofs.Common.{◌≡◌, ℕ, zero, suc, ◌+◌, ◌-◌, ◌*◌, ◌/◌, ◌%◌, ◌<◌, ◌≤◌, Bool, true, false, cond, ◌&&◌, ◌||◌, leb, ltb, List, [], ◌∷◌, length}
-use Rattle.std.proofs.Common.{get_or, slice_get, Option, Some, None, is_some, IsSomeAnd, IfSome, Ok, Err, refl, sym, ap, ◌∙◌, subst, arith}
+use Rattle.std.proofs.Common.{get_or, slice_get, Option, Some, None, IsSomeAnd, Ok, Err, refl, sym, ap, ◌∙◌, subst, arith}
 use Rattle.std.proofs.lemmas.Bool.{and_from, and_parts, leb-true, ltb-true, le-leb, lt-ltb, or_parts, ltb-false}
 use Rattle.std.proofs.lemmas.Option.{same_Some, slice_get_within}
 use Rattle.std.specs.List.{Any, cons_option, find}
 use Rattle.btr_chunk.specs.Apart.{IsOfCopy}
 use Rattle.btr_chunk.specs.Chunk.{IsChunk, data_count, is_striped, mirror_count, stripe_length}
-use Rattle.btr_chunk.specs.Mapping.{HasPart, crosses, data_part, holds, place_at, place_on, position, stripe_of}
+use Rattle.btr_chunk.specs.Mapping.{HasPart, crosses, data_part, holds, place_at, place_on, position, stripe_of, IsPosition}
 use Rattle.btr_chunk.specs.Table.{IsTable, chunk_at}
 use Rattle.btr_chunk.specs.declared.chunk.Chunk.{Chunk}
 use Rattle.btr_chunk.specs.declared.mapping.MapFault.TheVariants as map_fault
@@ -20,9 +20,8 @@ use Rattle.btr_chunk.specs.declared.stripe.Stripe.{Stripe}
 use Rattle.btr_chunk.proofs.Apart.{copies_apart}
 use Rattle.btr_chunk.proofs.Bytes.{IsPosition-position, placed_part}
 use Rattle.btr_chunk.proofs.Rule.{data_count-mirrored, reaches-rows}
-use Rattle.btr_rack.specs.Rack.{range_in}
 use Rattle.btr_rack.specs.declared.place.Place.{Place as Range}
-use Rattle.btr_read.specs.Candidates.{Target, range_of, range_on, size_of}
+use Rattle.btr_read.specs.Candidates.{Target, range_of, size_of}
 use Rattle.btr_read.specs.Cause.{LiesIn}
 use Rattle.btr_read.specs.Fate.{sought, sought_at, sought_in}
 use Rattle.btr_read.specs.Layout.{HaveOwnSlots, Layout, device_in}
@@ -34,9 +33,19 @@ use Rattle.btr_scrub_copies.specs.Mending.{IsOfCopy as IsOfMirror}
 use Rattle.btr_scrub.specs.WrittenRanges.{LiesInChunk, LiesInStripe, alone}
 use Rattle.btr_scrub.specs.Order.{IsSought}
 use Rattle.btr_scrub.specs.Repair.{covers}
-use Rattle.btr_scrub_row.proofs.Elements.{range_stands, stands_on}
-use Rattle.btr_scrub.proofs.Places.{covering}
+use Rattle.btr_scrub.proofs.Places.{covering, on_device, in_stripe_of}
 use Rattle.btr_scrub.proofs.Lists.{any_at}
+
+-- ---- addresses of a chunk
+
+pub bounds_of : (chunk : Chunk) (addr : ℕ) → holds chunk addr ≡ true → (chunk.start ≤ addr) × (addr < chunk.start + chunk.length)
+bounds_of chunk addr held =
+    let h = and_parts (leb chunk.start addr) (ltb addr (chunk.start + chunk.length)) held in
+    (leb-true chunk.start addr h.0, ltb-true addr (chunk.start + chunk.length) h.1)
+
+pub held_between : (chunk : Chunk) (addr : ℕ) → chunk.start ≤ addr → addr < chunk.start + chunk.length → holds chunk addr ≡ true
+held_between chunk addr from to =
+    and_from (leb chunk.start addr) (ltb addr (chunk.start + chunk.length)) (le-leb chunk.start addr from) (lt-ltb addr (chunk.start + chunk.length) to)
 
 -- ---- what is sought
 
@@ -59,7 +68,17 @@ module _ (layout : Layout) (want : Want) (t : Target) where
           → sought_at layout want chunk (cond h (cond c (Err map_fault.Crosses) (Ok (position chunk (addr_of want)))) (Err map_fault.Unmapped)) ≡ Ok t
           → IsSought layout t
       by true true fine e = cc
-      by true false fine e = let same : record { want = want; setting = layout.setting; chunk = chunk; at = position chunk (addr_of want); devices = layout.devices } ≡ t = cc in subst (IsSought layout) same (record { number = place.0; there = place.1; held = place.2; uncrossed = fine; at = refl; setting = refl; devices = refl })
+      by true false fine e =
+          let same : record { want = want; setting = layout.setting; chunk = chunk; at = position chunk (addr_of want); devices = layout.devices } ≡ t =
+          cc in subst (IsSought layout) same (record {
+            number = place.0;
+            there = place.1;
+            held = place.2;
+            uncrossed = fine;
+            at = refl;
+            setting = refl;
+            devices = refl;
+          })
       by false c fine e = cc
 
   in_some : (o : Option Chunk) → chunk_at layout.chunks (addr_of want) ≡ o → sought_in layout want o ≡ Ok t → IsSought layout t
@@ -70,19 +89,23 @@ module _ (layout : Layout) (want : Want) (t : Target) where
   pub is_sought : sought layout want ≡ Ok t → IsSought layout t
   is_sought e = in_some (chunk_at layout.chunks (addr_of want)) refl e
 
+pub position_is : (layout : Layout) (t : Target) → IsTable layout.chunks → IsSought layout t → IsPosition t.chunk t.at
+position_is layout t table is = subst (IsPosition t.chunk) (sym is.at) (IsPosition-position t.chunk (addr_of t.want)
+    (table.sound is.number t.chunk is.there).0 is.held)
+
 -- ---- bytes of copies
 
 -- the part of a byte's own copy
-own_part : (p : Profile) (n m copy : ℕ) (at : Elements) → mirror_count p n ≡ Some m → data_part p copy at ≡ Mirror copy
-own_part Single n m copy at e = refl
-own_part Dup n m copy at e = refl
-own_part Raid0 n m copy at e = refl
-own_part Raid1 n m copy at e = refl
-own_part Raid1c3 n m copy at e = refl
-own_part Raid1c4 n m copy at e = refl
-own_part Raid10 n m copy at e = refl
-own_part Raid5 n m copy at e = cc
-own_part Raid6 n m copy at e = cc
+own_copy : (p : Profile) (n copy : ℕ) (at : Elements) → IsSomeAnd (mirror_count p n) (λ m. copy < m) → data_part p copy at ≡ Mirror copy
+own_copy Single n copy at h = refl
+own_copy Dup n copy at h = refl
+own_copy Raid0 n copy at h = refl
+own_copy Raid1 n copy at h = refl
+own_copy Raid1c3 n copy at h = refl
+own_copy Raid1c4 n copy at h = refl
+own_copy Raid10 n copy at h = refl
+own_copy Raid5 n copy at h = absurd h
+own_copy Raid6 n copy at h = absurd h
 
 -- the stripe of a copy hangs on the element alone
 copy_stripe : (p : Profile) (n copy : ℕ) (at bt : Elements) → at.index ≡ bt.index → stripe_of p n (Mirror copy) at ≡ stripe_of p n (Mirror copy) bt
@@ -102,7 +125,8 @@ record IsBehind (at bt : Elements) (d : ℕ) : Type 0 where
   index : bt.index ≡ at.index
   rest : bt.rest ≡ at.rest + d
 
-rows_behind : (o d k : ℕ) → o % 65536 + d < 65536 → IsBehind (record { row = o / 65536 / k; index = o / 65536 % k; rest = o % 65536 }) (record { row = (o + d) / 65536 / k; index = (o + d) / 65536 % k; rest = (o + d) % 65536 }) d
+rows_behind : (o d k : ℕ) → o % 65536 + d < 65536 → IsBehind (record { row = o / 65536 / k; index = o / 65536 % k; rest = o % 65536 })
+    (record { row = (o + d) / 65536 / k; index = (o + d) / 65536 % k; rest = (o + d) % 65536 }) d
 rows_behind o d k lt =
     let whole : (o + d) / 65536 ≡ o / 65536 = omega (arith, lt) in
     record { row = ap (λ q. q / k) whole; index = ap (λ q. q % k) whole; rest = omega (arith, lt) }
@@ -122,7 +146,9 @@ position_behind chunk addr len d from fine lt = by (is_striped chunk.profile) fi
         → IsBehind (place_in b (data_count chunk.profile (length chunk.stripes)) (addr - chunk.start))
         (place_in b (data_count chunk.profile (length chunk.stripes)) (addr + d - chunk.start)) d
     by true fine =
-        let small : (addr - chunk.start) % 65536 + len ≤ 65536 = ltb-false 65536 ((addr - chunk.start) % 65536 + len) (or_parts (ltb (chunk.start + chunk.length) (addr + len)) (ltb 65536 ((addr - chunk.start) % 65536 + len)) fine).1 in
+        let small : (addr - chunk.start) % 65536 + len ≤ 65536 =
+        ltb-false 65536 ((addr - chunk.start) % 65536 + len) (or_parts (ltb (chunk.start + chunk.length) (addr + len))
+        (ltb 65536 ((addr - chunk.start) % 65536 + len)) fine).1 in
         let k = data_count chunk.profile (length chunk.stripes) in
         subst (λ o. IsBehind (place_in true k (addr - chunk.start)) (place_in true k o) d) (sym offset)
         (rows_behind (addr - chunk.start) d k (omega (arith, small, lt)))
@@ -144,19 +170,17 @@ pub of_range : (layout : Layout) (t : Target) (copy slot off : ℕ) (range : Ran
     ≡ Some range → covers slot off range ≡ true → IsCopyByte layout t slot off
 of_range layout t copy slot off range is has e c =
     let place = place_at t.chunk (Mirror copy) t.at in
-    let s = stands_on place.offset (size_of t) (device_in t.devices place.devid) (ap (λ o. is_some o) e) in
-    let stands = range_stands place.offset (size_of t) (device_in t.devices place.devid) s.device s.there s.within in
-    let same : range ≡ range_in s.device.slot place.offset (size_of t) = same_Some range (range_in s.device.slot place.offset (size_of t)) (sym e ∙ stands) in
-    let at = covering slot off (range_in s.device.slot place.offset (size_of t)) (ap (covers slot off) (sym same) ∙ c) in
+    let d = on_device place.offset (size_of t) (device_in t.devices place.devid) range e in
+    let at = covering slot off range c in
     record {
-      device = s.device;
+      device = d.device;
       behind = off - place.offset;
       copy = copy;
       has = has;
-      below = omega (arith, at.1, at.2);
-      given = ap (λ ds. device_in ds place.devid) (sym is.devices) ∙ s.there;
-      same_slot = at.0;
-      offset = omega (arith, at.1);
+      below = omega (arith, at.1, at.2, d.begin, d.long);
+      given = ap (λ ds. device_in ds place.devid) (sym is.devices) ∙ d.there;
+      same_slot = sym d.slot ∙ at.0;
+      offset = omega (arith, at.1, d.begin);
     }
 
 pub copy_of_range : (layout : Layout) (t : Target) (copy slot off : ℕ) (range : Range) (is : IsSought layout t) (has : HasMirror copy t)
@@ -170,20 +194,25 @@ pub is_of_copy : (layout : Layout) (t : Target) (slot off : ℕ) → IsTable lay
 is_of_copy layout t slot off table is b =
     let addr = addr_of t.want in
     let sound = (table.sound is.number t.chunk is.there).0 in
-    let h = and_parts (leb t.chunk.start addr) (ltb addr (t.chunk.start + t.chunk.length)) is.held in
-    let from = leb-true t.chunk.start addr h.0 in
-    let ends : addr + size_of t ≤ t.chunk.start + t.chunk.length = ltb-false (t.chunk.start + t.chunk.length) (addr + size_of t) (or_parts (ltb (t.chunk.start + t.chunk.length) (addr + size_of t)) (is_striped t.chunk.profile && ltb 65536 ((addr - t.chunk.start) % 65536 + size_of t)) is.uncrossed).0 in
-    let there : holds t.chunk (addr + b.behind) ≡ true = and_from (leb t.chunk.start (addr + b.behind)) (ltb (addr + b.behind) (t.chunk.start + t.chunk.length)) (le-leb t.chunk.start (addr + b.behind) (omega (arith, from))) (lt-ltb (addr + b.behind) (t.chunk.start + t.chunk.length) (omega (arith, ends, b.below))) in
+    let from = (bounds_of t.chunk addr is.held).0 in
+    let ends : addr + size_of t ≤ t.chunk.start + t.chunk.length =
+    ltb-false (t.chunk.start + t.chunk.length) (addr + size_of t)
+    (or_parts (ltb (t.chunk.start + t.chunk.length) (addr + size_of t))
+    (is_striped t.chunk.profile && ltb 65536 ((addr - t.chunk.start) % 65536 + size_of t)) is.uncrossed).0 in
+    let there = held_between t.chunk (addr + b.behind) (omega (arith, from)) (omega (arith, ends, b.below)) in
     let one = position t.chunk addr in
     let two = position t.chunk (addr + b.behind) in
     let same = position_behind t.chunk addr (size_of t) b.behind from is.uncrossed b.below in
     let at_one = placed_part t.chunk (Mirror b.copy) one sound b.has (IsPosition-position t.chunk addr sound is.held) in
     let at_two = placed_part t.chunk (Mirror b.copy) two sound b.has (IsPosition-position t.chunk (addr + b.behind) sound there) in
-    let stripe : at_two.stripe ≡ at_one.stripe = same_Some at_two.stripe at_one.stripe (sym at_two.there ∙ ap (slice_get t.chunk.stripes) (copy_stripe t.chunk.profile (length t.chunk.stripes) b.copy two one same.index) ∙ at_one.there) in
+    let stripe : at_two.stripe ≡ at_one.stripe =
+    same_Some at_two.stripe at_one.stripe (sym at_two.there ∙ ap (slice_get t.chunk.stripes)
+    (copy_stripe t.chunk.profile (length t.chunk.stripes) b.copy two one same.index) ∙ at_one.there) in
     let place_one : place_at t.chunk (Mirror b.copy) t.at ≡ place_on at_one.stripe one = ap (place_at t.chunk (Mirror b.copy)) is.at ∙ at_one.place in
     let place_two : place_at t.chunk (Mirror b.copy) two ≡ place_on at_one.stripe two = at_two.place ∙ ap (λ s. place_on s two) stripe in
     let devid : (place_at t.chunk (Mirror b.copy) t.at).devid ≡ at_one.stripe.devid = ap (λ (p : StripePlace). p.devid) place_one in
-    let offset : (place_at t.chunk (Mirror b.copy) t.at).offset ≡ at_one.stripe.offset + one.row * 65536 + one.rest = ap (λ (p : StripePlace). p.offset) place_one in
+    let offset : (place_at t.chunk (Mirror b.copy) t.at).offset ≡ at_one.stripe.offset + one.row * 65536 + one.rest =
+    ap (λ (p : StripePlace). p.offset) place_one in
     record {
       chunk = t.chunk;
       there = is.there;
@@ -196,13 +225,6 @@ is_of_copy layout t slot off table is b =
   where
     same_place : (d e a b : ℕ) → d ≡ e → a ≡ b → ◌≡◌ {A = StripePlace} (record { devid = d; offset = a }) (record { devid = e; offset = b })
     same_place d e a b x y = ap (λ z. record { devid = z; offset = a }) x ∙ ap (λ z. record { devid = e; offset = z }) y
-
-    own_copy : (p : Profile) (n copy : ℕ) (at : Elements) → IsSomeAnd (mirror_count p n) (λ m. copy < m) → data_part p copy at ≡ Mirror copy
-    own_copy p n copy at h = by (mirror_count p n) refl h
-      where
-        by : (o : Option ℕ) → mirror_count p n ≡ o → IsSomeAnd o (λ m. copy < m) → data_part p copy at ≡ Mirror copy
-        by None e h = absurd h
-        by (Some m) e h = own_part p n m copy at e
 
 -- two blocks that have a byte of a device in common have an address in common
 pub record Shares (t u : Target) : Type 0 where
@@ -218,9 +240,11 @@ shares layout t u slot off table own is us b c =
     let p = place_at t.chunk (Mirror b.copy) t.at in
     let q = place_at u.chunk (Mirror c.copy) u.at in
     let devid : p.devid ≡ q.devid = own p.devid q.devid b.device c.device b.given c.given (b.same_slot ∙ sym c.same_slot) in
-    let both = copies_apart layout.chunks (record { devid = p.devid; offset = off }) is.number us.number b.copy c.copy (addr_of t.want + b.behind) (addr_of u.want + c.behind) table
+    let both = copies_apart layout.chunks (record { devid = p.devid; offset = off }) is.number us.number b.copy c.copy (addr_of t.want + b.behind)
+    (addr_of u.want + c.behind) table
     (is_of_copy layout t slot off table is b)
-    (subst (λ d. IsOfCopy layout.chunks (record { devid = d; offset = off }) us.number c.copy (addr_of u.want + c.behind)) (sym devid) (is_of_copy layout u slot off table us c)) in
+    (subst (λ d. IsOfCopy layout.chunks (record { devid = d; offset = off }) us.number c.copy (addr_of u.want + c.behind)) (sym devid)
+    (is_of_copy layout u slot off table us c)) in
     record { one = b.behind; other = c.behind; below = b.below; under = c.below; same = both.2 }
 
 -- ---- the stripe of a part
@@ -239,19 +263,22 @@ reaches : (chunk : Chunk) (addr len : ℕ) → IsChunk chunk → holds chunk add
 reaches chunk addr len sound held fine = by (is_striped chunk.profile) refl fine
   where
     from : chunk.start ≤ addr
-    from = leb-true chunk.start addr (and_parts (leb chunk.start addr) (ltb addr (chunk.start + chunk.length)) held).0
+    from = (bounds_of chunk addr held).0
 
     below : addr < chunk.start + chunk.length
-    below = ltb-true addr (chunk.start + chunk.length) (and_parts (leb chunk.start addr) (ltb addr (chunk.start + chunk.length)) held).1
+    below = (bounds_of chunk addr held).1
 
     by : (b : Bool) → is_striped chunk.profile ≡ b → (ltb (chunk.start + chunk.length) (addr + len) || b && ltb 65536
         ((addr - chunk.start) % 65536 + len)) ≡ false → (place_in b (data_count chunk.profile (length chunk.stripes)) (addr - chunk.start)).row *
         65536 + (place_in b (data_count chunk.profile (length chunk.stripes)) (addr - chunk.start)).rest + len ≤ stripe_length chunk
     by true striped fine =
-        let small : (addr - chunk.start) % 65536 + len ≤ 65536 = ltb-false 65536 ((addr - chunk.start) % 65536 + len) (or_parts (ltb (chunk.start + chunk.length) (addr + len)) (ltb 65536 ((addr - chunk.start) % 65536 + len)) fine).1 in
+        let small : (addr - chunk.start) % 65536 + len ≤ 65536 =
+        ltb-false 65536 ((addr - chunk.start) % 65536 + len) (or_parts (ltb (chunk.start + chunk.length) (addr + len))
+        (ltb 65536 ((addr - chunk.start) % 65536 + len)) fine).1 in
         (reaches-rows chunk (addr - chunk.start) len sound striped (omega (arith, from, below)) small).inside
     by false mirrored fine =
-        let ends : addr + len ≤ chunk.start + chunk.length = ltb-false (chunk.start + chunk.length) (addr + len) (or_parts (ltb (chunk.start + chunk.length) (addr + len)) false fine).0 in
+        let ends : addr + len ≤ chunk.start + chunk.length =
+        ltb-false (chunk.start + chunk.length) (addr + len) (or_parts (ltb (chunk.start + chunk.length) (addr + len)) false fine).0 in
         let k = data_count chunk.profile (length chunk.stripes) in
         let one : k ≡ 1 = data_count-mirrored chunk.profile (length chunk.stripes) mirrored in
         let whole : chunk.length / k ≡ chunk.length = ap (λ n. chunk.length / n) one ∙ omega arith in
@@ -283,27 +310,10 @@ pub part_in_chunk : (layout : Layout) (t : Target) (part : Part) (range inner : 
 part_in_chunk layout t part range inner table is has e lies =
     let on = on_stripe layout t part table is has in
     let place = place_at t.chunk part t.at in
-    let s = stands_on place.offset (size_of t) (device_in t.devices place.devid) (ap is_some e) in
-    let stands = range_stands place.offset (size_of t) (device_in t.devices place.devid) s.device s.there s.within in
-    let same : range ≡ range_in s.device.slot place.offset (size_of t) = same_Some range (range_in s.device.slot place.offset (size_of t)) (sym e ∙ stands) in
-    let slot : range.slot ≡ s.device.slot = ap (λ (r : Range). r.slot) same in
-    let off : range.off ≡ place.offset = ap (λ (r : Range). r.off) same in
-    let len : range.len ≡ size_of t = ap (λ (r : Range). r.len) same in
-    let given : device_in layout.devices on.stripe.devid ≡ Some s.device = ap (device_in layout.devices) (sym on.devid) ∙ ap (λ ds. device_in ds place.devid) (sym is.devices) ∙ s.there in
-    let whole : IfSome (range_on on.stripe.offset (stripe_length t.chunk) (device_in layout.devices on.stripe.devid)) (LiesIn inner) =
-    subst (λ o. IfSome (range_on on.stripe.offset (stripe_length t.chunk) o) (LiesIn inner)) (sym given) (
-    by (leb (on.stripe.offset + stripe_length t.chunk) s.device.len) (range_in s.device.slot on.stripe.offset (stripe_length t.chunk)) (record {
-      slot = lies.slot ∙ slot;
-      from = omega (arith, lies.from, off, on.begin);
-      to = omega (arith, lies.to, off, len, on.end);
-    })) in
-    any_at (λ (stripe : Stripe). IfSome (range_on stripe.offset (stripe_length t.chunk) (device_in layout.devices stripe.devid)) (LiesIn inner))
-    t.chunk.stripes on.number on.stripe
-    (slice_get_within t.chunk.stripes on.number on.stripe on.there) on.there whole
-  where
-    by : (b : Bool) (outer : Range) → LiesIn inner outer → IfSome (cond b (Some outer) None) (LiesIn inner)
-    by true outer h = h
-    by false outer h = tt
+    let d = on_device place.offset (size_of t) (device_in t.devices place.devid) range e in
+    in_stripe_of layout t.chunk on.number on.stripe d.device inner on.there
+    (ap (device_in layout.devices) (sym on.devid) ∙ ap (λ ds. device_in ds place.devid) (sym is.devices) ∙ d.there) (lies.slot ∙ d.slot)
+    (omega (arith, lies.from, d.begin, on.begin)) (omega (arith, lies.to, d.begin, d.long, on.end))
 
 -- so it lies in a stripe of the table
 pub in_stripe : (layout : Layout) (t : Target) (part : Part) (range inner : Range) → IsTable layout.chunks → IsSought layout t
@@ -341,11 +351,17 @@ copy_in_stripe layout t range table is h = lies_alone layout t.chunk range (by (
 
 -- the position of an address in a chunk with rows, and how far a block reaches in its element
 pub striped_position : (chunk : Chunk) (addr : ℕ) → is_striped chunk.profile ≡ true
-    → position chunk addr ≡ record { row = (addr - chunk.start) / 65536 / data_count chunk.profile (length chunk.stripes); index = (addr - chunk.start) / 65536 % data_count chunk.profile (length chunk.stripes); rest = (addr - chunk.start) % 65536 }
+    → position chunk addr ≡ record {
+      row = (addr - chunk.start) / 65536 / data_count chunk.profile (length chunk.stripes);
+      index = (addr - chunk.start) / 65536 % data_count chunk.profile (length chunk.stripes);
+      rest = (addr - chunk.start) % 65536;
+    }
 striped_position chunk addr striped = rw striped refl
 
 pub striped_fits : (chunk : Chunk) (addr len : ℕ) → is_striped chunk.profile ≡ true → crosses chunk addr len ≡ false → (addr - chunk.start) % 65536
     + len ≤ 65536
 striped_fits chunk addr len striped fine =
-    let both : (ltb (chunk.start + chunk.length) (addr + len) || true && ltb 65536 ((addr - chunk.start) % 65536 + len)) ≡ false = ap (λ b. ltb (chunk.start + chunk.length) (addr + len) || b && ltb 65536 ((addr - chunk.start) % 65536 + len)) (sym striped) ∙ fine in
-    ltb-false 65536 ((addr - chunk.start) % 65536 + len) (or_parts (ltb (chunk.start + chunk.length) (addr + len)) (ltb 65536 ((addr - chunk.start) % 65536 + len)) both).1
+    let both : (ltb (chunk.start + chunk.length) (addr + len) || true && ltb 65536 ((addr - chunk.start) % 65536 + len)) ≡ false =
+    ap (λ b. ltb (chunk.start + chunk.length) (addr + len) || b && ltb 65536 ((addr - chunk.start) % 65536 + len)) (sym striped) ∙ fine in
+    ltb-false 65536 ((addr - chunk.start) % 65536 + len) (or_parts (ltb (chunk.start + chunk.length) (addr + len))
+    (ltb 65536 ((addr - chunk.start) % 65536 + len)) both).1

@@ -1,5 +1,6 @@
 -- A place in a list of blocks.
-use Rattle.std.proofs.Common.{◌≡◌, ◌≢◌, ℕ, zero, suc, ◌+◌, ◌-◌, ◌*◌, ◌^◌, ◌<◌, ◌≤◌, List, [], ◌∷◌, ◌++◌, length, drop, slice_get, Option, Some, None, true, refl, sym}
+use Rattle.std.proofs.Common.{◌≡◌, ◌≢◌, ℕ, zero, suc, ◌+◌, ◌-◌, ◌*◌, ◌^◌, ◌<◌, ◌≤◌, List, [], ◌∷◌, ◌++◌, length, drop, slice_get, Option, Some, None}
+use Rattle.std.proofs.Common.{true, refl, sym}
 use Rattle.std.proofs.Common.{ap, ◌∙◌, append_assoc, subst, inl, inr, arith}
 use Rattle.std.proofs.Math.Nat.{suc-mul}
 use Rattle.std.proofs.lemmas.Bool.{cases_lt}
@@ -16,9 +17,10 @@ use Rattle.btr_scrub.specs.declared.run.RunKind.{RunKind}
 use Rattle.btr_scrub.specs.declared.run.RunKind.TheVariants.{TreeBlock, Sectors, Unsummed}
 use Rattle.btr_scrub.specs.declared.run.TreeMark.{TreeMark}
 use Rattle.btr_scrub.specs.BlocksInRows.{In}
-use Rattle.btr_scrub.specs.Listed.{AreRuns, GivesNext, IsNextPlain, IsPast, PassesFrom, PassesPlain, IsPlace, IsRun, Kept, StandsIn, all_sectors, all_trees, first_past, left_in, plains_from, plains_of}
+use Rattle.btr_scrub.specs.Listed.{AreRuns, GivesNext, IsNextPlain, IsPast, PassesFrom, PassesPlain, IsPlace, IsRun, Kept, StandsIn, all_sectors}
+use Rattle.btr_scrub.specs.Listed.{all_trees, first_past, left_in, plains_from, plains_of}
 use Rattle.btr_scrub.specs.Listed.{run_left, run_wants, sectors_from, sectors_of, sums_past, trees_of, wants_left, wants_of}
-use Rattle.btr_scrub.proofs.Listing.{times_sum}
+use Rattle.btr_scrub.proofs.Listing.{times_sum, plains_both}
 use Rattle.btr_scrub.proofs.Firsts.{drop_one}
 
 -- a list from a place on
@@ -89,7 +91,8 @@ module _ (kind : SumKind) where
         ap (λ k. run_left kind run.addr k past sums (mark ∷ ms)
         ++ wants_of kind runs (drop ((sectors_of k - past) * size) sums) (drop (trees_of k) (mark ∷ ms))) e
         ∙ ap (λ n. Tree run.addr mark.generation mark.level ∷ wants_of kind runs (drop n sums) ms) no_bytes in
-        let more : wants_of kind runs sums ms ≡ wants_left kind runs past sums ms = sym (left_start runs sums ms) ∙ ap (λ n. wants_left kind runs n sums ms) (sym zero_past) in
+        let more : wants_of kind runs sums ms ≡ wants_left kind runs past sums ms =
+        sym (left_start runs sums ms) ∙ ap (λ n. wants_left kind runs n sums ms) (sym zero_past) in
         let count : all_sectors (run ∷ runs) ≡ all_sectors runs = ap (λ n. n + all_sectors runs) none ∙ omega arith in (
           left ∙ ap (λ q. Tree run.addr mark.generation mark.level ∷ q) more,
           record {
@@ -179,7 +182,8 @@ module _ (kind : SumKind) where
           let less : past + 1 + 1 ≤ n = omega (arith, one_left, h) in
           let a : sectors_of run.kind ≡ n = ap sectors_of e in
           let times = times_sum past 1 size in
-          let all : all_sectors (run ∷ runs) * size ≡ n * size + all_sectors runs * size = ap (λ k. (sectors_of k + all_sectors runs) * size) e ∙ times_sum n (all_sectors runs) size in (
+          let all : all_sectors (run ∷ runs) * size ≡ n * size + all_sectors runs * size =
+          ap (λ k. (sectors_of k + all_sectors runs) * size) e ∙ times_sum n (all_sectors runs) size in (
             left_is ∙ ap (λ k. Sector (run.addr + past * 4096) (stored_sum kind sums) ∷
                 (run_left kind run.addr k (past + 1) (drop size sums) ms
                 ++ wants_of kind runs (drop ((sectors_of k - (past + 1)) * size) (drop size sums)) (drop (trees_of k) ms))) (sym e),
@@ -191,19 +195,9 @@ module _ (kind : SumKind) where
             },
           )
 
--- sectors without a checksum, in two parts
-plains_split : (d m addr : ℕ) → plains_from addr (d + m) ≡ plains_from addr d ++ plains_from (addr + d * 4096) m
-plains_split zero m addr =
-    let none : 0 + m ≡ m = omega arith in
-    let here : addr ≡ addr + 0 * 4096 = omega arith in
-    ap (plains_from addr) none ∙ ap (λ a. plains_from a m) here
-plains_split (suc d) m addr =
-    let behind : addr + 4096 + d * 4096 ≡ addr + suc d * 4096 = omega arith in
-    let more : suc d + m ≡ suc (d + m) = omega arith in
-    ap (plains_from addr) more ∙ ap (λ ws. Plain addr ∷ ws) (plains_split d m (addr + 4096)) ∙ ap (λ a. Plain addr ∷ (plains_from (addr + 4096) d ++ plains_from a m)) behind
-
 -- the first run has sectors without a checksum, of which d more are past
-module _ (kind : SumKind) (run : Run) (runs : List Run) (past : ℕ) (sums : List ℕ) (n : ℕ) (ms : List TreeMark) (e : run.kind ≡ Unsummed n) (p : IsPlace kind (run ∷ runs) past sums ms) where
+module _ (kind : SumKind) (run : Run) (runs : List Run) (past : ℕ) (sums : List ℕ) (n : ℕ) (ms : List TreeMark) (e : run.kind ≡ Unsummed n)
+    (p : IsPlace kind (run ∷ runs) past sums ms) where
   plain_left : past + 1 ≤ n
   plain_left =
       let a : sectors_of run.kind ≡ 0 = ap sectors_of e in
@@ -235,7 +229,8 @@ module _ (kind : SumKind) (run : Run) (runs : List Run) (past : ℕ) (sums : Lis
       ∙ ap (λ q. wants_of kind runs (drop q sums) ms) no_bytes
 
   plains_here : wants_left kind (run ∷ runs) past sums ms ≡ plains_from (run.addr + past * 4096) (n - past) ++ wants_of kind runs sums ms
-  plains_here = ap (λ ws. run_left kind run.addr run.kind past sums ms ++ ws) behind_run ∙ ap (λ k. run_left kind run.addr k past sums ms ++ wants_of kind runs sums ms) e
+  plains_here = ap (λ ws. run_left kind run.addr run.kind past sums ms ++ ws) behind_run
+      ∙ ap (λ k. run_left kind run.addr k past sums ms ++ wants_of kind runs sums ms) e
 
   -- all that it has
   plain_last : (d : ℕ) → past + d ≡ n
@@ -264,11 +259,12 @@ module _ (kind : SumKind) (run : Run) (runs : List Run) (past : ℕ) (sums : Lis
       let place : IsPlace kind (run ∷ runs) (past + d) sums ms = record {
         is_past = omega (arith, h, c);
         runs_fit = p.runs_fit;
-        sums_fit = ap (λ k. length sums + sums_past k (past + d) * sum_size kind) e ∙ sym (ap (λ k. length sums + sums_past k past * sum_size kind) e) ∙ p.sums_fit;
+        sums_fit = ap (λ k. length sums + sums_past k (past + d) * sum_size kind) e ∙ sym (ap (λ k. length sums + sums_past k past * sum_size kind) e)
+            ∙ p.sums_fit;
         marks_fit = p.marks_fit;
       } in (
         plains_here ∙ ap (λ q. plains_from (run.addr + past * 4096) q ++ wants_of kind runs sums ms) all
-            ∙ ap (λ ws. ws ++ wants_of kind runs sums ms) (plains_split d rest (run.addr + past * 4096))
+            ∙ ap (λ ws. ws ++ wants_of kind runs sums ms) (plains_both d rest (run.addr + past * 4096))
             ∙ append_assoc (plains_from (run.addr + past * 4096) d) (plains_from (run.addr + past * 4096 + d * 4096) rest) (wants_of kind runs sums ms)
             ∙ ap (λ a. plains_from (run.addr + past * 4096) d ++ (plains_from a rest ++ wants_of kind runs sums ms)) there
             ∙ ap (λ ws. plains_from (run.addr + past * 4096) d ++ ws) (sym later),
@@ -335,7 +331,8 @@ module _ (kept : Kept) (run past sum mark : ℕ) where
         × StandsIn kept (run + 1) past sum (mark + 1)
     at_tree m e is =
         let marks = drop_one kept.marks mark m is in
-        let t = tree_left kept.kind r (drop (run + 1) kept.runs) past (drop sum kept.sums) m (drop (mark + 1) kept.marks) e (subst (λ q. IsPlace kept.kind (r ∷ drop (run + 1) kept.runs) past (drop sum kept.sums) q) marks place) in
+        let t = tree_left kept.kind r (drop (run + 1) kept.runs) past (drop sum kept.sums) m (drop (mark + 1) kept.marks) e
+        (subst (λ q. IsPlace kept.kind (r ∷ drop (run + 1) kept.runs) past (drop sum kept.sums) q) marks place) in
         (left_here ∙ ap (λ q. wants_left kept.kind (r ∷ drop (run + 1) kept.runs) past (drop sum kept.sums) q) marks ∙ t.0, t.1)
 
     module _ (n : ℕ) (e : r.kind ≡ Sectors n) where
@@ -357,7 +354,8 @@ module _ (kept : Kept) (run past sum mark : ℕ) where
           (sum + size) mark) × StandsIn kept (run + 1) 0 (sum + size) mark
       at_last h size is =
           let t = last_left kept.kind r (drop (run + 1) kept.runs) past (drop sum kept.sums) n (drop mark kept.marks) e place h in
-          let bytes : drop (sum_size kept.kind) (drop sum kept.sums) ≡ drop (sum + size) kept.sums = drop-drop (sum_size kept.kind) sum kept.sums ∙ ap (λ q. drop (sum + q) kept.sums) (sym is) in (
+          let bytes : drop (sum_size kept.kind) (drop sum kept.sums) ≡ drop (sum + size) kept.sums =
+          drop-drop (sum_size kept.kind) sum kept.sums ∙ ap (λ q. drop (sum + q) kept.sums) (sym is) in (
             left_here ∙ t.0 ∙ ap (λ q. Sector (r.addr + past * 4096) (stored_sum kept.kind (drop sum kept.sums)) ∷ wants_left kept.kind
                 (drop (run + 1) kept.runs) 0 q (drop mark kept.marks)) bytes,
             subst (λ q. IsPlace kept.kind (drop (run + 1) kept.runs) 0 q (drop mark kept.marks)) bytes t.1,
@@ -368,7 +366,8 @@ module _ (kept : Kept) (run past sum mark : ℕ) where
           (sum + size) mark) × StandsIn kept run (past + 1) (sum + size) mark
       at_next h size is =
           let t = next_left kept.kind r (drop (run + 1) kept.runs) past (drop sum kept.sums) n (drop mark kept.marks) e place h in
-          let bytes : drop (sum_size kept.kind) (drop sum kept.sums) ≡ drop (sum + size) kept.sums = drop-drop (sum_size kept.kind) sum kept.sums ∙ ap (λ q. drop (sum + q) kept.sums) (sym is) in (
+          let bytes : drop (sum_size kept.kind) (drop sum kept.sums) ≡ drop (sum + size) kept.sums =
+          drop-drop (sum_size kept.kind) sum kept.sums ∙ ap (λ q. drop (sum + q) kept.sums) (sym is) in (
             left_here ∙ t.0 ∙ ap (λ q. Sector (r.addr + past * 4096) (stored_sum kept.kind (drop sum kept.sums)) ∷ wants_left kept.kind
                 (r ∷ drop (run + 1) kept.runs) (past + 1) q (drop mark kept.marks)) bytes
                 ∙ ap (λ q. Sector (r.addr + past * 4096) (stored_sum kept.kind (drop sum kept.sums)) ∷ wants_left kept.kind q (past + 1)
@@ -378,7 +377,8 @@ module _ (kept : Kept) (run past sum mark : ℕ) where
           )
 
 -- a reader that stands in a run of sectors without a checksum
-module _ (kept : Kept) (run past sum mark : ℕ) (stands : StandsIn kept run past sum mark) (r : Run) (there : slice_get kept.runs run ≡ Some r) (n : ℕ) (e : r.kind ≡ Unsummed n) where
+module _ (kept : Kept) (run past sum mark : ℕ) (stands : StandsIn kept run past sum mark) (r : Run) (there : slice_get kept.runs run ≡ Some r) (n : ℕ)
+    (e : r.kind ≡ Unsummed n) where
   abbrev behind : List Run
   behind = drop (run + 1) kept.runs
 

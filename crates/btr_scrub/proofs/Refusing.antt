@@ -1,5 +1,5 @@
 -- The first block of a list that has no position, or isn't behind the one before it.
-use Rattle.std.proofs.Common.{ℕ, ◌+◌, List, [], ◌∷◌, inl, inr, arith}
+use Rattle.std.proofs.Common.{ℕ, ◌+◌, List, [], ◌∷◌, inl, inr, arith, ◌++◌, subst}
 use Rattle.btr_read.specs.Fate.{Unmapped, Crosses, sought}
 use Rattle.btr_read.specs.Layout.{Layout}
 use Rattle.btr_read.specs.Want.{addr_of, len_of}
@@ -7,7 +7,7 @@ use Rattle.btr_read.specs.declared.want.Want.{Want}
 use Rattle.btr_walk.specs.declared.fault.TreeFault.{TreeFault}
 use Rattle.btr_walk.specs.declared.fault.TreeFault.TheVariants as tree
 use Rattle.btr_scrub.specs.Judging.{BeginsFrom, IsFirstRefused, IsRefused}
-use Rattle.btr_scrub.specs.Order.{AreApart}
+use Rattle.btr_scrub.specs.Order.{AreApart, AreUpTo}
 use Rattle.btr_scrub.proofs.Placing.{not_ok}
 
 module _ (layout : Layout) where
@@ -31,3 +31,14 @@ module _ (layout : Layout) where
   refused_one end [] fault r = absurd r
   refused_one end (want ∷ wants) fault (inl here) = (end, (want, here))
   refused_one end (want ∷ wants) fault (inr later) = refused_one (addr_of want + len_of layout.setting want) wants fault later.1
+
+  -- blocks one behind another, and others behind them
+  pub upto_more : (a b c : ℕ) (xs ys : List Want) → AreUpTo layout a b xs → AreUpTo layout b c ys → AreUpTo layout a c (xs ++ ys)
+  upto_more a b c [] ys h g = subst (λ n. AreUpTo layout n c ys) h g
+  upto_more a b c (x ∷ xs) ys h g = (h.0, h.1, upto_more (addr_of x + len_of layout.setting x) b c xs ys h.2 g)
+
+  -- a block that is refused is so behind others
+  pub refused_behind : (a b : ℕ) (xs ys : List Want) (f : TreeFault) → AreUpTo layout a b xs → IsFirstRefused layout b ys f → IsFirstRefused layout a
+      (xs ++ ys) f
+  refused_behind a b [] ys f h r = subst (λ n. IsFirstRefused layout n ys f) h r
+  refused_behind a b (x ∷ xs) ys f h r = inr ((h.0, h.1), refused_behind (addr_of x + len_of layout.setting x) b xs ys f h.2 r)

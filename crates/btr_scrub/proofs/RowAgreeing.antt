@@ -1,7 +1,7 @@
 -- What is written for a full stripe hangs on the bytes of its elements alone.
-use Rattle.std.proofs.Common.{◌≡◌, ◌⊎◌, ℕ, ◌*◌, ◌<◌, Bool, false, not, cond, ◌&&◌, ◌||◌, eqb, List, [], ◌∷◌, ◌++◌, map, length, slice_get, set, Option, Some, None}
-use Rattle.std.proofs.Common.{IsNone, is_none, is_some, nat_lt, refl, sym, ap, ◌∙◌, subst, inl, inr}
-use Rattle.std.specs.List.{filter, filter_map, flat_map, fold, list_all, list_any, range_with_len}
+use Rattle.std.proofs.Common.{◌≡◌, ◌⊎◌, ℕ, ◌*◌, ◌<◌, Bool, false, not, cond, ◌&&◌, ◌||◌, eqb, List, [], ◌∷◌, ◌++◌, map, length, set, true, Some, None, IsNone}
+use Rattle.std.proofs.Common.{is_some, refl, sym, ap, ◌∙◌, subst, inl, inr}
+use Rattle.std.specs.List.{filter_map, flat_map, fold, list_all, list_any, range_with_len}
 use Rattle.std.specs.Option.{option_map, option_map_or}
 use Rattle.std.specs.Str.{bytes_eq}
 use Rattle.btr_chunk.specs.Chunk.{mirror_count, mirrors}
@@ -14,26 +14,30 @@ use Rattle.btr_chunk.proofs.Rows.{without_copies}
 use Rattle.btr_parity.specs.Slices.{parity_p, parity_q}
 use Rattle.btr_rack.specs.Rack.{pasted}
 use Rattle.btr_rack.specs.declared.place.Place.{Place as Range}
-use Rattle.btr_read.specs.Candidates.{Target, candidates, copies, element, others, reading, rebuilt, size_of, slice_count, slices, stands, value_of, ways}
+use Rattle.btr_read.specs.Candidates.{Target, candidates, element, size_of, slice_count, slices, value_of}
 use Rattle.btr_read.specs.Layout.{Layout}
 use Rattle.btr_read.specs.Solution.{byte_lists, the_one}
-use Rattle.btr_read.specs.Want.{passes}
 use Rattle.btr_read.specs.declared.candidate.Candidate.{Candidate}
 use Rattle.btr_read.specs.declared.candidate.Candidate.TheVariants.{Read, ByP, ByQ, ByBoth}
 use Rattle.btr_read.proofs.Ones.{in_below}
-use Rattle.btr_read.proofs.Order.{in_ways}
 use Rattle.btr_read.specs.Fate.{is_plain}
-use Rattle.btr_scrub_copies.specs.Blocks.{accepted, bad_parts, block_writes, is_sound, own_parts}
-use Rattle.btr_scrub_copies.specs.Fresh.{Failing, fresh, fresh_writes, stale_parts}
-use Rattle.btr_scrub_row.specs.Wanted.{is_checked, is_lost_block, mending_writes, new_bytes, renewed, wrong_parts}
-use Rattle.btr_scrub_copies.specs.Writes.{Images}
+use Rattle.btr_scrub_copies.specs.Blocks.{accepted, bad_parts, block_writes, own_parts}
+use Rattle.btr_scrub_copies.specs.Fresh.{Failing, fresh_writes, stale_parts, freshened}
+use Rattle.btr_scrub_row.specs.Wanted.{mending_writes, new_bytes, renewed}
+use Rattle.btr_scrub_copies.specs.Writes.{Images, Write}
 use Rattle.btr_scrub_row.specs.Rows as rows
-use Rattle.btr_scrub_row.specs.Rows.{Row, blocks_at, column_of, differing, differs, element_with, is_decided, is_sure, is_surer, meets, parities, parity_writes, range_in_element}
-use Rattle.btr_scrub_row.specs.Rows.{row_writes, sector_write, slice_with, slices_with, with_block}
+use Rattle.btr_scrub_row.specs.Rows.{Row, blocks_at, column_of, differing, differs, element_with, is_decided, is_sure, is_surer, meets, parities, parity_writes}
+use Rattle.btr_scrub_row.specs.Rows.{range_in_element, row_writes, sector_write, slice_with, slices_with, with_block}
 use Rattle.btr_scrub.specs.BlocksInRows.{In}
-use Rattle.btr_scrub.proofs.Agreeing.{Alike, filter_map_same, filter_same, fresh_same, fresh_writes_same, stale_same, writes_alike}
+use Rattle.btr_scrub.proofs.Agreeing.{filter_map_same, filter_same, SiteAlike, site_alike}
 use Rattle.btr_scrub.proofs.Survival.{of_filter}
-use Rattle.btr_scrub.proofs.Lists.{of_mapped}
+use Rattle.btr_scrub.proofs.Lists.{mapped, of_filter_map}
+use Rattle.btr_scrub.proofs.OwnPlaces.{own_slice}
+use Rattle.btr_scrub.specs.Scrubbing.{counted, counted_plain}
+use Rattle.btr_scrub_copies.specs.Mending.{mended_of}
+use Rattle.btr_scrub_copies.proofs.Syncs.{passing_filter}
+use Rattle.std.proofs.lemmas.Bool.{and_parts}
+use Rattle.btr_scrub.proofs.RowValues.{each_candidate}
 
 -- ---- lists
 
@@ -49,18 +53,23 @@ pub fold_same : {X Y : Type 0} (f g : Y → X → Y) (xs : List X) (y : Y) → (
 fold_same f g [] y h = refl
 fold_same f g (x ∷ xs) y h = ap (λ z. fold f z xs) (h x (inl refl) y) ∙ fold_same f g xs (g y x) (λ z i. h z (inr i))
 
+-- the same of those that are made of a list
+pub flat_mapped : {X Y Z : Type 0} (f f' : Y → List Z) (g h : X → Y) (xs : List X) → ((x : X) → In x xs → f (g x) ≡ f' (h x))
+    → flat_map f (map g xs) ≡ flat_map f' (map h xs)
+flat_mapped f f' g h [] e = refl
+flat_mapped f f' g h (x ∷ xs) e =
+    ap (λ zs. zs ++ flat_map f (map g xs)) (e x (inl refl)) ∙ ap (λ zs. f' (h x) ++ zs) (flat_mapped f f' g h xs (λ y i. e y (inr i)))
+
+pub fold_mapped : {X Y Z : Type 0} (f f' : Z → Y → Z) (g h : X → Y) (xs : List X) (z : Z) → ((x : X) → In x xs → (z : Z) → f z (g x) ≡ f' z (h x))
+    → fold f z (map g xs) ≡ fold f' z (map h xs)
+fold_mapped f f' g h [] z e = refl
+fold_mapped f f' g h (x ∷ xs) z e = ap (λ y. fold f y (map g xs)) (e x (inl refl) z) ∙ fold_mapped f f' g h xs (f' z (h x)) (λ y i. e y (inr i))
+
 all_same : {X : Type 0} (f g : X → Bool) (xs : List X) → ((x : X) → In x xs → f x ≡ g x) → list_all f xs ≡ list_all g xs
 all_same f g [] h = refl
 all_same f g (x ∷ xs) h = ap (λ b. b && list_all f xs) (h x (inl refl)) ∙ ap (λ b. g x && b) (all_same f g xs (λ y i. h y (inr i)))
 
 -- ---- one block
-
--- what comes of a block of a row is the same, in other images and beside others that fail
-pub record BlockAlike (fails also : Failing) (images images' : Images) (t : Target) : Type 0 where
-  pub writes : mending_writes images' also t ≡ mending_writes images fails t
-  pub wrong : wrong_parts images' also t ≡ wrong_parts images fails t
-  pub bytes : new_bytes images' also t ≡ new_bytes images fails t
-  pub lost : is_lost_block images' t ≡ is_lost_block images t
 
 module _ (images images' : Images) (t : Target) (none : mirrors t.chunk ≡ None) (index : t.at.index < slice_count t)
     (same : (part : Part) → HasPart t.chunk.profile (length t.chunk.stripes) part → element images' t part ≡ element images t part) where
@@ -100,67 +109,15 @@ module _ (images images' : Images) (t : Target) (none : mirrors t.chunk ≡ None
         ∙ ap (λ q. the_one (size_of t) (λ X. list_any (λ Y. bytes_eq (parity_p (size_of t) (set (set (slices images t) j Y) t.at.index X))
         (element images t part.P) && bytes_eq (parity_q (size_of t) (set (set (slices images t) j Y) t.at.index X)) q) (byte_lists (size_of t)))) same_q)
 
-  all : (o : Option ℕ) → mirrors t.chunk ≡ o → ways t ≡ option_map_or copies o (rebuilt t.chunk.profile (slice_count t) t.at.index)
-  all o e = ap (λ o. option_map_or copies o (rebuilt t.chunk.profile (slice_count t) t.at.index)) e
-
-  with_five : t.chunk.profile ≡ Raid5 → (c : Candidate) → In c (rebuilt Raid5 (slice_count t) t.at.index) → value_of images' t c ≡ value_of images t c
-  with_five five c (inl e) = subst (λ d. value_of images' t d ≡ value_of images t d) e own_value
-  with_five five c (inr (inl e)) = subst (λ d. value_of images' t d ≡ value_of images t d) e p_value
-  with_five five c (inr (inr i)) = absurd i
-
-  with_six : t.chunk.profile ≡ Raid6 → (c : Candidate) → In c (rebuilt Raid6 (slice_count t) t.at.index) → value_of images' t c ≡ value_of images t c
-  with_six six c (inl e) = subst (λ d. value_of images' t d ≡ value_of images t d) e own_value
-  with_six six c (inr (inl e)) = subst (λ d. value_of images' t d ≡ value_of images t d) e p_value
-  with_six six c (inr (inr (inl e))) = subst (λ d. value_of images' t d ≡ value_of images t d) e (q_value six)
-  with_six six c (inr (inr (inr i))) =
-      let r = of_mapped ByBoth c (others (slice_count t) t.at.index) i in
-      subst (λ d. value_of images' t d ≡ value_of images t d) r.2 (both_value six r.0)
-
   pub values : (c : Candidate) → In c (candidates t) → value_of images' t c ≡ value_of images t c
-  values c i = elim (without_copies t.chunk.profile (length t.chunk.stripes) none) [
-    | inl five ↦ with_five five c (subst (λ p. In c (rebuilt p (slice_count t) t.at.index)) five (subst (In c) (all None none) (in_ways t c i)))
-    | inr six ↦ with_six six c (subst (λ p. In c (rebuilt p (slice_count t) t.at.index)) six (subst (In c) (all None none) (in_ways t c i)))
-  ]
-
-  own : own_parts t ≡ part.Slice t.at.index ∷ []
-  own = ap (λ o. option_map_or (λ copies. map part.Mirror (range_with_len 0 copies)) o (part.Slice t.at.index ∷ [])) none
-
-  bads : (q : Part) → In q (part.Slice t.at.index ∷ []) → not (is_sound images' t q) ≡ not (is_sound images t q)
-  bads q (inl e) = subst (λ q. not (is_sound images' t q) ≡ not (is_sound images t q)) e
-      (ap (λ bytes. not (passes t.setting t.want bytes)) (same (part.Slice t.at.index) (slice_has t.at.index index)))
-  bads q (inr i) = absurd i
-
-  reads : (c : Candidate) → In c (candidates t) → reading images' t c ≡ reading images t c
-  reads c i = ap (λ bytes. cond (stands t c) (Some bytes) None) (values c i)
-
-  alike : Alike images images' t
-  alike = record {
-    bad = filter_same (λ q. not (is_sound images' t q)) (λ q. not (is_sound images t q)) (own_parts t) (λ q i. bads q (subst (In q) own i));
-    accepted = ap (λ xs. slice_get (filter (passes t.setting t.want) xs) 0) (filter_map_same (reading images' t) (reading images t) (candidates t) reads);
-  }
+  values = each_candidate t none index (λ c. value_of images' t c ≡ value_of images t c) own_value p_value q_value (λ six j lt ne. both_value six j)
 
   owns : (q : Part) → In q (own_parts t) → element images' t q ≡ element images t q
-  owns q i = by q (subst (In q) own i)
-    where
-      by : (q : Part) → In q (part.Slice t.at.index ∷ []) → element images' t q ≡ element images t q
-      by q (inl e) = subst (λ q. element images' t q ≡ element images t q) e (same (part.Slice t.at.index) (slice_has t.at.index index))
-      by q (inr i) = absurd i
+  owns q i = subst (λ q. element images' t q ≡ element images t q) (own_slice t q none i) (same (part.Slice t.at.index) (slice_has t.at.index index))
 
   -- a block whose slices and parities are the same
-  pub parity_alike : (fails : Failing) → BlockAlike fails fails images images' t
-  parity_alike fails =
-      let p = is_plain t.want in
-      let fresh' = fresh_same images images' t values owns fails in
-      let stale = stale_same images images' t values owns fails in
-      record {
-        writes = ap (λ w. cond p w (block_writes images' t)) (fresh_writes_same images images' t values owns fails)
-            ∙ ap (λ w. cond p (fresh_writes images fails t) w) (writes_alike images images' t alike);
-        wrong = ap (λ ps. cond p ps (bad_parts images' t)) stale ∙ ap (λ ps. cond p (stale_parts images fails t) ps) alike.bad;
-        bytes = ap (λ ps. cond p (cond (nat_lt 0 (length ps)) (fresh images' fails t) None) (accepted images' t)) stale
-            ∙ ap (λ o. cond p (cond (nat_lt 0 (length (stale_parts images fails t))) o None) (accepted images' t)) fresh'
-            ∙ ap (λ o. cond p (renewed images fails t) o) alike.accepted;
-        lost = ap (λ o. is_checked t && is_none o) alike.accepted;
-      }
+  pub parity_alike : (fails : Failing) → SiteAlike fails fails images images' t
+  parity_alike = site_alike images images' t values owns
 
 -- ---- a row
 
@@ -180,16 +137,43 @@ parity_has p n q none i = elim (without_copies p n none) [
     with_two (inr (inl e)) = subst (λ q. HasPart Raid6 n q × ((q ≡ part.P) ⊎ (q ≡ part.Q))) e (refl, inr refl)
     with_two (inr (inr h)) = absurd h
 
+-- a write for a parity is that of a column that is decided and differs, with the bytes that it should have
+pub record IsSector (images : Images) (layout : Layout) (row : Row) (q : Part) (w : Write) : Type 0 where
+  pub column : ℕ
+  pub few : column < 16
+  pub decided : is_decided images layout row column ≡ true
+  pub differs : differs images layout row q column ≡ true
+  pub range : range_in_element layout row q (column * 4096) 4096 ≡ Some w.range
+  pub bytes : column_of column (element_with images layout (new_bytes images row.failing) row q) ≡ w.bytes
+
+pub is_sector : (images : Images) (layout : Layout) (row : Row) (q : Part) (w : Write) → In w (parity_writes images layout row q)
+    → IsSector images layout row q w
+is_sector images layout row q w i =
+    let f = of_filter_map (sector_write images layout row q) w (differing images layout row q) i in
+    let d = passing_filter (λ column. is_decided images layout row column && differs images layout row q column) f.0 (range_with_len 0 16) f.1 in
+    let both = and_parts (is_decided images layout row f.0) (differs images layout row q f.0) d.1 in
+    let m = mapped (λ (range : Range). record { range = range; bytes = column_of f.0 (element_with images layout (new_bytes images row.failing) row q) })
+    (range_in_element layout row q (f.0 * 4096) 4096) w f.2 in
+    record {
+      column = f.0;
+      few = in_below 16 f.0 d.0;
+      decided = both.0;
+      differs = both.1;
+      range = m.1 ∙ ap Some (ap (λ (v : Write). v.range) m.2);
+      bytes = ap (λ (v : Write). v.bytes) m.2;
+    }
+
 -- a row, beside other images that fail
 abbrev pub beside : Failing → Row → Row
 beside also row = record { chunk = row.chunk; number = row.number; blocks = row.blocks; failing = also }
 
 -- what is told of a row
 pub record RowAlike (images images' : Images) (layout : Layout) (row : Row) (also : Failing) : Type 0 where
-  pub blocks : (t : Target) → In t row.blocks → BlockAlike row.failing also images images' t
+  pub blocks : (t : Target) → In t row.blocks → SiteAlike row.failing also images images' t
   pub parities : (q : Part) → In q (parities row.chunk.profile) → parity_writes images' layout (beside also row) q ≡ parity_writes images layout row q
 
-pub row_writes_alike : (images images' : Images) (layout : Layout) (row : Row) (also : Failing) → RowAlike images images' layout row also → row_writes images' layout (beside also row)
+pub row_writes_alike : (images images' : Images) (layout : Layout) (row : Row) (also : Failing) → RowAlike images images' layout row also
+    → row_writes images' layout (beside also row)
     ≡ row_writes images layout row
 row_writes_alike images images' layout row also a =
     ap (λ ws. ws ++ flat_map (parity_writes images' layout (beside also row)) (parities row.chunk.profile))
@@ -198,14 +182,16 @@ row_writes_alike images images' layout row also a =
     (flat_same (parity_writes images' layout (beside also row)) (parity_writes images layout row) (parities row.chunk.profile) a.parities)
 
 module _ (images images' : Images) (layout : Layout) (row : Row) (also : Failing) (none : mirrors row.chunk ≡ None)
-    (same : (q : Part) → HasPart row.chunk.profile (length row.chunk.stripes) q → rows.element images' layout (beside also row) q ≡ rows.element images layout row q)
-    (blocks : (t : Target) → In t row.blocks → BlockAlike row.failing also images images' t)
+    (same : (q : Part) → HasPart row.chunk.profile (length row.chunk.stripes) q
+    → rows.element images' layout (beside also row) q ≡ rows.element images layout row q)
+    (blocks : (t : Target) → In t row.blocks → SiteAlike row.failing also images images' t)
     (sures : (t : Target) → In t row.blocks → is_sure images' layout (beside also row) t ≡ is_sure images layout row t) where
   given_same : (t : Target) → In t row.blocks → (bytes : List ℕ) → with_block images' layout (new_bytes images' also) bytes t
       ≡ with_block images layout (new_bytes images row.failing) bytes t
   given_same t i bytes = ap (λ o. option_map_or (pasted bytes t.at.rest) o bytes) (blocks t i).bytes
 
-  slice_same : (k : ℕ) → k < rows.slice_count row → slice_with images' layout (new_bytes images' also) row k ≡ slice_with images layout (new_bytes images row.failing) row k
+  slice_same : (k : ℕ) → k < rows.slice_count row → slice_with images' layout (new_bytes images' also) row k
+      ≡ slice_with images layout (new_bytes images row.failing) row k
   slice_same k lt =
       ap (λ bytes. fold (with_block images' layout (new_bytes images' also)) bytes (blocks_at row k)) (same (part.Slice k) (subst IsNone (sym none) refl, lt))
       ∙ fold_same (with_block images' layout (new_bytes images' also)) (with_block images layout (new_bytes images row.failing)) (blocks_at row k)
@@ -217,9 +203,11 @@ module _ (images images' : Images) (layout : Layout) (row : Row) (also : Failing
 
   with_same : (q : Part) → (q ≡ part.P) ⊎ (q ≡ part.Q) → element_with images' layout (new_bytes images' also) row q
       ≡ element_with images layout (new_bytes images row.failing) row q
-  with_same q (inl e) = subst (λ q. element_with images' layout (new_bytes images' also) row q ≡ element_with images layout (new_bytes images row.failing) row q) (sym e)
+  with_same q (inl e) =
+      subst (λ q. element_with images' layout (new_bytes images' also) row q ≡ element_with images layout (new_bytes images row.failing) row q) (sym e)
       (ap (parity_p 65536) slices_same)
-  with_same q (inr e) = subst (λ q. element_with images' layout (new_bytes images' also) row q ≡ element_with images layout (new_bytes images row.failing) row q) (sym e)
+  with_same q (inr e) =
+      subst (λ q. element_with images' layout (new_bytes images' also) row q ≡ element_with images layout (new_bytes images row.failing) row q) (sym e)
       (ap (parity_q 65536) slices_same)
 
   decided_same : (column : ℕ) → is_decided images' layout (beside also row) column ≡ is_decided images layout row column
@@ -242,7 +230,8 @@ module _ (images images' : Images) (layout : Layout) (row : Row) (also : Failing
       (λ column _. ap (λ b. b && differs images' layout (beside also row) q column) (decided_same column)
       ∙ ap (λ b. is_decided images layout row column && b) (differ column)))
       ∙ filter_map_same (sector_write images' layout (beside also row) q) (sector_write images layout row q) (differing images layout row q)
-      (λ column _. ap (λ xs. option_map (λ (range : Range). record { range = range; bytes = column_of column xs }) (range_in_element layout row q (column * 4096) 4096)) wanted)
+      (λ column _. ap (λ xs. option_map (λ (range : Range). record { range = range; bytes = column_of column xs })
+      (range_in_element layout row q (column * 4096) 4096)) wanted)
 
   -- a row whose elements and blocks are the same
   pub row_alike : RowAlike images images' layout row also
@@ -256,12 +245,16 @@ sure_same images images' layout row t e = ap (λ o. is_some o || is_plain t.want
 -- ---- beside other images that fail
 
 -- what comes of a checked block doesn't hang on them
-checked_alike : (fails also : Failing) (images : Images) (t : Target) → is_plain t.want ≡ false → BlockAlike fails also images images t
+pub checked_alike : (fails also : Failing) (images : Images) (t : Target) → is_plain t.want ≡ false → SiteAlike fails also images images t
 checked_alike fails also images t e = record {
-  writes = ap (λ b. cond b (fresh_writes images also t) (block_writes images t)) e ∙ sym (ap (λ b. cond b (fresh_writes images fails t) (block_writes images t)) e);
+  writes = ap (λ b. cond b (fresh_writes images also t) (block_writes images t)) e
+      ∙ sym (ap (λ b. cond b (fresh_writes images fails t) (block_writes images t)) e);
   wrong = ap (λ b. cond b (stale_parts images also t) (bad_parts images t)) e ∙ sym (ap (λ b. cond b (stale_parts images fails t) (bad_parts images t)) e);
   bytes = ap (λ b. cond b (renewed images also t) (accepted images t)) e ∙ sym (ap (λ b. cond b (renewed images fails t) (accepted images t)) e);
   lost = refl;
+  counts = λ write tally.
+      ap (λ b. cond b (counted_plain tally (freshened images also t write)) (counted tally (mended_of images t write))) e
+      ∙ sym (ap (λ b. cond b (counted_plain tally (freshened images fails t write)) (counted tally (mended_of images t write))) e);
 }
 
 -- so what comes of a row without plain sectors doesn't either

@@ -1,7 +1,7 @@
 -- Which rows a chunk with parity has, and in which one a block lies.
-use Rattle.std.proofs.Common.{◌≡◌, ◌⊎◌, ℕ, zero, suc, ◌+◌, ◌-◌, ◌*◌, ◌/◌, ◌%◌, ◌<◌, ◌≤◌, Bool, true, false, cond, ◌&&◌, eqb, leb, ltb, List, [], ◌∷◌, ◌++◌, map}
-use Rattle.std.proofs.Common.{length, slice_get, Some, None, is_none, Ok, refl, sym, ap, ◌∙◌, subst, inl, inr, arith}
-use Rattle.std.proofs.lemmas.Bool.{and_parts, cases_order, eqb-true, leb-true, ltb-true, and_from, le-leb, lt-ltb}
+use Rattle.std.proofs.Common.{◌≡◌, ℕ, zero, suc, ◌+◌, ◌-◌, ◌*◌, ◌/◌, ◌%◌, ◌<◌, ◌≤◌, Bool, true, false, cond, ◌&&◌, eqb, List, [], ◌∷◌, ◌++◌, map, length}
+use Rattle.std.proofs.Common.{slice_get, Some, None, is_none, Ok, refl, sym, ap, ◌∙◌, subst, inl, inr, arith}
+use Rattle.std.proofs.lemmas.Bool.{eqb-true}
 use Rattle.std.proofs.lemmas.List.{map-append}
 use Rattle.std.proofs.lemmas.Nat.{le-div}
 use Rattle.std.proofs.Math.Nat.{div-mul-le_self}
@@ -14,7 +14,6 @@ use Rattle.btr_chunk.specs.declared.chunk.Chunk.{Chunk}
 use Rattle.btr_chunk.specs.declared.position.Elements.{Elements}
 use Rattle.btr_chunk.proofs.Rows.{without_copies}
 use Rattle.btr_chunk.proofs.Rule.{data_count-some, element_inside, facts}
-use Rattle.btr_chunk.proofs.Searches.{find-first}
 use Rattle.btr_read.specs.Candidates.{Target}
 use Rattle.btr_read.specs.Fate.{sought}
 use Rattle.btr_read.specs.Layout.{Layout}
@@ -26,9 +25,12 @@ use Rattle.btr_scrub.specs.BlocksInRows.{In}
 use Rattle.btr_scrub.specs.Order.{AreApart, IsSought}
 use Rattle.btr_scrub.specs.Repair.{is_in_chunk, is_in_row, row_of, rows_in}
 use Rattle.btr_scrub.specs.Rowing.{row_in}
-use Rattle.btr_scrub.proofs.Blockwise.{chunk_same, ok_of}
-use Rattle.btr_scrub.proofs.Positions.{is_sought, striped_position}
+use Rattle.btr_scrub.proofs.Blockwise.{chunk_same, ok_of, with_one_start}
+use Rattle.btr_scrub.proofs.Positions.{is_sought, striped_position, bounds_of}
 use Rattle.btr_scrub_copies.specs.Fresh.{Failing}
+use Rattle.btr_scrub.proofs.Placed.{chunk_there}
+use Rattle.btr_scrub.proofs.Lists.{of_mapped}
+use Rattle.btr_read.proofs.Ones.{in_below}
 
 -- ---- numbers from one on
 
@@ -94,11 +96,17 @@ rows_split kept ts chunk q n le =
     ∙ map-append (row_of kept ts chunk) (range_with_len 0 q) (range_with_len (0 + q) (n - q))
     ∙ ap (λ k. rows_to kept ts chunk q ++ map (row_of kept ts chunk) (range_with_len k (n - q))) from_q
 
+-- what holds of each of them
+pub each_row : (kept : Failing) (ts : List Target) (chunk : Chunk) (n : ℕ) (P : Row → Type 0) → ((k : ℕ) → k < n → P (row_of kept ts chunk k)) → (row : Row)
+    → In row (rows_to kept ts chunk n) → P row
+each_row kept ts chunk n P h row i = let k = of_mapped (row_of kept ts chunk) row (range_with_len 0 n) i in subst P k.2 (h k.0 (in_below n k.0 k.1))
+
 pub all_rows : (kept : Failing) (ts : List Target) (chunk : Chunk) → mirrors chunk ≡ None → rows_in kept ts chunk
     ≡ rows_to kept ts chunk (stripe_length chunk / 65536)
 all_rows kept ts chunk parity = ap (λ o. cond (is_none o) (rows_to kept ts chunk (stripe_length chunk / 65536)) []) parity
 
-module _ (layout : Layout) (table : IsTable layout.chunks) (number : ℕ) (chunk : Chunk) (there : slice_get layout.chunks number ≡ Some chunk) (parity : mirrors chunk ≡ None) where
+module _ (layout : Layout) (table : IsTable layout.chunks) (number : ℕ) (chunk : Chunk) (there : slice_get layout.chunks number ≡ Some chunk)
+    (parity : mirrors chunk ≡ None) where
   striped : is_striped chunk.profile ≡ true
   striped = elim (without_copies chunk.profile (length chunk.stripes) parity) [ inl five ↦ ap is_striped five | inr six ↦ ap is_striped six ]
 
@@ -118,32 +126,15 @@ module _ (layout : Layout) (table : IsTable layout.chunks) (number : ℕ) (chunk
   pub row_fits : (addr : ℕ) → holds chunk addr ≡ true → (position chunk addr).row * 65536 + 65536 ≤ stripe_length chunk
   row_fits addr held =
       let d = data_count chunk.profile (length chunk.stripes) in
-      let h = and_parts (leb chunk.start addr) (ltb addr (chunk.start + chunk.length)) held in
-      let from = leb-true chunk.start addr h.0 in
-      let to = ltb-true addr (chunk.start + chunk.length) h.1 in
-      let whole : chunk.length % (d * 65536) ≡ 0 = ap (λ b. chunk.length % cond b (d * 65536) 4096) (sym striped) ∙ (facts chunk (table.sound number chunk there).0).whole in
-      let fits = element_inside (addr - chunk.start) d chunk.length some whole (omega (arith, from, to)) in
+      let b = bounds_of chunk addr held in
+      let whole : chunk.length % (d * 65536) ≡ 0 =
+      ap (λ b. chunk.length % cond b (d * 65536) 4096) (sym striped) ∙ (facts chunk (table.sound number chunk there).0).whole in
+      let fits = element_inside (addr - chunk.start) d chunk.length some whole (omega (arith, b.0, b.1)) in
       omega (arith, row_at addr, fits)
 
   -- the chunk is the one that holds its start
   pub start_there : chunk_at layout.chunks chunk.start ≡ Some chunk
-  start_there =
-      find-first (λ c. holds c chunk.start) layout.chunks number chunk there
-      (and_from (leb chunk.start chunk.start) (ltb chunk.start (chunk.start + chunk.length)) (le-leb chunk.start chunk.start (omega arith))
-      (lt-ltb chunk.start (chunk.start + chunk.length) (omega (arith, (facts chunk (table.sound number chunk there).0).some))))
-      (λ j c lt e. before j c lt e)
-    where
-      before : (j : ℕ) (c : Chunk) → j < number → slice_get layout.chunks j ≡ Some c → holds c chunk.start ≡ false
-      before j c lt e = by (holds c chunk.start) refl
-        where
-          by : (b : Bool) → holds c chunk.start ≡ b → holds c chunk.start ≡ false
-          by false h = h
-          by true h = absurd (omega (
-            arith,
-            ltb-true chunk.start (c.start + c.length)
-                (and_parts (leb c.start chunk.start) (ltb chunk.start (c.start + c.length)) h).1,
-            (table.apart j number c chunk lt e there).0,
-          ))
+  start_there = chunk_there layout table number chunk there chunk.start (omega arith) (omega (arith, (facts chunk (table.sound number chunk there).0).some))
 
   -- ---- the row of a block
 
@@ -153,9 +144,10 @@ module _ (layout : Layout) (table : IsTable layout.chunks) (number : ℕ) (chunk
       let is = is_sought layout w t e in
       let addr : addr_of t.want ≡ addr_of w = ap addr_of (sought_of layout w t e).want_is in
       let r = row_there chunk (addr_of w) k in_row in
-      let h = and_parts (leb chunk.start (addr_of w)) (ltb (addr_of w) (chunk.start + chunk.length)) r.0 in
-      let same = chunk_same layout table number chunk there t is (omega (arith, addr, leb-true chunk.start (addr_of w) h.0)) (omega (arith, addr, ltb-true (addr_of w) (chunk.start + chunk.length) h.1)) in
-      let row : t.at.row ≡ (position chunk (addr_of w)).row = ap (λ (x : Elements). x.row) is.at ∙ ap (λ c. (position c (addr_of t.want)).row) same ∙ ap (λ a. (position chunk a).row) addr in
+      let h = bounds_of chunk (addr_of w) r.0 in
+      let same = chunk_same layout table number chunk there t is (omega (arith, addr, h.0)) (omega (arith, addr, h.1)) in
+      let row : t.at.row ≡ (position chunk (addr_of w)).row =
+      ap (λ (x : Elements). x.row) is.at ∙ ap (λ c. (position c (addr_of t.want)).row) same ∙ ap (λ a. (position chunk a).row) addr in
       (same, row ∙ r.1)
 
   -- a block of the chunk has the row of its address
@@ -168,25 +160,7 @@ module _ (layout : Layout) (table : IsTable layout.chunks) (number : ℕ) (chunk
       (held, sym (ap (λ (x : Elements). x.row) is.at ∙ ap (λ c. (position c (addr_of t.want)).row) mine ∙ ap (λ a. (position chunk a).row) addr))
 
   pub same_start : (t : Target) → IsSought layout t → is_in_chunk chunk t ≡ true → t.chunk ≡ chunk
-  same_start t is e = by (cases_order is.number number)
-    where
-      start : t.chunk.start ≡ chunk.start
-      start = eqb-true t.chunk.start chunk.start e
-
-      by : (is.number ≡ number) ⊎ ((is.number < number) ⊎ (number < is.number)) → t.chunk ≡ chunk
-      by (inl same) = same_Some t.chunk chunk (sym is.there ∙ ap (slice_get layout.chunks) same ∙ there)
-      by (inr (inl lt)) = absurd (omega (
-        arith,
-        (table.apart is.number number t.chunk chunk lt is.there there).0,
-        start,
-        (facts t.chunk (table.sound is.number t.chunk is.there).0).some,
-      ))
-      by (inr (inr lt)) = absurd (omega (
-        arith,
-        (table.apart number is.number chunk t.chunk lt there is.there).0,
-        start,
-        (facts chunk (table.sound number chunk there).0).some,
-      ))
+  same_start t is e = (with_one_start layout table is.number number t.chunk chunk is.there there (eqb-true t.chunk.start chunk.start e)).1
 
   -- whether a block with a position lies in a row
   pub row_is_not : (k : ℕ) (t : Target) → IsSought layout t → (t.chunk ≡ chunk → t.at.row ≡ k → ⊥) → is_in_row chunk k t ≡ false

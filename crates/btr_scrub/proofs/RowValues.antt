@@ -1,5 +1,5 @@
 -- What a candidate of a block in a full stripe gives is as long as the block.
-use Rattle.std.proofs.Common.{◌≡◌, ◌≢◌, ℕ, ◌+◌, ◌-◌, ◌<◌, ◌≤◌, Bool, true, false, cond, List, length, Option, None, IsNone, All, refl, sym, ap, subst, inl, inr, arith}
+use Rattle.std.proofs.Common.{◌≡◌, ◌≢◌, ℕ, ◌+◌, ◌-◌, ◌<◌, ◌≤◌, Bool, true, false, cond, List, length, None, IsNone, All, refl, sym, ap, subst, inl, inr, arith}
 use Rattle.std.specs.List.{range_with_len}
 use Rattle.std.specs.Option.{option_map_or}
 use Rattle.btr_chunk.specs.Chunk.{data_count, mirrors}
@@ -11,7 +11,7 @@ use Rattle.btr_chunk.proofs.Rows.{without_copies}
 use Rattle.btr_parity.specs.Slices.{IsSlice, zeros, plus, parity_p, parity_q}
 use Rattle.btr_parity.proofs.Folding.{quotient_is_one, pair_is_one}
 use Rattle.btr_parity.proofs.Lost.{plus_slice, zeros_slice, parity_p_slice, weighted_slice}
-use Rattle.btr_read.specs.Candidates.{Target, candidates, copies, element, others, reads_slice, rebuilt, size_of, slice_count, value_of, ways}
+use Rattle.btr_read.specs.Candidates.{Target, candidates, copies, element, others, reads_slice, rebuilt, size_of, slice_count, value_of}
 use Rattle.btr_read.specs.Gathering.{read_slices}
 use Rattle.btr_read.specs.declared.candidate.Candidate.{Candidate}
 use Rattle.btr_read.specs.declared.candidate.Candidate.TheVariants.{Read, ByP, ByQ, ByBoth}
@@ -29,6 +29,33 @@ other_below k i x lt among = elim (in_either x (range_with_len 0 i) (range_with_
   | inl j ↦ let b = in_below i x j in (omega (arith, lt, b), λ e. absurd (omega (arith, e, b)))
   | inr j ↦ let b = in_range (i + 1) (k - (i + 1)) x j in (omega (arith, lt, b.1), λ e. absurd (omega (arith, e, b.0)))
 ]
+
+-- each candidate of a block without copies is its slice, or rebuilt by P, by Q, or by both and another slice
+module _ (t : Target) (none : mirrors t.chunk ≡ None) (index : t.at.index < slice_count t) (Holds : Candidate → Type 0) (own : Holds (Read (Slice t.at.index)))
+    (p : Holds ByP) (q : t.chunk.profile ≡ Raid6 → Holds ByQ)
+    (both : t.chunk.profile ≡ Raid6 → (j : ℕ) → j < slice_count t → t.at.index ≢ j → Holds (ByBoth j)) where
+  with_five : (c : Candidate) → In c (rebuilt Raid5 (slice_count t) t.at.index) → Holds c
+  with_five c (inl e) = subst Holds e own
+  with_five c (inr (inl e)) = subst Holds e p
+  with_five c (inr (inr i)) = absurd i
+
+  with_six : t.chunk.profile ≡ Raid6 → (c : Candidate) → In c (rebuilt Raid6 (slice_count t) t.at.index) → Holds c
+  with_six six c (inl e) = subst Holds e own
+  with_six six c (inr (inl e)) = subst Holds e p
+  with_six six c (inr (inr (inl e))) = subst Holds e (q six)
+  with_six six c (inr (inr (inr i))) =
+      let r = of_mapped ByBoth c (others (slice_count t) t.at.index) i in
+      let o = other_below (slice_count t) t.at.index r.0 index r.1 in
+      subst Holds r.2 (both six r.0 o.0 o.1)
+
+  pub each_candidate : (c : Candidate) → In c (candidates t) → Holds c
+  each_candidate c i =
+      let among : In c (rebuilt t.chunk.profile (slice_count t) t.at.index) =
+      subst (In c) (ap (λ o. option_map_or copies o (rebuilt t.chunk.profile (slice_count t) t.at.index)) none) (in_ways t c i) in
+      elim (without_copies t.chunk.profile (length t.chunk.stripes) none) [
+        | inl five ↦ with_five c (subst (λ p. In c (rebuilt p (slice_count t) t.at.index)) five among)
+        | inr six ↦ with_six six c (subst (λ p. In c (rebuilt p (slice_count t) t.at.index)) six among)
+      ]
 
 module _ (images : Images) (t : Target) (none : mirrors t.chunk ≡ None) (index : t.at.index < slice_count t) (few : length t.chunk.stripes ≤ 64)
     (whole : (part : Part) → HasPart t.chunk.profile (length t.chunk.stripes) part → IsSlice (size_of t) (element images t part)) where
@@ -56,7 +83,8 @@ module _ (images : Images) (t : Target) (none : mirrors t.chunk ≡ None) (index
       (parity_p_slice (size_of t) (read_slices images t c) (rows_whole c))
 
   by_p_whole : IsSlice (size_of t) (value_of images t ByP)
-  by_p_whole = subst (IsSlice (size_of t)) (sym (by_p images t (left_p ByP) index (record { slices = rows_whole ByP; whole = p_whole; sum = refl }))) (left_p_whole ByP)
+  by_p_whole = subst (IsSlice (size_of t)) (sym (by_p images t (left_p ByP) index (record { slices = rows_whole ByP; whole = p_whole; sum = refl })))
+      (left_p_whole ByP)
 
   module _ (six : t.chunk.profile ≡ Raid6) where
     q_whole : IsSlice (size_of t) (element images t Q)
@@ -90,28 +118,5 @@ module _ (images : Images) (t : Target) (none : mirrors t.chunk ≡ None) (index
         subst (IsSlice (size_of t)) (sym (by_both images t j S W pair.0 index lt ne
         (record { slices = rows_whole c; whole = p_whole; sum = refl }) (record { slices = rows_whole c; whole = q_whole; sum = refl }) pair.1)) pair.1.slice
 
-  own_whole : IsSlice (size_of t) (value_of images t (Read (Slice t.at.index)))
-  own_whole = slice_whole t.at.index index
-
-  all : (o : Option ℕ) → mirrors t.chunk ≡ o → ways t ≡ option_map_or copies o (rebuilt t.chunk.profile (slice_count t) t.at.index)
-  all o e = ap (λ o. option_map_or copies o (rebuilt t.chunk.profile (slice_count t) t.at.index)) e
-
-  with_five : (c : Candidate) → In c (rebuilt Raid5 (slice_count t) t.at.index) → IsSlice (size_of t) (value_of images t c)
-  with_five c (inl e) = subst (λ d. IsSlice (size_of t) (value_of images t d)) e own_whole
-  with_five c (inr (inl e)) = subst (λ d. IsSlice (size_of t) (value_of images t d)) e by_p_whole
-  with_five c (inr (inr i)) = absurd i
-
-  with_six : t.chunk.profile ≡ Raid6 → (c : Candidate) → In c (rebuilt Raid6 (slice_count t) t.at.index) → IsSlice (size_of t) (value_of images t c)
-  with_six six c (inl e) = subst (λ d. IsSlice (size_of t) (value_of images t d)) e own_whole
-  with_six six c (inr (inl e)) = subst (λ d. IsSlice (size_of t) (value_of images t d)) e by_p_whole
-  with_six six c (inr (inr (inl e))) = subst (λ d. IsSlice (size_of t) (value_of images t d)) e (by_q_whole six)
-  with_six six c (inr (inr (inr i))) =
-      let r = of_mapped ByBoth c (others (slice_count t) t.at.index) i in
-      let o = other_below (slice_count t) t.at.index r.0 index r.1 in
-      subst (λ d. IsSlice (size_of t) (value_of images t d)) r.2 (by_both_whole six r.0 o.0 o.1)
-
   pub value_whole : (c : Candidate) → In c (candidates t) → IsSlice (size_of t) (value_of images t c)
-  value_whole c i = elim (without_copies t.chunk.profile (length t.chunk.stripes) none) [
-    | inl five ↦ with_five c (subst (λ p. In c (rebuilt p (slice_count t) t.at.index)) five (subst (In c) (all None none) (in_ways t c i)))
-    | inr six ↦ with_six six c (subst (λ p. In c (rebuilt p (slice_count t) t.at.index)) six (subst (In c) (all None none) (in_ways t c i)))
-  ]
+  value_whole = each_candidate t none index (λ c. IsSlice (size_of t) (value_of images t c)) (slice_whole t.at.index index) by_p_whole by_q_whole by_both_whole

@@ -1,11 +1,10 @@
 -- The writes for a full stripe lie in its elements, and leave those of other rows.
-use Rattle.std.proofs.Common.{◌≡◌, ℕ, ◌+◌, ◌-◌, ◌*◌, ◌<◌, ◌≤◌, true, false, ◌&&◌, List, [], ◌∷◌, map, length, drop, slice_get, All, Option, Some, None}
-use Rattle.std.proofs.Common.{IsNone, IsSome, IsSomeAnd, refl, sym, ap, ◌∙◌, subst, inl, inr, arith, length-take}
-use Rattle.std.proofs.lemmas.Bool.{false≢true}
-use Rattle.std.proofs.lemmas.List.Elements.{All-append, All-cons, All-nil}
+use Rattle.std.proofs.Common.{◌≡◌, ℕ, ◌+◌, ◌-◌, ◌*◌, ◌<◌, ◌≤◌, true, false, List, [], length, drop, slice_get, All, Option, Some, None, IsNone, IsSome}
+use Rattle.std.proofs.Common.{IsSomeAnd, refl, sym, ap, ◌∙◌, subst, inl, inr, arith, length-take}
+use Rattle.std.proofs.lemmas.List.Elements.{All-append}
 use Rattle.std.proofs.lemmas.Option.{same_Some}
-use Rattle.std.specs.List.{cons_option, filter_map, flat_map, list_any, range_with_len}
-use Rattle.std.specs.Option.{option_map, option_map_or}
+use Rattle.std.specs.List.{flat_map, list_any}
+use Rattle.std.specs.Option.{option_map_or}
 use Rattle.btr_chunk.specs.Chunk.{IsChunk, is_striped, mirrors}
 use Rattle.btr_chunk.specs.Mapping.{HasPart, IsPosition, place_at, place_on}
 use Rattle.btr_chunk.specs.Table.{IsTable}
@@ -13,7 +12,7 @@ use Rattle.btr_chunk.specs.declared.place.Part.{Part}
 use Rattle.btr_chunk.specs.declared.place.Part.TheVariants as part
 use Rattle.btr_chunk.specs.declared.place.StripePlace.{StripePlace}
 use Rattle.btr_chunk.specs.declared.position.Elements.{Elements}
-use Rattle.btr_chunk.proofs.Bytes.{IsPosition-position, placed_part}
+use Rattle.btr_chunk.proofs.Bytes.{placed_part}
 use Rattle.btr_chunk.proofs.Rows.{without_copies}
 use Rattle.btr_rack.specs.Rack.{bytes_of, image_of, range_in}
 use Rattle.btr_rack.specs.declared.place.Place.{Place as Range}
@@ -21,17 +20,13 @@ use Rattle.btr_read.specs.Candidates.{Target, range_of, range_on, size_of}
 use Rattle.btr_read.specs.Layout.{Layout, device_in}
 use Rattle.btr_read.specs.Want.{addr_of}
 use Rattle.btr_read.specs.declared.device.Device.{Device}
-use Rattle.btr_read.proofs.Ones.{in_below}
-use Rattle.btr_scrub_copies.specs.Blocks.{copy_writes, own_parts}
-use Rattle.btr_scrub_row.specs.Wanted.{mending_writes, new_bytes, wrong_parts}
-use Rattle.btr_scrub_row.proofs.Settled.{mending_is}
-use Rattle.btr_scrub_copies.proofs.Syncs.{passing_filter}
+use Rattle.btr_scrub_row.specs.Wanted.{mending_writes, new_bytes}
 use Rattle.btr_scrub_copies.specs.Writes.{Images, Write}
 use Rattle.btr_scrub_row.specs.Rows as rows
 use Rattle.btr_scrub_row.specs.Rows.{Row, column_of, differing, differs, element_with, is_decided, parities, parity_writes, range_in_element, row_writes}
 use Rattle.btr_scrub_row.specs.Rows.{sector_write}
 use Rattle.btr_scrub.specs.Devices.{HaveLengths}
-use Rattle.btr_scrub.specs.BlocksInRows.{In}
+use Rattle.btr_scrub.specs.BlocksInRows.{In, IsInRow, LiesInRow}
 use Rattle.btr_scrub.specs.WrittenRanges.{KeepsOutside}
 use Rattle.btr_scrub.specs.Order.{IsSought}
 use Rattle.btr_scrub.specs.Places.{IsOfElement}
@@ -39,13 +34,14 @@ use Rattle.btr_scrub.specs.Repair.{covers}
 use Rattle.btr_scrub.proofs.CopyWrites.{same_element}
 use Rattle.btr_scrub_row.proofs.Elements.{range_stands, stands_on, stripe-row}
 use Rattle.btr_scrub.proofs.Places.{covered, covering}
-use Rattle.btr_scrub.proofs.Positions.{striped_fits, striped_position}
-use Rattle.btr_scrub.proofs.RowAgreeing.{BlockAlike, RowAlike, parity_alike, parity_has, row_alike, sure_same}
+use Rattle.btr_scrub.proofs.Positions.{striped_fits, striped_position, position_is}
+use Rattle.btr_scrub.proofs.RowAgreeing.{RowAlike, parity_alike, parity_has, row_alike, sure_same, is_sector}
 use Rattle.btr_scrub.proofs.Shorts.{site_short}
-use Rattle.btr_scrub.proofs.OwnPlaces.{wrong_own}
+use Rattle.btr_scrub.proofs.OwnPlaces.{wrong_own, own_slice, over_byte}
 use Rattle.btr_scrub.proofs.Survival.{range_same}
-use Rattle.btr_scrub.proofs.Pasting.{Short}
-use Rattle.btr_scrub.proofs.Lists.{mapped, any_append, any_flat, any_filter_map}
+use Rattle.btr_scrub.proofs.Pasting.{Short, flat_short}
+use Rattle.btr_scrub.proofs.Lists.{any_append, any_flat, any_is, all_from}
+use Rattle.btr_scrub.proofs.Agreeing.{SiteAlike}
 
 -- a full stripe of the table, all of whose elements stand
 pub record IsRowIn (layout : Layout) (row : Row) : Type 0 where
@@ -64,7 +60,8 @@ pub record IsBlockOf (layout : Layout) (row : Row) (t : Target) : Type 0 where
 -- a block of a chunk with parity lies in one element
 pub in_one_element : (layout : Layout) (t : Target) → IsSought layout t → mirrors t.chunk ≡ None → t.at.rest + size_of t ≤ 65536
 in_one_element layout t is none =
-    let striped : is_striped t.chunk.profile ≡ true = elim (without_copies t.chunk.profile (length t.chunk.stripes) none) [ inl five ↦ ap is_striped five | inr six ↦ ap is_striped six ] in
+    let striped : is_striped t.chunk.profile ≡ true =
+    elim (without_copies t.chunk.profile (length t.chunk.stripes) none) [ inl five ↦ ap is_striped five | inr six ↦ ap is_striped six ] in
     let rest = ap (λ (e : Elements). e.rest) (is.at ∙ striped_position t.chunk (addr_of t.want) striped) in
     let small = striped_fits t.chunk (addr_of t.want) (size_of t) striped is.uncrossed in
     omega (arith, rest, small)
@@ -74,20 +71,27 @@ module _ (layout : Layout) (row : Row) (table : IsTable layout.chunks) (is_row :
   sound = (table.sound is_row.chunk_number row.chunk is_row.there).0
 
   -- where an element begins, and on which device
-  record Begins (q : Part) : Type 0 where
-    device : Device
-    given : device_in layout.devices (place_at row.chunk q (record { row = row.number; index = 0; rest = 0 })).devid ≡ Some device
-    whole : range_in_element layout row q 0 65536 ≡ Some (range_in device.slot (place_at row.chunk q (record { row = row.number; index = 0; rest = 0 })).offset 65536)
-    within : (place_at row.chunk q (record { row = row.number; index = 0; rest = 0 })).offset + 65536 ≤ device.len
+  pub record Begins (q : Part) : Type 0 where
+    pub device : Device
+    pub given : device_in layout.devices (place_at row.chunk q (record { row = row.number; index = 0; rest = 0 })).devid ≡ Some device
+    pub whole : range_in_element layout row q 0 65536 ≡ Some (range_in device.slot
+        (place_at row.chunk q (record { row = row.number; index = 0; rest = 0 })).offset 65536)
+    pub within : (place_at row.chunk q (record { row = row.number; index = 0; rest = 0 })).offset + 65536 ≤ device.len
 
-  begins : (q : Part) → HasPart row.chunk.profile (length row.chunk.stripes) q → Begins q
+  pub begins : (q : Part) → HasPart row.chunk.profile (length row.chunk.stripes) q → Begins q
   begins q has =
       let place = place_at row.chunk q (record { row = row.number; index = 0; rest = 0 }) in
       let s = stands_on place.offset 65536 (device_in layout.devices place.devid) (is_row.stand q has) in
-      record { device = s.device; given = s.there; whole = range_stands place.offset 65536 (device_in layout.devices place.devid) s.device s.there s.within; within = s.within }
+      record {
+        device = s.device;
+        given = s.there;
+        whole = range_stands place.offset 65536 (device_in layout.devices place.devid) s.device s.there s.within;
+        within = s.within;
+      }
 
   -- a byte of an element
-  of_element : (q : Part) (has : HasPart row.chunk.profile (length row.chunk.stripes) q) (b : Begins q) (off : ℕ) → (place_at row.chunk q (record { row = row.number; index = 0; rest = 0 })).offset ≤ off
+  of_element : (q : Part) (has : HasPart row.chunk.profile (length row.chunk.stripes) q) (b : Begins q) (off : ℕ)
+      → (place_at row.chunk q (record { row = row.number; index = 0; rest = 0 })).offset ≤ off
       → off < (place_at row.chunk q (record { row = row.number; index = 0; rest = 0 })).offset + 65536 → IsOfElement layout row q b.device.slot off
   of_element q has b off from to = record {
     number = is_row.chunk_number;
@@ -95,46 +99,77 @@ module _ (layout : Layout) (row : Row) (table : IsTable layout.chunks) (is_row :
     parity = is_row.parity;
     position = is_row.position;
     has = has;
-    covers = subst (λ o. IsSomeAnd o (λ range. covers b.device.slot off range ≡ true)) (sym b.whole) (covered b.device.slot (place_at row.chunk q (record { row = row.number; index = 0; rest = 0 })).offset 65536 off from to);
+    covers = subst (λ o. IsSomeAnd o (λ range. covers b.device.slot off range ≡ true)) (sym b.whole)
+        (covered b.device.slot (place_at row.chunk q (record { row = row.number; index = 0; rest = 0 })).offset 65536 off from to);
   }
 
   -- what lies at a place in an element, from a byte of it on
   record Lies (q : Part) (index rest : ℕ) : Type 0 where
-    devid : (place_at row.chunk q (record { row = row.number; index = index; rest = rest })).devid ≡ (place_at row.chunk q (record { row = row.number; index = 0; rest = 0 })).devid
-    offset : (place_at row.chunk q (record { row = row.number; index = index; rest = rest })).offset ≡ (place_at row.chunk q (record { row = row.number; index = 0; rest = 0 })).offset + rest
+    devid : (place_at row.chunk q (record { row = row.number; index = index; rest = rest })).devid
+        ≡ (place_at row.chunk q (record { row = row.number; index = 0; rest = 0 })).devid
+    offset : (place_at row.chunk q (record { row = row.number; index = index; rest = rest })).offset
+        ≡ (place_at row.chunk q (record { row = row.number; index = 0; rest = 0 })).offset + rest
 
-  lies : (q : Part) (index rest : ℕ) → HasPart row.chunk.profile (length row.chunk.stripes) q → IsPosition row.chunk (record { row = row.number; index = index; rest = rest }) → Lies q index rest
+  lies : (q : Part) (index rest : ℕ) → HasPart row.chunk.profile (length row.chunk.stripes) q
+      → IsPosition row.chunk (record { row = row.number; index = index; rest = rest }) → Lies q index rest
   lies q index rest has position =
       let at0 : Elements = record { row = row.number; index = 0; rest = 0 } in
       let at1 : Elements = record { row = row.number; index = index; rest = rest } in
       let p = placed_part row.chunk q at0 sound has (record { index = is_row.position.index; inside = omega (arith, is_row.position.inside) }) in
       let r = placed_part row.chunk q at1 sound has position in
-      let same : p.stripe ≡ r.stripe = same_Some p.stripe r.stripe (sym p.there ∙ ap (slice_get row.chunk.stripes) (stripe-row row.chunk.profile (length row.chunk.stripes) q at0 at1 is_row.parity refl) ∙ r.there) in
+      let same : p.stripe ≡ r.stripe =
+      same_Some p.stripe r.stripe (sym p.there ∙ ap (slice_get row.chunk.stripes)
+      (stripe-row row.chunk.profile (length row.chunk.stripes) q at0 at1 is_row.parity refl) ∙ r.there) in
       let one : place_at row.chunk q at1 ≡ place_on p.stripe at1 = r.place ∙ ap (λ s. place_on s at1) (sym same) in
       let offset : (place_at row.chunk q at1).offset ≡ p.stripe.offset + row.number * 65536 + rest = ap (λ (x : StripePlace). x.offset) one in
       let start : (place_at row.chunk q at0).offset ≡ p.stripe.offset + row.number * 65536 + 0 = ap (λ (x : StripePlace). x.offset) p.place in
       record { devid = ap (λ (x : StripePlace). x.devid) one ∙ sym (ap (λ (x : StripePlace). x.devid) p.place); offset = omega (arith, offset, start) }
 
-  -- a byte of a range in an element is of the element
-  in_element : (q : Part) (index rest len slot off : ℕ) (range : Range) → HasPart row.chunk.profile (length row.chunk.stripes) q → IsPosition row.chunk (record { row = row.number; index = index; rest = rest }) → rest + len ≤ 65536
-      → range_on (place_at row.chunk q (record { row = row.number; index = index; rest = rest })).offset len (device_in layout.devices (place_at row.chunk q (record { row = row.number; index = index; rest = rest })).devid) ≡ Some range
-      → covers slot off range ≡ true → IsOfElement layout row q slot off
-  in_element q index rest len slot off range has position fits e c =
+  -- where a range in an element lies on its device
+  pub piece_is : (q : Part) (index rest len : ℕ) (range : Range) (has : HasPart row.chunk.profile (length row.chunk.stripes) q)
+      → IsPosition row.chunk (record { row = row.number; index = index; rest = rest }) → rest + len ≤ 65536
+      → range_on (place_at row.chunk q (record { row = row.number; index = index; rest = rest })).offset len
+      (device_in layout.devices (place_at row.chunk q (record { row = row.number; index = index; rest = rest })).devid) ≡ Some range
+      → range ≡ range_in (begins q has).device.slot ((place_at row.chunk q (record { row = row.number; index = 0; rest = 0 })).offset + rest) len
+  piece_is q index rest len range has position fits e =
       let b = begins q has in
       let l = lies q index rest has position in
       let place = place_at row.chunk q (record { row = row.number; index = index; rest = rest }) in
       let given : device_in layout.devices place.devid ≡ Some b.device = ap (device_in layout.devices) l.devid ∙ b.given in
       let stands = range_stands place.offset len (device_in layout.devices place.devid) b.device given (omega (arith, b.within, l.offset, fits)) in
-      let same : range ≡ range_in b.device.slot place.offset len = same_Some range (range_in b.device.slot place.offset len) (sym e ∙ stands) in
-      let at = covering slot off (range_in b.device.slot place.offset len) (ap (covers slot off) (sym same) ∙ c) in
-      subst (λ s. IsOfElement layout row q s off) at.0 (of_element q has b off (omega (arith, at.1, l.offset)) (omega (arith, at.2, l.offset, fits)))
+      same_Some range (range_in b.device.slot place.offset len) (sym e ∙ stands) ∙ ap (λ o. range_in b.device.slot o len) l.offset
+
+  -- a byte of a range in an element is of the element
+  in_element : (q : Part) (index rest len slot off : ℕ) (range : Range) → HasPart row.chunk.profile (length row.chunk.stripes) q
+      → IsPosition row.chunk (record { row = row.number; index = index; rest = rest }) → rest + len ≤ 65536
+      → range_on (place_at row.chunk q (record { row = row.number; index = index; rest = rest })).offset len
+      (device_in layout.devices (place_at row.chunk q (record { row = row.number; index = index; rest = rest })).devid) ≡ Some range
+      → covers slot off range ≡ true → IsOfElement layout row q slot off
+  in_element q index rest len slot off range has position fits e c =
+      let b = begins q has in
+      let start = (place_at row.chunk q (record { row = row.number; index = 0; rest = 0 })).offset in
+      let at = covering slot off (range_in b.device.slot (start + rest) len)
+      (ap (covers slot off) (sym (piece_is q index rest len range has position fits e)) ∙ c) in
+      subst (λ s. IsOfElement layout row q s off) at.0 (of_element q has b off (omega (arith, at.1)) (omega (arith, at.2, fits)))
 
   -- ---- blocks of the row
 
+  pub no_copies : (t : Target) → IsBlockOf layout row t → mirrors t.chunk ≡ None
+  no_copies t of = ap mirrors of.chunk ∙ is_row.parity
+
+  pub block_in_row : (t : Target) → IsBlockOf layout row t → IsInRow t
+  block_in_row t of = record {
+    keeps_rule = (table.sound of.is.number t.chunk of.is.there).0;
+    position = position_is layout t table of.is;
+    parity = no_copies t of;
+  }
+
+  pub block_lies : (t : Target) → IsBlockOf layout row t → LiesInRow layout row t
+  block_lies t of =
+      record { chunk = of.chunk; number = of.number; devices = of.is.devices; inside = in_one_element layout t of.is (no_copies t of) }
+
   pub has_own : (t : Target) → IsBlockOf layout row t → HasPart row.chunk.profile (length row.chunk.stripes) (part.Slice t.at.index)
-  has_own t of =
-      let position : IsPosition t.chunk t.at = subst (IsPosition t.chunk) (sym of.is.at) (IsPosition-position t.chunk (addr_of t.want) (table.sound of.is.number t.chunk of.is.there).0 of.is.held) in
-      (subst IsNone (sym is_row.parity) refl, (subst (λ c. IsPosition c t.at) of.chunk position).index)
+  has_own t of = (subst IsNone (sym is_row.parity) refl, (subst (λ c. IsPosition c t.at) of.chunk (position_is layout t table of.is)).index)
 
   -- a byte of a part of a block is of the part's element
   pub block_byte : (t : Target) (q : Part) (slot off : ℕ) → IsBlockOf layout row t → HasPart row.chunk.profile (length row.chunk.stripes) q
@@ -143,18 +178,20 @@ module _ (layout : Layout) (row : Row) (table : IsTable layout.chunks) (is_row :
     where
       position : IsPosition row.chunk (record { row = row.number; index = t.at.index; rest = t.at.rest })
       position =
-          let mine : IsPosition t.chunk t.at = subst (IsPosition t.chunk) (sym of.is.at) (IsPosition-position t.chunk (addr_of t.want) (table.sound of.is.number t.chunk of.is.there).0 of.is.held) in
-          subst (λ n. IsPosition row.chunk (record { row = n; index = t.at.index; rest = t.at.rest })) of.number (subst (λ c. IsPosition c t.at) of.chunk mine)
+          subst (λ n. IsPosition row.chunk (record { row = n; index = t.at.index; rest = t.at.rest })) of.number
+          (subst (λ c. IsPosition c t.at) of.chunk (position_is layout t table of.is))
 
       fits : t.at.rest + size_of t ≤ 65536
-      fits = in_one_element layout t of.is (subst (λ c. mirrors c ≡ None) (sym of.chunk) is_row.parity)
+      fits = (block_lies t of).inside
 
       by : (o : Option Range) → range_of t q ≡ o → IsSomeAnd o (λ range. covers slot off range ≡ true) → IsOfElement layout row q slot off
       by None e c = absurd c
       by (Some range) e c =
           let place = place_at t.chunk q t.at in
-          let as_row : range_on (place_at row.chunk q (record { row = row.number; index = t.at.index; rest = t.at.rest })).offset (size_of t) (device_in layout.devices (place_at row.chunk q (record { row = row.number; index = t.at.index; rest = t.at.rest })).devid) ≡ Some range =
-          ap (λ n. range_on (place_at row.chunk q (record { row = n; index = t.at.index; rest = t.at.rest })).offset (size_of t) (device_in layout.devices (place_at row.chunk q (record { row = n; index = t.at.index; rest = t.at.rest })).devid)) (sym of.number)
+          let as_row : range_on (place_at row.chunk q (record { row = row.number; index = t.at.index; rest = t.at.rest })).offset (size_of t)
+          (device_in layout.devices (place_at row.chunk q (record { row = row.number; index = t.at.index; rest = t.at.rest })).devid) ≡ Some range =
+          ap (λ n. range_on (place_at row.chunk q (record { row = n; index = t.at.index; rest = t.at.rest })).offset (size_of t)
+          (device_in layout.devices (place_at row.chunk q (record { row = n; index = t.at.index; rest = t.at.rest })).devid)) (sym of.number)
           ∙ ap (λ k. range_on (place_at k q t.at).offset (size_of t) (device_in layout.devices (place_at k q t.at).devid)) (sym of.chunk)
           ∙ ap (λ ds. range_on place.offset (size_of t) (device_in ds place.devid)) (sym of.is.devices) ∙ e in
           in_element q t.at.index t.at.rest (size_of t) slot off range has position fits as_row c
@@ -166,41 +203,21 @@ module _ (layout : Layout) (row : Row) (table : IsTable layout.chunks) (is_row :
       → list_any (λ (w : Write). covers slot off w.range) (mending_writes images row.failing t) ≡ true
       → IsOfElement layout row (part.Slice t.at.index) slot off
   written_block images t slot off of h =
-      by (new_bytes images row.failing t) (ap (list_any (λ (w : Write). covers slot off w.range)) (sym (mending_is images row t)) ∙ h)
-    where
-      own : own_parts t ≡ part.Slice t.at.index ∷ []
-      own = ap (λ o. option_map_or (λ copies. map part.Mirror (range_with_len 0 copies)) o (part.Slice t.at.index ∷ []))
-          (subst (λ c. mirrors c ≡ None) (sym of.chunk) is_row.parity)
+      let o = over_byte images row.failing t slot off h in
+      let q = own_slice t o.2.part (no_copies t of) (wrong_own images row.failing t o.2.part o.2.wrong) in
+      block_byte t (part.Slice t.at.index) slot off of (has_own t of)
+      (subst (λ o. IsSomeAnd o (λ range. covers slot off range ≡ true)) (sym (ap (range_of t) q ∙ o.2.range)) o.1)
 
-      only : (q : Part) → In q (part.Slice t.at.index ∷ []) → part.Slice t.at.index ≡ q
-      only q (inl e) = e
-      only q (inr i) = absurd i
-
-      by : (o : Option (List ℕ)) → list_any (λ (w : Write). covers slot off w.range)
-          (option_map_or (λ bytes. copy_writes t bytes (wrong_parts images row.failing t)) o []) ≡ true
-          → IsOfElement layout row (part.Slice t.at.index) slot off
-      by None h = absurd (false≢true h)
-      by (Some bytes) h =
-          let f = any_filter_map (λ (w : Write). covers slot off w.range) (λ q. option_map (λ (range : Range). record { range = range; bytes = bytes }) (range_of t q)) (wrong_parts images row.failing t) h in
-          let q : part.Slice t.at.index ≡ f.0 = only f.0 (subst (In f.0) own (wrong_own images row.failing t f.0 f.1)) in
-          let m = mapped (λ (range : Range). record { range = range; bytes = bytes }) (range_of t f.0) f.2.0 f.2.1 in
-          let cover : covers slot off m.0 ≡ true = ap (λ (w : Write). covers slot off w.range) m.2 ∙ f.2.2 in
-          block_byte t (part.Slice t.at.index) slot off of (has_own t of) (subst (λ o. IsSomeAnd o (λ range. covers slot off range ≡ true)) (sym (ap (range_of t) q ∙ m.1)) cover)
-
-  column_at : (column : ℕ) → column < 16 → IsPosition row.chunk (record { row = row.number; index = 0; rest = column * 4096 })
+  pub column_at : (column : ℕ) → column < 16 → IsPosition row.chunk (record { row = row.number; index = 0; rest = column * 4096 })
   column_at column few = record { index = is_row.position.index; inside = omega (arith, is_row.position.inside, few) }
 
   -- each byte of the writes for a parity lies in its element
   pub written_parity : (images : Images) (q : Part) (slot off : ℕ) → HasPart row.chunk.profile (length row.chunk.stripes) q
       → list_any (λ (w : Write). covers slot off w.range) (parity_writes images layout row q) ≡ true → IsOfElement layout row q slot off
   written_parity images q slot off has h =
-      let f = any_filter_map (λ (w : Write). covers slot off w.range) (sector_write images layout row q) (differing images layout row q) h in
-      let column = f.0 in
-      let d = passing_filter (λ column. is_decided images layout row column && differs images layout row q column) column (range_with_len 0 16) f.1 in
-      let few : column < 16 = in_below 16 column d.0 in
-      let m = mapped (λ (range : Range). record { range = range; bytes = column_of column (element_with images layout (new_bytes images row.failing) row q) }) (range_in_element layout row q (column * 4096) 4096) f.2.0 f.2.1 in
-      in_element q 0 (column * 4096) 4096 slot off m.0 has (column_at column few) (omega (arith, few)) m.1
-      (ap (λ (w : Write). covers slot off w.range) m.2 ∙ f.2.2)
+      let w = any_is (λ (w : Write). covers slot off w.range) (parity_writes images layout row q) h in
+      let s = is_sector images layout row q w.0 w.1 in
+      in_element q 0 (s.column * 4096) 4096 slot off w.0.range has (column_at s.column s.few) (omega (arith, s.few)) s.range w.2
 
   -- each byte that is written for the row is of one of its elements
   pub written_row : (images : Images) (slot off : ℕ) → ((t : Target) → In t row.blocks → IsBlockOf layout row t)
@@ -208,8 +225,10 @@ module _ (layout : Layout) (row : Row) (table : IsTable layout.chunks) (is_row :
       → (q : Part) × IsOfElement layout row q slot off
   written_row images slot off of h =
       let W = λ (w : Write). covers slot off w.range in
-      elim (any_append W (flat_map (mending_writes images row.failing) row.blocks) (flat_map (parity_writes images layout row) (parities row.chunk.profile)) h) [
-        | inl bad ↦ let f = any_flat W (mending_writes images row.failing) row.blocks bad in (part.Slice f.0.at.index, written_block images f.0 slot off (of f.0 f.1) f.2)
+      elim (any_append W (flat_map (mending_writes images row.failing) row.blocks)
+      (flat_map (parity_writes images layout row) (parities row.chunk.profile)) h) [
+        | inl bad ↦ let f = any_flat W (mending_writes images row.failing) row.blocks bad in
+            (part.Slice f.0.at.index, written_block images f.0 slot off (of f.0 f.1) f.2)
         | inr parity ↦
             let f = any_flat W (parity_writes images layout row) (parities row.chunk.profile) parity in
             let p = parity_has row.chunk.profile (length row.chunk.stripes) f.0 is_row.parity f.1 in
@@ -218,49 +237,36 @@ module _ (layout : Layout) (row : Row) (table : IsTable layout.chunks) (is_row :
 
   -- ---- the writes have at most as many bytes as their ranges
 
-  flat_short : {X : Type 0} (images : Images) (f : X → List Write) (xs : List X) → ((x : X) → In x xs → All (Short images) (f x))
-      → All (Short images) (flat_map f xs)
-  flat_short images f [] h = All-nil (Short images)
-  flat_short images f (x ∷ xs) h = All-append (Short images) (f x) (flat_map f xs) (h x (inl refl)) (flat_short images f xs (λ y i. h y (inr i)))
-
   module _ (images : Images) (lengths : HaveLengths images layout) where
-    sector_short : (q : Part) (column : ℕ) → HasPart row.chunk.profile (length row.chunk.stripes) q → column < 16 → (o : Option Range)
-        → range_in_element layout row q (column * 4096) 4096 ≡ o → (others : List Write) → All (Short images) others
-        → All (Short images) (cons_option (option_map (λ (range : Range). record { range = range; bytes = column_of column (element_with images layout (new_bytes images row.failing) row q) }) o) others)
-    sector_short q column has few None e others rest = rest
-    sector_short q column has few (Some range) e others rest =
+    parity_short : (q : Part) → HasPart row.chunk.profile (length row.chunk.stripes) q → All (Short images) (parity_writes images layout row q)
+    parity_short q has = all_from (Short images) (parity_writes images layout row q) (λ w i.
+        let s = is_sector images layout row q w i in
         let b = begins q has in
-        let l = lies q 0 (column * 4096) has (column_at column few) in
-        let place = place_at row.chunk q (record { row = row.number; index = 0; rest = column * 4096 }) in
-        let given : device_in layout.devices place.devid ≡ Some b.device = ap (device_in layout.devices) l.devid ∙ b.given in
-        let inside : place.offset + 4096 ≤ b.device.len = omega (arith, b.within, l.offset, few) in
-        let same : range ≡ range_in b.device.slot place.offset 4096 = same_Some range (range_in b.device.slot place.offset 4096) (sym e ∙ range_stands place.offset 4096 (device_in layout.devices place.devid) b.device given inside) in
+        let at0 : Elements = record { row = row.number; index = 0; rest = 0 } in
+        let same = piece_is q 0 (s.column * 4096) 4096 w.range has (column_at s.column s.few) (omega (arith, s.few)) s.range in
         let bytes = element_with images layout (new_bytes images row.failing) row q in
-        let slot : range.slot ≡ b.device.slot = ap (λ (r : Range). r.slot) same in
-        let off : range.off ≡ place.offset = ap (λ (r : Range). r.off) same in
-        let len : range.len ≡ 4096 = ap (λ (r : Range). r.len) same in
-        let image : length (image_of images range.slot) ≡ b.device.len = ap (λ s. length (image_of images s)) slot ∙ lengths place.devid b.device given in
-        All-cons (Short images) (record { range = range; bytes = column_of column bytes }) others (record { short = omega (arith, len, length-take (column * 4096 + 4096 - column * 4096) (drop (column * 4096) bytes)); within = omega (arith, off, len, image, inside) }) rest
-
-    sectors_short : (q : Part) → HasPart row.chunk.profile (length row.chunk.stripes) q → (columns : List ℕ)
-        → ((column : ℕ) → In column columns → column < 16) → All (Short images) (filter_map (sector_write images layout row q) columns)
-    sectors_short q has [] few = All-nil (Short images)
-    sectors_short q has (column ∷ columns) few =
-        sector_short q column has (few column (inl refl)) (range_in_element layout row q (column * 4096) 4096) refl
-        (filter_map (sector_write images layout row q) columns) (sectors_short q has columns (λ k i. few k (inr i)))
+        let off : w.range.off ≡ (place_at row.chunk q at0).offset + s.column * 4096 = ap (λ (r : Range). r.off) same in
+        let len : w.range.len ≡ 4096 = ap (λ (r : Range). r.len) same in
+        let image : length (image_of images w.range.slot) ≡ b.device.len =
+        ap (λ (r : Range). length (image_of images r.slot)) same ∙ lengths (place_at row.chunk q at0).devid b.device b.given in
+        record {
+          short = omega (arith, len, ap length s.bytes, length-take (s.column * 4096 + 4096 - s.column * 4096) (drop (s.column * 4096) bytes));
+          within = omega (arith, off, len, image, b.within, s.few);
+        })
 
     pub row_short : ((t : Target) → In t row.blocks → IsBlockOf layout row t) → All (Short images) (row_writes images layout row)
     row_short of =
-        All-append (Short images) (flat_map (mending_writes images row.failing) row.blocks) (flat_map (parity_writes images layout row) (parities row.chunk.profile))
+        All-append (Short images) (flat_map (mending_writes images row.failing) row.blocks)
+        (flat_map (parity_writes images layout row) (parities row.chunk.profile))
         (flat_short images (mending_writes images row.failing) row.blocks (λ t i. site_short images layout lengths t (of t i).is row.failing))
-        (flat_short images (parity_writes images layout row) (parities row.chunk.profile) (λ q i. let p = parity_has row.chunk.profile (length row.chunk.stripes) q is_row.parity i in
-        sectors_short q p.0 (differing images layout row q) (λ column j. in_below 16 column
-        (passing_filter (λ column. is_decided images layout row column && differs images layout row q column) column (range_with_len 0 16) j).0)))
+        (flat_short images (parity_writes images layout row) (parities row.chunk.profile)
+        (λ q i. parity_short q (parity_has row.chunk.profile (length row.chunk.stripes) q is_row.parity i).0))
 
     -- ---- what is told of the row, where none of its bytes was written
 
     pub row_stays : (images' : Images) (ranges : List Range) → ((t : Target) → In t row.blocks → IsBlockOf layout row t) → KeepsOutside ranges images images'
-        → ((q : Part) (slot off : ℕ) → IsOfElement layout row q slot off → list_any (covers slot off) ranges ≡ false) → RowAlike images images' layout row row.failing
+        → ((q : Part) (slot off : ℕ) → IsOfElement layout row q slot off → list_any (covers slot off) ranges ≡ false)
+        → RowAlike images images' layout row row.failing
     row_stays images' ranges of keeps free = row_alike images images' layout row row.failing is_row.parity elements blocks
         (λ t i. sure_same images images' layout row t (blocks t i).bytes)
       where
@@ -275,10 +281,9 @@ module _ (layout : Layout) (row : Row) (table : IsTable layout.chunks) (is_row :
             (sym (keeps.lengths slot)) (λ i from to. keeps.bytes slot i (free q slot i (of_element q has b i from to)))
             ∙ sym (ap (λ (o : Option Range). option_map_or (λ range. bytes_of images range.slot range.off range.len) o []) b.whole)
 
-        blocks : (t : Target) → In t row.blocks → BlockAlike row.failing row.failing images images' t
+        blocks : (t : Target) → In t row.blocks → SiteAlike row.failing row.failing images images' t
         blocks t i =
             let o = of t i in
-            let position : IsPosition t.chunk t.at = subst (IsPosition t.chunk) (sym o.is.at) (IsPosition-position t.chunk (addr_of t.want) (table.sound o.is.number t.chunk o.is.there).0 o.is.held) in
-            parity_alike images images' t (subst (λ c. mirrors c ≡ None) (sym o.chunk) is_row.parity) position.index
+            parity_alike images images' t (no_copies t o) (position_is layout t table o.is).index
             (λ q has. same_element images images' layout ranges t q lengths o.is keeps
             (λ slot off c. free q slot off (block_byte t q slot off o (subst (λ k. HasPart k.profile (length k.stripes) q) o.chunk has) c))) row.failing

@@ -18,8 +18,8 @@ use Rattle.btr_scrub.specs.WrittenRanges.{KeepsOutside}
 use Rattle.btr_scrub.specs.Order.{AreApart, targets}
 use Rattle.btr_scrub.specs.Repair.{blocks, failed, met, ranges, row_of, rows, rows_in, sites}
 use Rattle.btr_scrub.specs.Scrubbing.{all_writes_for}
-use Rattle.btr_scrub.specs.Right.{AreBytes, CanBeSpared, Committed, HasFewWrongAt, HasRightPlace, IsOfStale, IsOfWrongParity, IsOfWrongPlace}
-use Rattle.btr_scrub.specs.Right.{IsCommitted, IsWrongRange, RangesLeaveFresh, RangesLieInWrong, RangesMayHoldAnything, StandsFor}
+use Rattle.btr_scrub.specs.Right.{AreBytes, CanBeSpared, Committed, HasFewWrongAt, HasRightPlace, IsOfStale, IsOfWrongParity, IsOfWrongPlace, IsCommitted}
+use Rattle.btr_scrub.specs.Right.{IsWrongRange, RangesLeaveFresh, RangesLieInWrong, RangesMayHoldAnything, StandsFor}
 use Rattle.btr_scrub_copies.specs.Fresh.{fresh}
 use Rattle.btr_scrub.proofs.InWrong.{IsWrong, range_is_wrong}
 use Rattle.btr_scrub.proofs.Lists.{all_from, all_in, any_in, in_flat, in_filter}
@@ -84,7 +84,8 @@ module _ (images : Images) (fs : Filesystem) (table : IsTable fs.layout.chunks) 
 
   pub leave_fresh : RangesLeaveFresh images fs
   leave_fresh left given keeps =
-      all_from (λ t. is_plain t.want ≡ true → IsSome (mirrors t.chunk) → fresh left (failed images fs) t ≡ fresh images (failed images fs) t) (sites images fs) (λ t i sector copies.
+      all_from (λ t. is_plain t.want ≡ true → IsSome (mirrors t.chunk) → fresh left (failed images fs) t ≡ fresh images (failed images fs) t)
+      (sites images fs) (λ t i sector copies.
       fresh_outlives (failed images fs) images layout wants table own given lengths apart left t (subst (In t) (sym same) i) sector copies (written left keeps))
 
   pub lie_in_wrong : RangesLieInWrong images fs

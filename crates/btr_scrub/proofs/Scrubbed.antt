@@ -1,6 +1,6 @@
 -- What a call of scrub answers and leaves, from what it did.
-use Rattle.std.proofs.Common.{◌≡◌, ℕ, ◌<◌, ◌≤◌, Bool, true, false, cond, List, [], map, Option, Some, None, IfSome, IsSomeAnd, OnOk, Result, Ok, Err, refl}
-use Rattle.std.proofs.Common.{sym, ap, ◌∙◌, subst, inl, inr, arith}
+use Rattle.std.proofs.Common.{◌≡◌, ℕ, ◌<◌, ◌≤◌, Bool, true, false, cond, List, [], map, Option, Some, None, IfSome, IsSomeAnd, OnOk, Result, Ok, Err, refl, sym}
+use Rattle.std.proofs.Common.{ap, ◌∙◌, subst, inl, inr, arith}
 use Rattle.std.proofs.lemmas.List.{append-nil}
 use Rattle.std.proofs.lemmas.Option.{same_Some}
 use Rattle.std.specs.List.{fold}
@@ -50,7 +50,9 @@ use Rattle.btr_volume.specs.Stops.{stop_halt}
 -- what is said of the images before and behind, where they are told
 of_images : (c : Called) (P : Images → Images → Type 0) → ((images : Images) → c.old.held ≡ Some images → (left : Images) × (c.new.held ≡ Some left))
     → ((images left : Images) → c.old.held ≡ Some images → c.new.held ≡ Some left → P images left) → OfImages c P
-of_images c P still h = tell c.old.held (λ images. IsSomeAnd c.new.held (P images)) (λ images e. let l = still images e in subst (λ o. IsSomeAnd o (P images)) (sym l.1) (h images l.0 e l.1))
+of_images c P still h =
+    tell c.old.held (λ images. IsSomeAnd c.new.held (P images)) (λ images e. let l = still images e in subst (λ o. IsSomeAnd o (P images)) (sym l.1)
+    (h images l.0 e l.1))
 
 images_of : (c : Called) (P : Images → Images → Type 0) (images : Images) → c.old.held ≡ Some images → OfImages c P → (left : Images)
     × (c.new.held ≡ Some left) × P images left
@@ -85,7 +87,8 @@ module _ (c : Called) where
 
     left_by : (ws : Images → List Write) → OfImages c (λ images left. IsLeftBy (ws images) images left)
     left_by ws = of_images c (λ images left. IsLeftBy (ws images) images left) still (λ images left e f.
-        subst (IsLeftBy (ws images) images) (sym (left_is images left e f)) (record { stopped = stopped_first (ws images) images; rest = record { count = refl; lengths = λ slot. refl; bytes = λ slot off e. refl } }))
+        subst (IsLeftBy (ws images) images) (sym (left_is images left e f))
+        (record { stopped = stopped_first (ws images) images; rest = record { count = refl; lengths = λ slot. refl; bytes = λ slot off e. refl } }))
 
     later_new : mid.account.faults ≤ c.new.account.faults
     later_new = omega (arith, ap (λ (s : Seen). s.account.faults) same)
@@ -98,10 +101,11 @@ module _ (c : Called) where
 
     pub lacking : IsScrubbed c
     lacking = record {
-      answers = λ sure. of_images c (λ images left. AnswersAs c images left c.result) (still c.old none_read same) (λ images left e f. subst (AnswersAs c images left) (sym answer) (record {
-        answer = answer ∙ sym (ap (λ o. (effect_unless c.write images c.fs o).answer) is);
-        same = left_is c.old none_read same images left e f ∙ sym (ap (λ o. (effect_unless c.write images c.fs o).images) is);
-      }));
+      answers = λ sure. of_images c (λ images left. AnswersAs c images left c.result) (still c.old none_read same)
+          (λ images left e f. subst (AnswersAs c images left) (sym answer) (record {
+            answer = answer ∙ sym (ap (λ o. (effect_unless c.write images c.fs o).answer) is);
+            same = left_is c.old none_read same images left e f ∙ sym (ap (λ o. (effect_unless c.write images c.fs o).images) is);
+          }));
       left = λ sure. left_by c.old none_read same (λ images. (effect c.write images c.fs).writes);
       reads = subst (ReadsAt c) (sym answer) same;
       unwritten = λ w. subst (OnlyReads c.old) (sym same) none_read;
@@ -129,7 +133,8 @@ module _ (c : Called) where
         same = left_is mid reads same images left e g ∙ sym (ap (λ (x : Effect). x.images) (effect_is images (Err f) ending));
       }
 
-      module _ (done : List Met) (tells : Tells layout c.old mid (λ B. Follows (unread_by layout c.old mid) no_part [] (exec B (units_in c.fs.sup layout.chunks)) done (Err (stop_halt why)))) (cause : StopCause {A = Tally} layout c.old mid (Err why)) where
+      module _ (done : List Met) (tells : Tells layout c.old mid (λ B. Follows (unread_by layout c.old mid) no_part []
+          (exec B (units_in c.fs.sup layout.chunks)) done (Err (stop_halt why)))) (cause : StopCause {A = Tally} layout c.old mid (Err why)) where
         abbrev Ended : Stop → Images → Type 0
         Ended s images = Follows (unread_by layout c.old mid) no_part [] (exec (fate images layout) (units_in c.fs.sup layout.chunks)) done (Err (stop_halt s))
 
@@ -201,7 +206,8 @@ module _ (c : Called) where
         other slot e = cc
 
     -- an image failed as listed blocks were looked at
-    module _ (mid : Seen) (reads : OnlyReads c.old mid) (slot : ℕ) (answer : c.result ≡ Err (stop.Image slot)) (later : OnlyReads mid c.new) (f : FailsAt (LiesInStripe layout) slot mid c.new) where
+    module _ (mid : Seen) (reads : OnlyReads c.old mid) (slot : ℕ) (answer : c.result ≡ Err (stop.Image slot)) (later : OnlyReads mid c.new)
+        (f : FailsAt (LiesInStripe layout) slot mid c.new) where
       only : OnlyReads c.old c.new
       only = reads_more reads later
 
@@ -265,7 +271,8 @@ module _ (c : Called) where
         module _ (u : Unit {0}) (is : ended ≡ Ok u) where
           done_writes : left ≡ fold write_on images (writes_if c.write (ws images))
           done_writes =
-              let l = subst (λ o. LeaveImages {A = Unit {0}} {E = MendFault} (λ i. writes_if c.write (ws i)) o c.new.held (Ok u)) (mid_held images e) (subst (λ r. LeaveImages (λ i. writes_if c.write (ws i)) mid.held c.new.held r) is works.does.held) in
+              let l = subst (λ o. LeaveImages {A = Unit {0}} {E = MendFault} (λ i. writes_if c.write (ws i)) o c.new.held (Ok u)) (mid_held images e)
+              (subst (λ r. LeaveImages (λ i. writes_if c.write (ws i)) mid.held c.new.held r) is works.does.held) in
               same_Some left (fold write_on images (writes_if c.write (ws images))) (sym g ∙ l)
 
           written_or : (b : Bool) (vs : List Write) → fold write_on images (writes_if b vs) ≡ cond b (fold write_on images vs) images
@@ -295,9 +302,16 @@ module _ (c : Called) where
 
         -- the writes up to one
         stopped_at : (r : Result (Unit {0}) MendFault) → ended ≡ r → IsStopped (writes_if c.write (ws images)) images left
-        stopped_at (Ok u) is = record { before = writes_if c.write (ws images); behind = []; place = sym (append-nil (writes_if c.write (ws images))); stands = inl (done_writes u is) }
+        stopped_at (Ok u) is =
+            record {
+              before = writes_if c.write (ws images);
+              behind = [];
+              place = sym (append-nil (writes_if c.write (ws images)));
+              stands = inl (done_writes u is);
+            }
         stopped_at (Err x) is =
-            let l = subst (λ o. LeaveImages {A = Unit {0}} {E = MendFault} (λ i. writes_if c.write (ws i)) o c.new.held (Err x)) (mid_held images e) (subst (λ r. LeaveImages (λ i. writes_if c.write (ws i)) mid.held c.new.held r) is works.does.held) in
+            let l = subst (λ o. LeaveImages {A = Unit {0}} {E = MendFault} (λ i. writes_if c.write (ws i)) o c.new.held (Err x)) (mid_held images e)
+            (subst (λ r. LeaveImages (λ i. writes_if c.write (ws i)) mid.held c.new.held r) is works.does.held) in
             subst (λ o. IsSomeAnd o (IsStopped (writes_if c.write (ws images)) images)) g l
 
         rest : KeepsOutside (map (λ (w : Write). w.range) (writes_if c.write (ws images))) images left
@@ -317,7 +331,8 @@ module _ (c : Called) where
 
         left_as : IsLeftBy (effect c.write images c.fs).writes images left
         left_as =
-            let same : writes_if c.write (ws images) ≡ (effect c.write images c.fs).writes = ap (writes_if c.write) (writes_are images d) ∙ sym (ap (λ (x : Effect). x.writes) (effect_ok images d)) in
+            let same : writes_if c.write (ws images) ≡ (effect c.write images c.fs).writes =
+            ap (writes_if c.write) (writes_are images d) ∙ sym (ap (λ (x : Effect). x.writes) (effect_ok images d)) in
             subst (λ vs. IsLeftBy vs images left) same (record { stopped = stopped_at ended refl; rest = rest })
 
       reads_by : (r : Result (Unit {0}) MendFault) → ReadsAt c (answer_of r tally')
@@ -367,7 +382,8 @@ module _ (c : Called) where
 
   module _ (table : IsTable layout.chunks) (own : HaveOwnSlots layout.devices)
       (lengths : (images : Images) → c.old.held ≡ Some images → HaveLengths images layout)
-      (missing : IfSome (first_missing layout) (λ stripe. (c.result ≡ Err (stop.Missing stripe.devid)) × (c.new ≡ c.old))) (scrubs : first_missing layout ≡ None → ScrubsAll c.fs.sup layout c.write c.old c.new c.result) where
+      (missing : IfSome (first_missing layout) (λ stripe. (c.result ≡ Err (stop.Missing stripe.devid)) × (c.new ≡ c.old)))
+      (scrubs : first_missing layout ≡ None → ScrubsAll c.fs.sup layout c.write c.old c.new c.result) where
     goes_on : (given : first_missing layout ≡ None) (mid : Seen) → OnlyReads c.old mid → (done : List Met) (l : Listing)
         → Goes c.fs.sup layout c.write c.old mid c.new done c.result l → IsScrubbed c
     goes_on given mid reads done (Stopped why) g = stopped given mid reads g.1 why g.0 done g.2 g.3
@@ -427,10 +443,12 @@ module _ (c : Called) where
       wrong = tell c.old.held (λ images. RangesLieInWrong images c.fs)
           (λ images e. lie_in_wrong images c.fs table own (lengths images e) (bytes images e) node some);
       left = λ sure. of_images c (λ images left. (C : Committed) → IsCommitted images c.fs C → SparedStand images left c.fs C)
-          (λ images e. let l = images_of c (λ images left. IsLeftBy (effect c.write images c.fs).writes images left) images e (scrubbed.left sure) in (l.0, l.1))
+          (λ images e. let l = images_of c (λ images left. IsLeftBy (effect c.write images c.fs).writes images left) images e
+          (scrubbed.left sure) in (l.0, l.1))
           (λ images left e g C h.
           let l = images_of c (λ images left. IsLeftBy (effect c.write images c.fs).writes images left) images e (scrubbed.left sure) in
-          let k : IsLeftBy (effect c.write images c.fs).writes images left = subst (IsLeftBy (effect c.write images c.fs).writes images) (same_Some l.0 left (sym l.1 ∙ g)) l.2 in
+          let k : IsLeftBy (effect c.write images c.fs).writes images left =
+          subst (IsLeftBy (effect c.write images c.fs).writes images) (same_Some l.0 left (sym l.1 ∙ g)) l.2 in
           may_hold_anything images c.fs table own (lengths images e) (bytes images e) node some C left h (left_keeps h.given images left k));
     }
 

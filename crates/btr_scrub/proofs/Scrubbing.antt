@@ -1,6 +1,6 @@
 -- Mending one thing after another.
-use Rattle.std.proofs.Common.{◌≡◌, ◌⊎◌, Bool, true, false, List, [], ◌++◌, length, Option, Some, None, IfSome, OnOk, is_none, is_some, Result, Ok, Err, IsErrAnd, refl, sym}
-use Rattle.std.proofs.Common.{ap, ◌∙◌, subst, inl, inr, arith}
+use Rattle.std.proofs.Common.{◌≡◌, ◌⊎◌, Bool, true, false, List, [], ◌++◌, length, Option, Some, None, IfSome, OnOk, is_none, is_some, Result, Ok, Err}
+use Rattle.std.proofs.Common.{IsErrAnd, refl, sym, ap, ◌∙◌, subst, inl, inr, arith}
 use Rattle.std.proofs.lemmas.Bool.{false≢true}
 use Rattle.std.proofs.lemmas.Option.{same_Some}
 use Rattle.std.specs.List.{count_by, fold}
@@ -48,7 +48,16 @@ account_weaker P Q a b (Err Memory) weak h = h
 
 pub does_weaker : {A : Type 0} (P Q : Range → Type 0) (f : Images → List Write) (m n : List Bool) (a b : Seen) (r : Result A MendFault)
     → ((range : Range) → P range → Q range) → Does P f m n a b r → Does Q f m n a b r
-does_weaker P Q f m n a b r weak h = record { ranges = h.ranges; only = h.only; own = h.own; lie = λ range i. weak range (h.lie range i); marked = h.marked; held = h.held; account = account_weaker P Q a b r weak h.account }
+does_weaker P Q f m n a b r weak h =
+    record {
+      ranges = h.ranges;
+      only = h.only;
+      own = h.own;
+      lie = λ range i. weak range (h.lie range i);
+      marked = h.marked;
+      held = h.held;
+      account = account_weaker P Q a b r weak h.account;
+    }
 
 -- what waits at some places
 pub waits_weaker : (P Q : Range → Type 0) (a b : Seen) → ((range : Range) → P range → Q range) → WaitsAt P a b → WaitsAt Q a b
@@ -67,10 +76,10 @@ pub does_fault : {A B : Type 0} (P : Range → Type 0) (f : Images → List Writ
 does_fault {A = A} {B = B} P f m n a b e h = does_as_halt P A B f f m n a b e (λ images same. refl) h
 
 -- the same writes, said otherwise
-pub recast : {A : Type 0} (P : Range → Type 0) (f g : Images → List Write) (m n : List Bool) (a b : Seen) (r : Result A MendFault)
-    → ((images : Images) → a.held ≡ Some images → f images ≡ g images) → Does P f m n a b r → Does P g m n a b r
-recast P f g m n a b (Ok x) e h = does_as P f g m n a b x x e h
-recast {A = A} P f g m n a b (Err x) e h = does_as_halt P A A f g m n a b x e h
+pub recast : {A : Type 0} {P : Range → Type 0} {f g : Images → List Write} {m n : List Bool} {a b : Seen} {r : Result A MendFault}
+    → Does P f m n a b r → ((images : Images) → a.held ≡ Some images → f images ≡ g images) → Does P g m n a b r
+recast {P = P} {f = f} {g = g} {m = m} {n = n} {a = a} {b = b} {r = Ok x} h e = does_as P f g m n a b x x e h
+recast {A = A} {P = P} {f = f} {g = g} {m = m} {n = n} {a = a} {b = b} {r = Err x} h e = does_as_halt P A A f g m n a b x e h
 
 -- the images after writes
 pub held_after : {U : Type 0} (P : Range → Type 0) (f : Images → List Write) (m n : List Bool) (a b : Seen) (u : U) (images : Images) → a.held
@@ -90,16 +99,13 @@ does_next A U P f g m n o a b c u r same h k = by a.held refl
     by : (held : Option Images) → a.held ≡ held → Does P (λ i. f i ++ g i) m o a c r
     by None e =
         let none = held_none P f m n a b u e h in
-        recast P (λ i. [] ++ []) (λ i. f i ++ g i) m o a c r (λ images e'. absurd (none_some images (sym e ∙ e')))
-        (does_then P A U [] [] m n o a b c u r
-        (recast P f (λ i. []) m n a b (Ok u) (λ images e'. absurd (none_some images (sym e ∙ e'))) h)
-        (recast P g (λ i. []) n o b c r (λ images e'. absurd (none_some images (sym none ∙ e'))) k))
+        recast (does_then P A U [] [] m n o a b c u r (recast h (λ images e'. absurd (none_some images (sym e ∙ e'))))
+        (recast k (λ images e'. absurd (none_some images (sym none ∙ e'))))) (λ images e'. absurd (none_some images (sym e ∙ e')))
     by (Some images) e =
         let some = held_after P f m n a b u images e h in
-        recast P (λ i. f images ++ g images) (λ i. f i ++ g i) m o a c r (λ images' e'. ap (λ i. f i ++ g i) (same_Some images images' (sym e ∙ e')))
-        (does_then P A U (f images) (g images) m n o a b c u r
-        (recast P f (λ i. f images) m n a b (Ok u) (λ images' e'. ap f (same_Some images' images (sym e' ∙ e))) h)
-        (recast P g (λ i. g images) n o b c r (λ images' e'. ap g (same_Some images' (fold write_on images (f images)) (sym e' ∙ some)) ∙ same images e) k))
+        recast (does_then P A U (f images) (g images) m n o a b c u r (recast h (λ images' e'. ap f (same_Some images' images (sym e' ∙ e))))
+        (recast k (λ images' e'. ap g (same_Some images' (fold write_on images (f images)) (sym e' ∙ some)) ∙ same images e)))
+        (λ images' e'. ap (λ i. f i ++ g i) (same_Some images images' (sym e ∙ e')))
 
 -- a work that came to a halt, and others to come
 pub does_cut : (A B : Type 0) (P : Range → Type 0) (f g : Images → List Write) (m n : List Bool) (a b : Seen) (e : MendFault)
@@ -107,14 +113,11 @@ pub does_cut : (A B : Type 0) (P : Range → Type 0) (f g : Images → List Writ
 does_cut A B P f g m n a b x h = by a.held refl
   where
     by : (held : Option Images) → a.held ≡ held → Does {A = B} P (λ i. f i ++ g i) m n a b (Err x)
-    by None e =
-        recast {A = B} P (λ i. [] ++ []) (λ i. f i ++ g i) m n a b (Err x) (λ images e'. absurd (none_some images (sym e ∙ e')))
-        (does_halt P A B [] [] m n a b x (recast {A = A} P f (λ i. []) m n a b (Err x) (λ images e'. absurd (none_some images (sym e ∙ e'))) h))
+    by None e = recast {A = B} (does_halt P A B [] [] m n a b x (recast {A = A} h (λ images e'. absurd (none_some images (sym e ∙ e')))))
+        (λ images e'. absurd (none_some images (sym e ∙ e')))
     by (Some images) e =
-        recast {A = B} P (λ i. f images ++ g images) (λ i. f i ++ g i) m n a b (Err x)
+        recast {A = B} (does_halt P A B (f images) (g images) m n a b x (recast {A = A} h (λ images' e'. ap f (same_Some images' images (sym e' ∙ e)))))
         (λ images' e'. ap (λ i. f i ++ g i) (same_Some images images' (sym e ∙ e')))
-        (does_halt P A B (f images) (g images) m n a b x (recast {A = A} P f (λ i. f images) m n a b (Err x)
-        (λ images' e'. ap f (same_Some images' images (sym e' ∙ e))) h))
 
 -- ---- with counts
 
@@ -122,45 +125,37 @@ pub if_append : (write : Bool) (xs ys : List Write) → writes_if write xs ++ wr
 if_append true xs ys = refl
 if_append false xs ys = refl
 
-module _ (layout : Layout) (write : Bool) where
-  -- what is written and counted, said otherwise
-  pub scrubs_as : {A : Type 0} (f g : Images → List Write) (c d : Images → Tally → Tally) (m n : List Bool) (a b : Seen) (t u : Tally) (r : Result A MendFault)
-      → ((images : Images) → a.held ≡ Some images → (f images ≡ g images) × (c images t ≡ d images t)) → Scrubs layout write f c m n a b t u r
-      → Scrubs layout write g d m n a b t u r
-  scrubs_as {A = A} f g c d m n a b t u r same h = record {
-    does = recast (IsOfScrub layout) (λ i. writes_if write (f i)) (λ i. writes_if write (g i)) [] [] (plain a) (plain b) r
-        (λ images e. ap (writes_if write) (same images e).0) h.does;
-    waits = h.waits;
-    marked = h.marked;
-    stranded = h.stranded;
-    counts = by r h.counts;
-    unwritten = h.unwritten;
-  }
-    where
-      by : (r : Result A MendFault) → OnOk r (IfSome a.held (λ images. u ≡ c images t)) → OnOk r (IfSome a.held (λ images. u ≡ d images t))
-      by (Ok x) k = tell a.held (λ images. u ≡ d images t) (λ images e. told a.held (λ images. u ≡ c images t) images e k ∙ (same images e).1)
-      by (Err x) k = tt
+-- what a work wrote and counted
+pub record IsDone {A : Type 0} (layout : Layout) (write : Bool) (f : Images → List Write) (c : Images → Tally → Tally) (a b : Seen) (t u : Tally)
+    (r : Result A MendFault) : Type 0 where
+  pub does : Does (IsOfScrub layout) (λ images. writes_if write (f images)) [] [] (plain a) (plain b) r
+  pub counts : OnOk r (IfSome a.held (λ images. u ≡ c images t))
+  pub unwritten : write ≡ false → OnlyReads a b
 
+module _ (layout : Layout) (write : Bool) where
   -- what was done before leaves what is written and counted next
   abbrev pub IsUnmoved : (f g : Images → List Write) (d : Images → Tally → Tally) → Option Images → Type 0
   IsUnmoved f g d held = (images : Images) → held ≡ Some images → (g (fold write_on images (writes_if write (f images))) ≡ g images)
       × ((x : Tally) → d (fold write_on images (writes_if write (f images))) x ≡ d images x)
 
-  pub scrubs_then : (A U : Type 0) (f g : Images → List Write) (c d : Images → Tally → Tally) (m n o : List Bool) (a b z : Seen) (t u v : Tally)
-      (x : U) (r : Result A MendFault)
-      → IsUnmoved f g d a.held → Scrubs layout write f c m n a b t u (Ok x) → Scrubs layout write g d n o b z u v r
-      → Scrubs layout write (λ i. f i ++ g i) (λ i y. d i (c i y)) m o a z t v r
-  scrubs_then A U f g c d m n o a b z t u v x r same h k = record {
-    does = recast (IsOfScrub layout) (λ i. writes_if write (f i) ++ writes_if write (g i)) (λ i. writes_if write (f i ++ g i)) [] [] (plain a)
-        (plain z) r (λ images e. if_append write (f images) (g images))
-        (does_next A U (IsOfScrub layout) (λ i. writes_if write (f i)) (λ i. writes_if write (g i)) [] [] [] (plain a) (plain b) (plain z) x r
-        (λ images e. ap (writes_if write) (same images e).0) h.does k.does);
-    waits = λ range i. elim (k.waits range i) as (λ _. In range (waiting a) ⊎ LiesInStripe layout range) [
-      | inl j ↦ h.waits range j
-      | inr p ↦ inr p
-    ];
-    marked = λ all. k.marked (h.marked all);
-    stranded = subst (λ never. Strands never z.never_synced r) h.stranded k.stranded;
+  -- said otherwise
+  pub done_as : {A : Type 0} (f g : Images → List Write) (c d : Images → Tally → Tally) (a b : Seen) (t u : Tally) (r : Result A MendFault)
+      → ((images : Images) → a.held ≡ Some images → (f images ≡ g images) × (c images t ≡ d images t)) → IsDone layout write f c a b t u r
+      → IsDone layout write g d a b t u r
+  done_as {A = A} f g c d a b t u r same h =
+      record { does = recast h.does (λ images e. ap (writes_if write) (same images e).0); counts = by r h.counts; unwritten = h.unwritten }
+    where
+      by : (r : Result A MendFault) → OnOk r (IfSome a.held (λ images. u ≡ c images t)) → OnOk r (IfSome a.held (λ images. u ≡ d images t))
+      by (Ok x) k = tell a.held (λ images. u ≡ d images t) (λ images e. told a.held (λ images. u ≡ c images t) images e k ∙ (same images e).1)
+      by (Err x) k = tt
+
+  -- one work behind another
+  pub done_then : {A U : Type 0} (f g : Images → List Write) (c d : Images → Tally → Tally) (a b z : Seen) (t u v : Tally) (x : U) (r : Result A MendFault)
+      → IsUnmoved f g d a.held → IsDone layout write f c a b t u (Ok x) → IsDone layout write g d b z u v r
+      → IsDone layout write (λ i. f i ++ g i) (λ i y. d i (c i y)) a z t v r
+  done_then {A = A} {U = U} f g c d a b z t u v x r same h k = record {
+    does = recast (does_next A U (IsOfScrub layout) (λ i. writes_if write (f i)) (λ i. writes_if write (g i)) [] [] [] (plain a) (plain b) (plain z) x r
+        (λ images e. ap (writes_if write) (same images e).0) h.does k.does) (λ images e. if_append write (f images) (g images));
     counts = by r k.counts;
     unwritten = λ w. reads_more (h.unwritten w) (k.unwritten w);
   }
@@ -172,25 +167,63 @@ module _ (layout : Layout) (write : Bool) where
           ∙ (same images e).1 u ∙ ap (d images) (told a.held (λ images. u ≡ c images t) images e h.counts))
       by (Err y) l = tt
 
-  pub scrubs_cut : (A B : Type 0) (f g : Images → List Write) (c d : Images → Tally → Tally) (m n : List Bool) (a b : Seen) (t u : Tally) (x : MendFault)
-      → Scrubs {A = A} layout write f c m n a b t u (Err x) → Scrubs {A = B} layout write (λ i. f i ++ g i) d m n a b t u (Err x)
-  scrubs_cut A B f g c d m n a b t u x h = record {
-    does = recast {A = B} (IsOfScrub layout) (λ i. writes_if write (f i) ++ writes_if write (g i)) (λ i. writes_if write (f i ++ g i)) [] [] (plain a)
-        (plain b) (Err x) (λ images e. if_append write (f images) (g images))
-        (does_cut A B (IsOfScrub layout) (λ i. writes_if write (f i)) (λ i. writes_if write (g i)) [] [] (plain a) (plain b) x h.does);
-    waits = h.waits;
-    marked = h.marked;
-    stranded = strands_same A B x a.never_synced b.never_synced h.stranded;
+  -- one that came to a halt, and others to come
+  pub done_cut : (A B : Type 0) (f g : Images → List Write) (c d : Images → Tally → Tally) (a b : Seen) (t u : Tally) (x : MendFault)
+      → IsDone {A = A} layout write f c a b t u (Err x) → IsDone {A = B} layout write (λ i. f i ++ g i) d a b t u (Err x)
+  done_cut A B f g c d a b t u x h = record {
+    does = recast {A = B} (does_cut A B (IsOfScrub layout) (λ i. writes_if write (f i)) (λ i. writes_if write (g i)) [] [] (plain a) (plain b) x h.does)
+        (λ images e. if_append write (f images) (g images));
     counts = tt;
     unwritten = h.unwritten;
   }
+
+  -- ---- with what waits for a sync
+
+  pub scrubs_as : {A : Type 0} (f g : Images → List Write) (c d : Images → Tally → Tally) (m n : List Bool) (a b : Seen) (t u : Tally) (r : Result A MendFault)
+      → ((images : Images) → a.held ≡ Some images → (f images ≡ g images) × (c images t ≡ d images t)) → Scrubs layout write f c m n a b t u r
+      → Scrubs layout write g d m n a b t u r
+  scrubs_as f g c d m n a b t u r same h =
+      let k = done_as f g c d a b t u r same (record { does = h.does; counts = h.counts; unwritten = h.unwritten }) in
+      record { does = k.does; waits = h.waits; marked = h.marked; stranded = h.stranded; counts = k.counts; unwritten = k.unwritten }
+
+  pub scrubs_then : (A U : Type 0) (f g : Images → List Write) (c d : Images → Tally → Tally) (m n o : List Bool) (a b z : Seen) (t u v : Tally)
+      (x : U) (r : Result A MendFault)
+      → IsUnmoved f g d a.held → Scrubs layout write f c m n a b t u (Ok x) → Scrubs layout write g d n o b z u v r
+      → Scrubs layout write (λ i. f i ++ g i) (λ i y. d i (c i y)) m o a z t v r
+  scrubs_then A U f g c d m n o a b z t u v x r same h k =
+      let both = done_then f g c d a b z t u v x r same (record { does = h.does; counts = h.counts; unwritten = h.unwritten })
+      (record { does = k.does; counts = k.counts; unwritten = k.unwritten }) in
+      record {
+        does = both.does;
+        waits = λ range i. elim (k.waits range i) as (λ _. In range (waiting a) ⊎ LiesInStripe layout range) [
+          | inl j ↦ h.waits range j
+          | inr p ↦ inr p
+        ];
+        marked = λ all. k.marked (h.marked all);
+        stranded = subst (λ never. Strands never z.never_synced r) h.stranded k.stranded;
+        counts = both.counts;
+        unwritten = both.unwritten;
+      }
+
+  pub scrubs_cut : (A B : Type 0) (f g : Images → List Write) (c d : Images → Tally → Tally) (m n : List Bool) (a b : Seen) (t u : Tally) (x : MendFault)
+      → Scrubs {A = A} layout write f c m n a b t u (Err x) → Scrubs {A = B} layout write (λ i. f i ++ g i) d m n a b t u (Err x)
+  scrubs_cut A B f g c d m n a b t u x h =
+      let k = done_cut A B f g c d a b t u x (record { does = h.does; counts = h.counts; unwritten = h.unwritten }) in
+      record {
+        does = k.does;
+        waits = h.waits;
+        marked = h.marked;
+        stranded = strands_same A B x a.never_synced b.never_synced h.stranded;
+        counts = tt;
+        unwritten = h.unwritten;
+      }
 
   -- nothing was done
   pub scrubs_idle : {A : Type 0} (count : Tally → Tally) (marks : List Bool) (a : Seen) (t : Tally) (x : A)
       → Scrubs {A = A} layout write (λ i. []) (λ i. count) marks marks a a t (count t) (Ok x)
   scrubs_idle count marks a t x = record {
-    does = recast (IsOfScrub layout) (λ i. []) (λ i. writes_if write []) [] [] (plain a) (plain a) (Ok x) (λ images e. none write)
-        (does_reads (IsOfScrub layout) [] (plain a) (plain a) x (record { same = refl; later = omega arith; same_shut = refl }) (record { faults = refl; fresh = refl; missed = refl; last = refl; opening = refl; shut = refl }));
+    does = recast (does_reads (IsOfScrub layout) [] (plain a) (plain a) x (record { same = refl; later = omega arith; same_shut = refl })
+        (record { faults = refl; fresh = refl; missed = refl; last = refl; opening = refl; shut = refl })) (λ images e. none write);
     waits = λ range i. inl i;
     marked = λ all. all;
     stranded = refl;
@@ -207,7 +240,8 @@ module _ (layout : Layout) (write : Bool) where
   scrubs_none marks a t x = scrubs_idle (λ y. y) marks a t x
 
 -- what a call did that failed was done where its fault is passed on
-pub scrubs_passed : {A : Type 0} {layout : Layout} {write : Bool} {f : Images → List Write} {c : Images → Tally → Tally} {m n : List Bool} {a b : Seen} {t u : Tally}
+pub scrubs_passed : {A : Type 0} {layout : Layout} {write : Bool} {f : Images → List Write} {c : Images → Tally
+    → Tally} {m n : List Bool} {a b : Seen} {t u : Tally}
     {r : Result A MendFault} {fault : MendFault} → IsErrAnd r (λ e. e ≡ fault) → Scrubs {A = A} layout write f c m n a b t u (Err fault)
     → Scrubs layout write f c m n a b t u r
 scrubs_passed {layout = layout} {write = write} {f = f} {c = c} {m = m} {n = n} {a = a} {b = b} {t = t} {u = u} {r = r} {fault = fault} is h =
@@ -217,7 +251,9 @@ scrubs_passed {layout = layout} {write = write} {f = f} {c = c} {m = m} {n = n} 
 pub scrubs_nothing : (layout : Layout) (write : Bool) (marks : List Bool) (a : Seen) (t : Tally)
     → Scrubs {A = Unit {0}} layout write (λ i. []) (λ i y. y) marks marks a a t t (Err Memory)
 scrubs_nothing layout write marks a t = record {
-  does = does_failed (IsOfScrub layout) (Unit {0}) (Unit {0}) (λ i. writes_if write []) [] (plain a) (plain a) Memory (record { same = refl; later = omega arith; same_shut = refl }) (record { faults = refl; fresh = refl; missed = refl; last = refl; opening = refl; shut = refl });
+  does = does_failed (IsOfScrub layout) (Unit {0}) (Unit {0}) (λ i. writes_if write []) [] (plain a) (plain a) Memory
+      (record { same = refl; later = omega arith; same_shut = refl })
+      (record { faults = refl; fresh = refl; missed = refl; last = refl; opening = refl; shut = refl });
   waits = λ range i. inl i;
   marked = λ all. all;
   stranded = refl;
@@ -228,7 +264,8 @@ scrubs_nothing layout write marks a t = record {
 -- ---- a block or a plain sector
 
 -- what was done for it by its copies, and counted
-module _ (layout : Layout) (write : Bool) (t : Target) (f : Images → List Write) (count : Images → Mended) (into : Tally → Mended → Tally) (m n : List Bool) (a b : Seen) (in_stripe : (range : Range) → IsOfCopy t range → LiesInStripe layout range) where
+module _ (layout : Layout) (write : Bool) (t : Target) (f : Images → List Write) (count : Images → Mended) (into : Tally → Mended → Tally) (m n : List Bool)
+    (a b : Seen) (in_stripe : (range : Range) → IsOfCopy t range → LiesInStripe layout range) where
   abbrev the_writes : Images → List Write
   the_writes images = writes_if write (f images)
 

@@ -1,30 +1,31 @@
 -- The writes for a block have at most as many bytes as their ranges.
-use Rattle.std.proofs.Common.{◌≡◌, ℕ, ◌+◌, ◌-◌, ◌≤◌, Bool, true, false, cond, List, [], ◌∷◌, length, drop, All, Option}
-use Rattle.std.proofs.Common.{Some, None, refl, ap, subst, inl, inr, arith, length-take}
-use Rattle.std.proofs.lemmas.List.Elements.{All-cons, All-nil, All-append}
+use Rattle.std.proofs.Common.{◌≡◌, ℕ, ◌+◌, ◌-◌, ◌≤◌, Bool, true, false, cond, List, [], ◌∷◌, length, drop, All, Option, nat_lt, Some, None, refl, ap, subst}
+use Rattle.std.proofs.Common.{inl, inr, arith, length-take}
 use Rattle.std.proofs.lemmas.Option.{same_Some}
-use Rattle.std.specs.List.{cons_option, find, flat_map}
-use Rattle.std.specs.Option.{option_map, option_map_or, unwrap_or}
+use Rattle.std.specs.List.{find}
+use Rattle.std.specs.Option.{option_map_or, unwrap_or}
 use Rattle.btr_chunk.specs.Mapping.{place_at}
 use Rattle.btr_chunk.specs.declared.place.Part.{Part}
 use Rattle.btr_rack.specs.Rack.{bytes_of, image_of, range_in}
 use Rattle.btr_rack.specs.declared.place.Place.{Place as Range}
-use Rattle.btr_read.specs.Candidates.{Target, candidates, element, range_of, range_on, size_of, stands, value_of}
+use Rattle.btr_read.specs.Candidates.{Target, candidates, element, range_on, size_of, stands, value_of}
 use Rattle.btr_read.specs.Layout.{Layout, device_in}
 use Rattle.btr_read.specs.Solution.{byte_lists, the_one}
 use Rattle.btr_read.specs.declared.candidate.Candidate.{Candidate}
 use Rattle.btr_read.specs.declared.candidate.Candidate.TheVariants.{Read, ByP, ByQ, ByBoth}
 use Rattle.btr_read.proofs.Ones.{all_slices}
 use Rattle.btr_read.specs.Fate.{is_plain}
-use Rattle.btr_scrub_copies.specs.Blocks.{accepted, bad_parts, block_writes, copy_writes, written_over}
-use Rattle.btr_scrub_copies.specs.Writes.{Images, Write}
-use Rattle.btr_scrub_row.specs.Wanted.{mending_writes}
+use Rattle.btr_scrub_copies.specs.Blocks.{accepted}
+use Rattle.btr_scrub_copies.specs.Writes.{Images}
+use Rattle.btr_scrub_row.specs.Wanted.{mending_writes, new_bytes}
 use Rattle.btr_scrub.specs.Devices.{HaveLengths}
 use Rattle.btr_scrub.specs.BlocksInRows.{In}
 use Rattle.btr_scrub.specs.Order.{IsSought}
-use Rattle.btr_scrub_copies.specs.Fresh.{Failing, fresh, fresh_writes, stale_parts}
+use Rattle.btr_scrub_copies.specs.Fresh.{Failing, fresh, stale_parts}
 use Rattle.btr_scrub.proofs.CopyWrites.{first_of, fresh_from, is_there}
 use Rattle.btr_scrub.proofs.Pasting.{Short}
+use Rattle.btr_scrub.proofs.OwnPlaces.{is_over}
+use Rattle.btr_scrub.proofs.Lists.{all_from}
 
 -- ---- what is accepted is no longer than what is sought
 
@@ -73,47 +74,22 @@ accepted_short images t bytes e =
 
 -- ---- the writes for a block
 
-module _ (images : Images) (layout : Layout) (lengths : HaveLengths images layout) (t : Target) (is : IsSought layout t) where
-  over_short : (bytes : List ℕ) (parts : List Part) → length bytes ≤ size_of t → All (Short images) (copy_writes t bytes parts)
-  over_short bytes [] short = All-nil (Short images)
-  over_short bytes (part ∷ parts) short = by (range_of t part) refl (over_short bytes parts short)
+module _ (images : Images) (layout : Layout) (lengths : HaveLengths images layout) (t : Target) (is : IsSought layout t) (fails : Failing) where
+  -- the bytes that it gets are no longer than it
+  gets_short : (bytes : List ℕ) → new_bytes images fails t ≡ Some bytes → length bytes ≤ size_of t
+  gets_short bytes e = by (is_plain t.want) (nat_lt 0 (length (stale_parts images fails t))) e
     where
-      by : (o : Option Range) → range_of t part ≡ o → All (Short images) (copy_writes t bytes parts)
-          → All (Short images) (cons_option (option_map (λ (range : Range). record { range = range; bytes = bytes }) o) (copy_writes t bytes parts))
-      by None e rest = rest
-      by (Some range) e rest =
-          let there = is_there images layout t part range lengths is e in
-          let slot : range.slot ≡ there.device.slot = ap (λ (r : Range). r.slot) there.is in
-          let off : range.off ≡ (place_at t.chunk part t.at).offset = ap (λ (r : Range). r.off) there.is in
-          let len : range.len ≡ size_of t = ap (λ (r : Range). r.len) there.is in
-          let image : length (image_of images range.slot) ≡ length (image_of images there.device.slot) = ap (λ s. length (image_of images s)) slot in
-          All-cons (Short images) (record { range = range; bytes = bytes }) (copy_writes t bytes parts) (record { short = omega (arith, short, len); within = omega (arith, there.within, off, len, image) }) rest
+      by : (b c : Bool) → cond b (cond c (fresh images fails t) None) (accepted images t) ≡ Some bytes → length bytes ≤ size_of t
+      by true true e = let f = fresh_from fails images t bytes e in subst (λ xs. length xs ≤ size_of t) f.value (value_short images t f.way)
+      by true false e = cc
+      by false c e = accepted_short images t bytes e
 
-  pub block_short : All (Short images) (block_writes images t)
-  block_short = by (accepted images t) refl
-    where
-      by : (o : Option (List ℕ)) → accepted images t ≡ o → All (Short images) (option_map_or (written_over images t) o [])
-      by None e = All-nil (Short images)
-      by (Some bytes) e = over_short bytes (bad_parts images t) (accepted_short images t bytes e)
-
-  fresh_short : (fails : Failing) → All (Short images) (fresh_writes images fails t)
-  fresh_short fails = by (fresh images fails t) refl
-    where
-      by : (o : Option (List ℕ)) → fresh images fails t ≡ o
-          → All (Short images) (option_map_or (λ bytes. copy_writes t bytes (stale_parts images fails t)) o [])
-      by None e = All-nil (Short images)
-      by (Some bytes) e =
-          let f = fresh_from fails images t bytes e in
-          over_short bytes (stale_parts images fails t) (subst (λ xs. length xs ≤ size_of t) f.value (value_short images t f.way))
-
-  pub site_short : (fails : Failing) → All (Short images) (mending_writes images fails t)
-  site_short fails = by (is_plain t.want)
-    where
-      by : (b : Bool) → All (Short images) (cond b (fresh_writes images fails t) (block_writes images t))
-      by true = fresh_short fails
-      by false = block_short
-
-pub flat_short : {X : Type 0} (images : Images) (f : X → List Write) (xs : List X) → ((x : X) → In x xs → All (Short images) (f x))
-    → All (Short images) (flat_map f xs)
-flat_short images f [] h = All-nil (Short images)
-flat_short images f (x ∷ xs) h = All-append (Short images) (f x) (flat_map f xs) (h x (inl refl)) (flat_short images f xs (λ y i. h y (inr i)))
+  pub site_short : All (Short images) (mending_writes images fails t)
+  site_short = all_from (Short images) (mending_writes images fails t) (λ w i.
+      let o = is_over images fails t w i in
+      let there = is_there images layout t o.part w.range lengths is o.range in
+      let off : w.range.off ≡ (place_at t.chunk o.part t.at).offset = ap (λ (r : Range). r.off) there.is in
+      let len : w.range.len ≡ size_of t = ap (λ (r : Range). r.len) there.is in
+      let image : length (image_of images w.range.slot) ≡ length (image_of images there.device.slot) =
+      ap (λ (r : Range). length (image_of images r.slot)) there.is in
+      record { short = omega (arith, gets_short w.bytes o.gets, len); within = omega (arith, there.within, off, len, image) })

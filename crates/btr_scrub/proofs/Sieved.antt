@@ -147,6 +147,9 @@ pub sieves_passed : {A : Type 0} {p : Meeting A} {x : Scene} {rack : Seen} {vol 
     → IsErrAnd r (λ e. e ≡ halt) → Sieves p x rack vol sieve (Err halt) → Sieves p x rack vol sieve r
 sieves_passed {p = p} {x = x} {rack = rack} {vol = vol} {sieve = sieve} {r = r} {halt = halt} is h = passed (λ r. Sieves p x rack vol sieve r) r halt is h
 
+same_stop : (s t : Stop) → ◌≡◌ {A = Result Tally Stop} (Err s) (Err t) → s ≡ t
+same_stop s t e = cc e
+
 -- a fault of the sifting
 pub sieves_fault : {A : Type 0} (p : Meeting A) (a b z : Seen) (vol after last : Volume) (list more : Gathered) (sieve : Sieve) (x : A)
     → Gathers p (scene a vol list) (scene b after more) (Ok x) → OnlyReads b z → SameVolume after last → Serves z last.store
@@ -160,16 +163,10 @@ sieves_fault p a b z vol after last list more sieve x h reads same serves (Image
       serves = serves;
       went = record { mid = b; before = h.reads; reads = reads; failed = account };
     })
-  where
-    same_stop : (s t : Stop) → ◌≡◌ {A = Result Tally Stop} (Err s) (Err t) → s ≡ t
-    same_stop s t e = cc e
 sieves_fault p a b z vol after last list more sieve x h reads same serves Memory account s says tally =
     let is : stop.Memory ≡ s = same_stop stop.Memory s (sym (says tally)) in
     subst (λ w. Sieves p (scene a vol list) z last sieve (Err w)) is
     (sieves_stop p (scene a vol list) z last sieve more stop.Memory (gathers_broke p a b z vol after last list more reads same serves x h))
-  where
-    same_stop : (s t : Stop) → ◌≡◌ {A = Result Tally Stop} (Err s) (Err t) → s ≡ t
-    same_stop s t e = cc e
 
 -- ---- one after another
 

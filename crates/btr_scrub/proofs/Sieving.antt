@@ -1,16 +1,15 @@
 -- Blocks are sifted one after another.
 use Rattle.std.proofs.Common.{◌≡◌, ℕ, ◌+◌, Bool, true, false, cond, ◌||◌, leb, ltb, List, [], ◌∷◌, ◌++◌, length, Option, Some, None, is_none, IsSome, Result}
-use Rattle.std.proofs.Common.{Ok, Err, refl, sym, ap, ◌∙◌}
-use Rattle.std.proofs.Common.{◌⊎◌, ◌≢◌, get_or, slice_get, subst, inl, inr, arith, zero, suc, is_some, ◌-◌, ◌*◌, ◌^◌, ◌<◌, ◌≤◌, not, ◌&&◌, IfSome, take, drop}
-use Rattle.std.proofs.Common.{append_assoc, append-nil, length-append}
+use Rattle.std.proofs.Common.{Ok, Err, refl, sym, ap, ◌∙◌, ◌⊎◌, ◌≢◌, get_or, slice_get, subst, inl, inr, arith, zero, suc, is_some, ◌*◌, ◌^◌, ◌<◌, ◌≤◌, not}
+use Rattle.std.proofs.Common.{◌&&◌, IfSome, drop, append_assoc, append-nil, length-append}
 use Rattle.std.proofs.Math.Nat.{suc-mul}
-use Rattle.std.proofs.lemmas.List.{length-drop, length-take-le, take_all, take-append-le}
-use Rattle.std.proofs.lemmas.List.Elements.{filter-append, filter_map-append}
+use Rattle.std.proofs.lemmas.List.{length-drop}
+use Rattle.std.proofs.lemmas.List.Elements.{filter-append}
 use Rattle.std.proofs.lemmas.List.Sums.{sum_by-append, sum_by-cons}
-use Rattle.std.specs.Prelude.{replicate, count_by}
+use Rattle.std.specs.Prelude.{count_by}
 use Rattle.std.specs.List.{cons_option, filter}
 use Rattle.std.specs.Option.{option_map_or}
-use Rattle.btr_base.specs.Sum.{sum_from, sum_size, stored_sum}
+use Rattle.btr_base.specs.Sum.{sum_size}
 use Rattle.btr_base.specs.declared.kind.SumKind.{SumKind}
 use Rattle.btr_read.specs.Want.{addr_of, len_of}
 use Rattle.btr_walk.specs.declared.fault.TreeFault.{TreeFault}
@@ -57,16 +56,18 @@ use Rattle.btr_scrub.specs.WrittenRanges.{LiesInChunk, LiesInStripe}
 use Rattle.btr_scrub.specs.Repair.{first_missing, is_in_row, ok_or_none, stood}
 use Rattle.btr_scrub.specs.Scanning.{IsSpanIn}
 use Rattle.btr_scrub.specs.Scrubbing.{HasRooms}
-use Rattle.btr_scrub.specs.Sifting.{AreSifted, CanSift, IsBehind, Judges, PassesCalm, ShareNoRow, Sifts, SiftsNext, Stands, is_copy_needed, is_left_out}
+use Rattle.btr_scrub.specs.Sifting.{AreSifted, CanSift, IsBehind, Judges, PassesInert, ShareNoRow, Sifts, SiftsNext, Stands, is_copy_needed, is_left_out}
 use Rattle.btr_scrub.specs.Sifting.{is_needed, is_row_needed, is_unsound, kept_of, left_out, lies_in, needs, row_among}
 use Rattle.btr_scrub.proofs.AcrossChunks.{sum_same}
 use Rattle.btr_scrub.proofs.Agreeing.{filter_same}
-use Rattle.btr_scrub.proofs.Blockwise.{all_behind, chunk_same, filter_all, filter_none, of_targets, part_is_given}
+use Rattle.btr_scrub.proofs.Blockwise.{all_behind, chunk_same, filter_all, filter_none, of_targets, part_is_given, target_sought, targets_both}
 use Rattle.btr_scrub.proofs.RowNumbers.{row_is_not, sought_each}
 use Rattle.btr_scrub.proofs.Sums.{sum_zero}
-use Rattle.btr_scrub.proofs.Positions.{alone_lies, copy_in_stripe, find_at, is_sought}
+use Rattle.btr_scrub.proofs.Positions.{alone_lies, copy_in_stripe, find_at, is_sought, bounds_of}
 use Rattle.std.proofs.lemmas.Option.{slice_get_within}
-use Rattle.btr_scrub.proofs.Lists.{any_at, at_in, in_of, some_if, some_of}
+use Rattle.btr_scrub.proofs.Lists.{any_at, at_in, in_of, some_if, some_of, in_more}
+use Rattle.btr_scrub.proofs.Refusing.{refused_behind, upto_more}
+use Rattle.btr_scrub.proofs.OneSector.{stored_again}
 
 -- a block with copies all of which are given can be looked at
 pub sought_copied : (layout : Layout) (want : Want) (t : Target) → IsTable layout.chunks → first_missing layout ≡ None → sought layout want ≡ Ok t
@@ -118,17 +119,7 @@ module _ (layout : Layout) where
   upto_between a b [] h = omega (arith, h)
   upto_between a b (x ∷ xs) h = (h.0, h.1, upto_between (addr_of x + len_of layout.setting x) b xs h.2)
 
-  pub upto_more : (a b c : ℕ) (xs ys : List Want) → AreUpTo layout a b xs → AreUpTo layout b c ys → AreUpTo layout a c (xs ++ ys)
-  upto_more a b c [] ys h g = subst (λ n. AreUpTo layout n c ys) h g
-  upto_more a b c (x ∷ xs) ys h g = (h.0, h.1, upto_more (addr_of x + len_of layout.setting x) b c xs ys h.2 g)
-
-  -- a block that is refused is so behind others
-  pub refused_behind : (a b : ℕ) (xs ys : List Want) (f : TreeFault) → AreUpTo layout a b xs → IsFirstRefused layout b ys f → IsFirstRefused layout a
-      (xs ++ ys) f
-  refused_behind a b [] ys f h r = subst (λ n. IsFirstRefused layout n ys f) h r
-  refused_behind a b (x ∷ xs) ys f h r = inr ((h.0, h.1), refused_behind (addr_of x + len_of layout.setting x) b xs ys f h.2 r)
-
-  -- and before them
+  -- a block that is refused is so before others
   pub refused_before : (a : ℕ) (xs ys : List Want) (f : TreeFault) → IsFirstRefused layout a xs f → IsFirstRefused layout a (xs ++ ys) f
   refused_before a [] ys f r = absurd r
   refused_before a (x ∷ xs) ys f (inl here) = inl here
@@ -149,15 +140,11 @@ module _ (layout : Layout) where
       (omega (arith, h.0, r.0), r.1)
 
 -- the position of a block is among those of its list
-in_targets : (layout : Layout) (w : Want) (t : Target) (ws : List Want) → In w ws → sought layout w ≡ Ok t → In t (targets layout ws)
+pub in_targets : (layout : Layout) (w : Want) (t : Target) (ws : List Want) → In w ws → sought layout w ≡ Ok t → In t (targets layout ws)
 in_targets layout w t [] i e = absurd i
 in_targets layout w t (v ∷ ws) (inl same) e = subst (In t) (sym (ap (λ r. cons_option (ok_or_none r) (targets layout ws)) (ap (sought layout) same ∙ e)))
     (inl refl)
-in_targets layout w t (v ∷ ws) (inr i) e = by (ok_or_none (sought layout v)) (in_targets layout w t ws i e)
-  where
-    by : (o : Option Target) → In t (targets layout ws) → In t (cons_option o (targets layout ws))
-    by None j = j
-    by (Some u) j = inr j
+in_targets layout w t (v ∷ ws) (inr i) e = in_more (ok_or_none (sought layout v)) t (targets layout ws) (in_targets layout w t ws i e)
 
 -- ---- what is kept of a list
 
@@ -196,9 +183,6 @@ module _ (images : Images) (layout : Layout) (wants : List Want) where
 -- ---- lists that share no full stripe
 
 module _ (layout : Layout) (table : IsTable layout.chunks) where
-  placed : (ws : List Want) (t : Target) → In t (targets layout ws) → IsSought layout t
-  placed ws t i = let w = of_targets layout t ws i in is_sought layout w.0 t w.2
-
   -- whether a block is needed hangs on none in other full stripes
   alone_needed : (images : Images) (t : Target) (ts us vs : List Target) → IsSought layout t → ((u : Target) → In u (us ++ vs) → IsSought layout u)
       → ((u : Target) → In u us ⊎ In u vs → t.chunk ≡ u.chunk → mirrors t.chunk ≡ None → t.at.row ≢ u.at.row)
@@ -227,11 +211,12 @@ module _ (layout : Layout) (table : IsTable layout.chunks) where
     both_ts = targets layout (xs ++ ys)
 
     are_both : both_ts ≡ targets layout xs ++ targets layout ys
-    are_both = filter_map-append (λ w. ok_or_none (sought layout w)) xs ys
+    are_both = targets_both layout xs ys
 
     first_needed : (t : Target) → In t (targets layout xs) → is_needed images layout both_ts t ≡ is_needed images layout (targets layout xs) t
     first_needed t i = ap (λ ts. is_needed images layout ts t) are_both
-        ∙ alone_needed images t (targets layout xs) [] (targets layout ys) (placed xs t i) (placed ys) (λ u j same none. apart u j same none)
+        ∙ alone_needed images t (targets layout xs) [] (targets layout ys) (target_sought layout xs t i) (target_sought layout ys)
+        (λ u j same none. apart u j same none)
       where
         apart : (u : Target) → In u [] ⊎ In u (targets layout ys) → t.chunk ≡ u.chunk → mirrors t.chunk ≡ None → t.at.row ≢ u.at.row
         apart u (inl j) same none = absurd j
@@ -240,8 +225,8 @@ module _ (layout : Layout) (table : IsTable layout.chunks) where
     later_needed : (t : Target) → In t (targets layout ys) → is_needed images layout both_ts t ≡ is_needed images layout (targets layout ys) t
     later_needed t i =
         ap (λ ts. is_needed images layout ts t) (are_both ∙ ap (λ us. targets layout xs ++ us) (sym (append-nil (targets layout ys))))
-        ∙ alone_needed images t (targets layout ys) (targets layout xs) [] (placed ys t i)
-        (λ u j. placed xs u (subst (In u) (append-nil (targets layout xs)) j)) (λ u j same none. apart u j same none)
+        ∙ alone_needed images t (targets layout ys) (targets layout xs) [] (target_sought layout ys t i)
+        (λ u j. target_sought layout xs u (subst (In u) (append-nil (targets layout xs)) j)) (λ u j same none. apart u j same none)
       where
         apart : (u : Target) → In u (targets layout xs) ⊎ In u [] → t.chunk ≡ u.chunk → mirrors t.chunk ≡ None → t.at.row ≢ u.at.row
         apart u (inl j) same none = λ e. share u t j i (sym same) (ap mirrors (sym same) ∙ none) (sym e)
@@ -386,15 +371,6 @@ one_counted layout want t e = ap (λ r. count_by is_checked (cons_option (ok_or_
 -- ---- checksums of one kind
 
 module _ (kind : SumKind) where
-  stored_again : (xs : List ℕ) → sum_size kind ≤ length xs → stored_sum kind (stored_sum kind xs).bytes ≡ stored_sum kind xs
-  stored_again xs le =
-      let long = length-take-le (sum_size kind) xs le in
-      ap (sum_from kind) (take-append-le (sum_size kind) (take (sum_size kind) xs) (replicate (32 - sum_size kind) 0) (omega (arith, long))
-      ∙ take-length (sum_size kind) (take (sum_size kind) xs) long)
-    where
-      take-length : (n : ℕ) (ys : List ℕ) → length ys ≡ n → take n ys ≡ ys
-      take-length n ys e = take_all n ys (omega (arith, e))
-
   pub of_kind_both : (xs ys : List Want) → AreOfKind kind xs → AreOfKind kind ys → AreOfKind kind (xs ++ ys)
   of_kind_both [] ys h g = g
   of_kind_both (x ∷ xs) ys h g = (h.0, of_kind_both xs ys h.1 g)
@@ -417,7 +393,7 @@ module _ (kind : SumKind) where
   sectors_of_kind (suc n) addr xs h =
       let all = suc-mul n (sum_size kind) in
       let long = length-drop (sum_size kind) xs in
-      (stored_again xs (omega (arith, h, all)), sectors_of_kind n (addr + 4096) (drop (sum_size kind) xs) (omega (arith, h, all, long)))
+      (stored_again kind xs (omega (arith, h, all)), sectors_of_kind n (addr + 4096) (drop (sum_size kind) xs) (omega (arith, h, all, long)))
 
   plains_of_kind : (n addr : ℕ) → addr + n * 4096 < 2 ^ 64 → AreOfKind kind (plains_from addr n)
   plains_of_kind zero addr h = tt
@@ -577,9 +553,7 @@ shares_none layout number chunk end to xs ys table some there before le inside m
     let v_addr : addr_of u.want ≡ addr_of v.0 = ap addr_of (sought_of layout v.0 u v.2).want_is in
     let mine = same ∙ chunk_same layout table number chunk there u is_u (omega (arith, v_in.0, v_addr)) (omega (arith, v_in.1, v_some, v_addr, most)) in
     let held = ap (λ c. holds c (addr_of t.want)) (sym mine) ∙ is.held in
-    let from = leb-true chunk.start (addr_of t.want)
-    (and_parts (leb chunk.start (addr_of t.want)) (ltb (addr_of t.want) (chunk.start + chunk.length)) held).0 in
-    omega (arith, from, w_addr, w_end, w_some, le)
+    omega (arith, (bounds_of chunk (addr_of t.want) held).0, w_addr, w_end, w_some, le)
 
 -- the end of a list that lies in a span
 pub in_span : (layout : Layout) (span : Span) (end to : ℕ) (wants : List Want) → end ≤ span.start → AreUpTo layout end to wants → lies_in wants span to ≡ true
@@ -621,18 +595,18 @@ shares_span layout held whole sieve none h span to (want ∷ wants) table in_tab
 -- ---- plain sectors that are passed at once
 
 -- those behind an address of a chunk with copies and without an older image, as far as they lie in it
-pub passes_calm : (layout : Layout) (table : IsTable layout.chunks) (want : Want) (chunk : Chunk) (old new : List Want) → Some chunk ≡ chunk_at layout.chunks
+pub passes_inert : (layout : Layout) (table : IsTable layout.chunks) (want : Want) (chunk : Chunk) (old new : List Want) → Some chunk ≡ chunk_at layout.chunks
     (addr_of want)
     → is_none (mirrors chunk) ≡ false → has_older layout.devices chunk ≡ false → PassesPlain old (chunk.start + chunk.length) new
-    → PassesCalm layout want old new
-passes_calm layout table want chunk old new found copies young p =
+    → PassesInert layout want old new
+passes_inert layout table want chunk old new found copies young p =
     let at = find_at (λ (c : Chunk). holds c (addr_of want)) layout.chunks chunk (sym found) in
-    let from = leb-true chunk.start (addr_of want) (and_parts (leb chunk.start (addr_of want)) (ltb (addr_of want) (chunk.start + chunk.length)) at.2).0 in
+    let from = (bounds_of chunk (addr_of want) at.2).0 in
     record {
       past = p.past;
       split = p.split;
       plain = p.plain;
-      calm = λ w t i le e.
+      inert = λ w t i le e.
           let of = sought_of layout w t e in
           let is = is_sought layout w t e in
           let addr : addr_of t.want ≡ addr_of w = ap addr_of of.want_is in
@@ -641,7 +615,7 @@ passes_calm layout table want chunk old new found copies young p =
     }
 
 -- nothing is kept of them, and nothing counted
-module _ (layout : Layout) (held : Option Images) (want : Want) (end : ℕ) (old new : List Want) (p : PassesCalm layout want old new)
+module _ (layout : Layout) (held : Option Images) (want : Want) (end : ℕ) (old new : List Want) (p : PassesInert layout want old new)
     (apart : AreApart layout end old)
     (le : addr_of want ≤ end) (x : Sifted) (can : CanSift layout x) where
   apart_past : AreApart layout end (p.past ++ new)
@@ -654,11 +628,11 @@ module _ (layout : Layout) (held : Option Images) (want : Want) (end : ℕ) (old
   past_is t i =
       let w = of_targets layout t p.past i in
       let behind = all_behind layout end (p.past ++ new) apart_past w.0 (in_left w.0 p.past new w.1) in
-      let c = p.calm w.0 t w.1 (omega (arith, le, behind)) w.2 in
+      let c = p.inert w.0 t w.1 (omega (arith, le, behind)) w.2 in
       (ap is_plain (sought_of layout w.0 t w.2).want_is ∙ p.plain w.0 w.1, c.0, c.1)
 
-  pub sifts_calm : Sifts layout held p.past x x
-  sifts_calm = sifts_out layout held p.past x x placed_past can 0
+  pub sifts_inert : Sifts layout held p.past x x
+  sifts_inert = sifts_out layout held p.past x x placed_past can 0
       (tell held (λ images. 0 ≡ count_by is_checked (targets layout p.past)) (λ images h.
       sym (sum_zero (λ t. cond (is_checked t) 1 0) (targets layout p.past) (λ t i. ap (λ b. cond (not b) 1 0) (past_is t i).0))))
       (tell held (λ images. (t : Target) → In t (targets layout p.past) → is_needed images layout (targets layout p.past) t ≡ false) (λ images h t i.
@@ -668,14 +642,14 @@ module _ (layout : Layout) (held : Option Images) (want : Want) (end : ℕ) (old
       refl (λ n e. e ∙ ap stood (omega arith))
 
   -- a block of a chunk with copies, with them
-  pub calm_next : IsTable layout.chunks → (before : Sifted) (t : Target) → sought layout want ≡ Ok t → IsSome (mirrors t.chunk)
+  pub inert_next : IsTable layout.chunks → (before : Sifted) (t : Target) → sought layout want ≡ Ok t → IsSome (mirrors t.chunk)
       → Sifts layout held (want ∷ []) before x → SiftsNext layout held want old new before x
-  calm_next table before t e copies s = record {
+  inert_next table before t e copies s = record {
     more = p.past;
     split = p.split;
-    sifts = sifts_then layout held table (want ∷ []) p.past before x x (λ t u i j same none. absurd (no_parity t none (one_is t i))) s sifts_calm;
+    sifts = sifts_then layout held table (want ∷ []) p.past before x x (λ t u i j same none. absurd (no_parity t none (one_is t i))) s sifts_inert;
     rows = λ u v i j same none. absurd (no_parity u none (each u (in_either u (targets layout (want ∷ [])) (targets layout p.past)
-        (subst (In u) (filter_map-append (λ w. ok_or_none (sought layout w)) (want ∷ []) p.past) i))));
+        (subst (In u) (targets_both layout (want ∷ []) p.past) i))));
   }
     where
       no_parity : (u : Target) → mirrors u.chunk ≡ None → IsSome (mirrors u.chunk) → ⊥
@@ -699,20 +673,19 @@ module _ (layout : Layout) (held : Option Images) (table : IsTable layout.chunks
   among : (want ∷ old) ≡ mine ++ new
   among = ap (λ ws. want ∷ ws) s.split
 
-  parts : (xs ys : List Want) → targets layout (xs ++ ys) ≡ targets layout xs ++ targets layout ys
-  parts xs ys = filter_map-append (λ w. ok_or_none (sought layout w)) xs ys
-
   share_mine : ShareNoRow layout past mine
   share_mine t u i j = share t u i
-      (subst (λ ws. In u (targets layout ws)) (sym among) (subst (In u) (sym (parts mine new)) (in_left u (targets layout mine) (targets layout new) j)))
+      (subst (λ ws. In u (targets layout ws)) (sym among)
+      (subst (In u) (sym (targets_both layout mine new)) (in_left u (targets layout mine) (targets layout new) j)))
 
   -- none that is left lies in a full stripe of those before
   pub share_left : ShareNoRow layout (past ++ mine) new
-  share_left t u i j = by (in_either t (targets layout past) (targets layout mine) (subst (In t) (parts past mine) i))
+  share_left t u i j = by (in_either t (targets layout past) (targets layout mine) (subst (In t) (targets_both layout past mine) i))
     where
       by : In t (targets layout past) ⊎ In t (targets layout mine) → t.chunk ≡ u.chunk → mirrors t.chunk ≡ None → t.at.row ≢ u.at.row
       by (inl k) = share t u k
-          (subst (λ ws. In u (targets layout ws)) (sym among) (subst (In u) (sym (parts mine new)) (in_right u (targets layout mine) (targets layout new) j)))
+          (subst (λ ws. In u (targets layout ws)) (sym among)
+          (subst (In u) (sym (targets_both layout mine new)) (in_right u (targets layout mine) (targets layout new) j)))
       by (inr k) = s.rows t u k j
 
   pub sifts_more : Sifts layout held past first before → Sifts layout held (past ++ mine) first after

@@ -1,8 +1,6 @@
 -- A full stripe whose blocks were collected is sifted.
 use Rattle.std.proofs.Common.{◌≡◌, ℕ, ◌+◌, ◌∷◌, Bool, true, false, cond, ◌||◌, count_by, is_none, List, [], map, Option, Some, None, IfSome, IsOk, Ok, Err}
-use Rattle.std.proofs.Common.{refl, sym, ap, ◌∙◌}
-use Rattle.std.proofs.Common.{subst, arith, leb, ltb, append-nil, slice_get}
-use Rattle.std.proofs.lemmas.Bool.{and_parts, leb-true}
+use Rattle.std.proofs.Common.{refl, sym, ap, ◌∙◌, subst, arith, append-nil, slice_get}
 use Rattle.std.proofs.lemmas.Option.{same_Some, slice_get_within}
 use Rattle.std.specs.List.{list_any}
 use Rattle.btr_chunk.specs.Chunk.{mirrors}
@@ -37,7 +35,7 @@ use Rattle.btr_scrub.proofs.NextRow.{IsNextRow, is_row_of, mine_is, row_blocks}
 use Rattle.btr_scrub.proofs.Lists.{any_at}
 use Rattle.btr_scrub.proofs.Blockwise.{ok_of}
 use Rattle.btr_scrub.proofs.OneRow.{chunk_number, chunk_of, row_in_stripe}
-use Rattle.btr_scrub.proofs.Positions.{alone_lies, find_at}
+use Rattle.btr_scrub.proofs.Positions.{alone_lies, find_at, bounds_of}
 use Rattle.btr_scrub.proofs.Rowwise.{RowsUnderway, next_row}
 use Rattle.btr_scrub.proofs.Scrubbing.{scrubs_none, tell, told}
 use Rattle.btr_scrub.proofs.Sieving.{sifts_kept, sifts_out}
@@ -123,11 +121,7 @@ module _ (layout : Layout) (table : IsTable layout.chunks) (own : HaveOwnSlots l
   found = find_at (λ (c : Chunk). holds c (addr_of first)) layout.chunks chunk at
 
   from_start : AreApart layout chunk.start (first ∷ old)
-  from_start = (
-    leb-true chunk.start (addr_of first) (and_parts (leb chunk.start (addr_of first)) (ltb (addr_of first) (chunk.start + chunk.length)) found.2).0,
-    apart.1,
-    apart.2,
-  )
+  from_start = ((bounds_of chunk (addr_of first) found.2).0, apart.1, apart.2)
 
   abbrev underway : RowsUnderway (flagged []) layout table own given found.0 chunk found.1 parity (first ∷ old) false (first ∷ old) [] [] a a (begun 0 0)
       (begun 0 0)

@@ -1,9 +1,8 @@
 -- Blocks that are left out, as nothing may have to be written for them, change neither the writes nor the counts.
-use Rattle.std.proofs.Common.{◌≡◌, ◌⊎◌, ℕ, suc, ◌+◌, Bool, true, false, not, cond, ◌&&◌, ◌||◌, eqb, ltb, ◌/◌, List, [], ◌∷◌, ◌++◌, map, length, slice_get}
-use Rattle.std.proofs.Common.{Option, Some, None, is_none}
-use Rattle.std.proofs.Common.{Result, Ok, Err, refl, sym, ap, ◌∙◌, inl, inr, arith}
+use Rattle.std.proofs.Common.{◌≡◌, ◌⊎◌, ℕ, ◌+◌, Bool, true, false, not, cond, ◌&&◌, ◌||◌, eqb, ltb, ◌/◌, List, [], ◌∷◌, ◌++◌, map, length, slice_get, subst}
+use Rattle.std.proofs.Common.{Option, Some, None, is_none, Result, Ok, Err, refl, sym, ap, ◌∙◌, inl, inr, arith}
 use Rattle.std.proofs.Math.Path.{fun_ext}
-use Rattle.std.proofs.lemmas.Bool.{false≢true, and_from, and_parts, eq-eqb, eqb-true, ltb-false}
+use Rattle.std.proofs.lemmas.Bool.{false≢true, and_from, and_parts, eq-eqb, eqb-true, ltb-false, or_parts, false_from_ne_true, not-false}
 use Rattle.std.proofs.lemmas.List.Sums.{sum_by-cons}
 use Rattle.std.specs.List.{cons_option, count_by, filter, flat_map, fold, list_any, range_with_len, sum_by}
 use Rattle.std.specs.Option.{option_map_or}
@@ -30,20 +29,21 @@ use Rattle.btr_scrub.specs.Judged.{has_behind, has_older}
 use Rattle.btr_scrub.specs.Order.{IsSought, targets}
 use Rattle.btr_scrub.specs.Repair.{is_in_chunk, is_in_row, ok_or_none, row_of, rows_in, stood}
 use Rattle.btr_scrub.specs.Scrubbing.{all_count_for, all_writes_for, chunk_writes_for, rows_count, rows_writes, sites_count, sites_writes}
-use Rattle.btr_scrub.specs.Sifting.{KeptCounts, KeptWrites, begun, is_copy_needed, is_needed, is_row_needed, is_troubled, is_unsound, kept_of, left_out}
-use Rattle.btr_scrub.specs.Sifting.{needs, row_among}
+use Rattle.btr_scrub.specs.Sifting.{KeptCounts, KeptWrites, begun, is_copy_needed, is_needed, is_row_needed, is_troubled, is_unsound, kept_of, left_out, needs}
+use Rattle.btr_scrub.specs.Sifting.{row_among}
 use Rattle.btr_scrub.proofs.AcrossChunks.{sum_same}
-use Rattle.btr_scrub.proofs.Blockwise.{filter_none, of_targets}
-use Rattle.btr_scrub.proofs.Calm.{calm_chunk, none_fresh, none_stale}
-use Rattle.btr_scrub.proofs.CalmRows.{flat_none}
+use Rattle.btr_scrub.proofs.Blockwise.{filter_none, target_sought}
+use Rattle.btr_scrub.proofs.Inert.{inert_chunk, none_fresh, none_stale}
 use Rattle.btr_scrub.proofs.Doubting.{passes_plain}
-use Rattle.btr_scrub.proofs.Lists.{at_in, in_filter, none_in}
+use Rattle.btr_scrub.proofs.Lists.{at_in, in_filter, none_in, flat_none, in_some}
 use Rattle.btr_scrub.proofs.NextRow.{empty_writes}
-use Rattle.btr_scrub.proofs.Positions.{is_sought}
-use Rattle.btr_scrub.proofs.RowAgreeing.{RowAlike, beside, checked_row, flat_same, row_writes_alike}
+use Rattle.btr_scrub.proofs.RowAgreeing.{RowAlike, beside, checked_row, flat_same, row_writes_alike, flat_mapped}
 use Rattle.btr_scrub.proofs.RowNumbers.{same_start}
-use Rattle.btr_scrub.proofs.Sums.{sum_filter, sum_flat, sum_map, sum_zero}
+use Rattle.btr_scrub.proofs.Sums.{sum_filter, sum_flat, sum_map, sum_zero, sum_add, sum_one}
 use Rattle.btr_scrub.proofs.Tallying.{counts_are, counts_of, lost_sum, parity_in, parity_none, same_tally}
+use Rattle.btr_chunk.proofs.Searches.{list_any-false}
+use Rattle.std.proofs.Math.Bool.{and-false}
+use Rattle.std.proofs.lemmas.List.{nil_from_length}
 
 -- ---- lists of which some are left out
 
@@ -97,52 +97,24 @@ module _ {X : Type 0} (q : X → Bool) where
 
   -- those of a kind are those that are kept, and the others
   length_both : (p : X → Bool) (xs : List X) → count_by (λ x. p x && not (q x)) xs + length (filter p (filter q xs)) ≡ length (filter p xs)
-  length_both p [] = refl
-  length_both p (x ∷ xs) = by (q x) (p x) refl refl (length_both p xs)
+  length_both p xs =
+      let out = λ (x : X). cond (p x && not (q x)) 1 0 in
+      let kept = λ (x : X). cond (q x) (cond (p x) 1 0) 0 in
+      ap (λ n. sum_by out xs + n) (sym (counted (filter q xs)) ∙ sum_filter (λ x. cond (p x) 1 0) q xs)
+      ∙ sym (sum_add out kept xs) ∙ sum_same (λ x. out x + kept x) (λ x. cond (p x) 1 0) xs (λ x i. by (p x) (q x)) ∙ counted xs
     where
-      rest : ℕ
-      rest = count_by (λ y. p y && not (q y)) xs
+      counted : (ys : List X) → sum_by (λ x. cond (p x) 1 0) ys ≡ length (filter p ys)
+      counted ys = sym (sum_filter (λ x. 1) p ys) ∙ sum_one (filter p ys)
 
-      first : count_by (λ y. p y && not (q y)) (x ∷ xs) ≡ cond (p x && not (q x)) 1 0 + rest
-      first = sum_by-cons (λ y. cond (p y && not (q y)) 1 0) x xs
-
-      by : (b c : Bool) → q x ≡ b → p x ≡ c → rest + length (filter p (filter q xs)) ≡ length (filter p xs)
-          → count_by (λ y. p y && not (q y)) (x ∷ xs) + length (filter p (cond b (x ∷ filter q xs) (filter q xs))) ≡ length
-          (cond (p x) (x ∷ filter p xs) (filter p xs))
-      by true true e f h =
-          let one : ◌≡◌ {A = ℕ} (cond (p x && not (q x)) 1 0) 0 = ap (λ b. cond (p x && not b) 1 0) e ∙ ap (λ b. cond (b && false) 1 0) f in
-          let left : length (cond (p x) (x ∷ filter p (filter q xs)) (filter p (filter q xs))) ≡ suc (length (filter p (filter q xs))) = ap
-          (λ b. length (cond b (x ∷ filter p (filter q xs)) (filter p (filter q xs)))) f in
-          omega (arith, first, one, left, h) ∙ sym (ap (λ b. length (cond b (x ∷ filter p xs) (filter p xs))) f)
-      by true false e f h =
-          let one : ◌≡◌ {A = ℕ} (cond (p x && not (q x)) 1 0) 0 = ap (λ b. cond (p x && not b) 1 0) e ∙ ap (λ b. cond (b && false) 1 0) f in
-          let left : length (cond (p x) (x ∷ filter p (filter q xs)) (filter p (filter q xs))) ≡ length (filter p (filter q xs)) = ap
-          (λ b. length (cond b (x ∷ filter p (filter q xs)) (filter p (filter q xs)))) f in
-          omega (arith, first, one, left, h) ∙ sym (ap (λ b. length (cond b (x ∷ filter p xs) (filter p xs))) f)
-      by false true e f h =
-          let one : ◌≡◌ {A = ℕ} (cond (p x && not (q x)) 1 0) 1 = ap (λ b. cond (p x && not b) 1 0) e ∙ ap (λ b. cond (b && true) 1 0) f in
-          let all : suc (length (filter p xs)) ≡ length (cond (p x) (x ∷ filter p xs) (filter p xs)) = sym
-          (ap (λ b. length (cond b (x ∷ filter p xs) (filter p xs))) f) in
-          omega (arith, first, one, h) ∙ all
-      by false false e f h =
-          let one : ◌≡◌ {A = ℕ} (cond (p x && not (q x)) 1 0) 0 = ap (λ b. cond (p x && not b) 1 0) e ∙ ap (λ b. cond (b && true) 1 0) f in
-          let all : length (filter p xs) ≡ length (cond (p x) (x ∷ filter p xs) (filter p xs)) = sym
-          (ap (λ b. length (cond b (x ∷ filter p xs) (filter p xs))) f) in
-          omega (arith, first, one, h) ∙ all
+      by : (b c : Bool) → ◌≡◌ {A = ℕ} (cond (b && not c) 1 0 + cond c (cond b 1 0) 0) (cond b 1 0)
+      by true true = refl
+      by true false = refl
+      by false true = refl
+      by false false = refl
 
 -- no member of a list passes a test that none does
 none_left : {X : Type 0} (p : X → Bool) (xs : List X) → filter p xs ≡ [] → (x : X) → In x xs → p x ≡ false
-none_left p [] e x i = absurd i
-none_left p (y ∷ xs) e x i = by (p y) refl e i (λ e j. none_left p xs e x j)
-  where
-    by : (b : Bool) → p y ≡ b → cond b (y ∷ filter p xs) (filter p xs) ≡ [] → In x (y ∷ xs) → (filter p xs ≡ [] → In x xs → p x ≡ false) → p x ≡ false
-    by true f e i rest = cc
-    by false f e (inl same) rest = ap p (sym same) ∙ f
-    by false f e (inr j) rest = rest e j
-
-both_false : (a b : Bool) → (a || b) ≡ false → (a ≡ false) × (b ≡ false)
-both_false true b e = absurd (false≢true (sym e))
-both_false false b e = (refl, e)
+none_left p xs e x i = false_from_ne_true (p x) (λ h. subst (In x) e (in_filter p x xs i h))
 
 -- ---- a full stripe in which nothing may have to be written
 
@@ -153,10 +125,6 @@ zero_each f (y ∷ ys) e x (inr i) = zero_each f ys (omega (arith, e, sum_by-con
 
 no_zero : (n : ℕ) → ltb 0 n ≡ false → n ≡ 0
 no_zero n e = omega (arith, ltb-false 0 n e)
-
-none_long : {X : Type 0} (xs : List X) → length xs ≡ 0 → xs ≡ []
-none_long [] e = refl
-none_long (x ∷ xs) e = absurd (omega (arith, e))
 
 none_one : (b : Bool) → ◌≡◌ {A = ℕ} (cond b 1 0) 0 → b ≡ false
 none_one true e = absurd (omega (arith, e))
@@ -176,25 +144,25 @@ module _ (images : Images) (layout : Layout) (row : Row) (out : is_row_needed im
   mended = mended_row images layout row false
 
   parts : (list_any (λ (t : Target). is_plain t.want) row.blocks ≡ false) × (is_troubled mended ≡ false)
-  parts = both_false (list_any (λ (t : Target). is_plain t.want) row.blocks) (is_troubled mended) out
+  parts = or_parts (list_any (λ (t : Target). is_plain t.want) row.blocks) (is_troubled mended) out
 
   right : ((ltb 0 mended.bad || ltb 0 mended.lost) ≡ false) × (ltb 0 mended.parity ≡ false)
-  right = both_false (ltb 0 mended.bad || ltb 0 mended.lost) (ltb 0 mended.parity) parts.1
+  right = or_parts (ltb 0 mended.bad || ltb 0 mended.lost) (ltb 0 mended.parity) parts.1
 
   no_plain : (t : Target) → In t row.blocks → is_plain t.want ≡ false
   no_plain t i = none_in (λ (t : Target). is_plain t.want) row.blocks t parts.0 i
 
   row_sound : (t : Target) → In t row.blocks → (bad_parts images t ≡ []) × (is_lost images t ≡ false)
   row_sound t i =
-      let both = both_false (ltb 0 mended.bad) (ltb 0 mended.lost) right.0 in
+      let both = or_parts (ltb 0 mended.bad) (ltb 0 mended.lost) right.0 in
       let bad = zero_each (λ (t : Target). length (wrong_parts images row.failing t)) row.blocks (no_zero mended.bad both.0) t i in
       let lost = zero_each (λ (t : Target). cond (is_lost_block images t) 1 0) row.blocks (no_zero mended.lost both.1) t i in (
-        sym (ap (λ b. cond b (stale_parts images row.failing t) (bad_parts images t)) (no_plain t i)) ∙ none_long (wrong_parts images row.failing t) bad,
+        sym (ap (λ b. cond b (stale_parts images row.failing t) (bad_parts images t)) (no_plain t i)) ∙ nil_from_length (wrong_parts images row.failing t) bad,
         sym (ap (λ b. not b && is_lost images t) (no_plain t i)) ∙ none_one (is_lost_block images t) lost,
       )
 
   no_parity : (q : Part) → In q (parities row.chunk.profile) → parity_writes images layout row q ≡ []
-  no_parity q i = none_long (parity_writes images layout row q)
+  no_parity q i = nil_from_length (parity_writes images layout row q)
       (zero_each (λ q. length (parity_writes images layout row q)) (parities row.chunk.profile) (no_zero mended.parity right.1) q i)
 
   -- nothing is written in it, and no parity counted, whatever images fail
@@ -239,23 +207,20 @@ module _ (images : Images) (layout : Layout) (table : IsTable layout.chunks) (ts
         by None e = absurd (false≢true (sym (no_plain images layout (row_among ts t) (row_out e) t (in_own e)) ∙ bare))
         by (Some n) e = (n, e, sym (ap (λ b. cond b (has_older layout.devices t.chunk) (is_unsound images t)) bare) ∙ copied_out n e)
 
-    calm : (fails : Failing) → has_behind layout.devices fails t.chunk ≡ false
-    calm fails = calm_chunk fails layout.devices t.chunk copied.2
+    inert : (fails : Failing) → has_behind layout.devices fails t.chunk ≡ false
+    inert fails = inert_chunk fails layout.devices t.chunk copied.2
 
     plain_writes : (fails : Failing) → mending_writes images fails t ≡ []
     plain_writes fails = ap (λ b. cond b (fresh_writes images fails t) (block_writes images t)) bare ∙ none_fresh fails layout t copied.0 table is copied.1
-        (calm fails) images
+        (inert fails) images
 
     plain_wrong : (fails : Failing) → wrong_parts images fails t ≡ []
     plain_wrong fails = ap (λ b. cond b (stale_parts images fails t) (bad_parts images t)) bare ∙ none_stale fails layout t copied.0 table is copied.1
-        (calm fails) images
+        (inert fails) images
 
     plain_good : (slot : ℕ) (part : Part) → fails_at images t slot part ≡ false
-    plain_good slot part = ap (λ b. is_on t slot part && not b) (passes_plain t.setting t.want (element images t part) bare) ∙ by (is_on t slot part)
-      where
-        by : (b : Bool) → (b && false) ≡ false
-        by true = refl
-        by false = refl
+    plain_good slot part = ap (λ b. is_on t slot part && not b) (passes_plain t.setting t.want (element images t part) bare)
+        ∙ and-false (is_on t slot part)
 
   -- a sound block
   module _ (checked : is_plain t.want ≡ false) where
@@ -265,69 +230,48 @@ module _ (images : Images) (layout : Layout) (table : IsTable layout.chunks) (ts
         by : (o : Option ℕ) → mirrors t.chunk ≡ o → (bad_parts images t ≡ []) × (is_lost images t ≡ false)
         by None e = row_sound images layout (row_among ts t) (row_out e) t (in_own e)
         by (Some n) e =
-            let both = both_false (ltb 0 (length (bad_parts images t))) (is_lost images t)
+            let both = or_parts (ltb 0 (length (bad_parts images t))) (is_lost images t)
             (sym (ap (λ b. cond b (has_older layout.devices t.chunk) (is_unsound images t)) checked) ∙ copied_out n e) in
-            (none_long (bad_parts images t) (no_zero (length (bad_parts images t)) both.0), both.1)
+            (nil_from_length (bad_parts images t) (no_zero (length (bad_parts images t)) both.0), both.1)
 
     sound_wrong : (fails : Failing) → wrong_parts images fails t ≡ []
     sound_wrong fails = ap (λ b. cond b (stale_parts images fails t) (bad_parts images t)) checked ∙ sound.0
 
     sound_good : (slot : ℕ) (part : Part) → In part (own_parts t) → fails_at images t slot part ≡ false
     sound_good slot part i =
-        let whole = good part (not_not (is_sound images t part) (none_left (λ part. not (is_sound images t part)) (own_parts t) sound.0 part i)) in
-        ap (λ b. is_on t slot part && not b) whole ∙ by (is_on t slot part)
+        let whole = good part (not-false (is_sound images t part) (none_left (λ part. not (is_sound images t part)) (own_parts t) sound.0 part i)) in
+        ap (λ b. is_on t slot part && not b) whole ∙ and-false (is_on t slot part)
       where
-        not_not : (b : Bool) → not b ≡ false → b ≡ true
-        not_not true e = refl
-        not_not false e = absurd (false≢true (sym e))
-
-        by : (b : Bool) → (b && false) ≡ false
-        by true = refl
-        by false = refl
-
         good : (part : Part) → is_sound images t part ≡ true → is_good images t part ≡ true
         good (Mirror k) e = (and_parts (is_good images t (Mirror k)) (are_accepted images t (element images t (Mirror k))) e).0
         good (Slice k) e = e
         good P e = e
         good Q e = e
 
-  out_writes : (fails : Failing) → mending_writes images fails t ≡ []
-  out_writes fails = by (is_plain t.want) refl
-    where
-      by : (b : Bool) → is_plain t.want ≡ b → mending_writes images fails t ≡ []
-      by true e = plain_writes e fails
-      by false e = sound_block images t fails e (sound e).0
+  -- so nothing comes of it
+  record ComesToNothing : Type 0 where
+    writes : (fails : Failing) → mending_writes images fails t ≡ []
+    wrong : (fails : Failing) → wrong_parts images fails t ≡ []
+    lost : is_lost_block images t ≡ false
+    good : (slot : ℕ) (part : Part) → In part (own_parts t) → fails_at images t slot part ≡ false
 
-  out_wrong : (fails : Failing) → wrong_parts images fails t ≡ []
-  out_wrong fails = by (is_plain t.want) refl
+  nothing_comes : ComesToNothing
+  nothing_comes = by (is_plain t.want) refl
     where
-      by : (b : Bool) → is_plain t.want ≡ b → wrong_parts images fails t ≡ []
-      by true e = plain_wrong e fails
-      by false e = sound_wrong e fails
-
-  out_lost : is_lost_block images t ≡ false
-  out_lost = by (is_plain t.want) refl
-    where
-      by : (b : Bool) → is_plain t.want ≡ b → is_lost_block images t ≡ false
-      by true e = ap (λ b. not b && is_lost images t) e
-      by false e = ap (λ b. not b && is_lost images t) e ∙ (sound e).1
+      by : (b : Bool) → is_plain t.want ≡ b → ComesToNothing
+      by true e =
+          record { writes = plain_writes e; wrong = plain_wrong e; lost = ap (λ b. not b && is_lost images t) e; good = λ slot part i. plain_good e slot part }
+      by false e = record {
+        writes = λ fails. sound_block images t fails e (sound e).0;
+        wrong = sound_wrong e;
+        lost = ap (λ b. not b && is_lost images t) e ∙ (sound e).1;
+        good = sound_good e;
+      }
 
   out_good : (slot : ℕ) → fails_on images slot t ≡ false
-  out_good slot = none_any (fails_at images t slot) (own_parts t) (λ part i. by (is_plain t.want) refl part i)
-    where
-      none_any : {X : Type 0} (p : X → Bool) (xs : List X) → ((x : X) → In x xs → p x ≡ false) → list_any p xs ≡ false
-      none_any p [] h = refl
-      none_any p (x ∷ xs) h = ap (λ b. b || list_any p xs) (h x (inl refl)) ∙ none_any p xs (λ y i. h y (inr i))
-
-      by : (b : Bool) → is_plain t.want ≡ b → (part : Part) → In part (own_parts t) → fails_at images t slot part ≡ false
-      by true e part i = plain_good e slot part
-      by false e part i = sound_good e slot part i
+  out_good slot = list_any-false (fails_at images t slot) (own_parts t) (λ k part e. nothing_comes.good slot part (in_some part (own_parts t) k e))
 
 -- ---- all
-
-flat_mapped : {X Y Z : Type 0} (f : Y → List Z) (g h : X → Y) (xs : List X) → ((x : X) → f (g x) ≡ f (h x)) → flat_map f (map g xs) ≡ flat_map f (map h xs)
-flat_mapped f g h [] e = refl
-flat_mapped f g h (x ∷ xs) e = ap (λ zs. zs ++ flat_map f (map g xs)) (e x) ∙ ap (λ zs. f (h x) ++ zs) (flat_mapped f g h xs e)
 
 module _ (images : Images) (layout : Layout) (table : IsTable layout.chunks) (wants : List Want) where
   abbrev ts : List Target
@@ -340,7 +284,7 @@ module _ (images : Images) (layout : Layout) (table : IsTable layout.chunks) (wa
   us = filter needed ts
 
   placed : (t : Target) → In t ts → IsSought layout t
-  placed t i = let w = of_targets layout t wants i in is_sought layout w.0 t w.2
+  placed t i = target_sought layout wants t i
 
   targets_kept : (ws : List Want) → targets layout (filter (needs images layout ts) ws) ≡ filter needed (targets layout ws)
   targets_kept [] = refl
@@ -429,7 +373,8 @@ module _ (images : Images) (layout : Layout) (table : IsTable layout.chunks) (wa
         (sites_writes fails (filter (is_in_chunk chunk) vs) images)) kept_are
         ∙ ap (λ ws. cond (is_none (mirrors chunk)) ws (sites_writes fails (filter (is_in_chunk chunk) us) images)) (by (mirrors chunk) refl)
         ∙ ap (λ ws. cond (is_none (mirrors chunk)) (rows_writes layout (rows_in fails ts chunk) images) ws)
-        (flat_both needed (mending_writes images fails) (is_in_chunk chunk) ts (λ t i e. out_writes images layout table ts t i (placed t i) e fails))
+        (flat_both needed (mending_writes images fails) (is_in_chunk chunk) ts
+        (λ t i e. (nothing_comes images layout table ts t i (placed t i) e).writes fails))
       where
         n : List ℕ
         n = range_with_len 0 (stripe_length chunk / 65536)
@@ -437,7 +382,8 @@ module _ (images : Images) (layout : Layout) (table : IsTable layout.chunks) (wa
         by : (o : Option ℕ) → mirrors chunk ≡ o
             → rows_writes layout (cond (is_none o) (map (row_of fails us chunk) n) []) images ≡ rows_writes layout
             (cond (is_none o) (map (row_of fails ts chunk) n) []) images
-        by None e = flat_mapped (row_writes images layout) (row_of fails us chunk) (row_of fails ts chunk) n (row_written chunk i e)
+        by None e = flat_mapped (row_writes images layout) (row_writes images layout) (row_of fails us chunk) (row_of fails ts chunk) n
+            (λ k _. row_written chunk i e k)
         by (Some m) e = refl
 
     all_writes : all_writes_for fails layout layout.chunks ks images ≡ all_writes_for fails layout layout.chunks wants images
@@ -478,9 +424,9 @@ module _ (images : Images) (layout : Layout) (table : IsTable layout.chunks) (wa
           (counts_of fails images layout write ts table placed 0 unchecked)
           (ap stood (length_both needed is_checked ts ∙ omega arith))
           (ap stood (sum_both needed (λ t. length (wrong_parts images fails t)) ts
-          (λ t i e. ap length (out_wrong images layout table ts t i (placed t i) e fails))))
+          (λ t i e. ap length ((nothing_comes images layout table ts t i (placed t i) e).wrong fails))))
           (ap (λ n. stood (cond write n 0)) (sum_both needed (λ t. length (mending_writes images fails t)) ts
-          (λ t i e. ap length (out_writes images layout table ts t i (placed t i) e fails))))
+          (λ t i e. ap length ((nothing_comes images layout table ts t i (placed t i) e).writes fails))))
           (ap stood lost_same)
           (ap stood parity_same)
           refl
@@ -490,7 +436,7 @@ module _ (images : Images) (layout : Layout) (table : IsTable layout.chunks) (wa
           lost_same =
               sym (lost_sum fails images layout write us table (λ t i. placed t (passing_filter needed t ts i).0))
               ∙ sum_both needed (λ t. cond (is_lost_block images t) 1 0) ts
-              (λ t i e. ap (λ b. cond b 1 0) (out_lost images layout table ts t i (placed t i) e))
+              (λ t i e. ap (λ b. cond b 1 0) (nothing_comes images layout table ts t i (placed t i) e).lost)
               ∙ lost_sum fails images layout write ts table placed
 
 pub kept_writes : KeptWrites

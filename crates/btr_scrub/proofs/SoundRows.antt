@@ -1,19 +1,16 @@
 -- The full stripes of a filesystem of which it is known what was committed: their blocks are apart, and what these get is right.
-use Rattle.std.proofs.Common.{◌≡◌, ◌⊎◌, ℕ, ◌+◌, ◌-◌, ◌*◌, ◌/◌, ◌%◌, ◌<◌, ◌≤◌, nat_lt, drop, slice_range, Bool, true, false, cond, eqb, leb, ltb, List, [], ◌∷◌, length, slice_get, All}
-use Rattle.std.proofs.Common.{Option, Some, None, IsSome, IfSome, Result, Ok, Err, IsOk, refl, sym, ap, ◌∙◌, subst, inl, inr, arith}
-use Rattle.std.proofs.lemmas.Bool.{false≢true, and_parts, eqb-true, leb-true}
+use Rattle.std.proofs.Common.{◌≡◌, ◌⊎◌, ℕ, ◌+◌, ◌-◌, ◌*◌, ◌/◌, ◌%◌, ◌≤◌, nat_lt, Bool, true, false, cond, eqb, List, [], ◌∷◌, length, slice_get, All, Option}
+use Rattle.std.proofs.Common.{Some, None, IsSome, IfSome, Result, Ok, Err, IsOk, refl, sym, ap, ◌∙◌, subst, inl, inr, arith}
+use Rattle.std.proofs.lemmas.Bool.{false≢true, eqb-true}
 use Rattle.std.proofs.lemmas.Option.{same_Some}
 use Rattle.std.proofs.Math.Nat.{div-add-mod}
 use Rattle.std.specs.List.{cons_option, filter}
-use Rattle.std.proofs.lemmas.List.Elements.{All-drop, All-take}
-use Rattle.btr_read.proofs.Pieces.{length-slice_range}
 use Rattle.btr_chunk.specs.Chunk.{data_count, is_striped, mirrors, stripe_length}
-use Rattle.btr_chunk.specs.Mapping.{HasPart, IsPosition}
+use Rattle.btr_chunk.specs.Mapping.{HasPart}
 use Rattle.btr_chunk.specs.Table.{IsTable}
 use Rattle.btr_chunk.specs.declared.chunk.Chunk.{Chunk}
 use Rattle.btr_chunk.specs.declared.place.Part.{Part}
 use Rattle.btr_chunk.specs.declared.position.Elements.{Elements}
-use Rattle.btr_chunk.proofs.Bytes.{IsPosition-position}
 use Rattle.btr_chunk.proofs.Rows.{without_copies}
 use Rattle.btr_parity.specs.Slices.{IsSlice}
 use Rattle.btr_read.specs.Candidates.{Target, element, size_of}
@@ -37,15 +34,16 @@ use Rattle.btr_scrub.specs.Staying.{IsRowOf}
 use Rattle.btr_scrub.specs.Survival.{AcceptsRight, AreBehind, GetsRight, IsSoundRow, RightPasses}
 use Rattle.btr_scrub.proofs.AcrossChunks.{OfRows, row_is}
 use Rattle.btr_scrub.proofs.Blockwise.{of_targets}
-use Rattle.btr_scrub.proofs.Lists.{all_in, in_filter, some_of}
-use Rattle.btr_scrub.proofs.Positions.{striped_position}
-use Rattle.btr_scrub.proofs.RowWrites.{IsBlockOf, in_one_element}
+use Rattle.btr_scrub.proofs.Lists.{all_in, in_filter, some_of, first_in, in_more}
+use Rattle.btr_scrub.proofs.Positions.{striped_position, bounds_of}
+use Rattle.btr_scrub.proofs.RowWrites.{IsBlockOf, block_in_row, block_lies, no_copies}
 use Rattle.btr_scrub.proofs.Survival.{elements_are_slices, of_filter, right_checked, right_plain}
 use Rattle.btr_scrub.proofs.CopyWrites.{fresh_from}
 use Rattle.btr_scrub.proofs.Elements.{block_of_element}
 use Rattle.btr_scrub.proofs.RowValues.{value_whole}
 use Rattle.btr_scrub_copies.specs.Fresh.{Failing, fresh, stale_parts}
 use Rattle.btr_scrub_row.specs.Wanted.{new_bytes, renewed}
+use Rattle.btr_scrub.proofs.Stripes.{slice_of_slice}
 
 -- what is known of what was committed of the checked blocks of some wants
 pub record CanBeHad (kept : Failing) (images : Images) (layout : Layout) (C : Committed) (wants : List Want) : Type 0 where
@@ -63,16 +61,13 @@ pub address_is : (layout : Layout) (t : Target) → IsSought layout t → mirror
 address_is layout t is parity =
     let k = data_count t.chunk.profile (length t.chunk.stripes) in
     let o = addr_of t.want - t.chunk.start in
-    let striped : is_striped t.chunk.profile ≡ true = elim (without_copies t.chunk.profile (length t.chunk.stripes) parity) [ inl five ↦ ap is_striped five | inr six ↦ ap is_striped six ] in
+    let striped : is_striped t.chunk.profile ≡ true =
+    elim (without_copies t.chunk.profile (length t.chunk.stripes) parity) [ inl five ↦ ap is_striped five | inr six ↦ ap is_striped six ] in
     let at = is.at ∙ striped_position t.chunk (addr_of t.want) striped in
-    let from = leb-true t.chunk.start (addr_of t.want) (and_parts (leb t.chunk.start (addr_of t.want)) (ltb (addr_of t.want) (t.chunk.start + t.chunk.length)) is.held).0 in
+    let from = (bounds_of t.chunk (addr_of t.want) is.held).0 in
     let whole : k * t.at.row + t.at.index ≡ o / 65536 = ap (λ (e : Elements). k * e.row + e.index) at ∙ div-add-mod (o / 65536) k in
     let rest : t.at.rest ≡ o % 65536 = ap (λ (e : Elements). e.rest) at in
     omega (arith, whole, rest, from)
-
-in_more : {X : Type 0} (o : Option X) (x : X) (xs : List X) → In x xs → In x (cons_option o xs)
-in_more None x xs i = i
-in_more (Some y) x xs i = inr i
 
 -- those of blocks that are apart which pass two tests, and lie in one slice, are apart there
 module _ (layout : Layout) (p q : Target → Bool) (base : ℕ) where
@@ -117,21 +112,12 @@ module _ (layout : Layout) (p q : Target → Bool) (base : ℕ) where
 
 -- ---- the row of a number
 
--- some bytes of a slice are a slice
-slice_of_slice : (xs : List ℕ) (from size : ℕ) → from + size ≤ 65536 → IsSlice 65536 xs → IsSlice size (slice_range xs from (from + size))
-slice_of_slice xs from size fits is = record {
-  long = length-slice_range xs from (from + size) (omega (arith, fits, is.long)) ∙ omega arith;
-  bytes = All-take (λ b. b < 256) (from + size - from) (drop from xs) (All-drop (λ b. b < 256) from xs is.bytes);
-}
-
-module _ (kept : Failing) (images : Images) (layout : Layout) (C : Committed) (wants : List Want) (table : IsTable layout.chunks) (own : HaveOwnSlots layout.devices) (none : first_missing layout ≡ None) (lengths : HaveLengths images layout) (had : CanBeHad kept images layout C wants) where
+module _ (kept : Failing) (images : Images) (layout : Layout) (C : Committed) (wants : List Want) (table : IsTable layout.chunks)
+    (own : HaveOwnSlots layout.devices) (none : first_missing layout ≡ None) (lengths : HaveLengths images layout)
+    (had : CanBeHad kept images layout C wants) where
   -- committed bytes of a block pass
   pub right_passes : (t : Target) → IsSought layout t → RightPasses C t
   right_passes t is = subst (λ s. IfSome (C t.want) (λ bytes. passes s t.want bytes ≡ true)) (sym is.setting) (had.pass t.want)
-
-  first_in : (xs : List (List ℕ)) (x : List ℕ) → slice_get xs 0 ≡ Some x → In x xs
-  first_in [] x e = cc
-  first_in (y ∷ xs) x e = inl (same_Some y x e)
 
   -- what is accepted for a block is committed
   pub accepts_right : (t : Target) → In t (targets layout wants) → is_plain t.want ≡ false → AcceptsRight images C t
@@ -144,19 +130,22 @@ module _ (kept : Failing) (images : Images) (layout : Layout) (C : Committed) (w
           let w = of_targets layout t wants among in
           let of = sought_of layout w.0 t w.2 in
           let same : C w.0 ≡ Some b.0 = ap C (sym of.want_is) ∙ b.1 in
-          let all : All (λ other. other ≡ b.0) (passing_for images (sought layout w.0)) = subst (λ o. IfSome o (λ bytes. All (λ other. other ≡ bytes) (passing_for images (sought layout w.0)))) same (had.honest w.0) in
+          let all : All (λ other. other ≡ b.0) (passing_for images (sought layout w.0)) =
+          subst (λ o. IfSome o (λ bytes. All (λ other. other ≡ bytes) (passing_for images (sought layout w.0)))) same (had.honest w.0) in
           let mine : All (λ other. other ≡ b.0) (passing images t) = subst (λ r. All (λ other. other ≡ b.0) (passing_for images r)) w.2 all in
           b.1 ∙ ap Some (sym (all_in (λ other. other ≡ b.0) (passing images t) x mine (first_in (passing images t) x e)))
 
   -- a place of a block that has the committed bytes is sound, where anything is accepted
-  pub right_is_sound : (t : Target) → In t (targets layout wants) → is_plain t.want ≡ false → IsSought layout t → (q : Part) (bytes : List ℕ) → accepted images t ≡ Some bytes
+  pub right_is_sound : (t : Target) → In t (targets layout wants) → is_plain t.want ≡ false → IsSought layout t → (q : Part) (bytes : List ℕ)
+      → accepted images t ≡ Some bytes
       → C t.want ≡ Some (element images t q) → is_sound images t q ≡ true
   right_is_sound t among checked is q bytes e right =
       let committed : C t.want ≡ Some bytes = subst (λ o. IfSome o (λ bytes. C t.want ≡ Some bytes)) e (accepts_right t among checked) in
       let good : is_good images t q ≡ true = subst (λ o. IfSome o (λ bytes. passes t.setting t.want bytes ≡ true)) right (right_passes t is) in
       sound_place images t q bytes e good (same_Some (element images t q) bytes (sym right ∙ committed))
 
-  module _ (apart : AreApart layout 0 wants) (number : ℕ) (chunk : Chunk) (there : slice_get layout.chunks number ≡ Some chunk) (r : ℕ) (parity : mirrors chunk ≡ None) (inside : r * 65536 + 65536 ≤ stripe_length chunk) where
+  module _ (apart : AreApart layout 0 wants) (number : ℕ) (chunk : Chunk) (there : slice_get layout.chunks number ≡ Some chunk) (r : ℕ)
+      (parity : mirrors chunk ≡ None) (inside : r * 65536 + 65536 ≤ stripe_length chunk) where
     abbrev row : Row
     row = row_of kept (targets layout wants) chunk r
 
@@ -166,15 +155,12 @@ module _ (kept : Failing) (images : Images) (layout : Layout) (C : Committed) (w
     pub is_row : IsRowOf layout kept (targets layout wants) row
     is_row = record { number = of.is.chunk_number; there = of.is.there; parity = of.is.parity; position = of.is.position; made = refl; beside = refl }
 
-    block_parity : (t : Target) → IsBlockOf layout row t → mirrors t.chunk ≡ None
-    block_parity t b = ap mirrors b.chunk ∙ parity
-
     spaced : (i : ℕ) → AreBehind 0 (blocks_at row i)
     spaced i =
         let k = data_count chunk.profile (length chunk.stripes) in
         apart_behind layout (is_in_row chunk r) (λ t. eqb t.at.index i) (chunk.start + (k * r + i) * 65536) wants 0 0 apart (inl refl) (λ t among mine at.
         let b = of.blocks t (in_it t among mine) in
-        address_is layout t b.is (block_parity t b)
+        address_is layout t b.is (no_copies layout row table of.is t b)
         ∙ ap (λ (c : Chunk). c.start + (data_count c.profile (length c.stripes) * t.at.row + t.at.index) * 65536 + t.at.rest) b.chunk
         ∙ ap (λ n. chunk.start + (k * n + t.at.index) * 65536 + t.at.rest) b.number
         ∙ ap (λ n. chunk.start + (k * r + n) * 65536 + t.at.rest) (eqb-true t.at.index i at))
@@ -192,12 +178,10 @@ module _ (kept : Failing) (images : Images) (layout : Layout) (C : Committed) (w
       among = of_filter (is_in_row chunk r) t (targets layout wants) i
 
       in_row : IsInRow t
-      in_row =
-          let rule = (table.sound b.is.number t.chunk b.is.there).0 in
-          record { keeps_rule = rule; position = subst (IsPosition t.chunk) (sym b.is.at) (IsPosition-position t.chunk (addr_of t.want) rule b.is.held); parity = block_parity t b }
+      in_row = block_in_row layout row table of.is t b
 
       lies : LiesInRow layout row t
-      lies = record { chunk = b.chunk; number = b.number; devices = b.is.devices; inside = in_one_element layout t b.is (block_parity t b) }
+      lies = block_lies layout row table of.is t b
 
       -- what is in its place in an element is a slice
       piece : (q : Part) → HasPart t.chunk.profile (length t.chunk.stripes) q → IsSlice (size_of t) (element images t q)
@@ -205,36 +189,28 @@ module _ (kept : Failing) (images : Images) (layout : Layout) (C : Committed) (w
           let there = subst (λ c. HasPart c.profile (length c.stripes) q) b.chunk has in
           let stands = of.is.stand q there in
           subst (IsSlice (size_of t)) (sym (block_of_element images layout row t q in_row lies has stands))
-          (slice_of_slice (rows.element images layout row q) t.at.rest (size_of t) lies.inside (elements_are_slices images layout row q had.bytes lengths stands))
+          (slice_of_slice (rows.element images layout row q) t.at.rest (size_of t) lies.inside
+          (elements_are_slices images layout row q had.bytes lengths stands))
 
-      -- so what a plain sector gets is
-      gets_whole : IfSome (new_bytes images kept t) (IsSlice (size_of t)) ⊎ (is_plain t.want ≡ false)
-      gets_whole = at (is_plain t.want) refl
+      -- so what a plain sector gets is, and what was committed of a block
+      right_whole : IfSome (right_for images C row t) (IsSlice (size_of t))
+      right_whole = at (is_plain t.want) refl
         where
           fresh_whole : (o : Option (List ℕ)) → fresh images kept t ≡ o → IfSome o (IsSlice (size_of t))
           fresh_whole None e = tt
           fresh_whole (Some bytes) e =
               let f = fresh_from kept images t bytes e in
               subst (IsSlice (size_of t)) f.value
-              (value_whole images t (block_parity t b) in_row.position.index in_row.keeps_rule.few piece f.way f.trusted.there)
+              (value_whole images t (no_copies layout row table of.is t b) in_row.position.index in_row.keeps_rule.few piece f.way f.trusted.there)
 
           renewed_whole : (c : Bool) → IfSome (cond c (fresh images kept t) None) (IsSlice (size_of t))
           renewed_whole true = fresh_whole (fresh images kept t) refl
           renewed_whole false = tt
 
-          at : (c : Bool) → is_plain t.want ≡ c → IfSome (new_bytes images kept t) (IsSlice (size_of t)) ⊎ (is_plain t.want ≡ false)
-          at true plain = inl (subst (λ c. IfSome (cond c (renewed images kept t) (accepted images t)) (IsSlice (size_of t))) (sym plain)
-              (renewed_whole (nat_lt 0 (length (stale_parts images kept t)))))
-          at false checked = inr checked
-
-      right_whole : IfSome (right_for images C row t) (IsSlice (size_of t))
-      right_whole = at (is_plain t.want) refl
-        where
           at : (c : Bool) → is_plain t.want ≡ c → IfSome (right_for images C row t) (IsSlice (size_of t))
-          at true plain = elim gets_whole [
-            | inl whole ↦ subst (λ o. IfSome o (IsSlice (size_of t))) (sym (right_plain images C row t plain)) whole
-            | inr checked ↦ absurd (false≢true (sym checked ∙ plain))
-          ]
+          at true plain = subst (λ o. IfSome o (IsSlice (size_of t)))
+              (sym (right_plain images C row t plain ∙ ap (λ c. cond c (renewed images kept t) (accepted images t)) plain))
+              (renewed_whole (nat_lt 0 (length (stale_parts images kept t))))
           at false checked = subst (λ o. IfSome o (IsSlice (size_of t))) (sym (right_checked images C row t checked)) (had.slices t among checked)
 
       gets_right : GetsRight images C row t
@@ -245,9 +221,11 @@ module _ (kept : Failing) (images : Images) (layout : Layout) (C : Committed) (w
           same (Some bytes) = refl
 
           at : (c : Bool) → is_plain t.want ≡ c → GetsRight images C row t
-          at true plain = subst (λ o. IfSome (new_bytes images kept t) (λ bytes. o ≡ Some bytes)) (sym (right_plain images C row t plain)) (same (new_bytes images kept t))
+          at true plain = subst (λ o. IfSome (new_bytes images kept t) (λ bytes. o ≡ Some bytes)) (sym (right_plain images C row t plain))
+              (same (new_bytes images kept t))
           at false checked = subst (λ o. IfSome (new_bytes images kept t) (λ bytes. o ≡ Some bytes)) (sym (right_checked images C row t checked))
-              (subst (λ c. IfSome (cond c (renewed images kept t) (accepted images t)) (λ bytes. C t.want ≡ Some bytes)) (sym checked) (accepts_right t among checked))
+              (subst (λ c. IfSome (cond c (renewed images kept t) (accepted images t)) (λ bytes. C t.want ≡ Some bytes)) (sym checked)
+              (accepts_right t among checked))
 
     pub sound_row : IsSoundRow images layout C row
     sound_row = record {

@@ -1,6 +1,6 @@
 -- What isn't wrong stays.
-use Rattle.std.proofs.Common.{◌≡◌, ◌⊎◌, ℕ, ◌+◌, ◌-◌, ◌<◌, ◌≤◌, Bool, true, false, List, [], length, get_or, slice_get}
-use Rattle.std.proofs.Common.{Option, Some, None, IsSome, IsSomeAnd, is_some, refl, sym, ap, ◌∙◌, subst, inl, inr, arith}
+use Rattle.std.proofs.Common.{◌≡◌, ◌⊎◌, ℕ, ◌+◌, ◌-◌, ◌<◌, ◌≤◌, Bool, true, false, List, [], length, get_or, slice_get, Option, Some, None, IsSome, IsSomeAnd}
+use Rattle.std.proofs.Common.{is_some, refl, sym, ap, ◌∙◌, subst, inl, inr, arith}
 use Rattle.std.proofs.lemmas.Bool.{false≢true, false_from_ne_true}
 use Rattle.std.proofs.lemmas.Option.{same_Some}
 use Rattle.std.specs.List.{filter, list_any}
@@ -52,7 +52,9 @@ module _ (images : Images) (layout : Layout) (C : Committed) (fails : Failing) (
   not_wrong : IsInWrong images layout C fails blocks slot off → ⊥
   not_wrong w =
       let same = elements_apart layout row w.row q w.part slot off table own of w.of in
-      let blocks_same : row.blocks ≡ w.row.blocks = is_row.made ∙ ap (λ c. filter (is_in_row c row.number) blocks) same.0 ∙ ap (λ n. filter (is_in_row w.row.chunk n) blocks) same.1 ∙ sym w.is_row.made in
+      let blocks_same : row.blocks ≡ w.row.blocks =
+      is_row.made ∙ ap (λ c. filter (is_in_row c row.number) blocks) same.0 ∙ ap (λ n. filter (is_in_row w.row.chunk n) blocks) same.1
+      ∙ sym w.is_row.made in
       let row_is : w.row ≡ row = sym (same_row row w.row same.0 same.1 blocks_same (is_row.beside ∙ sym w.is_row.beside)) in
       let here : w.place ≡ place = same_place (range_in_element layout row q 0 65536) off w.place place
       (subst (λ p. IsSomeAnd (range_in_element layout row p 0 65536) (λ range. off ≡ range.off + w.place)) (sym same.2)
@@ -67,7 +69,8 @@ module _ (images : Images) (layout : Layout) (C : Committed) (fails : Failing) (
       let devid : a.stripe.devid ≡ c.devid = own a.stripe.devid c.devid a.device c.device a.given c.given (a.same_slot ∙ sym c.same_slot) in
       let both = stripes_apart layout.chunks (record { devid = c.devid; offset = off }) of.number c.number
       (stripe_of row.chunk.profile (length row.chunk.stripes) q (record { row = row.number; index = 0; rest = 0 })) c.stripe table
-      (subst (λ d. LiesIn layout.chunks (record { devid = d; offset = off }) of.number (stripe_of row.chunk.profile (length row.chunk.stripes) q (record { row = row.number; index = 0; rest = 0 }))) devid a.lies) c.lies in
+      (subst (λ d. LiesIn layout.chunks (record { devid = d; offset = off }) of.number
+      (stripe_of row.chunk.profile (length row.chunk.stripes) q (record { row = row.number; index = 0; rest = 0 }))) devid a.lies) c.lies in
       let chunk : row.chunk ≡ c.lies.chunk = same_Some row.chunk c.lies.chunk (sym of.there ∙ ap (slice_get layout.chunks) both.0 ∙ c.lies.there) in
       false≢true (sym (ap (λ k. is_some (mirrors k)) (sym chunk) ∙ ap is_some is_row.parity) ∙ c.copies)
 

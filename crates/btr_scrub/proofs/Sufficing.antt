@@ -1,10 +1,10 @@
 -- What is written beside flags is what is written beside the images that fail.
-use Rattle.std.proofs.Common.{◌≡◌, ℕ, ◌/◌, Bool, true, false, cond, ◌||◌, List, [], ◌∷◌, ◌++◌, map, Option, Some, None, is_none, IfSome}
-use Rattle.std.proofs.Common.{OnOk, Result, Err, refl, sym, ap, ◌∙◌, subst, inl, inr}
+use Rattle.std.proofs.Common.{◌≡◌, ℕ, Bool, true, false, cond, ◌||◌, List, [], ◌∷◌, Some, None, is_none, IfSome, OnOk, Result, Err, refl, sym, ap, ◌∙◌, subst}
+use Rattle.std.proofs.Common.{inl, inr}
 use Rattle.std.proofs.Math.Path.{fun_ext}
 use Rattle.std.proofs.lemmas.Bool.{false≢true}
-use Rattle.std.specs.List.{flat_map, fold, list_any, range_with_len}
-use Rattle.btr_chunk.specs.Chunk.{mirrors, stripe_length}
+use Rattle.std.specs.List.{list_any}
+use Rattle.btr_chunk.specs.Chunk.{mirrors}
 use Rattle.btr_chunk.specs.Table.{IsTable}
 use Rattle.btr_chunk.specs.declared.chunk.Chunk.{Chunk}
 use Rattle.btr_rack.specs.Rack.{NoneFailed, OnlyReads, Seen}
@@ -14,7 +14,7 @@ use Rattle.btr_read.specs.Fate.{is_plain}
 use Rattle.btr_read.specs.Layout.{HaveOwnSlots, Layout}
 use Rattle.btr_read.specs.declared.want.Want.{Want}
 use Rattle.btr_read.proofs.Fates.{sought_of}
-use Rattle.btr_scrub_copies.specs.Blocks.{block_writes}
+use Rattle.btr_scrub_copies.specs.Blocks.{block_writes, accepted, bad_parts}
 use Rattle.btr_scrub_copies.specs.Mending.{mended_of}
 use Rattle.btr_scrub_copies.specs.Syncing.{Strands, plain}
 use Rattle.btr_scrub_copies.specs.Turns.{waiting}
@@ -24,101 +24,43 @@ use Rattle.btr_scrub_copies.specs.declared.mended.MendFault.TheVariants.{Image, 
 use Rattle.btr_scrub_copies.proofs.Doing.{does_behind, does_failed}
 use Rattle.btr_scrub_copies.proofs.Syncs.{passing_filter}
 use Rattle.btr_scrub_copies.proofs.Turning.{read_at, reads_plain, strands_none}
-use Rattle.btr_scrub_row.specs.Wanted.{mending_writes}
 use Rattle.btr_scrub.specs.Doubts.{failing}
-use Rattle.btr_scrub_copies.specs.Fresh.{Failing, flagged, fresh_writes, freshened}
+use Rattle.btr_scrub_copies.specs.Fresh.{Failing, flagged, stale_parts}
 use Rattle.btr_scrub.specs.BlocksInRows.{In}
 use Rattle.btr_scrub.specs.Judged.{AreFailing, IsIdle, Suffices, has_behind, has_older, some_older, some_parity}
 use Rattle.btr_scrub.specs.WrittenRanges.{LiesInStripe}
 use Rattle.btr_scrub.specs.Order.{IsSought, targets}
-use Rattle.btr_scrub.specs.Repair.{first_missing, is_in_chunk, is_in_row, row_of, rows_in}
-use Rattle.btr_scrub.specs.Scrubbing.{IsOfScrub, Works, all_count_for, all_writes_for, chunk_count_for, chunk_writes_for, count_site, counted}
-use Rattle.btr_scrub_row.specs.Rows.{row_writes}
-use Rattle.btr_scrub.specs.Scrubbing.{count_row, counted_plain, rows_count, rows_writes, sites_count, sites_in, sites_writes}
+use Rattle.btr_scrub.specs.Repair.{first_missing, is_in_chunk, is_in_row, row_of}
+use Rattle.btr_scrub.specs.Scrubbing.{IsOfScrub, Works, all_count_for, all_writes_for, chunk_count_for, chunk_writes_for, counted, counted_plain, sites_in}
 use Rattle.btr_scrub.specs.Whole.{listed_count_for, listed_failing, listed_writes_for}
 use Rattle.btr_scrub.specs.declared.tally.Tally.{Tally}
-use Rattle.btr_scrub.proofs.AcrossChunks.{of_chunk, row_counted}
+use Rattle.btr_scrub.proofs.AcrossChunks.{of_chunk, chunk_alike, chunk_counted}
 use Rattle.btr_scrub.proofs.Blockwise.{of_targets}
-use Rattle.btr_scrub.proofs.Calm.{calm_chunk, none_fresh, none_freshened}
+use Rattle.btr_scrub.proofs.Inert.{inert_chunk, none_fresh, none_freshened, none_stale, none_renewed}
 use Rattle.btr_scrub.proofs.Lists.{at_in, none_in}
-use Rattle.btr_scrub.proofs.RowAgreeing.{RowAlike, checked_row, flat_same, fold_same, row_writes_alike}
+use Rattle.btr_scrub.proofs.RowAgreeing.{RowAlike, checked_row, flat_same, fold_same, checked_alike}
 use Rattle.btr_scrub.proofs.Scrubbing.{told}
 use Rattle.btr_scrub.proofs.Working.{waits_before, works_as}
 use Rattle.btr_chunk.proofs.Searches.{fails-list_any}
+use Rattle.btr_scrub.proofs.Agreeing.{SiteAlike}
 
 -- ---- what is written and counted alike
-
--- what is written for a block or a plain sector, and counted, is the same beside other images that fail
-pub record SameBeside (fails also : Failing) (images : Images) (t : Target) : Type 0 where
-  pub writes : mending_writes images fails t ≡ mending_writes images also t
-  pub counts : (write : Bool) (tally : Tally) → count_site fails images write tally t ≡ count_site also images write tally t
-
--- the same of each made of a list
-flat_mapped : {X Y Z : Type 0} (f : Y → List Z) (g h : X → Y) (xs : List X) → ((x : X) → f (g x) ≡ f (h x)) → flat_map f (map g xs) ≡ flat_map f (map h xs)
-flat_mapped f g h [] e = refl
-flat_mapped f g h (x ∷ xs) e = ap (λ zs. zs ++ flat_map f (map g xs)) (e x) ∙ ap (λ zs. f (h x) ++ zs) (flat_mapped f g h xs e)
-
-fold_mapped : {X Y Z : Type 0} (f : Z → Y → Z) (g h : X → Y) (xs : List X) (z : Z) → ((x : X) (z : Z) → f z (g x) ≡ f z (h x))
-    → fold f z (map g xs) ≡ fold f z (map h xs)
-fold_mapped f g h [] z e = refl
-fold_mapped f g h (x ∷ xs) z e = ap (λ y. fold f y (map g xs)) (e x z) ∙ fold_mapped f g h xs (f z (h x)) e
 
 module _ (kept also : Failing) (layout : Layout) (wants : List Want) (images : Images) where
   pub record Alike (chunk : Chunk) : Type 0 where
     pub rows : mirrors chunk ≡ None → (number : ℕ) → RowAlike images images layout (row_of also (targets layout wants) chunk number) kept
-    pub sites : (n : ℕ) → mirrors chunk ≡ Some n → (t : Target) → In t (sites_in layout chunk wants) → SameBeside kept also images t
-
-  abbrev all_rows : Chunk → List ℕ
-  all_rows chunk = range_with_len 0 (stripe_length chunk / 65536)
-
-  rows_alike : (chunk : Chunk) → Alike chunk → mirrors chunk ≡ None
-      → rows_writes layout (rows_in kept (targets layout wants) chunk) images ≡ rows_writes layout (rows_in also (targets layout wants) chunk) images
-  rows_alike chunk h none =
-      ap (λ o. rows_writes layout (cond (is_none o) (map (row_of kept (targets layout wants) chunk) (all_rows chunk)) []) images) none
-      ∙ flat_mapped (row_writes images layout) (row_of kept (targets layout wants) chunk) (row_of also (targets layout wants) chunk) (all_rows chunk)
-      (λ k. row_writes_alike images images layout (row_of also (targets layout wants) chunk k) kept (h.rows none k))
-      ∙ sym (ap (λ o. rows_writes layout (cond (is_none o) (map (row_of also (targets layout wants) chunk) (all_rows chunk)) []) images) none)
-
-  rows_counted : (write : Bool) (chunk : Chunk) (tally : Tally) → Alike chunk → mirrors chunk ≡ None
-      → rows_count layout write (rows_in kept (targets layout wants) chunk) images tally ≡ rows_count layout write (rows_in also (targets layout wants) chunk) images tally
-  rows_counted write chunk tally h none =
-      ap (λ o. rows_count layout write (cond (is_none o) (map (row_of kept (targets layout wants) chunk) (all_rows chunk)) []) images tally) none
-      ∙ fold_mapped (count_row images layout write) (row_of kept (targets layout wants) chunk) (row_of also (targets layout wants) chunk) (all_rows chunk) tally
-      (λ k x. row_counted images images layout write (row_of also (targets layout wants) chunk k) kept x (h.rows none k))
-      ∙ sym (ap (λ o. rows_count layout write (cond (is_none o) (map (row_of also (targets layout wants) chunk) (all_rows chunk)) []) images tally) none)
-
-  writes_alike : (chunk : Chunk) → Alike chunk → chunk_writes_for kept layout chunk wants images ≡ chunk_writes_for also layout chunk wants images
-  writes_alike chunk h = by (mirrors chunk) refl
-    where
-      by : (o : Option ℕ) → mirrors chunk ≡ o
-          → cond (is_none o) (rows_writes layout (rows_in kept (targets layout wants) chunk) images) (sites_writes kept (sites_in layout chunk wants) images)
-          ≡ cond (is_none o) (rows_writes layout (rows_in also (targets layout wants) chunk) images) (sites_writes also (sites_in layout chunk wants) images)
-      by None e = rows_alike chunk h e
-      by (Some n) e = flat_same (mending_writes images kept) (mending_writes images also) (sites_in layout chunk wants)
-          (λ t i. (h.sites n e t i).writes)
-
-  count_alike : (write : Bool) (chunk : Chunk) (tally : Tally) → Alike chunk
-      → chunk_count_for kept layout write chunk wants images tally ≡ chunk_count_for also layout write chunk wants images tally
-  count_alike write chunk tally h = by (mirrors chunk) refl
-    where
-      by : (o : Option ℕ) → mirrors chunk ≡ o
-          → cond (is_none o) (rows_count layout write (rows_in kept (targets layout wants) chunk) images tally)
-          (sites_count kept write (sites_in layout chunk wants) images tally)
-          ≡ cond (is_none o) (rows_count layout write (rows_in also (targets layout wants) chunk) images tally)
-          (sites_count also write (sites_in layout chunk wants) images tally)
-      by None e = rows_counted write chunk tally h e
-      by (Some n) e = fold_same (count_site kept images write) (count_site also images write) (sites_in layout chunk wants) tally
-          (λ t i x. (h.sites n e t i).counts write x)
+    pub sites : (n : ℕ) → mirrors chunk ≡ Some n → (t : Target) → In t (sites_in layout chunk wants) → SiteAlike also kept images images t
 
   pub all_writes_alike : (chunks : List Chunk) → ((chunk : Chunk) → In chunk chunks → Alike chunk)
       → all_writes_for kept layout chunks wants images ≡ all_writes_for also layout chunks wants images
   all_writes_alike chunks h = flat_same (λ chunk. chunk_writes_for kept layout chunk wants images) (λ chunk. chunk_writes_for also layout chunk wants images)
-      chunks (λ chunk i. writes_alike chunk (h chunk i))
+      chunks (λ chunk i. chunk_alike kept also images images layout wants chunk (λ none k _. (h chunk i).rows none k) (h chunk i).sites)
 
   pub all_count_alike : (write : Bool) (chunks : List Chunk) (tally : Tally) → ((chunk : Chunk) → In chunk chunks → Alike chunk)
       → all_count_for kept layout write chunks wants images tally ≡ all_count_for also layout write chunks wants images tally
   all_count_alike write chunks tally h = fold_same (λ x chunk. chunk_count_for kept layout write chunk wants images x)
-      (λ x chunk. chunk_count_for also layout write chunk wants images x) chunks tally (λ chunk i x. count_alike write chunk x (h chunk i))
+      (λ x chunk. chunk_count_for also layout write chunk wants images x) chunks tally
+      (λ chunk i. chunk_counted kept also images images layout wants chunk (λ none k _. (h chunk i).rows none k) (h chunk i).sites write)
 
 -- ---- flags that suffice
 
@@ -132,24 +74,24 @@ no_parity chunk (c ∷ chunks) e i none = by (is_none (mirrors c)) refl e i (λ 
     by false is e (inl same) rest = false≢true (sym is ∙ ap (λ (k : Chunk). is_none (mirrors k)) same ∙ ap is_none none)
     by false is e (inr j) rest = rest e j
 
--- a checked block is mended alike
-checked_alike : (fails also : Failing) (images : Images) (t : Target) → is_plain t.want ≡ false → SameBeside fails also images t
-checked_alike fails also images t e = record {
-  writes = ap (λ b. cond b (fresh_writes images fails t) (block_writes images t)) e ∙ sym (ap (λ b. cond b (fresh_writes images also t) (block_writes images t)) e);
-  counts = λ write tally.
-      ap (λ b. cond b (counted_plain tally (freshened images fails t write)) (counted tally (mended_of images t write))) e
-      ∙ sym (ap (λ b. cond b (counted_plain tally (freshened images also t write)) (counted tally (mended_of images t write))) e);
-}
-
--- and so is a plain sector where no image is behind
-calm_alike : (fails also : Failing) (layout : Layout) (t : Target) (n : ℕ) (images : Images) → IsTable layout.chunks → IsSought layout t
-    → mirrors t.chunk ≡ Some n → ((f : Failing) → has_behind layout.devices f t.chunk ≡ false) → SameBeside fails also images t
-calm_alike fails also layout t n images table is has calm = record {
-  writes = ap (λ ws. cond (is_plain t.want) ws (block_writes images t))
-      (none_fresh fails layout t n table is has (calm fails) images ∙ sym (none_fresh also layout t n table is has (calm also) images));
-  counts = λ write tally. ap (λ m. cond (is_plain t.want) (counted_plain tally m) (counted tally (mended_of images t write)))
-      (none_freshened fails layout t n table is has (calm fails) images write ∙ sym (none_freshened also layout t n table is has (calm also) images write));
-}
+-- a plain sector is mended alike where no image is behind
+inert_alike : (fails also : Failing) (layout : Layout) (t : Target) (n : ℕ) (images : Images) → IsTable layout.chunks → IsSought layout t
+    → mirrors t.chunk ≡ Some n → ((f : Failing) → has_behind layout.devices f t.chunk ≡ false) → SiteAlike also fails images images t
+inert_alike fails also layout t n images table is has inert =
+    let stale : stale_parts images fails t ≡ stale_parts images also t =
+    none_stale fails layout t n table is has (inert fails) images ∙ sym (none_stale also layout t n table is has (inert also) images) in
+    let p = is_plain t.want in
+    record {
+      writes = ap (λ ws. cond p ws (block_writes images t))
+          (none_fresh fails layout t n table is has (inert fails) images ∙ sym (none_fresh also layout t n table is has (inert also) images));
+      wrong = ap (λ ps. cond p ps (bad_parts images t)) stale;
+      bytes = ap (λ o. cond p o (accepted images t))
+          (none_renewed fails layout t n table is has (inert fails) images ∙ sym (none_renewed also layout t n table is has (inert also) images));
+      lost = refl;
+      counts = λ write tally. ap (λ m. cond p (counted_plain tally m) (counted tally (mended_of images t write)))
+          (none_freshened fails layout t n table is has (inert fails) images write
+          ∙ sym (none_freshened also layout t n table is has (inert also) images write));
+    }
 
 -- a want that isn't plain
 not_plain : (layout : Layout) (wants : List Want) (t : Target) → In t (targets layout wants) → list_any is_plain wants ≡ false → is_plain t.want ≡ false
@@ -175,19 +117,22 @@ module _ (layout : Layout) (wants : List Want) (rack : Seen) (flags : List Bool)
   all_checked none chunk = record {
     rows = λ parity number. checked_row images layout (row_of by_images (targets layout wants) chunk number) by_flags parity
         (λ t i. not_plain layout wants t (passing_filter (is_in_row chunk number) t (targets layout wants) i).0 none);
-    sites = λ n has t i. checked_alike by_flags by_images images t (not_plain layout wants t (passing_filter (is_in_chunk chunk) t (targets layout wants) i).0 none);
+    sites = λ n has t i. checked_alike by_images by_flags images t
+        (not_plain layout wants t (passing_filter (is_in_chunk chunk) t (targets layout wants) i).0 none);
   }
 
   -- with copies alone, and no older image
-  all_young : some_parity layout.chunks ≡ false → some_older layout ≡ false → (chunk : Chunk) → In chunk layout.chunks → Alike by_flags by_images layout wants images chunk
+  all_young : some_parity layout.chunks ≡ false → some_older layout ≡ false → (chunk : Chunk) → In chunk layout.chunks
+      → Alike by_flags by_images layout wants images chunk
   all_young copies young chunk j =
       let at = at_in chunk layout.chunks j in
       record {
         rows = λ parity. absurd (no_parity chunk layout.chunks copies j parity);
         sites = λ n has t i.
             let of = of_chunk by_flags layout table own given at.0 chunk at.1 wants t i in
-            calm_alike by_flags by_images layout t n images table of.is (ap mirrors of.chunk_is ∙ has) (λ f.
-            ap (has_behind layout.devices f) of.chunk_is ∙ calm_chunk f layout.devices chunk (fails-list_any (has_older layout.devices) layout.chunks young at.0 chunk at.1));
+            inert_alike by_flags by_images layout t n images table of.is (ap mirrors of.chunk_is ∙ has) (λ f.
+            ap (has_behind layout.devices f) of.chunk_is ∙ inert_chunk f layout.devices chunk
+            (fails-list_any (has_older layout.devices) layout.chunks young at.0 chunk at.1));
       }
 
   all_idle : IsIdle layout wants → (chunk : Chunk) → In chunk layout.chunks → Alike by_flags by_images layout wants images chunk
@@ -217,7 +162,8 @@ module _ (layout : Layout) (write : Bool) (f : Images → List Write) (c : Image
     does = does_behind (IsOfScrub layout) (λ i. writes_if write (f i)) [] [] (plain a) (plain b) (plain z) r (reads_plain a b reads) none h.does;
     counts = subst (λ held. OnOk r (IfSome held (λ images. u ≡ c images t))) (ap (λ (s : Seen). s.held) reads.same) h.counts;
     synced = subst (λ waits. OnOk r (waits ≡ [] → z.unsynced ≡ [])) (ap (λ (s : Seen). s.unsynced) reads.same) h.synced;
-    waits = λ none. waits_before layout a b z (λ range i. subst (In range) (ap waiting reads.same) i) (h.waits (ap (λ (s : Seen). s.unsynced) reads.same ∙ none));
+    waits = λ none. waits_before layout a b z (λ range i. subst (In range) (ap waiting reads.same) i)
+        (h.waits (ap (λ (s : Seen). s.unsynced) reads.same ∙ none));
     stranded = subst (λ never. Strands never z.never_synced r) (ap (λ (s : Seen). s.never_synced) reads.same) h.stranded;
     unwritten = λ w. reads_more reads (h.unwritten w);
   }

@@ -16,7 +16,7 @@ pub sum_one : {X : Type 0} (xs : List X) → sum_by (λ (x : X). 1) xs ≡ lengt
 sum_one [] = refl
 sum_one (x ∷ xs) = sum_by-cons (λ y. 1) x xs ∙ omega (arith, sum_one xs)
 
-sum_add : {X : Type 0} (f g : X → ℕ) (xs : List X) → sum_by (λ x. f x + g x) xs ≡ sum_by f xs + sum_by g xs
+pub sum_add : {X : Type 0} (f g : X → ℕ) (xs : List X) → sum_by (λ x. f x + g x) xs ≡ sum_by f xs + sum_by g xs
 sum_add f g [] = refl
 sum_add f g (x ∷ xs) = sum_by-cons (λ y. f y + g y) x xs ∙ omega (arith, sum_add f g xs, sum_by-cons f x xs, sum_by-cons g x xs)
 
@@ -55,7 +55,12 @@ once_sum : {K : Type 0} (n : ℕ) (p : K → Bool) (ks : List K) (i : ℕ) (k : 
 once_sum n p [] i k at is others = cc
 once_sum n p (l ∷ ks) zero k at is others =
     let same : l ≡ k = same_Some l k at in
-    sum_by-cons (λ k. cond (p k) n 0) l ks ∙ omega (arith, ap (λ b. cond b n 0) (ap p same ∙ is), sum_zero (λ k. cond (p k) n 0) ks (λ x j. let r = at_in x ks j in ap (λ b. cond b n 0) (others (suc r.0) x (λ e. omega (arith, e)) r.1)))
+    sum_by-cons (λ k. cond (p k) n 0) l ks ∙ omega (
+      arith,
+      ap (λ b. cond b n 0) (ap p same ∙ is),
+      sum_zero (λ k. cond (p k) n 0) ks
+          (λ x j. let r = at_in x ks j in ap (λ b. cond b n 0) (others (suc r.0) x (λ e. omega (arith, e)) r.1)),
+    )
 once_sum n p (l ∷ ks) (suc i) k at is others =
     sum_by-cons (λ k. cond (p k) n 0) l ks ∙ omega (
       arith,

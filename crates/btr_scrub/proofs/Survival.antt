@@ -1,13 +1,13 @@
 -- The blocks of a full stripe as they should be.
-use Rattle.std.proofs.Common.{◌≡◌, ℕ, ◌+◌, ◌-◌, ◌<◌, ◌≤◌, Bool, true, false, cond, eqb, List, [], ◌∷◌, ◌++◌, length, map, get_or, take, drop, slice_range}
-use Rattle.std.proofs.Common.{Option, Some, None, IfSome, IsNone, All, refl, sym, ap, ◌∙◌, subst, inl, inr, arith}
+use Rattle.std.proofs.Common.{◌≡◌, ℕ, ◌+◌, ◌-◌, ◌<◌, ◌≤◌, Bool, true, false, cond, eqb, List, [], ◌∷◌, ◌++◌, length, get_or, take, drop, slice_range, Option}
+use Rattle.std.proofs.Common.{Some, None, IfSome, IsNone, All, refl, sym, ap, ◌∙◌, subst, inl, inr, arith}
 use Rattle.std.proofs.lemmas.Bool.{eq-eqb, cases_lt}
-use Rattle.std.proofs.lemmas.List.{ext_get_or, get_or-take, get_or-drop, get_or_past, same_lists}
+use Rattle.std.proofs.lemmas.List.{ext_get_or, get_or-take, get_or-drop, get_or_past}
 use Rattle.std.proofs.lemmas.List.Elements.{All-append, All-nil, All-take, All-drop}
 use Rattle.std.proofs.lemmas.List.FromFn.{length-map-range_with_len, get_or-map-range_with_len}
-use Rattle.std.specs.List.{filter, fold, range_with_len}
+use Rattle.std.specs.List.{filter, fold}
 use Rattle.std.specs.Option.{option_map_or}
-use Rattle.btr_chunk.specs.Chunk.{mirror_count, mirrors}
+use Rattle.btr_chunk.specs.Chunk.{mirror_count}
 use Rattle.btr_chunk.specs.Mapping.{HasPart, place_at}
 use Rattle.btr_chunk.specs.declared.place.Part.{Part}
 use Rattle.btr_chunk.specs.declared.place.Part.TheVariants as part
@@ -27,9 +27,8 @@ use Rattle.btr_scrub_row.specs.Rows as rows
 use Rattle.btr_scrub_row.specs.Rows.{Row, blocks_at, element, element_with, slice_with, slices_with, with_block}
 use Rattle.btr_scrub.specs.Survival.{AreBehind, ElementsAreSlices, IsSoundRow}
 use Rattle.btr_scrub_row.proofs.Elements.{range_stands, stands_on}
-use Rattle.btr_scrub_row.proofs.Pasted.{length-pasted, pasted-below, pasted-within}
+use Rattle.btr_scrub_row.proofs.Pasted.{length-pasted, pasted-below, range_pasted}
 use Rattle.btr_scrub.proofs.Stripes.{no_mirror}
-use Rattle.btr_scrub_copies.specs.Blocks.{own_parts}
 use Rattle.btr_scrub_copies.specs.Writes.{Images}
 use Rattle.btr_scrub.proofs.Lists.{in_filter}
 use Rattle.btr_scrub_copies.proofs.Syncs.{passing_filter}
@@ -39,13 +38,6 @@ use Rattle.btr_scrub_copies.proofs.Syncs.{passing_filter}
 pub at_range : (xs : List ℕ) (a b i d : ℕ) → i < b - a → get_or (slice_range xs a b) i d ≡ get_or xs (a + i) d
 at_range xs a b i d lt = get_or-take (b - a) (drop a xs) i d lt ∙ get_or-drop a xs i d
 
-pub range_ext : (xs ys : List ℕ) (a b : ℕ) → b ≤ length xs → length xs ≡ length ys → ((i d : ℕ) → a ≤ i → i < b → get_or xs i d ≡ get_or ys i d)
-    → slice_range xs a b ≡ slice_range ys a b
-range_ext xs ys a b le long same =
-    let lx = length-slice_range xs a b le in
-    same_lists (slice_range xs a b) (slice_range ys a b) (lx ∙ sym (length-slice_range ys a b (omega (arith, le, long))))
-    (λ i d below. let lt : i < b - a = omega (arith, below, lx) in at_range xs a b i d lt ∙ same (a + i) d (omega arith) (omega (arith, lt)) ∙ sym (at_range ys a b i d lt))
-
 -- ranges of two lists that have the same bytes there
 pub range_same : (xs ys : List ℕ) (a b : ℕ) → b ≤ length xs → length ys ≡ length xs → ((i : ℕ) → a ≤ i → i < b → get_or xs i 0 ≡ get_or ys i 0)
     → slice_range xs a b ≡ slice_range ys a b
@@ -54,15 +46,6 @@ range_same xs ys a b le long same =
     ext_get_or 0 (slice_range xs a b) (slice_range ys a b) (lx ∙ sym (length-slice_range ys a b (omega (arith, le, long))))
     (λ i below. let lt : i < b - a = omega (arith, below, lx) in
     at_range xs a b i 0 lt ∙ same (a + i) (omega arith) (omega (arith, lt)) ∙ sym (at_range ys a b i 0 lt))
-
-range_pasted : (xs : List ℕ) (off : ℕ) (bytes : List ℕ) → off + length bytes ≤ length xs → slice_range (pasted xs off bytes) off (off + length bytes) ≡ bytes
-range_pasted xs off bytes fits =
-    let to = off + length bytes in
-    let long = length-slice_range (pasted xs off bytes) off to (omega (arith, fits, length-pasted xs off bytes fits)) in
-    same_lists (slice_range (pasted xs off bytes) off to) bytes (long ∙ omega arith)
-    (λ i d below. let lt : i < to - off = omega (arith, below, long) in
-    at_range (pasted xs off bytes) off to i d lt ∙ pasted-within xs off bytes fits (off + i) d (omega arith) (omega (arith, lt))
-    ∙ ap (λ j. get_or bytes j d) (omega arith))
 
 slice_pasted : (n : ℕ) (xs : List ℕ) (off : ℕ) (bytes : List ℕ) → off + length bytes ≤ n → IsSlice n xs → All (λ b. b < 256) bytes
     → IsSlice n (pasted xs off bytes)
@@ -101,8 +84,8 @@ module _ (images : Images) (layout : Layout) (given : Target → Option (List �
   one_keeps t (Some bytes) xs a b le inside fits is =
       let within : t.at.rest + length bytes ≤ length xs = omega (arith, inside, fits.long, is.long) in
       let long = length-pasted xs t.at.rest bytes within in
-      range_ext (pasted xs t.at.rest bytes) xs a b (omega (arith, le, within, long)) long
-      (λ i d from to. pasted-below xs t.at.rest bytes within i d (omega (arith, to, le)))
+      range_same (pasted xs t.at.rest bytes) xs a b (omega (arith, le, within, long)) (sym long)
+      (λ i from to. pasted-below xs t.at.rest bytes within i 0 (omega (arith, to, le)))
 
   fold_keeps : (ts : List Target) (xs : List ℕ) (a b end : ℕ) → b ≤ end → AreBehind end ts → ((t : Target) → In t ts → Fits t) → IsSlice 65536 xs
       → slice_range (fold (with_block images layout given) xs ts) a b ≡ slice_range xs a b
@@ -157,14 +140,6 @@ elements_are_slices images layout row q all lengths h =
     subst (λ (o : Option Range). IsSlice 65536 (option_map_or (λ range. bytes_of images range.slot range.off range.len) o [])) (sym e) cut
 
 -- ---- the row
-
--- without copies a block's only place of its own is its slice
-pub own_slice : (t : Target) (q : Part) → mirrors t.chunk ≡ None → In q (own_parts t) → part.Slice t.at.index ≡ q
-own_slice t q none i = by (subst (λ o. In q (option_map_or (λ n. map part.Mirror (range_with_len 0 n)) o (part.Slice t.at.index ∷ []))) none i)
-  where
-    by : In q (part.Slice t.at.index ∷ []) → part.Slice t.at.index ≡ q
-    by (inl e) = e
-    by (inr h) = absurd h
 
 pub of_filter : {X : Type 0} (p : X → Bool) (x : X) (xs : List X) → In x (filter p xs) → In x xs
 of_filter p x xs i = (passing_filter p x xs i).0

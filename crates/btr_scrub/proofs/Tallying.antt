@@ -1,8 +1,7 @@
 -- The counts of a list of all blocks are the tally of the repair.
 use Rattle.std.proofs.Common.{◌≡◌, ◌≢◌, ℕ, zero, suc, ◌+◌, ◌/◌, ◌<◌, Bool, true, false, not, cond, ◌&&◌, eqb, List, [], ◌∷◌, map, length, slice_get, Option}
-use Rattle.std.proofs.Common.{Some}
-use Rattle.std.proofs.Common.{None, is_none, refl, sym, ap, ◌∙◌, subst, inl, inr, arith}
-use Rattle.std.proofs.lemmas.Bool.{cases_order, eq-eqb, eqb-true, and_from}
+use Rattle.std.proofs.Common.{Some, None, is_none, refl, sym, ap, ◌∙◌, subst, inl, inr, arith}
+use Rattle.std.proofs.lemmas.Bool.{eq-eqb, eqb-true, and_from, false_from_ne_true}
 use Rattle.std.proofs.lemmas.List.FromFn.{length-range_with_len}
 use Rattle.std.proofs.lemmas.List.Sums.{sum_by-cons}
 use Rattle.std.proofs.lemmas.Option.{same_Some, slice_get_within}
@@ -12,7 +11,6 @@ use Rattle.btr_chunk.specs.Mapping.{holds, position}
 use Rattle.btr_chunk.specs.Table.{IsTable}
 use Rattle.btr_chunk.specs.declared.chunk.Chunk.{Chunk}
 use Rattle.btr_chunk.specs.declared.position.Elements.{Elements}
-use Rattle.btr_chunk.proofs.Rule.{facts}
 use Rattle.btr_read.specs.Candidates.{Target}
 use Rattle.btr_read.specs.Layout.{Layout}
 use Rattle.btr_read.specs.Want.{addr_of}
@@ -35,7 +33,7 @@ use Rattle.btr_scrub.specs.Units.{Checked, Met, Unchecked}
 use Rattle.btr_scrub.specs.Whole.{ListedCounts, first_tally}
 use Rattle.btr_scrub.specs.declared.tally.Tally.{Tally}
 use Rattle.btr_scrub.proofs.AcrossChunks.{sum_same}
-use Rattle.btr_scrub.proofs.Blockwise.{of_targets}
+use Rattle.btr_scrub.proofs.Blockwise.{of_targets, with_one_start}
 use Rattle.btr_scrub.proofs.Lists.{at_in}
 use Rattle.btr_scrub.proofs.Positions.{is_sought}
 use Rattle.btr_scrub.proofs.RowNumbers.{all_rows, row_fits, same_start}
@@ -209,34 +207,13 @@ module _ (kept : Failing) (images : Images) (layout : Layout) (write : Bool) (ts
         t.chunk,
         is.there,
         eq-eqb t.chunk.start t.chunk.start refl,
-        λ j other ne found. by j other ne found
-            (is_in_chunk other t) refl,
+        λ j other ne found. false_from_ne_true (is_in_chunk other t)
+            (λ e. ne (with_one_start layout table j is.number other t.chunk found is.there (sym (eqb-true t.chunk.start other.start e))).0),
       ),
     )
       where
         is : IsSought layout t
         is = placed t i
-
-        by : (j : ℕ) (other : Chunk) → j ≢ is.number → slice_get layout.chunks j ≡ Some other → (b : Bool) → is_in_chunk other t ≡ b
-            → is_in_chunk other t ≡ false
-        by j other ne found false e = e
-        by j other ne found true e =
-            let start = eqb-true t.chunk.start other.start e in
-            elim (cases_order j is.number) [
-              | inl equal ↦ absurd (ne equal)
-              | inr (inl before) ↦ absurd (omega (
-                arith,
-                (table.apart j is.number other t.chunk before found is.there).0,
-                (facts other (table.sound j other found).0).some,
-                start,
-              ))
-              | inr (inr after) ↦ absurd (omega (
-                arith,
-                (table.apart is.number j t.chunk other after is.there found).0,
-                (facts t.chunk (table.sound is.number t.chunk is.there).0).some,
-                start,
-              ))
-            ]
 
     range_at : (a n i : ℕ) → i < n → slice_get (range_with_len a n) i ≡ Some (a + i)
     range_at a zero i lt = absurd (omega (arith, lt))

@@ -76,9 +76,6 @@ module _ (s : Super) (sums : Option TreeRoot) (chunk : Chunk) (x : Scene) (scan 
     same : y.vol.store.layout ≡ layout
     same = same_layout x.vol.store y.vol.store scan at u.others
 
-    mid : Scene
-    mid = scene rack vol y.list
-
     weaker : (w : UnreadBlock) (want : Want) → Is w want → unread_by layout x.rack rack w want
     weaker w want h = since layout y.vol.store.layout same u.reads w want h
 
@@ -127,7 +124,8 @@ module _ (s : Super) (sums : Option TreeRoot) (chunk : Chunk) (x : Scene) (scan 
         done = u.done;
         lists = u.lists;
         content = joined Was (Next (Ok Other)) (λ B. Between s sums chunk B x.vol.store vol.store scan at' end u.done) same
-            (λ B b n. let c = n (wants_of b.before) b.on in between_other s sums chunk B x.vol.store scan y.vol.store vol.store at at' end u.done b c.item c.gives lo hi c.says) u.content t;
+            (λ B b n. let c = n (wants_of b.before) b.on in
+            between_other s sums chunk B x.vol.store scan y.vol.store vol.store at at' end u.done b c.item c.gives lo hi c.says) u.content t;
       }
 
       -- one that breaks its form

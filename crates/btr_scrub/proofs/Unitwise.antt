@@ -32,7 +32,7 @@ use Rattle.btr_volume.specs.declared.root.TreeRoot.{TreeRoot}
 use Rattle.btr_walk.specs.Reading.{Map}
 use Rattle.btr_scrub.specs.Gathering.{wants_among}
 use Rattle.btr_scrub.specs.Order.{AreApart, AreBetween}
-use Rattle.btr_scrub.specs.Units.{Checked, Meeting, Met, Unchecked, blocks_of, extent_met, extent_of, if_stated, in_chunk, in_chunks, units_in, with_extents}
+use Rattle.btr_scrub.specs.Units.{Meeting, Met, blocks_of, extent_met, extent_of, if_stated, in_chunk, in_chunks, units_in, with_extents}
 use Rattle.btr_scrub.specs.Units.{is_crossing, is_extent, is_malformed, item_met, sector, sector_met, sectors, stated_extent}
 use Rattle.btr_scrub.specs.declared.extent.Extent.{Extent}
 use Rattle.btr_items.specs.ExtentItem.{extent_item_of}
@@ -42,6 +42,7 @@ use Rattle.btr_items.specs.Types.{extent_item, metadata_item}
 use Rattle.btr_items.specs.declared.extent_item.ExtentItem.{ExtentItem}
 use Rattle.btr_items.specs.declared.fault.ItemFault.{ItemFault}
 use Rattle.btr_volume.specs.Tree.{key, last, tree_of}
+use Rattle.btr_scrub.proofs.Gathering.{among-append}
 use Rattle.btr_scrub.proofs.Placed.{placed, sector_fits}
 use Rattle.btr_scrub.proofs.Ends.{Ends, Holds, Yields, each_ends, ends_as, ends_bind, ends_looks, holds_of}
 
@@ -115,11 +116,6 @@ module _ (layout : Layout) where
   between_apart a b [] h = tt
   between_apart a b (x ∷ xs) h = (h.0, h.1, between_apart (addr_of x + len_of layout.setting x) b xs h.2)
 
-wants_more : (xs ys : List Met) → wants_among (xs ++ ys) ≡ wants_among xs ++ wants_among ys
-wants_more [] ys = refl
-wants_more (Checked w ∷ xs) ys = ap (λ ws. w ∷ ws) (wants_more xs ys)
-wants_more (Unchecked a ∷ xs) ys = ap (λ ws. Plain a ∷ ws) (wants_more xs ys)
-
 -- ---- one chunk
 
 left_true : (a b : Bool) → a ≡ true → (a && b) ≡ false → b ≡ false
@@ -166,10 +162,10 @@ module _ (s : Super) (layout : Layout) (table : IsTable layout.chunks) (node : s
       (λ ys u. Between addr (addr + suc n * 4096) ys) (Apart addr) (one_sector addr aligned from (omega (arith, to)))
       (λ u xs q. ends_as B (sectors s sums n (addr + 4096)) (λ ys v. Between (addr + 4096) (addr + 4096 + n * 4096) ys)
       (λ ys v. Between addr (addr + suc n * 4096) (xs ++ ys)) (Apart (addr + 4096)) (λ ys. Apart addr (xs ++ ys))
-      (λ ys v h. subst (AreBetween layout addr (addr + suc n * 4096)) (sym (wants_more xs ys))
+      (λ ys v h. subst (AreBetween layout addr (addr + suc n * 4096)) (sym (among-append xs ys))
       (between_more layout addr (addr + 4096) (addr + suc n * 4096) (wants_among xs) (wants_among ys) q
       (between_to layout (addr + 4096) (addr + 4096 + n * 4096) (addr + suc n * 4096) (wants_among ys) h (omega arith))))
-      (λ ys h. subst (AreApart layout addr) (sym (wants_more xs ys)) (apart_more layout addr (addr + 4096) (wants_among xs) (wants_among ys) q h))
+      (λ ys h. subst (AreApart layout addr) (sym (among-append xs ys)) (apart_more layout addr (addr + 4096) (wants_among xs) (wants_among ys) q h))
       (all_sectors n (addr + 4096) (omega (arith, aligned)) (omega (arith, from)) (omega (arith, to))))
 
   -- an extent that keeps the rules
@@ -222,13 +218,13 @@ module _ (s : Super) (layout : Layout) (table : IsTable layout.chunks) (node : s
     blocks = blocks_of s sums extent extent.level
 
     far : (ys : List Met) → Apart extent.addr ys → Far end ys
-    far ys h xs so = subst (AreApart layout chunk.start) (sym (wants_more xs ys)) (apart_more layout chunk.start so.to (wants_among xs) (wants_among ys)
+    far ys h xs so = subst (AreApart layout chunk.start) (sym (among-append xs ys)) (apart_more layout chunk.start so.to (wants_among xs) (wants_among ys)
         so.between (apart_from layout so.to extent.addr (wants_among ys) (omega (arith, so.low, is.from, le)) h))
 
     grows : (ys : List Met) → Between extent.addr (extent.addr + extent.len) ys → Grows end ys (extent.addr + extent.len)
     grows ys q xs so = record {
       to = extent.addr + extent.len;
-      between = subst (AreBetween layout chunk.start (extent.addr + extent.len)) (sym (wants_more xs ys))
+      between = subst (AreBetween layout chunk.start (extent.addr + extent.len)) (sym (among-append xs ys))
           (between_more layout chunk.start so.to (extent.addr + extent.len) (wants_among xs) (wants_among ys) so.between
           (between_from layout so.to extent.addr (extent.addr + extent.len) (wants_among ys) (omega (arith, so.low, is.from, le)) q));
       low = omega (arith, is.from);
@@ -398,7 +394,7 @@ module _ (s : Super) (layout : Layout) (table : IsTable layout.chunks) (node : s
       let end = chunk.start + chunk.length in
       let low = behind i chunk (omega arith) there in
       let more = λ (xs : List Met) (q : AreBetween layout chunk.start end (wants_among xs)) (ys : List Met) (h : ApartFrom end ys).
-      subst (AreApart layout from) (sym (wants_more xs ys)) (apart_from layout from chunk.start (wants_among xs ++ wants_among ys) low
+      subst (AreApart layout from) (sym (among-append xs ys)) (apart_from layout from chunk.start (wants_among xs ++ wants_among ys) low
       (apart_more layout chunk.start end (wants_among xs) (wants_among ys) q h)) in
       ends_bind B (in_chunk s sums chunk extents) (λ _. in_chunks s sums extents chunks) (λ ys u. AreBetween layout chunk.start end (wants_among ys))
       (λ ys u. ApartFrom from ys) (ApartFrom from)

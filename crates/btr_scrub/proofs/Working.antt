@@ -1,20 +1,17 @@
 -- Chunk after chunk, each with its syncs.
-use Rattle.std.proofs.Common.{◌≡◌, ◌⊎◌, get_or, ℕ, zero, suc, ◌+◌, ◌<◌, ◌≤◌, Bool, true, false, cond, ◌&&◌, eqb, leb, ltb, ◌/◌, List, [], ◌∷◌, ◌++◌, length, take, drop}
-use Rattle.std.proofs.Common.{slice_get, Option, Some, None, is_none, IfSome, IsSomeAnd, OnOk, Result, Ok, Err, IsErrAnd, refl, sym, ap, ◌∙◌, subst, inl, inr, arith}
-use Rattle.std.proofs.Common.{append-nil, append_assoc, add-one}
-use Rattle.std.proofs.lemmas.Bool.{false≢true, and_parts, cases_lt, cases_order, eqb-true, leb-true, ltb-true}
-use Rattle.std.proofs.lemmas.Grind.{flat_map-append}
+use Rattle.std.proofs.Common.{◌≡◌, ◌⊎◌, get_or, ℕ, zero, suc, ◌+◌, ◌<◌, ◌≤◌, Bool, true, false, cond, ◌&&◌, eqb, ◌/◌, List, [], ◌∷◌, ◌++◌, length, take, drop}
+use Rattle.std.proofs.Common.{slice_get, Option, Some, None, is_none, IfSome, IsSomeAnd, OnOk, Result, Ok, Err, IsErrAnd, refl, sym, ap, ◌∙◌, subst, inl, inr}
+use Rattle.std.proofs.Common.{arith, append-nil, append_assoc, add-one}
+use Rattle.std.proofs.lemmas.Bool.{false≢true, cases_lt, cases_order, eqb-true, false_from_ne_true}
 use Rattle.std.proofs.lemmas.List.{take-append-drop}
-use Rattle.std.proofs.lemmas.List.Elements.{filter-append, filter_map-append}
-use Rattle.std.proofs.lemmas.Option.{same_Some, slice_get_within}
-use Rattle.std.specs.List.{filter, fold, range_with_len}
+use Rattle.std.proofs.lemmas.List.Elements.{filter-append}
+use Rattle.std.proofs.lemmas.Option.{slice_get_within, get_or_from_slice_get, same_Some}
+use Rattle.std.specs.List.{filter, range_with_len}
 use Rattle.btr_chunk.specs.Chunk.{mirrors, stripe_length}
 use Rattle.btr_chunk.specs.Table.{IsTable}
 use Rattle.btr_chunk.specs.declared.chunk.Chunk.{Chunk}
 use Rattle.btr_chunk.proofs.Bytes.{at-below}
-use Rattle.btr_chunk.proofs.Rule.{facts}
 use Rattle.btr_rack.specs.Rack.{Seen, in_slot}
-use Rattle.btr_rack.proofs.Reading.{reads_more}
 use Rattle.btr_read.specs.Candidates.{Target}
 use Rattle.btr_read.specs.Fate.{sought}
 use Rattle.btr_read.specs.Layout.{Layout}
@@ -26,7 +23,7 @@ use Rattle.btr_read.proofs.Serving.{serves_as}
 use Rattle.btr_read.specs.Store.{Blocks}
 use Rattle.btr_scrub_copies.specs.Syncing.{AreMarked, OnlySyncs, Strands, SyncsMarked, WaitsBehindAll, plain}
 use Rattle.btr_scrub_copies.specs.Turns.{WaitsAt, waiting}
-use Rattle.btr_scrub_copies.specs.Writes.{AreAmong, AreWritable, Images, Write, writes_if, write_on}
+use Rattle.btr_scrub_copies.specs.Writes.{AreAmong, Images, Write, writes_if}
 use Rattle.btr_scrub_copies.specs.declared.mended.MendFault.{MendFault}
 use Rattle.btr_scrub_copies.specs.declared.mended.MendFault.TheVariants.{Image, Memory}
 use Rattle.btr_scrub_copies.proofs.Doing.{does_reads}
@@ -35,19 +32,20 @@ use Rattle.btr_scrub_copies.proofs.Turning.{among_synced, does_sync, marked_belo
 use Rattle.btr_scrub.specs.BlocksInRows.{In}
 use Rattle.btr_scrub.specs.WrittenRanges.{LiesInChunk, LiesInStripe, WaitsInOne, alone}
 use Rattle.btr_scrub.specs.Order.{AreApart, targets}
-use Rattle.btr_scrub.specs.Repair.{is_in_chunk, is_in_row, ok_or_none, row_of, rows_in}
+use Rattle.btr_scrub.specs.Repair.{is_in_chunk, is_in_row, row_of, rows_in}
 use Rattle.btr_scrub.specs.Scrubbing.{CanMend, IsOfScrub, IsPastChunk, Scrubs, Works, all_count_for, all_writes_for, sites_count, sites_in, sites_writes}
 use Rattle.btr_scrub.specs.Scrubbing.{chunk_count_for, chunk_writes_for, rows_count, rows_writes}
 use Rattle.btr_scrub.specs.declared.tally.Tally.{Tally}
-use Rattle.btr_scrub.proofs.Blockwise.{filter_none, ok_of}
+use Rattle.btr_scrub.proofs.Blockwise.{filter_none, ok_of, targets_both, with_one_start}
 use Rattle.btr_scrub.proofs.Firsts.{drop_one}
-use Rattle.btr_scrub.proofs.Positions.{alone_lies, is_sought}
+use Rattle.btr_scrub.proofs.Positions.{alone_lies, is_sought, bounds_of}
 use Rattle.btr_scrub.proofs.RowAgreeing.{map_same}
-use Rattle.btr_scrub.proofs.Scrubbing.{IsUnmoved, does_cut, does_next, does_weaker, held_after, if_append, recast, tell, told, waits_weaker}
+use Rattle.btr_scrub.proofs.Scrubbing.{IsUnmoved, does_next, does_weaker, recast, tell, waits_weaker, done_as, done_cut, done_then, can_mend_then}
 use Rattle.btr_scrub.proofs.Stripes.{any_of}
 use Rattle.btr_scrub_copies.specs.Fresh.{Failing}
 use Rattle.btr_scrub.proofs.Lists.{any_at, passed}
-use Rattle.std.proofs.lemmas.List.Sums.{fold-append}
+use Rattle.btr_scrub.proofs.Itemwise.{AreSteps, one_cut, one_more}
+use Rattle.std.proofs.Math.Seq.{take-suc}
 
 -- ---- one chunk
 
@@ -57,7 +55,8 @@ nothing (x ∷ xs) h = absurd (h x (inl refl))
 
 -- what a call did that failed was done where its fault is passed on
 pub works_passed : {A : Type 0} {layout : Layout} {write : Bool} {f : Images → List Write} {c : Images → Tally → Tally} {a b : Seen} {t u : Tally}
-    {r : Result A MendFault} {fault : MendFault} → IsErrAnd r (λ e. e ≡ fault) → Works {A = A} layout write f c a b t u (Err fault) → Works layout write f c a b t u r
+    {r : Result A MendFault} {fault : MendFault} → IsErrAnd r (λ e. e ≡ fault) → Works {A = A} layout write f c a b t u (Err fault)
+    → Works layout write f c a b t u r
 works_passed {layout = layout} {write = write} {f = f} {c = c} {a = a} {b = b} {t = t} {u = u} {r = r} {fault = fault} is h =
     passed (λ r. Works layout write f c a b t u r) r fault is h
 
@@ -82,10 +81,8 @@ module _ (whole : Layout) (chunk : Chunk) (write : Bool) where
       (r : Result (Unit {0}) MendFault) → write ≡ true
       → Scrubs layout write f c m m' a b t u (Ok x) → SyncsMarked m' n b z r → Works layout write f c a z t u r
   works_synced f c m m' n a b z t u x r writing h s = record {
-    does = recast (IsOfScrub layout) (λ i. writes_if write (f i) ++ []) (λ i. writes_if write (f i)) [] [] (plain a) (plain z) r
-        (λ images e. append-nil (writes_if write (f images)))
-        (does_next (Unit {0}) (Unit {0}) (IsOfScrub layout) (λ i. writes_if write (f i)) (λ i. []) [] [] [] (plain a) (plain b) (plain z) x r (λ images e. refl)
-        h.does (does_sync (LiesInStripe layout) m' n b z r s));
+    does = recast (does_next (Unit {0}) (Unit {0}) (IsOfScrub layout) (λ i. writes_if write (f i)) (λ i. []) [] [] [] (plain a) (plain b) (plain z) x r
+        (λ images e. refl) h.does (does_sync (LiesInStripe layout) m' n b z r s)) (λ images e. append-nil (writes_if write (f images)));
     counts = counted r;
     synced = waits r s;
     waits = λ none. in_alone whole chunk a z (λ range i. h.waits range (among_synced m' n b z r s range i));
@@ -149,7 +146,8 @@ waits_before layout a b z among (inr w) = inr (any_of (λ chunk. WaitsAt (LiesIn
 
 module _ (layout : Layout) (write : Bool) where
   -- a chunk of the table was mended
-  pub works_alone : {A : Type 0} (k : ℕ) (chunk : Chunk) → slice_get layout.chunks k ≡ Some chunk → (f : Images → List Write) (c : Images → Tally → Tally) (a b : Seen)
+  pub works_alone : {A : Type 0} (k : ℕ) (chunk : Chunk) → slice_get layout.chunks k ≡ Some chunk
+      → (f : Images → List Write) (c : Images → Tally → Tally) (a b : Seen)
       (t u : Tally) (r : Result A MendFault) → Works (alone layout chunk) write f c a b t u r → Works layout write f c a b t u r
   works_alone k chunk there f c a b t u r h = record {
     does = does_weaker (IsOfScrub (alone layout chunk)) (IsOfScrub layout) (λ i. writes_if write (f i)) [] [] (plain a) (plain b) r
@@ -177,42 +175,25 @@ module _ (layout : Layout) (write : Bool) where
   pub works_as : (f g : Images → List Write) (c d : Images → Tally → Tally) (a b : Seen) (t u : Tally) (r : Result (Unit {0}) MendFault)
       → ((images : Images) → a.held ≡ Some images → (f images ≡ g images) × (c images t ≡ d images t)) → Works layout write f c a b t u r
       → Works layout write g d a b t u r
-  works_as f g c d a b t u r same h = record {
-    does = recast (IsOfScrub layout) (λ i. writes_if write (f i)) (λ i. writes_if write (g i)) [] [] (plain a) (plain b) r
-        (λ images e. ap (writes_if write) (same images e).0) h.does;
-    counts = by r h.counts;
-    synced = h.synced;
-    waits = h.waits;
-    stranded = h.stranded;
-    unwritten = h.unwritten;
-  }
-    where
-      by : (r : Result (Unit {0}) MendFault) → OnOk r (IfSome a.held (λ images. u ≡ c images t)) → OnOk r (IfSome a.held (λ images. u ≡ d images t))
-      by (Ok x) k = tell a.held (λ images. u ≡ d images t) (λ images e. told a.held (λ images. u ≡ c images t) images e k ∙ (same images e).1)
-      by (Err x) k = tt
+  works_as f g c d a b t u r same h =
+      let k = done_as layout write f g c d a b t u r same (record { does = h.does; counts = h.counts; unwritten = h.unwritten }) in
+      record { does = k.does; counts = k.counts; synced = h.synced; waits = h.waits; stranded = h.stranded; unwritten = k.unwritten }
 
   pub works_then : (f g : Images → List Write) (c d : Images → Tally → Tally) (a b z : Seen) (t u v : Tally) (x : Unit {0}) (r : Result (Unit {0}) MendFault)
       → IsUnmoved layout write f g d a.held → Works layout write f c a b t u (Ok x) → Works layout write g d b z u v r
       → Works layout write (λ i. f i ++ g i) (λ i y. d i (c i y)) a z t v r
-  works_then f g c d a b z t u v x r same h k = record {
-    does = recast (IsOfScrub layout) (λ i. writes_if write (f i) ++ writes_if write (g i)) (λ i. writes_if write (f i ++ g i)) [] [] (plain a)
-        (plain z) r (λ images e. if_append write (f images) (g images))
-        (does_next (Unit {0}) (Unit {0}) (IsOfScrub layout) (λ i. writes_if write (f i)) (λ i. writes_if write (g i)) [] [] [] (plain a) (plain b)
-        (plain z) x r (λ images e. ap (writes_if write) (same images e).0) h.does k.does);
-    counts = by r k.counts;
-    synced = waits r k.synced;
-    waits = λ none. waits_before layout a b z (no_more (h.synced none)) (k.waits (h.synced none));
-    stranded = subst (λ never. Strands never z.never_synced r) h.stranded k.stranded;
-    unwritten = λ w. reads_more (h.unwritten w) (k.unwritten w);
-  }
+  works_then f g c d a b z t u v x r same h k =
+      let both = done_then layout write f g c d a b z t u v x r same (record { does = h.does; counts = h.counts; unwritten = h.unwritten })
+      (record { does = k.does; counts = k.counts; unwritten = k.unwritten }) in
+      record {
+        does = both.does;
+        counts = both.counts;
+        synced = waits r k.synced;
+        waits = λ none. waits_before layout a b z (no_more (h.synced none)) (k.waits (h.synced none));
+        stranded = subst (λ never. Strands never z.never_synced r) h.stranded k.stranded;
+        unwritten = both.unwritten;
+      }
     where
-      by : (r : Result (Unit {0}) MendFault) → OnOk r (IfSome b.held (λ images. v ≡ d images u)) → OnOk r (IfSome a.held (λ images. v ≡ d images (c images t)))
-      by (Ok y) l = tell a.held (λ images. v ≡ d images (c images t)) (λ images e.
-          let after = held_after (IsOfScrub layout) (λ i. writes_if write (f i)) [] [] (plain a) (plain b) x images e h.does in
-          told b.held (λ images. v ≡ d images u) (fold write_on images (writes_if write (f images))) after l
-          ∙ (same images e).1 u ∙ ap (d images) (told a.held (λ images. u ≡ c images t) images e h.counts))
-      by (Err y) l = tt
-
       no_more : b.unsynced ≡ [] → AreAmong (waiting b) (waiting a)
       no_more none range i = elim (in_either range b.unsynced b.never_synced i) as (λ _. In range (waiting a)) [
         | inl j ↦ absurd (subst (In range) none j)
@@ -225,21 +206,14 @@ module _ (layout : Layout) (write : Bool) where
 
   pub works_cut : (f g : Images → List Write) (c d : Images → Tally → Tally) (a b : Seen) (t u : Tally) (e : MendFault)
       → Works {A = Unit {0}} layout write f c a b t u (Err e) → Works {A = Unit {0}} layout write (λ i. f i ++ g i) d a b t u (Err e)
-  works_cut f g c d a b t u x h = record {
-    does = recast {A = Unit {0}} (IsOfScrub layout) (λ i. writes_if write (f i) ++ writes_if write (g i)) (λ i. writes_if write (f i ++ g i)) [] []
-        (plain a) (plain b) (Err x) (λ images e. if_append write (f images) (g images))
-        (does_cut (Unit {0}) (Unit {0}) (IsOfScrub layout) (λ i. writes_if write (f i)) (λ i. writes_if write (g i)) [] [] (plain a) (plain b) x h.does);
-    counts = tt;
-    synced = tt;
-    waits = h.waits;
-    stranded = h.stranded;
-    unwritten = h.unwritten;
-  }
+  works_cut f g c d a b t u x h =
+      let k = done_cut layout write (Unit {0}) (Unit {0}) f g c d a b t u x (record { does = h.does; counts = h.counts; unwritten = h.unwritten }) in
+      record { does = k.does; counts = tt; synced = tt; waits = h.waits; stranded = h.stranded; unwritten = h.unwritten }
 
   pub works_none : (a : Seen) (t : Tally) → Works {A = Unit {0}} layout write (λ i. []) (λ i y. y) a a t t (Ok tt)
   works_none a t = record {
-    does = recast (IsOfScrub layout) (λ i. []) (λ i. writes_if write []) [] [] (plain a) (plain a) (Ok tt) (λ images e. none write)
-        (does_reads (IsOfScrub layout) [] (plain a) (plain a) tt (record { same = refl; later = omega arith; same_shut = refl }) (record { faults = refl; fresh = refl; missed = refl; last = refl; opening = refl; shut = refl }));
+    does = recast (does_reads (IsOfScrub layout) [] (plain a) (plain a) tt (record { same = refl; later = omega arith; same_shut = refl })
+        (record { faults = refl; fresh = refl; missed = refl; last = refl; opening = refl; shut = refl })) (λ images e. none write);
     counts = tell a.held (λ images. t ≡ t) (λ images e. refl);
     synced = λ none. none;
     waits = λ none. inl (λ range i. inl i);
@@ -251,15 +225,19 @@ module _ (layout : Layout) (write : Bool) where
       none true = refl
       none false = refl
 
+-- how they go one behind another
+pub works_steps : (layout : Layout) (write : Bool) → AreSteps layout write {M = Unit {0}} (λ f c m n a b t u r. Works {A = Unit {0}} layout write f c a b t u r)
+works_steps layout write = record {
+  said = λ f g c d m n a b t u r. works_as layout write f g c d a b t u r;
+  next = λ f g c d m n o a b z t u v r. works_then layout write f g c d a b z t u v tt r;
+  cut = λ f g c d m n a b t u fault. works_cut layout write f g c d a b t u fault;
+}
+
 -- ---- the chunks of a table
 
-take_suc : {X : Type 0} (xs : List X) (i : ℕ) (x : X) → slice_get xs i ≡ Some x → take (suc i) xs ≡ take i xs ++ x ∷ []
-take_suc [] i x e = cc
-take_suc (y ∷ xs) zero x e = ap (λ z. z ∷ []) (same_Some y x e)
-take_suc (y ∷ xs) (suc i) x e = ap (λ zs. y ∷ zs) (take_suc xs i x e)
-
 take_one : {X : Type 0} (xs : List X) (i : ℕ) (x : X) → slice_get xs i ≡ Some x → take (i + 1) xs ≡ take i xs ++ x ∷ []
-take_one xs i x e = ap (λ n. take n xs) (add-one i) ∙ take_suc xs i x e
+take_one xs i x e = ap (λ n. take n xs) (add-one i) ∙ take-suc xs i x (slice_get_within xs i x e)
+    ∙ ap (λ y. take i xs ++ y ∷ []) (get_or_from_slice_get xs i x x e)
 
 split_at : {X : Type 0} (xs : List X) (i : ℕ) (x : X) → slice_get xs i ≡ Some x → xs ≡ take i xs ++ x ∷ drop (i + 1) xs
 split_at xs i x e = sym (take-append-drop i xs) ∙ ap (λ ys. take i xs ++ ys) (drop_one xs i x e)
@@ -283,15 +261,22 @@ module _ (kept : Failing) (layout : Layout) (table : IsTable layout.chunks) (wan
       → (chunk_writes_for kept layout chunk left images ≡ chunk_writes_for kept layout chunk wants images)
       × ((x : Tally) → chunk_count_for kept layout write chunk left images x ≡ chunk_count_for kept layout write chunk wants images x)
   left_for write chunk past left split outside images =
-      let both : targets layout wants ≡ targets layout past ++ targets layout left = ap (targets layout) split ∙ filter_map-append (λ w. ok_or_none (sought layout w)) past left in
+      let both : targets layout wants ≡ targets layout past ++ targets layout left =
+      ap (targets layout) split ∙ targets_both layout past left in
       let blocks : sites_in layout chunk wants ≡ sites_in layout chunk left =
-      ap (filter (is_in_chunk chunk)) both ∙ filter-append (is_in_chunk chunk) (targets layout past) (targets layout left) ∙ ap (λ xs. xs ++ sites_in layout chunk left) (filter_none (is_in_chunk chunk) (targets layout past) outside) in
-      let in_rows : (r : ℕ) → row_of kept (targets layout wants) chunk r ≡ row_of kept (targets layout left) chunk r = λ r. ap (λ bs. record { chunk = chunk; number = r; blocks = bs; failing = kept }) (
+      ap (filter (is_in_chunk chunk)) both ∙ filter-append (is_in_chunk chunk) (targets layout past) (targets layout left)
+      ∙ ap (λ xs. xs ++ sites_in layout chunk left) (filter_none (is_in_chunk chunk) (targets layout past) outside) in
+      let in_rows : (r : ℕ) → row_of kept (targets layout wants) chunk r ≡ row_of kept (targets layout left) chunk r =
+      λ r. ap (λ bs. record { chunk = chunk; number = r; blocks = bs; failing = kept }) (
       ap (filter (is_in_row chunk r)) both ∙ filter-append (is_in_row chunk r) (targets layout past) (targets layout left)
-      ∙ ap (λ xs. xs ++ filter (is_in_row chunk r) (targets layout left)) (filter_none (is_in_row chunk r) (targets layout past) (λ t i. ap (λ b. b && eqb t.at.row r) (outside t i)))) in
-      let rs : rows_in kept (targets layout wants) chunk ≡ rows_in kept (targets layout left) chunk = ap (λ xs. cond (is_none (mirrors chunk)) xs []) (map_same (row_of kept (targets layout wants) chunk) (row_of kept (targets layout left) chunk) (range_with_len 0 (stripe_length chunk / 65536)) (λ r _. in_rows r)) in (
+      ∙ ap (λ xs. xs ++ filter (is_in_row chunk r) (targets layout left))
+      (filter_none (is_in_row chunk r) (targets layout past) (λ t i. ap (λ b. b && eqb t.at.row r) (outside t i)))) in
+      let rs : rows_in kept (targets layout wants) chunk ≡ rows_in kept (targets layout left) chunk =
+      ap (λ xs. cond (is_none (mirrors chunk)) xs []) (map_same (row_of kept (targets layout wants) chunk) (row_of kept (targets layout left) chunk)
+      (range_with_len 0 (stripe_length chunk / 65536)) (λ r _. in_rows r)) in (
         sym (ap (λ x. cond (is_none (mirrors chunk)) (rows_writes layout x images) (sites_writes kept (sites_in layout chunk wants) images)) rs
-            ∙ ap (λ x. cond (is_none (mirrors chunk)) (rows_writes layout (rows_in kept (targets layout left) chunk) images) (sites_writes kept x images)) blocks),
+            ∙ ap (λ x. cond (is_none (mirrors chunk)) (rows_writes layout (rows_in kept (targets layout left) chunk) images) (sites_writes kept x images))
+            blocks),
         λ y. sym (ap (λ x. cond (is_none (mirrors chunk)) (rows_count layout write x images y)
             (sites_count kept write (sites_in layout chunk wants) images y)) rs
             ∙ ap (λ x. cond (is_none (mirrors chunk)) (rows_count layout write (rows_in kept (targets layout left) chunk) images y)
@@ -318,111 +303,72 @@ module _ (kept : Failing) (layout : Layout) (table : IsTable layout.chunks) (wan
         let t = ok_of (sought layout want) apart.1 in
         let is = is_sought layout want t.0 t.1 in
         let addr : addr_of t.0.want ≡ addr_of want = ap addr_of (sought_of layout want t.0 t.1).want_is in
-        let h = and_parts (leb t.0.chunk.start (addr_of t.0.want)) (ltb (addr_of t.0.want) (t.0.chunk.start + t.0.chunk.length)) is.held in
-        let from = leb-true t.0.chunk.start (addr_of t.0.want) h.0 in
-        let to = ltb-true (addr_of t.0.want) (t.0.chunk.start + t.0.chunk.length) h.1 in
+        let b = bounds_of t.0.chunk (addr_of t.0.want) is.held in
+        let from = b.0 in
+        let to = b.1 in
         let begin : chunk.start ≤ addr_of want = elim (cases_order is.number number) [
-          | inl same ↦ omega (arith, addr, from, ap (λ (c : Chunk). c.start) (same_chunk t.0.chunk (sym is.there ∙ ap (slice_get layout.chunks) same ∙ there)))
+          | inl same ↦ let mine = same_Some t.0.chunk chunk (sym is.there ∙ ap (slice_get layout.chunks) same ∙ there) in
+              omega (arith, addr, from, ap (λ (c : Chunk). c.start) mine)
           | inr (inl before) ↦ absurd (omega (arith, passed is.number t.0.chunk before is.there, to, addr, apart.0))
           | inr (inr after) ↦ omega (arith, addr, from, (table.apart number is.number chunk t.0.chunk after there is.there).0)
         ] in
         (begin, apart.1, apart.2)
-      where
-        same_chunk : (c : Chunk) → Some c ≡ Some chunk → c ≡ chunk
-        same_chunk c e = cc
 
     module _ (write : Bool) (left left' : List Want) (a b z : Seen) (tally tally' tally'' : Tally)
         (h : ChunksPast kept layout wants write left number a b tally tally')
-        (unmoved : IsUnmoved layout write (all_writes_for kept layout (take number layout.chunks) wants) (chunk_writes_for kept layout chunk wants) (chunk_count_for kept layout write chunk wants) a.held) where
-      both : (r : Result (Unit {0}) MendFault) → Works layout write (chunk_writes_for kept layout chunk left)
-          (chunk_count_for kept layout write chunk left) b z tally' tally'' r
-          → Works layout write (λ i. all_writes_for kept layout (take number layout.chunks) wants i ++ chunk_writes_for kept layout chunk wants i)
-          (λ i y. chunk_count_for kept layout write chunk wants i (all_count_for kept layout write (take number layout.chunks) wants i y)) a z
-          tally tally'' r
-      both r one =
+        (unmoved : IsUnmoved layout write (all_writes_for kept layout (take number layout.chunks) wants) (chunk_writes_for kept layout chunk wants)
+        (chunk_count_for kept layout write chunk wants) a.held) where
+      -- what was done in it for some blocks
+      abbrev ForChunk : List Want → Result (Unit {0}) MendFault → Type 0
+      ForChunk ws r = Works layout write (chunk_writes_for kept layout chunk ws) (chunk_count_for kept layout write chunk ws) b z tally' tally'' r
+
+      for_all : (r : Result (Unit {0}) MendFault) → ForChunk left r → ForChunk wants r
+      for_all r =
           let same = left_for write chunk h.past left h.split (λ t i. h.outside t number chunk i (omega arith) there) in
-          works_then layout write (all_writes_for kept layout (take number layout.chunks) wants) (chunk_writes_for kept layout chunk wants)
-          (all_count_for kept layout write (take number layout.chunks) wants) (chunk_count_for kept layout write chunk wants) a b z tally tally'
-          tally'' tt r unmoved h.done
-          (works_as layout write (chunk_writes_for kept layout chunk left) (chunk_writes_for kept layout chunk wants)
+          works_as layout write (chunk_writes_for kept layout chunk left) (chunk_writes_for kept layout chunk wants)
           (chunk_count_for kept layout write chunk left) (chunk_count_for kept layout write chunk wants) b z tally' tally'' r
-          (λ images e. ((same images).0, (same images).1 tally')) one)
+          (λ images e. ((same images).0, (same images).1 tally'))
 
       -- one chunk more
-      pub chunks_more : IsPastChunk layout chunk left left' → Works layout write (chunk_writes_for kept layout chunk left)
-          (chunk_count_for kept layout write chunk left) b z tally' tally'' (Ok (tt {0}))
+      pub chunks_more : IsPastChunk layout chunk left left' → ForChunk left (Ok (tt {0}))
           → ChunksPast kept layout wants write left' (number + 1) a z tally tally''
       chunks_more p one = record {
         past = h.past ++ p.past;
         split = h.split ∙ ap (λ ws. h.past ++ ws) p.split ∙ sym (append_assoc h.past p.past left');
-        outside = λ t k c i le e. elim (in_either t (targets layout h.past) (targets layout p.past) (subst (In t) (filter_map-append (λ w. ok_or_none (sought layout w)) h.past p.past) i)) [
-          | inl j ↦ h.outside t k c j (omega (arith, le)) e
-          | inr j ↦ not_later t k c le e (p.inside t j)
-        ];
+        outside = λ t k c i le e. elim (in_either t (targets layout h.past) (targets layout p.past)
+            (subst (In t) (targets_both layout h.past p.past) i)) [
+              | inl j ↦ h.outside t k c j (omega (arith, le)) e
+              | inr j ↦ not_later t k c le e (p.inside t j)
+            ];
         end = chunk.start + chunk.length;
         passed = λ j c lt e. elim (cases_lt j number) [
           | inl below ↦ omega (arith, (table.apart j number c chunk below e there).0)
-          | inr above ↦ let same : j ≡ number = omega (arith, lt, above) in omega (arith, ap (λ (c : Chunk). c.start + c.length) (same_chunk c (sym e ∙ ap (slice_get layout.chunks) same ∙ there)))
+          | inr above ↦ let same : j ≡ number = omega (arith, lt, above) in
+              omega (arith, ap (λ (c : Chunk). c.start + c.length) (same_Some c chunk (sym e ∙ ap (slice_get layout.chunks) same ∙ there)))
         ];
         apart = p.behind;
-        done = works_as layout write (λ i. all_writes_for kept layout (take number layout.chunks) wants i
-            ++ chunk_writes_for kept layout chunk wants i) (all_writes_for kept layout (take (number + 1) layout.chunks) wants)
-            (λ i y. chunk_count_for kept layout write chunk wants i (all_count_for kept layout write (take number layout.chunks) wants i y))
-            (all_count_for kept layout write (take (number + 1) layout.chunks) wants) a z tally tally'' (Ok (tt {0}))
-            (λ images e. (sym (writes_one images), sym (counts_one images tally))) (both (Ok (tt {0})) one);
+        done = subst (λ cs. Works layout write (all_writes_for kept layout cs wants) (all_count_for kept layout write cs wants) a z tally tally'' (Ok (tt {0})))
+            (sym (take_one layout.chunks number chunk there))
+            (one_more (works_steps layout write) (λ i c. chunk_writes_for kept layout c wants i)
+            (λ i y c. chunk_count_for kept layout write c wants i y) (take number layout.chunks) chunk unmoved h.done
+            (for_all (Ok tt) one));
       }
         where
-          same_chunk : (c : Chunk) → Some c ≡ Some chunk → c ≡ chunk
-          same_chunk c e = cc
-
           not_later : (t : Target) (k : ℕ) (c : Chunk) → number + 1 ≤ k → slice_get layout.chunks k ≡ Some c → t.chunk ≡ chunk → is_in_chunk c t ≡ false
-          not_later t k c le e mine = by (is_in_chunk c t) refl
-            where
-              by : (b : Bool) → is_in_chunk c t ≡ b → is_in_chunk c t ≡ false
-              by false q = q
-              by true q = absurd (omega (
-                arith,
-                (table.apart number k chunk c (omega (arith, le)) there e).0,
-                (facts chunk (table.sound number chunk there).0).some,
-                eqb-true t.chunk.start c.start q,
-                ap (λ (x : Chunk). x.start) mine,
-              ))
-
-          writes_one : (images : Images) → all_writes_for kept layout (take (number + 1) layout.chunks) wants images
-              ≡ all_writes_for kept layout (take number layout.chunks) wants images ++ chunk_writes_for kept layout chunk wants images
-          writes_one images =
-              ap (λ cs. all_writes_for kept layout cs wants images) (take_one layout.chunks number chunk there)
-              ∙ flat_map-append (λ c. chunk_writes_for kept layout c wants images) (take number layout.chunks) (chunk ∷ [])
-              ∙ ap (λ ws. all_writes_for kept layout (take number layout.chunks) wants images ++ ws)
-              (append-nil (chunk_writes_for kept layout chunk wants images))
-
-          counts_one : (images : Images) (x : Tally) → all_count_for kept layout write (take (number + 1) layout.chunks) wants images x
-              ≡ chunk_count_for kept layout write chunk wants images (all_count_for kept layout write (take number layout.chunks) wants images x)
-          counts_one images x =
-              ap (λ cs. all_count_for kept layout write cs wants images x) (take_one layout.chunks number chunk there)
-              ∙ fold-append (λ tally c. chunk_count_for kept layout write c wants images tally) x (take number layout.chunks) (chunk ∷ [])
+          not_later t k c le e mine = false_from_ne_true (is_in_chunk c t) (λ q.
+              let same = (with_one_start layout table number k chunk c there e (ap (λ (x : Chunk). x.start) (sym mine) ∙ eqb-true t.chunk.start c.start q)).0 in
+              omega (arith, same, le))
 
       -- a halt in it
-      pub chunks_cut : (e : MendFault) → Works {A = Unit {0}} layout write (chunk_writes_for kept layout chunk left)
-          (chunk_count_for kept layout write chunk left) b z tally' tally'' (Err e)
+      pub chunks_cut : (e : MendFault) → ForChunk left (Err e)
           → Works {A = Unit {0}} layout write (all_writes_for kept layout layout.chunks wants) (all_count_for kept layout write layout.chunks wants) a
           z tally tally'' (Err e)
       chunks_cut x one =
-          let rest = drop (number + 1) layout.chunks in
-          works_as layout write (λ i. (all_writes_for kept layout (take number layout.chunks) wants i ++ chunk_writes_for kept layout chunk wants i)
-          ++ all_writes_for kept layout rest wants i) (all_writes_for kept layout layout.chunks wants)
-          (all_count_for kept layout write layout.chunks wants) (all_count_for kept layout write layout.chunks wants) a z tally tally'' (Err x)
-          (λ images e. (
-            sym (ap (λ cs. all_writes_for kept layout cs wants images) (split_at layout.chunks number chunk there)
-                ∙ flat_map-append (λ c. chunk_writes_for kept layout c wants images) (take number layout.chunks) (chunk ∷ rest)
-                ∙ sym (append_assoc (all_writes_for kept layout (take number layout.chunks) wants images)
-                (chunk_writes_for kept layout chunk wants images) (all_writes_for kept layout rest wants images))),
-            refl,
-          ))
-          (works_cut layout write (λ i. all_writes_for kept layout (take number layout.chunks) wants i ++ chunk_writes_for kept layout chunk wants i)
-          (all_writes_for kept layout rest wants)
-          (λ i y. chunk_count_for kept layout write chunk wants i (all_count_for kept layout write (take number layout.chunks) wants i y))
-          (all_count_for kept layout write layout.chunks wants) a z tally tally'' x (both (Err x) one))
+          subst (λ cs. Works {A = Unit {0}} layout write (all_writes_for kept layout cs wants) (all_count_for kept layout write cs wants) a z tally tally''
+          (Err x)) (sym (split_at layout.chunks number chunk there))
+          (one_cut (works_steps layout write) (λ i c. chunk_writes_for kept layout c wants i)
+          (λ i y c. chunk_count_for kept layout write c wants i y) (take number layout.chunks) chunk unmoved h.done
+          (drop (number + 1) layout.chunks) x (for_all (Err x) one))
 
 -- ---- what can be mended, behind syncs
 
@@ -435,14 +381,8 @@ pub can_mend_synced : (write : Bool) (a b : Seen) (store : Blocks) (m n : List B
     → CanMend write b store n
 can_mend_synced write a b store m n can only long =
     let slots = sync_slots a b only in
-    record {
-      serves = serves_as a b store store slots (sync_held a b only) refl refl can.serves;
-      room = can.room;
-      writable = λ w. subst AreWritable (sym slots) (can.writable w);
-      slots = long ∙ can.slots ∙ sym (ap length slots);
-      table = can.table;
-      given = can.given;
-    }
+    can_mend_then write a b store store m n can slots (record { layout = refl; loans = refl })
+    (serves_as a b store store slots (sync_held a b only) refl refl can.serves) long
 
 -- the chunk of a number below their count
 pub at_number : (layout : Layout) (i : ℕ) → i < length layout.chunks → (chunk : Chunk) × (slice_get layout.chunks i ≡ Some chunk)

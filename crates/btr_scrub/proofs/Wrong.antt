@@ -1,6 +1,6 @@
 -- What is to be written lies in wrong elements.
-use Rattle.std.proofs.Common.{◌≡◌, ◌⊎◌, ℕ, suc, ◌+◌, ◌-◌, ◌*◌, ◌<◌, ◌≤◌, Bool, true, false, not, cond, ◌&&◌, ◌||◌, eqb, ltb, nat_lt, List, [], ◌∷◌, map, length, get_or}
-use Rattle.std.proofs.Common.{slice_range, Option, Some, None, IfSome, is_some, refl, sym, ap, ◌∙◌, subst, inl, inr, arith}
+use Rattle.std.proofs.Common.{◌≡◌, ◌⊎◌, ℕ, suc, ◌+◌, ◌-◌, ◌*◌, ◌<◌, ◌≤◌, Bool, true, false, not, cond, ◌&&◌, ◌||◌, eqb, ltb, nat_lt, List, [], ◌∷◌, map, length}
+use Rattle.std.proofs.Common.{get_or, slice_range, Option, Some, None, IfSome, is_some, refl, sym, ap, ◌∙◌, subst, inl, inr, arith}
 use Rattle.std.proofs.lemmas.Bool.{false≢true, and_parts, cases_lt, lt-ltb, not-true}
 use Rattle.std.proofs.lemmas.List.{same_lists, length-map, get_or-map}
 use Rattle.std.proofs.lemmas.List.FromFn.{length-map-range_with_len, get_or-map-range_with_len}
@@ -32,9 +32,11 @@ use Rattle.btr_scrub.specs.Survival.{BadBlockIsWrong, DifferingParityIsWrong, Is
 use Rattle.btr_scrub.proofs.Elements.{block_of_element}
 use Rattle.btr_parity.proofs.Ranges.{parity_of_ranges}
 use Rattle.btr_scrub_row.proofs.Pasted.{length-pasted, pasted-above, pasted-below, pasted-within}
-use Rattle.btr_scrub.proofs.Survival.{block_there, at_slice, right_checked, right_plain, slice_there, of_filter, range_ext}
+use Rattle.btr_scrub.proofs.Survival.{block_there, at_slice, right_checked, right_plain, slice_there, of_filter, range_same}
 use Rattle.btr_scrub_copies.specs.Writes.{Images}
-use Rattle.btr_scrub.proofs.Lists.{some_of}
+use Rattle.btr_scrub.proofs.Lists.{some_of, all_in}
+use Rattle.std.proofs.lemmas.List.Sums.{AllPass-from_list_all}
+use Rattle.std.proofs.Math.Bool.{or-false}
 
 -- what is known of a stale place of a plain sector
 record IsStaleAt (images : Images) (fails : Failing) (t : Target) (q : Part) : Type 0 where
@@ -70,7 +72,8 @@ right_value images layout C row t sound among bytes is right =
     let n : slice_count t ≡ rows.slice_count row = ap (λ c. data_count c.profile (length c.stripes)) block.lies.chunk in
     let lt : t.at.index < rows.slice_count row = omega (arith, n, block.in_row.position.index) in
     let has : HasPart row.chunk.profile (length row.chunk.stripes) (part.Slice t.at.index) = slice_there images layout C row sound t.at.index lt in
-    let mine : HasPart t.chunk.profile (length t.chunk.stripes) (part.Slice t.at.index) = subst (λ c. HasPart c.profile (length c.stripes) (part.Slice t.at.index)) (sym block.lies.chunk) has in
+    let mine : HasPart t.chunk.profile (length t.chunk.stripes) (part.Slice t.at.index) =
+    subst (λ c. HasPart c.profile (length c.stripes) (part.Slice t.at.index)) (sym block.lies.chunk) has in
     block_of_element images layout row t (part.Slice t.at.index) block.in_row block.lies mine (sound.stand (part.Slice t.at.index) has)
     ∙ ap (λ xs. slice_range xs t.at.rest (t.at.rest + size_of t)) (right ∙ sym (at_slice images layout C row sound t.at.index [] lt))
     ∙ block_there images layout C row sound t bytes among lt is
@@ -98,9 +101,7 @@ bad_block_is_wrong images layout C row t sound among pass bad right = by (is_pla
 -- ---- decided columns
 
 all_at : {X : Type 0} (f : X → Bool) (xs : List X) (x : X) → list_all f xs ≡ true → In x xs → f x ≡ true
-all_at f [] x h i = absurd i
-all_at f (y ∷ xs) x h (inl e) = ap f (sym e) ∙ (and_parts (f y) (list_all f xs) h).0
-all_at f (y ∷ xs) x h (inr i) = all_at f xs x (and_parts (f y) (list_all f xs) h).1 i
+all_at f xs x h i = all_in (λ x. f x ≡ true) xs x (AllPass-from_list_all f xs h) i
 
 -- the bytes of a column are the same
 abbrev pub SameIn : ℕ → List ℕ → List ℕ → Type 0
@@ -141,7 +142,9 @@ module _ (images : Images) (layout : Layout) (g h : Target → Option (List ℕ)
     | inl below ↦ out (inl below)
     | inr above ↦ elim (cases_lt i (t.at.rest + size_of t)) [
       | inl within ↦
-          let met : meets c t ≡ true = ap (λ b. b && ltb (c * 4096) (t.at.rest + size_of t)) (lt-ltb t.at.rest (c * 4096 + 4096) (omega (arith, above, to))) ∙ lt-ltb (c * 4096) (t.at.rest + size_of t) (omega (arith, from, within)) in
+          let met : meets c t ≡ true =
+          ap (λ b. b && ltb (c * 4096) (t.at.rest + size_of t)) (lt-ltb t.at.rest (c * 4096 + 4096) (omega (arith, above, to)))
+          ∙ lt-ltb (c * 4096) (t.at.rest + size_of t) (omega (arith, from, within)) in
           inside t (g t) xs ys i d (omega (arith, a.inside, lx)) (omega (arith, a.inside, ly)) a.one above within (same i d from to)
           ∙ ap (λ o. get_or (option_map_or (pasted ys t.at.rest) o ys) i d) (a.same met)
       | inr past ↦ out (inr past)
@@ -174,8 +177,8 @@ module _ (images : Images) (layout : Layout) (g h : Target → Option (List ℕ)
   columns row i few agrees is =
       let e = element images layout row (part.Slice i) in
       let f = folds (blocks_at row i) e e agrees (record { one_long = is.long; other_long = is.long; same = λ j d from to. refl }) in
-      range_ext (slice_with images layout g row i) (slice_with images layout h row i) (c * 4096) (c * 4096 + 4096) (omega (arith, few, f.one_long))
-      (f.one_long ∙ sym f.other_long) f.same
+      range_same (slice_with images layout g row i) (slice_with images layout h row i) (c * 4096) (c * 4096 + 4096) (omega (arith, few, f.one_long))
+      (f.other_long ∙ sym f.one_long) (λ j from to. f.same j 0 from to)
 
   pub all_columns : (row : Row) → c < 16 → ((i : ℕ) (t : Target) → In t (blocks_at row i) → Agrees t)
       → ((i : ℕ) → i < rows.slice_count row → IsSlice 65536 (element images layout row (part.Slice i)))
@@ -197,10 +200,6 @@ module _ (images : Images) (layout : Layout) (g h : Target → Option (List ℕ)
 not_lost : (b c : Bool) → (not b || c) ≡ true → b ≡ true → c ≡ true
 not_lost true c h e = h
 not_lost false c h e = absurd (false≢true e)
-
-or_false : (b : Bool) → (b || false) ≡ true → b ≡ true
-or_false true e = refl
-or_false false e = e
 
 accepted_is : (o p : Option (List ℕ)) → IfSome o (λ bytes. p ≡ Some bytes) → is_some o ≡ true → o ≡ p
 accepted_is None p h e = absurd (false≢true e)
@@ -233,8 +232,8 @@ differing_parity_is_wrong images layout C row q c sound right parity few decided
         at : (b : Bool) → is_plain t.want ≡ b → new_bytes images row.failing t ≡ right_for images C row t
         at true plain = sym (right_plain images C row t plain)
         at false checked = accepted_is (new_bytes images row.failing t) (right_for images C row t) (right t there)
-            (or_false (is_some (new_bytes images row.failing t))
-            (ap (λ b. is_some (new_bytes images row.failing t) || b && is_surer images layout row t) (sym checked) ∙ sure))
+            (sym (or-false (is_some (new_bytes images row.failing t)))
+            ∙ (ap (λ b. is_some (new_bytes images row.failing t) || b && is_surer images layout row t) (sym checked) ∙ sure))
 
     by : (i : ℕ) (t : Target) → In t (blocks_at row i) → list_all (λ t. not (meets c t) || is_sure images layout row t) row.blocks ≡ true
         → Agrees images layout (new_bytes images row.failing) (right_for images C row) c t
@@ -251,14 +250,17 @@ differing_parity_is_wrong images layout C row q c sound right parity few decided
 
     parts : (q : Part) → IsParity q → ranges_of (c * 4096) (c * 4096 + 4096) (slices_with images layout (new_bytes images row.failing) row)
         ≡ ranges_of (c * 4096) (c * 4096 + 4096) (slices_with images layout (right_for images C row) row)
-        → column_of c (element_with images layout (new_bytes images row.failing) row q) ≡ column_of c (element_with images layout (right_for images C row) row q)
+        → column_of c (element_with images layout (new_bytes images row.failing) row q)
+        ≡ column_of c (element_with images layout (right_for images C row) row q)
     parts (part.Mirror i) h same = absurd h
     parts (part.Slice i) h same = absurd h
     parts part.P h same =
-        sym (parity_of_ranges.of_p 65536 (c * 4096) (c * 4096 + 4096) (slices_with images layout (new_bytes images row.failing) row) (omega arith) (column_fits c few))
+        sym (parity_of_ranges.of_p 65536 (c * 4096) (c * 4096 + 4096) (slices_with images layout (new_bytes images row.failing) row) (omega arith)
+        (column_fits c few))
         ∙ ap (parity_p (c * 4096 + 4096 - c * 4096)) same
         ∙ parity_of_ranges.of_p 65536 (c * 4096) (c * 4096 + 4096) (slices_with images layout (right_for images C row) row) (omega arith) (column_fits c few)
     parts part.Q h same =
-        sym (parity_of_ranges.of_q 65536 (c * 4096) (c * 4096 + 4096) (slices_with images layout (new_bytes images row.failing) row) (omega arith) (column_fits c few))
+        sym (parity_of_ranges.of_q 65536 (c * 4096) (c * 4096 + 4096) (slices_with images layout (new_bytes images row.failing) row) (omega arith)
+        (column_fits c few))
         ∙ ap (parity_q (c * 4096 + 4096 - c * 4096)) same
         ∙ parity_of_ranges.of_q 65536 (c * 4096) (c * 4096 + 4096) (slices_with images layout (right_for images C row) row) (omega arith) (column_fits c few)

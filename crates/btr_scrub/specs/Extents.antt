@@ -15,4 +15,5 @@ passes_end span extent = nat_lt (span.start + span.length) (extent.addr + extent
 
 -- it passes the end, or is a tree block that crosses an element
 abbrev pub crossing : Span → Extent → Bool
-crossing span extent = passes_end span extent || is_some extent.level && (passes_end span extent || span.striped && nat_lt 65536 ((extent.addr - span.start) % 65536 + extent.len))
+crossing span extent =
+    passes_end span extent || is_some extent.level && (passes_end span extent || span.striped && nat_lt 65536 ((extent.addr - span.start) % 65536 + extent.len))

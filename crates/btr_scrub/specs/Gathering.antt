@@ -1,5 +1,10 @@
 -- What calls that list the checked blocks did, and how they answered.
-use Rattle.std.specs.Prelude.{◌≡◌, ◌⊎◌, ℕ, zero, suc, ◌+◌, true, Contains, ◌≤◌, List, [], ◌∷◌, ◌++◌, fold, Option, Result, Ok, Err, OnOk}
+use Rattle.std.specs.Prelude.{◌≡◌, ◌⊎◌, ℕ, zero, suc, ◌+◌, ◌*◌, true, Contains, ◌≤◌, ◌<◌, List, [], ◌∷◌, ◌++◌, fold, Option, Some, None, Result, Ok, Err}
+use Rattle.std.specs.Prelude.{OnOk}
+use Rattle.btr_base.specs.declared.kind.SumKind.{SumKind}
+use Rattle.btr_base.specs.declared.stored.Sum.{Sum}
+use Rattle.btr_files.specs.Aheads.{kept_sum}
+use Rattle.btr_files.specs.declared.sums_ahead.SumsAhead.{SumsAhead}
 use Rattle.btr_prog.specs.Answers.{Follows, no_part}
 use Rattle.btr_prog.specs.Prog.{Mark, exec, prepend, steps_of}
 use Rattle.btr_rack.specs.Rack.{Seen, OnlyReads, next_count}
@@ -15,10 +20,10 @@ use Rattle.btr_super.specs.declared.superblock.Super.{Super}
 use Rattle.btr_volume.specs.Looking.{SameVolume}
 use Rattle.btr_volume.specs.declared.root.TreeRoot.{TreeRoot}
 use Rattle.btr_volume.specs.declared.stop.Stop.{Stop}
-use Rattle.btr_volume.specs.declared.stop.Stop.TheVariants.{NoTree, Tree, Deletion, Balance, Missing, Image, Sink, Out, Memory}
+use Rattle.btr_volume.specs.declared.stop.Stop.TheVariants.{NoTree, Tree, Memory}
 use Rattle.btr_volume.specs.declared.volume.Volume.{Volume}
 use Rattle.btr_scrub.specs.Listed.{IsList, kept_wants}
-use Rattle.btr_scrub.specs.Units.{Meeting, Met, Checked, Unchecked, is_crossing, sector, sectors}
+use Rattle.btr_scrub.specs.Units.{Meeting, Met, Checked, Unchecked, is_crossing, sector, sector_met, sectors}
 use Rattle.btr_scrub.specs.declared.extent.Extent.{Extent}
 use Rattle.btr_scrub.specs.declared.gathered.Gathered.{Gathered}
 use Rattle.btr_volume.specs.Stops.{ended}
@@ -34,10 +39,14 @@ abbrev pub count_met : ℕ → Met → ℕ
 count_met n (Checked want) = n
 count_met n (Unchecked addr) = next_count n
 
+-- n sectors from an address on, each with the checksum that is found for it, if one is
+abbrev pub sectors_met : (ℕ → Option Sum) → ℕ → ℕ → List Met
+sectors_met found zero addr = []
+sectors_met found (suc n) addr = sector_met addr (found addr) ∷ sectors_met found n (addr + 4096)
+
 -- n sectors that have no checksum, from an address on
 abbrev pub gap_met : ℕ → ℕ → List Met
-gap_met zero addr = []
-gap_met (suc n) addr = Unchecked addr ∷ gap_met n (addr + 4096)
+gap_met n addr = sectors_met (λ a. None) n addr
 
 -- what was met was listed behind what was listed before
 pub record Lists (old new : Gathered) (done : List Met) : Type 0 where
@@ -45,6 +54,18 @@ pub record Lists (old new : Gathered) (done : List Met) : Type 0 where
   pub kind : new.list.kind ≡ old.list.kind
   pub wants : kept_wants new.list ≡ kept_wants old.list ++ wants_among done
   pub unchecked : new.unchecked ≡ fold count_met old.unchecked done
+
+-- the checksum of the sector at an address is kept, as one of this kind
+pub record IsKept (kind : SumKind) (ahead : SumsAhead) (addr : ℕ) : Type 0 where
+  pub sum : Sum
+  pub of_kind : ahead.kind ≡ kind
+  pub kept : kept_sum ahead addr ≡ Some sum
+
+-- n of so many sectors from an address on were listed, whose checksums are kept
+pub record ListsKept (addr most : ℕ) (ahead : SumsAhead) (old new : Gathered) (n : ℕ) : Type 0 where
+  pub few : n ≤ most
+  pub kept : (i : ℕ) → i < n → IsKept old.list.kind ahead (addr + i * 4096)
+  pub lists : Lists old new (sectors_met (kept_sum ahead) n addr)
 
 -- an extent at an address passes the end of a chunk of the table, or is a tree block that crosses an element of it
 pub record IsCrossing (layout : Layout) (addr : ℕ) : Type 0 where
@@ -56,24 +77,17 @@ pub record IsCrossing (layout : Layout) (addr : ℕ) : Type 0 where
 
 -- what lies behind a tree's fault
 abbrev pub TreeCause : Layout → Seen → Seen → TreeFault → Type 0
-TreeCause layout old new (tree.Lost a) = FaultCause layout old new (tree.Lost a)
-TreeCause layout old new (tree.Unread a slot) = FaultCause layout old new (tree.Unread a slot)
-TreeCause layout old new (tree.Unmapped a) = FaultCause layout old new (tree.Unmapped a)
 TreeCause layout old new (tree.Crosses a) = FaultCause layout old new (tree.Crosses a) ⊎ IsCrossing layout a
 TreeCause layout old new (tree.Malformed a) = Unit {0}
+TreeCause layout old new fault = FaultCause layout old new fault
 
 -- what lies behind a stop: a tree's fault has its cause; no other stop than these is answered
 abbrev pub StopCause : {A : Type 0} → Layout → Seen → Seen → Result A Stop → Type 0
 StopCause layout old new (Ok a) = Unit {0}
 StopCause layout old new (Err (NoTree id)) = Unit {0}
 StopCause layout old new (Err (Tree f)) = TreeCause layout old new f
-StopCause layout old new (Err (Deletion id)) = ⊥
-StopCause layout old new (Err Balance) = ⊥
-StopCause layout old new (Err (Missing id)) = ⊥
-StopCause layout old new (Err (Image slot)) = ⊥
-StopCause layout old new (Err Sink) = ⊥
-StopCause layout old new (Err Out) = ⊥
 StopCause layout old new (Err Memory) = Unit {0}
+StopCause layout old new (Err stop) = ⊥
 
 -- what is seen of a rack, a volume and a list
 pub record Scene : Type 0 where
@@ -110,4 +124,5 @@ pub record Reaches {A : Type 0} (p q : Meeting A) (x y : Scene) : Type 0 where
   pub serves : Serves y.rack y.vol.store
   pub done : List Met
   pub lists : Lists x.list y.list done
-  pub content : Tells x.vol.store.layout x.rack y.rack (λ B. (before : List (Mark Want Met)) × (exec B p ≡ prepend before (exec B q)) × (done ≡ steps_of before))
+  pub content : Tells x.vol.store.layout x.rack y.rack (λ B. (before : List (Mark Want Met)) × (exec B p ≡ prepend before (exec B q))
+      × (done ≡ steps_of before))

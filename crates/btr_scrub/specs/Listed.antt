@@ -1,6 +1,7 @@
 -- The blocks and sectors as they are listed in memory: runs of what follows each other, and apart from them the checksums
 -- of the sectors that have one, one behind another, and what is wanted of the tree blocks.
-use Rattle.std.specs.Prelude.{◌≡◌, ◌≢◌, ℕ, zero, suc, ◌+◌, ◌-◌, ◌*◌, ◌^◌, ◌<◌, ◌≤◌, Bool, true, false, List, [], ◌∷◌, ◌++◌, length, drop, Option, Some, None, IsSomeAnd}
+use Rattle.std.specs.Prelude.{◌≡◌, ◌≢◌, ℕ, zero, suc, ◌+◌, ◌-◌, ◌*◌, ◌^◌, ◌<◌, ◌≤◌, Bool, true, false, List, [], ◌∷◌, ◌++◌, length, drop, Option}
+use Rattle.std.specs.Prelude.{Some, None, IsSomeAnd}
 use Rattle.btr_base.specs.Sum.{sum_size, stored_sum}
 use Rattle.btr_base.specs.declared.kind.SumKind.{SumKind}
 use Rattle.btr_read.specs.Fate.{is_plain}
@@ -188,7 +189,8 @@ module _ (kind : SumKind) where
   abbrev pub wants_left : List Run → ℕ → List ℕ → List TreeMark → List Want
   wants_left [] past sums marks = []
   wants_left (run ∷ runs) past sums marks =
-      run_left run.addr run.kind past sums marks ++ wants_of kind runs (drop ((sectors_of run.kind - past) * sum_size kind) sums) (drop (trees_of run.kind) marks)
+      run_left run.addr run.kind past sums marks ++ wants_of kind runs (drop ((sectors_of run.kind - past) * sum_size kind) sums)
+      (drop (trees_of run.kind) marks)
 
   -- a place in a list: there are as many checksums and marks behind it as sectors and tree blocks
   pub record IsPlace (runs : List Run) (past : ℕ) (sums : List ℕ) (marks : List TreeMark) : Type 0 where
@@ -243,4 +245,5 @@ PassesIf false old end new = new ≡ old
 -- a run has 16 bytes of memory, and so has a mark: a list takes at most 48 bytes
 -- for each sector with a checksum, 16 for each without, and 32 for each tree block
 abbrev pub FewBytes : Type 0
-FewBytes = (kept : Kept) → IsList kept → length kept.runs * 16 + length kept.sums + length kept.marks * 16 ≤ all_sectors kept.runs * 48 + all_plains kept.runs * 16 + all_trees kept.runs * 32
+FewBytes = (kept : Kept) → IsList kept → length kept.runs * 16 + length kept.sums + length kept.marks * 16
+    ≤ all_sectors kept.runs * 48 + all_plains kept.runs * 16 + all_trees kept.runs * 32

@@ -1,5 +1,6 @@
 -- All of it: the writes in order, the images that they make, the ranges, and the counts.
-use Rattle.std.specs.Prelude.{ℕ, ◌+◌, ◌/◌, ◌-◌, ◌^◌, min, Bool, true, false, ◌&&◌, ◌==◌, nat_le, nat_lt, List, [], length, map, Option, Some, None, Result, Ok, Err, is_none, slice_get, slice_index, if◌then◌else◌, count_by}
+use Rattle.std.specs.Prelude.{ℕ, ◌+◌, ◌/◌, ◌-◌, ◌^◌, min, Bool, true, false, ◌&&◌, ◌==◌, nat_le, nat_lt, List, [], length, map, Option, Some, None}
+use Rattle.std.specs.Prelude.{Result, Ok, Err, is_none, slice_get, slice_index, if◌then◌else◌, count_by}
 use Rattle.std.specs.List.{filter, filter_map, flat_map, fold, range_with_len, sum_by}
 use Rattle.btr_chunk.specs.Chunk.{stripe_length, mirrors}
 use Rattle.btr_chunk.specs.declared.chunk.Chunk.{Chunk}
@@ -153,7 +154,14 @@ stood n = min n (2 ^ 64 - 1)
 
 -- counts each of which does
 abbrev pub stood_tally : Tally → Tally
-stood_tally t = record { blocks = stood t.blocks; bad = stood t.bad; repaired = stood t.repaired; lost = stood t.lost; parity = stood t.parity; unchecked = stood t.unchecked }
+stood_tally t = record {
+  blocks = stood t.blocks;
+  bad = stood t.bad;
+  repaired = stood t.repaired;
+  lost = stood t.lost;
+  parity = stood t.parity;
+  unchecked = stood t.unchecked;
+}
 
 -- what scrub comes to: its answer, the writes that are made, and the images behind it
 pub record Effect : Type 0 where
@@ -167,7 +175,12 @@ refused_as images stop = record { answer = Err stop; writes = []; images = image
 
 -- the effect by how the way through a filesystem ended: the writes and their images, or a stop
 abbrev pub effect_of_ending : Bool → List (List ℕ) → Filesystem → Result (Unit {0}) Fault → Effect
-effect_of_ending write images fs (Ok _) = record { answer = Ok (stood_tally (tally images fs write)); writes = writes_if write (writes images fs); images = if write then repaired images fs else images }
+effect_of_ending write images fs (Ok _) =
+    record {
+      answer = Ok (stood_tally (tally images fs write));
+      writes = writes_if write (writes images fs);
+      images = if write then repaired images fs else images;
+    }
 effect_of_ending write images fs (Err fault) = refused_as images (stop_of fault)
 
 -- the effect, unless a stripe has no device that is given

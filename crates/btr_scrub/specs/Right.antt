@@ -60,7 +60,8 @@ SparedStand images left fs C = All (λ t. CanBeSpared images fs C t → StandsFo
 
 -- so it is whatever bytes stand in the ranges
 abbrev pub RangesMayHoldAnything : Images → Filesystem → Type 0
-RangesMayHoldAnything images fs = (C : Committed) (left : Images) → IsCommitted images fs C → KeepsOutside (ranges images fs) images left → SparedStand images left fs C
+RangesMayHoldAnything images fs =
+    (C : Committed) (left : Images) → IsCommitted images fs C → KeepsOutside (ranges images fs) images left → SparedStand images left fs C
 
 -- where no device is missing, whatever bytes stand in the ranges, each plain sector with copies has its fresh bytes still,
 -- if there are such bytes

@@ -1,7 +1,7 @@
 -- The blocks of one full stripe.
 use Rattle.std.specs.List.{All}
 use Rattle.std.specs.Option.{option_map_or}
-use Rattle.std.specs.Prelude.{◌≡◌, ◌≢◌, ◌⊎◌, ℕ, ◌+◌, ◌-◌, ◌*◌, ◌<◌, ◌≤◌, Bool, true, false, List, [], ◌∷◌, ◌++◌, Option, Some, None, if◌then◌else◌}
+use Rattle.std.specs.Prelude.{◌≡◌, ◌≢◌, ℕ, ◌+◌, ◌-◌, ◌*◌, ◌^◌, ◌<◌, ◌≤◌, Bool, true, false, List, [], ◌∷◌, ◌++◌, Option, Some, None, if◌then◌else◌}
 use Rattle.btr_chunk.specs.Mapping.{elements_of, holds, position}
 use Rattle.btr_chunk.specs.declared.chunk.Chunk.{Chunk}
 use Rattle.btr_read.specs.Fate.{is_plain}
@@ -11,8 +11,9 @@ use Rattle.btr_read.specs.declared.want.Want.{Want}
 use Rattle.btr_scrub_row.specs.Rows.{Row, has_doubtful}
 use Rattle.btr_scrub_row.specs.declared.mended.MendedRow.{MendedRow}
 use Rattle.btr_scrub.specs.BlocksInRows.{In}
-use Rattle.btr_scrub.specs.Listed.{AddsAll, Kept, PassesFrom, plains_from}
+use Rattle.btr_scrub.specs.Listed.{AddsAll, Kept, plains_from}
 use Rattle.btr_scrub.specs.Repair.{ok_or_none}
+use Rattle.btr_scrub.specs.declared.rowed.PlainRun.{PlainRun}
 
 -- the row of a chunk in which an address lies, if it lies in the chunk
 abbrev pub row_in : Chunk → ℕ → Option ℕ
@@ -41,7 +42,7 @@ abbrev pub CollectsRow : Chunk → Want → List Want → List Want → List Wan
 CollectsRow chunk first old new wants row = (row_in chunk (addr_of first) ≡ Some row) × Collects chunk row first old new wants
 
 -- a row holds nothing but plain sectors, in a chunk no image of which is in doubt
-pub record IsCalm (layout : Layout) (row : Row) : Type 0 where
+pub record IsInert (layout : Layout) (row : Row) : Type 0 where
   pub plain : All (λ t. is_plain t.want ≡ true) row.blocks
   pub sure : has_doubtful layout.devices row.failing row.chunk ≡ false
 
@@ -61,37 +62,31 @@ pub record StartsRow (chunk : Chunk) (addr row : ℕ) : Type 0 where
   pub rises : last < row
 
 -- a reader passes over plain sectors one behind another, which reach just to the start of a row
-pub record PassesTo (chunk : Chunk) (old new : List Want) : Type 0 where
-  pub from : ℕ
+pub record PassesTo (chunk : Chunk) (old : List Want) (run : PlainRun) (new : List Want) : Type 0 where
+  pub some : 1 ≤ run.count
+  pub split : old ≡ plains_from run.addr run.count ++ new
+  pub range : run.addr + run.count * 4096 < 2 ^ 64
   pub start : ℕ
-  pub end : ℕ
-  pub passes : PassesFrom old from start end new
-  pub reaches : start ≤ end
+  pub below : (i : ℕ) → i < run.count → run.addr + i * 4096 < start
+  pub reaches : start ≤ run.addr + run.count * 4096
   pub row : ℕ
   pub starts : StartsRow chunk start row
 
--- a reader passes over plain sectors up to the start of a row, or stays where it is
-abbrev pub PassesRows : Chunk → List Want → List Want → Type 0
-PassesRows chunk old new = (new ≡ old) ⊎ PassesTo chunk old new
+-- a reader passes over plain sectors up to the start of a row, which come out, or stays where it is
+abbrev pub PassesRows : Chunk → List Want → Option PlainRun → List Want → Type 0
+PassesRows chunk old None new = new ≡ old
+PassesRows chunk old (Some run) new = PassesTo chunk old run new
 
 -- the same unless some image of the chunk is in doubt; then it stays where it is
 abbrev pub PassesUnless : Bool → Chunk → List Want → List Want → Type 0
 PassesUnless true chunk old new = new ≡ old
-PassesUnless false chunk old new = PassesRows chunk old new
+PassesUnless false chunk old new = (run : Option PlainRun) × PassesRows chunk old run new
 
--- a reader passes over plain sectors one behind another, which reach just to the start of a row, and they were put behind a list
-pub record KeepsTo (chunk : Chunk) (old new : List Want) (before after : Kept) : Type 0 where
-  pub from : ℕ
-  pub start : ℕ
-  pub count : ℕ
-  pub some : 1 ≤ count
-  pub split : old ≡ plains_from from count ++ new
-  pub below : (i : ℕ) → i < count → from + i * 4096 < start
-  pub reaches : start ≤ from + count * 4096
-  pub row : ℕ
-  pub starts : StartsRow chunk start row
-  pub adds : AddsAll before after (plains_from from count)
+-- plain sectors were put behind a list, if there are some
+abbrev pub AddsRun : Kept → Kept → Option PlainRun → Type 0
+AddsRun before after None = after ≡ before
+AddsRun before after (Some run) = AddsAll before after (plains_from run.addr run.count)
 
--- plain sectors up to the start of a row were put behind a list, or none
+-- a reader passes over plain sectors up to the start of a row, and they were put behind a list, or none
 abbrev pub KeepsRows : Chunk → List Want → List Want → Kept → Kept → Type 0
-KeepsRows chunk old new before after = ((new ≡ old) × (after ≡ before)) ⊎ KeepsTo chunk old new before after
+KeepsRows chunk old new before after = (run : Option PlainRun) × PassesRows chunk old run new × AddsRun before after run

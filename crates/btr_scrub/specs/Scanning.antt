@@ -52,12 +52,12 @@ NextExtentBy s Is B seen old new scan scan' (Ok (Found extent leaf)) = GivesExte
 NextExtentBy s Is B seen old new scan scan' (Err f) = Follows Is no_part seen (exec B (left_of B old scan)) [] (Err (halt_of f))
 
 -- a scan that gave an item comes nearer to its end
-abbrev pub ItemNears : ℕ → ℕ → Result NextExtent TreeFault → Type 0
-ItemNears old new (Ok End) = Unit {0}
-ItemNears old new (Ok Other) = new < old
-ItemNears old new (Ok (Broken leaf)) = new < old
-ItemNears old new (Ok (Found extent leaf)) = new < old
-ItemNears old new (Err f) = Unit {0}
+abbrev pub ItemRankFalls : ℕ → ℕ → Result NextExtent TreeFault → Type 0
+ItemRankFalls old new (Ok End) = Unit {0}
+ItemRankFalls old new (Ok Other) = new < old
+ItemRankFalls old new (Ok (Broken leaf)) = new < old
+ItemRankFalls old new (Ok (Found extent leaf)) = new < old
+ItemRankFalls old new (Err f) = Unit {0}
 
 module _ (s : Super) (sums : Option TreeRoot) (chunk : Chunk) where
   -- of the items that a scan had still to give some marks are past; what is left is what it
@@ -86,7 +86,8 @@ module _ (s : Super) (sums : Option TreeRoot) (chunk : Chunk) where
     pub ready : IsScanReady y.rack y.vol.store scan'
     pub done : List Met
     pub lists : OnOk answer (Lists x.list y.list done)
-    pub content : Tells x.vol.store.layout x.rack y.rack (λ B. Follows (unread_by x.vol.store.layout x.rack y.rack) no_part [] (exec B (items_met s sums chunk 0 (left_of B x.vol.store scan))) done (ended answer))
+    pub content : Tells x.vol.store.layout x.rack y.rack (λ B. Follows (unread_by x.vol.store.layout x.rack y.rack) no_part []
+        (exec B (items_met s sums chunk 0 (left_of B x.vol.store scan))) done (ended answer))
     pub cause : StopCause x.vol.store.layout x.rack y.rack answer
 
 -- a span is that of a chunk of the table
@@ -98,7 +99,8 @@ pub record IsSpanIn (layout : Layout) (span : Span) : Type 0 where
 -- so far as a scan's step was steady, this came next
 abbrev pub NextTold : Super → Seen → Seen → Blocks → Blocks → Scan → Scan → Result NextExtent TreeFault → Type 0
 NextTold s old new store store' scan scan' next =
-    Tells store.layout old new (λ B. (seen : List Want) → IsOn scan.lo scan.hi B seen scan.place → NextExtentBy s (unread_by store.layout old new) B seen store store' scan scan' next)
+    Tells store.layout old new (λ B. (seen : List Want) → IsOn scan.lo scan.hi B seen scan.place
+    → NextExtentBy s (unread_by store.layout old new) B seen store store' scan scan' next)
 
 -- a span is that of the chunk of a number, which has an address, and ends below 2^64
 pub record IsSpanAt (layout : Layout) (i : ℕ) (span : Span) : Type 0 where

@@ -43,11 +43,8 @@ pub record HasEffect (c : Called) (images left : Images) : Type 0 where
 
 -- a fault of a tree is that of the effect, or a block could not be read
 abbrev pub FaultsAs : Called → Images → Images → TreeFault → Type 0
-FaultsAs c images left (tree.Lost a) = HasEffect c images left
 FaultsAs c images left (tree.Unread a slot) = Rose c.old.account.faults c.new.account.faults
-FaultsAs c images left (tree.Unmapped a) = HasEffect c images left
-FaultsAs c images left (tree.Crosses a) = HasEffect c images left
-FaultsAs c images left (tree.Malformed a) = HasEffect c images left
+FaultsAs c images left fault = HasEffect c images left
 
 -- what the answer says of a call that is sure: it is that of the effect, or a
 -- call on an image failed, or memory was wanted
@@ -58,10 +55,7 @@ AnswersAs c images left (Err (stop.Tree fault)) = FaultsAs c images left fault
 AnswersAs c images left (Err (stop.Missing devid)) = HasEffect c images left
 AnswersAs c images left (Err (stop.Image slot)) = Rose c.old.account.faults c.new.account.faults
 AnswersAs c images left (Err stop.Memory) = ⊤
-AnswersAs c images left (Err (stop.Deletion id)) = ⊥
-AnswersAs c images left (Err stop.Balance) = ⊥
-AnswersAs c images left (Err stop.Sink) = ⊥
-AnswersAs c images left (Err stop.Out) = ⊥
+AnswersAs c images left (Err stop) = ⊥
 
 -- the writes of the effect were made, or stopped at one of them, and no byte outside their ranges changed
 pub record IsLeftBy (writes : List Write) (images left : Images) : Type 0 where
@@ -76,10 +70,7 @@ ReadsAt c (Err (stop.Tree fault)) = OnlyReads c.old c.new
 ReadsAt c (Err (stop.Missing devid)) = c.new ≡ c.old
 ReadsAt c (Err (stop.Image slot)) = ⊤
 ReadsAt c (Err stop.Memory) = ⊤
-ReadsAt c (Err (stop.Deletion id)) = ⊥
-ReadsAt c (Err stop.Balance) = ⊥
-ReadsAt c (Err stop.Sink) = ⊥
-ReadsAt c (Err stop.Out) = ⊥
+ReadsAt c (Err stop) = ⊥
 
 -- a read, a write or a sync of this slot was the last call that failed, and it
 -- was one of scrub's own; the rack isn't sure

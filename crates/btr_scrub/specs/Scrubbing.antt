@@ -1,5 +1,6 @@
 -- Mending block by block and chunk by chunk: what was done, and what is counted.
-use Rattle.std.specs.Prelude.{◌≡◌, ℕ, ◌+◌, ◌<◌, ◌≤◌, Bool, List, [], ◌∷◌, ◌++◌, length, Option, Some, None, is_none, false, IsSome, IsSomeAnd, IsTrue, IfSome, OnOk, Result, slice_get, if◌then◌else◌}
+use Rattle.std.specs.Prelude.{◌≡◌, ℕ, ◌+◌, ◌<◌, ◌≤◌, Bool, List, [], ◌∷◌, ◌++◌, length, Option, Some, None, is_none, false, IsSome, IsSomeAnd, IsTrue}
+use Rattle.std.specs.Prelude.{IfSome, OnOk, Result, slice_get, if◌then◌else◌}
 use Rattle.std.specs.List.{filter, flat_map, fold}
 use Rattle.btr_chunk.specs.Chunk.{mirrors}
 use Rattle.btr_chunk.specs.Table.{IsTable}
@@ -11,7 +12,7 @@ use Rattle.btr_read.specs.Serves.{Serves}
 use Rattle.btr_read.specs.Store.{Blocks, free_count}
 use Rattle.btr_read.specs.Want.{addr_of}
 use Rattle.btr_read.specs.declared.want.Want.{Want}
-use Rattle.btr_scrub_copies.specs.Mending.{mended_of}
+use Rattle.btr_scrub_copies.specs.Mending.{Repairs, mended_of}
 use Rattle.btr_scrub_copies.specs.Syncing.{AreMarked, IsSyncOr, Strands, plain}
 use Rattle.btr_scrub_copies.specs.Turns.{WaitsAt}
 use Rattle.btr_scrub_copies.specs.Writes.{AreWritable, Does, Images, Write, writes_if}
@@ -29,7 +30,9 @@ use Rattle.btr_scrub_copies.specs.Fresh.{Failing, freshened}
 use Rattle.btr_scrub_row.specs.Wanted.{mending_writes}
 use Rattle.btr_scrub.specs.Repair.{first_missing, is_in_chunk, rows_in, stood}
 use Rattle.btr_read.specs.Fate.{is_plain}
+use Rattle.btr_scrub.specs.declared.progress.Progress.{Progress}
 use Rattle.btr_scrub.specs.declared.tally.Tally.{Tally}
+use Rattle.btr_scrub.specs.declared.task.ChunkTask.{ChunkTask}
 
 -- the first of some blocks, if there is one, begins at or behind an address
 abbrev pub BeginsBehind : ℕ → List Want → Type 0
@@ -63,6 +66,15 @@ counted_plain tally mended = record {
   unchecked = tally.unchecked;
 }
 
+-- counts with those of a plain sector or a block
+abbrev pub counted_site : Bool → Tally → Mended → Tally
+counted_site is_plain tally mended = if is_plain then counted_plain tally mended else counted tally mended
+
+-- a block was mended by its copies, or a plain sector brought up to date by them
+abbrev pub RepairsSite : Failing → Target → Bool → List Bool → List Bool → Seen → Seen → Result Mended MendFault → Type 0
+RepairsSite failing t write = Repairs t write (λ images. mending_writes images failing t)
+    (λ images. if is_plain t.want then freshened images failing t write else mended_of images t write)
+
 -- the counts with those of one more block or plain sector
 abbrev pub count_site : Failing → Images → Bool → Tally → Target → Tally
 count_site failing images write tally t =
@@ -84,7 +96,8 @@ IsOfScrub layout = IsSyncOr (LiesInStripe layout)
 -- Images were read and written, and synced within a full stripe: exactly the writes that follow from
 -- what they held, or those up to a call that failed. What follows from what they held was counted. What
 -- waits for a sync then waited before, or lies in a stripe; where all that waited was marked, it is.
-pub record Scrubs {A : Type 0} (layout : Layout) (write : Bool) (writes : Images → List Write) (count : Images → Tally → Tally) (marks marks' : List Bool) (old new : Seen) (tally tally' : Tally) (result : Result A MendFault) : Type 0 where
+pub record Scrubs {A : Type 0} (layout : Layout) (write : Bool) (writes : Images → List Write) (count : Images → Tally → Tally) (marks marks' : List Bool)
+    (old new : Seen) (tally tally' : Tally) (result : Result A MendFault) : Type 0 where
   pub does : Does (IsOfScrub layout) (λ images. writes_if write (writes images)) [] [] (plain old) (plain new) result
   pub waits : WaitsAt (LiesInStripe layout) old new
   pub marked : AreMarked marks old.unsynced → AreMarked marks' new.unsynced
@@ -130,9 +143,10 @@ abbrev pub PassesChunk : Layout → ℕ → List Want → List Want → Type 0
 PassesChunk layout number old new = (chunk : Chunk) → slice_get layout.chunks number ≡ Some chunk → IsPastChunk layout chunk old new
 
 -- exactly the writes that are its own were made, or those up to one that failed, and what it counts was counted
-abbrev pub ScrubsChunk : {A : Type 0} → Layout → ℕ → Bool → (Chunk → Images → List Write) → (Chunk → Images → Tally → Tally) → List Bool → List Bool → Seen → Seen → Tally → Tally → Result A MendFault → Type 0
-ScrubsChunk layout number write writes count marks marks' old new tally tally' result =
-    (chunk : Chunk) → slice_get layout.chunks number ≡ Some chunk → Scrubs (alone layout chunk) write (writes chunk) (count chunk) marks marks' old new tally tally' result
+abbrev pub ScrubsChunk : {A : Type 0} → Layout → ChunkTask → (Chunk → Images → List Write) → (Chunk → Images → Tally → Tally) → Progress → Progress → Seen
+    → Seen → Result A MendFault → Type 0
+ScrubsChunk layout task writes count from to old new result = (chunk : Chunk) → slice_get layout.chunks task.number ≡ Some chunk
+    → Scrubs (alone layout chunk) task.how.write (writes chunk) (count chunk) from.marks.items to.marks.items old new from.tally to.tally result
 
 -- ---- chunks with parity
 
@@ -193,7 +207,8 @@ all_count_for fails layout write chunks wants images tally = fold (λ tally chun
 
 -- Images were read, written and synced: exactly the writes that follow from what they held, or those up to a call that
 -- failed. Where nothing waited for a sync nothing does at the end, and at a halt what lies in stripes of one chunk.
-pub record Works {A : Type 0} (layout : Layout) (write : Bool) (writes : Images → List Write) (count : Images → Tally → Tally) (old new : Seen) (tally tally' : Tally) (result : Result A MendFault) : Type 0 where
+pub record Works {A : Type 0} (layout : Layout) (write : Bool) (writes : Images → List Write) (count : Images → Tally → Tally) (old new : Seen)
+    (tally tally' : Tally) (result : Result A MendFault) : Type 0 where
   pub does : Does (IsOfScrub layout) (λ images. writes_if write (writes images)) [] [] (plain old) (plain new) result
   pub counts : OnOk result (IfSome old.held (λ images. tally' ≡ count images tally))
   pub synced : OnOk result (old.unsynced ≡ [] → new.unsynced ≡ [])
@@ -202,9 +217,10 @@ pub record Works {A : Type 0} (layout : Layout) (write : Bool) (writes : Images 
   pub unwritten : write ≡ false → OnlyReads old new
 
 -- the same for the chunk of a number
-abbrev pub WorksChunk : {A : Type 0} → Layout → ℕ → Bool → (Chunk → Images → List Write) → (Chunk → Images → Tally → Tally) → Seen → Seen → Tally → Tally → Result A MendFault → Type 0
-WorksChunk layout number write writes count old new tally tally' result =
-    (chunk : Chunk) → slice_get layout.chunks number ≡ Some chunk → Works (alone layout chunk) write (writes chunk) (count chunk) old new tally tally' result
+abbrev pub WorksChunk : {A : Type 0} → Layout → ChunkTask → (Chunk → Images → List Write) → (Chunk → Images → Tally → Tally) → Progress → Progress → Seen
+    → Seen → Result A MendFault → Type 0
+WorksChunk layout task writes count from to old new result = (chunk : Chunk) → slice_get layout.chunks task.number ≡ Some chunk
+    → Works (alone layout chunk) task.how.write (writes chunk) (count chunk) old new from.tally to.tally result
 
 -- a buffer has room for each full stripe of the table
 abbrev pub HasRooms : Layout → RowBuffer → Type 0

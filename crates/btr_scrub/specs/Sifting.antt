@@ -129,11 +129,11 @@ pub record Sifts (layout : Layout) (held : Option Images) (wants : List Want) (o
   pub sound : IfSome held (λ images. (n : ℕ) → old.sound ≡ stood n → new.sound ≡ stood (n + left_out images layout wants))
 
 -- a reader passes over plain sectors behind a block, all of which lie in chunks with copies and without an older image
-pub record PassesCalm (layout : Layout) (want : Want) (old new : List Want) : Type 0 where
+pub record PassesInert (layout : Layout) (want : Want) (old new : List Want) : Type 0 where
   pub past : List Want
   pub split : old ≡ past ++ new
   pub plain : (w : Want) → In w past → is_plain w ≡ true
-  pub calm : (w : Want) (t : Target) → In w past → addr_of want ≤ addr_of w → sought layout w ≡ Ok t → IsSome (mirrors t.chunk) ×
+  pub inert : (w : Want) (t : Target) → In w past → addr_of want ≤ addr_of w → sought layout w ≡ Ok t → IsSome (mirrors t.chunk) ×
       (has_older layout.devices t.chunk ≡ false)
 
 -- a block was sifted, with those that a reader had next and that are judged with it; none of those left lies in a full stripe of them
@@ -170,7 +170,8 @@ pub record Stands (layout : Layout) (held : Option Images) (whole : Gathered) (s
   pub unchecked : sieve.unchecked ≡ whole.unchecked
   pub judged : Judges layout held (kept_wants whole.list) sieve sieve.refused
 
--- the blocks of a list, the last of which ends at an address, lie in a span
+-- The blocks of a list, the last of which ends at an address, lie in a span: the first doesn't begin before it, and the last
+-- ends in it. That is enough where each begins at or behind the end of the one before.
 abbrev pub lies_in : List Want → Span → ℕ → Bool
 lies_in [] span end = true
 lies_in (want ∷ wants) span end = nat_le span.start (addr_of want) && nat_le end (span.start + span.length)

@@ -66,7 +66,8 @@ RightStays = (images left : Images) (layout : Layout) (C : Committed) (fails : F
 -- so each checked block of such a row that is right at its own place, or where few elements are wrong, has a candidate with
 -- its committed bytes
 abbrev pub RowOutlivesWrites : Type 0
-RowOutlivesWrites = (images left : Images) (layout : Layout) (C : Committed) (fails : Failing) (blocks : List Target) (row : Row) (ranges : List Range) (t : Target)
+RowOutlivesWrites = (images left : Images) (layout : Layout) (C : Committed) (fails : Failing) (blocks : List Target) (row : Row) (ranges : List Range)
+    (t : Target)
     → IsTable layout.chunks → HaveOwnSlots layout.devices → HaveLengths images layout → IsRowOf layout fails blocks row
     → AvoidRight images layout C fails blocks ranges → KeepsOutside ranges images left
     → IsSoundRow images layout C row → RightPasses C t → HasRightPlace images C t ⊎ HasFewWrongAt images layout C row t

@@ -44,8 +44,10 @@ RightPasses C t = IfSome (C t.want) (λ bytes. passes t.setting t.want bytes ≡
 
 -- the bytes of its elements that aren't wrong stay as they are
 pub record KeepsRight (images left : Images) (layout : Layout) (C : Committed) (row : Row) : Type 0 where
-  pub lengths : (part : Part) → HasPart row.chunk.profile (length row.chunk.stripes) part → length (element left layout row part) ≡ length (element images layout row part)
-  pub bytes : (part : Part) (place : ℕ) → HasPart row.chunk.profile (length row.chunk.stripes) part → place < 65536 → ¬ (IsWrongAt images layout C row part place)
+  pub lengths : (part : Part) → HasPart row.chunk.profile (length row.chunk.stripes) part
+      → length (element left layout row part) ≡ length (element images layout row part)
+  pub bytes : (part : Part) (place : ℕ) → HasPart row.chunk.profile (length row.chunk.stripes) part → place < 65536
+      → ¬ (IsWrongAt images layout C row part place)
       → slice_index (element left layout row part) place ≡ slice_index (element images layout row part) place
 
 -- then each checked block of the row that is right at its own place, or where few elements are wrong, has a candidate with

@@ -79,11 +79,14 @@ pub data Listing : Type 0 where
 -- before; nothing is written then. It is never refused so far as its reads were steady.
 abbrev pub Goes : Super → Layout → Bool → Seen → Seen → Seen → List Met → Result Tally Stop → Listing → Type 0
 Goes s layout write old mid new done result (Stopped why) =
-    (result ≡ Err why) × (new ≡ mid) × Tells layout old mid (λ B. Follows (unread_by layout old mid) no_part [] (exec B (units_in s layout.chunks)) done (Err (stop_halt why))) × StopCause {A = Tally} layout old mid (Err why)
+    (result ≡ Err why) × (new ≡ mid) × Tells layout old mid (λ B. Follows (unread_by layout old mid) no_part [] (exec B (units_in s layout.chunks)) done
+    (Err (stop_halt why))) × StopCause {A = Tally} layout old mid (Err why)
 Goes s layout write old mid new done result Listed =
-    Tells layout old mid (λ B. Follows (unread_by layout old mid) no_part [] (exec B (units_in s layout.chunks)) done (Ok tt)) × WorksOn layout write (wants_among done) (fold count_met 0 done) mid new result
+    Tells layout old mid (λ B. Follows (unread_by layout old mid) no_part [] (exec B (units_in s layout.chunks)) done (Ok tt))
+    × WorksOn layout write (wants_among done) (fold count_met 0 done) mid new result
 Goes s layout write old mid new done result (Failed slot) = (result ≡ Err (stop.Image slot)) × OnlyReads mid new × FailsAt (LiesInStripe layout) slot mid new
-Goes s layout write old mid new done result (Refused fault) = (result ≡ Err (stop.Tree fault)) × (new ≡ mid) × IsFirstRefused layout 0 (wants_among done) fault × Tells layout old mid (λ B. ⊥)
+Goes s layout write old mid new done result (Refused fault) =
+    (result ≡ Err (stop.Tree fault)) × (new ≡ mid) × IsFirstRefused layout 0 (wants_among done) fault × Tells layout old mid (λ B. ⊥)
 
 -- The checked blocks were listed, and then mended.
 pub record ScrubsAll (s : Super) (layout : Layout) (write : Bool) (old new : Seen) (result : Result Tally Stop) : Type 0 where

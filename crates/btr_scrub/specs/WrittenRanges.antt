@@ -42,4 +42,5 @@ pub record Fits (images : Images) (write : Write) : Type 0 where
 
 -- writes that fit change nothing but their ranges
 abbrev pub WritesKeepTheRest : Type 0
-WritesKeepTheRest = (images : Images) (writes : List Write) → All (Fits images) writes → KeepsOutside (map (λ (write : Write). write.range) writes) images (fold write_on images writes)
+WritesKeepTheRest = (images : Images) (writes : List Write) → All (Fits images) writes
+    → KeepsOutside (map (λ (write : Write). write.range) writes) images (fold write_on images writes)

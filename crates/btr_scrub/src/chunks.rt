@@ -3,7 +3,7 @@ ghost use Rattle.std.specs.Prelude.{◌≡◌, ◌+◌, ◌-◌, ◌<◌, ◌≤
 ghost use Rattle.btr_chunk.specs.declared.chunk.Chunk.{Chunk};
 ghost use Rattle.btr_read.specs.Serves.{Serves};
 ghost use Rattle.btr_read.specs.Store.{free_count};
-ghost use Rattle.btr_files.specs.Sums.{kind_in, tree_behind};
+ghost use Rattle.btr_files.specs.Sums.{kind_in};
 ghost use Rattle.btr_volume.specs.Looking.{SameVolume};
 ghost use Rattle.btr_volume.specs.Tree.{key, last};
 ghost use Rattle.btr_scrub.specs.Extents.{span_of};
@@ -23,6 +23,13 @@ use btr_base::Key;
 use btr_rack::Rack;
 use btr_volume::{Stop, TreeRoot, Volume};
 use btr_walk::{Scan, TreeFault};
+
+/// The extent tree, and the checksum tree, if there is one.
+#[derive(Clone, Copy)]
+pub(crate) struct Trees {
+    pub(crate) extents: TreeRoot,
+    pub(crate) sums: Option<TreeRoot>,
+}
 
 // The span of the chunk of a number.
 fn span_at(vol: &Volume, i: usize) -> Span
@@ -58,8 +65,7 @@ fn last_key(span: &Span) -> Key
 
 // Lists the blocks of the extents that begin in a chunk; answers where the last one ends.
 fn gather_chunk<R: Rack>(
-    extents: &TreeRoot,
-    sums: Option<&TreeRoot>,
+    trees: &Trees,
     span: &Span,
     rack: &mut R,
     vol: &mut Volume,
@@ -73,11 +79,11 @@ fn gather_chunk<R: Rack>(
     requires some { 1 ≤ span.now.length }
     requires chunk { IsSpanIn vol.old.store.layout span.now }
     ensures { (chunk : Chunk) → span.now ≡ span_of chunk → Contains vol.old.store.layout.chunks chunk
-        → Gathers (units.in_chunk vol.old.sup (tree_behind sums.entry) chunk extents.now)
+        → Gathers (units.in_chunk vol.old.sup trees.now.sums chunk trees.now.extents)
         (scene (R.seen rack.old) vol.old gathered.old) (scene (R.seen rack.new) vol.new gathered.new) result }
 {
-    let mut scan = Scan::new(&extents.place, first_key(span), last_key(span));
-    let end = gather_items(sums, span, &mut scan, rack, vol, gathered);
+    let mut scan = Scan::new(&trees.extents.place, first_key(span), last_key(span));
+    let end = gather_items(trees.sums.as_ref(), span, &mut scan, rack, vol, gathered);
     scan.finish(&mut vol.store);
     end
 }
@@ -85,8 +91,7 @@ fn gather_chunk<R: Rack>(
 // Lists the blocks of the extents that begin in a chunk, and sifts them; answers where the last
 // extent ends. Those that were listed after a read failed may not lie in the chunk.
 fn sift_chunk<R: Rack>(
-    extents: &TreeRoot,
-    sums: Option<&TreeRoot>,
+    trees: &Trees,
     span: &Span,
     rack: &mut R,
     vol: &mut Volume,
@@ -109,14 +114,14 @@ fn sift_chunk<R: Rack>(
     ensures end { OnOk result (sieve.new.end ≤ span.now.start + span.now.length) }
     ensures sieves { (chunk : Chunk) (whole : Gathered) → span.now ≡ span_of chunk → Contains vol.old.store.layout.chunks chunk
         → Stands vol.old.store.layout (R.seen rack.old).held whole sieve.old
-        → Sieves (units.in_chunk vol.old.sup (tree_behind sums.entry) chunk extents.now)
+        → Sieves (units.in_chunk vol.old.sup trees.now.sums chunk trees.now.extents)
         (scene (R.seen rack.old) vol.old whole) (R.seen rack.new) vol.new sieve.new result }
 {
     let mut gathered = Gathered {
         list: sieve.sifted.kept.emptied(),
         unchecked: sieve.unchecked,
     };
-    let end = gather_chunk(extents, sums, span, rack, vol, &mut gathered)?;
+    let end = gather_chunk(trees, span, rack, vol, &mut gathered)?;
     match sift_listed(&gathered, span, rack, &mut vol.store, marks, sieve) {
         Ok(true) => Ok(end),
         Ok(false) => Err(Stop::Tree(TreeFault::Malformed(span.start))),
@@ -131,8 +136,7 @@ fn sift_chunk<R: Rack>(
 /// `Image`: a read of an image failed as blocks were sifted,
 /// and nothing was tried behind it. `Memory` for want of memory.
 pub(crate) fn sift_chunks<R: Rack>(
-    extents: &TreeRoot,
-    sums: Option<&TreeRoot>,
+    trees: &Trees,
     rack: &mut R,
     vol: &mut Volume,
     marks: &mut [bool],
@@ -146,12 +150,12 @@ pub(crate) fn sift_chunks<R: Rack>(
     requires kind { sieve.old.sifted.kept.kind ≡ kind_in vol.old.sup }
     ensures ready { CanMend false (R.seen rack.new) vol.new.store marks.new }
     ensures sieves { (whole : Gathered) → Stands vol.old.store.layout (R.seen rack.old).held whole sieve.old
-        → Sieves (units.in_chunks vol.old.sup (tree_behind sums.entry) extents.now vol.old.store.layout.chunks)
+        → Sieves (units.in_chunks vol.old.sup trees.now.sums trees.now.extents vol.old.store.layout.chunks)
         (scene (R.seen rack.old) vol.old whole) (R.seen rack.new) vol.new sieve.new result }
 {
     for i in 0..vol.store.chunks().count() {
         let span = span_at(vol, i);
-        sift_chunk(extents, sums, &span, rack, vol, marks, sieve)?;
+        sift_chunk(trees, &span, rack, vol, marks, sieve)?;
     }
     Ok(())
 }

@@ -12,7 +12,7 @@ ghost use Rattle.btr_files.specs.Sums.{kind_in, tree_behind};
 ghost use Rattle.btr_scrub.specs.Extents.{span_of};
 ghost use Rattle.btr_scrub.specs.Gathering.{Gathers, scene};
 ghost use Rattle.btr_scrub.specs.Listed.{IsList};
-ghost use Rattle.btr_scrub.specs.Scanning.{IsSpanIn, ItemNears, NextTold, Says, Scanned};
+ghost use Rattle.btr_scrub.specs.Scanning.{IsSpanIn, ItemRankFalls, NextTold, Says, Scanned};
 ghost use Rattle.btr_scrub.specs.Units as units;
 
 use crate::extent::{Extent, Span, extent_of, is_crossing, is_extent, is_malformed};
@@ -35,6 +35,16 @@ enum NextExtent {
     Broken(u64),
     // It is this extent, in the leaf of this address.
     Found(Extent, u64),
+}
+
+// An extent that a scan met.
+#[derive(Clone, Copy)]
+struct MetExtent {
+    extent: Extent,
+    // The address of the leaf in which it stands.
+    leaf: u64,
+    // Where the extent before it ends.
+    end_before: u64,
 }
 
 // Lists the blocks of an extent.
@@ -65,13 +75,11 @@ fn gather_blocks<R: Rack>(
     }
 }
 
-// Lists the blocks of an extent, which stands in a leaf, behind one that ends at `end`; answers where it ends itself.
+// Lists the blocks of an extent that was met; answers where it ends.
 fn gather_extent<R: Rack>(
     sums: Option<&TreeRoot>,
     span: &Span,
-    end: u64,
-    leaf: u64,
-    extent: &Extent,
+    met: &MetExtent,
     rack: &mut R,
     vol: &mut Volume,
     gathered: &mut Gathered,
@@ -82,19 +90,18 @@ fn gather_extent<R: Rack>(
     requires kind { gathered.old.list.kind ≡ kind_in vol.old.sup }
     requires span { span.now.start + span.now.length < 2 ^ 64 }
     ensures { (chunk : Chunk) → span.now ≡ span_of chunk → Contains vol.old.store.layout.chunks chunk
-        → Gathers (units.extent_met vol.old.sup (tree_behind sums.entry) chunk end leaf (Some extent.now))
+        → Gathers (units.extent_met vol.old.sup (tree_behind sums.entry) chunk met.now.end_before met.now.leaf (Some met.now.extent))
         (scene (R.seen rack.old) vol.old gathered.old) (scene (R.seen rack.new) vol.new gathered.new) result }
 {
-    if is_malformed(&vol.sup, end, extent) {
-        return Err(Stop::Tree(TreeFault::Malformed(leaf)));
+    let extent = &met.extent;
+    if is_malformed(&vol.sup, met.end_before, extent) {
+        return Err(Stop::Tree(TreeFault::Malformed(met.leaf)));
     }
     if is_crossing(span, extent) {
         return Err(Stop::Tree(TreeFault::Crosses(extent.addr)));
     }
-    match gather_blocks(sums, extent, rack, vol, gathered) {
-        Ok(()) => Ok(extent.addr + extent.len),
-        Err(stop) => Err(stop),
-    }
+    gather_blocks(sums, extent, rack, vol, gathered)?;
+    Ok(extent.addr + extent.len)
 }
 
 // What an item says of extents.
@@ -124,14 +131,13 @@ fn next_extent<R: Rack>(
     ensures others { SameLoans (without_leaf store.old scan.old) (without_leaf store.new scan.new) }
     ensures lo { scan.new.lo ≡ scan.old.lo }
     ensures hi { scan.new.hi ≡ scan.old.hi }
-    ensures nears { ItemNears (rank_of scan.old) (rank_of scan.new) result }
+    ensures nears { ItemRankFalls (rank_of scan.old) (rank_of scan.new) result }
     ensures cause { HasCause store.old.layout (R.seen rack.old) (R.seen rack.new) result }
     ensures content { NextTold s.now (R.seen rack.old) (R.seen rack.new) store.old store.new scan.old scan.new result }
 {
-    match next(store, scan, rack) {
-        Err(fault) => Err(fault),
-        Ok(None) => Ok(NextExtent::End),
-        Ok(Some(found)) => Ok(extent_in(s, &found)),
+    match next(store, scan, rack)? {
+        None => Ok(NextExtent::End),
+        Some(found) => Ok(extent_in(s, &found)),
     }
 }
 
@@ -166,10 +172,12 @@ pub(crate) fn gather_items<R: Rack>(
             Ok(NextExtent::Other) => {}
             Ok(NextExtent::Broken(leaf)) => return Err(Stop::Tree(TreeFault::Malformed(leaf))),
             Ok(NextExtent::Found(extent, leaf)) => {
-                match gather_extent(sums, span, end, leaf, &extent, rack, vol, gathered) {
-                    Ok(next) => end = next,
-                    Err(stop) => return Err(stop),
-                }
+                let met = MetExtent {
+                    extent,
+                    leaf,
+                    end_before: end,
+                };
+                end = gather_extent(sums, span, &met, rack, vol, gathered)?;
             }
         }
     }

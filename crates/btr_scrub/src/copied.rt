@@ -3,18 +3,20 @@ ghost use Rattle.std.specs.Prelude.{◌≡◌, ◌&&◌, not, true, Ok, OnOk};
 ghost use Rattle.btr_read.specs.Candidates.{Target};
 ghost use Rattle.btr_read.specs.Fate.{is_plain, sought};
 ghost use Rattle.btr_read.specs.Store.{SameLoans};
-ghost use Rattle.btr_scrub_copies.specs.Blocks.{block_writes};
-ghost use Rattle.btr_scrub_copies.specs.Mending.{IsCopied, mended_of};
+ghost use Rattle.btr_read.specs.Serves.{Serves};
+ghost use Rattle.btr_scrub_copies.specs.Mending.{IsCopied};
 ghost use Rattle.btr_scrub.specs.WrittenRanges.{alone};
 ghost use Rattle.btr_scrub.specs.Listed.{PassesIf};
-ghost use Rattle.btr_scrub_copies.specs.Fresh.{flagged, fresh_writes, freshened};
+ghost use Rattle.btr_scrub_copies.specs.Fresh.{flagged};
 ghost use Rattle.btr_scrub.specs.Judged.{has_behind};
 ghost use Rattle.btr_scrub_row.specs.Wanted.{mending_writes};
-ghost use Rattle.btr_scrub.specs.Scrubbing.{CanMend, CopiesComeNext, GivesBelow, PassesChunk, Scrubs, ScrubsChunk, count_site, counted, counted_plain, sites_count, sites_in, sites_writes};
+ghost use Rattle.btr_scrub.specs.Scrubbing.{CanMend, CopiesComeNext, GivesBelow, PassesChunk, RepairsSite, Scrubs, ScrubsChunk};
+ghost use Rattle.btr_scrub.specs.Scrubbing.{count_site, counted, counted_plain, counted_site, sites_count, sites_in, sites_writes};
 
+use crate::progress::Progress;
 use crate::reader::Reader;
 use crate::tally::Tally;
-use crate::task::ChunkTask;
+use crate::task::{ChunkTask, Task};
 use btr_chunk::Chunk;
 use btr_rack::Rack;
 use btr_read::{Store, Want};
@@ -48,29 +50,6 @@ fn counted(tally: &Tally, mended: &Mended) -> Tally
     }
 }
 
-// Mends a block by its copies, and counts what came of it.
-fn mend_block<R: Rack>(
-    want: &Want,
-    write: bool,
-    rack: &mut R,
-    store: &mut Store,
-    marks: &mut [bool],
-    tally: &mut Tally,
-) -> Result<(), MendFault>
-    requires ready { CanMend write (R.seen rack.old) store.old marks.old }
-    requires copied { IsCopied store.old.layout want.now }
-    ensures ready { CanMend write (R.seen rack.new) store.new marks.new }
-    ensures loans { SameLoans store.old store.new }
-    ensures scrubs { (t : Target) → sought store.old.layout want.now ≡ Ok t
-        → Scrubs (alone store.old.layout t.chunk) write (λ images. block_writes images t)
-        (λ images tally. counted tally (mended_of images t write))
-        marks.old marks.new (R.seen rack.old) (R.seen rack.new) tally.old tally.new result }
-{
-    let mended = mend_copies(want, write, rack, store, marks)?;
-    *tally = counted(tally, &mended);
-    Ok(())
-}
-
 // Counts with those of one more sector without a checksum.
 fn counted_plain(tally: &Tally, mended: &Mended) -> Tally
     ensures { result ≡ counted_plain tally.now mended.now }
@@ -82,55 +61,59 @@ fn counted_plain(tally: &Tally, mended: &Mended) -> Tally
     }
 }
 
-// Brings a sector without a checksum up to date by its copies, and counts what came of it.
-fn mend_sector<R: Rack>(
-    want: &Want,
-    write: bool,
-    failing: &[bool],
-    rack: &mut R,
-    store: &mut Store,
-    marks: &mut [bool],
-    tally: &mut Tally,
-) -> Result<(), MendFault>
-    requires ready { CanMend write (R.seen rack.old) store.old marks.old }
-    requires copied { IsCopied store.old.layout want.now }
-    requires plain { is_plain want.now ≡ true }
-    ensures ready { CanMend write (R.seen rack.new) store.new marks.new }
-    ensures loans { SameLoans store.old store.new }
-    ensures scrubs { (t : Target) → sought store.old.layout want.now ≡ Ok t
-        → Scrubs (alone store.old.layout t.chunk) write (λ images. fresh_writes images (flagged failing.now) t)
-        (λ images tally. counted_plain tally (freshened images (flagged failing.now) t write))
-        marks.old marks.new (R.seen rack.old) (R.seen rack.new) tally.old tally.new result }
-{
-    let mended = mend_plain(want, write, failing, rack, store, marks)?;
-    *tally = counted_plain(tally, &mended);
-    Ok(())
-}
-
-// Mends what a want is of, and counts what came of it.
-fn mend_site<R: Rack>(
-    want: &Want,
-    write: bool,
-    failing: &[bool],
-    rack: &mut R,
-    store: &mut Store,
-    marks: &mut [bool],
-    tally: &mut Tally,
-) -> Result<(), MendFault>
-    requires ready { CanMend write (R.seen rack.old) store.old marks.old }
-    requires copied { IsCopied store.old.layout want.now }
-    ensures ready { CanMend write (R.seen rack.new) store.new marks.new }
-    ensures loans { SameLoans store.old store.new }
-    ensures scrubs { (t : Target) → sought store.old.layout want.now ≡ Ok t
-        → Scrubs (alone store.old.layout t.chunk) write (λ images. mending_writes images (flagged failing.now) t)
-        (λ images tally. count_site (flagged failing.now) images write tally t)
-        marks.old marks.new (R.seen rack.old) (R.seen rack.new) tally.old tally.new result }
+// Counts with those of what a want is of.
+fn counted_site(want: &Want, tally: &Tally, mended: &Mended) -> Tally
+    ensures { result ≡ counted_site (is_plain want.now) tally.now mended.now }
 {
     if is_plain(want) {
-        mend_sector(want, write, failing, rack, store, marks, tally)
+        counted_plain(tally, mended)
     } else {
-        mend_block(want, write, rack, store, marks, tally)
+        counted(tally, mended)
     }
+}
+
+// Mends a block by its copies, or brings a sector without a checksum up to date by them.
+fn mend_want<R: Rack>(
+    want: &Want,
+    task: Task<'_>,
+    rack: &mut R,
+    store: &mut Store,
+    marks: &mut [bool],
+) -> Result<Mended, MendFault>
+    requires ready { CanMend task.write (R.seen rack.old) store.old marks.old }
+    requires copied { IsCopied store.old.layout want.now }
+    ensures serves { Serves (R.seen rack.new) store.new }
+    ensures loans { SameLoans store.old store.new }
+    ensures mends { (t : Target) → sought store.old.layout want.now ≡ Ok t
+        → RepairsSite (flagged task.entry.failing.now) t task.entry.write marks.old marks.new (R.seen rack.old) (R.seen rack.new) result }
+{
+    if is_plain(want) {
+        mend_plain(want, task.write, task.failing, rack, store, marks)
+    } else {
+        mend_copies(want, task.write, rack, store, marks)
+    }
+}
+
+// The same, and counts what came of it.
+fn mend_site<R: Rack>(
+    want: &Want,
+    task: Task<'_>,
+    rack: &mut R,
+    store: &mut Store,
+    progress: &mut Progress,
+) -> Result<(), MendFault>
+    requires ready { CanMend task.write (R.seen rack.old) store.old progress.old.marks.items }
+    requires copied { IsCopied store.old.layout want.now }
+    ensures ready { CanMend task.entry.write (R.seen rack.new) store.new progress.new.marks.items }
+    ensures loans { SameLoans store.old store.new }
+    ensures scrubs { (t : Target) → sought store.old.layout want.now ≡ Ok t
+        → Scrubs (alone store.old.layout t.chunk) task.entry.write (λ images. mending_writes images (flagged task.entry.failing.now) t)
+        (λ images tally. count_site (flagged task.entry.failing.now) images task.entry.write tally t)
+        progress.old.marks.items progress.new.marks.items (R.seen rack.old) (R.seen rack.new) progress.old.tally progress.new.tally result }
+{
+    let mended = mend_want(want, task, rack, store, &mut progress.marks)?;
+    progress.tally = counted_site(want, &progress.tally, &mended);
+    Ok(())
 }
 
 // Whether some image of a chunk is behind.
@@ -146,7 +129,7 @@ fn has_behind(chunk: &Chunk, failing: &[bool], store: &Store) -> bool
 }
 
 // Whether a want is of a sector without a checksum, in a chunk no image of which is behind.
-fn is_calm(want: &Want, behind: bool) -> bool
+fn is_inert(want: &Want, behind: bool) -> bool
     ensures { result ≡ (is_plain want.now && not behind) }
 {
     is_plain(want) && !behind
@@ -167,30 +150,28 @@ pub(crate) fn pass_if(wanted: bool, end: u64, blocks: &mut Reader<'_>)
 ///
 /// `Image`: a read or a write of an image failed, and nothing was tried behind it. `Memory`: a write wanted memory.
 pub(crate) fn mend_blocks<R: Rack>(
-    task: ChunkTask,
-    failing: &[bool],
+    task: ChunkTask<'_>,
     blocks: &mut Reader<'_>,
     rack: &mut R,
     store: &mut Store,
-    marks: &mut [bool],
-    tally: &mut Tally,
+    progress: &mut Progress,
 ) -> Result<(), MendFault>
-    requires ready { CanMend task.write (R.seen rack.old) store.old marks.old }
+    requires ready { CanMend task.how.write (R.seen rack.old) store.old progress.old.marks.items }
     requires chunk { CopiesComeNext store.old.layout task.number blocks.old }
-    ensures ready { CanMend task.write (R.seen rack.new) store.new marks.new }
+    ensures ready { CanMend task.entry.how.write (R.seen rack.new) store.new progress.new.marks.items }
     ensures loans { SameLoans store.old store.new }
-    ensures past { OnOk result (PassesChunk store.old.layout task.number blocks.old blocks.new) }
-    ensures scrubs { ScrubsChunk store.old.layout task.number task.write
-        (λ chunk. sites_writes (flagged failing.now) (sites_in store.old.layout chunk blocks.old))
-        (λ chunk. sites_count (flagged failing.now) task.write (sites_in store.old.layout chunk blocks.old))
-        marks.old marks.new (R.seen rack.old) (R.seen rack.new) tally.old tally.new result }
+    ensures past { OnOk result (PassesChunk store.old.layout task.entry.number blocks.old blocks.new) }
+    ensures scrubs { ScrubsChunk store.old.layout task.entry
+        (λ chunk. sites_writes (flagged task.entry.how.failing.now) (sites_in store.old.layout chunk blocks.old))
+        (λ chunk. sites_count (flagged task.entry.how.failing.now) task.entry.how.write (sites_in store.old.layout chunk blocks.old))
+        progress.old progress.new (R.seen rack.old) (R.seen rack.new) result }
 {
     let chunk = store.chunks().at(task.number);
     let end = chunk.start + chunk.length;
-    let behind = has_behind(chunk, failing, store);
+    let behind = has_behind(chunk, task.how.failing, store);
     while let Some(want) = next_below(blocks, end) {
-        mend_site(&want, task.write, failing, rack, store, marks, tally)?;
-        pass_if(is_calm(&want, behind), end, blocks);
+        mend_site(&want, task.how, rack, store, progress)?;
+        pass_if(is_inert(&want, behind), end, blocks);
     }
     Ok(())
 }

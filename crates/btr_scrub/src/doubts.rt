@@ -182,10 +182,7 @@ fn flag_copies<R: Rack>(
         (R.seen rack.old) (R.seen rack.new) result }
 {
     for mirror in 0..copies {
-        match flag_part(want, Part::Mirror(mirror), nodesize, rack, store, probe) {
-            Ok(()) => {}
-            Err(fault) => return Err(fault),
-        }
+        flag_part(want, Part::Mirror(mirror), nodesize, rack, store, probe)?;
     }
     Ok(())
 }
@@ -246,10 +243,7 @@ pub(crate) fn flag_blocks<R: Rack>(
         (R.seen rack.old) (R.seen rack.new) result }
 {
     while let Some(want) = blocks.next() {
-        match flag_block(&want, nodesize, rack, store, probe) {
-            Ok(()) => {}
-            Err(fault) => return Err(fault),
-        }
+        flag_block(&want, nodesize, rack, store, probe)?;
         pass_if(is_plain(&want), u64::MAX, blocks);
     }
     Ok(())
@@ -359,8 +353,6 @@ pub(crate) fn failing_images<R: Rack>(
     };
     let mut probe = Probe { buffer, failing };
     let mut blocks = read_all(list);
-    match flag_blocks(&mut blocks, nodesize, rack, store, &mut probe) {
-        Ok(()) => Ok(probe.failing),
-        Err(fault) => Err(fault),
-    }
+    flag_blocks(&mut blocks, nodesize, rack, store, &mut probe)?;
+    Ok(probe.failing)
 }

@@ -74,7 +74,8 @@ pub fn differing_parity_is_wrong()
     ensures { DifferingParityIsWrong }
 {}
 
-/// A list of blocks takes at most 48 bytes for each sector with a checksum, 16 for each without, and 32 for each tree block (`docs/FORMAT.md`, "Checked blocks").
+/// A list of blocks takes at most 48 bytes for each sector with a checksum, 16 for each without, and 32 for each tree block
+/// (`docs/FORMAT.md`, "Checked blocks").
 pub fn few_bytes()
     ensures { FewBytes }
 {}
@@ -109,19 +110,21 @@ pub fn works_keep_the_rest()
     ensures { WorksKeepTheRest }
 {}
 
-/// The counts for a list of all checked blocks are the tally of the repair, but that each stands still at its type's end (`docs/FORMAT.md`, "The line of a scrub").
+/// The counts for a list of all checked blocks are the tally of the repair, but that each stands still at its type's end
+/// (`docs/FORMAT.md`, "The line of a scrub").
 pub fn listed_counts()
     ensures { ListedCounts }
 {}
 
-/// Where the blocks of a full stripe are being written, and none of that is known to be stored, each block that passes at its own place, or has a way that
-/// reads nothing of what is written, can be had, whatever stands in the ranges that wait for a sync (`docs/FORMAT.md`, "Full stripes").
+/// Where the blocks of a full stripe are being written, and none of that is known to be stored, each block that passes at its own
+/// place, or has a way that reads nothing of what is written, can be had, whatever stands in the ranges that wait for a sync
+/// (`docs/FORMAT.md`, "Full stripes").
 pub fn first_turn_keeps_blocks()
     ensures { FirstTurnKeepsBlocks }
 {}
 
-/// Where they are stored, and the parities are being written, each block that could be had stands at its own place, whatever stands in the ranges that
-/// wait for a sync (`docs/FORMAT.md`, "Full stripes").
+/// Where they are stored, and the parities are being written, each block that could be had stands at its own place, whatever
+/// stands in the ranges that wait for a sync (`docs/FORMAT.md`, "Full stripes").
 pub fn second_turn_keeps_blocks()
     ensures { SecondTurnKeepsBlocks }
 {}

@@ -10,8 +10,9 @@ use btr_read::Want;
 use std::alloc::Global;
 use std::marker::Model;
 
-/// The checked blocks of a filesystem in their order (`docs/FORMAT.md`, "Checked blocks"), and between them the sectors without a checksum. Sectors of data that
-/// follow each other are one run of 16 bytes, and each has its checksum of 4, 8 or 32 bytes, if it has one; a tree block has 16 bytes beside its run.
+/// The checked blocks of a filesystem in their order (`docs/FORMAT.md`, "Checked blocks"), and between them the sectors without a checksum. Sectors
+/// of data that follow each other are one run of 16 bytes, and each has its checksum of 4, 8 or 32 bytes, if it has one; a tree block has 16 bytes
+/// beside its run.
 #[derive(Drop)]
 pub(crate) struct Listed {
     kind: SumKind,

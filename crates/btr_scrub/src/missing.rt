@@ -33,8 +33,8 @@ fn missing_in(chunk: &Chunk, store: &Store) -> Option<u64>
     None
 }
 
-/// The id of the first device that isn't given, or whose image ends before the end of a stripe on it: that of the first such stripe, by chunk and then by
-/// its number there (`docs/FORMAT.md`, "Chunks").
+/// The id of the first device that isn't given, or whose image ends before the end of a stripe on it: that of the first such
+/// stripe, by chunk and then by its number there (`docs/FORMAT.md`, "Chunks").
 pub fn missing_device(store: &Store) -> Option<u64>
     ensures devid { result ≡ option_map devid_of (first_missing store.now.layout) }
     ensures table { IsTable store.now.layout.chunks }

@@ -14,26 +14,35 @@ ghost use Rattle.btr_scrub.specs.Listed.{IsList};
 ghost use Rattle.btr_scrub.specs.WrittenRanges.{alone};
 ghost use Rattle.btr_scrub.specs.Order.{targets};
 ghost use Rattle.btr_scrub.specs.Repair.{rows_in};
-ghost use Rattle.btr_scrub.specs.Rowing.{Collects, CollectsRow, GivesInRow, IsCalm, KeepsRows, PassesRows, PassesUnless, StartsRow, row_in, row_start, untouched};
+ghost use Rattle.btr_scrub.specs.Rowing.{Collects, CollectsRow, GivesInRow, IsInert, KeepsRows, PassesRows, PassesUnless, StartsRow, row_in};
+ghost use Rattle.btr_scrub.specs.Rowing.{row_start, untouched};
 ghost use Rattle.btr_scrub.specs.Scrubbing.{CanMend, HasRooms, PassesChunk, RowsComeNext, Scrubs, ScrubsChunk, counted_row, rows_count, rows_writes};
 
 use crate::copied::next_below;
 use crate::listed::Listed;
+use crate::progress::Progress;
 use crate::reader::Reader;
 use crate::tally::Tally;
-use crate::task::ChunkTask;
+use crate::task::{ChunkTask, Task};
 use btr_base::Memory;
 use btr_chunk::{Chunk, elements};
 use btr_rack::Rack;
 use btr_read::{Store, Want};
 use btr_scrub_copies::MendFault;
-use btr_scrub_row::{MendedRow, RowAt, RowBuffer, has_doubtful, is_plain, mend_row};
+use btr_scrub_row::{MendedRow, RowAt, RowBuffer, RowWork, has_doubtful, is_plain, mend_row};
 
 /// Memory for the full stripes, one after another: the checked blocks of one, and its bytes.
 #[derive(Drop)]
 pub(crate) struct RowRoom {
     pub(crate) wants: Vec<Want>,
     pub(crate) buffer: RowBuffer,
+}
+
+// Sectors without a checksum, one behind another: the address of the first, and how many they are.
+#[derive(Clone, Copy)]
+struct PlainRun {
+    addr: u64,
+    count: u32,
 }
 
 // The row of a chunk in which an address lies, if it lies in the chunk.
@@ -65,10 +74,7 @@ fn next_in_row(chunk: &Chunk, row: u64, blocks: &mut Reader<'_>) -> Option<Want>
 fn push(wants: &mut Vec<Want>, want: Want) -> Result<(), Memory>
     ensures { OnOk result (wants.new.items ≡ wants.old.items ++ want ∷ []) }
 {
-    match wants.push(want) {
-        Ok(()) => Ok(()),
-        Err(_) => Err(Memory),
-    }
+    wants.push(want).map_err(|_| Memory)
 }
 
 // Collects the blocks of a row: a first one, and those that a reader has next.
@@ -138,10 +144,10 @@ fn are_plain(wants: &[Want]) -> bool
 }
 
 // Whether a row holds nothing but sectors without a checksum, in a chunk no image of which is in doubt: nothing comes of it then.
-fn is_calm(at: RowAt, wants: &[Want], failing: &[bool], store: &Store) -> bool
+fn is_inert(at: RowAt, wants: &[Want], failing: &[bool], store: &Store) -> bool
     requires { IsRow store.now.layout at.chunk at.number wants.now }
     ensures { IsTrue result → (r : Row) → IsRowOf store.now.layout at.chunk at.number wants.now r
-        → r.failing ≡ flagged failing.now → IsCalm store.now.layout r }
+        → r.failing ≡ flagged failing.now → IsInert store.now.layout r }
 {
     let Some(chunk) = store.chunks().find(at.chunk) else {
         unreachable!();
@@ -165,41 +171,36 @@ fn untouched() -> MendedRow
 // Mends a row whose blocks were collected, and counts what came of it. It is read only where something can come of it.
 fn mend_collected<R: Rack>(
     at: RowAt,
-    write: bool,
-    failing: &[bool],
+    task: Task<'_>,
     rack: &mut R,
     store: &mut Store,
     room: &mut RowRoom,
-    marks: &mut [bool],
-    tally: &mut Tally,
+    progress: &mut Progress,
 ) -> Result<(), MendFault>
-    requires ready { CanMend write (R.seen rack.old) store.old marks.old }
+    requires ready { CanMend task.write (R.seen rack.old) store.old progress.old.marks.items }
     requires nodesize { at.nodesize ≡ store.old.layout.setting.nodesize }
     requires rooms { HasRooms store.old.layout room.old.buffer }
     requires row { IsRow store.old.layout at.chunk at.number room.old.wants.items }
-    ensures ready { CanMend write (R.seen rack.new) store.new marks.new }
+    ensures ready { CanMend task.entry.write (R.seen rack.new) store.new progress.new.marks.items }
     ensures loans { SameLoans store.old store.new }
     ensures rooms { HasRooms store.old.layout room.new.buffer }
-    ensures scrubs { (r : Row) → IsRowOf store.old.layout at.chunk at.number room.old.wants.items r → r.failing ≡ flagged failing.now
-        → Scrubs (alone store.old.layout r.chunk) write (λ images. row_writes images store.old.layout r)
-        (λ images tally. counted_row tally (mended_row images store.old.layout r write))
-        marks.old marks.new (R.seen rack.old) (R.seen rack.new) tally.old tally.new result }
+    ensures scrubs { (r : Row) → IsRowOf store.old.layout at.chunk at.number room.old.wants.items r → r.failing ≡ flagged task.entry.failing.now
+        → Scrubs (alone store.old.layout r.chunk) task.entry.write (λ images. row_writes images store.old.layout r)
+        (λ images tally. counted_row tally (mended_row images store.old.layout r task.entry.write))
+        progress.old.marks.items progress.new.marks.items (R.seen rack.old) (R.seen rack.new) progress.old.tally progress.new.tally result }
 {
-    if is_calm(at, &room.wants, failing, store) {
-        *tally = counted_row(tally, &untouched());
+    if is_inert(at, &room.wants, task.failing, store) {
+        progress.tally = counted_row(&progress.tally, &untouched());
         return Ok(());
     }
-    let mended = mend_row(
+    let work = RowWork {
         at,
-        &room.wants,
-        write,
-        failing,
-        rack,
-        store,
-        &mut room.buffer,
-        marks,
-    )?;
-    *tally = counted_row(tally, &mended);
+        wants: &room.wants,
+        failing: task.failing,
+        write: task.write,
+    };
+    let mended = mend_row(work, rack, store, &mut room.buffer, &mut progress.marks)?;
+    progress.tally = counted_row(&progress.tally, &mended);
     Ok(())
 }
 
@@ -226,60 +227,39 @@ fn row_from(chunk: &Chunk, addr: u64) -> Option<u64>
     if last < row { Some(row) } else { None }
 }
 
-// Passes over the sectors without a checksum that come next from an address on, if they reach a place at which a row starts.
-fn pass_to(chunk: &Chunk, from: u64, start: u64, blocks: &mut Reader<'_>)
+// Passes over the sectors without a checksum that come next from an address on, if they reach a place at which a row starts; they come out then.
+fn pass_to(chunk: &Chunk, from: u64, start: u64, blocks: &mut Reader<'_>) -> Option<PlainRun>
     requires { IsChunk chunk.now }
-    ensures { PassesRows chunk.now blocks.old blocks.new }
+    ensures { PassesRows chunk.now blocks.old result blocks.new }
 {
-    let Some(_row) = row_from(chunk, start) else {
-        return;
-    };
-    let mut ahead = blocks.again();
-    if ahead.pass_from(from, start) >= start {
-        *blocks = ahead;
-    }
-}
-
-// Passes over the sectors without a checksum that come next and follow each other, up to the start of the last row that they reach.
-pub(crate) fn pass_rows(chunk: &Chunk, blocks: &mut Reader<'_>)
-    requires { IsChunk chunk.now }
-    ensures { PassesRows chunk.now blocks.old blocks.new }
-{
-    let Some(from) = blocks.plain_at() else {
-        return;
-    };
-    let last = chunk.start + (chunk.length - 1);
-    let end = blocks.again().pass_from(from, last);
-    pass_to(chunk, from, row_start(chunk, end.min(last)), blocks);
-}
-
-// Puts the sectors without a checksum that come next from an address on behind a list, and passes over them, if they reach a place at which a row starts.
-fn keep_to(
-    chunk: &Chunk,
-    from: u64,
-    start: u64,
-    blocks: &mut Reader<'_>,
-    kept: &mut Listed,
-) -> Result<(), Memory>
-    requires chunk { IsChunk chunk.now }
-    requires is_list { IsList kept.old }
-    ensures { OnOk result (KeepsRows chunk.now blocks.old blocks.new kept.old kept.new) }
-{
-    let Some(_row) = row_from(chunk, start) else {
-        return Ok(());
-    };
+    let _row = row_from(chunk, start)?;
     let mut ahead = blocks.again();
     let end = ahead.pass_from(from, start);
     let count = end.saturating_sub(from) / 4096;
     if end < start || count == 0 || count > u64::from(u32::MAX) {
-        return Ok(());
+        return None;
     }
     *blocks = ahead;
-    kept.push_plains(from, count as u32)
+    Some(PlainRun {
+        addr: from,
+        count: count as u32,
+    })
 }
 
-/// Puts the sectors without a checksum that come next and follow each other behind a list, up to the start of the last row that they reach, and passes
-/// over them. After `Memory` the list isn't used again.
+// Passes over the sectors without a checksum that come next and follow each other, up to the start of the last row that they
+// reach; they come out then.
+fn pass_rows(chunk: &Chunk, blocks: &mut Reader<'_>) -> Option<PlainRun>
+    requires { IsChunk chunk.now }
+    ensures { PassesRows chunk.now blocks.old result blocks.new }
+{
+    let from = blocks.plain_at()?;
+    let last = chunk.start + (chunk.length - 1);
+    let end = blocks.again().pass_from(from, last);
+    pass_to(chunk, from, row_start(chunk, end.min(last)), blocks)
+}
+
+/// Passes over the sectors without a checksum that come next and follow each other, up to the start of the last row that they
+/// reach, and puts them behind a list. After `Memory` the list isn't used again.
 pub(crate) fn keep_rows(
     chunk: &Chunk,
     blocks: &mut Reader<'_>,
@@ -289,16 +269,14 @@ pub(crate) fn keep_rows(
     requires is_list { IsList kept.old }
     ensures { OnOk result (KeepsRows chunk.now blocks.old blocks.new kept.old kept.new) }
 {
-    let Some(from) = blocks.plain_at() else {
-        return Ok(());
-    };
-    let last = chunk.start + (chunk.length - 1);
-    let end = blocks.again().pass_from(from, last);
-    keep_to(chunk, from, row_start(chunk, end.min(last)), blocks, kept)
+    match pass_rows(chunk, blocks) {
+        Some(run) => kept.push_plains(run.addr, run.count),
+        None => Ok(()),
+    }
 }
 
 // Passes over the rows of the chunk of a number that hold nothing else, unless some image of it is in doubt.
-fn pass_calm(number: usize, doubtful: bool, blocks: &mut Reader<'_>, store: &Store)
+fn pass_inert(number: usize, doubtful: bool, blocks: &mut Reader<'_>, store: &Store)
     requires { number < length store.now.layout.chunks }
     ensures { (chunk : Chunk) → slice_get store.now.layout.chunks number ≡ Some chunk
         → PassesUnless doubtful chunk blocks.old blocks.new }
@@ -308,49 +286,47 @@ fn pass_calm(number: usize, doubtful: bool, blocks: &mut Reader<'_>, store: &Sto
     }
 }
 
-/// Mends the full stripes of the chunk of a number, a chunk with parity, whose blocks a reader has next. Where no image of the chunk is in doubt, those
-/// that hold nothing but sectors without a checksum are passed at once, where the list has them one behind another.
+/// Mends the full stripes of the chunk of a number, a chunk with parity, whose blocks a reader has next. Where no image of the
+/// chunk is in doubt, those that hold nothing but sectors without a checksum are passed at once, where the list has them one
+/// behind another.
 ///
 /// `Image`: a read or a write of an image failed, and nothing was tried behind it. `Memory`: a write wanted memory.
 pub(crate) fn mend_rows<R: Rack>(
-    task: ChunkTask,
-    failing: &[bool],
+    task: ChunkTask<'_>,
     blocks: &mut Reader<'_>,
     rack: &mut R,
     store: &mut Store,
     room: &mut RowRoom,
-    marks: &mut [bool],
-    tally: &mut Tally,
+    progress: &mut Progress,
 ) -> Result<(), MendFault>
-    requires ready { CanMend task.write (R.seen rack.old) store.old marks.old }
-    requires nodesize { task.nodesize ≡ store.old.layout.setting.nodesize }
+    requires ready { CanMend task.how.write (R.seen rack.old) store.old progress.old.marks.items }
+    requires nodesize { task.how.nodesize ≡ store.old.layout.setting.nodesize }
     requires rooms { HasRooms store.old.layout room.old.buffer }
     requires chunk { RowsComeNext store.old.layout task.number blocks.old }
-    ensures ready { CanMend task.write (R.seen rack.new) store.new marks.new }
+    ensures ready { CanMend task.entry.how.write (R.seen rack.new) store.new progress.new.marks.items }
     ensures loans { SameLoans store.old store.new }
     ensures rooms { HasRooms store.old.layout room.new.buffer }
-    ensures past { OnOk result (PassesChunk store.old.layout task.number blocks.old blocks.new) }
-    ensures scrubs { ScrubsChunk store.old.layout task.number task.write
-        (λ chunk. rows_writes store.old.layout (rows_in (flagged failing.now) (targets store.old.layout blocks.old) chunk))
-        (λ chunk. rows_count store.old.layout task.write (rows_in (flagged failing.now) (targets store.old.layout blocks.old) chunk))
-        marks.old marks.new (R.seen rack.old) (R.seen rack.new) tally.old tally.new result }
+    ensures past { OnOk result (PassesChunk store.old.layout task.entry.number blocks.old blocks.new) }
+    ensures scrubs { ScrubsChunk store.old.layout task.entry
+        (λ chunk. rows_writes store.old.layout (rows_in (flagged task.entry.how.failing.now) (targets store.old.layout blocks.old) chunk))
+        (λ chunk. rows_count store.old.layout task.entry.how.write (rows_in (flagged task.entry.how.failing.now) (targets store.old.layout blocks.old) chunk))
+        progress.old progress.new (R.seen rack.old) (R.seen rack.new) result }
 {
     let chunk = store.chunks().at(task.number);
     let start = chunk.start;
     let end = start + chunk.length;
-    let doubtful = has_doubtful(chunk, failing, store);
+    let doubtful = has_doubtful(chunk, task.how.failing, store);
     while let Some(first) = next_below(blocks, end) {
-        let row = match collect_row(store, first, blocks, &mut room.wants) {
-            Ok(row) => row,
-            Err(_) => return Err(MendFault::Memory),
+        let Ok(number) = collect_row(store, first, blocks, &mut room.wants) else {
+            return Err(MendFault::Memory);
         };
         let at = RowAt {
             chunk: start,
-            number: row,
-            nodesize: task.nodesize,
+            number,
+            nodesize: task.how.nodesize,
         };
-        mend_collected(at, task.write, failing, rack, store, room, marks, tally)?;
-        pass_calm(task.number, doubtful, blocks, store);
+        mend_collected(at, task.how, rack, store, room, progress)?;
+        pass_inert(task.number, doubtful, blocks, store);
     }
     Ok(())
 }

@@ -24,7 +24,7 @@ use btr_base::Memory;
 use btr_rack::Rack;
 use btr_read::{Store, Want};
 use btr_scrub_copies::MendFault;
-use btr_scrub_row::{MendedRow, RowAt, is_plain, mend_row};
+use btr_scrub_row::{MendedRow, RowAt, RowWork, is_plain, mend_row};
 
 // Whether there is a sector without a checksum among some wants.
 fn has_plain(wants: &[Want]) -> bool
@@ -68,19 +68,14 @@ fn sound_in<R: Rack>(
     if has_plain(&room.wants) {
         return Ok(None);
     }
-    match mend_row(
+    let work = RowWork {
         at,
-        &room.wants,
-        false,
-        &[],
-        rack,
-        store,
-        &mut room.buffer,
-        marks,
-    ) {
-        Ok(mended) => Ok(sound_of(&mended)),
-        Err(fault) => Err(fault),
-    }
+        wants: &room.wants,
+        failing: &[],
+        write: false,
+    };
+    let mended = mend_row(work, rack, store, &mut room.buffer, marks)?;
+    Ok(sound_of(&mended))
 }
 
 // Puts some blocks behind those of a list.
@@ -132,15 +127,14 @@ pub(crate) fn sift_row<R: Rack>(
         number,
         nodesize: sifted.nodesize,
     };
-    match sound_in(at, rack, store, &mut sifted.room, marks) {
-        Err(fault) => Err(fault),
-        Ok(Some(sound)) => {
+    match sound_in(at, rack, store, &mut sifted.room, marks)? {
+        Some(sound) => {
             sifted.sound = sifted.sound.saturating_add(sound);
             Ok(())
         }
-        Ok(None) => match keep_all(&sifted.room.wants, &mut sifted.kept) {
+        None => match keep_all(&sifted.room.wants, &mut sifted.kept) {
             Ok(()) => Ok(()),
-            Err(_) => Err(MendFault::Memory),
+            Err(Memory) => Err(MendFault::Memory),
         },
     }
 }

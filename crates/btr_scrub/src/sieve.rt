@@ -14,7 +14,7 @@ ghost use Rattle.btr_chunk.specs.Table.{IsTable, chunk_at};
 ghost use Rattle.btr_chunk.specs.declared.chunk.Chunk.{Chunk};
 ghost use Rattle.btr_scrub.specs.Rowing.{KeepsRows};
 ghost use Rattle.btr_chunk.specs.Chunk.{mirrors};
-ghost use Rattle.btr_scrub.specs.Sifting.{CanSift, PassesCalm, Sifts, SiftsNext, Stands, WentIn, is_copy_needed, lies_in};
+ghost use Rattle.btr_scrub.specs.Sifting.{CanSift, PassesInert, Sifts, SiftsNext, Stands, WentIn, is_copy_needed, lies_in};
 ghost use Rattle.btr_scrub.specs.Judged.{has_older};
 ghost use Rattle.btr_read.specs.Candidates.{Target};
 ghost use Rattle.btr_scrub.specs.Whole.{answer_of};
@@ -91,10 +91,8 @@ fn is_needed<R: Rack>(
     if is_plain(want) {
         return Ok(lies_older(want, store));
     }
-    match mend_copies(want, false, rack, store, marks) {
-        Ok(mended) => Ok(is_unsound(&mended)),
-        Err(fault) => Err(fault),
-    }
+    let mended = mend_copies(want, false, rack, store, marks)?;
+    Ok(is_unsound(&mended))
 }
 
 // Keeps a block of a chunk with copies, or counts it.
@@ -116,26 +114,23 @@ fn sift_one<R: Rack>(
     ensures sifts { OnOk result (Sifts store.old.layout (R.seen rack.old).held (want.now ∷ []) sifted.old sifted.new) }
     ensures account { AccountsMend (LiesInStripe store.old.layout) (R.seen rack.old) (R.seen rack.new) result }
 {
-    match is_needed(want, rack, store, marks) {
-        Err(fault) => return Err(fault),
-        Ok(true) => match sifted.kept.push(want) {
-            Ok(()) => {}
-            Err(_) => return Err(MendFault::Memory),
-        },
-        Ok(false) => {
-            if !is_plain(want) {
-                sifted.sound = sifted.sound.saturating_add(1);
-            }
-        }
+    if is_needed(want, rack, store, marks)? {
+        return match sifted.kept.push(want) {
+            Ok(()) => Ok(()),
+            Err(Memory) => Err(MendFault::Memory),
+        };
+    }
+    if !is_plain(want) {
+        sifted.sound = sifted.sound.saturating_add(1);
     }
     Ok(())
 }
 
 // Passes over the sectors without a checksum that follow one for which nothing has to be written,
 // as far as they lie in its chunk: nothing has to be written for them either.
-fn pass_calm(want: &Want, blocks: &mut Reader<'_>, store: &Store)
+fn pass_inert(want: &Want, blocks: &mut Reader<'_>, store: &Store)
     requires table { IsTable store.now.layout.chunks }
-    ensures { PassesCalm store.now.layout want.now blocks.old blocks.new }
+    ensures { PassesInert store.now.layout want.now blocks.old blocks.new }
 {
     if !is_plain(want) {
         return;
@@ -166,8 +161,8 @@ fn keep_plain(
     keep_rows(chunk, blocks, kept)
 }
 
-// Sifts a block, and those that are sifted with it: the others of its full stripe and the plain rows behind it, or the plain sectors that follow one in a
-// chunk with copies.
+// Sifts a block, and those that are sifted with it: the others of its full stripe and the plain rows behind it, or the plain
+// sectors that follow one in a chunk with copies.
 fn sift_next<R: Rack>(
     want: Want,
     blocks: &mut Reader<'_>,
@@ -188,20 +183,14 @@ fn sift_next<R: Rack>(
 {
     if copies_of(&want, store).is_none() {
         let addr = want.addr();
-        match sift_row(want, blocks, rack, store, marks, sifted) {
-            Ok(()) => {}
-            Err(fault) => return Err(fault),
-        }
+        sift_row(want, blocks, rack, store, marks, sifted)?;
         return match keep_plain(addr, blocks, store, &mut sifted.kept) {
             Ok(()) => Ok(()),
-            Err(_) => Err(MendFault::Memory),
+            Err(Memory) => Err(MendFault::Memory),
         };
     }
-    match sift_one(&want, rack, store, marks, sifted) {
-        Ok(()) => {}
-        Err(fault) => return Err(fault),
-    }
-    pass_calm(&want, blocks, store);
+    sift_one(&want, rack, store, marks, sifted)?;
+    pass_inert(&want, blocks, store);
     Ok(())
 }
 
@@ -229,10 +218,7 @@ pub(crate) fn sift<R: Rack>(
     ensures account { AccountsMend (LiesInStripe store.old.layout) (R.seen rack.old) (R.seen rack.new) result }
 {
     while let Some(want) = blocks.next() {
-        match sift_next(want, blocks, rack, store, marks, sifted) {
-            Ok(()) => {}
-            Err(fault) => return Err(fault),
-        }
+        sift_next(want, blocks, rack, store, marks, sifted)?;
     }
     Ok(())
 }
@@ -270,7 +256,8 @@ pub(crate) fn new_sieve(alloc: Global, kind: SumKind, nodesize: u32, room: RowRo
     }
 }
 
-// Whether the blocks of a list, the last of which ends at an address, lie in a span.
+// Whether the blocks of a list, the last of which ends at an address, lie in a span: the first doesn't begin before it, and the
+// last ends in it. That is enough, since each begins at or behind the end of the one before.
 fn lies_in(list: &Listed, span: &Span, end: u64) -> bool
     requires is_list { IsList list.now }
     requires span { span.now.start + span.now.length < 2 ^ 64 }
@@ -323,10 +310,8 @@ pub(crate) fn sift_listed<R: Rack>(
             }
             sieve.end = end;
             let mut blocks = read_all(&gathered.list);
-            match sift(&mut blocks, rack, store, marks, &mut sieve.sifted) {
-                Ok(()) => Ok(true),
-                Err(fault) => Err(fault),
-            }
+            sift(&mut blocks, rack, store, marks, &mut sieve.sifted)?;
+            Ok(true)
         }
         Err(fault) => {
             sieve.refused = Some(fault);

@@ -11,7 +11,7 @@ ghost use Rattle.btr_scrub.specs.Sifting.{CanSift, Sieves, SiftsUnits, Stands};
 ghost use Rattle.btr_scrub.specs.Units as units;
 ghost use Rattle.btr_scrub.specs.declared.gathered.Gathered.{Gathered};
 
-use crate::chunks::sift_chunks;
+use crate::chunks::{Trees, sift_chunks};
 use crate::extent::kind_of;
 use crate::rowed::RowRoom;
 use crate::sieve::{Sieve, new_sieve};
@@ -42,11 +42,15 @@ fn sift_extents<R: Rack>(
         → Sieves (units.with_extents vol.old.sup vol.old.store.layout.chunks (Some extents.now))
         (scene (R.seen rack.old) vol.old whole) (R.seen rack.new) vol.new sieve.new result }
 {
-    match vol.tree(CHECKSUM_TREE, rack) {
-        Err(fault) => Err(Stop::Tree(fault)),
-        Ok(None) => sift_chunks(extents, None, rack, vol, marks, sieve),
-        Ok(Some(sums)) => sift_chunks(extents, Some(&sums), rack, vol, marks, sieve),
-    }
+    let sums = match vol.tree(CHECKSUM_TREE, rack) {
+        Ok(sums) => sums,
+        Err(fault) => return Err(Stop::Tree(fault)),
+    };
+    let trees = Trees {
+        extents: *extents,
+        sums,
+    };
+    sift_chunks(&trees, rack, vol, marks, sieve)
 }
 
 // Looks the extent tree up, and sifts the blocks of its extents.
@@ -74,15 +78,15 @@ fn sift_all<R: Rack>(
     }
 }
 
-/// Lists the checked blocks of a filesystem (`docs/FORMAT.md`, "Checked blocks"), in the order of chunks and addresses: the tree blocks, and the sectors of data that have a checksum.
-/// The sectors that have none are listed between them, and counted. Behind the listing of each
-/// chunk its blocks are sifted: those are kept for which something may have to be
-/// written, and of a full stripe all or none. Nothing is written, and five slots are free.
+/// Lists the checked blocks of a filesystem (`docs/FORMAT.md`, "Checked blocks"), in the order of chunks and addresses: the tree
+/// blocks, and the sectors of data that have a checksum. The sectors that have none are listed between them, and counted. Behind
+/// the listing of each chunk its blocks are sifted: those are kept for which something may have to be written, and of a full
+/// stripe all or none. Nothing is written, and five slots are free.
 ///
-/// `NoTree` where there is no extent tree. `Tree` where a block of the root tree, the extent tree or the checksum tree can't be had or is malformed,
-/// and where an extent overlaps the one before it, is a tree block that isn't as long as a node, passes its chunk's end, or is a tree block that crosses an
-/// element. `Image`: a read of an image failed as blocks were sifted, and nothing was tried behind
-/// it. `Memory` for want of memory.
+/// `NoTree` where there is no extent tree. `Tree` where a block of the root tree, the extent tree or the checksum tree can't be
+/// had or is malformed, and where an extent overlaps the one before it, is a tree block that isn't as long as a node, passes its
+/// chunk's end, or is a tree block that crosses an element. `Image`: a read of an image failed as blocks were sifted, and nothing
+/// was tried behind it. `Memory` for want of memory.
 pub(crate) fn sift_blocks<R: Rack>(
     alloc: Global,
     room: RowRoom,
@@ -102,8 +106,6 @@ pub(crate) fn sift_blocks<R: Rack>(
         vol.old.store.layout (R.seen rack.old) (R.seen rack.new) result }
 {
     let mut sieve = new_sieve(alloc, kind_of(&vol.sup), vol.sup.nodesize, room);
-    match sift_all(rack, vol, marks, &mut sieve) {
-        Ok(()) => Ok(sieve),
-        Err(stop) => Err(stop),
-    }
+    sift_all(rack, vol, marks, &mut sieve)?;
+    Ok(sieve)
 }

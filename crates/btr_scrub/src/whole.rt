@@ -16,11 +16,13 @@ ghost use Rattle.btr_scrub.specs.Whole.{Refuses, ScrubsAll, WorksFrom};
 use crate::doubts::failing_images;
 use crate::mending::mend_all;
 use crate::missing::missing_device;
+use crate::progress::Progress;
 use crate::reader::read_all;
 use crate::rowed::RowRoom;
 use crate::sieve::{Sieve, stop_of};
 use crate::sifted::Sifted;
 use crate::tally::Tally;
+use crate::task::Task;
 use crate::units::sift_blocks;
 use btr_base::Memory;
 use btr_rack::Rack;
@@ -79,11 +81,11 @@ fn mend_kept<R: Rack>(
     alloc: Global,
     write: bool,
     sieve: Sieve,
-    marks: &mut [bool],
+    marks: Vec<bool>,
     rack: &mut R,
     vol: &mut Volume,
 ) -> Result<Tally, Stop>
-    requires ready { CanMend write (R.seen rack.old) vol.old.store marks.old }
+    requires ready { CanMend write (R.seen rack.old) vol.old.store marks.items }
     requires can { CanSift vol.old.store.layout sieve.sifted }
     requires large { 4096 ≤ vol.old.sup.nodesize }
     requires nodesize { vol.old.sup.nodesize ≡ vol.old.store.layout.setting.nodesize }
@@ -107,20 +109,25 @@ fn mend_kept<R: Rack>(
         Ok(failing) => failing,
         Err(fault) => return Err(stop_of(fault)),
     };
-    let mut tally = begun(sound, unchecked);
+    let task = Task {
+        nodesize: vol.sup.nodesize,
+        write,
+        failing: &failing,
+    };
+    let mut progress = Progress {
+        marks,
+        tally: begun(sound, unchecked),
+    };
     let mut blocks = read_all(&kept);
     match mend_all(
-        vol.sup.nodesize,
-        write,
-        &failing,
+        task,
         &mut blocks,
         rack,
         &mut vol.store,
         &mut room,
-        marks,
-        &mut tally,
+        &mut progress,
     ) {
-        Ok(()) => Ok(tally),
+        Ok(()) => Ok(progress.tally),
         Err(fault) => Err(stop_of(fault)),
     }
 }
@@ -150,24 +157,23 @@ fn scrub_given<R: Rack>(
     let Ok(mut marks) = vec![in alloc; false; rack.count()] else {
         return Err(Stop::Memory);
     };
-    let sieve = match sift_blocks(alloc, room, rack, vol, &mut marks) {
-        Ok(sieve) => sieve,
-        Err(stop) => return Err(stop),
-    };
+    let sieve = sift_blocks(alloc, room, rack, vol, &mut marks)?;
     match sieve.refused {
         Some(fault) => Err(Stop::Tree(fault)),
-        None => mend_kept(alloc, write, sieve, &mut marks, rack, vol),
+        None => mend_kept(alloc, write, sieve, marks, rack, vol),
     }
 }
 
-/// Reads each copy of each checked block, and writes what is bad anew where a right copy or enough parity is left (`docs/FORMAT.md`, "Checked blocks" and
-/// "Full stripes"); sectors without a checksum get the bytes of their first candidate that reads no image in doubt, on images that are behind. With `write` false it only reads. The images of a chunk that were written are synced behind it. Whatever failed, what stands in the
-/// images is what stands behind a first part of the writes, the next one perhaps in part, so far as the copies that pass agree (`IsScrubbed`); and each
-/// block that could be had can be had then (`IsSafe`). Five slots are free; where it writes, each image was opened for writing.
+/// Reads each copy of each checked block, and writes what is bad anew where a right copy or enough parity is left
+/// (`docs/FORMAT.md`, "Checked blocks" and "Full stripes"); sectors without a checksum get the bytes of their first candidate
+/// that reads no image in doubt, on images that are behind. With `write` false it only reads. The images of a chunk that were
+/// written are synced behind it. Whatever failed, what stands in the images is what stands behind a first part of the writes, the
+/// next one perhaps in part, so far as the copies that pass agree (`IsScrubbed`); and each block that could be had can be had
+/// then (`IsSafe`). Five slots are free; where it writes, each image was opened for writing.
 ///
-/// `Missing`: the device of a stripe isn't given, or its image ends before the stripe's end; nothing was read. `NoTree` and `Tree`: the checked blocks
-/// can't be listed, and nothing was written. `Image`: a read, a write or a sync of an image failed, and nothing was tried behind it. `Memory`: for want
-/// of memory.
+/// `Missing`: the device of a stripe isn't given, or its image ends before the stripe's end; nothing was read. `NoTree` and
+/// `Tree`: the checked blocks can't be listed, and nothing was written. `Image`: a read, a write or a sync of an image failed,
+/// and nothing was tried behind it. `Memory`: for want of memory.
 pub fn scrub<R: Rack>(
     alloc: Global,
     write: bool,

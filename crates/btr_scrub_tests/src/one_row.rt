@@ -15,7 +15,7 @@ use btr_make::{RowVolume, row};
 use btr_rack::{MemRack, Rack};
 use btr_read::{Store, Want};
 use btr_scrub::missing_device;
-use btr_scrub_row::{MendedRow, RowAt, RowBuffer, mend_row};
+use btr_scrub_row::{MendedRow, RowAt, RowBuffer, RowWork, mend_row};
 use btr_volume::Volume;
 use std::alloc::Global;
 use std::test::Fail;
@@ -66,16 +66,14 @@ fn mended(alloc: Global, rack: &mut MemRack) -> Option<MendedRow>
         return None;
     }
     let wants = [Want::Sector { addr: ADDR, sum }];
-    match mend_row(
+    let work = RowWork {
         at,
-        &wants,
-        true,
-        &[false; 4],
-        rack,
-        &mut volume.store,
-        &mut buffer,
-        &mut [false; 4],
-    ) {
+        wants: &wants,
+        failing: &[false; 4],
+        write: true,
+    };
+    let store = &mut volume.store;
+    match mend_row(work, rack, store, &mut buffer, &mut [false; 4]) {
         Ok(mended) => Some(mended),
         Err(_) => None,
     }

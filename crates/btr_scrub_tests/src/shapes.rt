@@ -82,8 +82,8 @@ pub(super) enum Made {
     Filled5(&'static [&'static str]),
     /// The same in `W6`.
     Filled6(&'static [&'static str]),
-    /// `Raid10`, whose second extent of data goes on without checksums, over the end of the first stripe's element. The image of this name, if there is one,
-    /// is older.
+    /// `Raid10`, whose second extent of data goes on without checksums, over the end of the first stripe's element. The image of this name, if there
+    /// is one, is older.
     UnsummedRaid10(&'static str),
     /// The same in `Raid1c4`.
     UnsummedRaid1c4(&'static str),

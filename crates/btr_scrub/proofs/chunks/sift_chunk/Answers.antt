@@ -1,5 +1,4 @@
 use Rattle.std.proofs.Common.{◌+◌, ◌<◌, ◌++◌, Err, refl, sym, ap, ◌∙◌, subst, arith}
-use Rattle.btr_files.specs.Sums.{tree_behind}
 use Rattle.btr_read.specs.Layout.{Layout}
 use Rattle.btr_read.proofs.ReadsOn.{same_held}
 use Rattle.btr_scrub_copies.specs.Writes.{AccountsMend}
@@ -27,7 +26,7 @@ returns-in_err-end-clause-sieves g c chunk whole span there stands =
     let vol = c.args.vol.now in
     let after = c.gather_chunk.new.vol in
     let empty : Gathered = record { list = c.emptied.result; unchecked = c.args.sieve.now.unchecked } in
-    let p = in_chunk vol.sup (tree_behind c.args.sums) chunk c.args.extents.now in
+    let p = in_chunk vol.sup c.args.trees.now.sums chunk c.args.trees.now.extents in
     sieves_passed c.from_residual.ensures.1 (sieves_stop p (scene a vol whole) b after c.args.sieve.now c.gather_chunk.new.gathered c.in_err-end.field-0.0
     (stop_behind p a b vol after empty whole c.gather_chunk.new.gathered c.in_err-end.field-0.0 (c.in_err-end.ensures chunk span there)))
 
@@ -41,7 +40,7 @@ returns-in-Ok-true-clause-sieves g c chunk whole span there stands =
     let last : Volume = record { store = c.sift_listed.new.store; sup = after.sup } in
     let listed = c.gather_chunk.new.gathered in
     let empty : Gathered = record { list = c.emptied.result; unchecked = c.args.sieve.now.unchecked } in
-    let p = in_chunk vol.sup (tree_behind c.args.sums) chunk c.args.extents.now in
+    let p = in_chunk vol.sup c.args.trees.now.sums chunk c.args.trees.now.extents in
     let is = c.in_ok-end.ensures chunk span there in
     let kind = c.emptied.ensures.kind ∙ stands.kind in
     let h = gathers_behind p a b vol after empty whole listed c.in_ok-end.end c.emptied.ensures.wants kind stands.unchecked stands.is_whole is in
@@ -68,7 +67,7 @@ returns-in-Ok-false-clause-sieves g c chunk whole span there stands =
     let last : Volume = record { store = c.sift_listed.new.store; sup = after.sup } in
     let listed = c.gather_chunk.new.gathered in
     let empty : Gathered = record { list = c.emptied.result; unchecked = c.args.sieve.now.unchecked } in
-    let p = in_chunk vol.sup (tree_behind c.args.sums) chunk c.args.extents.now in
+    let p = in_chunk vol.sup c.args.trees.now.sums chunk c.args.trees.now.extents in
     let is = c.in_ok-end.ensures chunk span there in
     let addr = c.args.span.now.start in
     let some : 0 < vol.sup.nodesize = omega (arith, c.requires.nodesize, c.requires.can.nodesize, c.requires.can.large) in
@@ -85,8 +84,8 @@ returns-in-Ok-false-clause-sieves g c chunk whole span there stands =
     (stop_behind p a z vol last empty whole listed (Tree (Malformed addr))
     (gathers_never p a b z vol after last empty listed c.in-Ok-false.ensures.reads (record { sup = refl; store = c.in-Ok-false.ensures.loans })
     c.in-Ok-false.ensures.ready.serves c.in_ok-end.end is addr
-    (λ B met. out (between (chunk_lies vol.sup vol.store.layout c.requires.ready.table c.requires.nodesize some B (tree_behind c.args.sums) at.0 chunk at.1
-    c.args.extents.now is.done c.in_ok-end.end met)))))
+    (λ B met. out (between (chunk_lies vol.sup vol.store.layout c.requires.ready.table c.requires.nodesize some B c.args.trees.now.sums at.0 chunk at.1
+    c.args.trees.now.extents is.done c.in_ok-end.end met)))))
 
 pub returns-clause-sieves : goal.returns-clause-sieves
 returns-clause-sieves g c chunk whole span there stands =
@@ -98,9 +97,10 @@ returns-clause-sieves g c chunk whole span there stands =
     let last : Volume = record { store = c.sift_listed.new.store; sup = after.sup } in
     let listed = c.gather_chunk.new.gathered in
     let empty : Gathered = record { list = c.emptied.result; unchecked = c.args.sieve.now.unchecked } in
-    let p = in_chunk vol.sup (tree_behind c.args.sums) chunk c.args.extents.now in
+    let p = in_chunk vol.sup c.args.trees.now.sums chunk c.args.trees.now.extents in
     let is = c.in_ok-end.ensures chunk span there in
-    let h = gathers_behind p a b vol after empty whole listed c.in_ok-end.end c.emptied.ensures.wants (c.emptied.ensures.kind ∙ stands.kind) stands.unchecked stands.is_whole is in
+    let h = gathers_behind p a b vol after empty whole listed c.in_ok-end.end c.emptied.ensures.wants
+    (c.emptied.ensures.kind ∙ stands.kind) stands.unchecked stands.is_whole is in
     sieves_fault p a b z vol after last whole (behind whole listed) c.sift_listed.new.sieve c.in_ok-end.end h c.in-Err.ensures.reads
     (record { sup = refl; store = c.in-Err.ensures.loans }) c.in-Err.ensures.ready.serves c.in-Err.fault
     (subst (λ (l : Layout). AccountsMend {A = Unit {0}} (LiesInStripe l) b z (Err c.in-Err.fault)) is.volume.store.layout

@@ -1,6 +1,5 @@
 use Rattle.std.proofs.Common.{◌≡◌, ℕ, ◌+◌, ◌≤◌, length, drop, slice_get, Some, Ok, Err, sym, ap, ◌∙◌, subst, arith}
 use Rattle.std.proofs.lemmas.List.{drop_all}
-use Rattle.btr_files.specs.Sums.{tree_behind}
 use Rattle.btr_prog.specs.Prog.{Return}
 use Rattle.btr_read.specs.Layout.{Layout}
 use Rattle.btr_super.specs.declared.superblock.Super.{Super}
@@ -22,7 +21,7 @@ loop-i-init g c = record {
   kind = c.requires.kind;
   reaches = λ whole stands. (
     whole,
-    reaches_none (in_chunks c.args.vol.now.sup (tree_behind c.args.sums) c.args.extents.now c.args.vol.now.store.layout.chunks)
+    reaches_none (in_chunks c.args.vol.now.sup c.args.trees.now.sums c.args.trees.now.extents c.args.vol.now.store.layout.chunks)
         (scene (g.R.Rack.seen c.args.rack.now) c.args.vol.now whole) stands.is_whole c.requires.ready.serves,
     stands,
   );
@@ -46,10 +45,10 @@ sift_chunk-requires-clause-behind g c =
 pub returns-in_err-sift_chunk-clause-sieves : goal.returns-in_err-sift_chunk-clause-sieves
 returns-in_err-sift_chunk-clause-sieves g c whole stands =
     let s = c.args.vol.now.sup in
-    let sums = tree_behind c.args.sums in
+    let sums = c.args.trees.now.sums in
     let i = c.loop-i.i in
     let chunks = c.args.vol.now.store.layout.chunks in
-    let extents = c.args.extents.now in
+    let extents = c.args.trees.now.extents in
     let at = c.span_at-span.ensures in
     let h = c.loop-i.invariant.reaches whole stands in
     let x = scene (g.R.Rack.seen c.args.rack.now) c.args.vol.now whole in
@@ -61,7 +60,8 @@ returns-in_err-sift_chunk-clause-sieves g c whole stands =
     sieves_passed c.from_residual.ensures.1 (sieves_halt (in_chunks s sums extents chunks) here rest x y
     (subst (λ (q : Meeting (Unit {0})). Reaches (in_chunks s sums extents chunks) q x y) (chunk_first s sums extents chunks i at.chunk there) h.1)
     z c.sift_chunk.new.vol c.sift_chunk.new.sieve c.in_err-sift_chunk.field-0.0
-    (subst (λ (t : Super). Sieves (in_chunk t sums at.chunk extents) y z c.sift_chunk.new.vol c.sift_chunk.new.sieve (Err c.in_err-sift_chunk.field-0.0)) c.loop-i.invariant.volume.sup
+    (subst (λ (t : Super). Sieves (in_chunk t sums at.chunk extents) y z c.sift_chunk.new.vol c.sift_chunk.new.sieve
+    (Err c.in_err-sift_chunk.field-0.0)) c.loop-i.invariant.volume.sup
     (c.in_err-sift_chunk.ensures.sieves at.chunk h.0 at.is (contains_at c.loop-i.vol.store.layout.chunks i at.chunk at.at) h.2)))
 
 pub loop-i-preserved : goal.loop-i-preserved
@@ -80,10 +80,10 @@ loop-i-preserved g c = record {
   kind = c.in_ok-sift_chunk.ensures.kind ∙ c.loop-i.invariant.kind;
   reaches = λ whole stands.
       let s = c.args.vol.now.sup in
-      let sums = tree_behind c.args.sums in
+      let sums = c.args.trees.now.sums in
       let i = c.loop-i.i in
       let chunks = c.args.vol.now.store.layout.chunks in
-      let extents = c.args.extents.now in
+      let extents = c.args.trees.now.extents in
       let at = c.span_at-span.ensures in
       let h = c.loop-i.invariant.reaches whole stands in
       let x = scene (g.R.Rack.seen c.args.rack.now) c.args.vol.now whole in
@@ -92,7 +92,8 @@ loop-i-preserved g c = record {
       let here = in_chunk s sums at.chunk extents in
       let rest = λ (n : ℕ). in_chunks s sums extents (drop (i + 1) chunks) in
       let there = subst (λ (l : Layout). slice_get l.chunks i ≡ Some at.chunk) c.loop-i.invariant.volume.store.layout at.at in
-      let one = subst (λ (t : Super). Sieves (in_chunk t sums at.chunk extents) y z c.sift_chunk.new.vol c.sift_chunk.new.sieve (Ok c.in_ok-sift_chunk.field-0)) c.loop-i.invariant.volume.sup
+      let one = subst (λ (t : Super). Sieves (in_chunk t sums at.chunk extents) y z c.sift_chunk.new.vol c.sift_chunk.new.sieve
+      (Ok c.in_ok-sift_chunk.field-0)) c.loop-i.invariant.volume.sup
       (c.in_ok-sift_chunk.ensures.sieves at.chunk h.0 at.is (contains_at c.loop-i.vol.store.layout.chunks i at.chunk at.at) h.2) in (
         one.went.0,
         reaches_step (in_chunks s sums extents chunks) here rest x y
@@ -105,10 +106,10 @@ loop-i-preserved g c = record {
 pub returns-clause-sieves : goal.returns-clause-sieves
 returns-clause-sieves g c whole stands =
     let s = c.args.vol.now.sup in
-    let sums = tree_behind c.args.sums in
+    let sums = c.args.trees.now.sums in
     let i = c.loop-i.i in
     let layout = c.args.vol.now.store.layout in
-    let extents = c.args.extents.now in
+    let extents = c.args.trees.now.extents in
     let rack = g.R.Rack.seen c.loop-i.rack in
     let h = c.loop-i.invariant.reaches whole stands in
     let x = scene (g.R.Rack.seen c.args.rack.now) c.args.vol.now whole in

@@ -1,6 +1,6 @@
 use Rattle.std.proofs.Common.{◌≡◌, ◌≤◌, Some, drop, false, slice_get}
 use Rattle.btr_chunk.specs.declared.chunk.Chunk.{Chunk}
-use Rattle.btr_files.specs.Sums.{kind_in, tree_behind}
+use Rattle.btr_files.specs.Sums.{kind_in}
 use Rattle.btr_volume.specs.Looking.{SameVolume}
 use Rattle.btr_scrub.specs.Gathering.{Reaches, scene}
 use Rattle.btr_scrub.specs.Scrubbing.{CanMend}
@@ -17,8 +17,8 @@ invariant-loop-i g l = record {
   behind : (chunk : Chunk) → slice_get l.fn.vol.store.layout.chunks l.i ≡ Some chunk → l.sieve.end ≤ chunk.start;
   kind : l.sieve.sifted.kept.kind ≡ kind_in l.fn.vol.sup;
   reaches : (whole : Gathered) → Stands l.fn.vol.store.layout (g.R.Rack.seen l.fn.rack).held whole l.fn.sieve
-      → (mid : Gathered) × Reaches (units.in_chunks l.fn.vol.sup (tree_behind l.sums) l.extents l.fn.vol.store.layout.chunks)
-      (units.in_chunks l.fn.vol.sup (tree_behind l.sums) l.extents (drop l.i l.fn.vol.store.layout.chunks))
+      → (mid : Gathered) × Reaches (units.in_chunks l.fn.vol.sup l.trees.sums l.trees.extents l.fn.vol.store.layout.chunks)
+      (units.in_chunks l.fn.vol.sup l.trees.sums l.trees.extents (drop l.i l.fn.vol.store.layout.chunks))
       (scene (g.R.Rack.seen l.fn.rack) l.fn.vol whole) (scene (g.R.Rack.seen l.rack) l.vol mid)
       × Stands l.vol.store.layout (g.R.Rack.seen l.rack).held mid l.sieve;
 }

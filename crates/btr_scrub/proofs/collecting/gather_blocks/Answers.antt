@@ -19,4 +19,6 @@ returns-in-Ok g c =
 
 pub returns-in-Err : goal.returns-in-Err
 returns-in-Err g c =
-    gathers_memory (blocks_of c.args.vol.now.sup (tree_behind c.args.sums) c.args.extent.now c.args.extent.now.level) (g.R.Rack.seen c.args.rack.now) c.args.vol.now c.args.gathered.now (record { list = c.push_tree.new.self; unchecked = c.args.gathered.now.unchecked }) c.requires.serves
+    gathers_memory (blocks_of c.args.vol.now.sup (tree_behind c.args.sums) c.args.extent.now c.args.extent.now.level)
+    (g.R.Rack.seen c.args.rack.now) c.args.vol.now c.args.gathered.now
+    (record { list = c.push_tree.new.self; unchecked = c.args.gathered.now.unchecked }) c.requires.serves

@@ -1,4 +1,5 @@
 use Rattle.std.proofs.Common.{◌≡◌, Some, Ok, Err, refl, sym, ap, ◌∙◌, subst, arith}
+use Rattle.std.proofs.lemmas.Result.{err_from_is_err_and}
 use Rattle.std.specs.Prelude.{Contains}
 use Rattle.btr_read.specs.Layout.{Layout}
 use Rattle.btr_files.specs.Sums.{kind_in, tree_behind}
@@ -6,7 +7,7 @@ use Rattle.btr_volume.specs.declared.volume.Volume.{Volume}
 use Rattle.btr_walk.specs.ScanEnds.{rank_of, without_leaf}
 use Rattle.btr_scrub.specs.Gathering.{Gathers, scene}
 use Rattle.btr_scrub.specs.Units.{extent_met}
-use Rattle.btr_scrub.specs.Scanning.{ItemNears, NextTold}
+use Rattle.btr_scrub.specs.Scanning.{ItemRankFalls, NextTold}
 use Rattle.btr_walk.proofs.Staying.{ready_same, room_beside, room_same}
 use Rattle.btr_scrub.proofs.Scanning.{same_layout, without_same}
 use Rattle.btr_scrub.proofs.Underways.{scanned_broken, scanned_ends, scanned_fault, scanned_stops, underway_extent, underway_first, underway_other}
@@ -64,7 +65,7 @@ returns-in-Ok-End-clause-scanned g c chunk span there =
     c.next_extent.new.store c.loop-fault.scan c.next_extent.new.scan (Ok c.in-Ok-End.field-0)) inv.sup c.in-Ok-End.ensures.content))
 
 pub loop-fault-smaller-in-Ok-Other : goal.loop-fault-smaller-in-Ok-Other
-loop-fault-smaller-in-Ok-Other g c = subst (λ v. ItemNears (rank_of c.loop-fault.scan) (rank_of c.next_extent.new.scan) (Ok v))
+loop-fault-smaller-in-Ok-Other g c = subst (λ v. ItemRankFalls (rank_of c.loop-fault.scan) (rank_of c.next_extent.new.scan) (Ok v))
     c.in-Ok-Other.field-0-is c.in-Ok-Other.ensures.nears
 
 pub loop-fault-preserved-in-Ok-Other : goal.loop-fault-preserved-in-Ok-Other
@@ -129,7 +130,7 @@ pub gather_extent-requires-clause-span : goal.gather_extent-requires-clause-span
 gather_extent-requires-clause-span g c = c.requires.span
 
 pub loop-fault-smaller : goal.loop-fault-smaller
-loop-fault-smaller g c = subst (λ v. ItemNears (rank_of c.loop-fault.scan) (rank_of c.next_extent.new.scan) (Ok v)) c.in-Ok-Found.field-0-is
+loop-fault-smaller g c = subst (λ v. ItemRankFalls (rank_of c.loop-fault.scan) (rank_of c.next_extent.new.scan) (Ok v)) c.in-Ok-Found.field-0-is
     c.in-Ok-Found.ensures.nears
 
 pub loop-fault-preserved : goal.loop-fault-preserved
@@ -139,9 +140,13 @@ loop-fault-preserved g c =
     let sums = tree_behind c.args.sums in
     let others = c.in-Ok-Found.ensures.others in
     let ready = c.in-Ok-Found.ensures.ready in
-    let layout : c.next_extent.new.store.layout ≡ c.args.vol.now.store.layout = same_layout c.loop-fault.vol.store c.next_extent.new.store c.loop-fault.scan c.next_extent.new.scan others ∙ inv.layout in
+    let layout : c.next_extent.new.store.layout ≡ c.args.vol.now.store.layout =
+    same_layout c.loop-fault.vol.store c.next_extent.new.store c.loop-fault.scan c.next_extent.new.scan others ∙ inv.layout in
     let of = c.requires.chunk in
-    let one = (subst (λ s. Gathers (extent_met s sums of.chunk c.loop-fault.end c.in-Ok-Found.leaf (Some c.in-Ok-Found.extent)) (scene (g.R.Rack.seen c.next_extent.new.rack) after c.loop-fault.gathered) (scene (g.R.Rack.seen c.gather_extent.new.rack) c.gather_extent.new.vol c.gather_extent.new.gathered) (Ok c.in-Ok.next)) inv.sup (c.in-Ok.ensures of.chunk of.is (subst (λ (l : Layout). Contains l.chunks of.chunk) (sym layout) of.there))) in
+    let one = (subst (λ s. Gathers (extent_met s sums of.chunk c.loop-fault.end c.in-Ok-Found.leaf (Some c.in-Ok-Found.extent))
+    (scene (g.R.Rack.seen c.next_extent.new.rack) after c.loop-fault.gathered)
+    (scene (g.R.Rack.seen c.gather_extent.new.rack) c.gather_extent.new.vol c.gather_extent.new.gathered) (Ok c.in_ok-end-in-Ok-Found.end)) inv.sup
+    (c.in_ok-end-in-Ok-Found.ensures of.chunk of.is (subst (λ (l : Layout). Contains l.chunks of.chunk) (sym layout) of.there))) in
     record {
       ready = ready_same (g.R.Rack.seen c.next_extent.new.rack) (g.R.Rack.seen c.gather_extent.new.rack) c.next_extent.new.store
           c.gather_extent.new.vol.store c.next_extent.new.scan one.volume.store one.serves ready;
@@ -163,35 +168,41 @@ loop-fault-preserved g c =
           c.next_extent.new.store c.loop-fault.scan c.next_extent.new.scan (Ok v)) c.in-Ok-Found.field-0-is
           (subst (λ s. NextTold s (g.R.Rack.seen c.loop-fault.rack) (g.R.Rack.seen c.next_extent.new.rack) c.loop-fault.vol.store
           c.next_extent.new.store c.loop-fault.scan c.next_extent.new.scan (Ok c.in-Ok-Found.field-0)) inv.sup c.in-Ok-Found.ensures.content))
-          (scene (g.R.Rack.seen c.gather_extent.new.rack) c.gather_extent.new.vol c.gather_extent.new.gathered) c.in-Ok.next
+          (scene (g.R.Rack.seen c.gather_extent.new.rack) c.gather_extent.new.vol c.gather_extent.new.gathered) c.in_ok-end-in-Ok-Found.end
           (subst (λ s. Gathers (extent_met s sums chunk c.loop-fault.end c.in-Ok-Found.leaf (Some c.in-Ok-Found.extent))
           (scene (g.R.Rack.seen c.next_extent.new.rack) after c.loop-fault.gathered)
-          (scene (g.R.Rack.seen c.gather_extent.new.rack) c.gather_extent.new.vol c.gather_extent.new.gathered) (Ok c.in-Ok.next)) inv.sup
-          (c.in-Ok.ensures chunk span (subst (λ (l : Layout). Contains l.chunks chunk) (sym layout) there)));
+          (scene (g.R.Rack.seen c.gather_extent.new.rack) c.gather_extent.new.vol c.gather_extent.new.gathered) (Ok c.in_ok-end-in-Ok-Found.end)) inv.sup
+          (c.in_ok-end-in-Ok-Found.ensures chunk span (subst (λ (l : Layout). Contains l.chunks chunk) (sym layout) there)));
     }
 
-pub returns-in-Err-gather_extent-clause-ready : goal.returns-in-Err-gather_extent-clause-ready
-returns-in-Err-gather_extent-clause-ready g c =
+pub returns-in_err-end-in-Ok-Found-clause-ready : goal.returns-in_err-end-in-Ok-Found-clause-ready
+returns-in_err-end-in-Ok-Found-clause-ready g c =
     let inv = c.loop-fault.invariant in
     let after : Volume = record { store = c.next_extent.new.store; sup = c.loop-fault.vol.sup } in
     let sums = tree_behind c.args.sums in
     let others = c.in-Ok-Found.ensures.others in
     let ready = c.in-Ok-Found.ensures.ready in
-    let layout : c.next_extent.new.store.layout ≡ c.args.vol.now.store.layout = same_layout c.loop-fault.vol.store c.next_extent.new.store c.loop-fault.scan c.next_extent.new.scan others ∙ inv.layout in
+    let layout : c.next_extent.new.store.layout ≡ c.args.vol.now.store.layout =
+    same_layout c.loop-fault.vol.store c.next_extent.new.store c.loop-fault.scan c.next_extent.new.scan others ∙ inv.layout in
     let of = c.requires.chunk in
-    let one = (subst (λ s. Gathers (extent_met s sums of.chunk c.loop-fault.end c.in-Ok-Found.leaf (Some c.in-Ok-Found.extent)) (scene (g.R.Rack.seen c.next_extent.new.rack) after c.loop-fault.gathered) (scene (g.R.Rack.seen c.gather_extent.new.rack) c.gather_extent.new.vol c.gather_extent.new.gathered) (Err c.in-Err-gather_extent.stop)) inv.sup (c.in-Err-gather_extent.ensures of.chunk of.is (subst (λ (l : Layout). Contains l.chunks of.chunk) (sym layout) of.there))) in
+    let one = (subst (λ s. Gathers (extent_met s sums of.chunk c.loop-fault.end c.in-Ok-Found.leaf (Some c.in-Ok-Found.extent))
+    (scene (g.R.Rack.seen c.next_extent.new.rack) after c.loop-fault.gathered)
+    (scene (g.R.Rack.seen c.gather_extent.new.rack) c.gather_extent.new.vol c.gather_extent.new.gathered) (Err c.in_err-end-in-Ok-Found.field-0.0)) inv.sup
+    (c.in_err-end-in-Ok-Found.ensures of.chunk of.is (subst (λ (l : Layout). Contains l.chunks of.chunk) (sym layout) of.there))) in
     ready_same (g.R.Rack.seen c.next_extent.new.rack) (g.R.Rack.seen c.gather_extent.new.rack) c.next_extent.new.store c.gather_extent.new.vol.store
     c.next_extent.new.scan one.volume.store one.serves ready
 
-pub returns-in-Err-gather_extent-clause-scanned : goal.returns-in-Err-gather_extent-clause-scanned
-returns-in-Err-gather_extent-clause-scanned g c chunk span there =
+pub returns-in_err-end-in-Ok-Found-clause-scanned : goal.returns-in_err-end-in-Ok-Found-clause-scanned
+returns-in_err-end-in-Ok-Found-clause-scanned g c chunk span there =
     let inv = c.loop-fault.invariant in
     let after : Volume = record { store = c.next_extent.new.store; sup = c.loop-fault.vol.sup } in
     let sums = tree_behind c.args.sums in
     let others = c.in-Ok-Found.ensures.others in
     let ready = c.in-Ok-Found.ensures.ready in
-    let layout : c.next_extent.new.store.layout ≡ c.args.vol.now.store.layout = same_layout c.loop-fault.vol.store c.next_extent.new.store c.loop-fault.scan c.next_extent.new.scan others ∙ inv.layout in
-    scanned_stops c.args.vol.now.sup sums chunk (scene (g.R.Rack.seen c.args.rack.now) c.args.vol.now c.args.gathered.now) c.args.scan.now
+    let layout : c.next_extent.new.store.layout ≡ c.args.vol.now.store.layout =
+    same_layout c.loop-fault.vol.store c.next_extent.new.store c.loop-fault.scan c.next_extent.new.scan others ∙ inv.layout in
+    let p = err_from_is_err_and c.from_residual.result c.from_residual.ensures.1 in
+    rw (p.1, p.2) (scanned_stops c.args.vol.now.sup sums chunk (scene (g.R.Rack.seen c.args.rack.now) c.args.vol.now c.args.gathered.now) c.args.scan.now
     (scene (g.R.Rack.seen c.loop-fault.rack) c.loop-fault.vol c.loop-fault.gathered) c.loop-fault.scan c.next_extent.new.scan c.loop-fault.end
     (inv.underway chunk span there)
     (g.R.Rack.seen c.next_extent.new.rack) after refl c.in-Ok-Found.ensures.reads others ready c.in-Ok-Found.ensures.lo c.in-Ok-Found.ensures.hi
@@ -200,8 +211,8 @@ returns-in-Err-gather_extent-clause-scanned g c chunk span there =
     c.next_extent.new.store c.loop-fault.scan c.next_extent.new.scan (Ok v)) c.in-Ok-Found.field-0-is
     (subst (λ s. NextTold s (g.R.Rack.seen c.loop-fault.rack) (g.R.Rack.seen c.next_extent.new.rack) c.loop-fault.vol.store
     c.next_extent.new.store c.loop-fault.scan c.next_extent.new.scan (Ok c.in-Ok-Found.field-0)) inv.sup c.in-Ok-Found.ensures.content))
-    (scene (g.R.Rack.seen c.gather_extent.new.rack) c.gather_extent.new.vol c.gather_extent.new.gathered) c.in-Err-gather_extent.stop
+    (scene (g.R.Rack.seen c.gather_extent.new.rack) c.gather_extent.new.vol c.gather_extent.new.gathered) c.in_err-end-in-Ok-Found.field-0.0
     (subst (λ s. Gathers (extent_met s sums chunk c.loop-fault.end c.in-Ok-Found.leaf (Some c.in-Ok-Found.extent))
     (scene (g.R.Rack.seen c.next_extent.new.rack) after c.loop-fault.gathered)
-    (scene (g.R.Rack.seen c.gather_extent.new.rack) c.gather_extent.new.vol c.gather_extent.new.gathered) (Err c.in-Err-gather_extent.stop))
-    inv.sup (c.in-Err-gather_extent.ensures chunk span (subst (λ (l : Layout). Contains l.chunks chunk) (sym layout) there)))
+    (scene (g.R.Rack.seen c.gather_extent.new.rack) c.gather_extent.new.vol c.gather_extent.new.gathered) (Err c.in_err-end-in-Ok-Found.field-0.0))
+    inv.sup (c.in_err-end-in-Ok-Found.ensures chunk span (subst (λ (l : Layout). Contains l.chunks chunk) (sym layout) there))))

@@ -9,8 +9,8 @@ use Rattle.btr_scrub.specs.Scanning.{NextExtentBy}
 use Rattle.btr_scrub.proofs.Underways.{next_by}
 use Rattle.btr_scrub.proofs.collecting.next_extent.Goals as goal
 
-pub returns-in-Ok-Some-clause-content : goal.returns-in-Ok-Some-clause-content
-returns-in-Ok-Some-clause-content g c =
+pub returns-in-Some-clause-content : goal.returns-in-Some-clause-content
+returns-in-Some-clause-content g c =
     let s = c.args.s.now in
     let scan = c.args.scan.now in
     let next = c.next.new.scan in
@@ -20,6 +20,10 @@ returns-in-Ok-Some-clause-content g c =
     drawn old.layout (λ B. IsNextOn is B old new scan next c.next.result)
     (λ B. (seen : List Want) → IsOn scan.lo scan.hi B seen scan.place → NextExtentBy s is B seen old new scan next (Ok c.extent_in.result))
     (λ B h seen on.
-    let gives = subst (λ r. IsNextOn is B old new scan next r) (c.in-Ok-Some.is ∙ ap Ok c.in-Ok-Some.field-0-is) h seen on in
-    next_by s is B seen old new scan next c.extent_in.result (record { item = item_of c.in-Ok-Some.found; gives = record { past = gives.past; is = gives.is; on = gives.on }; says = c.extent_in.ensures }))
+    let gives = subst (λ r. IsNextOn is B old new scan next r) (c.in_ok-next.was ∙ ap Ok c.in-Some.is) h seen on in
+    next_by s is B seen old new scan next c.extent_in.result (record {
+      item = item_of c.in-Some.found;
+      gives = record { past = gives.past; is = gives.is; on = gives.on };
+      says = c.extent_in.ensures;
+    }))
     c.next.follows.holds-at-none.content

@@ -12,5 +12,6 @@ returns-then-is_behind c =
 
 pub returns : goal.returns
 returns c =
-    sym (list_any-false (λ (stripe : Stripe). is_behind c.args.store.now.layout.devices (flagged c.args.failing.now) stripe.devid) c.args.chunk.now.stripes (λ j stripe e.
+    sym (list_any-false (λ (stripe : Stripe). is_behind c.args.store.now.layout.devices (flagged c.args.failing.now) stripe.devid) c.args.chunk.now.stripes
+    (λ j stripe e.
     c.loop-i.invariant j stripe (omega (arith, slice_get_within c.args.chunk.now.stripes j stripe e, c.loop-i-test.false, c.len-i-end.ensures)) e))

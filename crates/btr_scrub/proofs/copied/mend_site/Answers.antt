@@ -1,31 +1,84 @@
-use Rattle.std.proofs.Common.{◌≡◌, true, false, cond, sym, ap, ◌∙◌, subst}
+use Rattle.std.proofs.Common.{◌≡◌, Bool, true, false, cond, length, drop, Ok, Err, refl, sym, ap, ◌∙◌}
+use Rattle.std.proofs.lemmas.List.{take_at}
 use Rattle.btr_read.specs.Fate.{is_plain}
-use Rattle.btr_scrub_copies.specs.Blocks.{block_writes}
-use Rattle.btr_scrub_copies.specs.Mending.{mended_of}
-use Rattle.btr_scrub_copies.specs.Fresh.{flagged, fresh_writes, freshened}
-use Rattle.btr_scrub.specs.WrittenRanges.{alone}
-use Rattle.btr_scrub.specs.Scrubbing.{Scrubs, counted, counted_plain}
 use Rattle.btr_read.proofs.Fates.{sought_of}
+use Rattle.btr_scrub_copies.proofs.Doing.{only_slots}
+use Rattle.btr_scrub_copies.specs.Fresh.{flagged, freshened}
+use Rattle.btr_scrub_copies.specs.Mending.{mended_of}
+use Rattle.btr_scrub_copies.specs.Writes.{Images}
+use Rattle.btr_scrub_copies.specs.declared.mended.Mended.{Mended}
+use Rattle.btr_scrub_row.specs.Wanted.{mending_writes}
+use Rattle.btr_scrub.specs.WrittenRanges.{alone}
+use Rattle.btr_scrub.specs.Scrubbing.{count_site, counted, counted_plain, counted_site}
+use Rattle.btr_scrub.specs.declared.tally.Tally.{Tally}
+use Rattle.btr_scrub.proofs.Positions.{copy_in_stripe, is_sought}
+use Rattle.btr_scrub.proofs.Scrubbing.{can_mend_then, scrubs_as, scrubs_not, scrubs_one, scrubs_passed}
 use Rattle.btr_scrub.proofs.copied.mend_site.Goals as goal
 
-pub returns-then-is_plain-clause-scrubs : goal.returns-then-is_plain-clause-scrubs
-returns-then-is_plain-clause-scrubs g c t e =
-    let layout = c.args.store.now.layout in
-    let fails = flagged c.args.failing.now in
-    let sector : is_plain t.want ≡ true = ap is_plain (sought_of layout c.args.want.now t e).want_is ∙ sym c.is_plain.ensures ∙ c.if-is_plain.true in
-    subst (λ b. Scrubs {A = Unit {0}} (alone layout t.chunk) c.args.write
-    (λ images. cond b (fresh_writes images fails t) (block_writes images t))
-    (λ images tally. cond b (counted_plain tally (freshened images fails t c.args.write)) (counted tally (mended_of images t c.args.write)))
-    c.args.marks.now c.mend_sector.new.marks (g.R.Rack.seen c.args.rack.now) (g.R.Rack.seen c.mend_sector.new.rack) c.args.tally.now
-    c.mend_sector.new.tally c.mend_sector.result) (sym sector) (c.mend_sector.ensures.scrubs t e)
+-- what is counted, each by its own counts
+by_counts : (b : Bool) (tally : Tally) (x y : Mended) → counted_site b tally (cond b x y) ≡ cond b (counted_plain tally x) (counted tally y)
+by_counts true tally x y = refl
+by_counts false tally x y = refl
 
-pub returns-else-is_plain-clause-scrubs : goal.returns-else-is_plain-clause-scrubs
-returns-else-is_plain-clause-scrubs g c t e =
+pub returns-clause-ready : goal.returns-clause-ready
+returns-clause-ready g c =
+    let marks = c.mend_want.new.marks in
+    let old = c.args.progress.now.marks in
+    let does = (c.in_ok-mended.ensures.mends c.requires.copied.target c.requires.copied.is_sought).does in
+    rw (take_at marks (drop (length marks) old.items) old.len (c.mend_want.auto.marks ∙ c.deref_mut.ensures.len))
+    (can_mend_then c.args.task.write (g.R.Rack.seen c.args.rack.now) (g.R.Rack.seen c.mend_want.new.rack) c.args.store.now c.mend_want.new.store
+    old.items marks c.requires.ready (only_slots does.ranges does.only) c.in_ok-mended.ensures.loans c.in_ok-mended.ensures.serves
+    (c.mend_want.auto.marks ∙ ap length c.deref_mut.ensures.value))
+
+pub returns-clause-scrubs : goal.returns-clause-scrubs
+returns-clause-scrubs g c t e =
     let layout = c.args.store.now.layout in
-    let fails = flagged c.args.failing.now in
-    let checked : is_plain t.want ≡ false = ap is_plain (sought_of layout c.args.want.now t e).want_is ∙ sym c.is_plain.ensures ∙ c.if-is_plain.false in
-    subst (λ b. Scrubs {A = Unit {0}} (alone layout t.chunk) c.args.write
-    (λ images. cond b (fresh_writes images fails t) (block_writes images t))
-    (λ images tally. cond b (counted_plain tally (freshened images fails t c.args.write)) (counted tally (mended_of images t c.args.write)))
-    c.args.marks.now c.mend_block.new.marks (g.R.Rack.seen c.args.rack.now) (g.R.Rack.seen c.mend_block.new.rack) c.args.tally.now
-    c.mend_block.new.tally c.mend_block.result) (sym checked) (c.mend_block.ensures.scrubs t e)
+    let fails = flagged c.args.task.failing.now in
+    let write = c.args.task.write in
+    let marks = c.mend_want.new.marks in
+    let old = c.args.progress.now.marks in
+    let tally = c.args.progress.now.tally in
+    let h = c.in_ok-mended.ensures.mends t e in
+    let plain : is_plain t.want ≡ is_plain c.args.want.now = ap is_plain (sought_of layout c.args.want.now t e).want_is in
+    let count = λ (images : Images). cond (is_plain t.want) (freshened images fails t write) (mended_of images t write) in
+    rw (take_at marks (drop (length marks) old.items) old.len (c.mend_want.auto.marks ∙ c.deref_mut.ensures.len), sym c.deref_mut.ensures.value)
+    (scrubs_as (alone layout t.chunk) write (λ images. mending_writes images fails t) (λ images. mending_writes images fails t)
+    (λ images tally. counted_site (is_plain t.want) tally (count images)) (λ images tally. count_site fails images write tally t)
+    c.deref_mut.result.now marks (g.R.Rack.seen c.args.rack.now) (g.R.Rack.seen c.mend_want.new.rack) tally c.counted_site-progress.result (Ok tt)
+    (λ images held. (refl, by_counts (is_plain t.want) tally (freshened images fails t write) (mended_of images t write)))
+    (scrubs_one (alone layout t.chunk) write t (λ images. mending_writes images fails t) count (counted_site (is_plain t.want))
+    c.deref_mut.result.now marks (g.R.Rack.seen c.args.rack.now) (g.R.Rack.seen c.mend_want.new.rack)
+    (λ range of. copy_in_stripe layout t range c.requires.ready.table (is_sought layout c.args.want.now t e) of)
+    tally c.counted_site-progress.result c.in_ok-mended.mended h.does h.counts h.unwritten
+    (c.counted_site-progress.ensures ∙ ap (λ b. counted_site b tally c.in_ok-mended.mended) (sym plain))))
+
+pub returns-in_err-mended-clause-ready : goal.returns-in_err-mended-clause-ready
+returns-in_err-mended-clause-ready g c =
+    let marks = c.mend_want.new.marks in
+    let old = c.args.progress.now.marks in
+    let does = (c.in_err-mended.ensures.mends c.requires.copied.target c.requires.copied.is_sought).does in
+    rw (take_at marks (drop (length marks) old.items) old.len (c.mend_want.auto.marks ∙ c.deref_mut.ensures.len))
+    (can_mend_then c.args.task.write (g.R.Rack.seen c.args.rack.now) (g.R.Rack.seen c.mend_want.new.rack) c.args.store.now c.mend_want.new.store
+    old.items marks c.requires.ready (only_slots does.ranges does.only) c.in_err-mended.ensures.loans c.in_err-mended.ensures.serves
+    (c.mend_want.auto.marks ∙ ap length c.deref_mut.ensures.value))
+
+pub returns-in_err-mended-clause-scrubs : goal.returns-in_err-mended-clause-scrubs
+returns-in_err-mended-clause-scrubs g c t e =
+    let layout = c.args.store.now.layout in
+    let fails = flagged c.args.task.failing.now in
+    let write = c.args.task.write in
+    let marks = c.mend_want.new.marks in
+    let old = c.args.progress.now.marks in
+    let tally = c.args.progress.now.tally in
+    let h = c.in_err-mended.ensures.mends t e in
+    let count = λ (images : Images). cond (is_plain t.want) (freshened images fails t write) (mended_of images t write) in
+    rw (take_at marks (drop (length marks) old.items) old.len (c.mend_want.auto.marks ∙ c.deref_mut.ensures.len), sym c.deref_mut.ensures.value)
+    (scrubs_passed c.from_residual.ensures.1
+    (scrubs_as (alone layout t.chunk) write (λ images. mending_writes images fails t) (λ images. mending_writes images fails t)
+    (λ images tally. counted_site (is_plain t.want) tally (count images)) (λ images tally. count_site fails images write tally t)
+    c.deref_mut.result.now marks (g.R.Rack.seen c.args.rack.now) (g.R.Rack.seen c.mend_want.new.rack) tally tally (Err c.in_err-mended.field-0.0)
+    (λ images held. (refl, by_counts (is_plain t.want) tally (freshened images fails t write) (mended_of images t write)))
+    (scrubs_not (alone layout t.chunk) write t (λ images. mending_writes images fails t) count (counted_site (is_plain t.want))
+    c.deref_mut.result.now marks (g.R.Rack.seen c.args.rack.now) (g.R.Rack.seen c.mend_want.new.rack)
+    (λ range of. copy_in_stripe layout t range c.requires.ready.table (is_sought layout c.args.want.now t e) of)
+    tally c.in_err-mended.field-0.0 h.does h.unwritten)))

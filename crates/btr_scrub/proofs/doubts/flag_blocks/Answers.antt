@@ -1,4 +1,5 @@
 use Rattle.std.proofs.Common.{◌-◌, ◌^◌, IfSome, Err, refl, subst, arith}
+use Rattle.std.proofs.lemmas.Result.{err_from_is_err_and}
 use Rattle.btr_rack.proofs.Reading.{reads_more}
 use Rattle.btr_read.specs.Fate.{sought}
 use Rattle.btr_read.proofs.Keeping.{none_more}
@@ -41,22 +42,22 @@ loop-want-preserved g c =
     c.loop-want.invariant.looked in
     let t = the_sought (sought layout want) ok in
     record {
-      ready = c.in-Ok.ensures.ready;
-      reads = reads_more c.loop-want.invariant.reads c.in-Ok.ensures.reads;
-      account = none_more a.account b.account d.account c.loop-want.invariant.account (c.in-Ok.ensures.account t.0 t.1);
+      ready = c.in_ok-flag_block.ensures.ready;
+      reads = reads_more c.loop-want.invariant.reads c.in_ok-flag_block.ensures.reads;
+      account = none_more a.account b.account d.account c.loop-want.invariant.account (c.in_ok-flag_block.ensures.account t.0 t.1);
       looked = looked_passed layout a.held c.args.blocks.now c.args.probe.now.failing.items new c.is_plain.result c.next.new.self (2 ^ 64 - 1)
           c.pass_if.new.blocks c.pass_if.ensures
           (looked_more layout a.held c.args.blocks.now c.loop-want.blocks c.args.probe.now.failing.items mid new want c.next.new.self t.0
           c.in-Some.ensures t.1 c.loop-want.invariant.looked
           (subst (λ held. IfSome held (λ images. Flags mid (λ slot. fails_on images slot t.0) new)) (same_held c.loop-want.invariant.reads)
-          (c.in-Ok.ensures.flags t.0 t.1)));
+          (c.in_ok-flag_block.ensures.flags t.0 t.1)));
     }
 
-pub returns-in-Err-clause-reads : goal.returns-in-Err-clause-reads
-returns-in-Err-clause-reads g c = reads_more c.loop-want.invariant.reads c.in-Err.ensures.reads
+pub returns-in_err-flag_block-clause-reads : goal.returns-in_err-flag_block-clause-reads
+returns-in_err-flag_block-clause-reads g c = reads_more c.loop-want.invariant.reads c.in_err-flag_block.ensures.reads
 
-pub returns-in-Err-clause-account : goal.returns-in-Err-clause-account
-returns-in-Err-clause-account g c =
+pub returns-in_err-flag_block-clause-account : goal.returns-in_err-flag_block-clause-account
+returns-in_err-flag_block-clause-account g c =
     let a = g.R.Rack.seen c.args.rack.now in
     let b = g.R.Rack.seen c.loop-want.rack in
     let d = g.R.Rack.seen c.flag_block.new.rack in
@@ -65,8 +66,11 @@ returns-in-Err-clause-account g c =
     let ok = looks_next layout a.held c.args.blocks.now c.loop-want.blocks c.args.probe.now.failing.items c.loop-want.probe.failing.items want
     c.next.new.self c.in-Some.ensures c.loop-want.invariant.looked in
     let t = the_sought (sought layout want) ok in
-    account_then {A = Unit {0}} (LiesInStripe layout) a b d (Err c.in-Err.fault) (same_sure c.loop-want.invariant.reads) c.loop-want.invariant.account
-    (parts_in_stripe {A = Unit {0}} layout t.0 b d (Err c.in-Err.fault) c.requires.table (is_sought layout want t.0 t.1) (c.in-Err.ensures.account t.0 t.1))
+    let p = err_from_is_err_and c.from_residual.result c.from_residual.ensures.1 in
+    rw (p.1, p.2) (account_then {A = Unit {0}} (LiesInStripe layout) a b d (Err c.in_err-flag_block.field-0.0)
+    (same_sure c.loop-want.invariant.reads) c.loop-want.invariant.account
+    (parts_in_stripe {A = Unit {0}} layout t.0 b d (Err c.in_err-flag_block.field-0.0) c.requires.table (is_sought layout want t.0 t.1)
+    (c.in_err-flag_block.ensures.account t.0 t.1)))
 
 pub returns-clause-flags : goal.returns-clause-flags
 returns-clause-flags g c =

@@ -1,4 +1,5 @@
 use Rattle.std.proofs.Common.{◌+◌, ◌||◌, false, get_or, IfSome, Err, take, refl, sym, ap, ◌∙◌, subst, arith, ◌≡◌, ℕ, Bool, ◌<◌}
+use Rattle.std.proofs.lemmas.Result.{err_from_is_err_and}
 use Rattle.std.proofs.lemmas.List.{take_all}
 use Rattle.std.proofs.lemmas.List.FromFn.{length-range_with_len, get_or-range_with_len}
 use Rattle.std.specs.List.{list_any, range_with_len}
@@ -50,9 +51,9 @@ loop-mirror-preserved g c =
     let new = c.flag_part.new.probe.failing.items in
     let target = the_sought (sought c.args.store.now.layout c.args.want.now) c.requires.sought in
     record {
-      ready = c.in-Ok.ensures.ready;
-      reads = reads_more c.loop-mirror.invariant.reads c.in-Ok.ensures.reads;
-      account = none_more a.account b.account d.account c.loop-mirror.invariant.account (c.in-Ok.ensures.account target.0 target.1);
+      ready = c.in_ok-flag_part.ensures.ready;
+      reads = reads_more c.loop-mirror.invariant.reads c.in_ok-flag_part.ensures.reads;
+      account = none_more a.account b.account d.account c.loop-mirror.invariant.account (c.in_ok-flag_part.ensures.account target.0 target.1);
       flags = λ t e.
           both_of a.held (λ images. Flags old (λ slot. list_any (λ k. fails_at images t slot (Mirror k)) (take m (range_with_len 0 c.args.copies))) mid)
           (λ images. Flags mid (λ slot. fails_at images t slot (Mirror m)) new)
@@ -64,17 +65,18 @@ loop-mirror-preserved g c =
           (λ slot. sym (slice_more (λ k. fails_at images t slot (Mirror k)) c.args.copies m c.loop-mirror-test.true)))
           (c.loop-mirror.invariant.flags t e)
           (subst (λ held. IfSome held (λ images. Flags mid (λ slot. fails_at images t slot (Mirror m)) new))
-          (same_held c.loop-mirror.invariant.reads) (c.in-Ok.ensures.flags t e));
+          (same_held c.loop-mirror.invariant.reads) (c.in_ok-flag_part.ensures.flags t e));
     }
 
-pub returns-in-Err-clause-reads : goal.returns-in-Err-clause-reads
-returns-in-Err-clause-reads g c = reads_more c.loop-mirror.invariant.reads c.in-Err.ensures.reads
+pub returns-in_err-flag_part-clause-reads : goal.returns-in_err-flag_part-clause-reads
+returns-in_err-flag_part-clause-reads g c = reads_more c.loop-mirror.invariant.reads c.in_err-flag_part.ensures.reads
 
-pub returns-in-Err-clause-account : goal.returns-in-Err-clause-account
-returns-in-Err-clause-account g c t e =
-    account_then {A = Unit {0}} (IsOfPart t) (g.R.Rack.seen c.args.rack.now) (g.R.Rack.seen c.loop-mirror.rack) (g.R.Rack.seen c.flag_part.new.rack)
-    (Err c.in-Err.fault)
-    (same_sure c.loop-mirror.invariant.reads) c.loop-mirror.invariant.account (c.in-Err.ensures.account t e)
+pub returns-in_err-flag_part-clause-account : goal.returns-in_err-flag_part-clause-account
+returns-in_err-flag_part-clause-account g c t e =
+    let p = err_from_is_err_and c.from_residual.result c.from_residual.ensures.1 in
+    rw (p.1, p.2)
+    (account_then {A = Unit {0}} (IsOfPart t) (g.R.Rack.seen c.args.rack.now) (g.R.Rack.seen c.loop-mirror.rack) (g.R.Rack.seen c.flag_part.new.rack)
+    (Err c.in_err-flag_part.field-0.0) (same_sure c.loop-mirror.invariant.reads) c.loop-mirror.invariant.account (c.in_err-flag_part.ensures.account t e))
 
 pub returns-clause-flags : goal.returns-clause-flags
 returns-clause-flags g c t e =

@@ -10,7 +10,8 @@ returns-then-is_missing c =
     let devices = c.args.store.now.layout.devices in
     let chunk = c.args.chunk.now in
     let stripe = c.at-stripe.result in
-    let yes : is_missing devices (stripe_length chunk) stripe ≡ true = ap (λ n. is_missing devices n stripe) (sym c.stripe_length-len.ensures) ∙ sym c.is_missing.ensures ∙ c.if-is_missing.true in
+    let yes : is_missing devices (stripe_length chunk) stripe ≡ true =
+    ap (λ n. is_missing devices n stripe) (sym c.stripe_length-len.ensures) ∙ sym c.is_missing.ensures ∙ c.if-is_missing.true in
     sym (ap (option_map devid_of) (c.loop-i.invariant ∙ found_here (is_missing devices (stripe_length chunk)) chunk.stripes c.loop-i.i stripe
     c.at-stripe.ensures yes))
 
@@ -19,6 +20,7 @@ loop-i-preserved c =
     let devices = c.args.store.now.layout.devices in
     let chunk = c.args.chunk.now in
     let stripe = c.at-stripe.result in
-    let no : is_missing devices (stripe_length chunk) stripe ≡ false = ap (λ n. is_missing devices n stripe) (sym c.stripe_length-len.ensures) ∙ sym c.is_missing.ensures ∙ c.if-is_missing.false in
+    let no : is_missing devices (stripe_length chunk) stripe ≡ false =
+    ap (λ n. is_missing devices n stripe) (sym c.stripe_length-len.ensures) ∙ sym c.is_missing.ensures ∙ c.if-is_missing.false in
     c.loop-i.invariant ∙ ap (λ xs. slice_get xs 0) (passed_over (is_missing devices (stripe_length chunk)) chunk.stripes c.loop-i.i stripe
     c.at-stripe.ensures no)

@@ -15,4 +15,10 @@ loop-want-preserved c =
 pub returns : goal.returns
 returns c =
     let inv = c.loop-want.invariant in
-    record { more = inv.more; are = inv.are; split = inv.split ∙ ap (λ ws. inv.more ++ ws) (sym c.in_default.ensures.0); inside = inv.inside; next = subst (BeginsElse c.args.chunk.now c.args.row) (sym c.in_default.ensures.0) c.in_default.ensures.1 }
+    record {
+      more = inv.more;
+      are = inv.are;
+      split = inv.split ∙ ap (λ ws. inv.more ++ ws) (sym c.in_default.ensures.0);
+      inside = inv.inside;
+      next = subst (BeginsElse c.args.chunk.now c.args.row) (sym c.in_default.ensures.0) c.in_default.ensures.1;
+    }

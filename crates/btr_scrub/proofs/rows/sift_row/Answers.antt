@@ -59,11 +59,11 @@ keep_all-requires-clause-of_kind g c =
     let apart = c.requires.apart in
     let got = c.in-Ok.ensures chunk at in
     let kind = c.args.sifted.now.kept.kind in
-    subst (AreOfKind kind) (sym (c.deref.ensures.value ∙ ap (λ (v : Vec Want Global). v.items) c.in-Ok-None.ensures.wants ∙ got.1.are))
+    subst (AreOfKind kind) (sym (c.deref.ensures.value ∙ ap (λ (v : Vec Want Global). v.items) c.in_ok-sound.ensures.wants ∙ got.1.are))
     (of_kind_first kind (first ∷ got.1.more) new (subst (AreOfKind kind) (ap (λ xs. first ∷ xs) got.1.split) c.requires.of_kind))
 
-pub returns-in-Ok-Some-clause-sifts : goal.returns-in-Ok-Some-clause-sifts
-returns-in-Ok-Some-clause-sifts g c =
+pub returns-in-Some-2-clause-sifts : goal.returns-in-Some-2-clause-sifts
+returns-in-Some-2-clause-sifts g c =
     let layout = c.args.store.now.layout in
     let chunk = c.in-Some.chunk.now in
     let a = g.R.Rack.seen c.args.rack.now in
@@ -83,11 +83,11 @@ returns-in-Ok-Some-clause-sifts g c =
     let one = row layout table own given first old new ws chunk at parity apart r got a in
     let can = c.requires.can in
     let after = record c.args.sifted.now { sound = c.saturating_add-sifted.result; room = c.sound_in.new.room } in
-    row_out layout table own given first old new ws chunk at parity apart r got a held c.args.sifted.now after c.in-Ok-Some.sound
-    (record { is_list = can.is_list; nodesize = can.nodesize; large = can.large; rooms = c.in-Ok-Some.ensures.rooms })
-    (subst (λ (o : Option ℕ). IfSome held (λ images. o ≡ sound_in images layout one)) c.in-Ok-Some.field-0-is
-    (c.in-Ok-Some.ensures.sound one (is_row layout table own given first old new ws chunk at parity apart r got a) refl))
-    refl (λ n e. c.saturating_add-sifted.ensures ∙ ap (λ k. stood (k + c.in-Ok-Some.sound)) e ∙ stood_add n c.in-Ok-Some.sound)
+    row_out layout table own given first old new ws chunk at parity apart r got a held c.args.sifted.now after c.in-Some-2.sound
+    (record { is_list = can.is_list; nodesize = can.nodesize; large = can.large; rooms = c.in_ok-sound.ensures.rooms })
+    (subst (λ (o : Option ℕ). IfSome held (λ images. o ≡ sound_in images layout one)) c.in-Some-2.is
+    (c.in_ok-sound.ensures.sound one (is_row layout table own given first old new ws chunk at parity apart r got a) refl))
+    refl (λ n e. c.saturating_add-sifted.ensures ∙ ap (λ k. stood (k + c.in-Some-2.sound)) e ∙ stood_add n c.in-Some-2.sound)
 
 pub returns-in-Ok-keep_all-clause-sifts : goal.returns-in-Ok-keep_all-clause-sifts
 returns-in-Ok-keep_all-clause-sifts g c =
@@ -110,7 +110,7 @@ returns-in-Ok-keep_all-clause-sifts g c =
     let one = row layout table own given first old new ws chunk at parity apart r got a in
     let after = record c.args.sifted.now { kept = c.keep_all.new.kept; room = c.sound_in.new.room } in
     row_kept layout table own given first old new ws chunk at parity apart r got a held c.args.sifted.now after c.requires.can
-    (subst (λ (o : Option ℕ). IfSome held (λ images. o ≡ sound_in images layout one)) c.in-Ok-None.field-0-is
-    (c.in-Ok-None.ensures.sound one (is_row layout table own given first old new ws chunk at parity apart r got a) refl))
-    (subst (AddsAll c.args.sifted.now.kept c.keep_all.new.kept) (c.deref.ensures.value ∙ ap (λ (v : Vec Want Global). v.items) c.in-Ok-None.ensures.wants)
-    c.in-Ok-keep_all.ensures) refl refl c.in-Ok-None.ensures.rooms
+    (subst (λ (o : Option ℕ). IfSome held (λ images. o ≡ sound_in images layout one)) c.in-None.is
+    (c.in_ok-sound.ensures.sound one (is_row layout table own given first old new ws chunk at parity apart r got a) refl))
+    (subst (AddsAll c.args.sifted.now.kept c.keep_all.new.kept) (c.deref.ensures.value ∙ ap (λ (v : Vec Want Global). v.items) c.in_ok-sound.ensures.wants)
+    c.in-Ok-keep_all.ensures) refl refl c.in_ok-sound.ensures.rooms

@@ -1,4 +1,5 @@
 use Rattle.std.proofs.Common.{◌+◌, ◌-◌, ◌*◌, ◌≤◌, Ok, Err, subst, arith}
+use Rattle.std.proofs.lemmas.Result.{err_from_is_err_and}
 use Rattle.btr_files.specs.Sums.{tree_behind}
 use Rattle.btr_prog.specs.Prog.{bind}
 use Rattle.btr_super.specs.declared.superblock.Super.{Super}
@@ -19,8 +20,8 @@ loop-done-init g c =
           (reaches_none (sectors s sums c.args.count c.args.addr) x c.requires.is_list c.requires.serves);
     }
 
-pub returns-in-Err : goal.returns-in-Err
-returns-in-Err g c =
+pub returns-in_err-done : goal.returns-in_err-done
+returns-in_err-done g c =
     let s = c.args.vol.now.sup in
     let sums = tree_behind c.args.sums in
     let done = c.loop-done.done in
@@ -29,28 +30,30 @@ returns-in-Err g c =
     let z = scene (g.R.Rack.seen c.gather_some.new.rack) c.gather_some.new.vol c.gather_some.new.gathered in
     let here = sector s sums (c.args.addr + done * 4096) in
     let rest = λ (u : Unit {0}). sectors s sums (c.args.count - (done + 1)) (c.args.addr + (done + 1) * 4096) in
-    reaches_ends (sectors s sums c.args.count c.args.addr) (bind here rest) x y z (Err c.in-Err.stop)
+    let p = err_from_is_err_and c.from_residual.result c.from_residual.ensures.1 in
+    rw (p.1, p.2) (reaches_ends (sectors s sums c.args.count c.args.addr) (bind here rest) x y z (Err c.in_err-done.field-0.0)
     (subst (λ (q : Meeting (Unit {0})). Reaches (sectors s sums c.args.count c.args.addr) q x y)
     (sectors_first s sums c.args.count c.args.addr done c.loop-done-test.true) c.loop-done.invariant.reaches)
-    (gathers_halt here rest y z c.in-Err.stop (subst (λ (t : Super). Gathers (sector t sums (c.args.addr + done * 4096)) y z (Err c.in-Err.stop))
-    c.loop-done.invariant.reaches.volume.sup c.in-Err.ensures))
+    (gathers_halt here rest y z c.in_err-done.field-0.0 (subst
+    (λ (t : Super). Gathers (sector t sums (c.args.addr + done * 4096)) y z (Err c.in_err-done.field-0.0))
+    c.loop-done.invariant.reaches.volume.sup c.in_err-done.ensures)))
 
 pub loop-done-preserved : goal.loop-done-preserved
 loop-done-preserved g c =
     let s = c.args.vol.now.sup in
     let sums = tree_behind c.args.sums in
     let done = c.loop-done.done in
-    let more = c.in-Ok.more in
+    let more = c.in_ok-done.field-0 in
     let x = scene (g.R.Rack.seen c.args.rack.now) c.args.vol.now c.args.gathered.now in
     let y = scene (g.R.Rack.seen c.loop-done.rack) c.loop-done.vol c.loop-done.gathered in
     let z = scene (g.R.Rack.seen c.gather_some.new.rack) c.gather_some.new.vol c.gather_some.new.gathered in
     let here = sectors s sums more (c.args.addr + done * 4096) in
     let rest = λ (u : Unit {0}). sectors s sums (c.args.count - (done + more)) (c.args.addr + (done + more) * 4096) in
-    let few : done + more ≤ c.args.count = omega (arith, c.in-Ok.ensures.1, c.loop-done.invariant.few) in record {
+    let few : done + more ≤ c.args.count = omega (arith, c.in_ok-done.ensures.1, c.loop-done.invariant.few) in record {
       few = few;
       reaches = reaches_step (sectors s sums c.args.count c.args.addr) here rest x y
           (subst (λ (q : Meeting (Unit {0})). Reaches (sectors s sums c.args.count c.args.addr) q x y)
           (sectors_some s sums c.args.count c.args.addr done more few) c.loop-done.invariant.reaches)
           z tt (subst (λ (t : Super). Gathers (sectors t sums more (c.args.addr + done * 4096)) y z (Ok tt)) c.loop-done.invariant.reaches.volume.sup
-          c.in-Ok.ensures.2);
+          c.in_ok-done.ensures.2);
     }

@@ -1,99 +1,48 @@
-use Rattle.std.proofs.Common.{ℕ, ◌≤◌, Some, None, Ok, Err, sym, subst, refl, arith}
-use Rattle.btr_base.specs.Sum.{stored_sum}
-use Rattle.btr_base.specs.declared.kind.SumKind.{SumKind}
-use Rattle.btr_prog.specs.Prog.{Emit, Return}
-use Rattle.btr_prog.specs.Quiet.{quiet}
-use Rattle.btr_read.specs.declared.want.Want.TheVariants.{Sector}
-use Rattle.btr_volume.specs.Looking.{Looks}
-use Rattle.btr_volume.specs.declared.stop.Stop.TheVariants.{Memory, Tree}
-use Rattle.btr_walk.specs.Reading.{Tells}
-use Rattle.btr_files.specs.Gaps.{IsGap, first_sum}
-use Rattle.btr_files.specs.Sums.{kind_in, sum_at, tree_behind}
-use Rattle.btr_files.specs.declared.summed.Summed.{Summed}
-use Rattle.btr_scrub.specs.Gathering.{Gathers, scene}
-use Rattle.btr_scrub.specs.Listed.{AddsTo}
-use Rattle.btr_scrub.specs.Units.{sector_met, sectors}
-use Rattle.btr_scrub.specs.declared.gathered.Gathered.{Gathered}
-use Rattle.btr_scrub.proofs.Gaps.{gathers_gap, gathers_one}
-use Rattle.btr_scrub.proofs.Gathering.{gathers_fault, gathers_found, gathers_halt, gathers_memory, gathers_then}
-use Rattle.btr_scrub.proofs.OneSector.{gathers_sector}
+use Rattle.std.proofs.Common.{ℕ, subst, arith, ◌≡◌}
+use Rattle.btr_super.specs.declared.superblock.Super.{Super}
+use Rattle.btr_files.specs.Aheads.{kept_sum}
+use Rattle.btr_files.specs.Sums.{tree_behind}
+use Rattle.btr_scrub.specs.Gathering.{GathersSome, Lists, scene, sectors_met}
+use Rattle.btr_scrub.proofs.Gathering.{gathers_none}
+use Rattle.btr_scrub.proofs.KeptSums.{gathers_kept, some_behind}
+use Rattle.btr_scrub.proofs.OneSector.{sector_fault, sector_memory}
 use Rattle.btr_scrub.proofs.sectors.gather_some.Goals as goal
 
 pub returns-in-Err : goal.returns-in-Err
 returns-in-Err g c =
-    let p = sum_at (kind_in c.args.vol.now.sup) (tree_behind c.args.sums) c.args.addr in
-    gathers_halt (quiet p) (λ sum. Emit (sector_met c.args.addr sum) (Return tt))
-    (scene (g.R.Rack.seen c.args.rack.now) c.args.vol.now c.args.gathered.now)
-    (scene (g.R.Rack.seen c.sums_from.new.rack) c.sums_from.new.vol c.args.gathered.now) (Tree c.in-Err.fault)
-    (gathers_fault p (g.R.Rack.seen c.args.rack.now) (g.R.Rack.seen c.sums_from.new.rack) c.args.vol.now c.sums_from.new.vol c.args.gathered.now
-    c.in-Err.fault c.in-Err.ensures.serves c.in-Err.ensures.reads c.in-Err.ensures.volume c.in-Err.ensures.cause c.in-Err.ensures.content)
+    sector_fault c.args.vol.now.sup (tree_behind c.args.sums) c.args.addr (g.R.Rack.seen c.args.rack.now) (g.R.Rack.seen c.sum_ahead.new.rack)
+    c.args.vol.now c.sum_ahead.new.vol c.args.gathered.now c.in-Err.ensures.serves c.in-Err.ensures.reads c.in-Err.ensures.volume c.in-Err.fault
+    c.in-Err.ensures.cause c.in-Err.ensures.content
 
-pub returns-in-Ok : goal.returns-in-Ok
-returns-in-Ok g c =
+pub returns-in_default-gather_kept : goal.returns-in_default-gather_kept
+returns-in_default-gather_kept g c =
+    sector_memory c.args.vol.now.sup (tree_behind c.args.sums) c.args.addr (g.R.Rack.seen c.args.rack.now) (g.R.Rack.seen c.sum_ahead.new.rack)
+    c.args.vol.now c.sum_ahead.new.vol c.args.gathered.now c.sum_ahead.ensures.serves c.sum_ahead.ensures.reads c.sum_ahead.ensures.volume _
+    c.gather_kept.new.gathered c.requires.is_list c.sum_ahead.ensures.ahead
+
+pub returns-then-count-gt0 : goal.returns-then-count-gt0
+returns-then-count-gt0 g c = (
+  omega (arith, c.if-count-gt0.true),
+  c.in-Ok.ensures.few,
+  gathers_kept c.args.vol.now.sup (tree_behind c.args.sums) c.args.addr c.args.most c.in-Ok.count (g.R.Rack.seen c.args.rack.now)
+      (g.R.Rack.seen c.sum_ahead.new.rack) c.args.vol.now c.sum_ahead.new.vol c.args.gathered.now c.gather_kept.new.gathered c.new-ahead.result
+      c.sum_ahead.new.ahead c.sum_ahead.ensures.serves c.sum_ahead.ensures.reads c.sum_ahead.ensures.volume c.requires.kind c.new-ahead.ensures
+      c.sum_ahead.ensures.ahead c.in-Ok.ensures,
+)
+
+pub returns : goal.returns
+returns g c =
     let s = c.args.vol.now.sup in
     let sums = tree_behind c.args.sums in
     let old = g.R.Rack.seen c.args.rack.now in
-    let new = g.R.Rack.seen c.sums_from.new.rack in
+    let new = g.R.Rack.seen c.sum_ahead.new.rack in
     let x = c.args.gathered.now in
-    let y : Gathered = record { list = c.push_sector.new.self; unchecked = x.unchecked } in
-    let sum = c.in-Ok-Sum.sum in (
-      omega arith,
-      c.requires.some,
-      gathers_one s sums c.args.addr (scene old c.args.vol.now x) (scene new c.sums_from.new.vol y)
-          (gathers_sector s sums c.args.addr old new c.args.vol.now c.sums_from.new.vol x y sum c.in-Ok.ensures.long c.in-Ok-Sum.ensures.serves
-          c.in-Ok-Sum.ensures.reads c.in-Ok-Sum.ensures.volume
-          (subst (λ (r : Summed). Looks c.args.vol.now.store.layout old new (sum_at (kind_in s) sums c.args.addr) (first_sum (Ok r)))
-          c.in-Ok-Sum.field-0-is c.in-Ok-Sum.ensures.content)
-          (subst (λ (k : SumKind). AddsTo x.list y.list (Sector c.args.addr (stored_sum k sum.bytes))) c.requires.kind c.in-Ok.ensures.added) refl),
-    )
-
-pub returns-in-Err-push_sector : goal.returns-in-Err-push_sector
-returns-in-Err-push_sector g c =
-    let s = c.args.vol.now.sup in
-    let p = sum_at (kind_in s) (tree_behind c.args.sums) c.args.addr in
-    let old = g.R.Rack.seen c.args.rack.now in
-    let new = g.R.Rack.seen c.sums_from.new.rack in
-    let x = c.args.gathered.now in
-    let y : Gathered = record { list = c.push_sector.new.self; unchecked = x.unchecked } in
-    let found = Some c.in-Ok-Sum.sum in
-    gathers_then (quiet p) (λ sum. Emit (sector_met c.args.addr sum) (Return tt)) (scene old c.args.vol.now x) (scene new c.sums_from.new.vol x)
-    (scene new c.sums_from.new.vol y) found (Err Memory)
-    (gathers_found p old new c.args.vol.now c.sums_from.new.vol x found c.requires.is_list c.in-Ok-Sum.ensures.serves c.in-Ok-Sum.ensures.reads
-    c.in-Ok-Sum.ensures.volume
-    (subst (λ (r : Summed). Looks c.args.vol.now.store.layout old new p (first_sum (Ok r))) c.in-Ok-Sum.field-0-is c.in-Ok-Sum.ensures.content))
-    (gathers_memory (Emit (sector_met c.args.addr found) (Return tt)) new c.sums_from.new.vol x y c.in-Ok-Sum.ensures.serves)
-
-pub returns-in-Ok-gather_gap : goal.returns-in-Ok-gather_gap
-returns-in-Ok-gather_gap g c =
-    let s = c.args.vol.now.sup in
-    let sums = tree_behind c.args.sums in
-    let old = g.R.Rack.seen c.args.rack.now in
-    let new = g.R.Rack.seen c.sums_from.new.rack in
-    let x = c.args.gathered.now in
-    let y = c.gather_gap.new.gathered in
-    let count = c.part_of-count.result in
-    let some : 1 ≤ c.from.result = omega (arith, c.from.ensures, c.part_of-count.ensures.some) in
-    let few : c.from.result ≤ c.args.most = omega (arith, c.from.ensures, c.part_of-count.ensures.most) in
-    let told = subst (λ (r : Summed). Tells c.args.vol.now.store.layout old new (λ B. IsGap (kind_in s) B sums c.args.addr (Ok r)))
-    c.in-Ok-Gap.field-0-is c.in-Ok-Gap.ensures.gap in (
-      some,
-      few,
-      subst (λ (n : ℕ). Gathers (sectors s sums n c.args.addr) (scene old c.args.vol.now x) (scene new c.sums_from.new.vol y) (Ok tt)) (sym c.from.ensures)
-          (gathers_gap s sums c.args.addr count c.in-Ok-Gap.len old new c.args.vol.now c.sums_from.new.vol x y c.part_of-count.ensures.len
-          c.in-Ok-Gap.ensures.serves c.in-Ok-Gap.ensures.reads c.in-Ok-Gap.ensures.volume told c.in-Ok-gather_gap.ensures),
-    )
-
-pub returns-in-Err-gather_gap : goal.returns-in-Err-gather_gap
-returns-in-Err-gather_gap g c =
-    let s = c.args.vol.now.sup in
-    let p = sum_at (kind_in s) (tree_behind c.args.sums) c.args.addr in
-    let old = g.R.Rack.seen c.args.rack.now in
-    let new = g.R.Rack.seen c.sums_from.new.rack in
-    let x = c.args.gathered.now in
-    let y = c.gather_gap.new.gathered in
-    gathers_then (quiet p) (λ sum. Emit (sector_met c.args.addr sum) (Return tt)) (scene old c.args.vol.now x) (scene new c.sums_from.new.vol x)
-    (scene new c.sums_from.new.vol y) None (Err Memory)
-    (gathers_found p old new c.args.vol.now c.sums_from.new.vol x None c.requires.is_list c.in-Ok-Gap.ensures.serves c.in-Ok-Gap.ensures.reads
-    c.in-Ok-Gap.ensures.volume
-    (subst (λ (r : Summed). Looks c.args.vol.now.store.layout old new p (first_sum (Ok r))) c.in-Ok-Gap.field-0-is c.in-Ok-Gap.ensures.content))
-    (gathers_memory (Emit (sector_met c.args.addr None) (Return tt)) new c.sums_from.new.vol x y c.in-Ok-Gap.ensures.serves)
+    let y = c.gather_kept.new.gathered in
+    let mid = scene new c.sum_ahead.new.vol y in
+    let last = scene (g.R.Rack.seen c.gather_next.new.rack) c.gather_next.new.vol c.gather_next.new.gathered in
+    let none : c.in-Ok.count ≡ 0 = omega (arith, c.if-count-gt0.false) in
+    some_behind s sums c.args.addr c.args.most (scene old c.args.vol.now x) mid last c.gather_next.result
+    (gathers_none _ old new c.args.vol.now c.sum_ahead.new.vol x y
+    (subst (λ (n : ℕ). Lists x y (sectors_met (kept_sum c.sum_ahead.new.ahead) n c.args.addr)) none c.in-Ok.ensures.lists)
+    c.sum_ahead.ensures.serves c.sum_ahead.ensures.reads c.sum_ahead.ensures.volume c.sum_ahead.ensures.ahead)
+    (subst (λ (t : Super). GathersSome t sums c.args.addr c.args.most mid last c.gather_next.result) c.sum_ahead.ensures.volume.sup c.gather_next.ensures)

@@ -1,4 +1,5 @@
 use Rattle.std.proofs.Common.{◌∷◌, ◌++◌, [], Err, length, refl, sym, ap, ◌∙◌, subst, arith, append_assoc, append-nil, length-append}
+use Rattle.std.proofs.lemmas.Result.{err_from_is_err_and}
 use Rattle.btr_rack.proofs.Reading.{reads_more}
 use Rattle.btr_read.specs.Layout.{Layout}
 use Rattle.btr_read.proofs.Keeping.{none_more}
@@ -45,7 +46,7 @@ sift_next-requires-clause-of_kind g c = subst (AreOfKind c.loop-want.sifted.kept
 
 pub loop-want-smaller : goal.loop-want-smaller
 loop-want-smaller g c =
-    let s = c.in-Ok.ensures.sifts in
+    let s = c.in_ok-sift_next.ensures.sifts in
     omega (arith, ap length c.in-Some.ensures, ap length s.split, length-append s.more c.sift_next.new.blocks)
 
 pub loop-want-preserved : goal.loop-want-preserved
@@ -61,15 +62,15 @@ loop-want-preserved g c =
     let before = c.loop-want.sifted in
     let after = c.sift_next.new.sifted in
     let s = subst (λ held. SiftsNext layout held want old new before after) (same_held h.reads)
-    (subst (λ (l : Layout). SiftsNext l b.held want old new before after) h.loans.layout c.in-Ok.ensures.sifts) in
+    (subst (λ (l : Layout). SiftsNext l b.held want old new before after) h.loans.layout c.in_ok-sift_next.ensures.sifts) in
     let split = c.in-Some.ensures ∙ ap (λ ws. want ∷ ws) s.split in
     let share = subst (ShareNoRow layout h.past) c.in-Some.ensures h.rows in
     let tail = tail_apart layout 0 (want ∷ s.more) new (subst (AreApart layout 0) split h.apart) in
     record {
-      ready = c.in-Ok.ensures.ready;
-      loans = same_loans_then c.args.store.now c.loop-want.store c.sift_next.new.store h.loans c.in-Ok.ensures.loans;
-      reads = reads_more h.reads c.in-Ok.ensures.reads;
-      none = none_more a.account b.account d.account h.none c.in-Ok.ensures.account;
+      ready = c.in_ok-sift_next.ensures.ready;
+      loans = same_loans_then c.args.store.now c.loop-want.store c.sift_next.new.store h.loans c.in_ok-sift_next.ensures.loans;
+      reads = reads_more h.reads c.in_ok-sift_next.ensures.reads;
+      none = none_more a.account b.account d.account h.none c.in_ok-sift_next.ensures.account;
       past = h.past ++ want ∷ s.more;
       split = h.split ∙ ap (λ ws. h.past ++ ws) split ∙ sym (append_assoc h.past (want ∷ s.more) new);
       apart = apart_from layout 0 tail.0 new tail.1 tail.2;
@@ -79,14 +80,16 @@ loop-want-preserved g c =
       sifts = sifts_more layout a.held c.requires.ready.table h.past want old new c.args.sifted.now before after share s h.sifts;
     }
 
-pub returns-in-Err-clause-account : goal.returns-in-Err-clause-account
-returns-in-Err-clause-account g c =
+pub returns-in_err-sift_next-clause-account : goal.returns-in_err-sift_next-clause-account
+returns-in_err-sift_next-clause-account g c =
     let a = g.R.Rack.seen c.args.rack.now in
     let b = g.R.Rack.seen c.loop-want.rack in
     let d = g.R.Rack.seen c.sift_next.new.rack in
     let h = c.loop-want.invariant in
-    account_then {A = Unit {0}} (LiesInStripe c.args.store.now.layout) a b d (Err c.in-Err.fault) (same_sure h.reads) h.none
-    (subst (λ (l : Layout). AccountsMend {A = Unit {0}} (LiesInStripe l) b d (Err c.in-Err.fault)) h.loans.layout c.in-Err.ensures.account)
+    let p = err_from_is_err_and c.from_residual.result c.from_residual.ensures.1 in
+    rw (p.1, p.2) (account_then {A = Unit {0}} (LiesInStripe c.args.store.now.layout) a b d (Err c.in_err-sift_next.field-0.0) (same_sure h.reads) h.none
+    (subst (λ (l : Layout). AccountsMend {A = Unit {0}} (LiesInStripe l) b d
+    (Err c.in_err-sift_next.field-0.0)) h.loans.layout c.in_err-sift_next.ensures.account))
 
 pub returns-clause-sifts : goal.returns-clause-sifts
 returns-clause-sifts g c =

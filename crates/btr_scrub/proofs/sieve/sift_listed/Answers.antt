@@ -31,8 +31,8 @@ returns-then-not-lies_in-clause-went g c between =
     (subst (AreUpTo c.args.store.now.layout c.args.sieve.now.end c.in-Ok.end) c.read_all.ensures c.in-Ok.ensures) between
     (sym c.lies_in.ensures ∙ c.if-not-lies_in.true)
 
-pub returns-in-Ok-sift-clause-went : goal.returns-in-Ok-sift-clause-went
-returns-in-Ok-sift-clause-went g c whole after h is =
+pub returns-in_ok-sift-in-Ok-clause-went : goal.returns-in_ok-sift-in-Ok-clause-went
+returns-in_ok-sift-in-Ok-clause-went g c whole after h is =
     let layout = c.args.store.now.layout in
     let held = (g.R.Rack.seen c.args.rack.now).held in
     let sieve = c.args.sieve.now in
@@ -42,10 +42,11 @@ returns-in-Ok-sift-clause-went g c whole after h is =
     stands_more layout held whole c.args.gathered.now after is sieve none h c.requires.ready.table
     (shares_span layout held whole sieve none h c.args.span.now c.in-Ok.end wants c.requires.ready.table c.requires.chunk c.requires.behind upto
     (sym c.lies_in.ensures ∙ c.if-not-lies_in.false))
-    c.sift.new.sifted c.in-Ok.end upto (subst (λ ws. Sifts layout held ws sieve.sifted c.sift.new.sifted) c.read_all-blocks.ensures c.in-Ok-sift.ensures.sifts)
+    c.sift.new.sifted c.in-Ok.end upto
+    (subst (λ ws. Sifts layout held ws sieve.sifted c.sift.new.sifted) c.read_all-blocks.ensures c.in_ok-sift-in-Ok.ensures.sifts)
 
-pub returns-in-Ok-sift-clause-end : goal.returns-in-Ok-sift-clause-end
-returns-in-Ok-sift-clause-end g c =
+pub returns-in_ok-sift-in-Ok-clause-end : goal.returns-in_ok-sift-in-Ok-clause-end
+returns-in_ok-sift-in-Ok-clause-end g c =
     let layout = c.args.store.now.layout in
     in_span layout c.args.span.now c.args.sieve.now.end c.in-Ok.end (kept_wants c.args.gathered.now.list) c.requires.behind
     (subst (AreUpTo layout c.args.sieve.now.end c.in-Ok.end) c.read_all.ensures c.in-Ok.ensures)

@@ -4,12 +4,12 @@ use Rattle.btr_chunk.specs.Table.{chunk_at}
 use Rattle.btr_read.specs.Fate.{sought}
 use Rattle.btr_read.specs.Layout.{Layout}
 use Rattle.btr_read.specs.Want.{addr_of, len_of}
-use Rattle.btr_scrub.specs.Sifting.{PassesCalm}
+use Rattle.btr_scrub.specs.Sifting.{PassesInert}
 use Rattle.btr_scrub.proofs.Doubting.{the_sought}
 use Rattle.btr_scrub.proofs.Lists.{some_if}
 use Rattle.btr_scrub.proofs.OneRow.{chunk_of}
 use Rattle.btr_scrub.proofs.PlainRows.{rows_kept}
-use Rattle.btr_scrub.proofs.Sieving.{calm_next, none_if}
+use Rattle.btr_scrub.proofs.Sieving.{inert_next, none_if}
 use Rattle.btr_scrub.proofs.sieve.sift_next.Goals as goal
 
 pub sift_row-requires-clause-parity : goal.sift_row-requires-clause-parity
@@ -26,14 +26,14 @@ returns-clause-sifts g c =
     let held = (g.R.Rack.seen c.args.rack.now).held in
     let want = c.args.want in
     let t = the_sought (sought layout want) c.requires.apart.1 in
-    let p = subst (λ (l : Layout). PassesCalm l want c.args.blocks.now c.pass_calm.new.blocks) c.in-Ok-sift_one.ensures.loans.layout c.pass_calm.ensures in
-    calm_next layout held want (addr_of want + len_of layout.setting want) c.args.blocks.now c.pass_calm.new.blocks p c.requires.apart.2 (omega arith)
-    c.sift_one.new.sifted c.in-Ok-sift_one.ensures.sifts.can c.requires.ready.table c.args.sifted.now t.0 t.1
+    let p = subst (λ (l : Layout). PassesInert l want c.args.blocks.now c.pass_inert.new.blocks) c.in_ok-sift_one.ensures.loans.layout c.pass_inert.ensures in
+    inert_next layout held want (addr_of want + len_of layout.setting want) c.args.blocks.now c.pass_inert.new.blocks p c.requires.apart.2 (omega arith)
+    c.sift_one.new.sifted c.in_ok-sift_one.ensures.sifts.can c.requires.ready.table c.args.sifted.now t.0 t.1
     (some_if (mirrors t.0.chunk) (ap is_none (sym (c.copies_of.ensures t.0 t.1)) ∙ ap not c.is_none.ensures ∙ ap (λ b. not (not b)) c.if-is_none.false))
-    c.in-Ok-sift_one.ensures.sifts
+    c.in_ok-sift_one.ensures.sifts
 
-pub returns-in-Ok-keep_plain-clause-sifts : goal.returns-in-Ok-keep_plain-clause-sifts
-returns-in-Ok-keep_plain-clause-sifts g c =
+pub returns-in-Ok-clause-sifts : goal.returns-in-Ok-clause-sifts
+returns-in-Ok-clause-sifts g c =
     let layout = c.args.store.now.layout in
     let held = (g.R.Rack.seen c.args.rack.now).held in
     let want = c.args.want in
@@ -42,6 +42,6 @@ returns-in-Ok-keep_plain-clause-sifts g c =
     let none = none_if (mirrors t.0.chunk) (ap is_some (sym (c.copies_of.ensures t.0 t.1)) ∙ c.is_none.ensures ∙ ap not c.if-is_none.true) in
     rows_kept layout c.requires.ready.table held want c.args.blocks.now c.sift_row.new.blocks c.keep_plain.new.blocks t.0.chunk
     c.args.sifted.now c.sift_row.new.sifted (record c.sift_row.new.sifted { kept = c.keep_plain.new.kept }) at none c.requires.apart
-    c.in-Ok.ensures.sifts refl
-    (c.in-Ok-keep_plain.ensures t.0.chunk (ap (λ (l : Layout). chunk_at l.chunks c.addr-addr.result) c.in-Ok.ensures.loans.layout
+    c.in_ok-sift_row.ensures.sifts refl
+    (c.in-Ok.ensures t.0.chunk (ap (λ (l : Layout). chunk_at l.chunks c.addr-addr.result) c.in_ok-sift_row.ensures.loans.layout
     ∙ ap (chunk_at layout.chunks) c.addr-addr.ensures ∙ at))

@@ -20,7 +20,7 @@ returns-in-Ok-clause-sifts g c =
     let t = the_sought (sought layout want) c.requires.sought in
     sifts_kept layout held (want ∷ []) c.args.sifted.now (record c.args.sifted.now { kept = c.push.new.self }) c.requires.can
     (one_needed layout held want t.0 true t.1 (c.requires.copies t.0 t.1)
-    (subst (λ b. IfSome held (λ images. b ≡ is_copy_needed images layout t.0)) c.in-Ok-true.field-0-test (c.in-Ok-true.ensures.needed t.0 t.1)))
+    (subst (λ b. IfSome held (λ images. b ≡ is_copy_needed images layout t.0)) c.if-branch.true (c.in_ok-is_needed.ensures.needed t.0 t.1)))
     c.in-Ok.ensures refl refl c.requires.can.rooms
 
 pub returns-then-not-is_plain-clause-sifts : goal.returns-then-not-is_plain-clause-sifts
@@ -36,7 +36,7 @@ returns-then-not-is_plain-clause-sifts g c =
     (tell held (λ images. 1 ≡ count_by is_checked (targets layout (want ∷ []))) (λ images h.
     sym (one_counted layout want t.0 t.1 ∙ ap (λ b. cond (not b) 1 0) plain)))
     (one_needed layout held want t.0 false t.1 (c.requires.copies t.0 t.1)
-    (subst (λ b. IfSome held (λ images. b ≡ is_copy_needed images layout t.0)) c.in-Ok-false.field-0-test (c.in-Ok-false.ensures.needed t.0 t.1)))
+    (subst (λ b. IfSome held (λ images. b ≡ is_copy_needed images layout t.0)) c.if-branch.false (c.in_ok-is_needed.ensures.needed t.0 t.1)))
     refl (λ n e. c.saturating_add-sifted.ensures ∙ ap (λ k. stood (k + 1)) e ∙ stood_add n 1)
 
 pub returns-else-not-is_plain-clause-sifts : goal.returns-else-not-is_plain-clause-sifts
@@ -50,5 +50,5 @@ returns-else-not-is_plain-clause-sifts g c =
     (tell held (λ images. 0 ≡ count_by is_checked (targets layout (want ∷ []))) (λ images h.
     sym (one_counted layout want t.0 t.1 ∙ ap (λ b. cond (not b) 1 0) plain)))
     (one_needed layout held want t.0 false t.1 (c.requires.copies t.0 t.1)
-    (subst (λ b. IfSome held (λ images. b ≡ is_copy_needed images layout t.0)) c.in-Ok-false.field-0-test (c.in-Ok-false.ensures.needed t.0 t.1)))
+    (subst (λ b. IfSome held (λ images. b ≡ is_copy_needed images layout t.0)) c.if-branch.false (c.in_ok-is_needed.ensures.needed t.0 t.1)))
     refl (λ n e. e ∙ ap stood (omega arith))

@@ -1,8 +1,7 @@
-use Rattle.std.proofs.Common.{Option, Some, None, Ok, subst, sym}
+use Rattle.std.proofs.Common.{Option, subst, sym}
 use Rattle.btr_prog.specs.Quiet.{quiet}
 use Rattle.btr_read.specs.Layout.{Layout}
 use Rattle.btr_read.proofs.ReadsOn.{same_held}
-use Rattle.btr_volume.specs.Looking.{Looks}
 use Rattle.btr_volume.specs.Tree.{tree_of}
 use Rattle.btr_volume.specs.declared.root.TreeRoot.{TreeRoot}
 use Rattle.btr_volume.specs.declared.stop.Stop.TheVariants.{Tree}
@@ -24,47 +23,23 @@ returns-in-Err-clause-sieves g c whole stands =
     (gathers_fault (tree_of s 7) old new c.args.vol.now c.tree.new.self whole c.in-Err.fault c.in-Err.ensures.serves
     c.in-Err.ensures.reads c.in-Err.ensures.same c.in-Err.ensures.cause c.in-Err.ensures.content))
 
-pub returns-in-Ok-None-clause-sieves : goal.returns-in-Ok-None-clause-sieves
-returns-in-Ok-None-clause-sieves g c whole stands =
+pub returns-clause-sieves : goal.returns-clause-sieves
+returns-clause-sieves g c whole stands =
     let s = c.args.vol.now.sup in
     let old = g.R.Rack.seen c.args.rack.now in
     let new = g.R.Rack.seen c.tree.new.rack in
     let layout = c.args.vol.now.store.layout in
-    let same = c.in-Ok-None.ensures.same in
+    let sums = c.in-Ok.sums in
+    let same = c.in-Ok.ensures.same in
     let mid = scene new c.tree.new.self whole in
-    let here = stands_as layout c.tree.new.self.store.layout old new whole c.args.sieve.now same.store.layout (same_held c.in-Ok-None.ensures.reads) stands in
-    sieves_then (quiet (tree_of s 7)) (λ sums. in_chunks s sums c.args.extents.now layout.chunks) (scene old c.args.vol.now whole) mid None
-    (gathers_found (tree_of s 7) old new c.args.vol.now c.tree.new.self whole None stands.is_whole c.in-Ok-None.ensures.serves
-    c.in-Ok-None.ensures.reads same
-    (subst (λ (r : Option TreeRoot). Looks layout old new (tree_of s 7) (Ok r)) c.in-Ok-None.field-0-is c.in-Ok-None.ensures.content))
+    let here = stands_as layout c.tree.new.self.store.layout old new whole c.args.sieve.now same.store.layout (same_held c.in-Ok.ensures.reads) stands in
+    sieves_then (quiet (tree_of s 7)) (λ sums. in_chunks s sums c.args.extents.now layout.chunks) (scene old c.args.vol.now whole) mid sums
+    (gathers_found (tree_of s 7) old new c.args.vol.now c.tree.new.self whole sums stands.is_whole c.in-Ok.ensures.serves
+    c.in-Ok.ensures.reads same c.in-Ok.ensures.content)
     (g.R.Rack.seen c.sift_chunks.new.rack) c.sift_chunks.new.vol c.sift_chunks.new.sieve c.sift_chunks.result
-    (sieves_as (λ t l. in_chunks t None c.args.extents.now l.chunks) s c.tree.new.self.sup layout c.tree.new.self.store.layout mid
+    (sieves_as (λ t l. in_chunks t sums c.args.extents.now l.chunks) s c.tree.new.self.sup layout c.tree.new.self.store.layout mid
     (g.R.Rack.seen c.sift_chunks.new.rack) c.sift_chunks.new.vol c.sift_chunks.new.sieve c.sift_chunks.result same.sup same.store.layout
     (c.sift_chunks.ensures.sieves whole here))
 
-pub returns-in-Ok-Some-clause-sieves : goal.returns-in-Ok-Some-clause-sieves
-returns-in-Ok-Some-clause-sieves g c whole stands =
-    let s = c.args.vol.now.sup in
-    let old = g.R.Rack.seen c.args.rack.now in
-    let new = g.R.Rack.seen c.tree.new.rack in
-    let layout = c.args.vol.now.store.layout in
-    let sums = c.in-Ok-Some.sums in
-    let same = c.in-Ok-Some.ensures.same in
-    let mid = scene new c.tree.new.self whole in
-    let here = stands_as layout c.tree.new.self.store.layout old new whole c.args.sieve.now same.store.layout (same_held c.in-Ok-Some.ensures.reads) stands in
-    sieves_then (quiet (tree_of s 7)) (λ sums. in_chunks s sums c.args.extents.now layout.chunks) (scene old c.args.vol.now whole) mid (Some sums)
-    (gathers_found (tree_of s 7) old new c.args.vol.now c.tree.new.self whole (Some sums) stands.is_whole c.in-Ok-Some.ensures.serves
-    c.in-Ok-Some.ensures.reads same
-    (subst (λ (r : Option TreeRoot). Looks layout old new (tree_of s 7) (Ok r)) c.in-Ok-Some.field-0-is c.in-Ok-Some.ensures.content))
-    (g.R.Rack.seen c.sift_chunks-in-Ok-Some.new.rack) c.sift_chunks-in-Ok-Some.new.vol c.sift_chunks-in-Ok-Some.new.sieve c.sift_chunks-in-Ok-Some.result
-    (sieves_as (λ t l. in_chunks t (Some sums) c.args.extents.now l.chunks) s c.tree.new.self.sup layout c.tree.new.self.store.layout mid
-    (g.R.Rack.seen c.sift_chunks-in-Ok-Some.new.rack) c.sift_chunks-in-Ok-Some.new.vol c.sift_chunks-in-Ok-Some.new.sieve c.sift_chunks-in-Ok-Some.result
-    same.sup same.store.layout (c.sift_chunks-in-Ok-Some.ensures.sieves whole here))
-
 pub sift_chunks-requires-clause-can : goal.sift_chunks-requires-clause-can
-sift_chunks-requires-clause-can g c =
-    subst (λ (l : Layout). CanSift l c.args.sieve.now.sifted) (sym c.in-Ok-None.ensures.same.store.layout) c.requires.can
-
-pub sift_chunks-requires-in-Ok-Some-clause-can : goal.sift_chunks-requires-in-Ok-Some-clause-can
-sift_chunks-requires-in-Ok-Some-clause-can g c =
-    subst (λ (l : Layout). CanSift l c.args.sieve.now.sifted) (sym c.in-Ok-Some.ensures.same.store.layout) c.requires.can
+sift_chunks-requires-clause-can g c = subst (λ (l : Layout). CanSift l c.args.sieve.now.sifted) (sym c.in-Ok.ensures.same.store.layout) c.requires.can

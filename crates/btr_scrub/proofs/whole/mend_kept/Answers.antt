@@ -62,15 +62,15 @@ returns-in-Ok-mend_all-clause-works g c =
     let kept = flagged flags in
     let was = serving a c.args.vol.now.store c.requires.ready.serves in
     let start = begun c.args.sieve.sifted.sound c.args.sieve.unchecked in
-    let end = c.mend_all.new.tally in
+    let end = c.mend_all.new.progress.tally in
     let flagged_so = subst (λ fs. Works {A = Unit {0}} layout c.args.write (all_writes_for (flagged fs) layout layout.chunks c.read_all-blocks.result)
-    (all_count_for (flagged fs) layout c.args.write layout.chunks c.read_all-blocks.result) b z c.begun-tally.result end (Ok tt))
+    (all_count_for (flagged fs) layout c.args.write layout.chunks c.read_all-blocks.result) b z c.begun.result end (Ok tt))
     c.deref.ensures.value c.in-Ok-mend_all.ensures.works in
     let listed = subst (λ ws. Works {A = Unit {0}} layout c.args.write (all_writes_for kept layout layout.chunks ws)
-    (all_count_for kept layout c.args.write layout.chunks ws) b z c.begun-tally.result end (Ok tt))
+    (all_count_for kept layout c.args.write layout.chunks ws) b z c.begun.result end (Ok tt))
     c.read_all-blocks.ensures flagged_so in
     let begun = subst (λ t. Works {A = Unit {0}} layout c.args.write (all_writes_for kept layout layout.chunks wants)
-    (all_count_for kept layout c.args.write layout.chunks wants) b z t end (Ok tt)) c.begun-tally.ensures listed in
+    (all_count_for kept layout c.args.write layout.chunks wants) b z t end (Ok tt)) c.begun.ensures listed in
     record {
       tally = end;
       ended = Ok tt;
@@ -90,16 +90,16 @@ returns-clause-works g c =
     let kept = flagged flags in
     let was = serving a c.args.vol.now.store c.requires.ready.serves in
     let start = begun c.args.sieve.sifted.sound c.args.sieve.unchecked in
-    let end = c.mend_all.new.tally in
+    let end = c.mend_all.new.progress.tally in
     let fault = c.in-Err-mend_all.fault in
     let flagged_so = subst (λ fs. Works {A = Unit {0}} layout c.args.write (all_writes_for (flagged fs) layout layout.chunks c.read_all-blocks.result)
-    (all_count_for (flagged fs) layout c.args.write layout.chunks c.read_all-blocks.result) b z c.begun-tally.result end (Err fault))
+    (all_count_for (flagged fs) layout c.args.write layout.chunks c.read_all-blocks.result) b z c.begun.result end (Err fault))
     c.deref.ensures.value c.in-Err-mend_all.ensures.works in
     let listed = subst (λ ws. Works {A = Unit {0}} layout c.args.write (all_writes_for kept layout layout.chunks ws)
-    (all_count_for kept layout c.args.write layout.chunks ws) b z c.begun-tally.result end (Err fault))
+    (all_count_for kept layout c.args.write layout.chunks ws) b z c.begun.result end (Err fault))
     c.read_all-blocks.ensures flagged_so in
     let begun = subst (λ t. Works {A = Unit {0}} layout c.args.write (all_writes_for kept layout layout.chunks wants)
-    (all_count_for kept layout c.args.write layout.chunks wants) b z t end (Err fault)) c.begun-tally.ensures listed in
+    (all_count_for kept layout c.args.write layout.chunks wants) b z t end (Err fault)) c.begun.ensures listed in
     record {
       tally = end;
       ended = Err fault;

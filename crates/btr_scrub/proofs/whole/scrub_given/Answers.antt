@@ -1,4 +1,8 @@
-use Rattle.std.proofs.Common.{◌+◌, [], Ok, refl, sym, ap, ◌∙◌, subst, arith}
+use Rattle.std.proofs.Common.{◌+◌, [], Ok, length, drop, refl, sym, ap, ◌∙◌, subst, arith}
+use Rattle.std.proofs.lemmas.List.{take_at}
+use Rattle.std.proofs.lemmas.Result.{err_from_is_err_and}
+use Rattle.btr_scrub_copies.specs.Writes.{AreWritable}
+use Rattle.btr_read.proofs.ReadsOn.{same_slots}
 use Rattle.std.specs.Prelude.{count_by}
 use Rattle.btr_prog.specs.Answers.{Follows, no_part}
 use Rattle.btr_prog.specs.Prog.{exec}
@@ -23,19 +27,20 @@ returns-in_default-clause-scrubs g c = scrubs_memory c.args.vol.now.sup c.args.v
 pub returns-in_default-vec-clause-scrubs : goal.returns-in_default-vec-clause-scrubs
 returns-in_default-vec-clause-scrubs g c = scrubs_memory c.args.vol.now.sup c.args.vol.now.store.layout c.args.write (g.R.Rack.seen c.args.rack.now)
 
-pub returns-in-Err-clause-scrubs : goal.returns-in-Err-clause-scrubs
-returns-in-Err-clause-scrubs g c =
-    scrubs_stopped c.args.vol.now.sup c.args.vol.now.store.layout c.args.write (g.R.Rack.seen c.args.rack.now)
-    (g.R.Rack.seen c.sift_blocks.new.rack) c.in-Err.stop
-    c.in-Err.ensures.reads c.in-Err.ensures.sifts
+pub returns-in_err-sieve-clause-scrubs : goal.returns-in_err-sieve-clause-scrubs
+returns-in_err-sieve-clause-scrubs g c =
+    let p = err_from_is_err_and c.from_residual.result c.from_residual.ensures.1 in
+    rw (p.1, p.2) (scrubs_stopped c.args.vol.now.sup c.args.vol.now.store.layout c.args.write (g.R.Rack.seen c.args.rack.now)
+    (g.R.Rack.seen c.sift_blocks.new.rack) c.in_err-sieve.field-0.0
+    c.in_err-sieve.ensures.reads c.in_err-sieve.ensures.sifts)
 
 pub mend_kept-requires-clause-apart : goal.mend_kept-requires-clause-apart
 mend_kept-requires-clause-apart g c =
     let layout = c.args.vol.now.store.layout in
-    let sieve = c.in-Ok-sift_blocks.sieve in
-    let is = c.in-Ok-sift_blocks.ensures.sifts in
+    let sieve = c.in_ok-sieve.sieve in
+    let is = c.in_ok-sieve.ensures.sifts in
     let judged = subst (Judges layout (g.R.Rack.seen c.sift_blocks.new.rack).held (wants_among is.0) sieve) c.in-None.is is.1.judged in
-    subst (λ (l : Layout). AreApart l 0 (kept_wants sieve.sifted.kept)) (sym c.in-Ok-sift_blocks.ensures.volume.store.layout)
+    subst (λ (l : Layout). AreApart l 0 (kept_wants sieve.sifted.kept)) (sym c.in_ok-sieve.ensures.volume.store.layout)
     (between_apart layout 0 sieve.end (kept_wants sieve.sifted.kept) judged.kept_apart)
 
 pub returns-in-Some-clause-scrubs : goal.returns-in-Some-clause-scrubs
@@ -44,12 +49,12 @@ returns-in-Some-clause-scrubs g c =
     let layout = c.args.vol.now.store.layout in
     let old = g.R.Rack.seen c.args.rack.now in
     let mid = g.R.Rack.seen c.sift_blocks.new.rack in
-    let is = c.in-Ok-sift_blocks.ensures.sifts in
+    let is = c.in_ok-sieve.ensures.sifts in
     let fault = c.in-Some.fault in
-    let refused = subst (Judges layout mid.held (wants_among is.0) c.in-Ok-sift_blocks.sieve) c.in-Some.is is.1.judged in
+    let refused = subst (Judges layout mid.held (wants_among is.0) c.in_ok-sieve.sieve) c.in-Some.is is.1.judged in
     record {
       mid = mid;
-      reads = c.in-Ok-sift_blocks.ensures.reads;
+      reads = c.in_ok-sieve.ensures.reads;
       done = is.0;
       listing = Refused fault;
       goes = (
@@ -63,20 +68,20 @@ returns-in-Some-clause-scrubs g c =
       );
     }
 
-pub returns-clause-scrubs : goal.returns-clause-scrubs
-returns-clause-scrubs g c =
+pub returns-in-None-clause-scrubs : goal.returns-in-None-clause-scrubs
+returns-in-None-clause-scrubs g c =
     let layout = c.args.vol.now.store.layout in
     let mid = g.R.Rack.seen c.sift_blocks.new.rack in
     let new = g.R.Rack.seen c.mend_kept.new.rack in
-    let sieve = c.in-Ok-sift_blocks.sieve in
+    let sieve = c.in_ok-sieve.sieve in
     let kept = kept_wants sieve.sifted.kept in
-    let is = c.in-Ok-sift_blocks.ensures.sifts in
+    let is = c.in_ok-sieve.ensures.sifts in
     let judged = subst (Judges layout mid.held (wants_among is.0) sieve) c.in-None.is is.1.judged in
     let works = subst (λ (l : Layout). WorksFrom l c.args.write kept (begun sieve.sifted.sound sieve.unchecked) mid new c.mend_kept.result)
-    c.in-Ok-sift_blocks.ensures.volume.store.layout c.mend_kept.ensures.works in
+    c.in_ok-sieve.ensures.volume.store.layout c.mend_kept.ensures.works in
     record {
       mid = mid;
-      reads = c.in-Ok-sift_blocks.ensures.reads;
+      reads = c.in_ok-sieve.ensures.reads;
       done = is.0;
       listing = Listed;
       goes = (
@@ -89,5 +94,19 @@ returns-clause-scrubs g c =
 
 pub mend_kept-requires-clause-can : goal.mend_kept-requires-clause-can
 mend_kept-requires-clause-can g c =
-    subst (λ (l : Layout). CanSift l c.in-Ok-sift_blocks.sieve.sifted)
-    (sym c.in-Ok-sift_blocks.ensures.volume.store.layout) c.in-Ok-sift_blocks.ensures.sifts.1.can
+    subst (λ (l : Layout). CanSift l c.in_ok-sieve.sieve.sifted)
+    (sym c.in_ok-sieve.ensures.volume.store.layout) c.in_ok-sieve.ensures.sifts.1.can
+
+pub mend_kept-requires-clause-ready : goal.mend_kept-requires-clause-ready
+mend_kept-requires-clause-ready g c =
+    let can = c.in_ok-sieve.ensures.ready in
+    let marks = c.sift_blocks.new.marks in
+    let old = c.in-Ok-vec.marks in
+    record {
+      serves = can.serves;
+      room = can.room;
+      writable = λ w. subst AreWritable (sym (same_slots c.in_ok-sieve.ensures.reads)) (c.requires.writable w);
+      slots = ap length (take_at marks (drop (length marks) old.items) old.len (c.sift_blocks.auto.marks ∙ c.deref_mut.ensures.len)) ∙ can.slots;
+      table = can.table;
+      given = can.given;
+    }

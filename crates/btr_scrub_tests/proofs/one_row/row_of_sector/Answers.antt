@@ -38,11 +38,18 @@ returns-in-Ok-clause-row c =
     let own = (serving (seen_of c.args.rack.now) c.args.store.now c.requires).own_slots in
     let row : Row = record { chunk = chunk; number = c.in-Ok.at.row; blocks = t ∷ []; failing = λ slot. false } in
     let inside : row.number * 65536 + 65536 ≤ stripe_length chunk =
-    subst (λ (e : Elements). e.row * 65536 + 65536 ≤ stripe_length chunk) (sym is.at) (row_fits layout table is.number chunk is.there parity c.args.addr is.held) in
+    subst (λ (e : Elements). e.row * 65536 + 65536 ≤ stripe_length chunk) (sym is.at)
+    (row_fits layout table is.number chunk is.there parity c.args.addr is.held) in
     record {
       row = row;
       is = record {
-        stripe = record { chunk = start_there layout table is.number chunk is.there parity; number_is = refl; parity = parity; inside = inside; stand = λ q part. element_stands (λ slot. false) layout table own given is.number chunk is.there [] row.number q parity inside part };
+        stripe = record {
+          chunk = start_there layout table is.number chunk is.there parity;
+          number_is = refl;
+          parity = parity;
+          inside = inside;
+          stand = λ q part. element_stands (λ slot. false) layout table own given is.number chunk is.there [] row.number q parity inside part;
+        };
         blocks = ap (λ s. s ∷ []) has;
         lie = All-cons (IsOn row) t [] (record { chunk = refl; number = refl }) (All-nil (IsOn row));
       };

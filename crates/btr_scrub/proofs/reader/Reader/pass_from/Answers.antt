@@ -20,7 +20,8 @@ overflow_sub-count c = omega (
 )
 
 pub overflow_add-self : goal.overflow_add-self
-overflow_add-self c = omega (arith, c.in-Some.ensures.few, slice_get_within c.self.inside.listed.now.runs c.self.inside.run c.in-Some.run' (sym c.in-Some.ensures.run))
+overflow_add-self c =
+    omega (arith, c.in-Some.ensures.few, slice_get_within c.self.inside.listed.now.runs c.self.inside.run c.in-Some.run' (sym c.in-Some.ensures.run))
 
 pub overflow_add-result : goal.overflow_add-result
 overflow_add-result c = omega (

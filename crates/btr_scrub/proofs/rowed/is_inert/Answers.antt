@@ -6,9 +6,9 @@ use Rattle.btr_read.specs.Fate.{is_plain}
 use Rattle.btr_read.proofs.Fates.{sought_of}
 use Rattle.btr_scrub_copies.specs.Fresh.{flagged}
 use Rattle.btr_scrub_row.specs.Rows.{has_doubtful}
-use Rattle.btr_scrub.proofs.CalmRows.{sought_of_row}
+use Rattle.btr_scrub.proofs.InertRows.{sought_of_row}
 use Rattle.btr_scrub.proofs.Lists.{all_from, all_in}
-use Rattle.btr_scrub.proofs.rowed.is_calm.Goals as goal
+use Rattle.btr_scrub.proofs.rowed.is_inert.Goals as goal
 
 not_true : (b : Bool) → IsTrue (not b) → b ≡ false
 not_true true h = cc

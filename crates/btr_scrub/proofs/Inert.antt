@@ -1,16 +1,15 @@
 -- Where no image of a chunk is behind, nothing is stale there.
-use Rattle.std.proofs.Common.{◌≡◌, ℕ, Bool, true, false, ◌&&◌, not, List, [], ◌∷◌, length, map, Option, Some, None, refl, sym, ap, ◌∙◌, subst, ◌||◌}
+use Rattle.std.proofs.Common.{◌≡◌, ℕ, Bool, true, false, ◌&&◌, List, [], length, Option, Some, None, refl, sym, ap, ◌∙◌, subst, ◌||◌, nat_lt, cond}
 use Rattle.std.specs.List.{range_with_len}
 use Rattle.std.specs.Option.{option_map_or}
-use Rattle.std.specs.Str.{bytes_eq}
 use Rattle.btr_chunk.specs.Chunk.{mirrors}
 use Rattle.btr_chunk.specs.Mapping.{place_at}
 use Rattle.btr_chunk.specs.Table.{IsTable}
 use Rattle.btr_chunk.specs.declared.chunk.Chunk.{Chunk}
 use Rattle.btr_chunk.specs.declared.place.Part.{Part}
-use Rattle.btr_chunk.specs.declared.place.Part.TheVariants.{Mirror, Slice}
+use Rattle.btr_chunk.specs.declared.place.Part.TheVariants.{Mirror}
 use Rattle.btr_chunk.specs.declared.stripe.Stripe.{Stripe}
-use Rattle.btr_read.specs.Candidates.{Target, element}
+use Rattle.btr_read.specs.Candidates.{Target}
 use Rattle.btr_read.specs.Layout.{Layout, device_in}
 use Rattle.btr_read.specs.declared.device.Device.{Device}
 use Rattle.btr_read.specs.declared.device.Member.{Member}
@@ -19,20 +18,21 @@ use Rattle.btr_scrub_copies.specs.Blocks.{copy_writes, own_parts}
 use Rattle.btr_scrub_copies.specs.Writes.{Images, writes_if}
 use Rattle.btr_scrub_copies.specs.declared.mended.Mended.{Mended}
 use Rattle.btr_scrub_copies.proofs.Copied.{has_mirror}
-use Rattle.btr_scrub_copies.specs.Fresh.{Failing, fresh, fresh_writes, freshened, is_behind, is_on_behind, is_stale, stale_beside, stale_parts}
+use Rattle.btr_scrub_copies.specs.Fresh.{Failing, fresh, fresh_writes, freshened, is_behind, is_on_behind, stale_parts, is_doubtful}
 use Rattle.btr_scrub.specs.BlocksInRows.{In}
 use Rattle.btr_scrub.specs.Judged.{has_behind, has_older, is_older}
 use Rattle.btr_scrub.specs.Order.{IsSought}
-use Rattle.btr_scrub.proofs.Blockwise.{filter_none}
 use Rattle.btr_scrub.proofs.Positions.{on_stripe}
 use Rattle.btr_chunk.proofs.Searches.{fails-list_any, list_any-false}
-use Rattle.btr_scrub.proofs.Lists.{of_mapped}
+use Rattle.btr_scrub.proofs.Lists.{of_mapped, in_some}
 use Rattle.std.proofs.lemmas.Bool.{and_left, or_parts}
-use Rattle.btr_scrub_copies.specs.Fresh.{is_doubtful}
+use Rattle.btr_scrub.proofs.OwnPlaces.{own_copies}
+use Rattle.btr_scrub_row.specs.Wanted.{renewed}
+use Rattle.btr_scrub_copies.proofs.Freshness.{none_stale as stale_not}
 
 -- an image that isn't older isn't behind
-calm_device : (fails : Failing) (devices : List Member) (devid : ℕ) → is_older devices devid ≡ false → is_behind devices fails devid ≡ false
-calm_device fails devices devid h = by (device_in devices devid) h
+inert_device : (fails : Failing) (devices : List Member) (devid : ℕ) → is_older devices devid ≡ false → is_behind devices fails devid ≡ false
+inert_device fails devices devid h = by (device_in devices devid) h
   where
     by : (o : Option Device) → option_map_or (λ device. device.older) o false ≡ false
         → option_map_or (λ device. device.older && fails device.slot) o false ≡ false
@@ -49,36 +49,30 @@ sure_device fails devices devid h = by (device_in devices devid) h
     by (Some device) h = and_left device.older (fails device.slot) (or_parts device.older (fails device.slot) h).0
 
 -- nor is one of a chunk without older ones
-pub calm_chunk : (fails : Failing) (devices : List Member) (chunk : Chunk) → has_older devices chunk ≡ false → has_behind devices fails chunk ≡ false
-calm_chunk fails devices chunk h =
+pub inert_chunk : (fails : Failing) (devices : List Member) (chunk : Chunk) → has_older devices chunk ≡ false → has_behind devices fails chunk ≡ false
+inert_chunk fails devices chunk h =
     list_any-false (λ (stripe : Stripe). is_behind devices fails stripe.devid) chunk.stripes
-    (λ i stripe e. calm_device fails devices stripe.devid (fails-list_any (λ (stripe : Stripe). is_older devices stripe.devid) chunk.stripes h i stripe e))
+    (λ i stripe e. inert_device fails devices stripe.devid (fails-list_any (λ (stripe : Stripe). is_older devices stripe.devid) chunk.stripes h i stripe e))
 
 -- nothing is done for a sector
 abbrev pub nothing : Mended
 nothing = record { bad = 0; repaired = 0; lost = false }
 
-module _ (fails : Failing) (layout : Layout) (t : Target) (n : ℕ) (table : IsTable layout.chunks) (is : IsSought layout t) (has : mirrors t.chunk ≡ Some n) (calm : has_behind layout.devices fails t.chunk ≡ false) where
-  own : own_parts t ≡ map Mirror (range_with_len 0 n)
-  own = ap (λ o. option_map_or (λ copies. map Mirror (range_with_len 0 copies)) o (Slice t.at.index ∷ [])) has
-
+module _ (fails : Failing) (layout : Layout) (t : Target) (n : ℕ) (table : IsTable layout.chunks) (is : IsSought layout t) (has : mirrors t.chunk ≡ Some n)
+    (inert : has_behind layout.devices fails t.chunk ≡ false) where
   not_behind : (part : Part) → In part (own_parts t) → is_on_behind fails t part ≡ false
   not_behind part i =
-      let k = of_mapped Mirror part (range_with_len 0 n) (subst (In part) own i) in
+      let k = of_mapped Mirror part (range_with_len 0 n) (subst (In part) (own_copies t n has) i) in
       let on = on_stripe layout t (Mirror k.0) table is (has_mirror t n k.0 has (in_below n k.0 k.1)) in
       ap (is_on_behind fails t) (sym k.2)
       ∙ ap (λ ds. is_behind ds fails (place_at t.chunk (Mirror k.0) t.at).devid) is.devices
       ∙ ap (is_behind layout.devices fails) on.devid
-      ∙ fails-list_any (λ (stripe : Stripe). is_behind layout.devices fails stripe.devid) t.chunk.stripes calm on.number on.stripe on.there
+      ∙ fails-list_any (λ (stripe : Stripe). is_behind layout.devices fails stripe.devid) t.chunk.stripes inert on.number on.stripe on.there
 
   module _ (images : Images) where
     pub none_stale : stale_parts images fails t ≡ []
-    none_stale = by (fresh images fails t)
-      where
-        by : (o : Option (List ℕ)) → option_map_or (stale_beside images fails t) o [] ≡ []
-        by None = refl
-        by (Some bytes) = filter_none (is_stale images fails t bytes) (own_parts t)
-            (λ part i. ap (λ b. b && not (bytes_eq (element images t part) bytes)) (not_behind part i))
+    none_stale = stale_not images fails t
+        (list_any-false (is_on_behind fails t) (own_parts t) (λ k part e. not_behind part (in_some part (own_parts t) k e)))
 
     pub none_fresh : fresh_writes images fails t ≡ []
     none_fresh = ap (λ ps. option_map_or (λ bytes. copy_writes t bytes ps) (fresh images fails t) []) none_stale ∙ by (fresh images fails t)
@@ -86,6 +80,9 @@ module _ (fails : Failing) (layout : Layout) (t : Target) (n : ℕ) (table : IsT
         by : (o : Option (List ℕ)) → option_map_or (λ bytes. copy_writes t bytes []) o [] ≡ []
         by None = refl
         by (Some bytes) = refl
+
+    pub none_renewed : renewed images fails t ≡ None
+    none_renewed = ap (λ ps. cond (nat_lt 0 (length ps)) (fresh images fails t) None) none_stale
 
     pub none_freshened : (write : Bool) → freshened images fails t write ≡ nothing
     none_freshened write =

@@ -1,46 +1,40 @@
 -- A full stripe that holds nothing but plain sectors, in a chunk no image of which is in doubt: nothing is written there, and nothing counted.
-use Rattle.std.proofs.Common.{◌≡◌, ℕ, Bool, true, false, not, cond, ◌&&◌, ◌||◌, List, [], ◌∷◌, ◌++◌, length, map, nat_lt, None}
-use Rattle.std.proofs.Common.{IsNone, is_some, Ok, refl, sym, ap, ◌∙◌, subst, inl, inr}
-use Rattle.std.specs.List.{filter_map, flat_map, list_all, list_any, range_with_len}
+use Rattle.std.proofs.Common.{◌≡◌, ℕ, Bool, true, false, not, cond, ◌&&◌, ◌||◌, List, [], ◌∷◌, ◌++◌, length, map, nat_lt, None, IsNone, is_some, Ok, refl, sym}
+use Rattle.std.proofs.Common.{ap, ◌∙◌, subst, inl, inr}
+use Rattle.std.specs.List.{filter_map, list_all, list_any, range_with_len}
 use Rattle.std.specs.Option.{option_map_or}
 use Rattle.btr_chunk.specs.Chunk.{mirrors}
-use Rattle.btr_chunk.specs.Mapping.{IsPosition, place_at}
+use Rattle.btr_chunk.specs.Mapping.{place_at}
 use Rattle.btr_chunk.specs.Table.{IsTable}
 use Rattle.btr_chunk.specs.declared.place.Part.{Part}
 use Rattle.btr_chunk.specs.declared.place.Part.TheVariants.{Slice}
 use Rattle.btr_chunk.specs.declared.stripe.Stripe.{Stripe}
-use Rattle.btr_chunk.proofs.Bytes.{IsPosition-position}
 use Rattle.btr_read.specs.Candidates.{Target}
 use Rattle.btr_read.specs.Fate.{is_plain, sought}
 use Rattle.btr_read.specs.Layout.{Layout}
-use Rattle.btr_read.specs.Want.{addr_of}
 use Rattle.btr_read.specs.declared.want.Want.{Want}
 use Rattle.btr_scrub_copies.specs.Blocks.{accepted, bad_parts, copy_writes, is_lost}
 use Rattle.btr_scrub_copies.specs.Fresh.{fresh, is_behind, is_doubtful, is_on_behind, is_on_doubtful, stale_parts}
 use Rattle.btr_scrub_copies.specs.Writes.{Images}
 use Rattle.btr_scrub_copies.proofs.Freshness.{none_stale}
 use Rattle.btr_scrub_row.specs.Mending.{IsOn, IsRowOf, is_at, mended_row}
-use Rattle.btr_scrub_row.specs.Rows.{Row, differs, has_doubtful, is_decided, is_sure, is_surer, meets, parities, parities_writes, parity_writes}
-use Rattle.btr_scrub_row.specs.Rows.{row_writes, sector_write}
+use Rattle.btr_scrub_row.specs.Rows.{Row, differs, has_doubtful, is_decided, is_sure, is_surer, meets, parities, parities_writes, parity_writes, row_writes}
+use Rattle.btr_scrub_row.specs.Rows.{sector_write}
 use Rattle.btr_scrub_row.specs.Wanted.{is_checked, is_lost_block, mending_writes, new_bytes, renewed, wrong_parts}
 use Rattle.btr_scrub_row.specs.declared.mended.MendedRow.{MendedRow}
 use Rattle.btr_scrub_row.proofs.Settled.{mending_is, own as own_are}
 use Rattle.btr_scrub.specs.BlocksInRows.{In}
 use Rattle.btr_scrub.specs.Order.{IsSought}
-use Rattle.btr_scrub.specs.Rowing.{IsCalm, untouched}
+use Rattle.btr_scrub.specs.Rowing.{IsInert, untouched}
 use Rattle.btr_scrub.proofs.Blockwise.{filter_none}
-use Rattle.btr_scrub.proofs.Lists.{all_in}
-use Rattle.btr_scrub.proofs.Positions.{is_sought, on_stripe}
+use Rattle.btr_scrub.proofs.Lists.{all_in, flat_none}
+use Rattle.btr_scrub.proofs.Positions.{is_sought, on_stripe, position_is}
 use Rattle.btr_scrub.proofs.Sums.{sum_zero}
 use Rattle.btr_chunk.proofs.Searches.{fails-list_any}
-use Rattle.btr_scrub.proofs.Calm.{sure_device}
+use Rattle.btr_scrub.proofs.Inert.{sure_device}
 use Rattle.std.proofs.Math.Bool.{or-false}
 
 -- ---- lists
-
-pub flat_none : {X Y : Type 0} (f : X → List Y) (xs : List X) → ((x : X) → In x xs → f x ≡ []) → flat_map f xs ≡ []
-flat_none f [] h = refl
-flat_none f (x ∷ xs) h = ap (λ ys. ys ++ flat_map f xs) (h x (inl refl)) ∙ flat_none f xs (λ y i. h y (inr i))
 
 -- a column in which nothing is sure isn't decided
 none_decided : (meets sure : Target → Bool) (ts : List Target) → ((t : Target) → In t ts → sure t ≡ false)
@@ -75,7 +69,7 @@ sought_in_row layout start number wants row of t i =
     (is_sought layout w.0 t w.2, on.chunk)
 
 module _ (layout : Layout) (table : IsTable layout.chunks) (row : Row) (lie : (t : Target) → In t row.blocks → IsSought layout t × (t.chunk ≡ row.chunk))
-    (parity : mirrors row.chunk ≡ None) (calm : IsCalm layout row) where
+    (parity : mirrors row.chunk ≡ None) (inert : IsInert layout row) where
   -- ---- one sector
 
   module _ (t : Target) (i : In t row.blocks) where
@@ -83,7 +77,7 @@ module _ (layout : Layout) (table : IsTable layout.chunks) (row : Row) (lie : (t
     is = (lie t i).0
 
     plain : is_plain t.want ≡ true
-    plain = all_in (λ t. is_plain t.want ≡ true) row.blocks t calm.plain i
+    plain = all_in (λ t. is_plain t.want ≡ true) row.blocks t inert.plain i
 
     mine : t.chunk ≡ row.chunk
     mine = (lie t i).1
@@ -93,10 +87,8 @@ module _ (layout : Layout) (table : IsTable layout.chunks) (row : Row) (lie : (t
 
     not_behind : is_on_behind row.failing t (Slice t.at.index) ≡ false
     not_behind =
-        let position : IsPosition t.chunk t.at = subst (IsPosition t.chunk) (sym is.at)
-        (IsPosition-position t.chunk (addr_of t.want) (table.sound is.number t.chunk is.there).0 is.held) in
-        let at = on_stripe layout t (Slice t.at.index) table is (subst IsNone (sym none) refl, position.index) in
-        let sure : has_doubtful layout.devices row.failing t.chunk ≡ false = ap (has_doubtful layout.devices row.failing) mine ∙ calm.sure in
+        let at = on_stripe layout t (Slice t.at.index) table is (subst IsNone (sym none) refl, (position_is layout t table is).index) in
+        let sure : has_doubtful layout.devices row.failing t.chunk ≡ false = ap (has_doubtful layout.devices row.failing) mine ∙ inert.sure in
         ap (λ ds. is_behind ds row.failing (place_at t.chunk (Slice t.at.index) t.at).devid) is.devices
         ∙ ap (is_behind layout.devices row.failing) at.devid
         ∙ sure_device row.failing layout.devices at.stripe.devid
@@ -127,7 +119,7 @@ module _ (layout : Layout) (table : IsTable layout.chunks) (row : Row) (lie : (t
       unsure : is_sure images layout row t ≡ false
       unsure = ap (λ o. is_some o || is_plain t.want && is_surer images layout row t) none_given
           ∙ ap (λ b. b && is_surer images layout row t) plain
-          ∙ ap (λ b. b && not (is_on_doubtful row.failing t (Slice t.at.index))) calm.sure
+          ∙ ap (λ b. b && not (is_on_doubtful row.failing t (Slice t.at.index))) inert.sure
 
   -- ---- the row
 
@@ -140,13 +132,13 @@ module _ (layout : Layout) (table : IsTable layout.chunks) (row : Row) (lie : (t
         (filter_none (λ column. is_decided images layout row column && differs images layout row q column) (range_with_len 0 16)
         (λ column i. ap (λ b. b && differs images layout row q column) (undecided column)))
 
-    pub calm_writes : row_writes images layout row ≡ []
-    calm_writes =
+    pub inert_writes : row_writes images layout row ≡ []
+    inert_writes =
         ap (λ ws. ws ++ parities_writes images layout row) (flat_none (mending_writes images row.failing) row.blocks (λ t i. none_written t i images))
         ∙ flat_none (parity_writes images layout row) (parities row.chunk.profile) (λ q i. none_parity q)
 
-    pub calm_counts : (write : Bool) → mended_row images layout row write ≡ untouched
-    calm_counts write =
+    pub inert_counts : (write : Bool) → mended_row images layout row write ≡ untouched
+    inert_counts write =
         let blocks = sum_zero (λ t. cond (is_checked t) 1 0) row.blocks (λ t i. ap (λ b. cond b 1 0) (unchecked t i images)) in
         let bad = sum_zero (λ t. length (wrong_parts images row.failing t)) row.blocks (λ t i. ap length (none_wrong t i images)) in
         let repaired = sum_zero (λ t. length (mending_writes images row.failing t)) row.blocks (λ t i. ap length (none_written t i images)) in
