@@ -552,7 +552,7 @@ module _ (dest name : List ℕ) (source : Source) (long : length name ≤ 255) (
           replayed =
               ap replay whole
               ∙ (replays name source.uuid transid inner (omega (arith, long), uuid, transid_fits source.transid) h.told.inner
-              ∙ (ap members_of h.told.played ∙ ap (λ (x : restored.Place). Some x.members) (sym h.place)));
+              ∙ (ap members_of h.told.played ∙ ap (λ (x : restored.TreePlace). Some x.members) (sym h.place)));
         },
         same,
       )

@@ -68,26 +68,26 @@ module _ (by : Rules) (plan : RestorePlan) (dest : List ℕ) (s : Super) where
   restoring = looks (tree_of s plan.root) from_root
 
 -- the directory that rows stand in, those that it is in, and the directories and files so far, by their full paths
-pub record Place : Type 0 where
+pub record TreePlace : Type 0 where
   pub here : List ℕ
   pub outer : List (List ℕ)
   pub members : List Member
 
 -- the top directory, before any row
-abbrev pub at_top : Place
+abbrev pub at_top : TreePlace
 at_top = record { here = []; outer = []; members = [] }
 
 -- the place with one more member in the directory that rows stand in
-abbrev pub with_member : Place → List ℕ → Content → Place
+abbrev pub with_member : TreePlace → List ℕ → Content → TreePlace
 with_member place name content = record place { members = place.members ++ member (below (path_in place.here name)) content ∷ [] }
 
 -- the place after the directory was left
-abbrev pub left : Place → List (List ℕ) → Place
+abbrev pub left : TreePlace → List (List ℕ) → TreePlace
 left place [] = place
 left place (path ∷ more) = record { here = path; outer = more; members = place.members }
 
 -- behind one more row of a destination
-abbrev pub behind_row : Place → Row → Place
+abbrev pub behind_row : TreePlace → Row → TreePlace
 behind_row place (row.Start name) = place
 behind_row place (row.Dir name) =
     record { here = path_in place.here name; outer = place.here ∷ place.outer; members = (with_member place name Directory).members }

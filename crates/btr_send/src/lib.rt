@@ -20,5 +20,5 @@ mod treating;
 mod writing;
 
 pub use laws::{images_give_sectors, is_of_commands, replays, sends_restored};
-pub use plan::SendPlan;
+pub use plan::{SendPlan, StreamFile};
 pub use sending::send;

@@ -5,9 +5,11 @@ pub struct SendPlan {
     pub root: u64,
 }
 
-/// Where the stream goes: a file of this name in the destination.
+/// Where the stream goes.
 #[derive(Clone, Copy)]
-pub(crate) struct Target<'a> {
-    pub(crate) dest: &'a str,
-    pub(crate) name: &'a str,
+pub struct StreamFile<'a> {
+    /// The destination.
+    pub dest: &'a str,
+    /// The name of the file in it.
+    pub name: &'a str,
 }

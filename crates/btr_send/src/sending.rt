@@ -13,7 +13,7 @@ ghost use Rattle.btr_send.specs.Sending.{ended, opened, sending, sent, sent_belo
 use crate::buffer::Buffer;
 use crate::commands::{begin_file, finish_file, put_end, put_header, put_subvol, start_in};
 use crate::listing::{Scratch, SentDir, list};
-use crate::plan::{SendPlan, Target};
+use crate::plan::{SendPlan, StreamFile};
 use crate::source::{Source, find_source};
 use btr_files::Counts;
 use btr_listing::Path;
@@ -98,7 +98,7 @@ fn send_below<R: Rack, T: TreeSink, O: Out>(
 
 // A subvolume as one file of the destination.
 fn send_source<R: Rack, T: TreeSink, O: Out>(
-    target: &Target<'_>,
+    file: &StreamFile<'_>,
     source: &Source,
     sums: Option<TreeRoot>,
     dirs: &mut [OpenDir],
@@ -107,28 +107,22 @@ fn send_source<R: Rack, T: TreeSink, O: Out>(
 ) -> Result<Counts, Stop>
     requires ready { CanRead 6 (R.seen ends.old.rack.now) ends.old.vol.now }
     requires fresh { (T.sink ends.old.tree.now).stage ≡ NotStarted }
-    requires good { IsStreamName target.now.name.now }
+    requires good { IsStreamName file.now.name.now }
     requires dirs { length dirs.old ≡ 513 }
     requires path { scratch.old.path ≡ [] }
-    ensures ran { RanFor (λ s. sent target.now.dest.now target.now.name.now s source.now sums)
+    ensures ran { RanFor (λ s. sent file.now.dest.now file.now.name.now s source.now sums)
         (world_of R.seen T.sink T.account O.text O.account ends.old)
         (world_of R.seen T.sink T.account O.text O.account ends.new)
         result }
     ensures same { SameEnds ends.old ends.new }
 {
-    begin(
-        target.dest,
-        target.name,
-        source,
-        &mut scratch.buffer,
-        ends.tree,
-    )?;
+    begin(file.dest, file.name, source, &mut scratch.buffer, ends.tree)?;
     send_below(source, sums, dirs, scratch, ends)
 }
 
 // A subvolume, once its checksums are found.
 fn send_found<R: Rack, T: TreeSink, O: Out>(
-    target: &Target<'_>,
+    file: &StreamFile<'_>,
     source: &Source,
     dirs: &mut [OpenDir],
     scratch: &mut Scratch,
@@ -136,31 +130,30 @@ fn send_found<R: Rack, T: TreeSink, O: Out>(
 ) -> Result<Counts, Stop>
     requires ready { CanRead 6 (R.seen ends.old.rack.now) ends.old.vol.now }
     requires fresh { (T.sink ends.old.tree.now).stage ≡ NotStarted }
-    requires good { IsStreamName target.now.name.now }
+    requires good { IsStreamName file.now.name.now }
     requires dirs { length dirs.old ≡ 513 }
     requires path { scratch.old.path ≡ [] }
-    ensures ran { RanFor (λ s. looks (tree_of s 7) (sent target.now.dest.now target.now.name.now s source.now))
+    ensures ran { RanFor (λ s. looks (tree_of s 7) (sent file.now.dest.now file.now.name.now s source.now))
         (world_of R.seen T.sink T.account O.text O.account ends.old)
         (world_of R.seen T.sink T.account O.text O.account ends.new)
         result }
     ensures same { SameEnds ends.old ends.new }
 {
     let sums = find_tree(SUM_TREE, ends.rack, ends.vol)?;
-    send_source(target, source, sums, dirs, scratch, ends)
+    send_source(file, source, sums, dirs, scratch, ends)
 }
 
 // Sends the subvolume of a plan. What waits in the sink then isn't stored yet.
 fn send_unsettled<R: Rack, T: TreeSink, O: Out>(
     alloc: Global,
     plan: &SendPlan,
-    dest: &str,
-    name: &str,
+    file: &StreamFile<'_>,
     ends: &mut Endpoints<'_, '_, R, T, O>,
 ) -> Result<Counts, Stop>
     requires ready { CanRead 6 (R.seen ends.old.rack.now) ends.old.vol.now }
     requires fresh { (T.sink ends.old.tree.now).stage ≡ NotStarted }
-    requires good { IsStreamName name.now }
-    ensures ran { Ran (sending dest.now name.now ends.old.vol.now.sup plan.now)
+    requires good { IsStreamName file.now.name.now }
+    ensures ran { Ran (sending file.now.dest.now file.now.name.now ends.old.vol.now.sup plan.now)
         (world_of R.seen T.sink T.account O.text O.account ends.old)
         (world_of R.seen T.sink T.account O.text O.account ends.new)
         result }
@@ -181,10 +174,9 @@ fn send_unsettled<R: Rack, T: TreeSink, O: Out>(
     match find_source(plan.root, ends.rack, ends.vol)? {
         None => Err(Stop::NoTree(plan.root)),
         Some(source) => {
-            let target = Target { dest, name };
             let mut scratch = Scratch { path, buffer };
             let dirs = dirs.as_mut_slice();
-            send_found(&target, &source, dirs, &mut scratch, ends)
+            send_found(file, &source, dirs, &mut scratch, ends)
         }
     }
 }
@@ -193,28 +185,27 @@ fn send_unsettled<R: Rack, T: TreeSink, O: Out>(
 fn send_settled<R: Rack, T: TreeSink, O: Out>(
     alloc: Global,
     plan: &SendPlan,
-    dest: &str,
-    name: &str,
+    file: &StreamFile<'_>,
     ends: &mut Endpoints<'_, '_, R, T, O>,
 ) -> Result<Counts, Stop>
     requires ready { CanRead 6 (R.seen ends.old.rack.now) ends.old.vol.now }
     requires fresh { (T.sink ends.old.tree.now).stage ≡ NotStarted }
-    requires good { IsStreamName name.now }
-    ensures ran { Ran (sending dest.now name.now ends.old.vol.now.sup plan.now)
+    requires good { IsStreamName file.now.name.now }
+    ensures ran { Ran (sending file.now.dest.now file.now.name.now ends.old.vol.now.sup plan.now)
         (world_of R.seen T.sink T.account O.text O.account ends.old)
         (world_of R.seen T.sink T.account O.text O.account ends.new)
         result }
     ensures stored { IfErr result (λ stop. stop ≢ Stop.Sink → T.waits ends.new.tree.now ≡ false) }
     ensures same { SameEnds ends.old ends.new }
 {
-    match send_unsettled(alloc, plan, dest, name, ends) {
+    match send_unsettled(alloc, plan, file, ends) {
         Ok(counts) => Ok(counts),
         Err(stop) => Err(store_waiting(stop, ends.tree)),
     }
 }
 
-/// Sends the subvolume of a plan: its directories and the bytes of its files go as one stream of commands into the file `name` of the destination
-/// `dest`, and a line of what was sent to the output. Entries that can't be sent are left out, and named.
+/// Sends the subvolume of a plan: its directories and the bytes of its files go as one stream of commands into a file of the destination, and a line
+/// of what was sent to the output. Entries that can't be sent are left out, and named.
 ///
 /// The memory of a path of 131328 bytes, of a command of 8221 bytes and of 513 directories in one another is taken first, and nothing else takes any.
 /// Six slots of the volume are free. Each checksum of data is verified; a file with a sector that has none is named.
@@ -226,8 +217,7 @@ fn send_settled<R: Rack, T: TreeSink, O: Out>(
 pub fn send<R: Rack, T: TreeSink, O: Out>(
     alloc: Global,
     plan: &SendPlan,
-    dest: &str,
-    name: &str,
+    file: &StreamFile<'_>,
     rack: &mut R,
     vol: &mut Volume,
     tree: &mut T,
@@ -235,8 +225,8 @@ pub fn send<R: Rack, T: TreeSink, O: Out>(
 ) -> Result<Counts, Stop>
     requires ready { CanRead 6 (R.seen rack.old) vol.old }
     requires fresh { (T.sink tree.old).stage ≡ NotStarted }
-    requires good { IsStreamName name.now }
-    ensures ran { Ran (sending dest.now name.now vol.old.sup plan.now)
+    requires good { IsStreamName file.now.name.now }
+    ensures ran { Ran (sending file.now.dest.now file.now.name.now vol.old.sup plan.now)
         (world (R.seen rack.old) vol.old (outside_of T.sink T.account O.text O.account tree.old out.old))
         (world (R.seen rack.new) vol.new (outside_of T.sink T.account O.text O.account tree.new out.new))
         result }
@@ -248,5 +238,5 @@ pub fn send<R: Rack, T: TreeSink, O: Out>(
         tree,
         out,
     };
-    send_settled(alloc, plan, dest, name, &mut ends)
+    send_settled(alloc, plan, file, &mut ends)
 }

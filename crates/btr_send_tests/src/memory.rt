@@ -9,7 +9,7 @@ ghost use Rattle.btr_read.specs.Store.{free_count};
 use btr_files::Counts;
 use btr_make::{RowVolume, row};
 use btr_rack::{MemOut, MemRack, MemTree, Rack, Row};
-use btr_send::{SendPlan, send};
+use btr_send::{SendPlan, StreamFile, send};
 use btr_volume::{Stop, Volume};
 use std::alloc::{AllocError, Global};
 use std::process::Abort;
@@ -109,7 +109,11 @@ pub(super) fn sent_by(
     let mut out = MemOut::new(alloc);
     out.fail_call(failing.out)?;
     let plan = SendPlan { root };
-    let answer = send(alloc, &plan, "out", "v", rack, vol, &mut tree, &mut out);
+    let file = StreamFile {
+        dest: "out",
+        name: "v",
+    };
+    let answer = send(alloc, &plan, &file, rack, vol, &mut tree, &mut out);
     assert_eq!(rt; vol.store.free(), 24);
     Ok(told(alloc, answer, &tree, &out)?)
 }

@@ -6,7 +6,7 @@ use Rattle.btr_send.proofs.sending.send_source.Goals as goal
 
 pub returns-clause-ran : goal.returns-clause-ran
 returns-clause-ran g c s e =
-    ran_then (opened c.args.target.now.dest.now c.args.target.now.name.now c.args.source.now) (λ u. sent_below s c.args.source.now c.args.sums)
+    ran_then (opened c.args.file.now.dest.now c.args.file.now.name.now c.args.source.now) (λ u. sent_below s c.args.source.now c.args.sums)
     (world_of g.R.Rack.seen g.T.TreeSink.sink g.T.TreeSink.account g.O.Out.text g.O.Out.account c.args.ends.now) (world
     (g.R.Rack.seen c.args.ends.now.rack.now) c.args.ends.now.vol.now (outside
     (g.T.TreeSink.sink c.begin.new.tree) (g.T.TreeSink.account c.begin.new.tree) (g.O.Out.text c.args.ends.now.out.now)
@@ -17,7 +17,7 @@ returns-clause-ran g c s e =
 pub returns-in_err-begin-clause-ran : goal.returns-in_err-begin-clause-ran
 returns-in_err-begin-clause-ran g c s e =
     ran_passed _ c.from_residual.ensures.1
-    (ran_halt (opened c.args.target.now.dest.now c.args.target.now.name.now c.args.source.now) (λ u. sent_below s c.args.source.now c.args.sums)
+    (ran_halt (opened c.args.file.now.dest.now c.args.file.now.name.now c.args.source.now) (λ u. sent_below s c.args.source.now c.args.sums)
     (world_of g.R.Rack.seen g.T.TreeSink.sink g.T.TreeSink.account g.O.Out.text g.O.Out.account c.args.ends.now) (world
     (g.R.Rack.seen c.args.ends.now.rack.now) c.args.ends.now.vol.now (outside
     (g.T.TreeSink.sink c.begin.new.tree) (g.T.TreeSink.account c.begin.new.tree) (g.O.Out.text c.args.ends.now.out.now)
