@@ -40,7 +40,7 @@ use Rattle.btr_run.specs.Unopened.{AreAgreed, IsOrUnopened}
 use Rattle.btr_run.specs.Checked.{check_in, check_outcome, filesystem_by, listing, unless_refused}
 use Rattle.btr_run.specs.Faults.{open_answer, stop_answer, tree_answer}
 use Rattle.btr_run.specs.Filesystem.{OpensAs, answer_as, fault_answer, filesystem_in, filesystem_of, with_roots, with_start, with_table}
-use Rattle.btr_run.specs.Outcomes.{Comes, IsNoFault, Outcome, Shows, refused, showing}
+use Rattle.btr_run.specs.Outcomes.{HasOneOutcome, IsNoFault, Outcome, Shows, refused, showing}
 use Rattle.btr_run.specs.declared.answer.Answer.{Answer}
 use Rattle.btr_run.specs.declared.answer.Answer.TheVariants.{Lost, Unmapped, Crosses, Malformed}
 use Rattle.btr_run.proofs.Coming.{comes_bare, shows_bare, shows_also}
@@ -192,13 +192,13 @@ module _ (wanted : Images → Outcome) (bare : (images : Images) (answer : Answe
   -- what a command comes to that does steps
   pub unopened_comes : (May : Type 0) (old new : Seen) (answer result : Answer) → result ≡ answer → (x : Outside)
       → IfSome old.held (λ images. OpensAs images old new (Err answer))
-      → IfSome old.held (λ images. AreAgreed images → Comes May (IsOrUnopened images (wanted images)) x x result)
+      → IfSome old.held (λ images. AreAgreed images → HasOneOutcome May (IsOrUnopened images (wanted images)) x x result)
   unopened_comes May old new answer result is x opens =
-      when_told old.held (λ images. AreAgreed images → (result ≡ answer) → Comes May (IsOrUnopened images (wanted images)) x x result)
-      (λ images. AreAgreed images → Comes May (IsOrUnopened images (wanted images)) x x result)
+      when_told old.held (λ images. AreAgreed images → (result ≡ answer) → HasOneOutcome May (IsOrUnopened images (wanted images)) x x result)
+      (λ images. AreAgreed images → HasOneOutcome May (IsOrUnopened images (wanted images)) x x result)
       (λ images h agreed. h agreed is)
-      (unopened_where (λ images a. (result ≡ a) → Comes May (IsOrUnopened images (wanted images)) x x result) old new answer
-      (λ images told agreed r opens same. subst (Comes May (IsOrUnopened images (wanted images)) x x) (sym same)
+      (unopened_where (λ images a. (result ≡ a) → HasOneOutcome May (IsOrUnopened images (wanted images)) x x result) old new answer
+      (λ images told agreed r opens same. subst (HasOneOutcome May (IsOrUnopened images (wanted images)) x x) (sym same)
       (comes_bare May (IsOrUnopened images (wanted images)) x (open_answer r) (unopened old new images told agreed (wanted images) (bare images) r opens)
       (open_no_fault r))) opens)
 

@@ -17,7 +17,7 @@ use Rattle.btr_run.specs.Effects.{FollowsWords, IsDecided, IsOutcome, MayFollow,
 use Rattle.btr_run.specs.Images.{most_images, taken}
 use Rattle.btr_run.specs.Opening.{opening_answer}
 use Rattle.btr_run.specs.Order.{FollowsOrder}
-use Rattle.btr_run.specs.Outcomes.{refused, Comes, IsNoFault, OrBare, OrMemory}
+use Rattle.btr_run.specs.Outcomes.{refused, HasOneOutcome, IsNoFault, OrBare, OrMemory}
 use Rattle.btr_run.specs.Checked.{found}
 use Rattle.btr_run.specs.Repaired.{AsksToWrite, KeepsRepair, LeavesImages}
 use Rattle.btr_run.specs.Scrubbed.{mending_writes}
@@ -89,12 +89,12 @@ module _ (words : Words) (at : ℕ) (usage : IsUsageAt words at) where
   usage_no_fault = record { no_out = λ e. cc; no_sink = λ e. cc }
 
   pub usage_effect : (shelf : Option Shelf) (old new : ℕ) (x : Outside) → IfSome shelf
-      (λ s. Steady old new → Comes (MayWantBy words x.out_calls) (OrMemory (IsOutcome words s)) x x (Usage at))
+      (λ s. Steady old new → HasOneOutcome (MayWantBy words x.out_calls) (OrMemory (IsOutcome words s)) x x (Usage at))
   usage_effect shelf old new x =
       all_told shelf _ (λ s steady. comes_bare (MayWantBy words x.out_calls) (OrMemory (IsOutcome words s)) x (Usage at)
       (inl (inl (at, usage, refl))) usage_no_fault)
 
-  pub usage_told : (x : Outside) → Comes (MayWantBy words x.out_calls) (OrBare (MayFollow words)) x x (Usage at)
+  pub usage_told : (x : Outside) → HasOneOutcome (MayWantBy words x.out_calls) (OrBare (MayFollow words)) x x (Usage at)
   usage_told x = comes_bare (MayWantBy words x.out_calls) (OrBare (MayFollow words)) x (Usage at) (inr (refl, λ e. cc)) usage_no_fault
 
   pub usage_order : (shelf : Option Shelf) (old new : Seen) (x : Outside) → IfSome shelf (λ s. FollowsOrder words s old new x x (Usage at))

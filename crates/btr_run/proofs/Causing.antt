@@ -1,14 +1,12 @@
 -- What lies behind a failed opening or read of an image, after calls that didn't fail.
-use Rattle.std.proofs.Common.{◌≡◌, ℕ, ◌<◌, ◌≤◌, List, [], length, map, take, get_or, String, Some, Bool, refl, sym, ap, ◌∙◌, arith}
+use Rattle.std.proofs.Common.{◌≡◌, ℕ, ◌<◌, ◌≤◌, List, [], length, map, get_or, String, Some, refl, sym, ap, ◌∙◌, arith}
 use Rattle.std.specs.Prelude.{slice_get}
 use Rattle.std.specs.String.{string_bytes}
 use Rattle.std.specs.declared.alloc.Global.{Global}
 use Rattle.std.proofs.lemmas.List.{get_or-map, length-map}
 use Rattle.std.proofs.lemmas.Option.{slice_get-get_or}
-use Rattle.btr_rack.specs.Rack.{Seen, Slot, Account, Rose, NoneFailed, OneFailed, OnlyCounts, next_count, range_in, opening_of}
+use Rattle.btr_rack.specs.Rack.{Seen, Account, Rose, NoneFailed, OnlyCounts, next_count}
 use Rattle.btr_run.specs.Causes.{opened_with}
-use Rattle.btr_run.specs.Words.{Words}
-use Rattle.btr_run.specs.Opening.{OpeningFailed}
 
 pub none_failed_yet : (account : Account) → NoneFailed account account
 none_failed_yet account = record { faults = omega arith; fresh = refl; missed = refl; last = refl; opening = refl; shut = refl }
@@ -45,18 +43,3 @@ pub named_at : (xs : List (String Global)) (i : ℕ) (x : String Global) (w : Li
     → slice_get (map string_bytes xs) i ≡ Some w
 named_at xs i x w lt is at =
     slice_get-get_or (map string_bytes xs) i [] (omega (arith, length-map xs string_bytes)) ∙ ap (λ b. Some b) (name_at xs i x w lt is at)
-
-pub opening_failed : (write : Bool) (names : Words) (slots : List Slot) (old mid new : Account) (slot : ℕ) (name : List ℕ) → slice_get names slot ≡ Some name
-    → map (λ s. s.name) slots ≡ take slot names
-    → NoneFailed old mid → OneFailed (range_in slot 0 0) mid new → new.opening ≡ Some (opening_of name write) → new.shut ≡ next_count mid.shut
-    → OpeningFailed write names slots old new slot
-opening_failed write names slots old mid new slot name named before none one opening shut = record {
-  name = name;
-  named = named;
-  opening = opening;
-  before = before;
-  last = one.last;
-  faults = rose_behind old.faults mid.faults new.faults (omega (arith, none.faults)) one.faults;
-  fresh = some_fresh mid.fresh new.fresh one.fresh;
-  shut = shut ∙ ap next_count none.shut;
-}

@@ -19,7 +19,7 @@ use Rattle.btr_text.proofs.Writing.{adds_nothing, adds_twice}
 use Rattle.btr_run.specs.Answers.{error_line, answer_of}
 use Rattle.btr_run.specs.Outcomes.{Outcome, Shown, refused, showing, text_steps, due_after, IsPut, IsNoFault, Shows, IsFirstPart, Stands, StandsPartly}
 use Rattle.btr_run.specs.Outcomes.{CallFailed}
-use Rattle.btr_run.specs.Outcomes.{OneFailed, How, Whole, SinkFailed, OutFailed, Wanted, HasEnded, Comes, HasFirstPart, MayEnd, IsPrinted}
+use Rattle.btr_run.specs.Outcomes.{OneFailed, How, Whole, SinkFailed, OutFailed, Wanted, HasEnded, HasOneOutcome, HasFirstPart, MayEnd, IsPrinted}
 use Rattle.btr_run.specs.declared.answer.Answer.{Answer}
 use Rattle.btr_run.specs.declared.answer.Answer.TheVariants.{SinkFault, OutFault, Memory}
 
@@ -63,7 +63,7 @@ shows_also IsOne IsOther old new before after result more shows = record
 
 -- an answer before anything else
 pub comes_bare : (May : Type 0) (IsOne : Outcome → Type 0) (x : Outside) (answer : Answer) → IsOne (refused answer) → IsNoFault answer
-    → Comes May IsOne x x answer
+    → HasOneOutcome May IsOne x x answer
 comes_bare May IsOne x answer is_one no_fault =
     record {
       outcome = refused answer;
@@ -76,7 +76,7 @@ comes_bare May IsOne x answer is_one no_fault =
 
 -- one of more outcomes, where memory may be wanted as well
 pub comes_also : (May Might : Type 0) (IsOne IsOther : Outcome → Type 0) (x y : Outside) (result : Answer) → (May → Might)
-    → ((outcome : Outcome) → IsOne outcome → IsOther outcome) → Comes May IsOne x y result → Comes Might IsOther x y result
+    → ((outcome : Outcome) → IsOne outcome → IsOther outcome) → HasOneOutcome May IsOne x y result → HasOneOutcome Might IsOther x y result
 comes_also May Might IsOne IsOther x y result might more comes =
     record { outcome = comes.outcome; is_one = more comes.outcome comes.is_one; no_fault = comes.no_fault; how = comes.how; ended = of comes.how comes.ended }
   where
@@ -120,7 +120,7 @@ module _ (x y : Outside) (same : y.sink ≡ x.sink) where
 -- memory was wanted behind a first part of a text, and no call of the sink was made
 pub comes_wanted : (May : Type 0) (IsOne : Outcome → Type 0) (x y : Outside) (shown : Shown) → IsOne (showing shown) → IsNoFault shown.answer → May
     → y.sink ≡ x.sink → y.sink_calls ≡ x.sink_calls → y.out_calls ≡ x.out_calls → (n : ℕ) × Adds x.text y.text (take n shown.text)
-    → Comes May IsOne x y Memory
+    → HasOneOutcome May IsOne x y Memory
 comes_wanted May IsOne x y shown one no_fault may same same_calls same_out part = record {
   outcome = showing shown;
   is_one = one;
@@ -132,17 +132,17 @@ comes_wanted May IsOne x y shown one no_fault may same same_calls same_out part 
 -- what was shown came, and no call of the sink was made
 pub comes_shown : (May : Type 0) (IsOne : Outcome → Type 0) (x y : Outside) (result : Answer) → y.sink ≡ x.sink → y.sink_calls ≡ x.sink_calls
     → (x.out_calls.ample ≡ false → May)
-    → Shows IsOne x.text y.text x.out_calls y.out_calls result → Comes May IsOne x y result
+    → Shows IsOne x.text y.text x.out_calls y.out_calls result → HasOneOutcome May IsOne x y result
 comes_shown May IsOne x y result same same_calls scarce shows = of shows.put.put shows.put.puts shows.put.counts shows.put.due
   where
     text : List ℕ
     text = shows.shown.text
 
-    ends : (how : How) → HasEnded May x y (showing shows.shown) result how → Comes May IsOne x y result
+    ends : (how : How) → HasEnded May x y (showing shows.shown) result how → HasOneOutcome May IsOne x y result
     ends how ended = record { outcome = showing shows.shown; is_one = shows.is_one; no_fault = shows.no_fault; how = how; ended = ended }
 
     of : (r : Result Unit SinkError) → Puts x.text y.text text r → Counts x.out_calls y.out_calls r → result ≡ due_after r shows.shown.answer
-        → Comes May IsOne x y result
+        → HasOneOutcome May IsOne x y result
     of (Ok u) puts counts due = ends Whole (due, same_calls, counts, text_stands x y same text puts)
     of (Err Failed) puts counts due = ends OutFailed (due, ((counts.0, counts.1), counts.2), same_calls, text_partly x y same shows.shown puts)
     of (Err memory_fault) puts counts due = ends Wanted (due, scarce counts.0, same_calls, counts.1, text_partly x y same shows.shown puts)

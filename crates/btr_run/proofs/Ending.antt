@@ -10,14 +10,15 @@ use Rattle.btr_restore.specs.Headline.{Headline}
 use Rattle.btr_restore.specs.InOrder.{CommittedOrder, OpenHaltedLaw, OpenRefusedLaw, OpenedThenLaw, SettledLaw}
 use Rattle.btr_restore.specs.Running.{Outside}
 use Rattle.btr_run.specs.Order.{FollowsOrder, KeepsOrder}
-use Rattle.btr_run.specs.Run.{AreImagesSteady, HasWholeEffect, IsAnswered, IsCalm, IsObeyed, KeepsFirstPart, LeavesItsImages, RestoresCommitted, Run}
+use Rattle.btr_run.specs.Run.{AreImagesSteady, HasWholeEffect, IsAnswered, NothingFailed, IsObeyed, KeepsFirstPart, LeavesItsImages, RestoresCommitted, Run}
 use Rattle.btr_run.specs.Run.{HasTried, ShowsTrial, before, behind, outside_before, outside_behind}
 use Rattle.btr_run.specs.SelfTested.{IsTrialOf}
 use Rattle.btr_run.specs.Agreeing.{ComesAgreed, FollowsAgreed, KeepsAgreed}
 use Rattle.btr_run.specs.Answers.{error_line}
 use Rattle.btr_run.specs.Causes.{opened_with, HidesNone, ImageCause, IsBehindWords, IsMissingImage, IsShut, TreeCause}
 use Rattle.btr_run.specs.Effects.{FollowsWords, HasEffect, HasPart, IsOutcome, IsTold, MayFollow, MayWantBy}
-use Rattle.btr_run.specs.Outcomes.{Outcome, refused, CallFailed, Comes, HasEnded, HasFirstPart, How, Whole, SinkFailed, OutFailed, Wanted, IsPrinted, IsPut}
+use Rattle.btr_run.specs.Outcomes.{Outcome, refused, CallFailed, HasOneOutcome, HasEnded, HasFirstPart, How, Whole, SinkFailed, OutFailed, Wanted}
+use Rattle.btr_run.specs.Outcomes.{IsPrinted, IsPut}
 use Rattle.btr_run.specs.Outcomes.{MayEnd, OrBare, OrMemory, Stands, StandsPartly}
 use Rattle.btr_run.specs.Images.{taken}
 use Rattle.btr_run.specs.Checked.{found}
@@ -95,14 +96,14 @@ module _ {R T O : Type 0} (run : Run R T O) (out : O) (result : Answer)
   ends = put_ends y.text new y.out_calls after (error_line answer) answer result line
 
   -- what was done and put in all
-  printed_by : (Might : Type 0) (IsOne : Outcome → Type 0) → (x.out_calls.ample ≡ false → Might) → (comes : Comes Might IsOne x y answer)
+  printed_by : (Might : Type 0) (IsOne : Outcome → Type 0) → (x.out_calls.ample ≡ false → Might) → (comes : HasOneOutcome Might IsOne x y answer)
       → IsPrinted Might x z comes.outcome result
   printed_by Might IsOne scarce comes = comes_printed Might x y new after comes.outcome result scarce answer comes.how comes.ended line
 
-  print : (IsOne : Outcome → Type 0) (comes : Comes May IsOne x y answer) → IsPrinted May x z comes.outcome result
+  print : (IsOne : Outcome → Type 0) (comes : HasOneOutcome May IsOne x y answer) → IsPrinted May x z comes.outcome result
   print IsOne comes = printed_by May IsOne (λ scarce. inl scarce) comes
 
-  has_effect : (shelf : Shelf) → Comes May (OrMemory (IsOutcome words shelf)) x y answer → Steady x.sink_calls.faults y.sink_calls.faults
+  has_effect : (shelf : Shelf) → HasOneOutcome May (OrMemory (IsOutcome words shelf)) x y answer → Steady x.sink_calls.faults y.sink_calls.faults
       → Steady x.out_calls.faults after.faults → result ≢ Memory → HasEffect words shelf x z result
   has_effect shelf comes calm steady enough =
       ⊎_elim (λ done. ⊎_elim (λ is. record { outcome = comes.outcome; is = is; answered = done.0; stands = done.1 })
@@ -111,7 +112,7 @@ module _ {R T O : Type 0} (run : Run R T O) (out : O) (result : Answer)
       (λ more. ⊎_elim (λ fault. absurd (not_steady x.out_calls.faults after.faults steady fault.1.1)) (λ want. absurd (enough want.0)) more) rest)
       (print (OrMemory (IsOutcome words shelf)) comes)
 
-  has_part : (shelf : Shelf) → Comes May (OrMemory (IsOutcome words shelf)) x y answer → HasPart words shelf x z
+  has_part : (shelf : Shelf) → HasOneOutcome May (OrMemory (IsOutcome words shelf)) x y answer → HasPart words shelf x z
   has_part shelf comes = (
     comes.outcome,
     comes.is_one,
@@ -120,27 +121,28 @@ module _ {R T O : Type 0} (run : Run R T O) (out : O) (result : Answer)
         (λ more. ⊎_elim (λ fault. fault.2) (λ want. want.2) more) rest) (print (OrMemory (IsOutcome words shelf)) comes),
   )
 
-  is_told : Comes May (OrBare (MayFollow words)) x y answer → IsTold words x z result
+  is_told : HasOneOutcome May (OrBare (MayFollow words)) x y answer → IsTold words x z result
   is_told comes = (comes.outcome, comes.is_one, print (OrBare (MayFollow words)) comes)
 
   keeps_agreed : (shelf : Shelf) → FollowsAgreed words shelf x y answer → KeepsAgreed words shelf x z result
   keeps_agreed shelf follows plan images asks agreed = let comes = follows plan images asks agreed in
       (comes.outcome, comes.is_one, print (ComesAgreed plan.command words images) comes)
 
-  out_failed : (IsOne : Outcome → Type 0) → Comes May IsOne x y answer → result ≡ OutFault → CallFailed x.out_calls after
+  out_failed : (IsOne : Outcome → Type 0) → HasOneOutcome May IsOne x y answer → result ≡ OutFault → CallFailed x.out_calls after
   out_failed IsOne comes is =
       ⊎_elim (λ done. absurd (comes.no_fault.no_out (sym done.0 ∙ is)))
       (λ rest. ⊎_elim (λ fault. absurd (cc (sym fault.0 ∙ is))) (λ more. ⊎_elim (λ fault. fault.1) (λ want. absurd (cc (sym want.0 ∙ is))) more) rest)
       (print IsOne comes)
 
-  sink_failed : (IsOne : Outcome → Type 0) → Comes May IsOne x y answer → result ≡ SinkFault → CallFailed x.sink_calls y.sink_calls
+  sink_failed : (IsOne : Outcome → Type 0) → HasOneOutcome May IsOne x y answer → result ≡ SinkFault → CallFailed x.sink_calls y.sink_calls
   sink_failed IsOne comes is =
       ⊎_elim (λ done. absurd (comes.no_fault.no_sink (sym done.0 ∙ is)))
       (λ rest. ⊎_elim (λ fault. fault.1) (λ more. ⊎_elim (λ fault. absurd (cc (sym fault.0 ∙ is))) (λ want. absurd (cc (sym want.0 ∙ is))) more) rest)
       (print IsOne comes)
 
   -- what waits in the sink
-  stored : (IsOne : Outcome → Type 0) → Comes May IsOne x y answer → (waits : Bool) → IsStored waits answer → ((n : ℕ) → answer ≡ Done n → result ≡ answer)
+  stored : (IsOne : Outcome → Type 0) → HasOneOutcome May IsOne x y answer → (waits : Bool) → IsStored waits answer
+      → ((n : ℕ) → answer ≡ Done n → result ≡ answer)
       → IsStoredOrTold waits x.sink_calls y.sink_calls result
   stored IsOne comes waits inner silent = λ undone other.
       ⊎_elim (λ same. inl (inner (λ n e. undone n (same ∙ e)) (λ e. other (same ∙ e)))) (λ refused. of undone refused comes.how comes.ended) ends
@@ -153,7 +155,7 @@ module _ {R T O : Type 0} (run : Run R T O) (out : O) (result : Answer)
       of undone refused Wanted e = inl (inner (λ n d. undone n (silent n d ∙ d)) (λ s. absurd (cc (sym e.0 ∙ s))))
 
   -- a scrub that writes
-  repaired : (P : Type 0) (IsOne : Outcome → Type 0) → Comes May IsOne x y answer → (answer ≢ Memory → P) → Steady x.out_calls.faults after.faults
+  repaired : (P : Type 0) (IsOne : Outcome → Type 0) → HasOneOutcome May IsOne x y answer → (answer ≢ Memory → P) → Steady x.out_calls.faults after.faults
       → result ≢ Memory → P
   repaired P IsOne comes of steady enough =
       ⊎_elim (λ same. of (λ e. enough (same ∙ e)))
@@ -266,7 +268,7 @@ module _ {R T O : Type 0} (run : Run R T O) (out : O) (result : Answer)
       alone = obeyed.alone;
     }
 
-    effect_told : IfSome (before run).shelf (λ shelf. IsCalm whole → HasEffect words shelf x z result)
+    effect_told : IfSome (before run).shelf (λ shelf. NothingFailed whole → HasEffect words shelf x z result)
     effect_told =
         when_told (before run).shelf _ _
         (λ shelf comes calm.

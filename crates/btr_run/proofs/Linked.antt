@@ -14,7 +14,7 @@ use Rattle.btr_check.proofs.There.{first_there, trees_there}
 use Rattle.btr_check.specs.Counting.{IsBlock}
 use Rattle.btr_check.specs.Trees.{chunk_tree, first_met, is_among, listed, place_cmp, place_of, reached, refers_by_address}
 use Rattle.btr_check.specs.Trees.{root_tree, tree_of_item, trees, uses, uses_of}
-use Rattle.btr_check.specs.declared.places.Place.{Place}
+use Rattle.btr_check.specs.declared.places.BlockId.{BlockId}
 use Rattle.btr_items.specs.RootItem.{root_item_of}
 use Rattle.btr_read.specs.declared.want.Want.TheVariants.{Tree}
 use Rattle.btr_findings.proofs.Sets.{both_equal}
@@ -44,7 +44,7 @@ is_equal Less e = let z : ⊥ = cc in absurd z
 is_equal Equal e = refl
 is_equal Greater e = let z : ⊥ = cc in absurd z
 
-same_place : (a b : Place) → is_eq (place_cmp a b) ≡ true → a ≡ b
+same_place : (a b : BlockId) → is_eq (place_cmp a b) ≡ true → a ≡ b
 same_place a b e =
     let addr = both_equal (nat_cmp a.addr b.addr) _ (is_equal (place_cmp a b) e) in
     let rest = both_equal (nat_cmp a.generation b.generation) (nat_cmp a.level b.level) addr.1 in
@@ -54,23 +54,23 @@ same_place a b e =
     λ i. record { addr = is-addr i; generation = is-generation i; level = is-level i }
 
 -- a block's place was met before, or is that of one of some blocks
-abbrev IsMet : List Place → List Reached → Reached → Type 0
+abbrev IsMet : List BlockId → List Reached → Reached → Type 0
 IsMet before firsts one =
     (is_among before (place_of one.place) ≡ true) ⊎ ((other : Reached) × Contains firsts other × (place_of other.place ≡ place_of one.place))
 
-met_later : (before : List Place) (one : Reached) (firsts : List Reached) (x : Reached) (b : Bool)
+met_later : (before : List BlockId) (one : Reached) (firsts : List Reached) (x : Reached) (b : Bool)
     → is_eq (place_cmp (place_of x.place) (place_of one.place)) ≡ b
     → (b || is_among before (place_of x.place)) ≡ true → IsMet before (one ∷ firsts) x
 met_later before one firsts x true is e =
     inr (one, Contains-get_or (one ∷ firsts) 0 one (omega arith), sym (same_place (place_of x.place) (place_of one.place) is))
 met_later before one firsts x false is e = inl e
 
-met_behind : (before : List Place) (one : Reached) (firsts : List Reached) (x : Reached) → IsMet (place_of one.place ∷ before) firsts x
+met_behind : (before : List BlockId) (one : Reached) (firsts : List Reached) (x : Reached) → IsMet (place_of one.place ∷ before) firsts x
     → IsMet before (one ∷ firsts) x
 met_behind before one firsts x (inl e) = met_later before one firsts x _ refl e
 met_behind before one firsts x (inr other) = inr (other.0, Contains-append_right (one ∷ []) firsts other.0 other.1, other.2)
 
-all_met : (before : List Place) (all : List Reached) → AllByRecursion (IsMet before (first_met before all)) all
+all_met : (before : List BlockId) (all : List Reached) → AllByRecursion (IsMet before (first_met before all)) all
 all_met before [] = tt
 all_met before (one ∷ more) =
     by (is_among before (place_of one.place)) refl (all_met before more) (all_met (place_of one.place ∷ before) more)
@@ -93,10 +93,10 @@ module _ (B : Map) (extents : List Extent) where
   same_uses : (a b : Reached) → place_of a.place ≡ place_of b.place → IsBlock B a.place a.block → IsBlock B b.place b.block
       → uses_of extents a ≡ uses_of extents b
   same_uses a b same is-a is-b =
-      let fates = ap (λ (p : Place). B (Tree p.addr p.generation p.level)) same in
+      let fates = ap (λ (p : BlockId). B (Tree p.addr p.generation p.level)) same in
       let oks : Ok a.block ≡ Ok b.block = sym is-a ∙ fates ∙ is-b in
       let bytes : a.block ≡ b.block = cc in
-      ap (λ (p : Place). block_uses (refers_by_address extents p.addr) p.addr p.level a.block) same
+      ap (λ (p : BlockId). block_uses (refers_by_address extents p.addr) p.addr p.level a.block) same
       ∙ ap (block_uses (refers_by_address extents b.place.addr) b.place.addr b.place.level) bytes
 
 -- ---- the owners of an address in one of the trees

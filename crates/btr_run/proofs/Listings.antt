@@ -28,7 +28,8 @@ use Rattle.btr_run.specs.Behind.{AnyFault, IfSteady, IsBehind, IsLayoutOf, HasTr
 use Rattle.btr_run.specs.Faults.{tree_answer}
 use Rattle.btr_run.specs.Filesystem.{IsRefusal, MayMend, OpensAs, OpensFilesystem, filesystem_in, filesystem_of}
 use Rattle.btr_run.specs.Listed.{ListsUpTo, listed_answer, listed_by, stopped_answer}
-use Rattle.btr_run.specs.Outcomes.{Outcome, refused, Comes, HasEnded, How, IsFirstPart, IsNoFault, Stands, StandsOf, StandsPartly, Whole, SinkFailed, OutFailed}
+use Rattle.btr_run.specs.Outcomes.{Outcome, refused, HasOneOutcome, HasEnded, How, IsFirstPart, IsNoFault, Stands, StandsOf, StandsPartly, Whole}
+use Rattle.btr_run.specs.Outcomes.{SinkFailed, OutFailed}
 use Rattle.btr_run.specs.Outcomes.{OrBare, OrMemory, Wanted}
 use Rattle.btr_run.specs.declared.answer.Answer.{Answer}
 use Rattle.btr_run.specs.declared.answer.Answer.TheVariants.{Done, NoTree, ImageFault, Memory, OutFault, SinkFault, Unread}
@@ -80,17 +81,17 @@ module _ (May : Type 0) (answer result : Answer) (is : result ≡ answer) (refus
 
   pub unopened_effect : (wanted : Images → Outcome) → ((images : Images) (a : Answer) → filesystem_of images ≡ Err a → wanted images ≡ refused a)
       → (old new : Account) (held : Option Images) (x : Outside) → IfSteady held old new (λ images. OpensFilesystem images (Err answer))
-      → IfSteady held old new (λ images. Comes May (OrMemory (λ outcome. wanted images ≡ outcome)) x x result)
+      → IfSteady held old new (λ images. HasOneOutcome May (OrMemory (λ outcome. wanted images ≡ outcome)) x x result)
   unopened_effect wanted bare old new held x =
       when_told held (λ images. Steady old.faults new.faults → OpensFilesystem images (Err answer))
-      (λ images. Steady old.faults new.faults → Comes May (OrMemory (λ outcome. wanted images ≡ outcome)) x x result)
-      (λ images opens steady. subst (λ a. Comes May (OrMemory (λ outcome. wanted images ≡ outcome)) x x a) (sym is)
+      (λ images. Steady old.faults new.faults → HasOneOutcome May (OrMemory (λ outcome. wanted images ≡ outcome)) x x result)
+      (λ images opens steady. subst (λ a. HasOneOutcome May (OrMemory (λ outcome. wanted images ≡ outcome)) x x a) (sym is)
       (comes_bare May (OrMemory (λ outcome. wanted images ≡ outcome)) x answer
       (⊎_elim (λ none. inl (bare images answer none)) (λ want. inr (ap refused want)) (opens steady)) no_fault))
 
-  pub unopened_told : (IsOne : Outcome → Type 0) (x : Outside) → Comes May (OrBare IsOne) x x result
+  pub unopened_told : (IsOne : Outcome → Type 0) (x : Outside) → HasOneOutcome May (OrBare IsOne) x x result
   unopened_told IsOne x =
-      subst (λ a. Comes May (OrBare IsOne) x x a) (sym is)
+      subst (λ a. HasOneOutcome May (OrBare IsOne) x x a) (sym is)
       (comes_bare May (OrBare IsOne) x answer (inr (refl, λ e. open_line refusal.refusal (ap error_line (sym refusal.is) ∙ e))) no_fault)
 
 -- The filesystem is open, and a call did these steps.
@@ -110,18 +111,18 @@ module _ {A : Type 0} (left_out : A → ℕ) (layout : Layout) (mid new : Seen) 
 
   -- it follows a run
   module _ (r : Run Want Fault Step A) (IsOne : Outcome → Type 0) (one : IsOne (listed_by left_out r)) (unread : HasUnread Is r IsOne) where
-    ends : (how : How) (answer : Answer) → HasEnded (Unit {0}) x y (listed_by left_out r) answer how → Comes (Unit {0}) IsOne x y answer
+    ends : (how : How) (answer : Answer) → HasEnded (Unit {0}) x y (listed_by left_out r) answer how → HasOneOutcome (Unit {0}) IsOne x y answer
     ends how answer ended =
         record { outcome = listed_by left_out r; is_one = one; no_fault = listed_no_fault r.ending; how = how; ended = ended }
 
     wholly : (ending : Result A Fault) (answer : Answer) → answer ≡ listed_answer left_out ending → (done ≡ steps_of r.marks) × (r.ending ≡ ending)
-        → y.sink_calls ≡ x.sink_calls → y.out_calls ≡ x.out_calls → Comes (Unit {0}) IsOne x y answer
+        → y.sink_calls ≡ x.sink_calls → y.out_calls ≡ x.out_calls → HasOneOutcome (Unit {0}) IsOne x y answer
     wholly ending answer is follows same_sink same_out =
         ends Whole answer (is ∙ ap (listed_answer left_out) (sym follows.1), same_sink, same_out, subst (λ l. Stands x y l []) follows.0 stands)
 
     -- what it comes to up to a block that could not be read
     up_to : (u : UnreadBlock) → Breaks no_part (λ ws. Names Is u ([] ++ ws)) r done → y.sink_calls ≡ x.sink_calls → y.out_calls ≡ x.out_calls
-        → Comes (Unit {0}) IsOne x y (Unread u.addr u.slot)
+        → HasOneOutcome (Unit {0}) IsOne x y (Unread u.addr u.slot)
     up_to u broke same_sink same_out = record {
       outcome = record { answer = Unread u.addr u.slot; steps = steps_of broke.before };
       is_one = unread u broke.before broke.behind broke.place broke.holds;
@@ -139,11 +140,11 @@ module _ {A : Type 0} (left_out : A → ℕ) (layout : Layout) (mid new : Seen) 
     partly : Breaks part (λ ws. Unit {0}) r done → StandsPartly x y (listed_by left_out r) []
     partly broke = record { done = done; first = broken_off r done broke; stands = stands }
 
-    pub follows_come : Follows Is part [] r done (ended result) → Comes (Unit {0}) IsOne x y (answered result)
+    pub follows_come : Follows Is part [] r done (ended result) → HasOneOutcome (Unit {0}) IsOne x y (answered result)
     follows_come = of result cause sink_calls out_calls
       where
         of : (e : Result A Stop) → RestoreStopCause layout mid new e → SinkCounts x.sink_calls y.sink_calls e → OutCounts x.out_calls y.out_calls e
-            → Follows Is part [] r done (ended e) → Comes (Unit {0}) IsOne x y (answered e)
+            → Follows Is part [] r done (ended e) → HasOneOutcome (Unit {0}) IsOne x y (answered e)
         of (Ok a) cause sc oc follows = wholly (Ok a) (Done (left_out a)) refl follows sc oc
         of (Err (stop.NoTree id)) cause sc oc follows = wholly (Err (fault.NoTree id)) (NoTree id) refl follows sc oc
         of (Err (stop.Tree (tree.Lost a))) cause sc oc follows = wholly (Err (fault.Lost a)) (tree_answer (tree.Lost a)) refl follows sc oc
@@ -163,7 +164,7 @@ module _ {A : Type 0} (left_out : A → ℕ) (layout : Layout) (mid new : Seen) 
       (by_none : (id : ℕ) → result ≡ Err (stop.NoTree id) → IsOne (record { answer = NoTree id; steps = done })) where
     -- an answer behind all of these steps
     by_answer : (a : Answer) → IsOne (record { answer = a; steps = done }) → IsNoFault a → y.sink_calls ≡ x.sink_calls → y.out_calls ≡ x.out_calls
-        → Comes (Unit {0}) (OrBare IsOne) x y a
+        → HasOneOutcome (Unit {0}) (OrBare IsOne) x y a
     by_answer a is no_fault same_sink same_out = record {
       outcome = record { answer = a; steps = done };
       is_one = inl is;
@@ -179,15 +180,15 @@ module _ {A : Type 0} (left_out : A → ℕ) (layout : Layout) (mid new : Seen) 
     all : StandsPartly x y broken []
     all = record { done = done; first = whole_first done; stands = stands }
 
-    breaks : (how : How) (a : Answer) → HasEnded (Unit {0}) x y broken a how → Comes (Unit {0}) (OrBare IsOne) x y a
+    breaks : (how : How) (a : Answer) → HasEnded (Unit {0}) x y broken a how → HasOneOutcome (Unit {0}) (OrBare IsOne) x y a
     breaks how a ended =
         record { outcome = broken; is_one = inl (by_tree (tree.Lost 0)); no_fault = tree_no_fault (tree.Lost 0); how = how; ended = ended }
 
-    pub some_come : Comes (Unit {0}) (OrBare IsOne) x y (answered result)
+    pub some_come : HasOneOutcome (Unit {0}) (OrBare IsOne) x y (answered result)
     some_come = of result refl cause sink_calls out_calls
       where
         of : (e : Result A Stop) → result ≡ e → RestoreStopCause layout mid new e → SinkCounts x.sink_calls y.sink_calls e → OutCounts x.out_calls y.out_calls e
-            → Comes (Unit {0}) (OrBare IsOne) x y (answered e)
+            → HasOneOutcome (Unit {0}) (OrBare IsOne) x y (answered e)
         of (Ok a) is cause sc oc = by_answer (Done (left_out a)) (by_value a) (done_no_fault (left_out a)) sc oc
         of (Err (stop.NoTree id)) is cause sc oc = by_answer (NoTree id) (by_none id is) (record { no_out = λ e. cc; no_sink = λ e. cc }) sc oc
         of (Err (stop.Tree f)) is cause sc oc = by_answer (tree_answer f) (by_tree f) (tree_no_fault f) sc oc
@@ -240,13 +241,13 @@ module _ {A : Type 0} (left_out : A → ℕ) (layout : Layout) (mid new : Seen) 
 
     pub listed_told : (IsOne : Outcome → Type 0) → ((a : A) → IsOne (record { answer = Done (left_out a); steps = done }))
         → ((f : TreeFault) → IsOne (record { answer = tree_answer f; steps = done }))
-        → ((id : ℕ) → result ≡ Err (stop.NoTree id) → IsOne (record { answer = NoTree id; steps = done })) → Comes (Unit {0}) (OrBare IsOne) x y answer
-    listed_told IsOne by_value by_tree by_none = subst (λ a. Comes (Unit {0}) (OrBare IsOne) x y a) (sym is) (some_come IsOne by_value by_tree by_none)
+        → ((id : ℕ) → result ≡ Err (stop.NoTree id) → IsOne (record { answer = NoTree id; steps = done })) → HasOneOutcome (Unit {0}) (OrBare IsOne) x y answer
+    listed_told IsOne by_value by_tree by_none = subst (λ a. HasOneOutcome (Unit {0}) (OrBare IsOne) x y a) (sym is) (some_come IsOne by_value by_tree by_none)
 
     -- where no read failed
     module _ (run : Images → Run Want Fault Step A) where
       steadily : (images : Images) → Steady mid.account.faults new.account.faults → Follows Is part [] (run images) done (ended result)
-          → Comes (Unit {0}) (λ outcome. listed_by left_out (run images) ≡ outcome) x y (answered result)
+          → HasOneOutcome (Unit {0}) (λ outcome. listed_by left_out (run images) ≡ outcome) x y (answered result)
       steadily images steady follows =
           follows_come (run images) (λ outcome. listed_by left_out (run images) ≡ outcome) refl
           (λ u upto rest place named. absurd (none_unread layout mid new steady u (wants_of upto) named)) follows
@@ -255,20 +256,20 @@ module _ {A : Type 0} (left_out : A → ℕ) (layout : Layout) (mid new : Seen) 
           → ((images : Images) → filesystem_of images ≡ Ok (filesystem_in volume) → wanted images ≡ listed_by left_out (run images))
           → IfSteady mid.held mid.account new.account (λ images. Follows Is part [] (run images) done (ended result))
           → IfSteady old.held old.account mid.account (λ images. OpensFilesystem images (Ok volume))
-          → IfSteady old.held old.account new.account (λ images. Comes (Unit {0}) (OrMemory (λ outcome. wanted images ≡ outcome)) x y answer)
+          → IfSteady old.held old.account new.account (λ images. HasOneOutcome (Unit {0}) (OrMemory (λ outcome. wanted images ≡ outcome)) x y answer)
       listed_effect wanted wants follows opens =
           of old.held opens (subst (λ held. IfSteady held mid.account new.account (λ images. Follows Is part [] (run images) done (ended result)))
           (ap (λ (s : Seen). s.held) first.same) follows)
         where
           of : (held : Option Images) → IfSteady held old.account mid.account (λ images. OpensFilesystem images (Ok volume))
               → IfSteady held mid.account new.account (λ images. Follows Is part [] (run images) done (ended result))
-              → IfSteady held old.account new.account (λ images. Comes (Unit {0}) (OrMemory (λ outcome. wanted images ≡ outcome)) x y answer)
+              → IfSteady held old.account new.account (λ images. HasOneOutcome (Unit {0}) (OrMemory (λ outcome. wanted images ≡ outcome)) x y answer)
           of None opens follows = tt
           of (Some images) opens follows = λ steady.
               let opened : filesystem_of images ≡ Ok (filesystem_in volume) = opens
               (omega (arith, steady.0, second.later), omega (arith, steady.1, second.later)) in
               let later : Steady mid.account.faults new.account.faults = (omega (arith, steady.0, first.later), steady.1) in
-              subst (λ a. Comes (Unit {0}) (OrMemory (λ outcome. wanted images ≡ outcome)) x y a) (sym is)
+              subst (λ a. HasOneOutcome (Unit {0}) (OrMemory (λ outcome. wanted images ≡ outcome)) x y a) (sym is)
               (comes_also (Unit {0}) (Unit {0}) (λ outcome. listed_by left_out (run images) ≡ outcome) (OrMemory (λ outcome. wanted images ≡ outcome)) x y
               (answered result)
               (λ u. u) (λ outcome e. inl (wants images opened ∙ e)) (steadily images later (follows later)))
@@ -282,13 +283,13 @@ module _ {A : Type 0} (left_out : A → ℕ) (layout : Layout) (mid new : Seen) 
           → HasUnread Is r (IsOne images))
           → IfSome mid.held (λ images. Agreed images layout → (r : Run Want Fault Step A) × IsRun images r × Follows Is part [] r done (ended result))
           → IfSome old.held (λ images. OpensAs images old mid (Ok volume))
-          → IfSome old.held (λ images. AreAgreed images → Comes (Unit {0}) (IsOne images) x y answer)
+          → IfSome old.held (λ images. AreAgreed images → HasOneOutcome (Unit {0}) (IsOne images) x y answer)
       listed_agreed IsOne one unread follows opens =
-          agreeing_opened old mid volume opens (λ images. Comes (Unit {0}) (IsOne images) x y answer)
+          agreeing_opened old mid volume opens (λ images. HasOneOutcome (Unit {0}) (IsOne images) x y answer)
           (λ images told opened agreed.
           let held : mid.held ≡ Some images = ap (λ (s : Seen). s.held) first.same ∙ told in
           let so = subst (λ (o : Option Images). IfSome o
           (λ i. Agreed i layout → (r : Run Want Fault Step A) × IsRun i r × Follows Is part [] r done (ended result))) held follows in
           let run = so (subst (Agreed images) is_layout agreed) in
-          subst (λ a. Comes (Unit {0}) (IsOne images) x y a) (sym is)
+          subst (λ a. HasOneOutcome (Unit {0}) (IsOne images) x y a) (sym is)
           (follows_come run.0 (IsOne images) (one images opened run.0 run.1) (unread images opened run.0 run.1) run.2))

@@ -9,7 +9,7 @@ use Rattle.btr_run.specs.Effects.{IsOutcome, MayFollow, MayWantBy}
 use Rattle.btr_run.specs.Images.{AreOpenedAs, AreUnchanged, IsMissing, most_images}
 use Rattle.btr_run.specs.Opening.{HasTooMany, IsOpened, OpeningCause, opening_answer}
 use Rattle.btr_restore.specs.Running.{Outside}
-use Rattle.btr_run.specs.Outcomes.{Comes, OrBare, OrMemory}
+use Rattle.btr_run.specs.Outcomes.{HasOneOutcome, OrBare, OrMemory}
 use Rattle.btr_run.specs.Repaired.{AsksToWrite}
 use Rattle.btr_run.specs.Run.{Eyes, Given, HasTried, IsObeyed, IsPerformed, Run, outside_in}
 use Rattle.btr_run.specs.SelfTested.{AsksToTry, IsTrialOf, TakesImages}
@@ -61,7 +61,7 @@ module _ {R T O : Type 0} (eyes : Eyes R T O) (words : Words) (old : Given R T O
   -- a self-test
   module _ (plan : Plan) (sentence : IsSentence plan words) (number : ℕ) (is : plan.command ≡ SelfTest number) (volume : Option Images) (out : O)
       (answer : Answer)
-      (comes : Comes (Unit {0}) (IsTrialOf volume number) (outside_in eyes old) (outside_in eyes (record old { out = out })) answer) where
+      (comes : HasOneOutcome (Unit {0}) (IsTrialOf volume number) (outside_in eyes old) (outside_in eyes (record old { out = out })) answer) where
     abbrev x : Outside
     x = outside_in eyes old
 
@@ -87,7 +87,7 @@ module _ {R T O : Type 0} (eyes : Eyes R T O) (words : Words) (old : Given R T O
     has_tried n tries = (
       refl,
       refl,
-      subst (λ m. Comes (Unit {0}) (IsTrialOf volume m) x y answer) (same n (sym is ∙ its_command words plan n sentence tries)) comes,
+      subst (λ m. HasOneOutcome (Unit {0}) (IsTrialOf volume m) x y answer) (same n (sym is ∙ its_command words plan n sentence tries)) comes,
     )
       where
         same : (n : ℕ) → SelfTest number ≡ SelfTest n → number ≡ n

@@ -22,7 +22,7 @@ use Rattle.btr_run.specs.Effects.{FollowsWords, IsDecided, IsOutcome, MayFollow,
 use Rattle.btr_run.specs.Images.{AreOpenedAs, AreUnchanged, IsMissing, most_images, taken}
 use Rattle.btr_run.specs.Opening.{HasTooMany, IsOpened, OpeningCause, OpeningFailed, OpensAll, opening_answer}
 use Rattle.btr_run.specs.Order.{FollowsOrder, InOrder, KeepsTo}
-use Rattle.btr_run.specs.Outcomes.{Outcome, refused, Comes, OrBare, OrMemory}
+use Rattle.btr_run.specs.Outcomes.{Outcome, refused, HasOneOutcome, OrBare, OrMemory}
 use Rattle.btr_run.specs.Checked.{found}
 use Rattle.btr_run.specs.Repaired.{AreLeft, AsksToWrite, KeepsRepair, LeavesImages, ScrubsFrom}
 use Rattle.btr_run.specs.Scrubbed.{scrubbed_images}
@@ -75,7 +75,7 @@ module _ (words names : Words) (plan : Plan) (sentence : IsSentence plan words) 
   module _ (old new : Seen) (fault : OpeningFault) (many : HasTooMany names (Err fault))
       (cause : OpeningCause (opens_to_write plan.command) names old new (Err fault)) where
     opening_comes : (shelf : Shelf) (x : Outside) → Steady old.account.faults new.account.faults
-        → Comes (MayWantBy words x.out_calls) (OrMemory (IsOutcome words shelf)) x x (opening_answer fault)
+        → HasOneOutcome (MayWantBy words x.out_calls) (OrMemory (IsOutcome words shelf)) x x (opening_answer fault)
     opening_comes shelf x steady = comes_bare (MayWantBy words x.out_calls) (OrMemory (IsOutcome words shelf)) x (opening_answer fault) (of fault many cause)
         (opening_no_fault fault)
       where
@@ -88,14 +88,16 @@ module _ (words names : Words) (plan : Plan) (sentence : IsSentence plan words) 
         of memory_fault many cause = inr refl
 
     pub opening_effect : (shelf : Option Shelf) (x : Outside) (result : Answer) → result ≡ opening_answer fault
-        → IfSome shelf (λ s. Steady old.account.faults new.account.faults → Comes (MayWantBy words x.out_calls) (OrMemory (IsOutcome words s)) x x result)
+        → IfSome shelf (λ s. Steady old.account.faults new.account.faults
+        → HasOneOutcome (MayWantBy words x.out_calls) (OrMemory (IsOutcome words s)) x x result)
     opening_effect shelf x result is =
-        all_told shelf _ (λ s steady. subst (λ a. Comes (MayWantBy words x.out_calls) (OrMemory (IsOutcome words s)) x x a) (sym is) (opening_comes s x steady))
+        all_told shelf _ (λ s steady. subst (λ a. HasOneOutcome (MayWantBy words x.out_calls) (OrMemory (IsOutcome words s)) x x a) (sym is)
+        (opening_comes s x steady))
 
-    pub opening_told : (x : Outside) (result : Answer) → result ≡ opening_answer fault → Comes (MayWantBy words x.out_calls)
+    pub opening_told : (x : Outside) (result : Answer) → result ≡ opening_answer fault → HasOneOutcome (MayWantBy words x.out_calls)
         (OrBare (MayFollow words)) x x result
     opening_told x result is =
-        subst (λ a. Comes (MayWantBy words x.out_calls) (OrBare (MayFollow words)) x x a) (sym is)
+        subst (λ a. HasOneOutcome (MayWantBy words x.out_calls) (OrBare (MayFollow words)) x x a) (sym is)
         (comes_bare (MayWantBy words x.out_calls) (OrBare (MayFollow words)) x (opening_answer fault) (inr (refl, opening_line fault)) (opening_no_fault fault))
 
     pub opening_order : (shelf : Option Shelf) (before : Seen) (x : Outside) (result : Answer) → result ≡ opening_answer fault
@@ -120,7 +122,7 @@ module _ (words names : Words) (plan : Plan) (sentence : IsSentence plan words) 
         → IfSome shelf (λ s. FollowsAgreed words s x x result)
     opening_agreed shelf x result is =
         all_told shelf _ (λ s p images asks agreed.
-        subst (λ a. Comes (MayWantBy words x.out_calls) (ComesAgreed p.command words images) x x a) (sym is)
+        subst (λ a. HasOneOutcome (MayWantBy words x.out_calls) (ComesAgreed p.command words images) x x a) (sym is)
         (comes_bare (MayWantBy words x.out_calls) (ComesAgreed p.command words images) x (opening_answer fault)
         (agreed_before p.command words images (opening_answer fault) (opening_line fault)
         (of images (subst (λ l. length l ≤ most_images) (ap (λ (q : Plan). images_of q words) (one_plan words _ plan asks.sentence sentence)
@@ -229,16 +231,16 @@ module _ (words names : Words) (plan : Plan) (sentence : IsSentence plan words) 
     may_want x may = inr (plan, sentence, may)
 
     pub command_effect : (x y : Outside) → OpensAll names old.shelf mid.held (Ok tt)
-        → IfSome mid.held (λ images. Steady mid.account.faults new.account.faults → Comes (MayWant plan.command words x.out_calls)
+        → IfSome mid.held (λ images. Steady mid.account.faults new.account.faults → HasOneOutcome (MayWant plan.command words x.out_calls)
         (OrMemory (λ outcome. command_outcome plan.command words images ≡ Some outcome)) x y answer)
-        → IfSome old.shelf (λ shelf. Steady old.account.faults new.account.faults → Comes (MayWantBy words x.out_calls)
+        → IfSome old.shelf (λ shelf. Steady old.account.faults new.account.faults → HasOneOutcome (MayWantBy words x.out_calls)
         (OrMemory (IsOutcome words shelf)) x y answer)
     command_effect x y = of old.shelf mid.held
       where
         of : (shelf : Option Shelf) (held : Option Images) → OpensAll names shelf held (Ok tt)
-            → IfSome held (λ images. Steady mid.account.faults new.account.faults → Comes (MayWant plan.command words x.out_calls)
+            → IfSome held (λ images. Steady mid.account.faults new.account.faults → HasOneOutcome (MayWant plan.command words x.out_calls)
             (OrMemory (λ outcome. command_outcome plan.command words images ≡ Some outcome)) x y answer)
-            → IfSome shelf (λ shelf. Steady old.account.faults new.account.faults → Comes (MayWantBy words x.out_calls)
+            → IfSome shelf (λ shelf. Steady old.account.faults new.account.faults → HasOneOutcome (MayWantBy words x.out_calls)
             (OrMemory (IsOutcome words shelf)) x y answer)
         of None held opens effect = tt
         of (Some at) None opens effect = absurd opens
@@ -250,8 +252,8 @@ module _ (words names : Words) (plan : Plan) (sentence : IsSentence plan words) 
             (λ want. inr want) one)
             (effect (subst (λ n. Steady n new.account.faults) (sym opened.faults) steady))
 
-    pub command_told : (x y : Outside) → Comes (MayWant plan.command words x.out_calls) (OrBare (MayCome plan.command words)) x y answer
-        → Comes (MayWantBy words x.out_calls) (OrBare (MayFollow words)) x y answer
+    pub command_told : (x y : Outside) → HasOneOutcome (MayWant plan.command words x.out_calls) (OrBare (MayCome plan.command words)) x y answer
+        → HasOneOutcome (MayWantBy words x.out_calls) (OrBare (MayFollow words)) x y answer
     command_told x y comes =
         comes_also (MayWant plan.command words x.out_calls) (MayWantBy words x.out_calls) (OrBare (MayCome plan.command words)) (OrBare (MayFollow words)) x y
         answer (may_want x)
@@ -283,15 +285,15 @@ module _ (words names : Words) (plan : Plan) (sentence : IsSentence plan words) 
             (order from.number p (sym (ap (λ (q : Plan). q.command) one)))))
 
     pub command_agreed : (x y : Outside) → OpensAll names old.shelf mid.held (Ok tt)
-        → IfSome mid.held (λ images. AreAgreed images → Comes (MayWant plan.command words x.out_calls)
+        → IfSome mid.held (λ images. AreAgreed images → HasOneOutcome (MayWant plan.command words x.out_calls)
         (ComesAgreed plan.command words images) x y answer)
         → IfSome old.shelf (λ shelf. FollowsAgreed words shelf x y answer)
     command_agreed x y = of old.shelf mid.held
       where
-        Comes_so : Command → Images → Type 0
-        Comes_so command images = AreAgreed images → Comes (MayWant command words x.out_calls) (ComesAgreed command words images) x y answer
+        ComesIfAgreed : Command → Images → Type 0
+        ComesIfAgreed command images = AreAgreed images → HasOneOutcome (MayWant command words x.out_calls) (ComesAgreed command words images) x y answer
 
-        of : (shelf : Option Shelf) (held : Option Images) → OpensAll names shelf held (Ok tt) → IfSome held (λ images. Comes_so plan.command images)
+        of : (shelf : Option Shelf) (held : Option Images) → OpensAll names shelf held (Ok tt) → IfSome held (λ images. ComesIfAgreed plan.command images)
             → IfSome shelf (λ shelf. FollowsAgreed words shelf x y answer)
         of None held opens comes = tt
         of (Some at) None opens comes = absurd opens
@@ -299,8 +301,8 @@ module _ (words names : Words) (plan : Plan) (sentence : IsSentence plan words) 
             let one = one_plan words _ plan asks.sentence sentence in
             let same : ◌≡◌ {A = Option Images} (Some held) (Some images) = sym opens ∙ sym
             (ap (λ (q : Plan). taken (images_of q words) at) one ∙ ap (λ l. taken l at) named) ∙ asks.from in
-            let by_command : Comes_so p.command images = subst (λ c. Comes_so c images) (sym (ap (λ (q : Plan). q.command) one))
-            (subst (λ i. Comes_so plan.command i) (the_images held images same) comes) in
+            let by_command : ComesIfAgreed p.command images = subst (λ c. ComesIfAgreed c images) (sym (ap (λ (q : Plan). q.command) one))
+            (subst (λ i. ComesIfAgreed plan.command i) (the_images held images same) comes) in
             comes_also (MayWant p.command words x.out_calls) (MayWantBy words x.out_calls) (ComesAgreed p.command words images)
             (ComesAgreed p.command words images) x y answer
             (subst (λ c. MayWant c words x.out_calls → MayWantBy words x.out_calls) (sym (ap (λ (q : Plan). q.command) one)) (may_want x)) (λ outcome o. o)

@@ -8,7 +8,7 @@ use Rattle.btr_run.specs.Agreeing.{ComesAgreed}
 use Rattle.btr_run.specs.Behind.{IfSteady, IsBehind}
 use Rattle.btr_run.specs.Commands.{IsBehindCommand, KeepsRack, MayCome, MayFail, MayWant, TellsCause, command_outcome}
 use Rattle.btr_run.specs.Order.{InOrder}
-use Rattle.btr_run.specs.Outcomes.{Outcome, Comes, OrBare, OrMemory, Shows}
+use Rattle.btr_run.specs.Outcomes.{Outcome, HasOneOutcome, OrBare, OrMemory, Shows}
 use Rattle.btr_run.specs.Queries.{query_row}
 use Rattle.btr_run.specs.Repaired.{LeavesScrubbed}
 use Rattle.btr_run.specs.Queries.Restored.{restore_row}
@@ -29,24 +29,24 @@ module _ (May : Type 0) (x y : Outside) (scarce : x.out_calls.ample ≡ false �
     (answer : Answer) where
   pub shown_effect : (IsOne : Images → Outcome → Type 0) (held : Option Images) (old new : Account)
       → IfSteady held old new (λ images. Shows (OrMemory (IsOne images)) x.text y.text x.out_calls y.out_calls answer)
-      → IfSteady held old new (λ images. Comes May (OrMemory (IsOne images)) x y answer)
+      → IfSteady held old new (λ images. HasOneOutcome May (OrMemory (IsOne images)) x y answer)
   shown_effect IsOne held old new =
       when_told held (λ images. Steady old.faults new.faults → Shows (OrMemory (IsOne images)) x.text y.text x.out_calls y.out_calls answer)
-      (λ images. Steady old.faults new.faults → Comes May (OrMemory (IsOne images)) x y answer)
+      (λ images. Steady old.faults new.faults → HasOneOutcome May (OrMemory (IsOne images)) x y answer)
       (λ images shows steady. comes_shown May (OrMemory (IsOne images)) x y answer same same_calls scarce
       (shows steady))
 
   pub shown_told : (IsOne : Outcome → Type 0) → Shows (OrBare IsOne) x.text y.text x.out_calls y.out_calls answer
-      → Comes May (OrBare IsOne) x y answer
+      → HasOneOutcome May (OrBare IsOne) x y answer
   shown_told IsOne shows = comes_shown May (OrBare IsOne) x y answer same same_calls scarce shows
 
   -- what it comes to where the images agree
   pub shown_so : (IsOne : Images → Outcome → Type 0) (held : Option Images)
       → IfSome held (λ images. AreAgreed images → Shows (IsOne images) x.text y.text x.out_calls y.out_calls answer)
-      → IfSome held (λ images. AreAgreed images → Comes May (IsOne images) x y answer)
+      → IfSome held (λ images. AreAgreed images → HasOneOutcome May (IsOne images) x y answer)
   shown_so IsOne held =
       when_told held (λ images. AreAgreed images → Shows (IsOne images) x.text y.text x.out_calls y.out_calls answer)
-      (λ images. AreAgreed images → Comes May (IsOne images) x y answer)
+      (λ images. AreAgreed images → HasOneOutcome May (IsOne images) x y answer)
       (λ images shows agreed. comes_shown May (IsOne images) x y answer same same_calls scarce (shows agreed))
 
 -- reading keeps a rack
@@ -97,8 +97,8 @@ module _ {R T O : Type 0} (eyes : Eyes R T O) (words : Words) (old : Given R T O
     abbrev May : Type 0
     May = MayWant command words x.out_calls
 
-    -- what a scrub promises
-    pub mended : IfSteady (before beside).held (before beside).account (behind beside).account (λ images.
+    -- what a command promises that puts one text
+    pub shown : IfSteady (before beside).held (before beside).account (behind beside).account (λ images.
         Shows (OrMemory (λ outcome. command_outcome command words images ≡ Some outcome)) x.text y.text x.out_calls y.out_calls answer)
         → Shows (OrBare (MayCome command words)) x.text y.text x.out_calls y.out_calls answer
         → IfSome (before beside).held (λ images. AreAgreed images → Shows
@@ -106,7 +106,7 @@ module _ {R T O : Type 0} (eyes : Eyes R T O) (words : Words) (old : Given R T O
         → IsBehindCommand command (before beside) (behind beside) answer
         → (command ≡ Scrub true → LeavesScrubbed (before beside) (behind beside) answer)
         → IsPerformed beside command
-    mended effect told agreed cause leaves = record {
+    shown effect told agreed cause leaves = record {
       effect = shown_effect May x y scarce refl refl answer (λ images outcome. command_outcome command words images ≡ Some outcome) (before beside).held
           (before beside).account (behind beside).account effect;
       told = shown_told May x y scarce refl refl answer (MayCome command words) told;
@@ -117,18 +117,6 @@ module _ {R T O : Type 0} (eyes : Eyes R T O) (words : Words) (old : Given R T O
       cause = cause;
       leaves = leaves;
     }
-
-    -- what a command promises that only reads
-    pub shown : (command ≡ Scrub true → ⊥)
-        → IfSteady (before beside).held (before beside).account (behind beside).account (λ images.
-        Shows (OrMemory (λ outcome. command_outcome command words images ≡ Some outcome)) x.text y.text x.out_calls y.out_calls answer)
-        → Shows (OrBare (MayCome command words)) x.text y.text x.out_calls y.out_calls answer
-        → IfSome (before beside).held (λ images. AreAgreed images → Shows
-        (ComesAgreed command words images) x.text y.text x.out_calls y.out_calls answer)
-        → IsBehind (MayFail command) (TellsCause command) (before beside) (behind beside) answer
-        → IsPerformed beside command
-    shown reads effect told agreed cause =
-        mended effect told agreed (only_reads command (before beside) (behind beside) answer cause) (λ is. absurd (reads is))
 
 -- what is told of a command whatever its images hold is told of images that agree
 pub so_too : (held : Option Images) (P : Type 0) → P → IfSome held (λ images. AreAgreed images → P)
@@ -148,10 +136,10 @@ asked run query done order stored alone = record { done = done; order = order; s
 module _ {R T O : Type 0} (run : Run R T O) (command : Command) (row : Row)
     (comes_to : (images : Images) → command_outcome command run.words images ≡ Some (row_outcome row images)) where
   row_effect : IfSteady (before run).held (before run).account (behind run).account (λ images.
-      Comes (row.MayWant (outside_before run).out_calls) (OrMemory (λ outcome. row_outcome row images ≡ outcome))
+      HasOneOutcome (row.MayWant (outside_before run).out_calls) (OrMemory (λ outcome. row_outcome row images ≡ outcome))
       (outside_before run) (outside_behind run) run.answer)
       → IfSteady (before run).held (before run).account (behind run).account (λ images.
-      Comes (row.MayWant (outside_before run).out_calls) (OrMemory (λ outcome. command_outcome command run.words images ≡ Some outcome))
+      HasOneOutcome (row.MayWant (outside_before run).out_calls) (OrMemory (λ outcome. command_outcome command run.words images ≡ Some outcome))
       (outside_before run) (outside_behind run) run.answer)
   row_effect = when_told (before run).held _ _ (λ images comes steady.
       comes_also (row.MayWant (outside_before run).out_calls) (row.MayWant (outside_before run).out_calls)

@@ -17,7 +17,7 @@ use Rattle.btr_read.specs.declared.want.Want.{Want}
 use Rattle.btr_restore.specs.Headline.{Headline, from_start, restore_outcome, unless_diverged}
 use Rattle.btr_restore.specs.InOrder.{OpenedThen, OpenRefused, OpenHalted, SettledLaw}
 use Rattle.btr_restore.specs.Journey.{journey, listing}
-use Rattle.btr_restore.specs.Outcome.{Ending, Outcome, after_step, nothing, outcome, outcome_by, tree_after}
+use Rattle.btr_restore.specs.Outcome.{Ending, RestoreOutcome, after_step, nothing, outcome, outcome_by, tree_after}
 use Rattle.btr_restore.specs.Restoring.{sink_after}
 use Rattle.btr_restore.specs.Running.{Outside}
 use Rattle.btr_listing.specs.Step.{Step, Line, part}
@@ -46,7 +46,7 @@ use Rattle.btr_run.proofs.Orders.{no_steps}
 use Rattle.btr_run.proofs.Apart.{one_plan}
 
 -- the outcome of some steps and an ending
-by_steps : (steps : List Step) (ending : Ending) (answer : Answer) (found : Outcome) → outcome_by steps ending ≡ found → answer ≡ ended_answer ending
+by_steps : (steps : List Step) (ending : Ending) (answer : Answer) (found : RestoreOutcome) → outcome_by steps ending ≡ found → answer ≡ ended_answer ending
     → IsOutcomeOf (record { answer = answer; steps = steps }) found
 by_steps steps ending answer found is answered = subst (IsOutcomeOf (record { answer = answer; steps = steps })) is
     (record { rows = refl; part = refl; text = refl; answered = answered })
@@ -155,7 +155,7 @@ module _ (seen : Seen) (settles : SettledLaw) (then : (plan : RestorePlan) (dest
           no_part_in (Some p) e rows = absurd (cc e)
 
   module _ (words : Words) (shelf : Shelf) (x y : Outside) (result : Answer) (sound : IsSound x.sink) (fresh : x.sink.stage ≡ NotStarted) where
-    stands_as : (outcome : tool.Outcome) (found : Outcome) → tool.Stands x y outcome.steps (error_line outcome.answer) → result ≡ outcome.answer
+    stands_as : (outcome : tool.Outcome) (found : RestoreOutcome) → tool.Stands x y outcome.steps (error_line outcome.answer) → result ≡ outcome.answer
         → IsOutcomeOf outcome found → StandsAs x y result found
     stands_as outcome found stands answered is = record {
       rows = told (λ t. t.rows ≡ found.rows) (λ t e. ap (λ (u : Tree). u.rows) e ∙ is.rows);

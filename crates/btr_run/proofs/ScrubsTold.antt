@@ -9,11 +9,11 @@ use Rattle.btr_scrub.specs.declared.tally.Tally.{Tally}
 use Rattle.btr_volume.specs.Start.{Images}
 use Rattle.btr_run.specs.Agreeing.{IsScrubbedOrUnread, ScrubsAgreed}
 use Rattle.btr_run.specs.Unopened.{AreAgreed}
-use Rattle.btr_run.specs.Behind.{IfSteady}
 use Rattle.btr_run.specs.Checked.{found}
 use Rattle.btr_run.specs.Commands.{IsBehindCommand}
 use Rattle.btr_run.specs.Outcomes.{OrBare, OrMemory, Outcome, Shows, due_after, refused, showing}
 use Rattle.btr_run.specs.Repaired.{LeavesImages, LeavesScrubbed, MayWrite, Scrubs, ScrubsTo, WaitsInChunk}
+use Rattle.btr_run.specs.Shown.{ShowsCommand}
 use Rattle.btr_run.specs.Scrubbed.{IsScrubOutcome, scrub_outcome, tally_shown, tally_text}
 use Rattle.btr_run.specs.declared.answer.Answer.{Answer}
 use Rattle.btr_run.specs.declared.plan.Command.TheVariants.{Scrub}
@@ -29,36 +29,41 @@ module _ (write : Bool) (old new : Seen) (answer result : Answer) (is : result �
   abbrev IsOneOf : Images → Outcome → Type 0
   IsOneOf images = OrMemory (λ outcome. Some (scrub_outcome write images) ≡ Some outcome)
 
-  pub refused_effect : (text : Option (List ℕ)) (account : CallAccount) → IfSteady old.held old.account new.account
-      (λ images. Shows (OrMemory (λ outcome. Some (scrub_outcome write images) ≡ Some outcome)) text text account account result)
-  refused_effect text account =
-      when_told old.held (λ images. Steady old.account.faults new.account.faults → ScrubsTo write images (Err answer))
-      (λ images. Steady old.account.faults new.account.faults → Shows (IsOneOf images) text text account account result)
-      (λ images to steady. subst (Shows (IsOneOf images) text text account account) (sym is)
-      (shows_bare (IsOneOf images) text account answer (⊎_elim (λ both. inl (ap (λ o. Some o) both.0)) (λ want. inr (ap refused want))
-      (to steady)) s.bare.no_fault)) s.content
+  module _ (text : Option (List ℕ)) (account : CallAccount) where
+    -- the answer's line alone, as one of some outcomes
+    line_of : (IsOne : Outcome → Type 0) → IsOne (refused answer) → Shows IsOne text text account account result
+    line_of IsOne one = subst (Shows IsOne text text account account) (sym is) (shows_bare IsOne text account answer one s.bare.no_fault)
 
-  pub refused_agreed : (text : Option (List ℕ)) (account : CallAccount) → IfSome old.held (λ images. AreAgreed images → ScrubsAgreed write images (Err answer))
-      → IfSome old.held (λ images. AreAgreed images → Shows (IsScrubbedOrUnread write images) text text account account result)
-  refused_agreed text account =
-      when_told old.held (λ images. AreAgreed images → ScrubsAgreed write images (Err answer))
-      (λ images. AreAgreed images → Shows (IsScrubbedOrUnread write images) text text account account result)
-      (λ images to agreed. subst (Shows (IsScrubbedOrUnread write images) text text account account) (sym is)
-      (shows_bare (IsScrubbedOrUnread write images) text account answer (to agreed) s.bare.no_fault))
-
-  pub refused_told : (text : Option (List ℕ)) (account : CallAccount) → Shows (OrBare IsScrubOutcome) text text account account result
-  refused_told text account = subst (Shows (OrBare IsScrubOutcome) text text account account) (sym is)
-      (shows_bare (OrBare IsScrubOutcome) text account answer (inr (refl, s.bare.line)) s.bare.no_fault)
+    pub refused_shown : IfSome old.held (λ images. AreAgreed images → ScrubsAgreed write images (Err answer))
+        → ShowsCommand (Scrub write) old new text text account account result
+    refused_shown agreed = record {
+      effect = when_told old.held (λ images. Steady old.account.faults new.account.faults → ScrubsTo write images (Err answer)) _
+          (λ images to steady. line_of (IsOneOf images) (⊎_elim (λ both. inl (ap (λ o. Some o) both.0)) (λ want. inr (ap refused want)) (to steady)))
+          s.content;
+      agreed = when_told old.held (λ images. AreAgreed images → ScrubsAgreed write images (Err answer)) _
+          (λ images to agree. line_of (IsScrubbedOrUnread write images) (to agree)) agreed;
+      told = line_of (OrBare IsScrubOutcome) (inr (refl, s.bare.line));
+      cause = subst (IsBehindCommand (Scrub write) old new) (sym is) s.behind;
+    }
 
   pub refused_leaves : write ≡ true → LeavesScrubbed old new result
   refused_leaves w = subst (LeavesScrubbed old new) (sym is) (s.leaves w)
 
-  pub refused_cause : IsBehindCommand (Scrub write) old new result
-  refused_cause = subst (IsBehindCommand (Scrub write) old new) (sym is) s.behind
-
 -- The scrub was done, and its line put.
 module _ (write : Bool) (old new : Seen) (tally : Tally) (s : Scrubs write old new (Ok tally)) (put : Result Unit SinkError) (result : Answer)
     (due : result ≡ due_after put (found tally.lost)) where
+  done_cause : IsBehindCommand (Scrub write) old new result
+  done_cause = subst (IsBehindCommand (Scrub write) old new) (sym due) (record {
+    keeps = s.behind.keeps;
+    reads = s.behind.reads;
+    held = s.behind.held;
+    image = λ slot e. absurd (listed_no_image tally.lost put slot e);
+    tree = λ f e. absurd (no_tree (due_after put (found tally.lost)) (listed_no_tree tally.lost put) f e);
+    hidden = inr (inr (mends_of (due_after put (found tally.lost)) (listed_none tally.lost put)));
+    no_usage = λ n e. subst NoneOf e (listed_none tally.lost put);
+    no_limit = λ n e. subst NoneOf e (listed_none tally.lost put);
+  })
+
   module _ (text text' : Option (List ℕ)) (before after : CallAccount) (puts : Puts text text' (tally_text tally) put) (counted : Counts before after put) where
     shown_so : (IsOne : Outcome → Type 0) → IsOne (showing (tally_shown tally)) → Shows IsOne text text' before after result
     shown_so IsOne one = record {
@@ -69,23 +74,17 @@ module _ (write : Bool) (old new : Seen) (tally : Tally) (s : Scrubs write old n
           { put = put; puts = puts; counts = counted; due = due };
     }
 
-    pub done_effect : IfSteady old.held old.account new.account
-        (λ images. Shows (OrMemory (λ outcome. Some (scrub_outcome write images) ≡ Some outcome)) text text' before after result)
-    done_effect =
-        when_told old.held (λ images. Steady old.account.faults new.account.faults → ScrubsTo write images (Ok tally))
-        (λ images. Steady old.account.faults new.account.faults → Shows
-        (OrMemory (λ outcome. Some (scrub_outcome write images) ≡ Some outcome)) text text' before after result)
-        (λ images to steady. shown_so (OrMemory (λ outcome. Some (scrub_outcome write images) ≡ Some outcome)) (inl (ap (λ o. Some o) (to steady)))) s.content
-
-    pub done_agreed : IfSome old.held (λ images. AreAgreed images → ScrubsAgreed write images (Ok tally))
-        → IfSome old.held (λ images. AreAgreed images → Shows (IsScrubbedOrUnread write images) text text' before after result)
-    done_agreed =
-        when_told old.held (λ images. AreAgreed images → ScrubsAgreed write images (Ok tally))
-        (λ images. AreAgreed images → Shows (IsScrubbedOrUnread write images) text text' before after result)
-        (λ images to agreed. shown_so (IsScrubbedOrUnread write images) (inl (inl (to agreed))))
-
-    pub done_told : Shows (OrBare IsScrubOutcome) text text' before after result
-    done_told = shown_so (OrBare IsScrubOutcome) (inl (record { tally = tally; is = refl }))
+    pub done_shown : IfSome old.held (λ images. AreAgreed images → ScrubsAgreed write images (Ok tally))
+        → ShowsCommand (Scrub write) old new text text' before after result
+    done_shown agreed = record {
+      effect = when_told old.held (λ images. Steady old.account.faults new.account.faults → ScrubsTo write images (Ok tally)) _
+          (λ images to steady. shown_so (OrMemory (λ outcome. Some (scrub_outcome write images) ≡ Some outcome)) (inl (ap (λ o. Some o) (to steady))))
+          s.content;
+      agreed = when_told old.held (λ images. AreAgreed images → ScrubsAgreed write images (Ok tally)) _
+          (λ images to agree. shown_so (IsScrubbedOrUnread write images) (inl (inl (to agree)))) agreed;
+      told = shown_so (OrBare IsScrubOutcome) (inl (record { tally = tally; is = refl }));
+      cause = done_cause;
+    }
 
   may_write : MayWrite result
   may_write = of put due
@@ -120,15 +119,3 @@ module _ (write : Bool) (old new : Seen) (tally : Tally) (s : Scrubs write old n
     where
       l : LeavesScrubbed old new (found tally.lost)
       l = s.leaves w
-
-  pub done_cause : IsBehindCommand (Scrub write) old new result
-  done_cause = subst (IsBehindCommand (Scrub write) old new) (sym due) (record {
-    keeps = s.behind.keeps;
-    reads = s.behind.reads;
-    held = s.behind.held;
-    image = λ slot e. absurd (listed_no_image tally.lost put slot e);
-    tree = λ f e. absurd (no_tree (due_after put (found tally.lost)) (listed_no_tree tally.lost put) f e);
-    hidden = inr (inr (mends_of (due_after put (found tally.lost)) (listed_none tally.lost put)));
-    no_usage = λ n e. subst NoneOf e (listed_none tally.lost put);
-    no_limit = λ n e. subst NoneOf e (listed_none tally.lost put);
-  })

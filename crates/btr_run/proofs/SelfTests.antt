@@ -20,7 +20,7 @@ use Rattle.btr_run.specs.Answers.{output_answer}
 use Rattle.btr_run.specs.Causes.{IsBehindWords}
 use Rattle.btr_run.specs.Checked.{found}
 use Rattle.btr_run.specs.Faults.{stop_answer}
-use Rattle.btr_run.specs.Outcomes.{Comes, HasEnded, How, IsNoFault, OutFailed, Outcome, SinkFailed, Wanted, Whole, due_after, showing}
+use Rattle.btr_run.specs.Outcomes.{HasOneOutcome, HasEnded, How, IsNoFault, OutFailed, Outcome, SinkFailed, Wanted, Whole, due_after, showing}
 use Rattle.btr_run.specs.SelfTested.{AsksToTry, IsTrialOf, IsTrialOutcome, TakesImages, tried_shown, volume_text}
 use Rattle.btr_run.specs.Words.{Words, IsSentence}
 use Rattle.btr_run.specs.declared.answer.Answer.{Answer}
@@ -79,7 +79,7 @@ AnswersTo (Err stop) answer = answer ≡ stop_answer stop
 -- beside any sink
 module _ (volume : Option Images) (number : ℕ) (sink : Sink) (calls : CallAccount) where
   abbrev TriesTo : Option (List ℕ) → Option (List ℕ) → CallAccount → CallAccount → Answer → Type 0
-  TriesTo old new before after answer = Comes (Unit {0}) (IsTrialOf volume number) (outside sink calls old before) (outside sink calls new after) answer
+  TriesTo old new before after answer = HasOneOutcome (Unit {0}) (IsTrialOf volume number) (outside sink calls old before) (outside sink calls new after) answer
 
   no_fault : (t : Images) → IsNoFault (found (differing (trial_of t number)))
   no_fault t = record { no_out = found_no_out (differing (trial_of t number)); no_sink = found_no_sink (differing (trial_of t number)) }
@@ -156,7 +156,8 @@ pub some_trial : (volume : Option Images) (number : ℕ) (outcome : Outcome) →
 some_trial None number outcome one = one
 some_trial (Some images) number outcome one = (images, one)
 
-pub is_plain : (volume : Option Images) (number : ℕ) (x y : Outside) (answer : Answer) → Comes (Unit {0}) (IsTrialOf volume number) x y answer → IsPlain answer
+pub is_plain : (volume : Option Images) (number : ℕ) (x y : Outside) (answer : Answer) → HasOneOutcome (Unit {0}) (IsTrialOf volume number) x y answer
+    → IsPlain answer
 is_plain volume number x y answer comes = of comes.how comes.ended
   where
     some : IsTrialOutcome number comes.outcome

@@ -16,7 +16,7 @@ use Rattle.btr_run.specs.Commands.{MayCome}
 use Rattle.btr_run.specs.Effects.{MayWantBy}
 use Rattle.btr_run.specs.Filesystem.{Filesystem, filesystem_of}
 use Rattle.btr_run.specs.Images.{most_images, taken}
-use Rattle.btr_run.specs.Outcomes.{Outcome, Comes, IsPrinted, OrBare, refused, showing}
+use Rattle.btr_run.specs.Outcomes.{Outcome, HasOneOutcome, IsPrinted, OrBare, refused, showing}
 use Rattle.btr_run.specs.Queries.{query_row}
 use Rattle.btr_run.specs.Rows.{IsRowOrUnread}
 use Rattle.btr_run.specs.Scrubbed.{filesystem_as, scrub_outcome, tally_shown}
@@ -83,7 +83,7 @@ FollowsAgreed words shelf x y result =
     (plan : Plan) (images : Images)
     → AsksOf words shelf plan images
     → AreAgreed images
-    → Comes (MayWantBy words x.out_calls) (ComesAgreed plan.command words images) x y result
+    → HasOneOutcome (MayWantBy words x.out_calls) (ComesAgreed plan.command words images) x y result
 
 -- a command over images that agree did what it comes to, and behind it the line of the answer was
 -- put

@@ -9,7 +9,7 @@ use Rattle.btr_volume.specs.Opening.{Scans, SuperUnread}
 use Rattle.btr_volume.specs.Start.{Start, layout_by, start_of}
 use Rattle.btr_walk.specs.Reading.{FaultCause}
 use Rattle.btr_walk.specs.declared.fault.TreeFault.{TreeFault}
-use Rattle.btr_walk.specs.declared.fault.TreeFault.TheVariants.{Lost, Unread, Unmapped, Crosses, Malformed}
+use Rattle.btr_walk.specs.declared.fault.TreeFault.TheVariants.{Unread, Crosses}
 use Rattle.btr_volume.specs.declared.which.Which.TheVariants.{Images}
 use Rattle.btr_run.specs.declared.answer.Answer.{Answer}
 use Rattle.btr_run.specs.declared.answer.Answer.TheVariants.{Usage, Limit, ImageFault, SinkFault, OutFault, Memory}
@@ -50,19 +50,13 @@ AnyFault fault = Unit {0}
 
 -- that a block could not be read
 abbrev pub IsUnread : TreeFault → Type 0
-IsUnread (Lost addr) = ⊥
 IsUnread (Unread addr slot) = Unit {0}
-IsUnread (Unmapped addr) = ⊥
-IsUnread (Crosses addr) = ⊥
-IsUnread (Malformed addr) = ⊥
+IsUnread fault = ⊥
 
 -- all but a block that crosses
 abbrev pub IsNoCrossing : TreeFault → Type 0
-IsNoCrossing (Lost addr) = Unit {0}
-IsNoCrossing (Unread addr slot) = Unit {0}
-IsNoCrossing (Unmapped addr) = Unit {0}
 IsNoCrossing (Crosses addr) = ⊥
-IsNoCrossing (Malformed addr) = Unit {0}
+IsNoCrossing fault = Unit {0}
 
 -- The images were only read. One is at fault only where a read of its superblock failed, which no sure rack does. An
 -- answer that is no fault comes behind a failed call only if it is of some kind. Of some faults of trees the cause is

@@ -26,6 +26,7 @@ pub mod Commands
 pub mod Causes
 pub mod Effects
 pub mod Agreeing
+pub mod Shown
 pub mod Repaired
 pub mod Rescued
 pub mod Honest

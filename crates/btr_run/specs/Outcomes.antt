@@ -125,7 +125,7 @@ HasEnded May x y outcome result Wanted = (result ≡ Memory) × May × (y.sink_c
 
 -- One of some outcomes came: its steps were done, or a first part of them. A fault
 -- of the output or of the sink is no outcome.
-pub record Comes (May : Type 0) (IsOne : Outcome → Type 0) (x y : Outside) (result : Answer) : Type 0 where
+pub record HasOneOutcome (May : Type 0) (IsOne : Outcome → Type 0) (x y : Outside) (result : Answer) : Type 0 where
   pub outcome : Outcome
   pub is_one : IsOne outcome
   pub no_fault : IsNoFault outcome.answer

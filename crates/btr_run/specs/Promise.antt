@@ -8,7 +8,7 @@ use Rattle.btr_rack.specs.Rack.{Shelf}
 use Rattle.btr_rack.specs.Out.{Adds}
 use Rattle.btr_restore.specs.Committed.{Commit, IsHonest, IsClosed}
 use Rattle.btr_restore.specs.Headline.{IsRestored, restore_outcome}
-use Rattle.btr_restore.specs.Outcome.{Ending, Outcome, text_of, tree_after}
+use Rattle.btr_restore.specs.Outcome.{Ending, RestoreOutcome, text_of, tree_after}
 use Rattle.btr_restore.specs.Running.{Outside}
 use Rattle.btr_volume.specs.Start.{Images, Start, start_of, layout_by}
 use Rattle.btr_run.specs.Answers.{error_line}
@@ -40,7 +40,7 @@ pub record RestoresFrom (words : Words) (shelf : Shelf) (plan : RestorePlan) (de
 
 -- what stands in the sink and in the output, where they tell it, and the answer are those of an
 -- outcome of restore
-pub record StandsAs (x y : Outside) (result : Answer) (found : Outcome) : Type 0 where
+pub record StandsAs (x y : Outside) (result : Answer) (found : RestoreOutcome) : Type 0 where
   pub rows : IfSome y.sink.tree (λ t. t.rows ≡ found.rows)
   pub part : IfSome y.sink.tree (λ t. t.part ≡ found.part)
   pub text : Adds x.text y.text (found.text ++ error_line result)
@@ -64,10 +64,10 @@ KeepsHeadline words shelf x y result =
     → start_of images ≡ Ok start
     → IsHonest C images (layout_by start table)
     → IsClosed plan dest images start C table
-    → (found : Outcome) × IsRestored plan dest images start C found × StandsAs x y result found
+    → (found : RestoreOutcome) × IsRestored plan dest images start C found × StandsAs x y result found
 
 -- what a restore of the program comes to is an outcome of restore
-pub record IsOutcomeOf (outcome : tool.Outcome) (found : Outcome) : Type 0 where
+pub record IsOutcomeOf (outcome : tool.Outcome) (found : RestoreOutcome) : Type 0 where
   pub rows : (tree_after outcome.steps).rows ≡ found.rows
   pub part : (tree_after outcome.steps).part ≡ found.part
   pub text : text_of outcome.steps ≡ found.text

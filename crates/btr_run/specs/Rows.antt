@@ -17,7 +17,7 @@ use Rattle.btr_run.specs.Behind.{AnyFault, IfSteady, IsBehind}
 use Rattle.btr_run.specs.Faults.{tree_answer}
 use Rattle.btr_run.specs.Filesystem.{Filesystem, MayMend, filesystem_of}
 use Rattle.btr_run.specs.Listed.{ListsTo, listed_by}
-use Rattle.btr_run.specs.Outcomes.{Comes, Outcome, OrBare, OrMemory, refused}
+use Rattle.btr_run.specs.Outcomes.{HasOneOutcome, Outcome, OrBare, OrMemory, refused}
 use Rattle.btr_run.specs.Unopened.{AreAgreed, IsUnopened}
 use Rattle.btr_run.specs.declared.answer.Answer.{Answer}
 use Rattle.btr_run.specs.declared.answer.Answer.TheVariants.{Done, NoTree}
@@ -53,11 +53,11 @@ IsRowOrUnread row images outcome =
 -- agree; and whatever failed; and what lies behind its answer.
 pub record IsRowDone (row : Row) (old new : Seen) (x y : Outside) (answer : Answer) : Type 0 where
   pub effect : IfSteady old.held old.account new.account (λ images.
-      Comes (row.MayWant x.out_calls)
+      HasOneOutcome (row.MayWant x.out_calls)
       (OrMemory (λ outcome. row_outcome row images ≡ outcome)) x y answer)
   pub agreed : IfSome old.held (λ images. AreAgreed images
-      → Comes (row.MayWant x.out_calls) (IsRowOrUnread row images) x y answer)
-  pub told : Comes (row.MayWant x.out_calls) (OrBare row.MayBe) x y answer
+      → HasOneOutcome (row.MayWant x.out_calls) (IsRowOrUnread row images) x y answer)
+  pub told : HasOneOutcome (row.MayWant x.out_calls) (OrBare row.MayBe) x y answer
   pub cause : IsBehind MayMend AnyFault old new answer
 
 -- what a listing may come to, whatever its blocks are: behind some steps its end, or that there is

@@ -18,7 +18,7 @@ use Rattle.btr_run.specs.Effects.{AsksForSink, FollowsWords, HasEffect, HasPart,
 use Rattle.btr_run.specs.Effects.{IsOutcome, IsTold, MayFollow, MayWantBy}
 use Rattle.btr_run.specs.Images.{AreUnchanged}
 use Rattle.btr_run.specs.Order.{FollowsOrder, InOrder, KeepsCommittedOrder, KeepsOrder}
-use Rattle.btr_run.specs.Outcomes.{CallFailed, Comes, IsPrinted, Outcome, OrBare, OrMemory}
+use Rattle.btr_run.specs.Outcomes.{CallFailed, HasOneOutcome, IsPrinted, Outcome, OrBare, OrMemory}
 use Rattle.btr_run.specs.Promise.{KeepsHeadline, KeepsOutcome}
 use Rattle.btr_run.specs.Queries.{query_row}
 use Rattle.btr_run.specs.Repaired.{AreLeft, AsksToWrite, KeepsRepair, LeavesScrubbed, NamesChunk}
@@ -118,7 +118,7 @@ module _ {R T O : Type 0} (run : Run R T O) where
     pub enough : run.answer ≢ Memory
 
   -- nor one of the sink: nothing failed
-  pub record IsCalm : Type 0 where
+  pub record NothingFailed : Type 0 where
     pub put : IsPutWell
     pub sink : Steady outside_before.sink_calls.faults outside_behind.sink_calls.faults
 
@@ -171,13 +171,13 @@ module _ {R T O : Type 0} (run : Run R T O) where
 
   -- where no call failed, all that was done and answered is what the words and the images come to
   abbrev pub HasWholeEffect : Type 0
-  HasWholeEffect = OfShelf IsCalm ComesTo
+  HasWholeEffect = OfShelf NothingFailed ComesTo
 
   -- ---- 3. The headline: over honest images a restore is what was committed, whole, or
   -- up to exactly the first block that is lost.
   abbrev pub RestoresCommitted : Type 0
   RestoresCommitted =
-      OfShelf IsCalm
+      OfShelf NothingFailed
       (λ shelf. KeepsHeadline run.words shelf outside_before outside_behind run.answer)
 
   -- ---- 4. Whatever failed, a first part of that was done, where no call on an
@@ -237,14 +237,14 @@ module _ {R T O : Type 0} (run : Run R T O) where
   HasTried volume =
       (number : ℕ) → AsksToTry run.words number
       → (run.new.rack ≡ run.old.rack) × (run.new.tree ≡ run.old.tree)
-      × Comes (Unit {0}) (IsTrialOf volume number) outside_before outside_behind run.answer
+      × HasOneOutcome (Unit {0}) (IsTrialOf volume number) outside_before outside_behind run.answer
 
   -- the words were obeyed: all of the five, but for the line of a refusal, whose answer is due
   pub record IsObeyed : Type 0 where
     pub effect : OfShelf AreImagesSteady (λ shelf.
-        Comes (MayWantBy run.words outside_before.out_calls)
+        HasOneOutcome (MayWantBy run.words outside_before.out_calls)
         (OrMemory (IsOutcome run.words shelf)) outside_before outside_behind run.answer)
-    pub told : Comes (MayWantBy run.words outside_before.out_calls)
+    pub told : HasOneOutcome (MayWantBy run.words outside_before.out_calls)
         (OrBare (MayFollow run.words)) outside_before outside_behind run.answer
     pub order : IfSome before.shelf
         (λ shelf. FollowsOrder run.words shelf
@@ -279,17 +279,17 @@ module _ {R T O : Type 0} (run : Run R T O) where
   -- a command was done over them: what the words say, but for the line of a refusal
   pub record IsPerformed (command : Command) : Type 0 where
     pub effect : IfSteady before.held before.account behind.account (λ images.
-        Comes (MayWant command run.words outside_before.out_calls)
+        HasOneOutcome (MayWant command run.words outside_before.out_calls)
         (OrMemory (λ outcome. command_outcome command run.words images ≡ Some outcome))
         outside_before outside_behind run.answer)
-    pub told : Comes (MayWant command run.words outside_before.out_calls)
+    pub told : HasOneOutcome (MayWant command run.words outside_before.out_calls)
         (OrBare (MayCome command run.words))
         outside_before outside_behind run.answer
     pub order : (number : ℕ) (plan : RestorePlan) → command ≡ Ask (Restore number plan)
         → IfSome before.held (λ images. InOrder plan (get_or run.words number []) images
         before behind outside_before outside_behind run.answer)
     pub agreed : IfSome before.held (λ images. AreAgreed images
-        → Comes (MayWant command run.words outside_before.out_calls)
+        → HasOneOutcome (MayWant command run.words outside_before.out_calls)
         (ComesAgreed command run.words images)
         outside_before outside_behind run.answer)
     pub stored : IsStored (run.eyes.waits run.new.tree) run.answer

@@ -1,15 +1,12 @@
 // The command `check`.
-ghost use Rattle.std.specs.Prelude.{◌≡◌, ◌<◌, length, IfSome, Some};
-ghost use Rattle.btr_run.specs.Agreeing.{IsCheckedOrUnread};
+ghost use Rattle.std.specs.Prelude.{◌≡◌, ◌<◌, length};
 ghost use Rattle.btr_run.specs.Answers.{answer_of};
-ghost use Rattle.btr_run.specs.Behind.{IfSteady, IsBehind, IsUnread};
-ghost use Rattle.btr_run.specs.Checked.{IsCheckOutcome, check_outcome, found};
-ghost use Rattle.btr_run.specs.Filesystem.{MayMend};
-ghost use Rattle.btr_run.specs.Outcomes.{OrBare, OrMemory, Shows};
-ghost use Rattle.btr_run.specs.Unopened.{AreAgreed};
+ghost use Rattle.btr_run.specs.Checked.{found};
+ghost use Rattle.btr_run.specs.Shown.{ShowsCommand};
 
 use crate::answer::Answer;
 use crate::filesystem::open_filesystem;
+use crate::plan::Command;
 use btr_check::{check, put_findings};
 use btr_rack::{Out, Rack};
 use std::alloc::Global;
@@ -26,15 +23,8 @@ pub(crate) fn show_findings<R: Rack, O: Out>(
     out: &mut O,
 ) -> Result<Answer, Answer>
     requires { 0 < length (R.seen rack.old).slots }
-    ensures effect { IfSteady (R.seen rack.old).held (R.seen rack.old).account (R.seen rack.new).account (λ images.
-        Shows (OrMemory (λ outcome. Some (check_outcome read_data images) ≡ Some outcome))
-        (O.text out.old) (O.text out.new) (O.account out.old) (O.account out.new) (answer_of result)) }
-    ensures agreed { IfSome (R.seen rack.old).held (λ images. AreAgreed images →
-        Shows (IsCheckedOrUnread read_data images)
-        (O.text out.old) (O.text out.new) (O.account out.old) (O.account out.new) (answer_of result)) }
-    ensures told { Shows (OrBare IsCheckOutcome)
+    ensures { ShowsCommand (Command.Check read_data) (R.seen rack.old) (R.seen rack.new)
         (O.text out.old) (O.text out.new) (O.account out.old) (O.account out.new) (answer_of result) }
-    ensures cause { IsBehind MayMend IsUnread (R.seen rack.old) (R.seen rack.new) (answer_of result) }
 {
     let mut volume = open_filesystem(alloc, rack)?;
     let findings = check(alloc, read_data, rack, &mut volume)?;

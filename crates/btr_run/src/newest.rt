@@ -1,10 +1,7 @@
 // The command `super`.
-ghost use Rattle.std.specs.Prelude.{◌≡◌, ◌<◌, length};
+ghost use Rattle.std.specs.Prelude.{◌<◌, length};
 ghost use Rattle.btr_run.specs.Answers.{answer_of};
-ghost use Rattle.btr_run.specs.Behind.{AnyFault, IfSteady, IsBehind};
-ghost use Rattle.btr_run.specs.Commands.{MayFail};
-ghost use Rattle.btr_run.specs.Newest.{super_outcome, IsSuperOutcome};
-ghost use Rattle.btr_run.specs.Outcomes.{OrBare, OrMemory, Shows};
+ghost use Rattle.btr_run.specs.Shown.{ShowsCommand};
 
 use crate::answer::Answer;
 use crate::plan::Command;
@@ -23,12 +20,8 @@ pub(crate) fn show_newest<R: Rack, O: Out>(
     out: &mut O,
 ) -> Result<Answer, Answer>
     requires { 0 < length (R.seen rack.old).slots }
-    ensures effect { IfSteady (R.seen rack.old).held (R.seen rack.old).account (R.seen rack.new).account (λ images.
-        Shows (OrMemory (λ outcome. super_outcome images ≡ Some outcome))
-        (O.text out.old) (O.text out.new) (O.account out.old) (O.account out.new) (answer_of result)) }
-    ensures told { Shows (OrBare IsSuperOutcome)
+    ensures { ShowsCommand Command.Super (R.seen rack.old) (R.seen rack.new)
         (O.text out.old) (O.text out.new) (O.account out.old) (O.account out.new) (answer_of result) }
-    ensures cause { IsBehind (MayFail Command.Super) AnyFault (R.seen rack.old) (R.seen rack.new) (answer_of result) }
 {
     let supers = read_supers(alloc, rack)?;
     let slot = choose(&supers);

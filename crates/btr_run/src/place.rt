@@ -2,7 +2,8 @@
 ghost use Rattle.std.specs.Prelude.{◌≡◌, ◌↔◌, ◌∷◌, ◌+◌, ◌<◌, ◌^◌, IsTrue, map};
 ghost use Rattle.std.specs.Option.{option_map};
 ghost use Rattle.btr_run.specs.Numbers.{number_of};
-ghost use Rattle.btr_run.specs.Walk.{behind, behind_file, behind_id, behind_name, behind_option, behind_part, behind_root, behind_volume, behind_word, read_by, stage, stage_of, with_given};
+ghost use Rattle.btr_run.specs.Walk.{behind, behind_file, behind_id, behind_name, behind_option, behind_part, behind_root, behind_volume};
+ghost use Rattle.btr_run.specs.Walk.{behind_word, read_by, stage, stage_of, with_given};
 ghost use Rattle.btr_run.specs.Words.{IsName, Destination, is_file, nothing, part_of};
 
 use crate::options::Options;
@@ -60,16 +61,16 @@ pub(crate) enum Next {
 
 /// A place in a sentence, behind some words.
 #[derive(Clone, Copy)]
-pub(crate) struct Place {
+pub(crate) struct Progress {
     /// The parts that are left.
     pub(crate) left: &'static [Part],
     pub(crate) next: Next,
     pub(crate) read: Read,
 }
 
-impl Place {
+impl Progress {
     /// The place behind one more word, the one of this number; `None` where the sentence has another word here.
-    pub(crate) fn behind(self, at: usize, word: &str) -> Option<Place>
+    pub(crate) fn behind(self, at: usize, word: &str) -> Option<Progress>
         requires { at + 1 < 2 ^ 64 }
         ensures { option_map stage_of result ≡ behind self.next (map part_of self.left.now) self.read at word.now }
     {
@@ -95,7 +96,7 @@ impl Place {
 }
 
 // Behind the id of a subvolume.
-fn behind_id(place: Place, word: &str) -> Option<Place>
+fn behind_id(place: Progress, word: &str) -> Option<Progress>
     ensures { option_map stage_of result ≡ behind_id (map part_of place.left.now) place.read word.now }
 {
     let id = number(word)?;
@@ -110,7 +111,7 @@ fn behind_option(
     read: Read,
     at: usize,
     word: &str,
-) -> Option<Place>
+) -> Option<Progress>
     requires { map part_of left.now ≡ Destination ∷ map part_of rest.now }
     ensures { option_map stage_of result ≡ behind_option (map part_of rest.now) read at word.now }
 {
@@ -125,12 +126,12 @@ fn behind_option(
 }
 
 // Behind `-r`, which may stand there once.
-fn behind_flag(left: &'static [Part], read: Read) -> Option<Place>
+fn behind_flag(left: &'static [Part], read: Read) -> Option<Progress>
     ensures { option_map stage_of result ≡ behind_root (map part_of left.now) read }
 {
     match read.options.root {
         Some(_) => None,
-        None => Some(Place {
+        None => Some(Progress {
             left,
             next: Next::Id,
             read,
@@ -139,7 +140,7 @@ fn behind_flag(left: &'static [Part], read: Read) -> Option<Place>
 }
 
 // Behind a word of the part that is left next, or of the first image.
-fn behind_part(left: &'static [Part], read: Read, at: usize, word: &str) -> Option<Place>
+fn behind_part(left: &'static [Part], read: Read, at: usize, word: &str) -> Option<Progress>
     requires { at + 1 < 2 ^ 64 }
     ensures { option_map stage_of result ≡ behind_part (map part_of left.now) read at word.now }
 {
@@ -166,12 +167,12 @@ fn behind_part(left: &'static [Part], read: Read, at: usize, word: &str) -> Opti
 }
 
 // Behind the number of directories of a volume, which stands last.
-fn behind_volume(left: &'static [Part], read: Read, word: &str) -> Option<Place>
+fn behind_volume(left: &'static [Part], read: Read, word: &str) -> Option<Progress>
     ensures { option_map stage_of result ≡ behind_volume (map part_of left.now) read word.now }
 {
     let number = number(word)?;
     if (1..=MOST_DIRECTORIES).contains(&number) {
-        Some(Place {
+        Some(Progress {
             left,
             next: Next::End,
             read: Read { number, ..read },
@@ -182,7 +183,7 @@ fn behind_volume(left: &'static [Part], read: Read, word: &str) -> Option<Place>
 }
 
 // Behind a word that has to be this one.
-fn behind_word(word: &str, this: &str, left: &'static [Part], read: Read) -> Option<Place>
+fn behind_word(word: &str, this: &str, left: &'static [Part], read: Read) -> Option<Progress>
     ensures { option_map stage_of result ≡ behind_word word.now this.now (map part_of left.now) read }
 {
     if word == this {
@@ -193,18 +194,18 @@ fn behind_word(word: &str, this: &str, left: &'static [Part], read: Read) -> Opt
 }
 
 // Behind a name.
-fn behind_name(word: &str, left: &'static [Part], next: Next, read: Read) -> Option<Place>
+fn behind_name(word: &str, left: &'static [Part], next: Next, read: Read) -> Option<Progress>
     ensures { option_map stage_of result ≡ behind_name word.now (map part_of left.now) next read }
 {
     if is_name(word) {
-        Some(Place { left, next, read })
+        Some(Progress { left, next, read })
     } else {
         None
     }
 }
 
 // Behind the name of a file.
-fn behind_file(word: &str, left: &'static [Part], read: Read) -> Option<Place>
+fn behind_file(word: &str, left: &'static [Part], read: Read) -> Option<Progress>
     ensures { option_map stage_of result ≡ behind_file word.now (map part_of left.now) read }
 {
     if is_file(word) {
@@ -215,10 +216,10 @@ fn behind_file(word: &str, left: &'static [Part], read: Read) -> Option<Place>
 }
 
 // Behind one part.
-fn behind_one(left: &'static [Part], read: Read) -> Place
+fn behind_one(left: &'static [Part], read: Read) -> Progress
     ensures { stage_of result ≡ stage (map part_of left.now) Next.Part read }
 {
-    Place {
+    Progress {
         left,
         next: Next::Part,
         read,
@@ -226,7 +227,7 @@ fn behind_one(left: &'static [Part], read: Read) -> Place
 }
 
 // Behind some options.
-fn with_options(left: &'static [Part], read: Read, options: Options) -> Place
+fn with_options(left: &'static [Part], read: Read, options: Options) -> Progress
     ensures { stage_of result ≡ with_given (map part_of left.now) read options }
 {
     behind_one(left, Read { options, ..read })

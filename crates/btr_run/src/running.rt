@@ -21,7 +21,8 @@ use std::alloc::Global;
 ///
 /// Words that are no sentence and more than 64 images are refused before any call on the rack. The last thing put for a
 /// refusal is its error line. Where the output refuses a put, a first part of the text and the line stands there; where the sink refuses
-/// a call, all before it stands. Where memory is wanted on the way, the line for want of memory, or a first part of that, stands behind a first part of the text.
+/// a call, all before it stands. Where memory is wanted on the way, the line for want of memory, or a first part of that, stands behind a first part
+/// of the text.
 pub fn run<R: Rack, T: TreeSink, O: Out, M: Maker + Drop>(
     alloc: Global,
     words: &[String],

@@ -1,15 +1,13 @@
 // The command `scrub start`.
-ghost use Rattle.std.specs.Prelude.{◌≡◌, ◌<◌, true, length, IfSome, Some};
+ghost use Rattle.std.specs.Prelude.{◌≡◌, ◌<◌, true, length, IfSome};
 ghost use Rattle.btr_scrub_copies.specs.Writes.{AreWritable};
 ghost use Rattle.btr_text.specs.Pieces.{text_of};
-ghost use Rattle.btr_run.specs.Agreeing.{IsScrubbedOrUnread, ScrubsAgreed};
+ghost use Rattle.btr_run.specs.Agreeing.{ScrubsAgreed};
 ghost use Rattle.btr_run.specs.Unopened.{AreAgreed};
 ghost use Rattle.btr_run.specs.Answers.{answer_of};
-ghost use Rattle.btr_run.specs.Behind.{IfSteady};
-ghost use Rattle.btr_run.specs.Commands.{IsBehindCommand};
-ghost use Rattle.btr_run.specs.Outcomes.{OrBare, OrMemory, Shows};
+ghost use Rattle.btr_run.specs.Shown.{ShowsCommand};
 ghost use Rattle.btr_run.specs.Repaired.{LeavesScrubbed, Scrubs};
-ghost use Rattle.btr_run.specs.Scrubbed.{IsScrubOutcome, scrub_outcome, tally_text};
+ghost use Rattle.btr_run.specs.Scrubbed.{tally_text};
 
 use crate::answer::Answer;
 use crate::checking::answer_for;
@@ -34,22 +32,10 @@ pub(crate) fn scrub_images<R: Rack, O: Out>(
 ) -> Result<Answer, Answer>
     requires open { 0 < length (R.seen rack.old).slots }
     requires writable { write ≡ true → AreWritable (R.seen rack.old).slots }
-    ensures effect { IfSteady (R.seen rack.old).held (R.seen rack.old).account
-        (R.seen rack.new).account (λ images.
-        Shows (OrMemory (λ outcome. Some (scrub_outcome write images) ≡ Some outcome))
-        (O.text out.old) (O.text out.new) (O.account out.old) (O.account out.new)
-        (answer_of result)) }
-    ensures agreed { IfSome (R.seen rack.old).held (λ images. AreAgreed images →
-        Shows (IsScrubbedOrUnread write images)
-        (O.text out.old) (O.text out.new) (O.account out.old) (O.account out.new)
-        (answer_of result)) }
-    ensures told { Shows (OrBare IsScrubOutcome)
-        (O.text out.old) (O.text out.new) (O.account out.old) (O.account out.new)
-        (answer_of result) }
+    ensures shows { ShowsCommand (Command.Scrub write) (R.seen rack.old) (R.seen rack.new)
+        (O.text out.old) (O.text out.new) (O.account out.old) (O.account out.new) (answer_of result) }
     ensures leaves { write ≡ true
         → LeavesScrubbed (R.seen rack.old) (R.seen rack.new) (answer_of result) }
-    ensures cause { IsBehindCommand (Command.Scrub write) (R.seen rack.old) (R.seen rack.new)
-        (answer_of result) }
 {
     let tally = scrub_filesystem(alloc, write, rack)?;
     put_pieces(&tally_pieces(tally), out)?;

@@ -3,7 +3,7 @@ ghost use Rattle.std.specs.Prelude.{◌≡◌, ◌≤◌};
 ghost use Rattle.btr_text.specs.Pieces.{text_of};
 ghost use Rattle.btr_run.specs.Answers.{answer_of};
 ghost use Rattle.btr_run.specs.Listed.{BesideSinks};
-ghost use Rattle.btr_run.specs.Outcomes.{Comes};
+ghost use Rattle.btr_run.specs.Outcomes.{HasOneOutcome};
 ghost use Rattle.btr_run.specs.SelfTested.{IsTrialOf, made_bytes, volume_text};
 
 use crate::answer::Answer;
@@ -29,7 +29,7 @@ pub(crate) fn try_volume<M: Maker, O: Out>(
     requires most { number ≤ 1000 }
     ensures { BesideSinks (O.text out.old) (O.account out.old) (O.text out.new) (O.account out.new)
         (λ x y.
-        Comes (Unit {0}) (IsTrialOf (M.volume maker) number) x y (answer_of result)) }
+        HasOneOutcome (Unit {0}) (IsTrialOf (M.volume maker) number) x y (answer_of result)) }
 {
     let Ok(mut rack) = maker.make(alloc, number) else {
         return Err(Answer::Memory);

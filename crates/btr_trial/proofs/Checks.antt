@@ -19,9 +19,6 @@ use Rattle.btr_trial.specs.Sure.{sure_seen}
 use Rattle.btr_trial.specs.Trial.{as_checked, counted, findings_in, findings_of}
 use Rattle.btr_trial.proofs.Filesystems.{none_rose}
 
-pub unopened_findings : (rack : MemoryRack) → filesystem_of (held_of rack) ≡ None → findings_of (held_of rack) ≡ None
-unopened_findings rack none = ap (option_and_then (findings_in (held_of rack))) none
-
 module _ (old new : MemoryRack) (volume after : Volume) (opened : filesystem_of (held_of old) ≡ Some (filesystem_in volume)) where
   abbrev fs : checked.Filesystem
   fs = as_checked (held_of old) (filesystem_in volume)

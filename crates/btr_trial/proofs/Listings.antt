@@ -63,9 +63,6 @@ one_map B (w ∷ ws) = (λ i. refl, one_map B ws)
 one_run : {A : Type 0} (p : Program Step A) (B : Map) (r : Run Want Fault Step A) → GoesTo (λ (n : ℕ). B) p r → r ≡ exec B p
 one_run p B r goes = goes_one (λ (n : ℕ). B) B p r (one_map B (needs B p)) goes
 
-pub unopened_same : (number : ℕ) (rack : MemoryRack) → filesystem_of (held_of rack) ≡ None → restored_same number (held_of rack) ≡ None
-unopened_same number rack none = ap (option_and_then (λ fs. same_run number (restored_in (held_of rack) fs))) none
-
 module _ (number : ℕ) (old new : MemoryRack) (volume after : Volume) (opened : filesystem_of (held_of old) ≡ Some (filesystem_in volume))
     (tree tree' : MemoryTree) (out out' : MemoryOut) (empty : tree ≡ empty_tree) (blank : out ≡ empty_out) where
   abbrev p : Program Step Counts

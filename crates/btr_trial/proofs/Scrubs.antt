@@ -1,5 +1,5 @@
 -- What a scrub of a trial comes to.
-use Rattle.std.proofs.Common.{◌≡◌, ◌∙◌, inl, true, Some, None, Result, Ok, Err, refl, sym, ap}
+use Rattle.std.proofs.Common.{◌≡◌, ◌∙◌, inl, true, Some, Result, Ok, Err, refl, sym, ap}
 use Rattle.std.specs.Option.{option_and_then, option_map_or}
 use Rattle.btr_rack.specs.Memory.{MemoryRack, held_of}
 use Rattle.btr_scrub.specs.Repair.{effect}
@@ -19,12 +19,6 @@ use Rattle.btr_trial.proofs.Filesystems.{none_rose, steady_none}
 pub record Scrubs (old new : MemoryRack) (lost : Result Tally Stop) : Type 0 where
   pub lost_is : lost_of (held_of old) ≡ lost_by lost
   pub left_is : held_of new ≡ scrubbed (held_of old)
-
-pub unopened_lost : (rack : MemoryRack) → filesystem_of (held_of rack) ≡ None → lost_of (held_of rack) ≡ None
-unopened_lost rack none = ap (option_and_then (λ fs. lost_by (effect true (held_of rack) fs).answer)) none
-
-pub unopened_left : (rack : MemoryRack) → filesystem_of (held_of rack) ≡ None → held_of rack ≡ scrubbed (held_of rack)
-unopened_left rack none = sym (ap (λ o. option_map_or (λ fs. (effect true (held_of rack) fs).images) o (held_of rack)) none)
 
 module _ (old new : MemoryRack) (volume : Volume) (opened : filesystem_of (held_of old) ≡ Some (filesystem_in volume)) where
   abbrev Ends : Result Tally Stop → Type 0

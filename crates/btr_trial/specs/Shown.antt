@@ -4,7 +4,7 @@ use Rattle.std.specs.Fmt.{decimal}
 use Rattle.btr_rack.specs.Out.{CallAccount, Counts, Puts}
 use Rattle.btr_rack.specs.declared.error.SinkError.TheVariants.{Failed, Memory as memory_fault}
 use Rattle.btr_volume.specs.declared.stop.Stop.{Stop}
-use Rattle.btr_volume.specs.declared.stop.Stop.TheVariants.{NoTree, Tree, Deletion, Balance, Missing, Image, Sink, Out, Memory}
+use Rattle.btr_volume.specs.declared.stop.Stop.TheVariants.{Out, Memory}
 use Rattle.btr_text.specs.Pieces.{piece_text}
 use Rattle.btr_trial.specs.declared.lines.Said.{Said}
 use Rattle.btr_trial.specs.declared.tried.Tried.{Tried}
@@ -58,10 +58,4 @@ EndsTrial t old new before after (Ok count) = (count ≡ differing t) × Puts {T
 EndsTrial t old new before after (Err Out) =
     Puts {T = Unit {0}} old new (trial_text t) (Err Failed) × Counts {T = Unit {0}} before after (Err Failed)
 EndsTrial t old new before after (Err Memory) = Puts {T = Unit {0}} old new (trial_text t) (Err memory_fault) × (after ≡ before)
-EndsTrial t old new before after (Err (NoTree id)) = ⊥
-EndsTrial t old new before after (Err (Tree fault)) = ⊥
-EndsTrial t old new before after (Err (Deletion id)) = ⊥
-EndsTrial t old new before after (Err Balance) = ⊥
-EndsTrial t old new before after (Err (Missing devid)) = ⊥
-EndsTrial t old new before after (Err (Image slot)) = ⊥
-EndsTrial t old new before after (Err Sink) = ⊥
+EndsTrial t old new before after (Err stop) = ⊥

@@ -9,8 +9,8 @@ use btr_make::spoil;
 use btr_rack::{MemRack, PokeError, Rack, RackError};
 use std::marker::Model;
 
-/// A rack in memory in which nothing is to fail, with the images `a`, `b` and `c`. As no call fails, its account of failed calls is empty; what calls over any
-/// rack promise where none failed, they promise here of every call.
+/// A rack in memory in which nothing is to fail, with the images `a`, `b` and `c`. As no call fails, its account of failed calls is empty; what calls
+/// over any rack promise where none failed, they promise here of every call.
 #[derive(Drop)]
 pub(crate) struct SureRack {
     rack: MemRack,

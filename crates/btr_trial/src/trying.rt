@@ -16,13 +16,13 @@ use btr_volume::Stop;
 use std::alloc::Global;
 use std::mem::replace;
 
-/// Tries the volume of so many directories, from 1 to 1000, whose images `a`, `b` and `c` stand on the shelf of a rack in which no slot is open and nothing
-/// is to fail: checks it, spoils image number `number` mod 3, restores, scrubs with writing, spoils the next image and restores again. Then it puts a line for
-/// the check, the two restores and the scrub, and answers how many of the four aren't those of a sound volume. A step that is refused has
-/// `failed` in its line, and the next one is tried.
+/// Tries the volume of so many directories, from 1 to 1000, whose images `a`, `b` and `c` stand on the shelf of a rack in which no slot is open and
+/// nothing is to fail: checks it, spoils image number `number` mod 3, restores, scrubs with writing, spoils the next image and restores again. Then
+/// it puts a line for the check, the two restores and the scrub, and answers how many of the four aren't those of a sound volume. A step that is
+/// refused has `failed` in its line, and the next one is tried.
 ///
-/// `Out`: the output failed, and a first part of the lines stands there. `Memory`: there was none, for a step, before anything is put, or for the output. No
-/// other stop comes.
+/// `Out`: the output failed, and a first part of the lines stands there. `Memory`: there was none, for a step, before anything is put, or for the
+/// output. No other stop comes.
 #[tactic(auto, using(crate::proofs::Shelves::ready_sure))]
 pub fn trial<O: Out>(
     alloc: Global,

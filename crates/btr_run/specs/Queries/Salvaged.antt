@@ -1,7 +1,7 @@
 -- The command `restore -i`.
 use Rattle.std.specs.Prelude.{ℕ, ◌+◌, ◌-◌, ◌^◌, min, List}
 use Rattle.btr_files.specs.declared.plan.RestorePlan.{RestorePlan}
-use Rattle.btr_salvage.specs.Attempts.{TriesTo}
+use Rattle.btr_prog.specs.Attempts.{TriesTo}
 use Rattle.btr_salvage.specs.Salvaging.{salvage_run, salvaging}
 use Rattle.btr_salvage.specs.declared.salvaged.Salvaged.{Salvaged}
 use Rattle.btr_run.specs.Rows.{Row, listing_row}

@@ -11,7 +11,8 @@ use btr_rack::{Out, Rack};
 use btr_resolve::resolve;
 use std::alloc::Global;
 
-/// Puts a line for each file of the open images' filesystem that has the byte at a logical address, and for each of its names, and one of how many these are.
+/// Puts a line for each file of the open images' filesystem that has the byte at a logical address, and for each of its names, and one of how many
+/// these are.
 ///
 /// An error is the answer of what stopped it: a refusal of opening, or that no chunk holds the address, before anything is put; a tree that can't be
 /// read on, behind the lines before it; the output's; or want of memory.

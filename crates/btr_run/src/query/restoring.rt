@@ -15,8 +15,8 @@ use btr_rack::{Out, Rack, TreeSink};
 use btr_restore::{opened_then, restore};
 use std::alloc::Global;
 
-/// Writes the directories and files of a subvolume of the open images' filesystem into the destination of this name, and puts a line for each entry that is
-/// left out, and one of the counts.
+/// Writes the directories and files of a subvolume of the open images' filesystem into the destination of this name, and puts a line for each entry
+/// that is left out, and one of the counts.
 ///
 /// An error is the answer of what stopped it: a refusal of opening, before anything is done; that there is no such subvolume, or a tree or a file that
 /// can't be read on, behind all before it; the sink's, or the output's. What waits in the sink is stored before any but the sink's.

@@ -14,12 +14,12 @@ use btr_rack::{Out, Rack, TreeSink};
 use btr_salvage::salvage;
 use std::alloc::Global;
 
-/// Writes the directories and files of a subvolume of the open images' filesystem into the destination of this name, past blocks that can't be had, and puts a
-/// line for each entry that is left out, for each that is broken and each part of a directory that is missing, and one of the counts.
+/// Writes the directories and files of a subvolume of the open images' filesystem into the destination of this name, past blocks that can't be had,
+/// and puts a line for each entry that is left out, for each that is broken and each part of a directory that is missing, and one of the counts.
 ///
 /// An error is the answer of what stopped it: a refusal of opening, before anything is done; that there is no such subvolume, or its root or that of the
-/// checksums can't be had; a block that could not be read, behind all before it; the sink's, or the output's. What waits in the sink is stored before any but
-/// the sink's.
+/// checksums can't be had; a block that could not be read, behind all before it; the sink's, or the output's. What waits in the sink is stored before
+/// any but the sink's.
 pub(crate) fn salvage_files<R: Rack, T: TreeSink, O: Out>(
     alloc: Global,
     plan: &RestorePlan,

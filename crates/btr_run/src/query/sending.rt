@@ -11,7 +11,7 @@ ghost use Rattle.btr_send.specs.Names.{IsStreamName};
 use crate::answer::Answer;
 use crate::filesystem::open_filesystem;
 use btr_rack::{Out, Rack, TreeSink};
-use btr_send::{SendPlan, send};
+use btr_send::{SendPlan, StreamFile, send};
 use std::alloc::Global;
 
 /// Writes a subvolume of the open images' filesystem as one stream into the file of this name in the destination, and puts a line for each entry that is
@@ -37,7 +37,8 @@ pub(crate) fn send_files<R: Rack, T: TreeSink, O: Out>(
     ensures stored { IsStored (T.waits tree.new) (answer_of result) }
 {
     let mut volume = open_filesystem(alloc, rack)?;
-    let counts = send(alloc, plan, dest, name, rack, &mut volume, tree, out)?;
+    let file = StreamFile { dest, name };
+    let counts = send(alloc, plan, &file, rack, &mut volume, tree, out)?;
     Ok(Answer::Done {
         skipped: counts.skipped,
     })

@@ -3,25 +3,12 @@ use Rattle.btr_rack.specs.Out.{Puts}
 use Rattle.btr_rack.specs.declared.error.SinkError.{SinkError}
 use Rattle.btr_run.specs.Answers.{answer_of, output_answer}
 use Rattle.btr_run.proofs.Coming.{answer_gives}
-use Rattle.btr_run.proofs.ScrubsTold.{done_agreed, done_cause, done_effect, done_leaves, done_told, refused_agreed, refused_cause, refused_effect}
-use Rattle.btr_run.proofs.ScrubsTold.{refused_leaves, refused_told}
+use Rattle.btr_run.proofs.ScrubsTold.{done_leaves, done_shown, refused_leaves, refused_shown}
 use Rattle.btr_run.proofs.scrubbing.scrub_images.Goals as goal
 
-pub returns-in_err-tally-clause-effect : goal.returns-in_err-tally-clause-effect
-returns-in_err-tally-clause-effect g c =
-    refused_effect c.args.write (g.R.Rack.seen c.args.rack.now) (g.R.Rack.seen c.scrub_filesystem.new.rack) c.in_err-tally.field-0.0
-    (answer_of c.from_residual.result) (answer_gives c.from_residual.result c.in_err-tally.field-0.0 c.from_residual.ensures.1) c.in_err-tally.ensures.scrubs
-    (g.O.Out.text c.args.out.now) (g.O.Out.account c.args.out.now)
-
-pub returns-in_err-tally-clause-told : goal.returns-in_err-tally-clause-told
-returns-in_err-tally-clause-told g c =
-    refused_told c.args.write (g.R.Rack.seen c.args.rack.now) (g.R.Rack.seen c.scrub_filesystem.new.rack) c.in_err-tally.field-0.0
-    (answer_of c.from_residual.result) (answer_gives c.from_residual.result c.in_err-tally.field-0.0 c.from_residual.ensures.1) c.in_err-tally.ensures.scrubs
-    (g.O.Out.text c.args.out.now) (g.O.Out.account c.args.out.now)
-
-pub returns-in_err-tally-clause-agreed : goal.returns-in_err-tally-clause-agreed
-returns-in_err-tally-clause-agreed g c =
-    refused_agreed c.args.write (g.R.Rack.seen c.args.rack.now) (g.R.Rack.seen c.scrub_filesystem.new.rack) c.in_err-tally.field-0.0
+pub returns-in_err-tally-clause-shows : goal.returns-in_err-tally-clause-shows
+returns-in_err-tally-clause-shows g c =
+    refused_shown c.args.write (g.R.Rack.seen c.args.rack.now) (g.R.Rack.seen c.scrub_filesystem.new.rack) c.in_err-tally.field-0.0
     (answer_of c.from_residual.result) (answer_gives c.from_residual.result c.in_err-tally.field-0.0 c.from_residual.ensures.1) c.in_err-tally.ensures.scrubs
     (g.O.Out.text c.args.out.now) (g.O.Out.account c.args.out.now) c.in_err-tally.ensures.agreed
 
@@ -30,35 +17,10 @@ returns-in_err-tally-clause-leaves g c =
     refused_leaves c.args.write (g.R.Rack.seen c.args.rack.now) (g.R.Rack.seen c.scrub_filesystem.new.rack) c.in_err-tally.field-0.0
     (answer_of c.from_residual.result) (answer_gives c.from_residual.result c.in_err-tally.field-0.0 c.from_residual.ensures.1) c.in_err-tally.ensures.scrubs
 
-pub returns-in_err-tally-clause-cause : goal.returns-in_err-tally-clause-cause
-returns-in_err-tally-clause-cause g c =
-    refused_cause c.args.write (g.R.Rack.seen c.args.rack.now) (g.R.Rack.seen c.scrub_filesystem.new.rack) c.in_err-tally.field-0.0
-    (answer_of c.from_residual.result) (answer_gives c.from_residual.result c.in_err-tally.field-0.0 c.from_residual.ensures.1) c.in_err-tally.ensures.scrubs
-
-pub returns-in_err-put_pieces-clause-effect : goal.returns-in_err-put_pieces-clause-effect
-returns-in_err-put_pieces-clause-effect g c =
+pub returns-in_err-put_pieces-clause-shows : goal.returns-in_err-put_pieces-clause-shows
+returns-in_err-put_pieces-clause-shows g c =
     let put : Result Unit SinkError = Err c.in_err-put_pieces.field-0.0 in
-    done_effect c.args.write (g.R.Rack.seen c.args.rack.now) (g.R.Rack.seen c.scrub_filesystem.new.rack) c.in_ok-tally.tally c.in_ok-tally.ensures.scrubs put
-    (answer_of c.from_residual-in_err-put_pieces.result)
-    (answer_gives c.from_residual-in_err-put_pieces.result (output_answer c.in_err-put_pieces.field-0.0) c.from_residual-in_err-put_pieces.ensures.1)
-    (g.O.Out.text c.args.out.now) (g.O.Out.text c.put_pieces.new.out) (g.O.Out.account c.args.out.now) (g.O.Out.account c.put_pieces.new.out)
-    (subst (λ l. Puts (g.O.Out.text c.args.out.now) (g.O.Out.text c.put_pieces.new.out) l put) c.tally_pieces.ensures c.in_err-put_pieces.ensures.text)
-    c.in_err-put_pieces.ensures.account
-
-pub returns-in_err-put_pieces-clause-told : goal.returns-in_err-put_pieces-clause-told
-returns-in_err-put_pieces-clause-told g c =
-    let put : Result Unit SinkError = Err c.in_err-put_pieces.field-0.0 in
-    done_told c.args.write (g.R.Rack.seen c.args.rack.now) (g.R.Rack.seen c.scrub_filesystem.new.rack) c.in_ok-tally.tally c.in_ok-tally.ensures.scrubs put
-    (answer_of c.from_residual-in_err-put_pieces.result)
-    (answer_gives c.from_residual-in_err-put_pieces.result (output_answer c.in_err-put_pieces.field-0.0) c.from_residual-in_err-put_pieces.ensures.1)
-    (g.O.Out.text c.args.out.now) (g.O.Out.text c.put_pieces.new.out) (g.O.Out.account c.args.out.now) (g.O.Out.account c.put_pieces.new.out)
-    (subst (λ l. Puts (g.O.Out.text c.args.out.now) (g.O.Out.text c.put_pieces.new.out) l put) c.tally_pieces.ensures c.in_err-put_pieces.ensures.text)
-    c.in_err-put_pieces.ensures.account
-
-pub returns-in_err-put_pieces-clause-agreed : goal.returns-in_err-put_pieces-clause-agreed
-returns-in_err-put_pieces-clause-agreed g c =
-    let put : Result Unit SinkError = Err c.in_err-put_pieces.field-0.0 in
-    done_agreed c.args.write (g.R.Rack.seen c.args.rack.now) (g.R.Rack.seen c.scrub_filesystem.new.rack) c.in_ok-tally.tally c.in_ok-tally.ensures.scrubs put
+    done_shown c.args.write (g.R.Rack.seen c.args.rack.now) (g.R.Rack.seen c.scrub_filesystem.new.rack) c.in_ok-tally.tally c.in_ok-tally.ensures.scrubs put
     (answer_of c.from_residual-in_err-put_pieces.result)
     (answer_gives c.from_residual-in_err-put_pieces.result (output_answer c.in_err-put_pieces.field-0.0) c.from_residual-in_err-put_pieces.ensures.1)
     (g.O.Out.text c.args.out.now) (g.O.Out.text c.put_pieces.new.out) (g.O.Out.account c.args.out.now) (g.O.Out.account c.put_pieces.new.out)
@@ -72,46 +34,17 @@ returns-in_err-put_pieces-clause-leaves g c =
     (answer_of c.from_residual-in_err-put_pieces.result)
     (answer_gives c.from_residual-in_err-put_pieces.result (output_answer c.in_err-put_pieces.field-0.0) c.from_residual-in_err-put_pieces.ensures.1)
 
-pub returns-in_err-put_pieces-clause-cause : goal.returns-in_err-put_pieces-clause-cause
-returns-in_err-put_pieces-clause-cause g c =
-    let put : Result Unit SinkError = Err c.in_err-put_pieces.field-0.0 in
-    done_cause c.args.write (g.R.Rack.seen c.args.rack.now) (g.R.Rack.seen c.scrub_filesystem.new.rack) c.in_ok-tally.tally c.in_ok-tally.ensures.scrubs put
-    (answer_of c.from_residual-in_err-put_pieces.result)
-    (answer_gives c.from_residual-in_err-put_pieces.result (output_answer c.in_err-put_pieces.field-0.0) c.from_residual-in_err-put_pieces.ensures.1)
-
-pub returns-clause-effect : goal.returns-clause-effect
-returns-clause-effect g c =
+pub returns-clause-shows : goal.returns-clause-shows
+returns-clause-shows g c =
     let put : Result Unit SinkError = Ok tt in
-    done_effect c.args.write (g.R.Rack.seen c.args.rack.now) (g.R.Rack.seen c.scrub_filesystem.new.rack) c.in_ok-tally.tally c.in_ok-tally.ensures.scrubs put
+    done_shown c.args.write (g.R.Rack.seen c.args.rack.now) (g.R.Rack.seen c.scrub_filesystem.new.rack) c.in_ok-tally.tally c.in_ok-tally.ensures.scrubs put
     c.answer_for.result c.answer_for.ensures (g.O.Out.text c.args.out.now) (g.O.Out.text c.put_pieces.new.out) (g.O.Out.account c.args.out.now)
-    (g.O.Out.account c.put_pieces.new.out) (subst (λ l. Puts (g.O.Out.text c.args.out.now)
-    (g.O.Out.text c.put_pieces.new.out) l put) c.tally_pieces.ensures c.in_ok-put_pieces.ensures.text) c.in_ok-put_pieces.ensures.account
-
-pub returns-clause-told : goal.returns-clause-told
-returns-clause-told g c =
-    let put : Result Unit SinkError = Ok tt in
-    done_told c.args.write (g.R.Rack.seen c.args.rack.now) (g.R.Rack.seen c.scrub_filesystem.new.rack) c.in_ok-tally.tally c.in_ok-tally.ensures.scrubs put
-    c.answer_for.result c.answer_for.ensures (g.O.Out.text c.args.out.now) (g.O.Out.text c.put_pieces.new.out) (g.O.Out.account c.args.out.now)
-    (g.O.Out.account c.put_pieces.new.out) (subst (λ l. Puts (g.O.Out.text c.args.out.now)
-    (g.O.Out.text c.put_pieces.new.out) l put) c.tally_pieces.ensures c.in_ok-put_pieces.ensures.text) c.in_ok-put_pieces.ensures.account
-
-pub returns-clause-agreed : goal.returns-clause-agreed
-returns-clause-agreed g c =
-    let put : Result Unit SinkError = Ok tt in
-    done_agreed c.args.write (g.R.Rack.seen c.args.rack.now) (g.R.Rack.seen c.scrub_filesystem.new.rack) c.in_ok-tally.tally c.in_ok-tally.ensures.scrubs put
-    c.answer_for.result c.answer_for.ensures (g.O.Out.text c.args.out.now) (g.O.Out.text c.put_pieces.new.out) (g.O.Out.account c.args.out.now)
-    (g.O.Out.account c.put_pieces.new.out) (subst (λ l. Puts (g.O.Out.text c.args.out.now)
-    (g.O.Out.text c.put_pieces.new.out) l put) c.tally_pieces.ensures c.in_ok-put_pieces.ensures.text) c.in_ok-put_pieces.ensures.account
-    c.in_ok-tally.ensures.agreed
+    (g.O.Out.account c.put_pieces.new.out)
+    (subst (λ l. Puts (g.O.Out.text c.args.out.now) (g.O.Out.text c.put_pieces.new.out) l put) c.tally_pieces.ensures c.in_ok-put_pieces.ensures.text)
+    c.in_ok-put_pieces.ensures.account c.in_ok-tally.ensures.agreed
 
 pub returns-clause-leaves : goal.returns-clause-leaves
 returns-clause-leaves g c =
     let put : Result Unit SinkError = Ok tt in
     done_leaves c.args.write (g.R.Rack.seen c.args.rack.now) (g.R.Rack.seen c.scrub_filesystem.new.rack) c.in_ok-tally.tally c.in_ok-tally.ensures.scrubs put
-    c.answer_for.result c.answer_for.ensures
-
-pub returns-clause-cause : goal.returns-clause-cause
-returns-clause-cause g c =
-    let put : Result Unit SinkError = Ok tt in
-    done_cause c.args.write (g.R.Rack.seen c.args.rack.now) (g.R.Rack.seen c.scrub_filesystem.new.rack) c.in_ok-tally.tally c.in_ok-tally.ensures.scrubs put
     c.answer_for.result c.answer_for.ensures

@@ -4,11 +4,11 @@ use Rattle.btr_files.specs.declared.plan.RestorePlan.{RestorePlan}
 use Rattle.btr_rack.specs.Rack.{OnlyReads, Seen}
 use Rattle.btr_rack.specs.Sink.{is_in_file}
 use Rattle.btr_restore.specs.Running.{Outside, world}
-use Rattle.btr_salvage.specs.Attempts.{TriesTo}
+use Rattle.btr_prog.specs.Attempts.{TriesTo}
 use Rattle.btr_salvage.specs.Running.{Ran}
 use Rattle.btr_salvage.specs.Salvaging.{salvage_run, salvaging}
 use Rattle.btr_salvage.specs.declared.salvaged.Salvaged.{Salvaged}
-use Rattle.btr_salvage.proofs.Attempts.{tries_one}
+use Rattle.btr_prog.proofs.Attempts.{tries_one}
 use Rattle.btr_volume.specs.declared.stop.Stop.{Stop}
 use Rattle.btr_volume.specs.declared.volume.Volume.{Volume}
 use Rattle.btr_run.specs.Behind.{IfSteady}

@@ -21,7 +21,7 @@ use Rattle.btr_volume.specs.declared.volume.Volume.{Volume}
 use Rattle.btr_run.specs.Behind.{IfSteady}
 use Rattle.btr_run.specs.Filesystem.{OpensAs, OpensFilesystem, filesystem_in, filesystem_of}
 use Rattle.btr_run.specs.Listed.{BesideSinks}
-use Rattle.btr_run.specs.Outcomes.{Comes, OrBare, OrMemory, Outcome, Shows, showing}
+use Rattle.btr_run.specs.Outcomes.{HasOneOutcome, OrBare, OrMemory, Outcome, Shows, showing}
 use Rattle.btr_run.specs.Rows.{IsRowDone, IsRowOrUnread, Row, row_outcome}
 use Rattle.btr_run.specs.Queries.Trees.{AgreesOn, IsTreesOutcome, ShowsUpTo, call_answer, dump_row, trees_shown}
 use Rattle.btr_run.specs.Unopened.{AreAgreed}
@@ -132,7 +132,7 @@ module _ (choice : DumpChoice) (old mid new : Seen) (first : OnlyReads old mid) 
       some = shown_told text text' before after answer result is counts grows
 
       comes : (IsOne : Outcome → Type 0) → Shows IsOne text text' before after answer
-          → Comes (before.ample ≡ false) IsOne (outside s c text before) (outside s c text' after) answer
+          → HasOneOutcome (before.ample ≡ false) IsOne (outside s c text before) (outside s c text' after) answer
       comes IsOne shown = comes_shown (before.ample ≡ false) IsOne (outside s c text before) (outside s c text' after) answer refl refl (λ scarce. scarce) shown
 
 pub returns-in_err-volume : goal.returns-in_err-volume
