@@ -7,15 +7,16 @@ ghost use Rattle.btr_read.specs.Store.{free_count};
 use crate::volume::{FORM, START, rack_of, root, store_over, tree};
 use btr_rack::MemRack;
 use btr_read::Store;
-use btr_tour::{Met, Visitor, visit};
+use btr_tour::{Both, Met, Visitor, visit};
 use btr_walk::{FoldFault, RootPlace, TreeFault};
 use std::alloc::Global;
 use std::test::Fail;
 
-// Refuses what it looks for: an item, by its number, or a fault, by the address of the block.
+// Refuses what it looks for: an item, by its number or by its type, or a fault, by the address of the block.
 #[derive(Clone, Copy, Debug, PartialEq, Eq)]
 enum Look {
     Item,
+    Type,
     Fault,
 }
 
@@ -25,6 +26,7 @@ impl Visitor<u64> for Look {
     fn meet(&mut self, met: &Met<'_>) -> Result<(), u64> {
         match (*self, met) {
             (Look::Item, Met::Item(found)) => Err(found.key.objectid),
+            (Look::Type, Met::Item(found)) => Err(u64::from(found.key.kind)),
             (Look::Fault, Met::Fault(TreeFault::Lost(addr))) => Err(*addr),
             _ => Ok(()),
         }
@@ -32,11 +34,11 @@ impl Visitor<u64> for Look {
 }
 
 // What a visit refuses.
-fn looked(
+fn looked<V: Visitor<u64> + Drop>(
     root: &RootPlace,
     rack: &mut MemRack,
     store: &mut Store,
-    mut look: Look,
+    mut look: V,
 ) -> Result<(), FoldFault<u64>>
     requires serves { Serves (seen_of rack.old) store.old }
     requires free { free_count store.old ≡ 24 }
@@ -45,11 +47,11 @@ fn looked(
 }
 
 // What is found in the tree of so many items, with these bytes over those of its first block.
-fn found_in(
+fn found_in<V: Visitor<u64> + Drop>(
     alloc: Global,
     count: u64,
     bytes: &[u8],
-    look: Look,
+    look: V,
 ) -> Result<Result<(), FoldFault<u64>>, Fail> {
     let tree = tree(alloc, count)?;
     let mut rack = rack_of(alloc, &tree, bytes, START)?;
@@ -69,6 +71,27 @@ fn first_of_what_is_met(rt: HostRuntime) -> Result<(), Fail> {
     ];
     for (count, bytes, look, answer) in cases {
         assert_eq!(rt; found_in(rt.alloc(), count, bytes, look)?, answer);
+    }
+    Ok(())
+}
+
+#[test]
+fn first_of_what_two_meet(rt: HostRuntime) -> Result<(), Fail> {
+    let cases: [(&[u8], Look, Look, Result<(), FoldFault<u64>>); 6] = [
+        // One item is met by both, by the first one before.
+        (&[], Look::Item, Look::Type, Err(FoldFault::Own(0))),
+        (&[], Look::Type, Look::Item, Err(FoldFault::Own(1))),
+        (&[], Look::Fault, Look::Item, Err(FoldFault::Own(0))),
+        (&[], Look::Fault, Look::Fault, Ok(())),
+        // The first leaf is lost, which is met before all items.
+        (&[1], Look::Item, Look::Fault, Err(FoldFault::Own(START))),
+        (&[1], Look::Fault, Look::Item, Err(FoldFault::Own(START))),
+    ];
+    for (bytes, first, second, answer) in cases {
+        assert_eq!(rt;
+            found_in(rt.alloc(), 10, bytes, Both { first, second })?,
+            answer
+        );
     }
     Ok(())
 }
