@@ -1,6 +1,6 @@
 #!/usr/bin/env python3
-"""Looks whether each crate, file, function, clause and definition that docs/CLAIMS.md names is there, whether each promise of README.md has a row, and,
-where `rt` is on the PATH, whether both name its kit.
+"""Looks whether each crate, file, function, clause and definition that docs/CLAIMS.md names is there, whether each promise of README.md has a row, whether
+docs/ARCHITECTURE.md has the crates and what they stand on as crates.txt does, and, where `rt` is on the PATH, whether the pages name its kit.
 
     python3 tests/claims.py
 
@@ -67,10 +67,23 @@ def without_kit():
     return [f"{page} doesn't name {kit}" for page in ("README.md", "docs/CLAIMS.md") if kit not in (TOP / page).read_text()]
 
 
+def without_libraries():
+    """Returns the rows of the architecture's table of crates whose libraries aren't those of crates.txt, and the crates that it has in another order."""
+    lines = [line.partition(":") for line in (TOP / "crates.txt").read_text().splitlines() if line and not line.startswith("#")]
+    libraries = {name: ", ".join(it[4:] for it in words.split() if it.startswith("btr_")) or "nothing" for name, _, words in lines}
+    table = re.findall(r"^\| `(btr_\w+)` \| [^|]* \| ([^|]*) \| [^|]* \|$", (TOP / "docs/ARCHITECTURE.md").read_text(), re.M)
+    wrong = [f"docs/ARCHITECTURE.md has other libraries of {name} than crates.txt" for name, words in table
+             if name not in ("btr_run", "btr_run_laws") and words != libraries.get(name)]
+    named = [name for name, _ in table]
+    if named != [name for name in libraries if name in named]:
+        wrong.append("docs/ARCHITECTURE.md has the crates in another order than crates.txt")
+    return wrong
+
+
 def main():
     rows = [line for line in (TOP / "docs/CLAIMS.md").read_text().splitlines() if line.startswith("| ") and not line.startswith("| Claim")]
     readme = (TOP / "README.md").read_text().partition("## What is promised")[2].partition("\n## ")[0]
-    wrong, defined = without_kit(), definitions()
+    wrong, defined = without_kit() + without_libraries(), definitions()
     for row in rows:
         cells = [cell.strip() for cell in row.strip("|").split("|")]
         if len(cells) != 5:

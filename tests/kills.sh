@@ -14,24 +14,8 @@ set -u
 program=$(readlink -f "${1:?tests/kills.sh PROGRAM [FOLDER]}")
 room=${2:-$(mktemp -d)}
 mkdir -p "$room"
-failed=0
-passed=0
-
-# Counts whether what was said is what was wanted.
-holds() {
-    if [ "$2" = "$3" ]; then passed=$((passed + 1)); else failed=$((failed + 1)) && echo "$1: $2 (wanted: $3)"; fi
-}
-
-# Attaches the images to loop devices, in their order, and has the kernel know of these alone.
-attach() {
-    devices=()
-    for image in "$@"; do devices+=("$(losetup -f --show "$image")"); done
-    btrfs device scan "${devices[@]}" >/dev/null
-}
-
-detach() {
-    for device in "${devices[@]}"; do btrfs device scan --forget "$device" >/dev/null 2>&1; losetup -d "$device"; done
-}
+# shellcheck source=tests/loops.sh
+. "$(dirname "$(readlink -f "$0")")/loops.sh"
 
 # Makes the filesystem of a profile, with files of different sizes, and keeps a copy of the files.
 make() {

@@ -22,8 +22,8 @@ pages=$(dirname "$(readlink -f "$0")")/pages.py
 export LC_ALL=C.UTF-8
 room=${2:-$(mktemp -d)}
 mkdir -p "$room"
-failed=0
-passed=0
+# shellcheck source=tests/loops.sh
+. "$(dirname "$(readlink -f "$0")")/loops.sh"
 
 # Files of many shapes, below a folder.
 fill() {
@@ -258,17 +258,6 @@ begins() {
     rm -rf "${room:?}/$1" && mkdir -p "$room/$1/mount"
 }
 
-# Attaches images to loop devices, and has the kernel know of these alone.
-attach() {
-    devices=()
-    for image in "$@"; do devices+=("$(losetup -f --show "$image")"); done
-    btrfs device scan "${devices[@]}" >/dev/null 2>&1
-}
-
-detach() {
-    for device in "${devices[@]}"; do btrfs device scan --forget "$device" >/dev/null 2>&1; losetup -d "$device"; done
-}
-
 # The folder, how many images, the options of mkfs.btrfs and of the mount: makes empty images there, and mounts them at the folder `mount` of the second.
 made() {
     local folder=$1 at=$2 count=$3 make=$4 options=$5
@@ -419,11 +408,6 @@ measured() {
     local into=$1
     shift
     /usr/bin/time -q -o "$into" -f '%e s, %M kB' "$program" "$@"
-}
-
-# Counts whether what was said is what was wanted.
-holds() {
-    if [ "$2" = "$3" ]; then passed=$((passed + 1)); else failed=$((failed + 1)) && echo "$1: $2"; fi
 }
 
 # Makes beside what was restored what it named as left out, so that the two can be compared.
