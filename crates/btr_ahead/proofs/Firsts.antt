@@ -36,7 +36,8 @@ pub at_target : (layout : Layout) (addr : ℕ) (chunk : Chunk) (at : Elements) (
     → elements_of chunk addr 4096 ≡ Ok at
     → IfOk (sought layout (Plain addr)) (IsWayAt 0 way) → IsWayAt 0 way (target layout (Plain addr) chunk at)
 at_target layout addr chunk at way there placed h =
-    let is : sought layout (Plain addr) ≡ Ok (target layout (Plain addr) chunk at) = ap (sought_in layout (Plain addr)) there ∙ ap (sought_at layout (Plain addr) chunk) placed in
+    let is : sought layout (Plain addr) ≡ Ok (target layout (Plain addr) chunk at) =
+    ap (sought_in layout (Plain addr)) there ∙ ap (sought_at layout (Plain addr) chunk) placed in
     subst (λ r. IfOk r (IsWayAt 0 way)) is h
 
 -- with parity the first way is the slice itself, and no other one reads a part as it stands

@@ -9,7 +9,7 @@ use Rattle.btr_read.specs.Want.{passes}
 use Rattle.btr_read.specs.declared.want.Want.{Want}
 use Rattle.btr_read.specs.declared.want.Want.TheVariants.{Sector}
 use Rattle.btr_read.specs.Cause.{LiesIn}
-use Rattle.btr_ahead.specs.Ahead.{AreRead, Comes, IsFirstPlace, SaysFirst, first_passes, first_place, passes_at, piece_of}
+use Rattle.btr_ahead.specs.Ahead.{AreRead, CanBeRead, IsFirstPlace, SaysFirst, first_passes, first_place, passes_at, piece_of}
 use Rattle.btr_ahead.specs.declared.kept_bytes.KeptBytes.{KeptBytes}
 use Rattle.std.proofs.lemmas.List.{drop-take, take-take}
 use Rattle.btr_read.proofs.Pieces.{range-range}
@@ -45,7 +45,7 @@ piece_read (Some images) kept place read lies = sym (piece_bytes images kept pla
 pub piece_comes : (held : Option (List (List ℕ))) (layout : Layout) (kept : KeptBytes) (place : Place) (addr : ℕ) (sum : Sum) (want : Want) → want
     ≡ Sector addr sum
     → AreRead held kept → IsFirstPlace layout addr place → LiesIn place kept.place → passes layout.setting want (piece_of kept place) ≡ true
-    → Comes held layout want
+    → CanBeRead held layout want
 piece_comes None layout kept place addr sum want is read first lies pass = tt
 piece_comes (Some images) layout kept place addr sum want is read first lies pass =
     let bytes = piece_bytes images kept place read lies in

@@ -1,5 +1,6 @@
 -- Bytes of an image that are kept, and the sectors that lie in them.
-use Rattle.std.specs.Prelude.{◌≡◌, ℕ, ◌+◌, ◌-◌, ◌≤◌, ◌<◌, Bool, true, false, List, length, take, slice_get, slice_range, Option, Some, None, IfSome, Result, Ok, Err, is_ok}
+use Rattle.std.specs.Prelude.{◌≡◌, ℕ, ◌+◌, ◌-◌, ◌≤◌, ◌<◌, Bool, true, false, List, length, take, slice_get, slice_range, Option, Some, None, IfSome}
+use Rattle.std.specs.Prelude.{Result, Ok, Err, is_ok}
 use Rattle.btr_base.specs.declared.stored.Sum.{Sum}
 use Rattle.btr_chunk.specs.declared.place.Part.{Part}
 use Rattle.btr_rack.specs.Rack.{Seen, Slot, Steady, len_of, bytes_of, AreBytesOf}
@@ -66,8 +67,8 @@ abbrev pub piece_of : KeptBytes → Place → List ℕ
 piece_of kept place = let from = place.off - kept.place.off in slice_range kept.bytes from (from + place.len)
 
 -- a want comes to bytes, where the images are told
-abbrev pub Comes : Option (List (List ℕ)) → Layout → Want → Type 0
-Comes held layout want = IfSome held (λ images. is_ok (fate images layout want) ≡ true)
+abbrev pub CanBeRead : Option (List (List ℕ)) → Layout → Want → Type 0
+CanBeRead held layout want = IfSome held (λ images. is_ok (fate images layout want) ≡ true)
 
 -- the bytes of a place pass for a want, if there is a place
 abbrev pub passes_at : List (List ℕ) → Layout → Want → Option Place → Bool

@@ -1,6 +1,7 @@
 // A rack that reads sectors ahead.
 ghost use Rattle.std.specs.Prelude.{◌≡◌, ◌+◌, ◌<◌, ◌≤◌, length, false, IsTrue, OnOk, IsErrOf};
-ghost use Rattle.btr_rack.specs.Rack.{AreBytesOf, Accounts, AccountsCall, AccountsNextOpening, FailsUnsure, OnlyCounts, OnlyReads, Opens, OpensSurely, Syncs, TakesFromShelf, Unsyncs, Writes, len_of, no_failure, opened_to_write, range_in};
+ghost use Rattle.btr_rack.specs.Rack.{AreBytesOf, Accounts, AccountsCall, AccountsNextOpening, FailsUnsure, OnlyCounts, OnlyReads, Opens};
+ghost use Rattle.btr_rack.specs.Rack.{OpensSurely, Syncs, TakesFromShelf, Unsyncs, Writes, len_of, no_failure, opened_to_write, range_in};
 ghost use Rattle.btr_ahead.specs.Reader.{AccountsAhead, MayFailAhead, reader, seen_ahead};
 
 use crate::first_place::SECTOR;

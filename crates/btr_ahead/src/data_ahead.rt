@@ -2,7 +2,7 @@
 ghost use Rattle.std.specs.Prelude.{◌<◌, IsTrue};
 ghost use Rattle.btr_rack.specs.Rack.{OnlyReads};
 ghost use Rattle.btr_read.specs.Serves.{Serves};
-ghost use Rattle.btr_ahead.specs.Ahead.{AreSteady, IsAhead, Comes, SaysFirst};
+ghost use Rattle.btr_ahead.specs.Ahead.{AreSteady, IsAhead, CanBeRead, SaysFirst};
 
 use crate::first_place::first_place;
 use crate::kept_bytes::KeptBytes;
@@ -43,7 +43,7 @@ impl DataAhead {
         ensures serves { Serves (R.seen rack.new) store.now }
         ensures reads { OnlyReads (R.seen rack.old) (R.seen rack.new) }
         ensures ahead { IsAhead (R.seen rack.new).held self.new }
-        ensures comes { IsTrue result → Comes (R.seen rack.old).held store.now.layout want.now }
+        ensures comes { IsTrue result → CanBeRead (R.seen rack.old).held store.now.layout want.now }
         ensures first { 0 < wanted
             → AreSteady (R.seen rack.old) (R.seen rack.new)
             → SaysFirst (R.seen rack.old).held store.now.layout want.now result }

@@ -35,7 +35,8 @@ pub block_sent : (d r n m : ℕ) (es : List ℕ) (byte : ℕ → ℕ) (xs block 
     → (j : ℕ) → j < m + n → at (put_chunk (d + m) xs block) (j + d) ≡ bit_xor (byte j) (sent es (put_chunk (d + m) xs block) j)
 block_sent d r n m es byte xs block within apart long room e before j lt =
     let ys = put_chunk (d + m) xs block in
-    let same : sent es xs j ≡ sent es ys j = gathered-same r es (at xs) (at ys) j j within (λ a le. sym (get_or-put_chunk_below (d + m) xs block (j + a) 0 (omega arith))) in
+    let same : sent es xs j ≡ sent es ys j =
+    gathered-same r es (at xs) (at ys) j j within (λ a le. sym (get_or-put_chunk_below (d + m) xs block (j + a) 0 (omega arith))) in
     elim (cases_lt j m) [
       | inl earlier ↦ get_or-put_chunk_below (d + m) xs block (j + d) 0 (omega arith) ∙ before j earlier ∙ ap (bit_xor (byte j)) same
       | inr le ↦
@@ -190,7 +191,8 @@ ended xs bytes n fits wide are_bytes sent zeros lt =
     ∙ ap (λ r. after 8 r q (λ j. w (j + 576))) (after-same 0 576 w kept (λ j small. same j small))
     ∙ after-same (after 8 0 576 kept) q (λ j. w (j + 576)) (at rest) (λ j small. later j)
     ∙ ap (λ m. after 8 (after 8 0 576 kept) m (at rest)) size
-    ∙ sym (register_bytes (after 8 0 576 kept) rest lt (λ i. let P : ℕ → Type 0 = λ x. x < 2 ^ 8 in subst P (sym (get_or-drop (n + 576) bytes i 0)) (are_bytes (n + 576 + i))))
+    ∙ sym (register_bytes (after 8 0 576 kept) rest lt (λ i. let P : ℕ → Type 0 = λ x. x
+    < 2 ^ 8 in subst P (sym (get_or-drop (n + 576) bytes i 0)) (are_bytes (n + 576 + i))))
   where
     there : (j a : ℕ) → j < 576 → a ≤ 300 → behind xs n (j + a) ≡ at xs (n + j + a)
     there j a small le = elim (cases_lt (j + a) 561) [

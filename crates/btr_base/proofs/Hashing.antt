@@ -19,7 +19,8 @@ numbers_more step off bytes steps =
     let at : ℕ → ℕ = λ t. number_at 8 (step * t + off) bytes in
     let behind : ℕ → ℕ = λ t. number_at 8 (step * t + off) (drop step bytes) in
     let first : step * 0 + off ≡ off = omega arith in
-    let moved : (t : ℕ) → at (t + 1) ≡ behind t = λ t. ap (λ k. number_at 8 k bytes) (next t) ∙ ap (λ (l : List ℕ). number_at 8 0 l) (sym (drop-drop (step * t + off) step bytes)) in
+    let moved : (t : ℕ) → at (t + 1) ≡ behind t =
+    λ t. ap (λ k. number_at 8 k bytes) (next t) ∙ ap (λ (l : List ℕ). number_at 8 0 l) (sym (drop-drop (step * t + off) step bytes)) in
     ap (λ n. map at (range_with_len 0 n)) steps
     ∙ (λ i. number_at 8 (first i) bytes ∷ later at behind moved 0 (length (drop step bytes) / step) i)
   where

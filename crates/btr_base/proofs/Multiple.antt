@@ -83,7 +83,8 @@ two_parts : (x : ℕ) → bit_xor (2 * (x / 2)) (x % 2) ≡ x
 two_parts x =
     let l : x / 2 * 2 + 0 ≡ 2 * (x / 2) = omega arith in
     let r : 0 * 2 + x % 2 ≡ x % 2 = omega arith in
-    let block : bit_xor (x / 2 * 2 + 0) (0 * 2 + x % 2) ≡ bit_xor (x / 2) 0 * 2 + bit_xor 0 (x % 2) = xor_block 1 (x / 2) 0 0 (x % 2) (omega arith) (omega arith) in
+    let block : bit_xor (x / 2 * 2 + 0) (0 * 2 + x % 2) ≡ bit_xor (x / 2) 0 * 2 + bit_xor 0 (x % 2) =
+    xor_block 1 (x / 2) 0 0 (x % 2) (omega arith) (omega arith) in
     let whole : x / 2 * 2 + x % 2 ≡ x = omega arith in
     sym (λ i. bit_xor (l i) (r i)) ∙ block ∙ (λ i. xor_zero_r (x / 2) i * 2 + xor_zero_l (x % 2) i) ∙ whole
 

@@ -42,7 +42,9 @@ bits_none (suc k) = ap (λ (l : List Bool). false ∷ l) (bits_none k)
 pub bits_high : (j k n : ℕ) → n < 2 ^ j → bits (j + k) n ≡ bits j n ++ zeros k
 unfolding bits
 bits_high zero k n lt = let none : n ≡ 0 = omega arith in let same : 0 + k ≡ k = omega arith in ap (λ j. bits j n) same ∙ ap (bits k) none ∙ bits_none k
-bits_high (suc j) k n lt = let same : suc j + k ≡ suc (j + k) = omega arith in ap (λ m. bits m n) same ∙ ap (λ (l : List Bool). eqb (n % 2) 1 ∷ l) (bits_high j k (n / 2) (omega (arith, pow-suc 2 j)))
+bits_high (suc j) k n lt =
+    let same : suc j + k ≡ suc (j + k) =
+    omega arith in ap (λ m. bits m n) same ∙ ap (λ (l : List Bool). eqb (n % 2) 1 ∷ l) (bits_high j k (n / 2) (omega (arith, pow-suc 2 j)))
 
 low_bit : (n : ℕ) → n < 2 → cond (eqb n 1) 1 0 ≡ n
 low_bit zero lt = refl

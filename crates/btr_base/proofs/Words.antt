@@ -95,7 +95,8 @@ after_start (suc n) reg h byte lt =
     let less : high < 256 ^ n = omega (arith, pow-suc 256 n) in
     let sum = bit_xor reg (byte 0) in
     let next = shifted_by 8 (bit_xor sum low) in
-    let first : bit_xor (bit_xor reg h) (byte 0) ≡ bit_xor sum h = xor_assoc reg h (byte 0) ∙ ap (bit_xor reg) (xor_comm h (byte 0)) ∙ sym (xor_assoc reg (byte 0) h) in
+    let first : bit_xor (bit_xor reg h) (byte 0) ≡ bit_xor sum h =
+    xor_assoc reg h (byte 0) ∙ ap (bit_xor reg) (xor_comm h (byte 0)) ∙ sym (xor_assoc reg (byte 0) h) in
     let whole : h / 256 ^ 0 % 256 ≡ low = omega arith in
     after_first 8 (bit_xor reg h) n byte
     ∙ ap (λ r. after 8 r n (λ j. byte (suc j))) (ap (shifted_by 8) (first ∙ ap (bit_xor sum) parts) ∙ taken_byte sum low high (omega arith))
@@ -109,7 +110,8 @@ after_start (suc n) reg h byte lt =
 
 -- a word of a list of bytes
 pub word_fits : (bytes : List ℕ) (off : ℕ) → ((i : ℕ) → get_or bytes i 0 < 2 ^ 8) → number_at 4 off bytes < 2 ^ 32
-word_fits bytes off fits = little_from-lt 0 4 (drop off bytes) (λ i. let P : ℕ → Type 0 = λ n. n < 256 in subst P (sym (get_or-drop off bytes i 0)) (fits (off + i)))
+word_fits bytes off fits =
+    little_from-lt 0 4 (drop off bytes) (λ i. let P : ℕ → Type 0 = λ n. n < 256 in subst P (sym (get_or-drop off bytes i 0)) (fits (off + i)))
 
 -- the first n words of a piece are taken in
 pub register_words : (reg n : ℕ) (bytes : List ℕ) → reg < 2 ^ 32 → 4 * n ≤ length bytes → ((i : ℕ) → get_or bytes i 0 < 2 ^ 8)
@@ -128,4 +130,5 @@ register_words reg (suc n) bytes lt le fits =
 
 -- what is left of a list of bytes
 pub left_fits : (bytes : List ℕ) (k : ℕ) → ((i : ℕ) → get_or bytes i 0 < 2 ^ 8) → (i : ℕ) → get_or (take (length bytes - k) (drop k bytes)) i 0 < 2 ^ 8
-left_fits bytes k fits i = let P : ℕ → Type 0 = λ n. n < 2 ^ 8 in subst P (sym (ap (λ (l : List ℕ). get_or l i 0) (take_rest bytes k) ∙ get_or-drop k bytes i 0)) (fits (k + i))
+left_fits bytes k fits i =
+    let P : ℕ → Type 0 = λ n. n < 2 ^ 8 in subst P (sym (ap (λ (l : List ℕ). get_or l i 0) (take_rest bytes k) ∙ get_or-drop k bytes i 0)) (fits (k + i))

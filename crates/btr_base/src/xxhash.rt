@@ -1,7 +1,8 @@
 // xxhash64 with the seed 0.
 ghost use Rattle.std.specs.Prelude.{◌≡◌, ◌-◌, ◌^◌, ◌≤◌, length, fold};
 ghost use Rattle.btr_base.specs.Field.{number_at};
-ghost use Rattle.btr_base.specs.Xxh64.{prime_1, prime_2, added, rounded, lane_0, lane_1, lane_2, lane_3, merged, joined, front, with_eight, with_four, with_byte, with_few, with_bytes, spread, hash64};
+ghost use Rattle.btr_base.specs.Xxh64.{prime_1, prime_2, added, rounded, lane_0, lane_1, lane_2, lane_3, merged, joined, front, with_eight};
+ghost use Rattle.btr_base.specs.Xxh64.{with_four, with_byte, with_few, with_bytes, spread, hash64};
 
 use crate::field::{u32_at, u64_at};
 

@@ -129,12 +129,16 @@ raw_some (b ∷ rest) some = refl
 -- a block that holds something is a leaf at level 0, and an inner node above
 pub is_leaf_at : (block : List ℕ) → IsSome (node_of block) → level_of block ≡ 0 → IsTrue (is_leaf block)
 is_leaf_at block some level =
-    elim (is_leaf block) as (λ leaf. IsSome (cond leaf (Some (Leaf (items block))) (cond (is_inner block) (Some (Inner (pointers block))) None)) → IsTrue leaf) [
+    elim (is_leaf block) as (λ leaf. IsSome (cond leaf (Some (Leaf (items block))) (cond (is_inner block) (Some (Inner (pointers block))) None))
+    → IsTrue leaf) [
       | true ↦ λ _. refl
       | false ↦ λ is. absurd (false≢true (subst (λ inner. IsSome (cond inner (Some (Inner (pointers block))) None)) (inner_leaf block level) is))
     ] some
 
 pub is_inner_at : (block : List ℕ) → IsSome (node_of block) → (level_of block ≡ 0 → ⊥) → IsTrue (is_inner block)
 is_inner_at block some level =
-    let other : IsSome (cond (is_inner block) (Some (Inner (pointers block))) None) = subst (λ leaf. IsSome (cond leaf (Some (Leaf (items block))) (cond (is_inner block) (Some (Inner (pointers block))) None))) (leaf_level block level) some in
-    elim (is_inner block) as (λ inner. IsSome (cond inner (Some (Inner (pointers block))) None) → IsTrue inner) [ true ↦ λ _. refl | false ↦ λ is. absurd (false≢true is) ] other
+    let other : IsSome (cond (is_inner block) (Some (Inner (pointers block))) None) =
+    subst (λ leaf. IsSome (cond leaf (Some (Leaf (items block))) (cond (is_inner block) (Some (Inner (pointers block))) None)))
+    (leaf_level block level) some in
+    elim (is_inner block) as (λ inner. IsSome (cond inner (Some (Inner (pointers block))) None) → IsTrue inner)
+    [ true ↦ λ _. refl | false ↦ λ is. absurd (false≢true is) ] other

@@ -8,7 +8,8 @@ use Rattle.btr_items.specs.ExtRef.{ext_refs_of}
 use Rattle.btr_items.specs.InodeRef.{inode_refs_of}
 use Rattle.btr_items.specs.Item.{form_of, item_fits}
 use Rattle.btr_items.specs.declared.form.Form.{Form}
-use Rattle.btr_items.specs.declared.form.Form.TheVariants.{Inode, InodeRefs, ExtRefs, Entries, IndexEntry, Empty, FileExtent, Sums, Root, RootRef, Extent, LooseRef, BlockGroup, DevExtent, DevItem, Chunk, Other}
+use Rattle.btr_items.specs.declared.form.Form.TheVariants.{Inode, InodeRefs, ExtRefs, Entries, IndexEntry, Empty, FileExtent, Sums, Root, RootRef}
+use Rattle.btr_items.specs.declared.form.Form.TheVariants.{Extent, LooseRef, BlockGroup, DevExtent, DevItem, Chunk, Other}
 use Rattle.btr_node.specs.Block.{Item}
 use Rattle.btr_text.specs.Pieces.{bytes_text, key_text}
 use Rattle.btr_block_text.specs.Chunk.{chunk_lines}

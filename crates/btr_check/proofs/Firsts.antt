@@ -9,12 +9,12 @@ use Rattle.btr_tour.specs.Tour.{Reached}
 use Rattle.btr_walk.specs.declared.place.RootPlace.{RootPlace}
 use Rattle.btr_check.specs.Trees.{is_among, place_of, place_cmp, first_met}
 use Rattle.btr_check.specs.Walking.{Places, no_places, with_place}
-use Rattle.btr_check.specs.declared.places.Place.{Place}
+use Rattle.btr_check.specs.declared.places.BlockId.{BlockId}
 
 -- places are in a total order
 pub place_total : IsTotalOrder place_cmp
-place_total = then_total (on_total (λ (p : Place). p.addr) nat_cmp_total)
-    (then_total (on_total (λ (p : Place). p.generation) nat_cmp_total) (on_total (λ (p : Place). p.level) nat_cmp_total))
+place_total = then_total (on_total (λ (p : BlockId). p.addr) nat_cmp_total)
+    (then_total (on_total (λ (p : BlockId). p.generation) nat_cmp_total) (on_total (λ (p : BlockId). p.level) nat_cmp_total))
 
 abbrev at : Reached → RootPlace
 at one = one.place
@@ -25,14 +25,14 @@ with_one places one = record { keys = insert_key place_cmp places.keys (place_of
 abbrev kept : List Reached → Places → Places
 kept all places = fold with_place places (map at all)
 
-abbrev met_first : List Place → List Reached → List RootPlace
+abbrev met_first : List BlockId → List Reached → List RootPlace
 met_first before all = map at (first_met before all)
 
-abbrev Same : List Place → Places → Type 0
-Same before places = (q : Place) → is_among places.keys q ≡ is_among before q
+abbrev Same : List BlockId → Places → Type 0
+Same before places = (q : BlockId) → is_among places.keys q ≡ is_among before q
 
 -- one that was met, or that wasn't
-met_one : (before : List Place) (one : Reached) (more : List Reached) (places : Places) (b : Bool) → is_among before (place_of one.place) ≡ b
+met_one : (before : List BlockId) (one : Reached) (more : List Reached) (places : Places) (b : Bool) → is_among before (place_of one.place) ≡ b
     → Same before places
     → (kept more places).list ≡ places.list ++ met_first before more
     → (kept more (with_one places one.place)).list ≡ (places.list ++ one.place ∷ []) ++ met_first (place_of one.place ∷ before) more
@@ -45,7 +45,7 @@ met_one before one more places false is same old new =
     ∙ append_assoc places.list (one.place ∷ []) (met_first (place_of one.place ∷ before) more)
     ∙ ap (λ b. places.list ++ map at (if b then first_met before more else one ∷ first_met (place_of one.place ∷ before) more)) (sym is)
 
-met_all : (before : List Place) (all : List Reached) (places : Places) → Same before places → (kept all places).list ≡ places.list ++ met_first before all
+met_all : (before : List BlockId) (all : List Reached) (places : Places) → Same before places → (kept all places).list ≡ places.list ++ met_first before all
 met_all before [] places same = sym (append-nil places.list)
 met_all before (one ∷ more) places same =
     met_one before one more places (is_among before (place_of one.place)) refl same (met_all before more places same)

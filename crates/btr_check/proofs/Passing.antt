@@ -19,7 +19,7 @@ use Rattle.btr_findings.specs.declared.finding.Finding.{Finding}
 use Rattle.btr_tour.specs.Tour.{Mark, Block, Child, Item, Left, Reached, items_met, blocks_met, child_tour, first_key, place_of as place_on}
 use Rattle.btr_walk.specs.declared.place.RootPlace.{RootPlace}
 use Rattle.btr_walk.specs.declared.spot.Spot.{Spot}
-use Rattle.btr_check.specs.declared.places.Place.{Place}
+use Rattle.btr_check.specs.declared.places.BlockId.{BlockId}
 use Rattle.btr_check.specs.declared.subtrees.Edges.{Edges}
 use Rattle.btr_check.specs.declared.subtrees.Subtree.{Subtree}
 use Rattle.btr_check.specs.declared.walk.FileRange.{FileRange}
@@ -148,7 +148,7 @@ pass_is seen marks edges can =
     λ i. record { kind = kind_is i; broken = broken_is i; overlapping = overlapping_is i; last = last i; places = places_are i }
 
 -- places that were met stay
-still_there : (places : Places) (q : Place) (place : RootPlace) → is_among places.keys q ≡ true → is_among (with_place places place).keys q ≡ true
+still_there : (places : Places) (q : BlockId) (place : RootPlace) → is_among places.keys q ≡ true → is_among (with_place places place).keys q ≡ true
 still_there places q place there = by (is_among places.keys (place_of place))
   where
     or_true : (b : Bool) → (b || true) ≡ true
@@ -167,7 +167,7 @@ self_equal Less e = cc
 self_equal Equal e = refl
 self_equal Greater e = cc
 
-place_is : (p : Place) → is_eq (place_cmp p p) ≡ true
+place_is : (p : BlockId) → is_eq (place_cmp p p) ≡ true
 place_is p = ap is_eq (self_equal (place_cmp p p) (place_total.antisymm p p))
 
 now_there : (places : Places) (place : RootPlace) → is_among (with_place places place).keys (place_of place) ≡ true
@@ -181,7 +181,7 @@ now_there places place = by (is_among places.keys (place_of place)) refl
         any-insert place_cmp place_total (place_of place) places.keys (place_of place)
         ∙ ap (λ b. b || is_among places.keys (place_of place)) (place_is (place_of place))
 
-stays_there : (list : List RootPlace) (places : Places) (q : Place) → is_among places.keys q ≡ true → is_among (fold with_place places list).keys q ≡ true
+stays_there : (list : List RootPlace) (places : Places) (q : BlockId) → is_among places.keys q ≡ true → is_among (fold with_place places list).keys q ≡ true
 stays_there [] places q there = there
 stays_there (place ∷ list) places q there = stays_there list (with_place places place) q (still_there places q place there)
 
@@ -314,9 +314,9 @@ module _ (fs : Filesystem) where
       → place_at level' spot' ≡ place_at level spot → subtree_with spot edges ≡ subtree_with spot' edges'
       → CanPass seen (subtree_marks fs level spot) edges → CanPass seen (subtree_marks fs level' spot') edges'
   same_subtree seen level level' spot spot' edges edges' place subtree can =
-      let levels : level ≡ level' = sym (ap (λ (p : Place). p.level) place) in
-      let addr : spot.addr ≡ spot'.addr = sym (ap (λ (p : Place). p.addr) place) in
-      let generation : spot.generation ≡ spot'.generation = sym (ap (λ (p : Place). p.generation) place) in
+      let levels : level ≡ level' = sym (ap (λ (p : BlockId). p.level) place) in
+      let addr : spot.addr ≡ spot'.addr = sym (ap (λ (p : BlockId). p.addr) place) in
+      let generation : spot.generation ≡ spot'.generation = sym (ap (λ (p : BlockId). p.generation) place) in
       let first : spot.first ≡ spot'.first = ap (λ (s : Subtree). s.first) subtree in
       let up : spot.up ≡ spot'.up = ap (λ (s : Subtree). s.up) subtree in
       let spots : spot ≡ spot' = λ i. record { addr = addr i; generation = generation i; first = first i; up = up i } in

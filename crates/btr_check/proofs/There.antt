@@ -15,7 +15,7 @@ use Rattle.btr_walk.specs.Spot.{judged}
 use Rattle.btr_walk.specs.Reading.{Map}
 use Rattle.btr_check.specs.Counting.{AreThere}
 use Rattle.btr_check.specs.Trees.{is_among, place_of, first_met}
-use Rattle.btr_check.specs.declared.places.Place.{Place}
+use Rattle.btr_check.specs.declared.places.BlockId.{BlockId}
 
 blocks_met-append : (xs ys : List Mark) → blocks_met (xs ++ ys) ≡ blocks_met xs ++ blocks_met ys
 blocks_met-append [] ys = refl
@@ -72,7 +72,7 @@ module _ (B : Map) where
       (tour_there tree.place.level (root_spot tree.place)) (trees_there trees)
 
   -- those that are met first are among them
-  pub first_there : (before : List Place) (blocks : List Reached) → AreThere B blocks → AreThere B (first_met before blocks)
+  pub first_there : (before : List BlockId) (blocks : List Reached) → AreThere B blocks → AreThere B (first_met before blocks)
   first_there before [] all = tt
   first_there before (one ∷ more) all = by (is_among before (place_of one.place)) (first_there before more all.1)
       (first_there (place_of one.place ∷ before) more all.1)

@@ -27,7 +27,7 @@ use Rattle.btr_check.specs.Wanted.{AreSums, OfAllTrees, OfData, OfPlaces, OfSect
 use Rattle.btr_check.specs.Wanted.{OfTree, OfTrees, subtree_wants, want_at, wants_met}
 use Rattle.btr_check.specs.declared.opening.Opened.{Opened}
 use Rattle.btr_check.specs.declared.opening.Opened.TheVariants.{Whole, Children}
-use Rattle.btr_check.specs.declared.places.Place.{Place}
+use Rattle.btr_check.specs.declared.places.BlockId.{BlockId}
 
 -- ---- lists
 
@@ -137,11 +137,11 @@ met_wanted (Child addr place ∷ more) one h = later_in (want_at place) (wants_m
 met_wanted (Item item ∷ more) one h = met_wanted more one h
 met_wanted (Left fault ∷ more) one h = met_wanted more one h
 
-first_met_in : (before : List Place) (all : List Reached) (one : Reached) → Contains (first_met before all) one → Contains all one
+first_met_in : (before : List BlockId) (all : List Reached) (one : Reached) → Contains (first_met before all) one → Contains all one
 first_met_in before [] one h = h
 first_met_in before (x ∷ xs) one h = by (λ more. first_met_in more xs one) (is_among before (at_place x.place)) h
   where
-    by : ((more : List Place) → Contains (first_met more xs) one → Contains xs one) → (b : Bool)
+    by : ((more : List BlockId) → Contains (first_met more xs) one → Contains xs one) → (b : Bool)
         → Contains (if b then first_met before xs else x ∷ first_met (at_place x.place ∷ before) xs) one → Contains (x ∷ xs) one
     by rest true h = later_in x xs one (rest before h)
     by rest false h = ⊎_elim (λ is. subst (Contains (x ∷ xs)) is (first_in x xs)) (λ later. later_in x xs one (rest (at_place x.place ∷ before) later))

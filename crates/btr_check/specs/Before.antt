@@ -5,7 +5,7 @@ use Rattle.btr_read.specs.Fate as fate
 use Rattle.btr_tour.specs.Tour.{Mark, Block, Child, Item, Left, whole}
 use Rattle.btr_volume.specs.declared.root.TreeRoot.{TreeRoot}
 use Rattle.btr_volume.specs.declared.stop.Stop.{Stop}
-use Rattle.btr_volume.specs.declared.stop.Stop.TheVariants.{NoTree, Tree, Deletion, Balance, Missing, Image, Sink, Out, Memory}
+use Rattle.btr_volume.specs.declared.stop.Stop.TheVariants.{NoTree, Tree, Deletion, Balance}
 use Rattle.btr_walk.specs.declared.fault.TreeFault.{TreeFault}
 use Rattle.btr_walk.specs.declared.fault.TreeFault.TheVariants as tree
 use Rattle.btr_check.specs.declared.block_fault.BlockFault.{BlockFault}
@@ -62,14 +62,9 @@ list_refusals trees = filter_map pending trees ++ (missing_if 2 (last_of 2 trees
 -- such a stop says what is wrong with the list of the trees
 abbrev pub OfList : Stop → Type 0
 OfList (NoTree id) = ⊤
-OfList (Tree f) = ⊥
 OfList (Deletion id) = ⊤
 OfList Balance = ⊤
-OfList (Missing id) = ⊥
-OfList (Image slot) = ⊥
-OfList Sink = ⊥
-OfList Out = ⊥
-OfList Memory = ⊥
+OfList stop = ⊥
 
 -- what is wrong with the root tree
 abbrev pub root_faults : Filesystem → List BlockFault

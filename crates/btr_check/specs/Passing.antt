@@ -18,7 +18,7 @@ use Rattle.btr_walk.specs.Le.{TreeItem}
 use Rattle.btr_walk.specs.Range.{items_within}
 use Rattle.btr_check.specs.declared.opening.Opened.{Opened}
 use Rattle.btr_check.specs.declared.opening.Opened.TheVariants.{Whole, Children}
-use Rattle.btr_check.specs.declared.places.Place.{Place}
+use Rattle.btr_check.specs.declared.places.BlockId.{BlockId}
 use Rattle.btr_check.specs.declared.subtrees.Edges.{Edges}
 use Rattle.btr_check.specs.declared.subtrees.Subtree.{Subtree}
 use Rattle.btr_check.specs.declared.walk.FileRange.{FileRange}
@@ -45,10 +45,10 @@ edges_of (range ∷ ranges) = joined (edge_of (Some range)) (edges_of ranges)
 
 -- what is kept of subtrees, by the places of their highest blocks
 abbrev pub Known : Type 0
-Known = List (Place × Subtree)
+Known = List (BlockId × Subtree)
 
 -- where a block of a level at a spot stands
-abbrev pub place_at : ℕ → Spot → Place
+abbrev pub place_at : ℕ → Spot → BlockId
 place_at level spot = record { addr = spot.addr; generation = spot.generation; level = level }
 
 -- what is kept of the subtree at a spot with these edges: its bounds and the edges

@@ -7,10 +7,10 @@ use Rattle.btr_read.specs.Store.{free_count}
 use Rattle.btr_read.specs.declared.want.Want.{Want}
 use Rattle.btr_walk.specs.Reading.{Map, Tells, UnreadBlock, unread_by}
 use Rattle.btr_walk.specs.declared.fault.TreeFault.{TreeFault}
-use Rattle.btr_walk.specs.declared.fault.TreeFault.TheVariants.{Lost, Unread, Unmapped, Crosses, Malformed}
+use Rattle.btr_walk.specs.declared.fault.TreeFault.TheVariants.{Unread}
 use Rattle.btr_volume.specs.Looking.{SameVolume}
 use Rattle.btr_volume.specs.declared.stop.Stop.{Stop}
-use Rattle.btr_volume.specs.declared.stop.Stop.TheVariants.{NoTree, Tree, Deletion, Balance, Missing, Image, Sink, Out, Memory}
+use Rattle.btr_volume.specs.declared.stop.Stop.TheVariants.{Tree, Missing, Image, Sink, Out, Memory}
 use Rattle.btr_volume.specs.declared.volume.Volume.{Volume}
 use Rattle.btr_check.specs.Filesystem.{Filesystem}
 use Rattle.btr_check.specs.Before.{refusal}
@@ -35,23 +35,13 @@ filesystem vol B = record { sup = vol.sup; chunks = vol.store.layout.chunks; blo
 
 -- P holds of the block that a fault of a tree says could not be read, if it says so
 abbrev pub FaultUnread : (UnreadBlock → Type 0) → TreeFault → Type 0
-FaultUnread P (Lost addr) = ⊤
 FaultUnread P (Unread addr slot) = P (record { addr = addr; slot = slot })
-FaultUnread P (Unmapped addr) = ⊤
-FaultUnread P (Crosses addr) = ⊤
-FaultUnread P (Malformed addr) = ⊤
+FaultUnread P fault = ⊤
 
 -- P holds of the block that a stop says could not be read, if it says so
 abbrev pub StopUnread : (UnreadBlock → Type 0) → Stop → Type 0
-StopUnread P (NoTree id) = ⊤
 StopUnread P (Tree f) = FaultUnread P f
-StopUnread P (Deletion id) = ⊤
-StopUnread P Balance = ⊤
-StopUnread P (Missing id) = ⊤
-StopUnread P (Image slot) = ⊤
-StopUnread P Sink = ⊤
-StopUnread P Out = ⊤
-StopUnread P Memory = ⊤
+StopUnread P stop = ⊤
 
 -- P holds of the block that an answer says could not be read, if it says so
 abbrev pub IfUnread : {A : Type 0} → (UnreadBlock → Type 0) → Result A Stop → Type 0
@@ -68,23 +58,15 @@ IsAnyUnread layout old new u = IsUnreadOf layout old new (λ want. ⊤) u
 
 -- a block could not be read, or there is no memory: such a stop may come at any place
 abbrev pub is_unread : TreeFault → Bool
-is_unread (Lost addr) = false
 is_unread (Unread addr slot) = true
-is_unread (Unmapped addr) = false
-is_unread (Crosses addr) = false
-is_unread (Malformed addr) = false
+is_unread fault = false
 
 -- a stop says that a block could not be read, or that there is no memory
 abbrev pub is_outside : Stop → Bool
-is_outside (NoTree id) = false
 is_outside (Tree f) = is_unread f
-is_outside (Deletion id) = false
-is_outside Balance = false
-is_outside (Missing id) = false
-is_outside (Image slot) = false
-is_outside Sink = false
 is_outside Out = true
 is_outside Memory = true
+is_outside stop = false
 
 -- what is answered of a filesystem: a value, or its refusal
 abbrev pub Answers : {A : Type 0} → (A → Type 0) → Filesystem → Result A Stop → Type 0
@@ -98,15 +80,11 @@ StopsOutside (Err stop) = is_outside stop ≡ true
 
 -- a stop of a call that only reads blocks
 abbrev pub OfReading : Stop → Type 0
-OfReading (NoTree id) = ⊤
-OfReading (Tree f) = ⊤
-OfReading (Deletion id) = ⊤
-OfReading Balance = ⊤
 OfReading (Missing id) = ⊥
 OfReading (Image slot) = ⊥
 OfReading Sink = ⊥
 OfReading Out = ⊥
-OfReading Memory = ⊤
+OfReading stop = ⊤
 
 -- an answer is none of the stops of a call that only reads blocks
 abbrev pub StopsReading : {A : Type 0} → Result A Stop → Type 0

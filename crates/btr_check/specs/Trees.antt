@@ -15,7 +15,7 @@ use Rattle.btr_tour.specs.Tour.{Reached, whole, items_met, blocks_met}
 use Rattle.btr_volume.specs.declared.root.TreeRoot.{TreeRoot}
 use Rattle.btr_volume.specs.Table.{chunk_root}
 use Rattle.btr_volume.specs.Tree.{root_root, named_root, described}
-use Rattle.btr_check.specs.declared.places.Place.{Place}
+use Rattle.btr_check.specs.declared.places.BlockId.{BlockId}
 use Rattle.btr_findings.specs.declared.extent.Extent.{Extent}
 use Rattle.btr_refs.specs.Forward.{Use, root_use, block_uses}
 
@@ -67,19 +67,19 @@ module _ (sup : Super) (B : Map) where
   items_of id = items_if B (tree_of id)
 
 -- where a block stands, by which blocks are told apart
-abbrev pub place_of : RootPlace → Place
+abbrev pub place_of : RootPlace → BlockId
 place_of root = record { addr = root.addr; generation = root.generation; level = root.level }
 
 -- blocks are ordered by address, then generation, then level
-abbrev pub place_cmp : Place → Place → Ordering
+abbrev pub place_cmp : BlockId → BlockId → Ordering
 place_cmp a b = ordering_then (nat_cmp a.addr b.addr) (ordering_then (nat_cmp a.generation b.generation) (nat_cmp a.level b.level))
 
 -- a block stands at one of some places
-abbrev pub is_among : List Place → Place → Bool
+abbrev pub is_among : List BlockId → BlockId → Bool
 is_among places one = list_any (λ other. is_eq (place_cmp one other)) places
 
 -- of some blocks those that weren't met before, each once
-abbrev pub first_met : List Place → List Reached → List Reached
+abbrev pub first_met : List BlockId → List Reached → List Reached
 first_met before [] = []
 first_met before (one ∷ more) = if is_among before (place_of one.place) then first_met before more else one ∷ first_met (place_of one.place ∷ before) more
 

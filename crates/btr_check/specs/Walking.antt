@@ -11,7 +11,7 @@ use Rattle.btr_volume.specs.declared.root.TreeRoot.{TreeRoot}
 use Rattle.btr_volume.specs.declared.stop.Stop.{Stop}
 use Rattle.btr_walk.specs.declared.place.RootPlace.{RootPlace}
 use Rattle.btr_check.specs.declared.block_fault.BlockFault.{BlockFault}
-use Rattle.btr_check.specs.declared.places.Place.{Place}
+use Rattle.btr_check.specs.declared.places.BlockId.{BlockId}
 use Rattle.btr_check.specs.declared.walk.FileRange.{FileRange}
 use Rattle.btr_check.specs.Before.{wrong, root_faults, refusal}
 use Rattle.btr_check.specs.Filesystem.{Filesystem, kind_of_sums}
@@ -51,7 +51,7 @@ root_step seen mark = record { kind = seen.kind; wrong = or_first seen.wrong (wr
 
 -- the blocks that were met, as a set and in their order
 pub record Places : Type 0 where
-  pub keys : List Place
+  pub keys : List BlockId
   pub list : List RootPlace
 
 -- no blocks were met yet

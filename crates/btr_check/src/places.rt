@@ -10,7 +10,7 @@ use std::marker::Model;
 
 /// Which block is meant.
 #[derive(Clone, Copy, Debug, PartialEq, Eq, PartialOrd, Ord)]
-pub(crate) struct Place {
+pub(crate) struct BlockId {
     pub(crate) addr: u64,
     pub(crate) generation: u64,
     pub(crate) level: u8,
@@ -19,7 +19,7 @@ pub(crate) struct Place {
 /// Blocks in the order that they were first met in.
 #[derive(Drop)]
 pub(crate) struct PlaceList {
-    keys: BTreeSet<Place>,
+    keys: BTreeSet<BlockId>,
     list: Vec<RootPlace>,
 }
 
@@ -49,7 +49,7 @@ impl PlaceList {
     pub(crate) fn put(&mut self, place: &RootPlace) -> Result<(), Memory>
         ensures { OnOk result (self.new ≡ with_place self.old place.now) }
     {
-        let key = Place {
+        let key = BlockId {
             addr: place.addr,
             generation: place.generation,
             level: place.level,

@@ -4,7 +4,7 @@ ghost use Rattle.btr_volume.specs.declared.root.TreeRoot.{TreeRoot};
 ghost use Rattle.btr_check.specs.Filesystem.{is_file_tree};
 ghost use Rattle.btr_check.specs.Passing.{edge_of, joined, place_at};
 
-use crate::places::Place;
+use crate::places::BlockId;
 use crate::refusing::is_file_tree;
 use crate::walk::FileRange;
 use btr_base::{Key, Memory};
@@ -62,14 +62,14 @@ pub(crate) struct Subtrees {
     // Whether there are trees that may share blocks, and the one that is walked is one of these.
     shares: bool,
     keeps: bool,
-    known: BTreeMap<Place, Subtree>,
+    known: BTreeMap<BlockId, Subtree>,
 }
 
 // Where the block of a level at a spot stands.
-fn place_at(level: u8, spot: &Spot) -> Place
+fn place_at(level: u8, spot: &Spot) -> BlockId
     ensures { result ≡ place_at level spot.now }
 {
-    Place {
+    BlockId {
         addr: spot.addr,
         generation: spot.generation,
         level,

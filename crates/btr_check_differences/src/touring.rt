@@ -8,7 +8,7 @@ ghost use Rattle.btr_read.specs.Store.{SameLoans, free_count};
 ghost use Rattle.btr_tour.specs.Tour.{tour};
 ghost use Rattle.btr_tour.specs.TourEnds as ends;
 ghost use Rattle.btr_tour.specs.TourEnds.{without_leaf};
-ghost use Rattle.btr_tour.specs.Visits.{IsTaken, IsMet, MetNears, IsRun};
+ghost use Rattle.btr_tour.specs.Visits.{IsTaken, IsMet, MetRankFalls, IsRun};
 ghost use Rattle.btr_walk.specs.Reading.{TellsOf};
 
 use crate::inode_range::InodeRange;
@@ -40,7 +40,7 @@ fn meet_next<R: Rack, V: Visitor<Memory>>(
     ensures ready { ends.IsTourReady (R.seen rack.new) store.new tour.new }
     ensures reads { OnlyReads (R.seen rack.old) (R.seen rack.new) }
     ensures others { SameLoans (without_leaf store.old tour.old) (without_leaf store.new tour.new) }
-    ensures nears { MetNears tour.old tour.new result }
+    ensures nears { MetRankFalls tour.old tour.new result }
     ensures content { TellsOf store.old (R.seen rack.old) (R.seen rack.new)
         (λ Is B. IsMet V.step Is B store.old store.new tour.old tour.new
         visitor.old visitor.new result) }

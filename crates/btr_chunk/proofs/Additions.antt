@@ -73,7 +73,8 @@ absent-overlaps m chunk index is apart =
 meets-start : (a : Chunk) (s : Stripe) (b : Chunk) (t : Stripe) → IsChunk a → IsChunk b → s.devid ≡ t.devid → s.offset ≡ t.offset
     → stripes_meet (stripe_length a) s (stripe_length b) t ≡ true
 meets-start a s b t is_a is_b device offset =
-    meets_range-start (stripe_length a) s (record { devid = t.devid; offset = t.offset }) (stripe_length b) (stripe_length-some a is_a) (stripe_length-some b is_b) device offset
+    meets_range-start (stripe_length a) s (record { devid = t.devid; offset = t.offset }) (stripe_length b) (stripe_length-some a is_a)
+    (stripe_length-some b is_b) device offset
 
 -- none of the ranges begins where one of its stripes does
 pub AreFree-overlaps : (m : BTreeMap ℕ Chunk) (g : StripePlace → Option ℕ) (chunk : Chunk) → AreChunks (start_of m) → AreStripes (start_of m) g → IsChunk chunk

@@ -121,11 +121,14 @@ parts_apart chunks place i j row other rest also part another table a b =
     let x = is_at chunks place i row rest part table a in
     let y = is_at chunks place j other also another table b in
     let n = length a.chunk.stripes in
-    let both = stripes_apart chunks place i j (stripe_of a.chunk.profile n part (in_row row rest)) (stripe_of b.chunk.profile (length b.chunk.stripes) another (in_row other also)) table x.lies y.lies in
+    let both = stripes_apart chunks place i j (stripe_of a.chunk.profile n part (in_row row rest))
+    (stripe_of b.chunk.profile (length b.chunk.stripes) another (in_row other also)) table x.lies y.lies in
     let chunk : b.chunk ≡ a.chunk = same_Some b.chunk a.chunk (sym b.there ∙ ap (slice_get chunks) (sym both.0) ∙ a.there) in
-    let numbers : stripe_of a.chunk.profile n part (in_row row rest) ≡ stripe_of a.chunk.profile n another (in_row other also) = both.1 ∙ ap (λ c. stripe_of c.profile (length c.stripes) another (in_row other also)) chunk in
+    let numbers : stripe_of a.chunk.profile n part (in_row row rest) ≡ stripe_of a.chunk.profile n another (in_row other also) =
+    both.1 ∙ ap (λ c. stripe_of c.profile (length c.stripes) another (in_row other also)) chunk in
     let there : slice_get a.chunk.stripes (stripe_of a.chunk.profile n part (in_row row rest)) ≡ Some y.stripe =
-    ap (slice_get a.chunk.stripes) numbers ∙ subst (λ c. slice_get c.stripes (stripe_of c.profile (length c.stripes) another (in_row other also)) ≡ Some y.stripe) chunk y.there in
+    ap (slice_get a.chunk.stripes) numbers ∙ subst (λ c. slice_get c.stripes (stripe_of c.profile (length c.stripes) another (in_row other also))
+    ≡ Some y.stripe) chunk y.there in
     let stripe : x.stripe ≡ y.stripe = same_Some x.stripe y.stripe (sym x.there ∙ there) in
     let offset : x.stripe.offset ≡ y.stripe.offset = ap (λ (s : Stripe). s.offset) stripe in
     let same : row * 65536 + rest ≡ other * 65536 + also = omega (arith, x.offset, y.offset, offset) in
@@ -182,13 +185,16 @@ lies chunks place i copy addr table c =
     let at = position_of c.chunk addr in
     let position = IsPosition-position c.chunk addr is c.holds in
     let inside = place-inside c.chunk (Mirror copy) at 1 is c.copies position (omega (arith, position.inside)) in
-    let s = some_at (slice_get c.chunk.stripes (stripe_of c.chunk.profile (length c.chunk.stripes) (Mirror copy) at)) (λ stripe. IsInStripe (stripe_length c.chunk) stripe (place_at c.chunk (Mirror copy) at) 1) inside in
-    let here : place_at c.chunk (Mirror copy) at ≡ place = ap (λ q. place_at c.chunk q at) (sym (own c.chunk.profile (length c.chunk.stripes) copy at c.copies)) ∙ c.at in
+    let s = some_at (slice_get c.chunk.stripes (stripe_of c.chunk.profile (length c.chunk.stripes) (Mirror copy) at))
+    (λ stripe. IsInStripe (stripe_length c.chunk) stripe (place_at c.chunk (Mirror copy) at) 1) inside in
+    let here : place_at c.chunk (Mirror copy) at ≡ place =
+    ap (λ q. place_at c.chunk q at) (sym (own c.chunk.profile (length c.chunk.stripes) copy at c.copies)) ∙ c.at in
     record { chunk = c.chunk; there = c.there; stripe = s.0; stripe_there = s.1; inside = subst (λ p. IsInStripe (stripe_length c.chunk) s.0 p 1) here s.2 }
 
 pub copies_apart : CopiesApart
 copies_apart chunks place i j copy other addr also table a b =
-    let both = stripes_apart chunks place i j (stripe_of a.chunk.profile (length a.chunk.stripes) (Mirror copy) (position_of a.chunk addr)) (stripe_of b.chunk.profile (length b.chunk.stripes) (Mirror other) (position_of b.chunk also)) table
+    let both = stripes_apart chunks place i j (stripe_of a.chunk.profile (length a.chunk.stripes) (Mirror copy) (position_of a.chunk addr))
+    (stripe_of b.chunk.profile (length b.chunk.stripes) (Mirror other) (position_of b.chunk also)) table
     (lies chunks place i copy addr table a) (lies chunks place j other also table b) in
     let chunk : b.chunk ≡ a.chunk = same_Some b.chunk a.chunk (sym b.there ∙ ap (slice_get chunks) (sym both.0) ∙ a.there) in
     let copies : IsSomeAnd (mirrors a.chunk) (λ n. other < n) = subst (λ c. IsSomeAnd (mirrors c) (λ n. other < n)) chunk b.copies in

@@ -67,7 +67,8 @@ pub placed_part : (chunk : Chunk) (part : Part) (at : Elements) → IsChunk chun
     → IsPosition chunk at → Placed chunk part at
 placed_part chunk part at is has position =
     let n = length chunk.stripes in
-    let found = at-below chunk.stripes (stripe_of chunk.profile n part at) (stripe_of-below chunk.profile n part at (facts chunk is).count has position.index) in
+    let found = at-below chunk.stripes (stripe_of chunk.profile n part at)
+    (stripe_of-below chunk.profile n part at (facts chunk is).count has position.index) in
     record { stripe = found.0; there = found.1; place = rw found.1 refl }
 
 -- the bytes from a place on lie in its stripe
@@ -136,10 +137,15 @@ stripe-same len stripes i j s t a b spread here there device within too same =
 
 -- the position of a byte in a profile with rows, and in one without
 striped-position : (chunk : Chunk) (addr : ℕ) → is_striped chunk.profile ≡ true
-    → position chunk addr ≡ record { row = (addr - chunk.start) / 65536 / data_count chunk.profile (length chunk.stripes); index = (addr - chunk.start) / 65536 % data_count chunk.profile (length chunk.stripes); rest = (addr - chunk.start) % 65536 }
+    → position chunk addr ≡ record {
+      row = (addr - chunk.start) / 65536 / data_count chunk.profile (length chunk.stripes);
+      index = (addr - chunk.start) / 65536 % data_count chunk.profile (length chunk.stripes);
+      rest = (addr - chunk.start) % 65536;
+    }
 striped-position chunk addr striped = rw striped refl
 
-mirrored-position : (chunk : Chunk) (addr : ℕ) → is_striped chunk.profile ≡ false → position chunk addr ≡ record { row = 0; index = 0; rest = addr - chunk.start }
+mirrored-position : (chunk : Chunk) (addr : ℕ) → is_striped chunk.profile ≡ false
+    → position chunk addr ≡ record { row = 0; index = 0; rest = addr - chunk.start }
 mirrored-position chunk addr mirrored = rw mirrored refl
 
 -- the position of a chunk's byte
@@ -173,8 +179,10 @@ position-same chunk copy a b is from too one two place stripe = by_rows (is_stri
         let rest_b = ap (λ p. p.rest) pb in
         let small_a = mod_below (a - chunk.start) 65536 (omega arith) in
         let small_b = mod_below (b - chunk.start) 65536 (omega arith) in
-        let split = same_from_place (position chunk a).row (position chunk a).rest (position chunk b).row (position chunk b).rest 65536 (omega arith) (omega arith) place in
-        let index = index-same chunk.profile (length chunk.stripes) copy (position chunk a) (position chunk b) striped (facts chunk is).count one.index two.index split.0 stripe in
+        let split = same_from_place (position chunk a).row (position chunk a).rest (position chunk b).row (position chunk b).rest 65536 (omega arith)
+        (omega arith) place in
+        let index = index-same chunk.profile (length chunk.stripes) copy (position chunk a) (position chunk b) striped
+        (facts chunk is).count one.index two.index split.0 stripe in
         let offset = offset-same (a - chunk.start) (b - chunk.start) (data_count chunk.profile (length chunk.stripes))
         (sym (ap (λ p. p.row) pa) ∙ split.0 ∙ ap (λ p. p.row) pb) (sym (ap (λ p. p.index) pa) ∙ index ∙ ap (λ p. p.index) pb) (sym rest_a ∙ split.1 ∙ rest_b) in
         omega arith
@@ -197,8 +205,10 @@ data_place-same chunk copy a b is spread some held too same =
     let from_b = leb-true chunk.start b (and_parts (nat_le chunk.start b) (nat_lt b (chunk.start + chunk.length)) too).0 in
     let one = IsPosition-position chunk a is held in
     let two = IsPosition-position chunk b is too in
-    let pa = placed_part chunk (data_part chunk.profile copy (position chunk a)) (position chunk a) is (data_part-has chunk.profile n copy (position chunk a) some one.index) one in
-    let pb = placed_part chunk (data_part chunk.profile copy (position chunk b)) (position chunk b) is (data_part-has chunk.profile n copy (position chunk b) some two.index) two in
+    let pa = placed_part chunk (data_part chunk.profile copy (position chunk a)) (position chunk a) is
+    (data_part-has chunk.profile n copy (position chunk a) some one.index) one in
+    let pb = placed_part chunk (data_part chunk.profile copy (position chunk b)) (position chunk b) is
+    (data_part-has chunk.profile n copy (position chunk b) some two.index) two in
     let places = sym pa.place ∙ same ∙ pb.place in
     let device = ap (λ (p : StripePlace). p.devid) places in
     let offset = ap (λ (p : StripePlace). p.offset) places in

@@ -75,7 +75,8 @@ place_cmp-apart len a other b some filled apart =
 
 -- once the first of stripes that don't meet is entered, the others are still free
 pub AreFree-others : (len : ℕ) (first : Stripe) (others : List Stripe) (f g : StripePlace → Option ℕ) → 0 < len → some_meet len (first ∷ others) ≡ false
-    → AreFree f (first ∷ others) → ((q : StripePlace) → g q ≡ cond (is_eq (place_cmp (record { devid = first.devid; offset = first.offset }) q)) (Some len) (f q))
+    → AreFree f (first ∷ others) → ((q : StripePlace) → g q ≡ cond (is_eq (place_cmp (record { devid = first.devid; offset = first.offset }) q)) (Some len)
+    (f q))
     → AreFree g others
 AreFree-others len first others f g some spread free entered = λ i s there.
     let apart = fails-list_any (stripes_meet len first len) others (or_parts _ _ spread).0 i s there in

@@ -83,7 +83,8 @@ stripe_of-turned Raid5 n Q at none count has = absurd (five_six has)
 stripe_of-turned Raid5 n (Mirror i) at none count has = absurd has
 stripe_of-turned Raid6 n (Slice i) at none count has = let three = leb-true 3 n count in (refl, omega (arith, has.1))
 stripe_of-turned Raid6 n P at none count has = let three = leb-true 3 n count in (refl, omega arith)
-stripe_of-turned Raid6 n Q at none count has = let three = leb-true 3 n count in let place : at.row + (n - 2) + 1 ≡ at.row + (n - 1) = omega arith in (ap (λ x. x % n) place, omega arith)
+stripe_of-turned Raid6 n Q at none count has =
+    let three = leb-true 3 n count in let place : at.row + (n - 2) + 1 ≡ at.row + (n - 1) = omega arith in (ap (λ x. x % n) place, omega arith)
 stripe_of-turned Raid6 n (Mirror i) at none count has = absurd has
 stripe_of-turned Single n part at none count has = absurd (some_none n none)
 stripe_of-turned Dup n part at none count has = absurd (some_none n none)

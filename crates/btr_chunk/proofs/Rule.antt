@@ -105,7 +105,11 @@ stripe-fits chunk i stripe is found =
 
 -- the position of a byte in a profile with rows
 pub position-rows : (chunk : Chunk) (o : ℕ) → IsChunk chunk → is_striped chunk.profile ≡ true → o < chunk.length
-    → IsPosition chunk (record { row = o / 65536 / data_count chunk.profile (length chunk.stripes); index = o / 65536 % data_count chunk.profile (length chunk.stripes); rest = o % 65536 })
+    → IsPosition chunk (record {
+      row = o / 65536 / data_count chunk.profile (length chunk.stripes);
+      index = o / 65536 % data_count chunk.profile (length chunk.stripes);
+      rest = o % 65536;
+    })
 position-rows chunk o is striped below =
     let f = facts chunk is in
     let some = data_count-some chunk.profile (length chunk.stripes) f.count in
@@ -116,7 +120,11 @@ position-rows chunk o is striped below =
 
 -- bytes within an element lie inside its stripe
 pub reaches-rows : (chunk : Chunk) (o size : ℕ) → IsChunk chunk → is_striped chunk.profile ≡ true → o < chunk.length → o % 65536 + size ≤ 65536
-    → Reaches chunk (record { row = o / 65536 / data_count chunk.profile (length chunk.stripes); index = o / 65536 % data_count chunk.profile (length chunk.stripes); rest = o % 65536 }) size
+    → Reaches chunk (record {
+      row = o / 65536 / data_count chunk.profile (length chunk.stripes);
+      index = o / 65536 % data_count chunk.profile (length chunk.stripes);
+      rest = o % 65536;
+    }) size
 reaches-rows chunk o size is striped below within =
     let f = facts chunk is in
     let some = data_count-some chunk.profile (length chunk.stripes) f.count in

@@ -217,7 +217,8 @@ pub overlaps-range : (m : BTreeMap ℕ Chunk) (g : StripePlace → Option ℕ) (
 overlaps-range m g chunk stripes shares =
     let owner = stripes.owned shares.range.place shares.range.taken shares.range.there in
     let at = values-start_of m owner.start owner.chunk owner.chunk_there in
-    let meets = met (stripe_length chunk) shares.stripe shares.range.place _ shares.range.taken (stripe_length owner.chunk) owner.at owner.long shares.range.meets in
+    let meets = met (stripe_length chunk) shares.stripe shares.range.place _ shares.range.taken
+    (stripe_length owner.chunk) owner.at owner.long shares.range.meets in
     or_right (some_meet (stripe_length chunk) chunk.stripes) (list_any (chunks_meet chunk) (values m))
     (list_any-true (chunks_meet chunk) (values m) at.0 owner.chunk at.1
     (chunks_meet-stripes chunk owner.chunk shares.number owner.number shares.stripe owner.stripe shares.there owner.stripe_there meets))

@@ -1,5 +1,6 @@
 -- Where the bytes of a chunk lie: an element has 65536 bytes, and a row one element of each stripe.
-use Rattle.std.specs.Prelude.{◌≡◌, ℕ, ◌+◌, ◌-◌, ◌*◌, ◌/◌, ◌%◌, ◌<◌, ◌≤◌, Bool, true, length, Result, Ok, Err, IsSomeAnd, IsNone, if◌then◌else◌, ◌&&◌, ◌||◌, nat_lt, nat_le, slice_get}
+use Rattle.std.specs.Prelude.{◌≡◌, ℕ, ◌+◌, ◌-◌, ◌*◌, ◌/◌, ◌%◌, ◌<◌, ◌≤◌, Bool, true, length, Result, Ok, Err, IsSomeAnd, IsNone, if◌then◌else◌, ◌&&◌}
+use Rattle.std.specs.Prelude.{◌||◌, nat_lt, nat_le, slice_get}
 use Rattle.std.specs.Option.{option_map_or}
 use Rattle.btr_chunk.specs.declared.stripe.Stripe.{Stripe}
 use Rattle.btr_chunk.specs.declared.chunk.Chunk.{Chunk}
@@ -80,7 +81,8 @@ place_on stripe at = record { devid = stripe.devid; offset = stripe.offset + at.
 -- the place of a part of a position
 abbrev pub place_at : Chunk → Part → Elements → StripePlace
 place_at chunk part at =
-    option_map_or (λ stripe. place_on stripe at) (slice_get chunk.stripes (stripe_of chunk.profile (length chunk.stripes) part at)) (record { devid = 0; offset = 0 })
+    option_map_or (λ stripe. place_on stripe at) (slice_get chunk.stripes (stripe_of chunk.profile (length chunk.stripes) part at))
+    (record { devid = 0; offset = 0 })
 
 -- some bytes from a place on lie in a stripe of this length
 pub record IsInStripe (len : ℕ) (stripe : Stripe) (place : StripePlace) (size : ℕ) : Type 0 where

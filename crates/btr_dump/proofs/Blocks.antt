@@ -65,9 +65,15 @@ held_cut layout before now seen B kind addr block node found old new waited wait
     subst (λ n. ShowsText (unread_by layout before now) seen (exec B (held_block kind addr block n)) old new waited waits (Err (stop_of e))) is (by e)
   where
     within : CutIn (exec B (held_block kind addr block (Some found))) old new waited waits
-    within = record { before = Does (block_text kind addr block) ∷ []; behind = []; place = refl; cut = cut_as (block_text kind addr block ++ []) (sym (append-nil (block_text kind addr block))) cut }
+    within = record {
+      before = Does (block_text kind addr block) ∷ [];
+      behind = [];
+      place = refl;
+      cut = cut_as (block_text kind addr block ++ []) (sym (append-nil (block_text kind addr block))) cut;
+    }
 
-    by : (e : SinkError) → ShowsText (unread_by layout before now) seen (exec B (held_block kind addr block (Some found))) old new waited waits (Err (stop_of e))
+    by : (e : SinkError) → ShowsText (unread_by layout before now) seen (exec B (held_block kind addr block (Some found))) old new waited waits
+        (Err (stop_of e))
     by sink.Failed = within
     by sink.Memory = within
 
@@ -92,12 +98,23 @@ writes_came {A} Is B w bytes k old new waited waits result is = by result
   where
     behind : (answer : Result A (Halt fate.Fault UnreadBlock)) → WroteAll Is [] (exec B (k bytes)) old new waited waits answer
         → WroteAll Is [] (exec B (Need w k)) old new waited waits answer
-    behind answer h = record { done = h.done; wrote = h.wrote; follows = want_came Is part [] B w bytes k h.done answer is (follows_alone Is part (w ∷ []) (exec B (k bytes)) h.done answer h.follows) }
+    behind answer h = record {
+      done = h.done;
+      wrote = h.wrote;
+      follows = want_came Is part [] B w bytes k h.done answer is
+          (follows_alone Is part (w ∷ []) (exec B (k bytes)) h.done answer h.follows);
+    }
 
     cut : CutIn (exec B (k bytes)) old new waited waits → CutIn (exec B (Need w k)) old new waited waits
-    cut h = record { before = Wants w ∷ h.before; behind = h.behind; place = ap (λ x. Wants w ∷ (given x (λ b. exec B (k b))).marks) is ∙ ap (λ ms. Wants w ∷ ms) h.place; cut = h.cut }
+    cut h = record {
+      before = Wants w ∷ h.before;
+      behind = h.behind;
+      place = ap (λ x. Wants w ∷ (given x (λ b. exec B (k b))).marks) is ∙ ap (λ ms. Wants w ∷ ms) h.place;
+      cut = h.cut;
+    }
 
-    by : (result : Result A Stop) → ShowsText Is [] (exec B (k bytes)) old new waited waits result → ShowsText Is [] (exec B (Need w k)) old new waited waits result
+    by : (result : Result A Stop) → ShowsText Is [] (exec B (k bytes)) old new waited waits result
+        → ShowsText Is [] (exec B (Need w k)) old new waited waits result
     by (Ok a) h = behind (Ok a) h
     by (Err (Tree f)) h = behind (Err (halt_of f)) h
     by (Err Out) h = cut h
@@ -128,7 +145,9 @@ module _ (layout : Layout) (old new : Seen) (kind : SumKind) (addr : ℕ) (reads
           → OnMap layout (Told text text waits waits (Err (Tree (tree_fault fault)))) First old.held
       content (read.Lost a) f = map_some old.held _ _ (λ images e. none (tree.Lost a) (fate_at images layout)
           (want_faults Is part [] (fate_at images layout) (Block addr) (fate.Lost a) (λ b. held_block kind addr b (held_in b)) e)) f.2
-      content (read.Unread a slot) f = if_all old.held _ (λ images. none (tree.Unread a slot) (fate_at images layout) (want_unread Is part [] (record { addr = a; slot = slot }) (Block addr) _ f))
+      content (read.Unread a slot) f =
+          if_all old.held _ (λ images. none (tree.Unread a slot) (fate_at images layout)
+          (want_unread Is part [] (record { addr = a; slot = slot }) (Block addr) _ f))
       content (read.Unmapped a) f =
           if_all old.held _ (λ images. none (tree.Unmapped a) (fate_at images layout)
           (want_faults Is part [] (fate_at images layout) (Block addr) (fate.Unmapped a) (λ b. held_block kind addr b (held_in b))
@@ -143,7 +162,8 @@ module _ (layout : Layout) (old new : Seen) (kind : SumKind) (addr : ℕ) (reads
       → FitsFetch layout (Block addr) old new store (Ok loan) → block_of store loan ≡ Some block
       → ((B : Map) → ShowsText Is [] (exec B (held_block kind addr block (held_in block))) was now waited waits result)
       → TellsBlock layout addr old new (Told was now waited waits result)
-  block_came was now waited waits store loan block result fits is written = record { calls = record { same = same_held reads; later = reads.later; content = content } }
+  block_came was now waited waits store loan block result fits is written =
+      record { calls = record { same = same_held reads; later = reads.later; content = content } }
     where
       fetched : IsFetched layout (Block addr) old new block
       fetched = subst (λ o. IsSomeAnd o (IsFetched layout (Block addr) old new)) is fits.1

@@ -32,8 +32,10 @@ module _ (Is : UnreadBlock → Want → Type 0) (r : TextRun (Unit {0})) where
   pub finish_cut : (begun new : Option Text) (waits : Text) (shown : Result (Unit {0}) Stop) → is_cut shown ≡ true
       → ShowsText Is [] r begun new [] waits shown → PutsText Is r begun new shown
   finish_cut begun new waits (Ok u) cut w = absurd (false≢true cut)
-  finish_cut begun new waits (Err Out) cut w = let b = broke_in Is r w.before w.behind begun new w.cut.count w.place w.cut.adds in record { done = b.0; adds = b.1; follows = b.2 }
-  finish_cut begun new waits (Err Memory) cut w = let b = broke_in Is r w.before w.behind begun new w.cut.count w.place w.cut.adds in record { done = b.0; adds = b.1; follows = b.2 }
+  finish_cut begun new waits (Err Out) cut w =
+      let b = broke_in Is r w.before w.behind begun new w.cut.count w.place w.cut.adds in record { done = b.0; adds = b.1; follows = b.2 }
+  finish_cut begun new waits (Err Memory) cut w =
+      let b = broke_in Is r w.before w.behind begun new w.cut.count w.place w.cut.adds in record { done = b.0; adds = b.1; follows = b.2 }
   finish_cut begun new waits (Err (NoTree n)) cut w = absurd w
   finish_cut begun new waits (Err (Tree f)) cut w = absurd (false≢true cut)
   finish_cut begun new waits (Err (Deletion n)) cut w = absurd w

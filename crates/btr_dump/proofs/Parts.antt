@@ -24,7 +24,12 @@ writes_behind Is Later weaker ws r old new waited waits result = by result
   where
     all : (answer : Result (Unit {0}) (Halt fate.Fault UnreadBlock)) → WroteAll Later [] r old new waited waits answer
         → WroteAll Is ws r old new waited waits answer
-    all answer w = record { done = w.done; wrote = w.wrote; follows = follows_as Later Is weaker part ws r w.done answer (follows_alone Later part ws r w.done answer w.follows) }
+    all answer w = record {
+      done = w.done;
+      wrote = w.wrote;
+      follows = follows_as Later Is weaker part ws r w.done answer
+          (follows_alone Later part ws r w.done answer w.follows);
+    }
 
     by : (result : Result (Unit {0}) Stop) → ShowsText Later [] r old new waited waits result → ShowsText Is ws r old new waited waits result
     by (Ok u) w = all (Ok u) w
@@ -74,7 +79,12 @@ module _ (B : Map) (p : Shown) (k : Unit {0} → Shown) where
   first_stops Is old new waited waits stop = by stop
     where
       halts : (h : Halt fate.Fault UnreadBlock) → WroteAll Is [] front old new waited waits (Err h) → WroteAll Is [] both old new waited waits (Err h)
-      halts h w = record { done = w.done; wrote = w.wrote; follows = subst (λ r. Follows Is part [] r w.done (Err h)) (sym both_is) (follows_halt Is part [] front (λ u. exec B (k u)) w.done h w.follows) }
+      halts h w = record {
+        done = w.done;
+        wrote = w.wrote;
+        follows = subst (λ r. Follows Is part [] r w.done (Err h)) (sym both_is)
+            (follows_halt Is part [] front (λ u. exec B (k u)) w.done h w.follows);
+      }
 
       cut : CutIn front old new waited waits → CutIn both old new waited waits
       cut c =
@@ -85,7 +95,8 @@ module _ (B : Map) (p : Shown) (k : Unit {0} → Shown) where
             cut = c.cut;
           }
 
-      by : (stop : Stop) → ShowsText {A = Unit {0}} Is [] front old new waited waits (Err stop) → ShowsText {A = Unit {0}} Is [] both old new waited waits (Err stop)
+      by : (stop : Stop) → ShowsText {A = Unit {0}} Is [] front old new waited waits (Err stop)
+          → ShowsText {A = Unit {0}} Is [] both old new waited waits (Err stop)
       by (Tree f) w = halts (halt_of f) w
       by Out w = cut w
       by Memory w = cut w

@@ -59,7 +59,8 @@ module _ (item : TreeItem) where
 module _ (Is : UnreadBlock → Want → Type 0) (seen : List Want) (B : Map) (item : TreeItem) (text : Option Text) (waits : Text) where
   -- so nothing is written of an item of another type
   pub none_written : (item.key.kind ≡ 132 → ⊥) → ShowsText {A = Unit {0}} Is seen (exec B (item_line item)) text text waits waits (Ok tt)
-  none_written other = subst (λ p. ShowsText {A = Unit {0}} Is seen (exec B p) text text waits waits (Ok tt)) (item_none item (ne_eqb _ _ other)) (record { done = []; wrote = wrote_nothing text waits; follows = (refl, refl) })
+  none_written other = subst (λ p. ShowsText {A = Unit {0}} Is seen (exec B p) text text waits waits (Ok tt)) (item_none item (ne_eqb _ _ other))
+      (record { done = []; wrote = wrote_nothing text waits; follows = (refl, refl) })
 
   -- nor of one that breaks its form
   pub broken_written : item.key.kind ≡ 132 → (fault : ItemFault) → Err fault ≡ root_item_of item.body
@@ -83,11 +84,13 @@ pub no_wants : (B : Map) (item : TreeItem) → wants_of (exec B (item_line item)
 unfolding item_line
 no_wants B item = by_kind (eqb item.key.kind 132)
   where
-    by_root : (r : Result RootItem ItemFault) → let p : Shown = formed item r (λ root. piece (root_line (described item.key root))) in wants_of (exec B p).marks ≡ []
+    by_root : (r : Result RootItem ItemFault) → let p : Shown = formed item r (λ root. piece (root_line (described item.key root))) in
+        wants_of (exec B p).marks ≡ []
     by_root (Ok root) = refl
     by_root (Err fault) = refl
 
-    by_kind : (b : Bool) → let p : Shown = cond b (formed item (root_item_of item.body) (λ root. piece (root_line (described item.key root)))) (Return tt) in wants_of (exec B p).marks ≡ []
+    by_kind : (b : Bool) → let p : Shown = cond b (formed item (root_item_of item.body) (λ root. piece (root_line (described item.key root))))
+        (Return tt) in wants_of (exec B p).marks ≡ []
     by_kind true = by_root (root_item_of item.body)
     by_kind false = refl
 
@@ -116,7 +119,11 @@ module _ (Is : UnreadBlock → Want → Type 0) (B : Map) (first second : Text) 
   two_then old mid new waited between waits result wrote w =
       goes_ends (λ ws. ws ≡ []) Is Is (λ u w i. i) (exec B (Emit first (Emit second p))) (exec B p) [] old mid new waited between waits result
       (record {
-        past = record { marks = Does first ∷ Does second ∷ []; is = refl; wrote = wrote_as (first ++ (second ++ [])) (ap (λ t. first ++ t) (sym (append-nil second))) wrote };
+        past = record {
+          marks = Does first ∷ Does second ∷ [];
+          is = refl;
+          wrote = wrote_as (first ++ (second ++ [])) (ap (λ t. first ++ t) (sym (append-nil second))) wrote;
+        };
         on = refl;
       })
       (λ ws none. subst (λ (x : List Want). ShowsText Is x (exec B p) mid new between waits result) (sym none) w)

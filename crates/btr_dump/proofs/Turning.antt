@@ -30,7 +30,8 @@ unfolding item_root
 item_root_read item read is same = ap if_formed same ∙ ap (λ b. cond b (if_formed (map_ok (described item.key) (root_item_of item.body))) None)
     (sym (eq-eqb _ _ is))
 
-module _ (Is : UnreadBlock → Want → Type 0) (B : Map) (kind : SumKind) (seen : List Want) (old mid : Blocks) (scan scan' : Scan) (item : TreeItem) (gives : GivesItem B seen old mid scan scan' item) where
+module _ (Is : UnreadBlock → Want → Type 0) (B : Map) (kind : SumKind) (seen : List Want) (old mid : Blocks) (scan scan' : Scan) (item : TreeItem)
+    (gives : GivesItem B seen old mid scan scan' item) where
   abbrev show : TreeItem → Shown
   show i = tree_if kind (item_root i)
 
@@ -46,7 +47,8 @@ module _ (Is : UnreadBlock → Want → Type 0) (B : Map) (kind : SumKind) (seen
   other_goes text waits none =
       turn_goes show B (left_of B old scan) (left_of B mid scan') item gives.past gives.is On Is seen (seen ++ gives.past) text text waits waits
       (ap (λ o. wants_of (exec B (tree_if kind o)).marks) none) gives.on
-      (subst (λ o. WroteAll Is (seen ++ gives.past) (exec B (tree_if kind o)) text text waits waits (Ok tt)) (sym none) (record { done = []; wrote = wrote_nothing text waits; follows = (refl, refl) }))
+      (subst (λ o. WroteAll Is (seen ++ gives.past) (exec B (tree_if kind o)) text text waits waits (Ok tt)) (sym none)
+      (record { done = []; wrote = wrote_nothing text waits; follows = (refl, refl) }))
 
   -- a tree was written to its end
   pub tree_goes : (root : TreeRoot) → item_root item ≡ Some root → (new : Blocks) → SameLoans mid new

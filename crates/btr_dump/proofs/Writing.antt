@@ -25,10 +25,22 @@ breaks_at e behind n [] = ([], take_none n, record { before = []; behind = behin
     take_none zero = refl
     take_none (suc n) = refl
 breaks_at e behind n (Wants w ∷ before) =
-    let b = breaks_at e behind n before in
-    (b.0, b.1, record { before = Wants w ∷ b.2.before; behind = b.2.behind; left = b.2.left; place = ap (λ ms. Wants w ∷ ms) b.2.place; steps = b.2.steps; leaves = b.2.leaves; holds = tt })
+    let b = breaks_at e behind n before in (
+      b.0,
+      b.1,
+      record {
+        before = Wants w ∷ b.2.before;
+        behind = b.2.behind;
+        left = b.2.left;
+        place = ap (λ ms. Wants w ∷ ms) b.2.place;
+        steps = b.2.steps;
+        leaves = b.2.leaves;
+        holds = tt;
+      },
+    )
 breaks_at {A} e behind n (Does s ∷ before) =
-    elim (ltb n (length s)) as (λ short. ltb n (length s) ≡ short → (done : List Text) × (whole done ≡ take n (s ++ whole (steps_of before))) × Breaks {F = fate.Fault} part (λ ws. Unit {0}) (run (Does s ∷ (before ++ behind)) e) done) [
+    elim (ltb n (length s)) as (λ short. ltb n (length s) ≡ short → (done : List Text) × (whole done ≡ take n (s ++ whole (steps_of before)))
+    × Breaks {F = fate.Fault} part (λ ws. Unit {0}) (run (Does s ∷ (before ++ behind)) e) done) [
       | true ↦ λ is. (
         take n s ∷ [],
         append-nil (take n s) ∙ sym (take-append-le n s (whole (steps_of before)) (omega (arith, ltb-true n (length s) is))),
@@ -39,7 +51,15 @@ breaks_at {A} e behind n (Does s ∷ before) =
           let parts : length s + (n - length s) ≡ n = omega (arith, ltb-false n (length s) is) in (
             s ∷ b.0,
             ap (λ t. s ++ t) b.1 ∙ sym (take-append-add s (whole (steps_of before)) (n - length s)) ∙ ap (λ k. take k (s ++ whole (steps_of before))) parts,
-            record { before = Does s ∷ b.2.before; behind = b.2.behind; left = b.2.left; place = ap (λ ms. Does s ∷ ms) b.2.place; steps = ap (λ x. s ∷ x) b.2.steps; leaves = b.2.leaves; holds = tt },
+            record {
+              before = Does s ∷ b.2.before;
+              behind = b.2.behind;
+              left = b.2.left;
+              place = ap (λ ms. Does s ∷ ms) b.2.place;
+              steps = ap (λ x. s ∷ x) b.2.steps;
+              leaves = b.2.leaves;
+              holds = tt;
+            },
           )
     ] refl
 
@@ -81,5 +101,16 @@ pub broke_in : {A : Type 0} (Is : UnreadBlock → Want → Type 0) (r : TextRun 
     → r.marks ≡ before ++ behind → Adds old new (take n (whole (steps_of before)))
     → (done : List Text) × Adds old new (whole done) × Follows Is part [] r done (Err Broke)
 broke_in Is r before behind old new n place adds =
-    let b = breaks_at r.ending behind n before in
-    (b.0, subst (Adds old new) (sym b.1) adds, record { before = b.2.before; behind = b.2.behind; left = b.2.left; place = place ∙ b.2.place; steps = b.2.steps; leaves = b.2.leaves; holds = tt })
+    let b = breaks_at r.ending behind n before in (
+      b.0,
+      subst (Adds old new) (sym b.1) adds,
+      record {
+        before = b.2.before;
+        behind = b.2.behind;
+        left = b.2.left;
+        place = place ∙ b.2.place;
+        steps = b.2.steps;
+        leaves = b.2.leaves;
+        holds = tt;
+      },
+    )

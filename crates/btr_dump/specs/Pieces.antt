@@ -57,7 +57,8 @@ block_shown sums addr = Need (Block addr) (λ block. held_block sums addr block 
 -- the line of a root: of which tree, and where it stands
 abbrev pub root_text : ℕ → ℕ → ℕ → ℕ → ℕ → Text
 root_text id offset addr level generation =
-    codes "tree " ++ decimal id ++ codes " offset " ++ decimal offset ++ codes " bytenr " ++ decimal addr ++ codes " level " ++ decimal level ++ codes " generation " ++ decimal generation ++ codes "\n"
+    codes "tree " ++ decimal id ++ codes " offset " ++ decimal offset ++ codes " bytenr " ++ decimal addr
+    ++ codes " level " ++ decimal level ++ codes " generation " ++ decimal generation ++ codes "\n"
 
 -- the line of a tree's root
 abbrev pub root_line : TreeRoot → Text
@@ -73,7 +74,8 @@ item_lines items = each (λ u item. item_line item) tt items
 
 -- the lines of the roots: of the root tree, of the chunk tree, and of each ROOT_ITEM in the order of the keys
 abbrev pub roots_shown : Super → Shown
-roots_shown s = Emit (root_line (named_root 1 (root_root s))) (Emit (root_line (named_root 3 (chunk_root s))) (item_lines (range first_key last_key (root_root s))))
+roots_shown s = Emit (root_line (named_root 1 (root_root s)))
+    (Emit (root_line (named_root 3 (chunk_root s))) (item_lines (range first_key last_key (root_root s))))
 
 -- the line before the blocks of a tree
 abbrev pub tree_text : ℕ → ℕ → Text

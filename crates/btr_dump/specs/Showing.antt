@@ -15,7 +15,7 @@ use Rattle.btr_read.specs.declared.want.Want.TheVariants.{Block}
 use Rattle.btr_text.specs.Text.{Wrote, WasCut}
 use Rattle.btr_walk.specs.Reading.{Map, UnreadBlock, TellsOf, unread_by, halt_of}
 use Rattle.btr_volume.specs.declared.stop.Stop.{Stop}
-use Rattle.btr_volume.specs.declared.stop.Stop.TheVariants.{NoTree, Tree, Deletion, Balance, Missing, Image, Sink, Out, Memory}
+use Rattle.btr_volume.specs.declared.stop.Stop.TheVariants.{NoTree, Tree, Out, Memory}
 use Rattle.btr_dump.specs.Pieces.{Text, Shown}
 
 -- what stands of a piece that was broken off after n bytes
@@ -41,12 +41,7 @@ StopFollows Is r done (Ok u) = Follows Is part [] r done (Ok tt)
 StopFollows Is r done (Err (Tree f)) = Follows Is part [] r done (Err (halt_of f))
 StopFollows Is r done (Err Out) = Follows Is part [] r done (Err Broke)
 StopFollows Is r done (Err Memory) = Follows Is part [] r done (Err Broke)
-StopFollows Is r done (Err (NoTree n)) = ⊥
-StopFollows Is r done (Err (Deletion n)) = ⊥
-StopFollows Is r done (Err Balance) = ⊥
-StopFollows Is r done (Err (Missing n)) = ⊥
-StopFollows Is r done (Err (Image slot)) = ⊥
-StopFollows Is r done (Err Sink) = ⊥
+StopFollows Is r done (Err stop) = ⊥
 
 -- what was put on an output
 pub record PutsText (Is : UnreadBlock → Want → Type 0) (r : TextRun (Unit {0})) (old new : Option Text) (result : Result (Unit {0}) Stop) : Type 0 where
@@ -61,11 +56,7 @@ AskedFollows Is r done (Err (NoTree n)) = Follows Is part [] r done (Ok (Some n)
 AskedFollows Is r done (Err (Tree f)) = Follows Is part [] r done (Err (halt_of f))
 AskedFollows Is r done (Err Out) = Follows Is part [] r done (Err Broke)
 AskedFollows Is r done (Err Memory) = Follows Is part [] r done (Err Broke)
-AskedFollows Is r done (Err (Deletion n)) = ⊥
-AskedFollows Is r done (Err Balance) = ⊥
-AskedFollows Is r done (Err (Missing n)) = ⊥
-AskedFollows Is r done (Err (Image slot)) = ⊥
-AskedFollows Is r done (Err Sink) = ⊥
+AskedFollows Is r done (Err stop) = ⊥
 
 -- the pieces that a call put, and its answer, follow the run of a tree that was asked for
 pub record PutsAsked (Is : UnreadBlock → Want → Type 0) (r : TextRun (Option ℕ)) (old new : Option Text) (result : Result (Unit {0}) Stop) : Type 0 where
@@ -90,7 +81,8 @@ pub record CutIn {A : Type 0} (r : TextRun A) (old new : Option Text) (waited wa
   pub cut : WasCut old new waited waits (whole (steps_of before))
 
 -- pieces were written behind what waited, and these and the answer follow a run; `seen` are wants from before it
-pub record WroteAll {A : Type 0} (Is : UnreadBlock → Want → Type 0) (seen : List Want) (r : TextRun A) (old new : Option Text) (waited waits : Text) (answer : Result A (Halt Fault UnreadBlock)) : Type 0 where
+pub record WroteAll {A : Type 0} (Is : UnreadBlock → Want → Type 0) (seen : List Want) (r : TextRun A) (old new : Option Text) (waited waits : Text)
+    (answer : Result A (Halt Fault UnreadBlock)) : Type 0 where
   pub done : List Text
   pub wrote : Wrote old new waited waits (whole done)
   pub follows : Follows Is part seen r done answer
@@ -101,12 +93,7 @@ ShowsText Is seen r old new waited waits (Ok a) = WroteAll Is seen r old new wai
 ShowsText Is seen r old new waited waits (Err (Tree f)) = WroteAll Is seen r old new waited waits (Err (halt_of f))
 ShowsText Is seen r old new waited waits (Err Out) = CutIn r old new waited waits
 ShowsText Is seen r old new waited waits (Err Memory) = CutIn r old new waited waits
-ShowsText Is seen r old new waited waits (Err (NoTree n)) = ⊥
-ShowsText Is seen r old new waited waits (Err (Deletion n)) = ⊥
-ShowsText Is seen r old new waited waits (Err Balance) = ⊥
-ShowsText Is seen r old new waited waits (Err (Missing n)) = ⊥
-ShowsText Is seen r old new waited waits (Err (Image slot)) = ⊥
-ShowsText Is seen r old new waited waits (Err Sink) = ⊥
+ShowsText Is seen r old new waited waits (Err stop) = ⊥
 
 -- what a call wrote follows a program, so far as the calls over its store were steady
 abbrev pub WritesShown : Blocks → Seen → Seen → Shown → Option Text → Option Text → Text → Text → Result (Unit {0}) Stop → Type 0
@@ -139,13 +126,14 @@ pub record GoesOn (On : List Want → Type 0) (from to : TextRun (Unit {0})) (se
   pub on : On (seen ++ wants_of past.marks)
 
 -- one turn of a loop over a cursor: it goes on, or is at its end
-abbrev pub Turns : (UnreadBlock → Want → Type 0) → (List Want → Type 0) → TextRun (Unit {0}) → TextRun (Unit {0}) → List Want → Option Text → Option Text → Text → Text → Result Bool Stop → Type 0
+abbrev pub Turns : (UnreadBlock → Want → Type 0) → (List Want → Type 0) → TextRun (Unit {0}) → TextRun (Unit {0}) → List Want → Option Text → Option Text
+    → Text → Text → Result Bool Stop → Type 0
 Turns Is On from to seen old new waited waits (Ok true) = GoesOn On from to seen old new waited waits
 Turns Is On from to seen old new waited waits (Ok false) = ShowsText {A = Unit {0}} Is seen from old new waited waits (Ok tt)
 Turns Is On from to seen old new waited waits (Err stop) = ShowsText Is seen from old new waited waits (Err stop)
 
 -- a cursor that goes on comes nearer to its end
-abbrev pub TurnNears : ℕ → ℕ → Result Bool Stop → Type 0
-TurnNears old new (Ok true) = new < old
-TurnNears old new (Ok false) = Unit {0}
-TurnNears old new (Err stop) = Unit {0}
+abbrev pub TurnRankFalls : ℕ → ℕ → Result Bool Stop → Type 0
+TurnRankFalls old new (Ok true) = new < old
+TurnRankFalls old new (Ok false) = Unit {0}
+TurnRankFalls old new (Err stop) = Unit {0}

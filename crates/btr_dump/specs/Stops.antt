@@ -7,7 +7,7 @@ use Rattle.btr_rack.specs.declared.error.SinkError.TheVariants as sink
 use Rattle.btr_read.specs.Layout.{Layout}
 use Rattle.btr_walk.specs.Reading.{FaultCause}
 use Rattle.btr_volume.specs.declared.stop.Stop.{Stop}
-use Rattle.btr_volume.specs.declared.stop.Stop.TheVariants.{NoTree, Tree, Deletion, Balance, Missing, Image, Sink, Out, Memory}
+use Rattle.btr_volume.specs.declared.stop.Stop.TheVariants.{NoTree, Tree, Out, Memory}
 
 -- a refusal of the output
 abbrev pub stop_of : SinkError → Stop
@@ -21,34 +21,15 @@ StopCounts old new (Err (Tree f)) = new ≡ old
 StopCounts {A} old new (Err Out) = Counts {T = A} old new (Err sink.Failed)
 StopCounts {A} old new (Err Memory) = Counts {T = A} old new (Err sink.Memory)
 StopCounts old new (Err (NoTree n)) = new ≡ old
-StopCounts old new (Err (Deletion n)) = ⊥
-StopCounts old new (Err Balance) = ⊥
-StopCounts old new (Err (Missing n)) = ⊥
-StopCounts old new (Err (Image slot)) = ⊥
-StopCounts old new (Err Sink) = ⊥
+StopCounts old new (Err stop) = ⊥
 
 -- a fault of a tree has its cause
 abbrev pub DumpStopCause : {A : Type 0} → Layout → Seen → Seen → Result A Stop → Type 0
-DumpStopCause layout old new (Ok a) = ⊤
 DumpStopCause layout old new (Err (Tree f)) = FaultCause layout old new f
-DumpStopCause layout old new (Err (NoTree n)) = ⊤
-DumpStopCause layout old new (Err (Deletion n)) = ⊤
-DumpStopCause layout old new (Err Balance) = ⊤
-DumpStopCause layout old new (Err (Missing n)) = ⊤
-DumpStopCause layout old new (Err (Image slot)) = ⊤
-DumpStopCause layout old new (Err Sink) = ⊤
-DumpStopCause layout old new (Err Out) = ⊤
-DumpStopCause layout old new (Err Memory) = ⊤
+DumpStopCause layout old new answer = ⊤
 
 -- the output refused on the way, so nothing waits any more
 abbrev pub is_cut : {A : Type 0} → Result A Stop → Bool
-is_cut (Ok a) = false
 is_cut (Err Out) = true
 is_cut (Err Memory) = true
-is_cut (Err (NoTree n)) = false
-is_cut (Err (Tree f)) = false
-is_cut (Err (Deletion n)) = false
-is_cut (Err Balance) = false
-is_cut (Err (Missing n)) = false
-is_cut (Err (Image slot)) = false
-is_cut (Err Sink) = false
+is_cut answer = false

@@ -29,8 +29,8 @@ NextItemBy Is B seen old new scan scan' (Ok (Tree root)) = (item : TreeItem) × 
 NextItemBy Is B seen old new scan scan' (Err f) = Follows Is no_part seen (exec B (left_of B old scan)) [] (Err (halt_of f))
 
 -- a scan that gave an item comes nearer to its end
-abbrev pub ItemNears : ℕ → ℕ → Result NextItem TreeFault → Type 0
-ItemNears old new (Ok End) = Unit {0}
-ItemNears old new (Ok Other) = new < old
-ItemNears old new (Ok (Tree root)) = new < old
-ItemNears old new (Err f) = Unit {0}
+abbrev pub ItemRankFalls : ℕ → ℕ → Result NextItem TreeFault → Type 0
+ItemRankFalls old new (Ok End) = Unit {0}
+ItemRankFalls old new (Ok Other) = new < old
+ItemRankFalls old new (Ok (Tree root)) = new < old
+ItemRankFalls old new (Err f) = Unit {0}

@@ -7,7 +7,7 @@ ghost use Rattle.btr_read.specs.declared.want.Want.{Want};
 ghost use Rattle.btr_walk.specs.Lending.{base};
 ghost use Rattle.btr_walk.specs.Reading.{Map, Tells, unread_by};
 ghost use Rattle.btr_dump.specs.Pieces.{Shown};
-ghost use Rattle.btr_dump.specs.Showing.{Grows, ShowsText, Turns, TurnNears};
+ghost use Rattle.btr_dump.specs.Showing.{Grows, ShowsText, Turns, TurnRankFalls};
 ghost use Rattle.btr_dump.specs.Stops.{StopCounts, DumpStopCause};
 
 use btr_rack::{Out, Rack};
@@ -48,7 +48,7 @@ pub(crate) trait Cursor {
         ensures ready { ready (R.seen rack.new) store.new self.new }
         ensures reads { OnlyReads (R.seen rack.old) (R.seen rack.new) }
         ensures others { SameLoans (base store.old (loan self.old)) (base store.new (loan self.new)) }
-        ensures nears { TurnNears (rank self.old) (rank self.new) result }
+        ensures nears { TurnRankFalls (rank self.old) (rank self.new) result }
         ensures account { StopCounts (O.account out.old) (O.account out.new) result }
         ensures cause { DumpStopCause store.old.layout (R.seen rack.old) (R.seen rack.new) result }
         ensures grows { Grows (O.text out.old) (O.text out.new) }

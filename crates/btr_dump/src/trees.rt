@@ -12,7 +12,7 @@ ghost use Rattle.btr_volume.specs.Looking.{SameVolume};
 ghost use Rattle.btr_dump.specs.Pieces.{item_root, top_trees, all_trees};
 ghost use Rattle.btr_dump.specs.Showing.{Grows, WritesShown, PutsShown};
 ghost use Rattle.btr_dump.specs.Stops.{StopCounts, DumpStopCause};
-ghost use Rattle.btr_dump.specs.Trees.{ItemNears, NextItemBy};
+ghost use Rattle.btr_dump.specs.Trees.{ItemRankFalls, NextItemBy};
 
 use crate::cursor::{Cursor, show_rest};
 use crate::ending::finish;
@@ -63,7 +63,7 @@ fn next_item<R: Rack>(
     ensures ready { IsScanReady (R.seen rack.new) store.new scan.new }
     ensures reads { OnlyReads (R.seen rack.old) (R.seen rack.new) }
     ensures others { SameLoans (without_leaf store.old scan.old) (without_leaf store.new scan.new) }
-    ensures nears { ItemNears (rank_of scan.old) (rank_of scan.new) result }
+    ensures nears { ItemRankFalls (rank_of scan.old) (rank_of scan.new) result }
     ensures cause { HasCause store.old.layout (R.seen rack.old) (R.seen rack.new) result }
     ensures content { Tells store.old.layout (R.seen rack.old) (R.seen rack.new)
         (λ B. (seen : List Want) → IsOn scan.old.lo scan.old.hi B seen scan.old.place

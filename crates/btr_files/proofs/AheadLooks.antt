@@ -99,10 +99,12 @@ no_steps [] = refl
 no_steps (x ∷ xs) = absurd x
 
 -- by a checksum that is kept
-module _ (layout : Layout) (kind : SumKind) (sums : Option TreeRoot) (nosum : Bool) (addr : ℕ) (ahead : SumsAhead) (sum : Sum) (tested : nosum ≡ false) (same : ahead.kind ≡ kind) (kept : kept_sum ahead addr ≡ Some sum) where
+module _ (layout : Layout) (kind : SumKind) (sums : Option TreeRoot) (nosum : Bool) (addr : ℕ) (ahead : SumsAhead) (sum : Sum) (tested : nosum ≡ false)
+    (same : ahead.kind ≡ kind) (kept : kept_sum ahead addr ≡ Some sum) where
   by_kept : (Is : UnreadBlock → Want → Type 0) (B : Map) → IsSummed B sums ahead → ComesOf Is B (sector_want kind sums nosum addr) (Ok (Sector addr sum))
   by_kept Is B summed =
-      let looked : (exec B (sum_at kind sums addr)).ending ≡ Ok (Some sum) = subst (λ (k : SumKind). (exec B (sum_at k sums addr)).ending ≡ Ok (Some sum)) same (summed addr sum kept) in
+      let looked : (exec B (sum_at kind sums addr)).ending ≡ Ok (Some sum) =
+      subst (λ (k : SumKind). (exec B (sum_at k sums addr)).ending ≡ Ok (Some sum)) same (summed addr sum kept) in
       let p : Lookup Want = bind (sum_at kind sums addr) (λ s. Return (want_by addr s)) in
       subst (λ (b : Bool). ComesOf Is B (cond b (Return (Plain addr)) p) (Ok (Sector addr sum))) (sym tested)
       (no_steps (steps_of (exec B p).marks), bind_ending B (sum_at kind sums addr) (λ s. Return (want_by addr s)) (Some sum) (Ok (Sector addr sum)) looked refl)

@@ -151,7 +151,8 @@ module _ (kind : SumKind) (addr : ℕ) (body : List ℕ) (run : SumRun) (part : 
       let i = (other - addr) / 4096 in
       let number : (other - run.start) / 4096 ≡ first + i = sector_of run.start addr other behind c.start aligned in
       let place : (other - run.start) / 4096 * size ≡ first * size + i * size = ap (λ n. n * size) number ∙ shared first i size in
-      let bytes : take size (drop (i * size) copy) ≡ take size (drop (first * size + i * size) body) = same_part (part * size) (i * size) size (first * size) copy body same (end_fits i part size (nth_sector addr other part c.start c.within)) in
+      let bytes : take size (drop (i * size) copy) ≡ take size (drop (first * size + i * size) body) =
+      same_part (part * size) (i * size) size (first * size) copy body same (end_fits i part size (nth_sector addr other part c.start c.within)) in
       sum_of_covered kind other body run (omega (arith, behind, c.start)) (in_run run.start addr other run.count part behind aligned few lt c.within)
       ∙ ap (λ n. Some (stored_sum kind (drop n body))) place
       ∙ ap (λ l. Some (sum_from kind l)) (sym bytes)
@@ -181,7 +182,8 @@ module _ (kind : SumKind) (addr : ℕ) (reach : Reach) (shown : Found) (run : Su
       let behind : addr ≤ other = from.behind other sum kept in
       let below : is_below reach.until (sum_key other) ≡ true = from.below other sum kept in
       let less : key_number (sum_key addr) ≤ key_number (sum_key other) = omega (arith, behind) in
-      let there : (exec B (le {S = ⊥} root (sum_key other))).ending ≡ Ok (Some (item_of shown)) = ap (λ (r : Run Want Fault ⊥ _). r.ending) (same (sum_key other) less below) ∙ found ∙ ap (λ o. Ok (option_map item_of o)) is_there in
+      let there : (exec B (le {S = ⊥} root (sum_key other))).ending ≡ Ok (Some (item_of shown)) =
+      ap (λ (r : Run Want Fault ⊥ _). r.ending) (same (sum_key other) less below) ∙ found ∙ ap (λ o. Ok (option_map item_of o)) is_there in
       subst (λ k. (exec B (sum_under k root other)).ending ≡ Ok (Some sum)) (sym from.of_kind)
       (bind_ending B (le root (sum_key other)) (sum_found kind other) (Some (item_of shown)) (Ok (Some sum)) there
       (run_found kind other (item_of shown) run B sum sums is (from.same other sum kept)))

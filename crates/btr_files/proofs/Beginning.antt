@@ -83,7 +83,8 @@ module _ (kind : SumKind) (source : Source) where
     treats_goes : (p : RangeProg) (at end : ℕ) (q : Pieces) → Treats kind source Bs (given at end) (exec (Bs 0) p) q
         → GoesTo Bs (pieces kind source.sums source.nosum source.size at (extents_in end p)) q
     treats_goes p at end q h =
-        let t : GoesTo Bs (thread (item_pieces kind source) given_end (given at end) p) h.0 = goes_thread Bs (item_pieces kind source) given_end (given at end) p (exec (Bs 0) p) h.0 (goes_map Bs 0 p) h.1 in
+        let t : GoesTo Bs (thread (item_pieces kind source) given_end (given at end) p) h.0 =
+        goes_thread Bs (item_pieces kind source) given_end (given at end) p (exec (Bs 0) p) h.0 (goes_map Bs 0 p) h.1 in
         subst (λ (x : Program Piece ℕ). GoesTo Bs (bind x (zeros_to_end kind source)) q) (sym (thread_as p at end))
         (goes_bind Bs (zeros_to_end kind source) (thread (item_pieces kind source) given_end (given at end) p) h.0 q t h.2)
 
@@ -104,7 +105,9 @@ module _ (kind : SumKind) (source : Source) (tree : TreeRoot) (ino : ℕ) (rest 
   pub begins_empty : (q : Pieces) → source.size ≡ 0 → todo ≡ Over → LeftBy kind source Bs (Bs 0) begun q
       → GoesTo Bs (content kind source.sums source.nosum source.size tree ino) q
   begins_empty q none is h =
-      let h' : Then kind source Bs (Return (Err 0)) (exec (Bs 0) (rest_left (Bs 0) rest)) q = subst (λ (t : Todo). Then kind source Bs (todo_prog kind source 0 0 (inline_of (met_last (Bs 0) rest)) t) (exec (Bs 0) (rest_left (Bs 0) rest)) q) is h in
+      let h' : Then kind source Bs (Return (Err 0)) (exec (Bs 0) (rest_left (Bs 0) rest)) q =
+      subst (λ (t : Todo). Then kind source Bs (todo_prog kind source 0 0 (inline_of (met_last (Bs 0) rest)) t) (exec (Bs 0) (rest_left (Bs 0) rest)) q)
+      is h in
       let e : GoesTo Bs (gap (source.size - 0) (Return tt)) q = of_then kind source Bs (Err 0) (exec (Bs 0) (rest_left (Bs 0) rest)) q h' in
       let z : source.size - 0 ≡ 0 = omega (arith, none) in
       subst (λ (b : Bool). Content b q) (sym (zero_test source.size none)) (subst (λ (n : ℕ). GoesTo Bs (gap n (Return tt)) q) z e)
@@ -112,14 +115,18 @@ module _ (kind : SumKind) (source : Source) (tree : TreeRoot) (ino : ℕ) (rest 
   pub begins_some : (q : Pieces) → (source.size ≡ 0 → ⊥) → todo ≡ Next → rest_left (Bs 0) rest ≡ range (key ino 108 0) (key ino 108 last) tree.place
       → LeftBy kind source Bs (Bs 0) begun q → GoesTo Bs (content kind source.sums source.nosum source.size tree ino) q
   begins_some q some is program h =
-      let h' : Then kind source Bs (Return (Ok (given 0 0))) (exec (Bs 0) (rest_left (Bs 0) rest)) q = subst (λ (t : Todo). Then kind source Bs (todo_prog kind source 0 0 (inline_of (met_last (Bs 0) rest)) t) (exec (Bs 0) (rest_left (Bs 0) rest)) q) is h in
-      let t : Treats kind source Bs (given 0 0) (exec (Bs 0) (rest_left (Bs 0) rest)) q = of_then kind source Bs (Ok (given 0 0)) (exec (Bs 0) (rest_left (Bs 0) rest)) q h' in
+      let h' : Then kind source Bs (Return (Ok (given 0 0))) (exec (Bs 0) (rest_left (Bs 0) rest)) q =
+      subst (λ (t : Todo). Then kind source Bs (todo_prog kind source 0 0 (inline_of (met_last (Bs 0) rest)) t) (exec (Bs 0) (rest_left (Bs 0) rest)) q)
+      is h in
+      let t : Treats kind source Bs (given 0 0) (exec (Bs 0) (rest_left (Bs 0) rest)) q =
+      of_then kind source Bs (Ok (given 0 0)) (exec (Bs 0) (rest_left (Bs 0) rest)) q h' in
       subst (λ (b : Bool). Content b q) (sym (some_test source.size some))
       (treats_goes kind source Bs (range (key ino 108 0) (key ino 108 last) tree.place) 0 0 q
       (subst (λ (x : RangeProg). Treats kind source Bs (given 0 0) (exec (Bs 0) x) q) program t))
 
 -- at the beginning no block was read
-pub going_begun : (B : Map) (rest : Rest) (todo : Todo) (lo hi : Key) → rest.lo ≡ lo → rest.hi ≡ hi → IsOn lo hi B [] rest.place → IsInline (met_last B rest) todo → IsGoing B [] (record { rest = rest; at = 0; end = 0; todo = todo })
+pub going_begun : (B : Map) (rest : Rest) (todo : Todo) (lo hi : Key) → rest.lo ≡ lo → rest.hi ≡ hi → IsOn lo hi B [] rest.place
+    → IsInline (met_last B rest) todo → IsGoing B [] (record { rest = rest; at = 0; end = 0; todo = todo })
 going_begun B rest todo lo hi same_lo same_hi on inline = record {
   rest = subst (λ (k : Key). IsOn k rest.hi B [] rest.place) (sym same_lo) (subst (λ (k : Key). IsOn lo k B [] rest.place) (sym same_hi) on);
   inline = inline;

@@ -25,7 +25,7 @@ use Rattle.btr_files.specs.FileAt.{covers, byte_in, file_at, bytes_of, IsSectorL
 use Rattle.btr_files.proofs.Binds.{bind_assoc}
 use Rattle.btr_files.proofs.Extending.{test_lt, is_le, extent_known}
 use Rattle.btr_files.proofs.Fills.{Fills, Marks, bytes_in, fills_marks, fills_as, fills_last}
-use Rattle.btr_files.proofs.ExtentBytes.{byte, Puts, puts_clear}
+use Rattle.btr_files.proofs.ExtentBytes.{byte, PutsExtent, puts_clear}
 
 is_in : (m n : ℕ) → nat_lt m n ≡ true → m < n
 is_in m n h = grind (arith, nat_tests)
@@ -53,7 +53,8 @@ module _ (B : Map) where
         (go_on on))) ≡ None
     none_order fields true e =
         let le : end ≤ item.key.offset = is_le end item.key.offset e in
-        let out : covers p (extent item fields) ≡ false = ap (λ (b : Bool). b && nat_lt p (end_of item.key.offset fields)) (test_lt p item.key.offset (omega (arith, lt, le))) in
+        let out : covers p (extent item fields) ≡ false =
+        ap (λ (b : Bool). b && nat_lt p (end_of item.key.offset fields)) (test_lt p item.key.offset (omega (arith, lt, le))) in
         ap (λ (b : Bool). cond b (Some (extent item fields)) (find (covers p) (steps B (on (end_of item.key.offset fields))))) out
         ∙ ih (end_of item.key.offset fields) p (omega (arith, lt, le))
     none_order fields false e = refl
@@ -82,7 +83,8 @@ module _ (g : Extent → ℕ) (x : Extent) (o : Option Extent) where
   first_gone true z e = e refl ∙ sym z
   first_gone false z e = refl
 
-module _ (B : Map) (kind : SumKind) (sums : Option TreeRoot) (nosum : Bool) (size : ℕ) (whole : (want : Want) (bytes : List ℕ) → B want ≡ Ok bytes → IsSectorLong want bytes) where
+module _ (B : Map) (kind : SumKind) (sums : Option TreeRoot) (nosum : Bool) (size : ℕ)
+    (whole : (want : Want) (bytes : List ℕ) → B want ≡ Ok bytes → IsSectorLong want bytes) where
   -- ---- the extents of some items
   abbrev at_end : ℕ → Unit {0} → ℕ
   at_end at u = at
@@ -139,7 +141,7 @@ module _ (B : Map) (kind : SumKind) (sums : Option TreeRoot) (nosum : Bool) (siz
       gone p z = first_gone (λ y. byte_in B kind sums nosum p y y.fields.shape) x (find (covers p) xs) (covers p x) z (λ e. none_else p (covered p e))
 
       abbrev Put : Result ℕ ℕ → List ℕ → Type 0
-      Put = Puts byte_x size end_x at
+      Put = PutsExtent byte_x size end_x at
 
       filled_by : (ms : Marks) (e : Result (Result ℕ ℕ) Fault) → ((r : Result ℕ ℕ) → e ≡ Ok r → Put r (bytes_in ms))
           → Filled (bytes_at (x ∷ xs)) at (after ms e (λ r. exec B (bind (go_on K r) zeros)))

@@ -45,14 +45,15 @@ Ends size end (Ok at) = Unit {0}
 Ends size end (Err at) = size ≤ end
 
 -- the bytes of an extent that ends at a position, by a function that says what byte each position has
-pub record Puts (f : ℕ → ℕ) (size end at : ℕ) (r : Result ℕ ℕ) (bytes : List ℕ) : Type 0 where
+pub record PutsExtent (f : ℕ → ℕ) (size end at : ℕ) (r : Result ℕ ℕ) (bytes : List ℕ) : Type 0 where
   pub fills : Fills f at (reached r) bytes
   pub within : reached r ≤ size
   pub short : reached r ≤ end
   pub over : (p : ℕ) → reached r ≤ p → p < size → f p ≡ 0
   pub ends : Ends size end r
 
-module _ (B : Map) (kind : SumKind) (sums : Option TreeRoot) (nosum : Bool) (size : ℕ) (whole : (want : Want) (bytes : List ℕ) → B want ≡ Ok bytes → IsSectorLong want bytes) where
+module _ (B : Map) (kind : SumKind) (sums : Option TreeRoot) (nosum : Bool) (size : ℕ)
+    (whole : (want : Want) (bytes : List ℕ) → B want ≡ Ok bytes → IsSectorLong want bytes) where
   -- ---- one extent
   module _ (x : Extent) (at : ℕ) where
     abbrev pub end : ℕ
@@ -89,7 +90,7 @@ module _ (B : Map) (kind : SumKind) (sums : Option TreeRoot) (nosum : Bool) (siz
 
     module _ (low : at ≤ size) (order : at ≤ x.start) where
       abbrev pub PutsBy : Result ℕ ℕ → List ℕ → Type 0
-      PutsBy = Puts byte size end at
+      PutsBy = PutsExtent byte size end at
 
       puts_none : ((p : ℕ) → byte p ≡ 0) → PutsBy (Ok at) []
       puts_none none = record {
@@ -221,7 +222,8 @@ module _ (B : Map) (kind : SumKind) (sums : Option TreeRoot) (nosum : Bool) (siz
                 let same = exec-bind B told (λ u. Return (on_at size end)) in
                 let ended : (exec B regular).ending ≡ Ok r = sym (gap_ends B (x.start - at) regular) ∙ e in
                 let g = regular_run s.marks s.ending regular_fills r (ap (λ (q : Run Want Fault Piece (Result ℕ ℕ)). q.ending) (sym same) ∙ ended) in
-                let filled : Fills byte x.start (min end size) (bytes_in (exec B regular).marks) = subst (λ (q : Run Want Fault Piece (Result ℕ ℕ)). Fills byte x.start (min end size) (bytes_in q.marks)) (sym same) g.1 in
+                let filled : Fills byte x.start (min end size) (bytes_in (exec B regular).marks) =
+                subst (λ (q : Run Want Fault Piece (Result ℕ ℕ)). Fills byte x.start (min end size) (bytes_in q.marks)) (sym same) g.1 in
                 subst (λ (a : Result ℕ ℕ). PutsBy a (bytes_in (exec B (gap (x.start - at) regular)).marks)) g.0
                 (puts_on (bytes_in (exec B (gap (x.start - at) regular)).marks)
                 (fills_gap byte B at x.start (min end size) regular order (λ p le lt. byte_before p lt) filled))
@@ -237,7 +239,8 @@ module _ (B : Map) (kind : SumKind) (sums : Option TreeRoot) (nosum : Bool) (siz
         puts_shape : (stored : List ℕ) → x.inline ≡ inline_data stored → judged x.fields ≡ Clear → (s : Shape) → x.fields.shape ≡ s → Known stored s
             → Puts_by (exec B (shaped kind sums nosum size at x s))
         puts_shape stored same clear (Inline len) is k r h =
-            let all : end ≡ x.start + len = ap (λ (s : Shape). x.start + file_len x.fields s) is ∙ ap (λ (b : Bool). x.start + cond b len x.fields.ram) (plain x.fields clear) in
+            let all : end ≡ x.start + len =
+            ap (λ (s : Shape). x.start + file_len x.fields s) is ∙ ap (λ (b : Bool). x.start + cond b len x.fields.ram) (plain x.fields clear) in
             let cut = length-drop 21 stored in
             inline_if len is all (ap length same ∙ omega (arith, cut, k)) (len == 0) refl r h
         puts_shape stored same clear (Regular addr disk_len skip len) is k r h =

@@ -32,7 +32,10 @@ map_next g h (Go st) = Go (g st)
 map_next g h (End r) = End (h r)
 map_next g h Broken = Broken
 
-module _ {St' R' St R : Type 0} (body : St' → TreeItem → Lookup (Result St' R')) (done : St' → Unit {0} → R') (next : St' → TreeItem → Next St' R') (step : St → TreeItem → Next St R) (answer : St → R) (g : St' → St) (h : R' → R) (is_next : (st : St') (item : TreeItem) → body st item ≡ next_prog item.leaf (next st item)) (is_step : (st : St') (item : TreeItem) → step (g st) item ≡ map_next g h (next st item)) (is_answer : (st : St') → answer (g st) ≡ h (done st tt)) where
+module _ {St' R' St R : Type 0} (body : St' → TreeItem → Lookup (Result St' R')) (done : St' → Unit {0} → R') (next : St' → TreeItem → Next St' R')
+    (step : St → TreeItem → Next St R) (answer : St → R) (g : St' → St) (h : R' → R)
+    (is_next : (st : St') (item : TreeItem) → body st item ≡ next_prog item.leaf (next st item))
+    (is_step : (st : St') (item : TreeItem) → step (g st) item ≡ map_next g h (next st item)) (is_answer : (st : St') → answer (g st) ≡ h (done st tt)) where
   abbrev value : R' → Lookup R
   value r = Return (h r)
 

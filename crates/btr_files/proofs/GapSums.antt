@@ -1,5 +1,6 @@
 -- Sectors that have no checksum, by one lookup.
-use Rattle.std.proofs.Common.{◌≡◌, ℕ, zero, suc, ◌+◌, ◌-◌, ◌*◌, ◌/◌, ◌<◌, ◌≤◌, Bool, true, false, cond, leb, ltb, List, drop, Option, Some, None, Result, Ok, Err}
+use Rattle.std.proofs.Common.{◌≡◌, ℕ, zero, suc, ◌+◌, ◌-◌, ◌*◌, ◌/◌, ◌<◌, ◌≤◌, Bool, true, false, cond, leb, ltb, List, drop, Option, Some, None}
+use Rattle.std.proofs.Common.{Result, Ok, Err}
 use Rattle.std.proofs.Common.{refl, sym, ap, ◌∙◌, subst, arith}
 use Rattle.std.proofs.lemmas.Bool.{and_parts, eqb-true, ltb-true}
 use Rattle.btr_base.specs.Key.{key_number}
@@ -95,6 +96,7 @@ gap_read kind addr below n reach bound few judged B sums ended same = each
         let other : ℕ = addr + suc i * 4096 in
         let behind : addr ≤ other = omega arith in
         let within : suc i < below = few (suc i) (omega arith) lt in
-        let there : (exec B (le {S = ⊥} sums.place (sum_key other))).ending ≡ Ok (item_reached reach) = ap (λ (r : Run Want Fault ⊥ _). r.ending) (same (sum_key other) (omega (arith, behind)) (bound other behind (omega (arith, within)))) ∙ ended in
+        let there : (exec B (le {S = ⊥} sums.place (sum_key other))).ending ≡ Ok (item_reached reach) =
+        ap (λ (r : Run Want Fault ⊥ _). r.ending) (same (sum_key other) (omega (arith, behind)) (bound other behind (omega (arith, within)))) ∙ ended in
         bind_ending B (le sums.place (sum_key other)) (sum_found kind other) (item_reached reach) (Ok None) there
         (none_found kind addr other behind B (item_reached reach) low none)

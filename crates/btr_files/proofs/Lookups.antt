@@ -30,7 +30,8 @@ abbrev searching : Unit {0} → InodeSearch
 searching u = record {}
 
 -- the inode
-pub inode_as : (p : RangeProg) → thread (λ (u : Unit {0}) (item : TreeItem). formed item (inode_of item.body) (λ (inode : Inode). Return (Err (Some inode)))) (λ u v. None) tt p ≡ folded_over inode_step (λ s. None) (record {}) p
+pub inode_as : (p : RangeProg) → thread (λ (u : Unit {0}) (item : TreeItem). formed item (inode_of item.body)
+    (λ (inode : Inode). Return (Err (Some inode)))) (λ u v. None) tt p ≡ folded_over inode_step (λ s. None) (record {}) p
 inode_as p =
     sym (bind-return (thread (λ (u : Unit {0}) (item : TreeItem). formed item (inode_of item.body) (λ (inode : Inode). Return (Err (Some inode))))
     (λ u v. None) tt p))
@@ -51,7 +52,8 @@ module _ (wanted : Wanted) where
   link_body found item = bind (formed item (links_of item.key item.body) (λ more. Return (found ++ more))) (λ st. Return (Ok st))
 
   link_body_is : (found : List Link) (item : TreeItem) (r : Result (List Link) ItemFault) →
-      let p : Lookup (Result (List Link) (List Link)) = bind (formed item r (λ more. Return (found ++ more))) (λ st. Return (Ok st)) in p ≡ next_prog item.leaf (formed_next r (λ more. Go (found ++ more)))
+      let p : Lookup (Result (List Link) (List Link)) =
+      bind (formed item r (λ more. Return (found ++ more))) (λ st. Return (Ok st)) in p ≡ next_prog item.leaf (formed_next r (λ more. Go (found ++ more)))
   link_body_is found item (Ok more) = refl
   link_body_is found item (Err fault) = refl
 
@@ -62,8 +64,11 @@ module _ (wanted : Wanted) where
   linked_as p =
       fold_as link_body (λ found u. found) link_next link_step (λ s. is_one s.met) link_search (is_link (link_in wanted))
       (λ found item. link_body_is found item (links_of item.key item.body))
-      (λ found item. formed_map link_search (is_link (link_in wanted)) (λ more. Go (found ++ more)) (λ more. Go (record { wanted = wanted; met = met_links (link_in wanted) (met_links (link_in wanted) met.None found) more })) (links_of item.key item.body)
-      (λ more. ap (λ (m : Met). Go (record { wanted = wanted; met = m })) (sym (fold-append (λ seen found'. met_more seen (same_link found' (link_in wanted))) met.None found more))))
+      (λ found item. formed_map link_search (is_link (link_in wanted)) (λ more. Go (found ++ more))
+      (λ more. Go (record { wanted = wanted; met = met_links (link_in wanted) (met_links (link_in wanted) met.None found) more }))
+      (links_of item.key item.body)
+      (λ more. ap (λ (m : Met). Go (record { wanted = wanted; met = m }))
+      (sym (fold-append (λ seen found'. met_more seen (same_link found' (link_in wanted))) met.None found more))))
       (λ found. one_is_link (link_in wanted) found) p []
 
 module _ (tree : ℕ) (wanted : Wanted) where
@@ -80,7 +85,9 @@ module _ (tree : ℕ) (wanted : Wanted) where
   mount_body found item = bind (formed item (root_ref_of item.body) (λ part. Return (found ++ mount_of item.key item.body part ∷ []))) (λ st. Return (Ok st))
 
   mount_body_is : (found : List Mount) (item : TreeItem) (r : Result RootRef ItemFault) →
-      let p : Lookup (Result (List Mount) (List Mount)) = bind (formed item r (λ part. Return (found ++ mount_of item.key item.body part ∷ []))) (λ st. Return (Ok st)) in p ≡ next_prog item.leaf (formed_next r (λ part. Go (found ++ mount_of item.key item.body part ∷ [])))
+      let p : Lookup (Result (List Mount) (List Mount)) =
+      bind (formed item r (λ part. Return (found ++ mount_of item.key item.body part ∷ []))) (λ st. Return (Ok st)) in
+      p ≡ next_prog item.leaf (formed_next r (λ part. Go (found ++ mount_of item.key item.body part ∷ [])))
   mount_body_is found item (Ok part) = refl
   mount_body_is found item (Err fault) = refl
 
@@ -92,6 +99,12 @@ module _ (tree : ℕ) (wanted : Wanted) where
       fold_as mount_body (λ found u. found) mount_next mount_step (λ s. is_one s.met) mount_search (is_mount Wants)
       (λ found item. mount_body_is found item (root_ref_of item.body))
       (λ found item. formed_map mount_search (is_mount Wants) (λ part. Go (found ++ mount_of item.key item.body part ∷ []))
-      (λ part. Go (record { tree = tree; wanted = wanted; met = met_more (met_mounts Wants met.None found) (same_mount (mount_of item.key item.body part) Wants) })) (root_ref_of item.body)
-      (λ part. ap (λ (m : Met). Go (record { tree = tree; wanted = wanted; met = m })) (sym (fold-append (λ seen found'. met_more seen (same_mount found' Wants)) met.None found (mount_of item.key item.body part ∷ [])))))
+      (λ part. Go (record {
+        tree = tree;
+        wanted = wanted;
+        met = met_more (met_mounts Wants met.None found)
+            (same_mount (mount_of item.key item.body part) Wants);
+      })) (root_ref_of item.body)
+      (λ part. ap (λ (m : Met). Go (record { tree = tree; wanted = wanted; met = m }))
+      (sym (fold-append (λ seen found'. met_more seen (same_mount found' Wants)) met.None found (mount_of item.key item.body part ∷ [])))))
       (λ found. one_is_mount Wants found) p []

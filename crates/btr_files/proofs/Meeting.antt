@@ -32,21 +32,25 @@ module _ (wanted : Link) where
     met_if seen true links = Some (met_links wanted seen links)
     met_if seen false links = None
 
-    pub parts_are_met : (seen : Met) (parts : List (Result T ItemFault)) → parts_met wanted of seen parts ≡ met_if seen (list_all is_ok parts) (map of (filter_map result_ok parts))
+    pub parts_are_met : (seen : Met) (parts : List (Result T ItemFault))
+        → parts_met wanted of seen parts ≡ met_if seen (list_all is_ok parts) (map of (filter_map result_ok parts))
     parts_are_met seen [] = refl
     parts_are_met seen (Ok part ∷ parts) = parts_are_met (met_more seen (same_link (of part) wanted)) parts ∙ more (list_all is_ok parts)
       where
-        more : (b : Bool) → met_if (met_more seen (same_link (of part) wanted)) b (map of (filter_map result_ok parts)) ≡ met_if seen b (of part ∷ map of (filter_map result_ok parts))
+        more : (b : Bool) → met_if (met_more seen (same_link (of part) wanted)) b (map of (filter_map result_ok parts))
+            ≡ met_if seen b (of part ∷ map of (filter_map result_ok parts))
         more true = refl
         more false = refl
     parts_are_met seen (Err fault ∷ parts) = refl
 
     -- one part more was looked at
-    pub part_more : (seen next : Met) (parts rest : List (Result T ItemFault)) (read : Result T ItemFault) (part : T) → parts ≡ read ∷ rest → read ≡ Ok part → next ≡ met_more seen (same_link (of part) wanted) → parts_met wanted of next rest ≡ parts_met wanted of seen parts
+    pub part_more : (seen next : Met) (parts rest : List (Result T ItemFault)) (read : Result T ItemFault) (part : T) → parts ≡ read ∷ rest → read ≡ Ok part
+        → next ≡ met_more seen (same_link (of part) wanted) → parts_met wanted of next rest ≡ parts_met wanted of seen parts
     part_more seen next parts rest read part e r n =
         ap (λ (m : Met). parts_met wanted of m rest) n ∙ sym (ap (parts_met wanted of seen) (e ∙ ap (λ x. x ∷ rest) r))
 
-    pub part_broken : (seen : Met) (parts rest : List (Result T ItemFault)) (read : Result T ItemFault) (fault : ItemFault) → parts ≡ read ∷ rest → read ≡ Err fault → None ≡ parts_met wanted of seen parts
+    pub part_broken : (seen : Met) (parts rest : List (Result T ItemFault)) (read : Result T ItemFault) (fault : ItemFault) → parts ≡ read ∷ rest
+        → read ≡ Err fault → None ≡ parts_met wanted of seen parts
     part_broken seen parts rest read fault e r = sym (ap (parts_met wanted of seen) (e ∙ ap (λ x. x ∷ rest) r))
 
     by_test : (seen : Met) (links : List T) (b : Bool) → met_if seen b (map of links) ≡ links_met wanted seen (map_ok (map of) (fields_if b links))
@@ -57,7 +61,8 @@ module _ (wanted : Link) where
     some_is body h = grind (arith, nat_tests)
 
     -- what was met of the parts of a body that isn't empty
-    pub names_are : (seen : Met) (body : List ℕ) (parts : List (Result T ItemFault)) → (length body == 0) ≡ false → parts_met wanted of seen parts ≡ links_met wanted seen (map_ok (map of) (parts_of body parts))
+    pub names_are : (seen : Met) (body : List ℕ) (parts : List (Result T ItemFault)) → (length body == 0) ≡ false
+        → parts_met wanted of seen parts ≡ links_met wanted seen (map_ok (map of) (parts_of body parts))
     names_are seen body parts h =
         parts_are_met seen parts
         ∙ by_test seen (filter_map result_ok parts) (list_all is_ok parts)

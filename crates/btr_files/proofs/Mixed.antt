@@ -167,7 +167,8 @@ module _ {W F S A : Type 0} (plain : W → Bool) (Fits : W → List ℕ → Type
   -- where a want has a fault, it has that under each map
   mix_fault : (w : W) (k : List ℕ → Prog W F S A) (i : ℕ) (f : F) → Bs i w ≡ Err f → IsMix (Need w k) (first (Wants w) (run [] (Err f)))
   mix_fault w k i f got =
-      let there : (n : ℕ) → exec (Bs n) (Need w k) ≡ first (Wants w) (run [] (Err f)) = λ n. ap (λ x. first (Wants w) (given x (λ bytes. exec (Bs n) (k bytes)))) (lacks n) in
+      let there : (n : ℕ) → exec (Bs n) (Need w k) ≡ first (Wants w) (run [] (Err f)) =
+      λ n. ap (λ x. first (Wants w) (given x (λ bytes. exec (Bs n) (k bytes)))) (lacks n) in
       (λ n. ap (λ (r : Run W F S A). steps_of r.marks) (there n), λ n. ap (λ (r : Run W F S A). r.ending) (there n))
     where
       lacks_first : (z : Result (List ℕ) F) → Bs 0 w ≡ z → Bs 0 w ≡ Err f

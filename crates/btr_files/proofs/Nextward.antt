@@ -31,7 +31,8 @@ use Rattle.btr_files.proofs.Rows.{scan_of, rest_is}
 pub rest_more : (B : Map) (seen more : List Want) (rest : Rest) → IsRestOn B seen rest → IsRestOn B (seen ++ more) rest
 rest_more B seen more rest on = on_more rest.lo rest.hi B seen more rest.place on
 
-module _ (source : Source) (Is : UnreadBlock → Want → Type 0) (B : Map) (old new : Blocks) (p : Progress) (scan scan' : Scan) (is : scan ≡ scan_of p.rest) (next : p.todo ≡ Next) where
+module _ (source : Source) (Is : UnreadBlock → Want → Type 0) (B : Map) (old new : Blocks) (p : Progress) (scan scan' : Scan) (is : scan ≡ scan_of p.rest)
+    (next : p.todo ≡ Next) where
   to_left : (kind : SumKind) (Bs : ℕ → Map) (q : Pieces) → Onward kind source Bs p.at p.end (exec B (left_of B old scan)) q → LeftBy kind source Bs B p q
   to_left kind Bs q h =
       let same : left_of B old scan ≡ rest_left B p.rest = ap (left_of B old) is ∙ sym (rest_is B old p.rest) in
@@ -44,7 +45,8 @@ module _ (source : Source) (Is : UnreadBlock → Want → Type 0) (B : Map) (old
   pub looked_err : (f : TreeFault) → IsNextExtent source Is B old new scan scan' p.end (Err f) → IsLooked source Is B p (Err f)
   looked_err f n seen going kind Bs = let h = n seen (on_scan seen going) kind Bs p.at in (h.0, to_left kind Bs h.0 h.1, h.2)
 
-  pub looked_none : IsNextExtent source Is B old new scan scan' p.end (Ok None) → IsLooked source Is B p (Ok (record { rest = p.rest; at = p.at; end = p.end; todo = Over }))
+  pub looked_none : IsNextExtent source Is B old new scan scan' p.end (Ok None)
+      → IsLooked source Is B p (Ok (record { rest = p.rest; at = p.at; end = p.end; todo = Over }))
   looked_none n seen going =
       let o = n seen (on_scan seen going) in
       record {
@@ -54,18 +56,23 @@ module _ (source : Source) (Is : UnreadBlock → Want → Type 0) (B : Map) (old
       }
 
   module _ (lo : scan'.lo ≡ scan.lo) (hi : scan'.hi ≡ scan.hi) (rest : Rest) (r : Rests new scan' rest) where
-    pub looked_some : (ahead : Ahead) → IsSomeAnd scan'.leaf (λ l. (0 < l.next) × (l.next ≤ l.end)) → IsNextExtent source Is B old new scan scan' p.end (Ok (Some ahead)) → IsLooked source Is B p (Ok (record { rest = rest; at = p.at; end = ahead.end; todo = ahead.todo }))
+    pub looked_some : (ahead : Ahead) → IsSomeAnd scan'.leaf (λ l. (0 < l.next) × (l.next ≤ l.end))
+        → IsNextExtent source Is B old new scan scan' p.end (Ok (Some ahead))
+        → IsLooked source Is B p (Ok (record { rest = rest; at = p.at; end = ahead.end; todo = ahead.todo }))
     looked_some ahead kept n seen going =
         let o = n seen (on_scan seen going) in
         let held : HoldsLeaf B (seen ++ o.past) new scan' = o.held (subst (HoldsLeaf B seen old) (sym is) tt) in
         let met : met_last B rest ≡ Some o.item = r.met B (seen ++ o.past) o.item held kept o.met in
         let program : rest_left B rest ≡ left_of B new scan' = r.program B (seen ++ o.past) held in
         let on' : IsOn scan'.lo scan'.hi B (seen ++ o.past) scan'.place =
-        subst (λ (k : Key). IsOn k scan'.hi B (seen ++ o.past) scan'.place) (sym lo) (subst (λ (k : Key). IsOn scan.lo k B (seen ++ o.past) scan'.place) (sym hi) o.on) in
+        subst (λ (k : Key). IsOn k scan'.hi B (seen ++ o.past) scan'.place) (sym lo)
+        (subst (λ (k : Key). IsOn scan.lo k B (seen ++ o.past) scan'.place) (sym hi) o.on) in
         record {
           past = o.past;
           goes = λ kind Bs q h.
-              let a : Then kind source Bs (todo_prog kind source p.at ahead.end (inline_of (Some o.item)) ahead.todo) (exec B (rest_left B rest)) q = subst (λ (x : Option TreeItem). Then kind source Bs (todo_prog kind source p.at ahead.end (inline_of x) ahead.todo) (exec B (rest_left B rest)) q) met h in
+              let a : Then kind source Bs (todo_prog kind source p.at ahead.end (inline_of (Some o.item)) ahead.todo) (exec B (rest_left B rest)) q =
+              subst (λ (x : Option TreeItem). Then kind source Bs (todo_prog kind source p.at ahead.end (inline_of x) ahead.todo)
+              (exec B (rest_left B rest)) q) met h in
               to_left kind Bs _ (o.goes kind Bs p.at q (subst
               (λ (x : RangeProg). Then kind source Bs (todo_prog kind source p.at ahead.end (inline_data o.item.body) ahead.todo) (exec B x) q) program a));
           on = record { rest = r.on B (seen ++ o.past) held on'; inline = subst (λ (x : Option TreeItem). IsInline x ahead.todo) (sym met) o.inline };

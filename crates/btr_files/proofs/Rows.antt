@@ -45,7 +45,7 @@ use Rattle.btr_files.specs.declared.dir_row.DirRow.{DirRow}
 use Rattle.btr_files.specs.declared.name.NameBuf.{NameBuf}
 use Rattle.btr_files.specs.Entries.{DirEntry, entries_in, entry_of}
 use Rattle.btr_files.specs.declared.dir.Dir.{Dir}
-use Rattle.btr_files.specs.Listing.{named_row, IsRow, IsRowBy, GivesRow, EndsRows, NextRowBy, IsNextRow, IsNextEntry, RowNears}
+use Rattle.btr_files.specs.Listing.{named_row, IsRow, IsRowBy, GivesRow, EndsRows, NextRowBy, IsNextRow, IsNextEntry, RowRankFalls}
 
 abbrev Items : Type 0
 Items = Run Want fate.Fault TreeItem (Unit {0})
@@ -200,7 +200,7 @@ pub row_cause : (layout : Layout) (a b : Seen) (item : TreeItem) (name : NameBuf
     → HasCause layout a b result
 row_cause layout a b item name result h = by_row layout a b item name (index_entry_of item.body) result h
 
-pub row_nears : (scan scan' : Scan) (result : Result (Option DirRow) TreeFault) → rank_of scan' < rank_of scan → RowNears scan scan' result
+pub row_nears : (scan scan' : Scan) (result : Result (Option DirRow) TreeFault) → rank_of scan' < rank_of scan → RowRankFalls scan scan' result
 row_nears scan scan' (Ok (Some row)) h = h
 row_nears scan scan' (Ok None) h = tt
 row_nears scan scan' (Err f) h = tt

@@ -24,7 +24,8 @@ use Rattle.btr_files.proofs.Fills.{Fills, bytes_in, quiet_none, fills_none, fill
 abbrev Answer : Type 0 → Type 0
 Answer A = Run Want Fault Piece A
 
-module _ (B : Map) (kind : SumKind) (sums : Option TreeRoot) (nosum : Bool) (size : ℕ) (whole : (want : Want) (bytes : List ℕ) → B want ≡ Ok bytes → IsSectorLong want bytes) where
+module _ (B : Map) (kind : SumKind) (sums : Option TreeRoot) (nosum : Bool) (size : ℕ)
+    (whole : (want : Want) (bytes : List ℕ) → B want ≡ Ok bytes → IsSectorLong want bytes) where
   -- the byte at an address
   abbrev pub byte_at : ℕ → ℕ
   byte_at at = slice_index (sector_bytes B kind sums nosum (at - at % 4096)) (at % 4096)
@@ -49,7 +50,8 @@ module _ (B : Map) (kind : SumKind) (sums : Option TreeRoot) (nosum : Bool) (siz
         (sym (exec-bind B (sum_at kind sums addr) (λ sum. Return (want_by addr sum)))) ∙ h)
 
   -- one sector, from a position on
-  module _ (f : ℕ → ℕ) (addr from : ℕ) (aligned : addr % 4096 ≡ 0) (low : from ≤ size) (told : (p : ℕ) → from ≤ p → p < from + 4096 → f p ≡ byte_at (addr + (p - from))) where
+  module _ (f : ℕ → ℕ) (addr from : ℕ) (aligned : addr % 4096 ≡ 0) (low : from ≤ size)
+      (told : (p : ℕ) → from ≤ p → p < from + 4096 → f p ≡ byte_at (addr + (p - from))) where
     read_there : (bytes : List ℕ) → sector_bytes B kind sums nosum addr ≡ bytes → (i : ℕ) → i < 4096 → byte_at (addr + i) ≡ slice_index bytes i
     read_there bytes same i lt =
         let in_sector : (addr + i) % 4096 ≡ i = omega (arith, aligned, lt) in
@@ -135,5 +137,7 @@ module _ (B : Map) (kind : SumKind) (sums : Option TreeRoot) (nosum : Bool) (siz
       let same : from ≡ min (from + 0) size = omega (arith, low) in
       subst (λ (m : ℕ). Fills f from m []) same (fills_none f from)
   sectors_fill (suc n) f addr from left is aligned low high told ok =
-      let Goal : ℕ → Type 0 = λ l. (exec B (sectors kind sums nosum (suc n) addr l)).ending ≡ Ok tt → Fills f from (min (from + (suc n * 4096)) size) (bytes_in (exec B (sectors kind sums nosum (suc n) addr l)).marks) in
+      let Goal : ℕ → Type 0 =
+      λ l. (exec B (sectors kind sums nosum (suc n) addr l)).ending ≡ Ok tt
+      → Fills f from (min (from + (suc n * 4096)) size) (bytes_in (exec B (sectors kind sums nosum (suc n) addr l)).marks) in
       subst Goal (sym is) (sectors_more n (sectors_fill n) f addr from aligned low high told) ok

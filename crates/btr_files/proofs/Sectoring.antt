@@ -28,7 +28,7 @@ use Rattle.btr_files.specs.declared.streaming.Shown.TheVariants as shown
 use Rattle.btr_files.specs.declared.streaming.Span.TheVariants as span
 use Rattle.btr_files.specs.Content.{Piece, Bytes, sector_want, sectors}
 use Rattle.btr_files.specs.Streaming.{Given, behind_bytes, todo_prog, Then, LeftBy, IsGoing}
-use Rattle.btr_files.specs.Giving.{given_to, behind_end, behind_sector, SectorComes, IsGiven}
+use Rattle.btr_files.specs.Giving.{given_up_to, after_end, after_sector, SectorComes, IsGiven}
 use Rattle.btr_files.proofs.Binds.{bind_assoc}
 use Rattle.btr_files.proofs.Nextward.{rest_more}
 use Rattle.btr_files.proofs.Onwards.{Pieces, then_past, then_halts}
@@ -43,7 +43,8 @@ quiet_wants (Does s ∷ ms) = absurd s
 at_most_one : (n : ℕ) → nat_le n 1 ≡ true → n ≤ 1
 at_most_one n h = grind (arith, nat_tests)
 
-module _ (kind : SumKind) (source : Source) (Bs : ℕ → Map) (p : Progress) (part : SectorPart) (todo : p.todo ≡ Sectors part) (at_start : p.at ≡ part.start) (some : 0 < part.count) where
+module _ (kind : SumKind) (source : Source) (Bs : ℕ → Map) (p : Progress) (part : SectorPart) (todo : p.todo ≡ Sectors part) (at_start : p.at ≡ part.start)
+    (some : 0 < part.count) where
   abbrev more : ℕ
   more = part.count - 1
 
@@ -93,7 +94,7 @@ module _ (kind : SumKind) (source : Source) (Bs : ℕ → Map) (p : Progress) (p
   next_part = record { start = part.start + 4096; addr = part.addr + 4096; count = more }
 
   left_by : (b : Bool) (q : Pieces) → nat_le part.count 1 ≡ b
-      → LeftBy kind source Bs (Bs 0) (cond b (behind_end source.size p) (given_to p (part.start + 4096) (Sectors next_part))) q
+      → LeftBy kind source Bs (Bs 0) (cond b (after_end source.size p) (given_up_to p (part.start + 4096) (Sectors next_part))) q
       → Then kind source Bs S (ahead kind source Bs p) q
   left_by true q e h =
       let le = at_most_one part.count e in
@@ -105,11 +106,11 @@ module _ (kind : SumKind) (source : Source) (Bs : ℕ → Map) (p : Progress) (p
       (subst (λ (x : Program Piece (Result Given ℕ)). Then kind source Bs x (ahead kind source Bs p) q)
       (no_zeros ((part.start + 4096) - (part.start + 4096)) _ none) h)
 
-  left_behind : (q : Pieces) → LeftBy kind source Bs (Bs 0) (behind_sector source.size p part) q → Then kind source Bs S (ahead kind source Bs p) q
+  left_behind : (q : Pieces) → LeftBy kind source Bs (Bs 0) (after_sector source.size p part) q → Then kind source Bs S (ahead kind source Bs p) q
   left_behind q h = left_by (nat_le part.count 1) q refl h
 
   going_by : (seen past : List Want) (b : Bool) → IsGoing (Bs 0) seen p
-      → IsGoing (Bs 0) (seen ++ past) (cond b (behind_end source.size p) (given_to p (part.start + 4096) (Sectors next_part)))
+      → IsGoing (Bs 0) (seen ++ past) (cond b (after_end source.size p) (given_up_to p (part.start + 4096) (Sectors next_part)))
   going_by seen past true g = going_end kind source Bs p seen past g
   going_by seen past false g = record { rest = rest_more (Bs 0) seen past p.rest g.rest; inline = tt }
 
@@ -132,12 +133,14 @@ module _ (kind : SumKind) (source : Source) (Bs : ℕ → Map) (p : Progress) (p
       goes_whole b h =
           let r : Run Want fate.Fault Piece Want = quiet_run looked in
           let b1 = first (Wants want) b in
-          let all : GoesTo Bs (looks W K) (prepend (quiet_marks looked.marks) b1) = goes_bind Bs K (quiet W) r (prepend (quiet_marks looked.marks) b1) (quiet_goes Piece Bs W looked (goes_map Bs 0 W))
-          (subst (λ e. AfterTo (quiet_marks looked.marks) e (λ a. GoesTo Bs (K a)) (prepend (quiet_marks looked.marks) b1)) (sym wanted.1) (b1, refl, goes_want b h)) in
+          let all : GoesTo Bs (looks W K) (prepend (quiet_marks looked.marks) b1) =
+          goes_bind Bs K (quiet W) r (prepend (quiet_marks looked.marks) b1) (quiet_goes Piece Bs W looked (goes_map Bs 0 W))
+          (subst (λ e. AfterTo (quiet_marks looked.marks) e (λ a. GoesTo Bs (K a)) (prepend (quiet_marks looked.marks) b1)) (sym wanted.1)
+          (b1, refl, goes_want b h)) in
           subst (λ x. GoesTo Bs x (prepend (want_marks past) b)) (sym whole_is)
           (subst (GoesTo Bs (looks W K)) (ap (λ ms. prepend ms b1) (quiet_wants looked.marks) ∙ past_both (wants_of looked.marks) (want ∷ []) b) all)
 
-      left_from : (q : Pieces) → LeftBy kind source Bs (Bs 0) (behind_sector source.size p part) q
+      left_from : (q : Pieces) → LeftBy kind source Bs (Bs 0) (after_sector source.size p part) q
           → LeftBy kind source Bs (Bs 0) p (prepend (want_marks past) (first (Does given) q))
       left_from q h =
           left_as kind source Bs p (Sectors part) _ todo
@@ -146,7 +149,8 @@ module _ (kind : SumKind) (source : Source) (Bs : ℕ → Map) (p : Progress) (p
           (λ b go. goes_first Bs given (Emit given S) S b refl go) (left_behind q h)))
 
     -- its bytes are given
-    module _ (Is : UnreadBlock → Want → Type 0) (store : Blocks) (loan : Lent) (block : List ℕ) (is : block_of store loan ≡ Some block) (len : ℕ) (verified : Bool) (crc : Option ℕ) (len_is : len ≡ min left (length block)) (verified_is : verified ≡ not (is_plain want)) where
+    module _ (Is : UnreadBlock → Want → Type 0) (store : Blocks) (loan : Lent) (block : List ℕ) (is : block_of store loan ≡ Some block) (len : ℕ)
+        (verified : Bool) (crc : Option ℕ) (len_is : len ≡ min left (length block)) (verified_is : verified ≡ not (is_plain want)) where
       abbrev shown_by : Option (List ℕ) → Piece
       shown_by o = Bytes (take len (unwrap_or o [])) verified
 
@@ -157,7 +161,7 @@ module _ (kind : SumKind) (source : Source) (Bs : ℕ → Map) (p : Progress) (p
           ∙ ap shown_by (sym is)
 
       pub sector_given : SectorComes Is Bs want store (Ok loan)
-          → IsGiven kind source Is Bs p (behind_sector source.size p part) store (Ok (shown.Bytes loan (span.Sector len verified crc)))
+          → IsGiven kind source Is Bs p (after_sector source.size p part) store (Ok (shown.Bytes loan (span.Sector len verified crc)))
       sector_given h seen g =
           let came : Bs h.0 want ≡ Ok block = subst (λ o. IsSomeAnd o (λ b. Bs h.0 want ≡ Ok b)) is h.1 in
           record {
@@ -182,17 +186,23 @@ module _ (kind : SumKind) (source : Source) (Bs : ℕ → Map) (p : Progress) (p
       pub sector_lacked : (f : TreeFault) → SectorComes Is Bs want store (Err f) → IsGiven kind source Is Bs p p' store' (Err f)
       sector_lacked f h seen g =
           let r : Run Want fate.Fault Piece Want = quiet_run looked in
-          let all : Goes Is no_part seen Bs (looks W K) [] (Err (halt_of f)) = goes_then Bs Is no_part seen (quiet W) K r want [] [] (Err (halt_of f)) (quiet_goes Piece Bs W looked (goes_map Bs 0 W)) (quiet_follows Was no_part seen looked [] (Ok want) wanted) (want_halts (seen ++ wants_of r.marks) f h) in
-          let e = then_halts kind source Bs Is seen whole (ahead kind source Bs p) (halt_of f) (subst (λ x. Goes Is no_part seen Bs x [] (Err (halt_of f))) (sym whole_is) all) in
+          let all : Goes Is no_part seen Bs (looks W K) [] (Err (halt_of f)) =
+          goes_then Bs Is no_part seen (quiet W) K r want [] [] (Err (halt_of f)) (quiet_goes Piece Bs W looked (goes_map Bs 0 W))
+          (quiet_follows Was no_part seen looked [] (Ok want) wanted) (want_halts (seen ++ wants_of r.marks) f h) in
+          let e = then_halts kind source Bs Is seen whole (ahead kind source Bs p) (halt_of f)
+          (subst (λ x. Goes Is no_part seen Bs x [] (Err (halt_of f))) (sym whole_is) all) in
           (e.0, left_as kind source Bs p (Sectors part) e.0 todo e.1, e.2)
 
   -- the sum of the sector could not be had
   pub sum_lacked : (Is : UnreadBlock → Want → Type 0) (p' : Progress) (store : Blocks) (f : TreeFault)
       → Follows {S = ⊥} Is no_part [] (exec (Bs 0) W) [] (Err (halt_of f)) → IsGiven kind source Is Bs p p' store (Err f)
   sum_lacked Is p' store f h seen g =
-      let quietly : Goes Is no_part [] Bs (quiet W) [] (Err (halt_of f)) = goes_quiet Is no_part [] Bs W [] (Err (halt_of f)) (exec (Bs 0) W, goes_map Bs 0 W, h) in
-      let all : Goes Is no_part seen Bs (looks W K) [] (Err (halt_of f)) = goes_halt Bs Is no_part seen (quiet W) K 0 [] (halt_of f) (goes_alone Bs Is no_part seen (quiet W) [] (Err (halt_of f)) quietly) in
-      let e = then_halts kind source Bs Is seen whole (ahead kind source Bs p) (halt_of f) (subst (λ x. Goes Is no_part seen Bs x [] (Err (halt_of f))) (sym whole_is) all) in
+      let quietly : Goes Is no_part [] Bs (quiet W) [] (Err (halt_of f)) =
+      goes_quiet Is no_part [] Bs W [] (Err (halt_of f)) (exec (Bs 0) W, goes_map Bs 0 W, h) in
+      let all : Goes Is no_part seen Bs (looks W K) [] (Err (halt_of f)) =
+      goes_halt Bs Is no_part seen (quiet W) K 0 [] (halt_of f) (goes_alone Bs Is no_part seen (quiet W) [] (Err (halt_of f)) quietly) in
+      let e = then_halts kind source Bs Is seen whole (ahead kind source Bs p) (halt_of f)
+      (subst (λ x. Goes Is no_part seen Bs x [] (Err (halt_of f))) (sym whole_is) all) in
       (e.0, left_as kind source Bs p (Sectors part) e.0 todo e.1, e.2)
 
 -- less may be said of a sector that could not be read

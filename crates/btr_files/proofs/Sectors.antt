@@ -67,7 +67,8 @@ module _ (layout : Layout) (old new : Seen) (kind : SumKind) (sums : Option Tree
       ≡ sums → w ≡ want_with addr r → Looks layout old new (sum_at kind (tree_behind o) addr) r → Looks layout old new (sector_want kind sums nosum addr) w
   want_summed o r w tested same is h =
       let is_unread = unread_by layout old new in
-      let h' : Looks layout old new (sum_at kind sums addr) r = subst (λ (s : Option TreeRoot). Looks layout old new (sum_at kind s addr) r) (copied_is o ∙ same) h in
+      let h' : Looks layout old new (sum_at kind sums addr) r =
+      subst (λ (s : Option TreeRoot). Looks layout old new (sum_at kind s addr) r) (copied_is o ∙ same) h in
       subst (λ (b : Bool). Looks layout old new (cond b (Return (want.Plain addr)) by_sum) w) (sym tested)
       (subst (Looks layout old new by_sum) (sym is)
       (drawn layout (λ B. Follows {S = ⊥} is_unread no_part [] (exec B (sum_at kind sums addr)) [] (answer_of r))
@@ -125,7 +126,8 @@ module _ (layout : Layout) (w : Want) (old new : Seen) (reads : OnlyReads old ne
   by_want loan block (want.Plain addr) e is h f s =
       map_some old.held (λ images. Contains (passing_for images (sought layout w)) block) (Comes Any (Ok loan))
       (λ images there.
-      let c = choice_in images addr block (sought layout (want.Plain addr)) (subst (λ (x : Want). Contains (passing_for images (sought layout x)) block) (sym e) there) in
+      let c = choice_in images addr block (sought layout (want.Plain addr))
+      (subst (λ (x : Want). Contains (passing_for images (sought layout x)) block) (sym e) there) in
       came loan block is Any images c.0 (subst (λ (x : Want). choices images c.0 layout x ≡ Ok block) e c.1)) f.stand
 
   by_block : (loan : Lent) (o : Option (List ℕ)) → block_of store loan ≡ o → IsSectorWant w → IsSomeAnd o (IsFetched layout w old new) → (sure : Sure)

@@ -30,7 +30,7 @@ use Rattle.btr_files.specs.declared.streaming.Shown.TheVariants as shown
 use Rattle.btr_files.specs.declared.streaming.Span.TheVariants as span
 use Rattle.btr_files.specs.Content.{Piece, Bytes, Gap, gap}
 use Rattle.btr_files.specs.Streaming.{Given, on_behind, inline_of, behind_bytes, todo_prog, zeros_to_end, Then, LeftBy, IsInline, IsGoing}
-use Rattle.btr_files.specs.Giving.{zeros_at, given_to, behind_zeros, behind_end, body_at, IsGiven, IsNextStep}
+use Rattle.btr_files.specs.Giving.{zeros_at, given_up_to, after_zeros, after_end, body_at, IsGiven, IsNextStep}
 use Rattle.btr_files.proofs.Nextward.{rest_more}
 use Rattle.btr_files.proofs.Onwards.{Items, Pieces, then_of, of_then, then_past, then_halts}
 
@@ -68,26 +68,27 @@ module _ (kind : SumKind) (source : Source) (Bs : ℕ → Map) (p : Progress) wh
       → Then kind source Bs (todo_prog kind source p.at p.end inline todo) ahead q
   left_is todo q e h = subst (λ (t : Todo). Then kind source Bs (todo_prog kind source p.at p.end inline t) ahead q) e h
 
-  end_by : (b : Bool) (q : Pieces) → LeftBy kind source Bs B (cond b (given_to p source.size Over) (given_to p p.end Next)) q
+  end_by : (b : Bool) (q : Pieces) → LeftBy kind source Bs B (cond b (given_up_to p source.size Over) (given_up_to p p.end Next)) q
       → Then kind source Bs (Return (on_behind p.end (cond b (Err source.size) (Ok p.end)))) ahead q
   end_by true q h = h
   end_by false q h = h
 
   -- what is left behind all bytes of an extent
-  pub left_end : (q : Pieces) → LeftBy kind source Bs B (behind_end source.size p) q → Then kind source Bs (behind_bytes kind source p.end) ahead q
+  pub left_end : (q : Pieces) → LeftBy kind source Bs B (after_end source.size p) q → Then kind source Bs (behind_bytes kind source p.end) ahead q
   left_end q h = end_by (nat_le source.size p.end) q h
 
-  going_by : (seen more : List Want) (b : Bool) → IsGoing B seen p → IsGoing B (seen ++ more) (cond b (given_to p source.size Over) (given_to p p.end Next))
+  going_by : (seen more : List Want) (b : Bool) → IsGoing B seen p
+      → IsGoing B (seen ++ more) (cond b (given_up_to p source.size Over) (given_up_to p p.end Next))
   going_by seen more true g = record { rest = rest_more B seen more p.rest g.rest; inline = tt }
   going_by seen more false g = record { rest = rest_more B seen more p.rest g.rest; inline = tt }
 
-  pub going_end : (seen more : List Want) → IsGoing B seen p → IsGoing B (seen ++ more) (behind_end source.size p)
+  pub going_end : (seen more : List Want) → IsGoing B seen p → IsGoing B (seen ++ more) (after_end source.size p)
   going_end seen more g = going_by seen more (nat_le source.size p.end) g
 
   -- ---- zeros are given
   module _ (zeros : ℕ) (some : 0 < zeros) where
     abbrev behind : Progress
-    behind = behind_zeros p zeros
+    behind = after_zeros p zeros
 
     -- before the bytes of an extent
     gap_bytes : (start : ℕ) (x : Program Piece (Result Given ℕ)) (q : Pieces) → zeros ≡ start - p.at
@@ -104,7 +105,8 @@ module _ (kind : SumKind) (source : Source) (Bs : ℕ → Map) (p : Progress) wh
     gap_end q is h =
         let none : source.size - (p.at + zeros) ≡ 0 = omega (arith, is) in
         let h' : GoesTo Bs (zeros_to_end kind source (p.at + zeros)) q = of_then kind source Bs (Err (p.at + zeros)) ahead q h in
-        let h'' : GoesTo Bs (Return tt) q = subst (λ (x : Program Piece (Unit {0})). GoesTo Bs x q) (no_zeros (source.size - (p.at + zeros)) (Return tt) none) h' in
+        let h'' : GoesTo Bs (Return tt) q =
+        subst (λ (x : Program Piece (Unit {0})). GoesTo Bs x q) (no_zeros (source.size - (p.at + zeros)) (Return tt) none) h' in
         then_of kind source Bs (Err p.at) ahead (first (Does (Gap zeros)) q)
         (goes_first Bs (Gap zeros) (zeros_to_end kind source p.at) (Return tt) q (ap (λ n. gap n (Return tt)) (sym is) ∙ some_zeros zeros (Return tt) some) h'')
 
@@ -150,7 +152,8 @@ module _ (kind : SumKind) (source : Source) (Bs : ℕ → Map) (p : Progress) wh
     inline_err p' store store' (tree.Crosses a) h seen g = absurd (h seen g.rest)
     inline_err p' store store' (tree.Malformed a) h seen g = absurd (h seen g.rest)
 
-    module _ (store : Blocks) (loan : Lent) (at : ℕ) (block : List ℕ) (is : block_of store loan ≡ Some block) (met : IsMetAgain Is B p.rest store (Ok (record { loan = loan; at = at }))) where
+    module _ (store : Blocks) (loan : Lent) (at : ℕ) (block : List ℕ) (is : block_of store loan ≡ Some block)
+        (met : IsMetAgain Is B p.rest store (Ok (record { loan = loan; at = at }))) where
       -- the item that was met last
       pub record IsItem (seen : List Want) : Type 0 where
         pub item : TreeItem
@@ -161,7 +164,8 @@ module _ (kind : SumKind) (source : Source) (Bs : ℕ → Map) (p : Progress) wh
       item_by : (seen : List Want) (o : Option TreeItem) → met_last B p.rest ≡ o → IsInline o (Inline part) → IsGoing B seen p → IsItem seen
       item_by seen None e i g = absurd i
       item_by seen (Some item) e i g =
-          let m = subst (λ (x : Option (List ℕ)). IsSomeAnd x (λ b. (y : TreeItem) → met_last B p.rest ≡ Some y → (d : Item) → (get_or (items b) at d).body ≡ y.body)) is (met seen g.rest) in
+          let m = subst (λ (x : Option (List ℕ)). IsSomeAnd x (λ b. (y : TreeItem) → met_last B p.rest ≡ Some y → (d : Item)
+          → (get_or (items b) at d).body ≡ y.body)) is (met seen g.rest) in
           record { item = item; last = e; body = m item e _; len = i }
 
       item_of : (seen : List Want) → IsGoing B seen p → IsItem seen
@@ -190,7 +194,7 @@ module _ (kind : SumKind) (source : Source) (Bs : ℕ → Map) (p : Progress) wh
             data_len : (body : List ℕ) (n : ℕ) → length body ≡ 21 + n → length (inline_data body) ≡ n
             data_len body n e = grind (arith, length-drop {A = ℕ})
 
-        pub inline_given : IsGiven kind source Is Bs p (behind_end source.size p) store (Ok (shown.Bytes loan (span.Inline at len)))
+        pub inline_given : IsGiven kind source Is Bs p (after_end source.size p) store (Ok (shown.Bytes loan (span.Inline at len)))
         inline_given seen g =
             let i = item_of seen g in
             let none : part.start - p.at ≡ 0 = omega (arith, at_start) in

@@ -1,5 +1,6 @@
 -- How a file goes on to its next extent.
-use Rattle.std.specs.Prelude.{◌≡◌, ◌≢◌, ℕ, ◌+◌, ◌<◌, ◌≤◌, ◌^◌, ◌==◌, nat_le, if◌then◌else◌, List, [], ◌++◌, Option, Some, None, IfSome, IsSomeAnd, Result, Ok, Err}
+use Rattle.std.specs.Prelude.{◌≡◌, ◌≢◌, ℕ, ◌+◌, ◌<◌, ◌≤◌, ◌^◌, ◌==◌, nat_le, if◌then◌else◌, List, [], ◌++◌, Option, Some, None, IfSome, IsSomeAnd}
+use Rattle.std.specs.Prelude.{Result, Ok, Err}
 use Rattle.btr_base.specs.declared.kind.SumKind.{SumKind}
 use Rattle.btr_items.specs.FileExtent.{file_extent_of, end_of, inline_data}
 use Rattle.btr_items.specs.declared.fault.ItemFault.{ItemFault}
@@ -90,10 +91,10 @@ KeepsItem (Ok None) leaf = Unit {0}
 KeepsItem (Err f) leaf = Unit {0}
 
 -- the scan comes nearer to its end with each extent
-abbrev pub AheadNears : Scan → Scan → Result (Option Ahead) TreeFault → Type 0
-AheadNears scan scan' (Ok (Some ahead)) = rank_of scan' < rank_of scan
-AheadNears scan scan' (Ok None) = Unit {0}
-AheadNears scan scan' (Err f) = Unit {0}
+abbrev pub AheadRankFalls : Scan → Scan → Result (Option Ahead) TreeFault → Type 0
+AheadRankFalls scan scan' (Ok (Some ahead)) = rank_of scan' < rank_of scan
+AheadRankFalls scan scan' (Ok None) = Unit {0}
+AheadRankFalls scan scan' (Err f) = Unit {0}
 
 -- the runs of what is left behind an extent that ends at a position, where these are the items that are left
 abbrev pub Onward : SumKind → Source → (ℕ → Map) → ℕ → ℕ → Run Want Fault TreeItem (Unit {0}) → Run Want Fault Piece (Unit {0}) → Type 0

@@ -68,7 +68,8 @@ module _ (kind : SumKind) (sums : Option TreeRoot) (nosum : Bool) where
         else gap (x.start - at) (Emit (Bytes (take (size - x.start) x.inline) true) (Return (on_at size (end_of x.start x.fields))))
     shaped at x (Regular addr disk_len skip len) =
         if addr == 0 then Return (Ok at)
-        else gap (x.start - at) (bind (sectors (sector_count size x.start len) (addr + skip) (size - x.start)) (λ u. Return (on_at size (end_of x.start x.fields))))
+        else gap (x.start - at) (bind (sectors (sector_count size x.start len) (addr + skip) (size - x.start))
+        (λ u. Return (on_at size (end_of x.start x.fields))))
     shaped at x (Prealloc addr disk_len skip len) = Return (Ok at)
 
     -- an extent of a file that has been given up to a position

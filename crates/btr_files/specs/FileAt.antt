@@ -1,5 +1,6 @@
 -- The bytes of a file, each by its position.
-use Rattle.std.specs.Prelude.{◌≡◌, ℕ, ◌+◌, ◌-◌, ◌%◌, ◌<◌, Bool, ◌&&◌, ◌==◌, nat_le, nat_lt, if◌then◌else◌, List, [], length, find, flat_map, replicate, slice_index, Option, Result, Ok, Err}
+use Rattle.std.specs.Prelude.{◌≡◌, ℕ, ◌+◌, ◌-◌, ◌%◌, ◌<◌, Bool, ◌&&◌, ◌==◌, nat_le, nat_lt, if◌then◌else◌, List, [], length, find, flat_map}
+use Rattle.std.specs.Prelude.{replicate, slice_index, Option, Result, Ok, Err}
 use Rattle.std.specs.Option.{option_map_or}
 use Rattle.btr_base.specs.declared.kind.SumKind.{SumKind}
 use Rattle.btr_items.specs.FileExtent.{end_of}
@@ -69,7 +70,8 @@ ContentIsFile =
     → ((want : Want) (bytes : List ℕ) → B want ≡ Ok bytes → IsSectorLong want bytes)
     → (exec B (content kind sums nosum size tree ino)).ending ≡ Ok tt
     → (length (bytes_of (steps B (content kind sums nosum size tree ino))) ≡ size)
-    × ((p : ℕ) → p < size → slice_index (bytes_of (steps B (content kind sums nosum size tree ino))) p ≡ file_at B kind sums nosum (steps B (extents tree ino)) p)
+    × ((p : ℕ) → p < size → slice_index (bytes_of (steps B (content kind sums nosum size tree ino))) p
+    ≡ file_at B kind sums nosum (steps B (extents tree ino)) p)
 
 -- The same whatever reads failed, where each want comes to what some map says of it, each time perhaps another,
 -- and the maps differ in nothing but the bytes of sectors without a checksum: each byte of a file that was given

@@ -1,5 +1,6 @@
 -- How a file gives its next piece.
-use Rattle.std.specs.Prelude.{◌≡◌, ℕ, ◌+◌, ◌-◌, ◌%◌, ◌<◌, ◌≤◌, true, nat_le, if◌then◌else◌, List, [], ◌++◌, length, take, slice_index_or, Option, Some, None, IfSome, IsSomeAnd, IsTrue, unwrap_or, Result, Ok, Err}
+use Rattle.std.specs.Prelude.{◌≡◌, ℕ, ◌+◌, ◌-◌, ◌%◌, ◌<◌, ◌≤◌, true, nat_le, if◌then◌else◌, List, [], ◌++◌, length, take, slice_index_or, Option}
+use Rattle.std.specs.Prelude.{Some, None, IfSome, IsSomeAnd, IsTrue, unwrap_or, Result, Ok, Err}
 use Rattle.btr_base.specs.Crc.{crc32c}
 use Rattle.btr_base.specs.declared.kind.SumKind.{SumKind}
 use Rattle.btr_items.specs.FileExtent.{inline_data}
@@ -39,22 +40,22 @@ zeros_at size at (Sectors part) = part.start - at
 zeros_at size at Over = size - at
 
 -- a file that was given up to another position, and what is still to come then
-abbrev pub given_to : Progress → ℕ → Todo → Progress
-given_to p at todo = record { rest = p.rest; at = at; end = p.end; todo = todo }
+abbrev pub given_up_to : Progress → ℕ → Todo → Progress
+given_up_to p at todo = record { rest = p.rest; at = at; end = p.end; todo = todo }
 
 -- the file after some zeros were given
-abbrev pub behind_zeros : Progress → ℕ → Progress
-behind_zeros p zeros = given_to p (p.at + zeros) p.todo
+abbrev pub after_zeros : Progress → ℕ → Progress
+after_zeros p zeros = given_up_to p (p.at + zeros) p.todo
 
 -- the file after all bytes of the extent that was met last were given
-abbrev pub behind_end : ℕ → Progress → Progress
-behind_end size p = if nat_le size p.end then given_to p size Over else given_to p p.end Next
+abbrev pub after_end : ℕ → Progress → Progress
+after_end size p = if nat_le size p.end then given_up_to p size Over else given_up_to p p.end Next
 
 -- the file after the first of some sectors was given
-abbrev pub behind_sector : ℕ → Progress → SectorPart → Progress
-behind_sector size p part =
-    if nat_le part.count 1 then behind_end size p
-    else given_to p (part.start + 4096) (Sectors (record { start = part.start + 4096; addr = part.addr + 4096; count = part.count - 1 }))
+abbrev pub after_sector : ℕ → Progress → SectorPart → Progress
+after_sector size p part =
+    if nat_le part.count 1 then after_end size p
+    else given_up_to p (part.start + 4096) (Sectors (record { start = part.start + 4096; addr = part.addr + 4096; count = part.count - 1 }))
 
 -- the bytes of item `at` of a leaf's block
 abbrev pub body_at : List ℕ → ℕ → List ℕ

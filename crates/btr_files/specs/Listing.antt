@@ -95,10 +95,10 @@ IsNextRow Is B old new scan scan' name result =
     (seen : List Want) → IsOn scan.lo scan.hi B seen scan.place → NextRowBy Is B seen old new scan scan' name result
 
 -- the scan comes nearer to its end with each entry
-abbrev pub RowNears : Scan → Scan → Result (Option DirRow) TreeFault → Type 0
-RowNears scan scan' (Ok (Some row)) = rank_of scan' < rank_of scan
-RowNears scan scan' (Ok None) = Unit {0}
-RowNears scan scan' (Err f) = Unit {0}
+abbrev pub RowRankFalls : Scan → Scan → Result (Option DirRow) TreeFault → Type 0
+RowRankFalls scan scan' (Ok (Some row)) = rank_of scan' < rank_of scan
+RowRankFalls scan scan' (Ok None) = Unit {0}
+RowRankFalls scan scan' (Err f) = Unit {0}
 
 -- the name is another one only where there is an entry
 abbrev pub KeepsName : NameBuf → NameBuf → Result (Option DirRow) TreeFault → Type 0
@@ -117,7 +117,7 @@ abbrev pub rank_of_dir : Dir → ℕ
 rank_of_dir dir = rank_left dir.rest
 
 -- a directory comes nearer to its end with each entry
-abbrev pub DirNears : Dir → Dir → Result (Option DirRow) TreeFault → Type 0
-DirNears dir dir' (Ok (Some row)) = rank_of_dir dir' < rank_of_dir dir
-DirNears dir dir' (Ok None) = Unit {0}
-DirNears dir dir' (Err f) = Unit {0}
+abbrev pub DirRankFalls : Dir → Dir → Result (Option DirRow) TreeFault → Type 0
+DirRankFalls dir dir' (Ok (Some row)) = rank_of_dir dir' < rank_of_dir dir
+DirRankFalls dir dir' (Ok None) = Unit {0}
+DirRankFalls dir dir' (Err f) = Unit {0}

@@ -1,5 +1,6 @@
 -- What a file has still to give.
-use Rattle.std.specs.Prelude.{◌≡◌, ℕ, ◌+◌, ◌-◌, ◌*◌, ◌^◌, ◌%◌, ◌<◌, ◌≤◌, nat_le, if◌then◌else◌, true, length, List, [], ◌++◌, take, Option, Some, None, IfSome, IsSomeAnd, Result, Ok, Err, ⊤}
+use Rattle.std.specs.Prelude.{◌≡◌, ℕ, ◌+◌, ◌-◌, ◌*◌, ◌^◌, ◌%◌, ◌<◌, ◌≤◌, nat_le, if◌then◌else◌, true, length, List, [], ◌++◌, take, Option, Some}
+use Rattle.std.specs.Prelude.{None, IfSome, IsSomeAnd, Result, Ok, Err, ⊤}
 use Rattle.std.specs.Borrow.{follows_so, MutBor, Fml}
 use mathlib.Core.Option.{none}
 use Rattle.btr_base.specs.Crc.{crc32c}
@@ -232,7 +233,7 @@ abbrev pub SameFile : FileBytes → FileBytes → Type 0
 SameFile file file' = file'.source ≡ file.source
 
 -- what is left of a file falls with each piece; at its end nothing is left, and after a fault as much as before
-abbrev pub PieceNears : FileBytes → FileBytes → Result (Option Lending) TreeFault → Type 0
-PieceNears file file' (Ok (Some piece)) = bytes_left file' < bytes_left file
-PieceNears file file' (Ok None) = bytes_left file' ≡ 0
-PieceNears file file' (Err f) = file'.progress ≡ file.progress
+abbrev pub PieceRankFalls : FileBytes → FileBytes → Result (Option Lending) TreeFault → Type 0
+PieceRankFalls file file' (Ok (Some piece)) = bytes_left file' < bytes_left file
+PieceRankFalls file file' (Ok None) = bytes_left file' ≡ 0
+PieceRankFalls file file' (Err f) = file'.progress ≡ file.progress

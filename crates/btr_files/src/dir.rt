@@ -8,7 +8,7 @@ ghost use Rattle.btr_walk.specs.ScanEnds.{IsScanReady, without_leaf};
 ghost use Rattle.btr_walk.specs.Showing.{item_of};
 ghost use Rattle.btr_volume.specs.Looking.{SameVolume};
 ghost use Rattle.btr_files.specs.Entries.{entries};
-ghost use Rattle.btr_files.specs.Listing.{dir_left, DirNears, IsDirOn, IsDir, IsRow, KeepsName, RowNears, StaysIn};
+ghost use Rattle.btr_files.specs.Listing.{dir_left, DirRankFalls, IsDirOn, IsDir, IsRow, KeepsName, RowRankFalls, StaysIn};
 ghost use Rattle.btr_files.specs.Told.{TellsRow, TellsEntry};
 
 use crate::lookup::key_of;
@@ -52,7 +52,7 @@ fn read_row<R: Rack>(
     ensures lo { scan.new.lo ≡ scan.old.lo }
     ensures hi { scan.new.hi ≡ scan.old.hi }
     ensures name { KeepsName name.old name.new result }
-    ensures nears { RowNears scan.old scan.new result }
+    ensures nears { RowRankFalls scan.old scan.new result }
     ensures cause { HasCause store.old.layout (R.seen rack.old) (R.seen rack.new) result }
     ensures content { TellsRow store.old store.new (R.seen rack.old) (R.seen rack.new)
         scan.old scan.new name.new result }
@@ -103,7 +103,7 @@ impl Dir {
         ensures dir { IsDir self.new }
         ensures name { KeepsName name.old name.new result }
         ensures place { StaysIn self.old self.new result }
-        ensures nears { DirNears self.old self.new result }
+        ensures nears { DirRankFalls self.old self.new result }
         ensures cause { HasCause vol.old.store.layout (R.seen rack.old) (R.seen rack.new) result }
         ensures content { TellsEntry vol.old (R.seen rack.old) (R.seen rack.new) self.old self.new name.new result }
     {

@@ -6,7 +6,7 @@ ghost use Rattle.btr_read.specs.Store.{SameLoans, free_count};
 ghost use Rattle.btr_walk.specs.Reading.{HasCause};
 ghost use Rattle.btr_walk.specs.ScanEnds.{IsScanReady, without_leaf};
 ghost use Rattle.btr_walk.specs.Showing.{item_of};
-ghost use Rattle.btr_files.specs.Ahead.{ahead_of, todo_of, AheadNears, FitsAhead, FitsShape, HasFound, KeepsItem, LookedAhead};
+ghost use Rattle.btr_files.specs.Ahead.{ahead_of, todo_of, AheadRankFalls, FitsAhead, FitsShape, HasFound, KeepsItem, LookedAhead};
 ghost use Rattle.btr_files.specs.Content.{sector_count};
 ghost use Rattle.btr_files.specs.Streaming.{IsUnderway};
 ghost use Rattle.btr_files.specs.Told.{TellsExtent, TellsLooked};
@@ -106,7 +106,7 @@ fn next_extent<R: Rack>(
     ensures lo { scan.new.lo ≡ scan.old.lo }
     ensures hi { scan.new.hi ≡ scan.old.hi }
     ensures kept { KeepsItem result scan.new.leaf }
-    ensures nears { AheadNears scan.old scan.new result }
+    ensures nears { AheadRankFalls scan.old scan.new result }
     ensures fits { FitsAhead source.now.size end result }
     ensures cause { HasCause store.old.layout (R.seen rack.old) (R.seen rack.new) result }
     ensures content { TellsExtent source.now store.old store.new (R.seen rack.old) (R.seen rack.new)

@@ -6,9 +6,9 @@ ghost use Rattle.btr_rack.specs.Rack.{OnlyReads};
 ghost use Rattle.btr_read.specs.Serves.{Serves};
 ghost use Rattle.btr_read.specs.Store.{free_count};
 ghost use Rattle.btr_walk.specs.Reading.{HasCause};
-ghost use Rattle.btr_files.specs.Giving.{behind_end, behind_sector, body_at, span_piece, zeros_at, IsSpan, LendsNext, LendsStep, StepsOn, NextStepsOn};
+ghost use Rattle.btr_files.specs.Giving.{after_end, after_sector, body_at, span_piece, zeros_at, IsSpan, LendsNext, LendsStep, StepsOn, NextStepsOn};
 ghost use Rattle.btr_files.specs.Ahead.{IsFound};
-ghost use Rattle.btr_files.specs.Streaming.{piece_of, without_file, FitsTodo, IsPiece, IsReading, IsUnderway, PieceNears, SameFile, StreamEnds};
+ghost use Rattle.btr_files.specs.Streaming.{piece_of, without_file, FitsTodo, IsPiece, IsReading, IsUnderway, PieceRankFalls, SameFile, StreamEnds};
 ghost use Rattle.btr_files.specs.Told.{TellsStep, TellsSummed, TellsNextStep};
 
 use crate::extent::find_next;
@@ -62,7 +62,7 @@ fn zeros_at(size: u64, progress: &Progress) -> u64
 
 // Goes on behind all bytes of the extent that was met last.
 fn pass_extent(size: u64, progress: &mut Progress)
-    ensures { progress.new ≡ behind_end size progress.old }
+    ensures { progress.new ≡ after_end size progress.old }
 {
     if u128::from(size) <= progress.end {
         progress.at = size;
@@ -76,7 +76,7 @@ fn pass_extent(size: u64, progress: &mut Progress)
 // .. and behind the first of some sectors.
 fn pass_sector(size: u64, progress: &mut Progress, part: &SectorPart)
     requires { FitsTodo size progress.old.at progress.old.end (Todo.Sectors part.now) }
-    ensures { progress.new ≡ behind_sector size progress.old part.now }
+    ensures { progress.new ≡ after_sector size progress.old part.now }
 {
     if part.count <= 1 {
         pass_extent(size, progress);
@@ -274,7 +274,7 @@ pub fn next_piece<'e, R: Rack>(
     ensures* after { sem 𝓛 (StreamEnds vol.entry file.old file.new (R.seen rack.old) (R.seen rack.new) result) }
     ensures reads { OnlyReads (R.seen rack.old) (R.seen rack.new) }
     ensures same { SameFile file.old file.new }
-    ensures nears { PieceNears file.old file.new result }
+    ensures nears { PieceRankFalls file.old file.new result }
     ensures some { IfOk result (λ found. IfSome found IsPiece) }
     ensures cause { HasCause vol.old.store.layout (R.seen rack.old) (R.seen rack.new) result }
 {

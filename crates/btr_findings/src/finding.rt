@@ -13,7 +13,8 @@ impl Finding {
     ghost use Rattle.std.specs.Prelude.{◌≡◌, ◌≤◌};
     ghost use Rattle.btr_findings.specs.Findings.{found};
 
-    /// A finding of a kind with these numbers, which are at most seven; those behind them are 0.
+    /// A finding of a kind with these numbers, which are at most seven, in the order of the kind's line (docs/FORMAT.md, "Findings"); those behind them
+    /// are 0.
     pub fn new<const N: usize>(kind: Kind, numbers: [u64; N]) -> Finding
         requires { N ≤ 7 }
         ensures { result ≡ found kind numbers.entry }

@@ -1,5 +1,6 @@
 -- Each entry or reference ends behind its beginning and within its body.
-use Rattle.std.proofs.Common.{◌≡◌, ℕ, ◌+◌, ◌<◌, ◌≤◌, Bool, true, false, cond, ◌&&◌, leb, ltb, List, length, get_or, Option, Some, None, Result, Ok, Err, refl, arith}
+use Rattle.std.proofs.Common.{◌≡◌, ℕ, ◌+◌, ◌<◌, ◌≤◌, Bool, true, false, cond, ◌&&◌, leb, ltb, List, length, get_or, Option, Some, None, Result, Ok}
+use Rattle.std.proofs.Common.{Err, refl, arith}
 use Rattle.std.proofs.lemmas.Bool.Decides.{nat_tests}
 use Rattle.btr_base.specs.Field.{number_at}
 use Rattle.btr_items.specs.Entry.{entry_at}
@@ -19,18 +20,22 @@ below : (end size : ℕ) → leb end size ≡ true → end ≤ size
 below end size holds = grind (arith, nat_tests)
 
 -- where the last rule is that the end is within the body, what is answered ends there
-answered : {T : Type 0} (end_of : T → ℕ) (others : Bool) (size : ℕ) (fields part : T) → fields_if (others && leb (end_of fields) size) fields ≡ Ok part → (end_of part ≡ end_of fields) × (end_of part ≤ size)
+answered : {T : Type 0} (end_of : T → ℕ) (others : Bool) (size : ℕ) (fields part : T) → fields_if (others && leb (end_of fields) size) fields ≡ Ok part
+    → (end_of part ≡ end_of fields) × (end_of part ≤ size)
 answered end_of false size fields part is = absurd (cc)
 answered end_of true size fields part is =
-    elim (leb (end_of fields) size) as (λ b. leb (end_of fields) size ≡ b → fields_if b fields ≡ Ok part → (end_of part ≡ end_of fields) × (end_of part ≤ size)) [
-      | true ↦ λ holds same. let whole : fields ≡ part = cc in (cc, let e : end_of part ≡ end_of fields = cc in let b = below (end_of fields) size holds in omega arith)
+    elim (leb (end_of fields) size) as (λ b. leb (end_of fields) size ≡ b → fields_if b fields ≡ Ok part → (end_of part ≡ end_of fields)
+    × (end_of part ≤ size)) [
+      | true ↦ λ holds same. let whole : fields ≡ part = cc in
+          (cc, let e : end_of part ≡ end_of fields = cc in let b = below (end_of fields) size holds in omega arith)
       | false ↦ λ holds same. absurd (cc)
     ] refl is
 
 -- an entry of a directory ends after its beginning and within its body
 pub entry_ends : (at : ℕ) (body : List ℕ) (part : Entry) → entry_at at body ≡ Ok part → (at < part.end) × (part.end ≤ length body)
 entry_ends at body part is =
-    let ends : (part.end ≡ at + 30 + number_at 2 (at + 27) body + number_at 2 (at + 25) body) × (part.end ≤ length body) = answered (λ (e : Entry). e.end) _ (length body) _ part is in
+    let ends : (part.end ≡ at + 30 + number_at 2 (at + 27) body + number_at 2 (at + 25) body) × (part.end ≤ length body) =
+    answered (λ (e : Entry). e.end) _ (length body) _ part is in
     (omega arith, ends.1)
 
 -- a name in an INODE_REF ends after its beginning and within its body
@@ -46,7 +51,8 @@ ext_ref_ends at body part is =
     (omega arith, ends.1)
 
 -- an inline reference of a kind whose data has a known size ends within its body
-inline_of_ends : (kind : ℕ) (size : Option ℕ) (at : ℕ) (body : List ℕ) (part : InlineRef) → inline_ref_of kind size at body ≡ Ok part → (at ≤ part.end) × (part.end ≤ length body)
+inline_of_ends : (kind : ℕ) (size : Option ℕ) (at : ℕ) (body : List ℕ) (part : InlineRef) → inline_ref_of kind size at body ≡ Ok part → (at ≤ part.end)
+    × (part.end ≤ length body)
 inline_of_ends kind None at body part is = absurd (cc)
 inline_of_ends kind (Some size) at body part is =
     let ends : (part.end ≡ at + offset_size kind + size) × (part.end ≤ length body) = answered (λ (r : InlineRef). r.end) true (length body) _ part is in
@@ -60,5 +66,7 @@ read_of false read part is = absurd (cc)
 -- an inline reference ends after its beginning and within its body
 pub inline_ref_ends : (at : ℕ) (body : List ℕ) (part : InlineRef) → inline_ref_at at body ≡ Ok part → (at < part.end) × (part.end ≤ length body)
 inline_ref_ends at body part is =
-    let ends : (at + 1 ≤ part.end) × (part.end ≤ length body) = inline_of_ends (get_or body at 0) (data_size (get_or body at 0)) (at + 1) body part (read_of (ltb at (length body)) (inline_ref_of (get_or body at 0) (data_size (get_or body at 0)) (at + 1) body) part is) in
+    let ends : (at + 1 ≤ part.end) × (part.end ≤ length body) =
+    inline_of_ends (get_or body at 0) (data_size (get_or body at 0)) (at + 1) body part
+    (read_of (ltb at (length body)) (inline_ref_of (get_or body at 0) (data_size (get_or body at 0)) (at + 1) body) part is) in
     (omega arith, ends.1)

@@ -19,11 +19,14 @@ use Rattle.btr_items.specs.LooseRef.{loose_ref_of}
 use Rattle.btr_items.specs.RootItem.{root_item_of}
 use Rattle.btr_items.specs.RootRef.{root_ref_of}
 use Rattle.btr_items.specs.SumRun.{sum_run_of}
-use Rattle.btr_items.specs.Types.{inode_item, inode_ref, inode_extref, xattr_item, orphan_item, dir_item, dir_index, extent_data, extent_csum, root_item, root_backref, root_ref, extent_item, metadata_item, tree_block_ref, extent_data_ref, shared_block_ref, shared_data_ref, block_group_item, dev_extent, dev_item, chunk_item}
+use Rattle.btr_items.specs.Types.{inode_item, inode_ref, inode_extref, xattr_item, orphan_item, dir_item, dir_index, extent_data, extent_csum}
+use Rattle.btr_items.specs.Types.{root_item, root_backref, root_ref, extent_item, metadata_item, tree_block_ref, extent_data_ref, shared_block_ref}
+use Rattle.btr_items.specs.Types.{shared_data_ref, block_group_item, dev_extent, dev_item, chunk_item}
 use Rattle.btr_items.specs.declared.extent_item.ExtentItem.{ExtentItem}
 use Rattle.btr_items.specs.declared.fault.ItemFault.{ItemFault}
 use Rattle.btr_items.specs.declared.form.Form.{Form}
-use Rattle.btr_items.specs.declared.form.Form.TheVariants.{Inode, InodeRefs, ExtRefs, Entries, IndexEntry, Empty, FileExtent, Sums, Root, RootRef, Extent, LooseRef, BlockGroup, DevExtent, DevItem, Chunk, Other}
+use Rattle.btr_items.specs.declared.form.Form.TheVariants.{Inode, InodeRefs, ExtRefs, Entries, IndexEntry, Empty, FileExtent, Sums, Root, RootRef}
+use Rattle.btr_items.specs.declared.form.Form.TheVariants.{Extent, LooseRef, BlockGroup, DevExtent, DevItem, Chunk, Other}
 
 -- one or more parts, from the first byte to the last
 abbrev pub are_some : {T : Type 0} → List ℕ → List (Result T ItemFault) → Bool

@@ -13,7 +13,8 @@ use Rattle.btr_items.specs.declared.sum_run.SumRun.{SumRun}
 abbrev pub sum_run_of : SumKind → Key → List ℕ → Result SumRun ItemFault
 sum_run_of kind key body =
     let count = length body / sum_size kind in
-    fields_if ((key.kind == extent_csum) && key_fits key && nat_lt 0 (length body) && (length body % sum_size kind == 0) && nat_lt (key.offset + count * 4096) (2 ^ 64)) (record {
+    fields_if ((key.kind == extent_csum) && key_fits key && nat_lt 0 (length body) && (length body % sum_size kind == 0)
+    && nat_lt (key.offset + count * 4096) (2 ^ 64)) (record {
       start = key.offset;
       count = count;
     })

@@ -285,7 +285,8 @@ page_written name n off at page old new here last there is r =
     let fits : 4096 * n + 4096 ≤ length r.image = omega (arith, long, bytes.2) in
     let P : Option (List ℕ) → Type 0 = λ o. IfSome o (λ image. 4096 * n + 4096 ≤ length image → Some page ≡ turned_if_spoiled image n) in
     let turned : Some page ≡ turned_if_spoiled r.image n = subst P r.stood is fits in
-    let whole : pasted r.image off page ≡ with_page r.image n (turned_if_spoiled r.image n) = ap (λ o. pasted r.image o page) here ∙ ap (with_page r.image n) turned in
+    let whole : pasted r.image off page ≡ with_page r.image n (turned_if_spoiled r.image n) =
+    ap (λ o. pasted r.image o page) here ∙ ap (with_page r.image n) turned in
     (r.image, r.stood, fits, subst (λ bytes. Becomes name bytes old new) whole (becomes_written name off page old new r))
 
 pub spoil_begins : (name : List ℕ) (old new : MemoryRack) → Rewrites name 0 [] old new → (image : List ℕ) × (named old name ≡ Some image)
@@ -300,7 +301,8 @@ spoil_goes_on name n old mid new so_far step =
     let image : List ℕ = so_far.0 in
     let is : step.0 ≡ spoiled_below n image = let e : Some step.0 ≡ Some (spoiled_below n image) = sym step.1 ∙ so_far.2.now in cc in
     let fits : 4096 * n + 4096 ≤ length image = omega (arith, step.2, ap length is, length_spoiled n image) in
-    let now : with_page step.0 n (turned_if_spoiled step.0 n) ≡ spoiled_below (n + 1) image = ap (λ bytes. with_page bytes n (turned_if_spoiled bytes n)) is ∙ spoiled_more n image fits in (
+    let now : with_page step.0 n (turned_if_spoiled step.0 n) ≡ spoiled_below (n + 1) image =
+    ap (λ bytes. with_page bytes n (turned_if_spoiled bytes n)) is ∙ spoiled_more n image fits in (
       image,
       so_far.1,
       becomes_then name (spoiled_below n image) (spoiled_below (n + 1) image) old mid new so_far.2

@@ -2,7 +2,8 @@
 ghost use Rattle.std.specs.Prelude.{◌≡◌, ◌+◌, ◌≤◌, ◌++◌, length};
 ghost use Rattle.arrayvec.specs.ArrayVec.{array_vec_len};
 ghost use Rattle.btr_base.specs.Sum.{kind_of_type};
-ghost use Rattle.btr_make.specs.Copy.{super_copy, super_body, sum_before, zeros, number_u64, number_u32, number_u16, ids, roots, sizes, geometry, features, device, names, chunks};
+ghost use Rattle.btr_make.specs.Copy.{super_copy, super_body, sum_before, zeros, number_u64, number_u32, number_u16, ids, roots, sizes, geometry};
+ghost use Rattle.btr_make.specs.Copy.{features, device, names, chunks};
 
 use arrayvec::ArrayVec;
 use btr_base::{SumKind, sum};

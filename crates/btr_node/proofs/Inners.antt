@@ -26,7 +26,8 @@ key-pointer_at block i = refl
 
 -- their keys, at each place
 pub key_seen : (block : List ℕ) (list : List KeyPointer) → pointers block ≡ list → IsSeenAs (λ pointer. pointer.key) (entry_key 33 block) list
-key_seen block list same = record { at = λ i d within. ap (λ (pointer : KeyPointer). pointer.key) ((pointer_seen block list same).at i d within) ∙ key-pointer_at block i }
+key_seen block list same =
+    record { at = λ i d within. ap (λ (pointer : KeyPointer). pointer.key) ((pointer_seen block list same).at i d within) ∙ key-pointer_at block i }
 
 level_fits : ℕ → Bool
 level_fits level = ltb 0 level && leb level 7
@@ -82,7 +83,8 @@ parts_of : (block : List ℕ) → is_inner block ≡ true → ((0 < entry_count 
     × (ascends (map (entry_key 33 block) (range_with_len 0 (entry_count block))) ≡ true)
 unfolding table_fits
 parts_of block good =
-    let rules = and_parts (table_fits block) (ascends (map (entry_key 33 block) (range_with_len 0 (entry_count block)))) (and_parts (level_fits (level_of block)) _ (sym (inner_is block) ∙ good)).1 in
+    let rules = and_parts (table_fits block) (ascends (map (entry_key 33 block) (range_with_len 0 (entry_count block))))
+    (and_parts (level_fits (level_of block)) _ (sym (inner_is block) ∙ good)).1 in
     let table = and_parts (ltb 0 (entry_count block)) (leb (101 + 33 * entry_count block) (length block)) rules.0 in
     ((ltb-true _ _ table.0, leb-true _ _ table.1), rules.1)
 

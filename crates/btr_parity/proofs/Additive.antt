@@ -24,7 +24,8 @@ double-xor a b =
 -- a number is its lowest bit and x times the rest
 pub parts : (a : ℕ) → a ≡ bit_xor (a % 2) (2 * (a / 2))
 parts a =
-    let block : bit_xor (0 * 2 ^ 1 + a % 2) (a / 2 * 2 ^ 1 + 0) ≡ bit_xor 0 (a / 2) * 2 ^ 1 + bit_xor (a % 2) 0 = xor_block 1 0 (a / 2) (a % 2) 0 (omega arith) (omega arith) in
+    let block : bit_xor (0 * 2 ^ 1 + a % 2) (a / 2 * 2 ^ 1 + 0) ≡ bit_xor 0 (a / 2) * 2 ^ 1 + bit_xor (a % 2) 0 =
+    xor_block 1 0 (a / 2) (a % 2) 0 (omega arith) (omega arith) in
     let l : 0 * 2 ^ 1 + a % 2 ≡ a % 2 = omega arith in
     let r : a / 2 * 2 ^ 1 + 0 ≡ 2 * (a / 2) = omega arith in
     let whole : a ≡ a / 2 * 2 + a % 2 = omega arith in

@@ -5,14 +5,15 @@ use Rattle.std.proofs.lemmas.List.{length-set, set-get_or, ext_get_or, get_or-se
 use Rattle.std.proofs.lemmas.List.Elements.{All-nil, All-cons, All-get_or, All-contains}
 use Rattle.btr_parity.specs.Slices.{IsSlice, zeros, plus, parity_p, parity_q}
 use Rattle.btr_parity.specs.Solutions.{IsTheOne, FitsP, FitsQ, FitsBoth}
-use Rattle.btr_parity.specs.Ways.{Element, Slice, ParityP, ParityQ, Way, AsItStands, ByP, ByQ, ByBoth, IsWay, Reads, Stripe, bytes_of, IsConsistent, Gives}
+use Rattle.btr_parity.specs.Ways.{Element, Slice, ParityP, ParityQ, Way, AsItStands, ByP, ByQ, ByBoth, IsWay, UsesElement, Stripe, bytes_of}
+use Rattle.btr_parity.specs.Ways.{IsConsistent, Gives}
 use Rattle.btr_parity.specs.Ways.{SomeWayReadsNoneWrong, RightElementsGiveRightSlice, SomeWayGivesRightSlice}
 use Rattle.btr_parity.proofs.Folding.{quotient_is_one, pair_is_one}
 use Rattle.btr_parity.proofs.Lost.{lost_by_p, lost_by_q, lost_by_both, plus_slice, parity_p_slice, weighted_slice, cleared}
 
 module _ (n k : ℕ) where
   abbrev Unread : Way → Element → Type 0
-  Unread way element = Reads n k way element → ⊥
+  Unread way element = UsesElement n k way element → ⊥
 
   abbrev AllUnread : Way → List Element → Type 0
   AllUnread way wrong = All (Unread way) wrong
@@ -30,29 +31,29 @@ module _ (n k : ℕ) where
   Choice parity wrong = (way : Way) × IsWay n k parity way × AllUnread way wrong
 
   -- an element is the slice itself, or isn't read where the slice is taken as it stands
-  cases_own : (e : Element) → (Reads n k AsItStands e) ⊎ Unread AsItStands e
+  cases_own : (e : Element) → (UsesElement n k AsItStands e) ⊎ Unread AsItStands e
   cases_own (Slice i) = cases_eq i k
   cases_own ParityP = inr (λ h. h)
   cases_own ParityQ = inr (λ h. h)
 
-  own_unread_by_p : (e : Element) → Reads n k AsItStands e → Unread ByP e
+  own_unread_by_p : (e : Element) → UsesElement n k AsItStands e → Unread ByP e
   own_unread_by_p (Slice i) own r = r.1 own
   own_unread_by_p ParityP own r = own
   own_unread_by_p ParityQ own r = own
 
-  own_unread_by_q : (e : Element) → Reads n k AsItStands e → Unread ByQ e
+  own_unread_by_q : (e : Element) → UsesElement n k AsItStands e → Unread ByQ e
   own_unread_by_q (Slice i) own r = r.1 own
   own_unread_by_q ParityP own r = own
   own_unread_by_q ParityQ own r = own
 
-  own_unread_by_both : (j : ℕ) (e : Element) → Reads n k AsItStands e → Unread (ByBoth j) e
+  own_unread_by_both : (j : ℕ) (e : Element) → UsesElement n k AsItStands e → Unread (ByBoth j) e
   own_unread_by_both j (Slice i) own r = r.1 own
   own_unread_by_both j ParityP own r = own
   own_unread_by_both j ParityQ own r = own
 
   -- where the slice itself is wrong, and one more element
   Rebuilds : ℕ → Element → Type 0
-  Rebuilds parity f = (way : Way) × IsWay n k parity way × Unread way f × ((e : Element) → Reads n k AsItStands e → Unread way e)
+  Rebuilds parity f = (way : Way) × IsWay n k parity way × Unread way f × ((e : Element) → UsesElement n k AsItStands e → Unread way e)
 
   beside_slice : (parity i : ℕ) → 2 ≤ parity → i ≢ k → Rebuilds parity (Slice i)
   unfolding Rebuilds
@@ -193,7 +194,7 @@ module _ (size n k : ℕ) (held right : Stripe) (lt : k < n) (most : n ≤ 63) (
         weighted_sum = ap (parity_q size) back ∙ whole.q;
       }))
 
-  gives : (parity : ℕ) (way : Way) → IsWay n k parity way → ((element : Element) → Reads n k way element → bytes_of held element
+  gives : (parity : ℕ) (way : Way) → IsWay n k parity way → ((element : Element) → UsesElement n k way element → bytes_of held element
       ≡ bytes_of right element) → Gives size held k way slice
   gives parity AsItStands is same = same (Slice k) refl
   gives parity ByP is same = by_p (λ i h ne. same (Slice i) (h, ne)) (same ParityP tt)
@@ -210,5 +211,5 @@ some_way_gives_right_slice size n k parity held right wrong lt most enough few c
       way,
       choice.1,
       right_elements_give_right_slice size n k parity held right way lt most count whole choice.1
-          (λ element reads. same element (λ among. All-contains (λ e. Reads n k way e → ⊥) wrong element choice.2 among reads)),
+          (λ element reads. same element (λ among. All-contains (λ e. UsesElement n k way e → ⊥) wrong element choice.2 among reads)),
     )

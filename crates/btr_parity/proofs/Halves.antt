@@ -18,7 +18,8 @@ low_half b = and_mask b 4
 -- a byte is its low half and 16 times its high half
 halves : (b : ℕ) → b ≡ bit_xor (b % 16) (16 * (b / 16))
 halves b =
-    let block : bit_xor (0 * 2 ^ 4 + b % 16) (b / 16 * 2 ^ 4 + 0) ≡ bit_xor 0 (b / 16) * 2 ^ 4 + bit_xor (b % 16) 0 = xor_block 4 0 (b / 16) (b % 16) 0 (omega arith) (omega arith) in
+    let block : bit_xor (0 * 2 ^ 4 + b % 16) (b / 16 * 2 ^ 4 + 0) ≡ bit_xor 0 (b / 16) * 2 ^ 4 + bit_xor (b % 16) 0 =
+    xor_block 4 0 (b / 16) (b % 16) 0 (omega arith) (omega arith) in
     let l : 0 * 2 ^ 4 + b % 16 ≡ b % 16 = omega arith in
     let r : b / 16 * 2 ^ 4 + 0 ≡ 16 * (b / 16) = omega arith in
     let whole : b ≡ b / 16 * 2 ^ 4 + b % 16 = omega arith in
@@ -66,7 +67,8 @@ module _ (bytes : List ℕ) (long : length bytes ≡ 16) (fits : Each1 (Fits w8)
   unfolding high_of
   high_within =
       SwzOk-from_below w8 16 1 16 0 (high_of bytes) refl (omega (arith, length-high_of))
-      (Each1-from_get_or (λ j. j < 16) (high_of bytes) 0 (λ i lt. let within : i < 16 = omega (arith, length-high_of) in omega (arith, get_or-high_of i within, byte_at i within)))
+      (Each1-from_get_or (λ j. j < 16) (high_of bytes) 0 (λ i lt. let within : i
+      < 16 = omega (arith, length-high_of) in omega (arith, get_or-high_of i within, byte_at i within)))
 
   -- what a table gives at a place
   found : (factor step : ℕ) (js : List ℕ) (i j : ℕ) → length js ≡ 16 → i < 16 → get_or js i 0 ≡ j → j < 16
@@ -102,7 +104,8 @@ module _ (bytes : List ℕ) (long : length bytes ≡ 16) (fits : Each1 (Fits w8)
 
   looked_up : (factor : ℕ) → zip2 bit_xor (lows factor) (highs factor) ≡ map (product factor) bytes
   looked_up factor =
-      let len : length (zip2 bit_xor (lows factor) (highs factor)) ≡ 16 = length-zip2 bit_xor (lows factor) (highs factor) (length-lows factor ∙ sym (length-highs factor)) ∙ length-lows factor in
+      let len : length (zip2 bit_xor (lows factor) (highs factor)) ≡ 16 =
+      length-zip2 bit_xor (lows factor) (highs factor) (length-lows factor ∙ sym (length-highs factor)) ∙ length-lows factor in
       ext_get_or 0 (zip2 bit_xor (lows factor) (highs factor)) (map (product factor) bytes) (len ∙ sym (length-map bytes (product factor) ∙ long))
       (λ i lt. let within : i < 16 = omega (arith, len) in at_lane factor i within ∙ sym (get_or-map (product factor) bytes i 0 0 (omega arith)))
 

@@ -158,7 +158,8 @@ next_bit : (b k : ℕ) → b % 2 ^ (k + 1) ≡ bit_xor (b % 2 ^ k) (b / 2 ^ k % 
 next_bit b k =
     let c : ℕ = b / 2 ^ k % 2 in
     let more : 1 + k ≡ k + 1 = omega arith in
-    let block : bit_xor (0 * 2 ^ k + b % 2 ^ k) (c * 2 ^ k + 0) ≡ bit_xor 0 c * 2 ^ k + bit_xor (b % 2 ^ k) 0 = xor_block k 0 c (b % 2 ^ k) 0 (mod_below b (2 ^ k) (pow_pos k)) (pow_pos k) in
+    let block : bit_xor (0 * 2 ^ k + b % 2 ^ k) (c * 2 ^ k + 0) ≡ bit_xor 0 c * 2 ^ k + bit_xor (b % 2 ^ k) 0 =
+    xor_block k 0 c (b % 2 ^ k) 0 (mod_below b (2 ^ k) (pow_pos k)) (pow_pos k) in
     let l : 0 * 2 ^ k + b % 2 ^ k ≡ b % 2 ^ k = omega arith in
     let r : c * 2 ^ k + 0 ≡ c * 2 ^ k = omega arith in
     ap (λ n. b % 2 ^ n) (sym more) ∙ mod-pow-add b 1 k ∙ sym (ap₂ (λ u v. u * 2 ^ k + v) (xor_zero_l c) (xor_zero_r (b % 2 ^ k))) ∙ sym block ∙ ap₂ bit_xor l r

@@ -25,7 +25,8 @@ quotient-xor (suc n) a b =
     let m = modulus * 2 ^ n in
     let c : ℕ = a / 2 ^ k % 2 in
     let d : ℕ = b / 2 ^ k % 2 in
-    let spread : (x : ℕ) → bit_xor a b / 2 ^ k % 2 * x ≡ bit_xor (c * x) (d * x) = λ x. ap (λ y. y * x) (bit-xor k a b) ∙ coefficients-xor c d x (omega arith) (omega arith) in
+    let spread : (x : ℕ) → bit_xor a b / 2 ^ k % 2 * x ≡ bit_xor (c * x) (d * x) =
+    λ x. ap (λ y. y * x) (bit-xor k a b) ∙ coefficients-xor c d x (omega arith) (omega arith) in
     ap₂ bit_xor (spread (2 ^ n))
     (ap (λ x. quotient n (bit_xor (bit_xor a b) x)) (spread m) ∙ ap (quotient n) (xor_swap a b (c * m) (d * m))
     ∙ quotient-xor n (bit_xor a (c * m)) (bit_xor b (d * m)))
@@ -84,7 +85,12 @@ is_product : (a b : ℕ) → a < 256 → b < 256 → IsProduct a b (product a b)
 unfolding product whole
 is_product a b h k =
     let small = multiplied-lt a b h k in
-    record { quotient = quotient 7 (multiplied 8 a b); byte = product-lt a b h k; small = quotient-lt (multiplied 8 a b) small; whole = is_whole (multiplied 8 a b) small }
+    record {
+      quotient = quotient 7 (multiplied 8 a b);
+      byte = product-lt a b h k;
+      small = quotient-lt (multiplied 8 a b) small;
+      whole = is_whole (multiplied 8 a b) small;
+    }
 
 all_gone : upto (λ k. eqb (reduced 7 (multiplied 7 (2 ^ k) modulus)) 0) 7 ≡ true
 unfolding multiplied reduced

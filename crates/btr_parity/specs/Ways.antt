@@ -24,19 +24,19 @@ IsWay n k parity ByQ = 2 ≤ parity
 IsWay n k parity (ByBoth j) = (2 ≤ parity) × (j < n) × (j ≢ k)
 
 -- to come by slice k of n in this way, the element is read
-abbrev pub Reads : ℕ → ℕ → Way → Element → Type 0
-Reads n k AsItStands (Slice i) = i ≡ k
-Reads n k AsItStands ParityP = ⊥
-Reads n k AsItStands ParityQ = ⊥
-Reads n k ByP (Slice i) = (i < n) × (i ≢ k)
-Reads n k ByP ParityP = Unit {0}
-Reads n k ByP ParityQ = ⊥
-Reads n k ByQ (Slice i) = (i < n) × (i ≢ k)
-Reads n k ByQ ParityP = ⊥
-Reads n k ByQ ParityQ = Unit {0}
-Reads n k (ByBoth j) (Slice i) = (i < n) × (i ≢ k) × (i ≢ j)
-Reads n k (ByBoth j) ParityP = Unit {0}
-Reads n k (ByBoth j) ParityQ = Unit {0}
+abbrev pub UsesElement : ℕ → ℕ → Way → Element → Type 0
+UsesElement n k AsItStands (Slice i) = i ≡ k
+UsesElement n k AsItStands ParityP = ⊥
+UsesElement n k AsItStands ParityQ = ⊥
+UsesElement n k ByP (Slice i) = (i < n) × (i ≢ k)
+UsesElement n k ByP ParityP = Unit {0}
+UsesElement n k ByP ParityQ = ⊥
+UsesElement n k ByQ (Slice i) = (i < n) × (i ≢ k)
+UsesElement n k ByQ ParityP = ⊥
+UsesElement n k ByQ ParityQ = Unit {0}
+UsesElement n k (ByBoth j) (Slice i) = (i < n) × (i ≢ k) × (i ≢ j)
+UsesElement n k (ByBoth j) ParityP = Unit {0}
+UsesElement n k (ByBoth j) ParityQ = Unit {0}
 
 -- the bytes of a full stripe
 pub record Stripe : Type 0 where
@@ -68,13 +68,13 @@ Gives size stripe k (ByBoth j) X = IsTheOne size (FitsBoth size stripe.slices st
 abbrev pub SomeWayReadsNoneWrong : Type 0
 SomeWayReadsNoneWrong = (n k parity : ℕ) (wrong : List Element)
     → k < n → parity ≤ 2 → length wrong ≤ parity
-    → (way : Way) × IsWay n k parity way × All (λ element. ¬ (Reads n k way element)) wrong
+    → (way : Way) × IsWay n k parity way × All (λ element. ¬ (UsesElement n k way element)) wrong
 
 -- a way that reads right elements gives the right slice
 abbrev pub RightElementsGiveRightSlice : Type 0
 RightElementsGiveRightSlice = (size n k parity : ℕ) (held right : Stripe) (way : Way)
     → k < n → n ≤ 63 → length held.slices ≡ n → IsConsistent size n right → IsWay n k parity way
-    → ((element : Element) → Reads n k way element → bytes_of held element ≡ bytes_of right element)
+    → ((element : Element) → UsesElement n k way element → bytes_of held element ≡ bytes_of right element)
     → Gives size held k way (bytes_of right (Slice k))
 
 -- so where at most as many elements are wrong as there is parity, some way gives the right slice

@@ -105,7 +105,8 @@ pub lent_when_free : (count free k : ℕ) (lent : List Bool) → lent_of count f
 lent_when_free count free k lent view within few lt one =
     let below : k < count = elim (cases_lt k count) [ inl lt ↦ lt | inr le ↦ absurd (omega (arith, one, bit_at_above free count k within le)) ] in
     let was_free : get_or (lent_of count free) k true ≡ false = get_or-lent_of count free k true below ∙ ap (λ b. eqb b 0) one in
-    let after = lent_changed count free (bit_and free (bit_not w64 (bit k))) k true few (ap (λ b. eqb b 0) (bit_at_clear_same w64 free k lt)) (bit_at_clear_other w64 free k lt) in
+    let after = lent_changed count free (bit_and free (bit_not w64 (bit k))) k true few (ap (λ b. eqb b 0) (bit_at_clear_same w64 free k lt))
+    (bit_at_clear_other w64 free k lt) in
     record {
       was_free = ap (λ l. get_or l k true) (sym view) ∙ was_free;
       within = omega (arith, within, and_le_l free (bit_not w64 (bit k)));
@@ -127,7 +128,8 @@ pub record IsFreed (count free : ℕ) (lent : List Bool) (k : ℕ) : Type 0 wher
 pub freed : (count free k : ℕ) (lent : List Bool) → lent_of count free ≡ lent → free < 2 ^ count → count ≤ 64 → k < count → IsFreed count free lent k
 freed count free k lent view within few below =
     let lt : k < 64 = omega (arith, below, few) in
-    let after = lent_changed count free (bit_or free (bit k)) k false few (ap (λ b. eqb b 0) (bit_at_set_same w64 free k lt)) (bit_at_set_other_below free k lt) in
+    let after = lent_changed count free (bit_or free (bit k)) k false few (ap (λ b. eqb b 0) (bit_at_set_same w64 free k lt))
+    (bit_at_set_other_below free k lt) in
     record {
       within = or_lt count free (bit k) within (omega (arith, one_shl k 64 lt, pow_below k count below));
       after = after ∙ ap (λ l. set l k false) view;

@@ -39,7 +39,8 @@ are_live_taken pool loans k are free = record {
 
 -- one was written
 pub are_live_written : (pool : Slots) (loans : List ℕ) (k : ℕ) (written : List ℕ) → AreLive pool loans → AreLive (with_bytes pool k written) loans
-are_live_written pool loans k written are = record { live = λ i lt. live_after_write pool (get_or loans i 0) k written (are.live i lt); distinct = are.distinct }
+are_live_written pool loans k written are =
+    record { live = λ i lt. live_after_write pool (get_or loans i 0) k written (are.live i lt); distinct = are.distinct }
 
 -- one was given back
 pub are_live_given : (pool : Slots) (loans : List ℕ) (i : ℕ) → AreLive pool loans → i < length loans
@@ -88,7 +89,8 @@ pub in_hand_taken : (pool taken written : Slots) (size k : ℕ) (bytes : List �
     ≡ with_lent pool k → written ≡ with_bytes taken k bytes → more ≡ loans ++ k ∷ [] → InHand written size more
 in_hand_taken pool taken written size k bytes loans more hand free is_taken is_written is_more =
     let is : written ≡ with_bytes (with_lent pool k) k bytes = is_written ∙ ap (λ p. with_bytes p k bytes) is_taken in
-    let are : AreLive (with_bytes (with_lent pool k) k bytes) (loans ++ k ∷ []) = are_live_written (with_lent pool k) (loans ++ k ∷ []) k bytes (are_live_taken pool loans k hand.are free) in
+    let are : AreLive (with_bytes (with_lent pool k) k bytes) (loans ++ k ∷ []) =
+    are_live_written (with_lent pool k) (loans ++ k ∷ []) k bytes (are_live_taken pool loans k hand.are free) in
     record {
       size_is = ap (λ p. p.size) is ∙ hand.size_is;
       are = subst (λ p. AreLive p more) (sym is) (subst (AreLive (with_bytes (with_lent pool k) k bytes)) (sym is_more) are);

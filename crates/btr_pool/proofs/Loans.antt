@@ -59,7 +59,8 @@ bytes_at-with_bytes_other pool j k written ne = get_or-set_other pool.bytes k j 
 -- to take a slot and give it back leaves the pool as it was
 pub with_free-with_lent : (pool : Slots) (k : ℕ) → IsFree pool k → with_free (with_lent pool k) k ≡ pool
 with_free-with_lent pool k free =
-    let back : set (set pool.lent k true) k false ≡ pool.lent = set-set pool.lent k true false ∙ ap (set pool.lent k) (sym free.free) ∙ set-get_or pool.lent k true in
+    let back : set (set pool.lent k true) k false ≡ pool.lent =
+    set-set pool.lent k true false ∙ ap (set pool.lent k) (sym free.free) ∙ set-get_or pool.lent k true in
     λ i. record { size = pool.size; lent = back i; bytes = pool.bytes }
 
 count_set : (lent : List Bool) (k : ℕ) → get_or lent k true ≡ false → count_by not (set lent k true) + 1 ≡ count_by not lent
@@ -75,7 +76,8 @@ free_count-with_lent pool k free = count_set pool.lent k free.free
 -- and one more
 pub free_count-with_free : (pool : Slots) (k : ℕ) → IsLive pool k → free_count (with_free pool k) ≡ free_count pool + 1
 free_count-with_free pool k live =
-    let again : set (set pool.lent k false) k true ≡ pool.lent = set-set pool.lent k false true ∙ ap (set pool.lent k) (sym live.lent) ∙ set-get_or pool.lent k false in
+    let again : set (set pool.lent k false) k true ≡ pool.lent =
+    set-set pool.lent k false true ∙ ap (set pool.lent k) (sym live.lent) ∙ set-get_or pool.lent k false in
     let free = free_when_given pool k live in
     sym (count_set (set pool.lent k false) k free.free) ∙ ap (λ lent. count_by not lent + 1) again
 
@@ -88,7 +90,8 @@ loans_changed old new k loan size below here others =
     let new_size : length (loans_of new) ≡ count = length-map-range_with_len (loan_at new) 0 (length new.lent) ∙ size in
     same_lists (loans_of new) (set (loans_of old) k loan) (new_size ∙ sym (length-set (loans_of old) k loan ∙ old_size)) (λ j d lt.
     let within : j < count = omega (arith, lt, new_size) in
-    let at : get_or (loans_of new) j d ≡ loan_at new j = get_or-map-range_with_len (loan_at new) 0 (length new.lent) j j d (omega (arith, within, size)) (omega arith) in
+    let at : get_or (loans_of new) j d ≡ loan_at new j =
+    get_or-map-range_with_len (loan_at new) 0 (length new.lent) j j d (omega (arith, within, size)) (omega arith) in
     at ∙ elim (cases_eq j k) [
       | inl e ↦ ap (loan_at new) e ∙ here ∙ sym (ap (λ n. get_or (set (loans_of old) k loan) n d) e
           ∙ get_or-set_same (loans_of old) k loan d (omega (arith, below, old_size)))
@@ -130,7 +133,8 @@ loans_of-with_bytes_free pool k written free =
 pub count_by-loans_of : (pool : Slots) → count_by is_none (loans_of pool) ≡ free_count pool
 count_by-loans_of pool =
     let places : List ℕ = range_with_len 0 (length pool.lent) in
-    let lent : pool.lent ≡ map (λ k. get_or pool.lent k false) places = fill_by_all (λ k. get_or pool.lent k false) pool.lent (length pool.lent) false refl (λ k lt. refl) in
+    let lent : pool.lent ≡ map (λ k. get_or pool.lent k false) places =
+    fill_by_all (λ k. get_or pool.lent k false) pool.lent (length pool.lent) false refl (λ k lt. refl) in
     let none : (λ k. is_none (loan_at pool k)) ≡ (λ k. not (get_or pool.lent k false)) = λ i k. none_of (get_or pool.lent k false) (bytes_at pool k) i in
     fold-map (λ n loan. n + cond (is_none loan) 1 0) (loan_at pool) 0 places
     ∙ ap (λ test. count_by test places) none
@@ -142,4 +146,21 @@ count_by-loans_of pool =
     none_of false bytes = refl
 
 -- the laws above, for `grind`
-pub ruleset loan_laws = (apart, live_when_lent, live_after_take, live_after_give, live_after_write, free_when_given, bytes_at-with_bytes_same, bytes_at-with_bytes_other, with_free-with_lent, free_count-with_lent, free_count-with_free, loans_of-with_lent, loans_of-with_free, loans_of-with_bytes, loans_of-with_bytes_free, set-set)
+pub ruleset loan_laws = (
+  apart,
+  live_when_lent,
+  live_after_take,
+  live_after_give,
+  live_after_write,
+  free_when_given,
+  bytes_at-with_bytes_same,
+  bytes_at-with_bytes_other,
+  with_free-with_lent,
+  free_count-with_lent,
+  free_count-with_free,
+  loans_of-with_lent,
+  loans_of-with_free,
+  loans_of-with_bytes,
+  loans_of-with_bytes_free,
+  set-set,
+)

@@ -28,7 +28,8 @@ pieces-take zero size bytes = refl
 pieces-take (suc count) size bytes =
     let all : suc count * size ≡ size + count * size = omega arith in
     let first : take size (take (suc count * size) bytes) ≡ take size bytes = take-take size (suc count * size) bytes (omega arith) in
-    let rest : drop size (take (suc count * size) bytes) ≡ take (count * size) (drop size bytes) = ap (λ n. drop size (take n bytes)) all ∙ drop-take size (count * size) bytes in
+    let rest : drop size (take (suc count * size) bytes) ≡ take (count * size) (drop size bytes) =
+    ap (λ n. drop size (take n bytes)) all ∙ drop-take size (count * size) bytes in
     let others : pieces count size (take (count * size) (drop size bytes)) ≡ pieces count size (drop size bytes) = pieces-take count size (drop size bytes) in
     cc
 
@@ -58,7 +59,8 @@ pieces-over (suc count) size (suc k) written bytes lt one whole =
     let start : suc k * size ≡ size + k * size = omega arith in
     let after : List ℕ = written ++ drop (length written) (drop (suc k * size) bytes) in
     let long : size ≤ length (take (suc k * size) bytes) = omega (arith, length-take (suc k * size) bytes, whole) in
-    let first : take size (take (suc k * size) bytes ++ after) ≡ take size bytes = take-append-le size (take (suc k * size) bytes) after long ∙ take-take size (suc k * size) bytes (omega arith) in
+    let first : take size (take (suc k * size) bytes ++ after) ≡ take size bytes =
+    take-append-le size (take (suc k * size) bytes) after long ∙ take-take size (suc k * size) bytes (omega arith) in
     let rest : drop size (take (suc k * size) bytes ++ after) ≡ over (k * size) written (drop size bytes) =
     drop-append-le size (take (suc k * size) bytes) after long
     ∙ ap (λ front. front ++ after) (ap (λ n. drop size (take n bytes)) start ∙ drop-take size (k * size) bytes)

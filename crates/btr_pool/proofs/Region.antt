@@ -47,7 +47,12 @@ read_when_live pool slots k l read view inv is live value =
     }
 
 -- the slots with bytes from slot k on, cut from the region itself
-poured_cut : (pool : Inside) (k : ℕ) (written : List ℕ) → IsPool pool → poured (slots_of pool) k written ≡ record { size = pool.size; lent = pool.ledger; bytes = pieces (length pool.ledger) pool.size (over (k * pool.size) written pool.region.items) }
+poured_cut : (pool : Inside) (k : ℕ) (written : List ℕ) → IsPool pool
+    → poured (slots_of pool) k written ≡ record {
+      size = pool.size;
+      lent = pool.ledger;
+      bytes = pieces (length pool.ledger) pool.size (over (k * pool.size) written pool.region.items);
+    }
 poured_cut pool k written inv = λ i. record {
   size = pool.size;
   lent = pool.ledger;
@@ -56,16 +61,29 @@ poured_cut pool k written inv = λ i. record {
 }
 
 -- the slots once a `&mut` into the region from slot k on has ended
-pub poured_when_written : (pool : Inside) (slots : Slots) (k l : ℕ) (written : List ℕ) → slots_of pool ≡ slots → IsPool pool → k ≡ l → slots_of (record { region = with_items_from pool.region (k * pool.size) written; size = pool.size; ledger = pool.ledger }) ≡ poured slots l written
+pub poured_when_written : (pool : Inside) (slots : Slots) (k l : ℕ) (written : List ℕ) → slots_of pool ≡ slots → IsPool pool → k ≡ l
+    → slots_of (record { region = with_items_from pool.region (k * pool.size) written; size = pool.size; ledger = pool.ledger }) ≡ poured slots l written
 poured_when_written pool slots k l written view inv is =
     let count = length pool.ledger in
     let bytes : List ℕ = pool.region.items in
     let whole : pool.region.len ≡ count * pool.size = pool.region.ok.0 ∙ inv.whole in
     let new : List ℕ = over (k * pool.size) written bytes in
     let back : List ℕ = drop (k * pool.size) bytes in
-    let long : pool.region.len ≤ length new = omega (arith, pool.region.ok.0, length-append (take (k * pool.size) bytes) (written ++ drop (length written) back), length-append written (drop (length written) back), length-take (k * pool.size) bytes, length-drop (k * pool.size) bytes, length-drop (length written) back) in
-    let cut : take pool.region.len (new ++ drop (length new) bytes) ≡ take (count * pool.size) new = take-append-le pool.region.len new (drop (length new) bytes) long ∙ ap (λ n. take n new) whole in
-    let same : pieces count pool.size (take pool.region.len (new ++ drop (length new) bytes)) ≡ pieces count pool.size new = ap (pieces count pool.size) cut ∙ pieces-take count pool.size new in
+    let long : pool.region.len ≤ length new =
+    omega (
+      arith,
+      pool.region.ok.0,
+      length-append (take (k * pool.size) bytes) (written ++ drop (length written) back),
+      length-append written
+          (drop (length written) back),
+      length-take (k * pool.size) bytes,
+      length-drop (k * pool.size) bytes,
+      length-drop (length written) back,
+    ) in
+    let cut : take pool.region.len (new ++ drop (length new) bytes) ≡ take (count * pool.size) new =
+    take-append-le pool.region.len new (drop (length new) bytes) long ∙ ap (λ n. take n new) whole in
+    let same : pieces count pool.size (take pool.region.len (new ++ drop (length new) bytes)) ≡ pieces count pool.size new =
+    ap (pieces count pool.size) cut ∙ pieces-take count pool.size new in
     (λ i. record { size = pool.size; lent = pool.ledger; bytes = same i })
     ∙ sym (poured_cut pool k written inv)
     ∙ ap (λ j. poured (slots_of pool) j written) is
@@ -78,5 +96,6 @@ poured_alone pool slots k l view inv is live written one =
     let below = below_when_live pool slots k l view is live in
     let piece : length written ≡ pool.size = one ∙ sym (ap (λ s. s.size) view) in
     let set_one = pieces-over (length pool.ledger) pool.size k written pool.region.items below piece inv.whole in
-    let here : poured (slots_of pool) k written ≡ with_bytes (slots_of pool) k written = poured_cut pool k written inv ∙ (λ i. record { size = pool.size; lent = pool.ledger; bytes = set_one i }) in
+    let here : poured (slots_of pool) k written ≡ with_bytes (slots_of pool) k written =
+    poured_cut pool k written inv ∙ (λ i. record { size = pool.size; lent = pool.ledger; bytes = set_one i }) in
     subst (λ s. poured s l written ≡ with_bytes s l written) view (subst (λ j. poured (slots_of pool) j written ≡ with_bytes (slots_of pool) j written) is here)

@@ -1,5 +1,6 @@
 -- What a contract sees of a pool: its slots, each with its bytes, lent or free.
-use Rattle.std.specs.Prelude.{◌≡◌, ℕ, zero, suc, ◌*◌, Bool, true, false, not, List, [], ◌∷◌, ◌++◌, take, drop, length, replicate, slice_index_or, slice_set, count_by, map, Option, Some, None, if◌then◌else◌, ◌<◌}
+use Rattle.std.specs.Prelude.{◌≡◌, ℕ, zero, suc, ◌*◌, Bool, true, false, not, List, [], ◌∷◌, ◌++◌, take, drop, length, replicate, slice_index_or}
+use Rattle.std.specs.Prelude.{slice_set, count_by, map, Option, Some, None, if◌then◌else◌, ◌<◌}
 use Rattle.std.specs.List.{concat, range_with_len}
 
 -- a pool of slots of one size, each with its bytes, lent or free

@@ -1,4 +1,5 @@
-ghost use Rattle.std.specs.Prelude.{◌≡◌, ◌+◌, ◌<◌, ◌≤◌, ◌↔◌, true, false, not, length, replicate, if◌then◌else◌, slice_index_or, slice_set, count_by, IsTrue, IsNone, IfSome, IfNone};
+ghost use Rattle.std.specs.Prelude.{◌≡◌, ◌+◌, ◌<◌, ◌≤◌, ◌↔◌, true, false, not, length, replicate, if◌then◌else◌, slice_index_or, slice_set, count_by};
+ghost use Rattle.std.specs.Prelude.{IsTrue, IsNone, IfSome, IfNone};
 ghost use Rattle.std.specs.Int.{bit_at};
 
 use std::marker::Model;

@@ -53,7 +53,8 @@ module _ (Bs : ℕ → Want → Result (List ℕ) ℕ) (a : ℕ) where
   far_none v old h =
       let q : Run Want ℕ ℕ (Unit {0}) = run (does v.items) (Ok tt) in
       let w : List (Mark Want Row) = Wants (Catalogue a) ∷ [] in
-      let g : GoesTo Bs (catalogue a) (first (Wants (Catalogue a)) q) = (h.0, q, refl, subst (λ x. goes_given x (λ bytes. GoesTo Bs (items bytes)) q) (sym h.1) (goes_items v.items)) in
+      let g : GoesTo Bs (catalogue a) (first (Wants (Catalogue a)) q) =
+      (h.0, q, refl, subst (λ x. goes_given x (λ bytes. GoesTo Bs (items bytes)) q) (sym h.1) (goes_items v.items)) in
       record {
         seen = Catalogue a ∷ [];
         done = [];

@@ -98,7 +98,8 @@ find-remove p (x ∷ xs) (suc i) d lt fails = ap (λ found. cond (p x) (Some x) 
 
 -- Opening an image of the shelf.
 module _ (name : List ℕ) (write : Bool) (images images' : List MemoryImage) (opened at : ℕ) (within : opened ≤ length images)
-    (shut : list_any (is_named name) (take opened images) ≡ false) (found : Some at ≡ position (is_named name) (drop opened images)) (m : Moves opened at write images images') where
+    (shut : list_any (is_named name) (take opened images) ≡ false) (found : Some at ≡ position (is_named name) (drop opened images))
+    (m : Moves opened at write images images') where
   stood : get_or (drop opened images) at m.image ≡ m.image
   stood = get_or-drop opened images at m.image ∙ sym m.stood
 
@@ -122,10 +123,12 @@ module _ (name : List ℕ) (write : Bool) (images images' : List MemoryImage) (o
       number : opened ≡ length (map (λ (image : MemoryImage). image.slot) (take opened images))
       number = omega (arith, length-map (take opened images) (λ (image : MemoryImage). image.slot), length-take opened images)
 
-      appended : map (λ (image : MemoryImage). image.slot) (take (opened + 1) images') ≡ map (λ (image : MemoryImage). image.slot) (take opened images) ++ record { name = name; len = m.image.slot.len; write = write } ∷ []
+      appended : map (λ (image : MemoryImage). image.slot) (take (opened + 1) images')
+          ≡ map (λ (image : MemoryImage). image.slot) (take opened images) ++ record { name = name; len = m.image.slot.len; write = write } ∷ []
       appended = ap (map (λ (image : MemoryImage). image.slot)) front
           ∙ map_push (λ (image : MemoryImage). image.slot) (take opened images) (opened_for write m.image)
-          ∙ ap (λ (n : List ℕ). map (λ (image : MemoryImage). image.slot) (take opened images) ++ record { name = n; len = m.image.slot.len; write = write } ∷ []) called
+          ∙ ap (λ (n : List ℕ). map (λ (image : MemoryImage). image.slot) (take opened images) ++ record { name = n; len = m.image.slot.len; write = write }
+          ∷ []) called
 
   -- the shelf and the opened images
   named_in : (other : List ℕ) → list_any (is_named other) (take (opened + 1) images')
@@ -145,7 +148,8 @@ module _ (name : List ℕ) (write : Bool) (images images' : List MemoryImage) (o
         (named_in name ∙ ap (λ b. list_any (is_named name) (take opened images) || (b || false)) ((bytes_eq-Decides m.image.slot.name name).1 called)
         ∙ ap (λ b. b || true) shut);
     others = λ other apart.
-        let differs : bytes_eq m.image.slot.name other ≡ false = false_from_ne_true (bytes_eq m.image.slot.name other) (λ e. apart (sym ((bytes_eq-Decides m.image.slot.name other).0 e) ∙ called)) in
+        let differs : bytes_eq m.image.slot.name other ≡ false =
+        false_from_ne_true (bytes_eq m.image.slot.name other) (λ e. apart (sym ((bytes_eq-Decides m.image.slot.name other).0 e) ∙ called)) in
         ap (λ b. cond b None (option_map bytes_in (find (is_named other) (drop (opened + 1) images'))))
         (named_in other ∙ ap (λ b. list_any (is_named other) (take opened images) || (b || false)) differs
         ∙ or-false (list_any (is_named other) (take opened images)))
@@ -154,7 +158,8 @@ module _ (name : List ℕ) (write : Bool) (images images' : List MemoryImage) (o
   }
 
 -- Reading and writing an open image.
-module _ (images : List MemoryImage) (opened slot : ℕ) (image : MemoryImage) (front : slot < opened) (within : opened ≤ length images) (is : image ≡ get_or images slot image) where
+module _ (images : List MemoryImage) (opened slot : ℕ) (image : MemoryImage) (front : slot < opened) (within : opened ≤ length images)
+    (is : image ≡ get_or images slot image) where
   in_front : get_or (take opened images) slot image ≡ image
   in_front = get_or-take opened images slot image front ∙ sym is
 

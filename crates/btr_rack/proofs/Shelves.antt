@@ -52,7 +52,8 @@ not-named name other image is apart =
 -- Writing over the image of a name.
 pub rewrites : (name : List ℕ) (off at : ℕ) (bytes : List ℕ) (old : MemoryRack) (ys : List MemoryImage) (image : MemoryImage) → Some at
     ≡ position (is_named name) old.images
-    → image ≡ get_or old.images at image → off + length bytes ≤ image.slot.len → Overwrites at off bytes old.images ys → Rewrites name off bytes old (record old { images = ys })
+    → image ≡ get_or old.images at image → off + length bytes ≤ image.slot.len → Overwrites at off bytes old.images ys
+    → Rewrites name off bytes old (record old { images = ys })
 rewrites name off at bytes old ys image found read fits o = record {
   image = bytes_in image;
   stood = ap (option_map bytes_in) (finds name old.images at image s ∙ ap Some (sym read));
@@ -61,7 +62,8 @@ rewrites name off at bytes old ys image found read fits o = record {
       ∙ ap (option_map bytes_in) (find-set (is_named name) old.images at o.after s.first s.within called)
       ∙ ap Some (o.pasted_in ∙ ap (λ i. pasted (bytes_in i) off bytes) same);
   others = λ other apart.
-      let was : is_named other (get_or old.images at image) ≡ false = not-named name other (get_or old.images at image) (stands-named name old.images at image found) apart in
+      let was : is_named other (get_or old.images at image) ≡ false =
+      not-named name other (get_or old.images at image) (stands-named name old.images at image found) apart in
       ap (λ zs. option_map bytes_in (find (is_named other) zs)) o.now
       ∙ ap (option_map bytes_in) (find_past (is_named other) old.images at o.after image was (not-named name other o.after called apart));
   slots = ap (λ zs. map (λ (i : MemoryImage). i.slot) (take old.opened zs)) o.now

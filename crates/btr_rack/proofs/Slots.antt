@@ -15,17 +15,21 @@ pub length_slots : (images : List OpenImage) → length (slots_of images) ≡ le
 length_slots images = length-map images (λ (im : OpenImage). im.slot)
 
 -- a file that was opened as was asked
-pub slots_push : (opening : Opening) (name : List ℕ) (write : Bool) (images images' : List OpenImage) (image : OpenImage) → IsOpenedAs opening image → image.slot.len < 2 ^ 63 → opening ≡ opening_of name write → images' ≡ images ++ image ∷ [] → (len : ℕ) × (len < 2 ^ 63) × (slots_of images' ≡ slots_of images ++ record { name = name; len = len; write = write } ∷ [])
+pub slots_push : (opening : Opening) (name : List ℕ) (write : Bool) (images images' : List OpenImage) (image : OpenImage) → IsOpenedAs opening image
+    → image.slot.len < 2 ^ 63 → opening ≡ opening_of name write → images' ≡ images ++ image ∷ [] → (len : ℕ) × (len < 2 ^ 63)
+    × (slots_of images' ≡ slots_of images ++ record { name = name; len = len; write = write } ∷ [])
 slots_push opening name write images images' image is short asked all =
     let named : image.slot.name ≡ name = is.name ∙ ap (λ (o : Opening). o.name) asked in
     let mode : image.slot.write ≡ write = is.write ∙ ap (λ (o : Opening). o.write) asked in
     let slot : image.slot ≡ record { name = name; len = image.slot.len; write = write } =
-    ap (λ n. record { name = n; len = image.slot.len; write = image.slot.write }) named ∙ ap (λ w. record { name = name; len = image.slot.len; write = w }) mode in
+    ap (λ n. record { name = n; len = image.slot.len; write = image.slot.write }) named
+    ∙ ap (λ w. record { name = name; len = image.slot.len; write = w }) mode in
     (image.slot.len, short, ap slots_of all ∙ map_push (λ (im : OpenImage). im.slot) images image ∙ ap (λ (s : Slot). slots_of images ++ s ∷ []) slot)
 
 -- what is seen of a rack of files
 abbrev pub seen_files : List Slot → List Place → List Place → Account → Seen
-seen_files slots unsynced never_synced account = record { slots = slots; held = None; shelf = None; unsynced = unsynced; never_synced = never_synced; sure = false; account = account }
+seen_files slots unsynced never_synced account =
+    record { slots = slots; held = None; shelf = None; unsynced = unsynced; never_synced = never_synced; sure = false; account = account }
 
 pub same_seen : (slots slots' : List Slot) (unsynced unsynced' never never' : List Place) (account : Account) → slots' ≡ slots → unsynced' ≡ unsynced
     → never' ≡ never

@@ -44,7 +44,8 @@ grown_first off bytes file file' piece h e f =
 grown_next : (off : ℕ) (bytes file file' piece : List ℕ) → file' ≡ resized off file ++ bytes → overwritten (off + length bytes) piece file'
     ≡ resized off file ++ (bytes ++ piece)
 grown_next off bytes file file' piece f =
-    let l : length (resized off file ++ bytes) ≡ off + length bytes = length-append (resized off file) bytes ∙ ap (λ n. n + length bytes) (length_resized off file) in
+    let l : length (resized off file ++ bytes) ≡ off + length bytes =
+    length-append (resized off file) bytes ∙ ap (λ n. n + length bytes) (length_resized off file) in
     rw f (overwritten_end (off + length bytes) piece (resized off file ++ bytes) (omega arith)
     ∙ ap (λ x. x ++ piece) (resized_same (off + length bytes) (resized off file ++ bytes) l) ∙ append_assoc (resized off file) bytes piece)
 
@@ -76,7 +77,8 @@ pub stores_made : (off : ℕ) (old new : List Event) (bytes : List ℕ) (stored 
 stores_made off old new bytes stored h within all some = elim (cases_lt stored (length bytes)) [
   | inl short ↦
       let s = some short in
-      stops_made off old s.before new (take stored bytes) (moves_made off old s.moved.again s.before (take stored bytes) h s.moved.moves) (elim s.stop [ inl e ↦ inl e | inr e ↦ inr e.1 ])
+      stops_made off old s.before new (take stored bytes) (moves_made off old s.moved.again s.before (take stored bytes) h s.moved.moves)
+      (elim s.stop [ inl e ↦ inl e | inr e ↦ inr e.1 ])
   | inr past ↦
       let whole : stored ≡ length bytes = omega (arith, within, past) in
       let m = all whole in
@@ -94,7 +96,9 @@ pub made_some : (off stored : ℕ) (file bytes file' : List ℕ) → Made off fi
     → (length file' ≡ off + stored) × (resized (off + stored) file' ≡ resized off file ++ take stored bytes)
 made_some off stored file bytes file' (inl m) some h = absurd (made_none bytes stored m.0 some h)
 made_some off stored file bytes file' (inr m) some h =
-    let l : length file' ≡ off + stored = rw m.1 (length-append (resized off file) (take stored bytes) ∙ ap (λ n. n + length (take stored bytes)) (length_resized off file) ∙ ap (λ n. off + n) (length-take-le stored bytes h)) in
+    let l : length file' ≡ off + stored =
+    rw m.1 (length-append (resized off file) (take stored bytes) ∙ ap (λ n. n + length (take stored bytes)) (length_resized off file)
+    ∙ ap (λ n. off + n) (length-take-le stored bytes h)) in
     (l, resized_same (off + stored) file' l ∙ m.1)
 
 -- where none was, it is as it was

@@ -52,4 +52,13 @@ as_sure old new same (inr calm) = λ i. same i && nat_lt (calm i).faults (2 ^ 64
 -- what a write leaves
 pub unsyncs : (range : Place) (old new : MemoryRack) → slots_of new ≡ slots_of old → Some (shelf_of new) ≡ Some (shelf_of old) → new.unsynced
     ≡ old.unsynced ++ range ∷ [] → new.never_synced ≡ old.never_synced → is_sure new ≡ is_sure old → Unsyncs range (seen_of old) (seen_of new)
-unsyncs range old new slots shelf unsynced never sure = λ i. record { slots = slots i; held = Some (held_of new); shelf = shelf i; unsynced = unsynced i; never_synced = never i; sure = sure i; account = new.account }
+unsyncs range old new slots shelf unsynced never sure =
+    λ i. record {
+      slots = slots i;
+      held = Some (held_of new);
+      shelf = shelf i;
+      unsynced = unsynced i;
+      never_synced = never i;
+      sure = sure i;
+      account = new.account;
+    }

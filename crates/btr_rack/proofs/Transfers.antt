@@ -19,11 +19,13 @@ moves_again call off again old now now' bytes before e = rw e (none_moved again 
 -- a refused call, or the seventeenth interruption
 pub moves_refused : (call : ℕ → RawCall) (off again : ℕ) (old now now' : List Event) (bytes : List ℕ) → again ≤ 16
     → Moves call off old again now bytes → now' ≡ refused ∷ now → Stops call off old now' bytes
-moves_refused call off again old now now' bytes few before e = record { before = now; moved = record { again = again; few = few; moves = before }; stop = inl e }
+moves_refused call off again old now now' bytes few before e =
+    record { before = now; moved = record { again = again; few = few; moves = before }; stop = inl e }
 
 pub moves_too_often : (call : ℕ → RawCall) (off again : ℕ) (old now now' : List Event) (bytes : List ℕ) → again ≤ 16 → 16 ≤ again
     → Moves call off old again now bytes → now' ≡ interrupted ∷ now → Stops call off old now' bytes
-moves_too_often call off again old now now' bytes few many before e = record { before = now; moved = record { again = again; few = few; moves = before }; stop = inr (omega arith, e) }
+moves_too_often call off again old now now' bytes few many before e =
+    record { before = now; moved = record { again = again; few = few; moves = before }; stop = inr (omega arith, e) }
 
 pub take_piece : (done n : ℕ) (bytes : List ℕ) → n ≤ length (take (length bytes - done) (drop done bytes)) → take (done + n) bytes ≡ take done bytes
     ++ take n (take (length bytes - done) (drop done bytes))
@@ -67,7 +69,11 @@ take_kept done buf new h =
 pub still_read : (call : ℕ → RawCall) (off done again : ℕ) (old now : List Event) (buf new : List ℕ) → done < length buf → length new
     ≡ length (take (length buf - done) (drop done buf)) → again ≤ 16
     → Moves call off old again now (take done buf)
-    → record { inside : done ≤ length (put_mid done (length buf - done) buf new); few : again ≤ 16; moves : Moves call off old again now (take done (put_mid done (length buf - done) buf new)) }
+    → record {
+      inside : done ≤ length (put_mid done (length buf - done) buf new);
+      few : again ≤ 16;
+      moves : Moves call off old again now (take done (put_mid done (length buf - done) buf new));
+    }
 still_read call off done again old now buf new below l few moves = record {
   inside = omega (arith, same_len_mid done (length buf - done) buf new l);
   few = few;

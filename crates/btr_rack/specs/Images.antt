@@ -1,5 +1,6 @@
 -- What the steps of a rack in memory do to its images.
-use Rattle.std.specs.Prelude.{◌≡◌, ℕ, ◌+◌, ◌^◌, ◌<◌, ◌≤◌, Bool, true, false, List, length, take, drop, if◌then◌else◌, replicate, slice_index_or, slice_set, Option, Some, None, Result, Ok, Err}
+use Rattle.std.specs.Prelude.{◌≡◌, ℕ, ◌+◌, ◌^◌, ◌<◌, ◌≤◌, Bool, true, false, List, length, take, drop, if◌then◌else◌, replicate, slice_index_or}
+use Rattle.std.specs.Prelude.{slice_set, Option, Some, None, Result, Ok, Err}
 use Rattle.std.specs.List.{list_any, position, position_or_len, insert, remove}
 use Rattle.btr_rack.specs.Rack.{pasted}
 use Rattle.btr_rack.specs.Image.{MemoryImage, bytes_in, is_named, opened_for, shortened}

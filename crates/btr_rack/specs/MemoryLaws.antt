@@ -21,7 +21,9 @@ below n = omega arith
 -- the bytes of a range of pages are below 256
 small : (pages : Pages) (from len : ℕ) → All (λ b. b < 256) (map (page_byte pages) (range_with_len from len))
 small pages from zero = λ k d lt. absurd (omega arith)
-small pages from (suc len) = All-cons (λ b. b < 256) (page_byte pages from) (map (page_byte pages) (range_with_len (from + 1) len)) (below (kept_byte pages from)) (small pages (from + 1) len)
+small pages from (suc len) =
+    All-cons (λ b. b < 256) (page_byte pages from) (map (page_byte pages) (range_with_len (from + 1) len)) (below (kept_byte pages from))
+    (small pages (from + 1) len)
 
 -- all bytes of the images are below 256
 bytes : (images : List MemoryImage) → All (All (λ b. b < 256)) (map bytes_in images)

@@ -28,5 +28,5 @@ Counts old new (Err Failed) = (old.sure ≡ false) × Rose old.faults new.faults
 Counts old new (Err Memory) = (old.ample ≡ false) × (new ≡ old)
 
 -- the count of faults of a sure output or sink is below its type's last value
-abbrev pub IsCalm : CallAccount → Type 0
-IsCalm account = account.sure ≡ true → account.faults < 2 ^ 64 - 1
+abbrev pub HasCountLeft : CallAccount → Type 0
+HasCountLeft account = account.sure ≡ true → account.faults < 2 ^ 64 - 1

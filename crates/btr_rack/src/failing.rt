@@ -1,7 +1,8 @@
 // What is to fail in a rack in memory.
 ghost use Rattle.std.specs.Prelude.{◌≡◌, ◌+◌, ◌<◌, ◌^◌, OnOk, OnErr};
 ghost use Rattle.std.specs.List.{list_any};
-ghost use Rattle.btr_rack.specs.Memory.{nothing_fails, after_call, after_write, call_strikes, write_strikes, touches, failing_call, failing_write, failing_range, tearing};
+ghost use Rattle.btr_rack.specs.Memory.{nothing_fails, after_call, after_write, call_strikes, write_strikes, touches, failing_call, failing_write};
+ghost use Rattle.btr_rack.specs.Memory.{failing_range, tearing};
 
 use crate::strike::strikes;
 use btr_base::Memory;

@@ -1,5 +1,6 @@
 // An image in memory.
-ghost use Rattle.std.specs.Prelude.{◌≡◌, ℕ, ◌+◌, ◌-◌, ◌*◌, ◌/◌, ◌%◌, ◌^◌, ◌<◌, ◌≤◌, length, slice_get, slice_index, slice_range, replicate, if◌then◌else◌, IsTrue, OnOk, OnErr, IfOk, ◌↔◌};
+ghost use Rattle.std.specs.Prelude.{◌≡◌, ℕ, ◌+◌, ◌-◌, ◌*◌, ◌/◌, ◌%◌, ◌^◌, ◌<◌, ◌≤◌, length, slice_get, slice_index, slice_range, replicate};
+ghost use Rattle.std.specs.Prelude.{if◌then◌else◌, IsTrue, OnOk, OnErr, IfOk, ◌↔◌};
 ghost use Rattle.std.specs.Option.{option_copied};
 ghost use Rattle.btr_rack.specs.Rack.{pasted};
 ghost use Rattle.btr_rack.specs.Image.{bytes_in, kept_byte, patched, page_at, is_named, opened_for, shortened, zeros, Patches, PatchesPart, SpoilsRange};

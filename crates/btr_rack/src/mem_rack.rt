@@ -2,8 +2,11 @@
 ghost use Rattle.std.specs.Prelude.{◌≡◌, ◌+◌, ◌<◌, ◌≤◌, ◌^◌, ◌↔◌, ◌||◌, [], Some, IsSome, is_none, OnOk, OnErr, Err, IsErrOf, slice_get, length};
 ghost use Rattle.std.specs.Option.{option_and_then, option_copied};
 ghost use Rattle.btr_rack.specs.Image.{zeros};
-ghost use Rattle.btr_rack.specs.Rack.{range_in, len_of, bytes_of, forgotten, Opens, OpensSurely, TakesFromShelf, OnlyCounts, Writes, Unsyncs, Syncs, Accounts, AccountsNextOpening, FailsWhere, FailsUnsure};
-ghost use Rattle.btr_rack.specs.Memory.{empty_rack, nothing_fails, after_call, after_write, call_strikes, hits, named, named_page, slots_of, held_of, shelf_of, seen_of, is_sure, with_image, with_failing, with_counts, write_fails, failing_call, failing_write, failing_range, tearing, Pokes, Cuts, LeavesTear, OnlySyncs};
+ghost use Rattle.btr_rack.specs.Rack.{range_in, len_of, bytes_of, forgotten, Opens, OpensSurely, TakesFromShelf, OnlyCounts, Writes, Unsyncs, Syncs};
+ghost use Rattle.btr_rack.specs.Rack.{Accounts, AccountsNextOpening, FailsWhere, FailsUnsure};
+ghost use Rattle.btr_rack.specs.Memory.{empty_rack, nothing_fails, after_call, after_write, call_strikes, hits, named, named_page, slots_of, held_of};
+ghost use Rattle.btr_rack.specs.Memory.{shelf_of, seen_of, is_sure, with_image, with_failing, with_counts, write_fails, failing_call, failing_write};
+ghost use Rattle.btr_rack.specs.Memory.{failing_range, tearing, Pokes, Cuts, LeavesTear, OnlySyncs};
 
 use crate::account::Ledger;
 use crate::failing::Failing;

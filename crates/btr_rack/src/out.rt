@@ -1,6 +1,6 @@
 // An output of bytes.
 ghost use Rattle.std.specs.Prelude.{ℕ, List, Option};
-ghost use Rattle.btr_rack.specs.Out.{CallAccount, IsCalm, Puts, Counts};
+ghost use Rattle.btr_rack.specs.Out.{CallAccount, HasCountLeft, Puts, Counts};
 
 use crate::SinkError;
 
@@ -18,5 +18,5 @@ pub trait Out {
         ensures account { Counts (account self.old) (account self.new) result };
 
     /// The count of faults of a sure output is below its type's last value.
-    ghost calm: { (out : Self) → IsCalm (account out) };
+    ghost calm: { (out : Self) → HasCountLeft (account out) };
 }

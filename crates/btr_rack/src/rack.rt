@@ -1,6 +1,7 @@
 // The images of the devices, as the engine sees them.
 ghost use Rattle.std.specs.Prelude.{◌≡◌, ◌+◌, ◌<◌, ◌≤◌, ◌^◌, length, IsTrue, OnOk, IsErrOf};
-ghost use Rattle.btr_rack.specs.Rack.{Seen, IsRack, OnlyCounts, Unsyncs, Syncs, OpensSurely, FailsUnsure, len_of, opened_to_write, range_in, forgotten, Opens, Writes, AreBytesOf, TakesFromShelf, AccountsCall, AccountsNextOpening};
+ghost use Rattle.btr_rack.specs.Rack.{Seen, IsRack, OnlyCounts, Unsyncs, Syncs, OpensSurely, FailsUnsure, len_of, opened_to_write, range_in};
+ghost use Rattle.btr_rack.specs.Rack.{forgotten, Opens, Writes, AreBytesOf, TakesFromShelf, AccountsCall, AccountsNextOpening};
 
 use crate::RackError;
 

@@ -1,6 +1,6 @@
 // A sink of folders and files, as the engine sees it.
 ghost use Rattle.std.specs.Prelude.{◌≡◌, ◌≢◌, ◌<◌, Bool, false, [], replicate, OnOk, IfErr};
-ghost use Rattle.btr_rack.specs.Out.{CallAccount, IsCalm, Counts};
+ghost use Rattle.btr_rack.specs.Out.{CallAccount, HasCountLeft, Counts};
 ghost use Rattle.btr_rack.specs.Name.{IsGoodName};
 ghost use Rattle.btr_rack.specs.Sink.{Sink, NotStarted, BetweenFiles, InFile, is_in_file, Steps, Grows, IsSound, started, entered, left, begun, finished};
 
@@ -80,5 +80,5 @@ pub trait TreeSink {
     ghost sound: { (s : Self) → IsSound (sink s) };
 
     /// The count of faults of a sure sink is below its type's last value.
-    ghost calm: { (s : Self) → IsCalm (account s) };
+    ghost calm: { (s : Self) → HasCountLeft (account s) };
 }

@@ -46,9 +46,12 @@ pub sought_of : (layout : Layout) (want : Want) (t : Target) → sought layout w
 sought_of layout want t e = of_in layout want t (chunk_at layout.chunks (addr_of want)) e
 
 -- what is sought with the parts of a store
-pub located : (chunks : List Chunk) (devices given : List Member) (setting : Setting) (loans : List (Option (List ℕ))) (kept : List (Option Kept)) (store : Blocks) (want : Want) (t : Target) → blocks chunks devices setting loans kept ≡ store → given ≡ devices → sought (record { chunks = chunks; devices = given; setting = setting }) want ≡ Ok t → sought store.layout want ≡ Ok t
+pub located : (chunks : List Chunk) (devices given : List Member) (setting : Setting) (loans : List (Option (List ℕ))) (kept : List (Option Kept))
+    (store : Blocks) (want : Want) (t : Target) → blocks chunks devices setting loans kept ≡ store → given ≡ devices
+    → sought (record { chunks = chunks; devices = given; setting = setting }) want ≡ Ok t → sought store.layout want ≡ Ok t
 located chunks devices given setting loans kept store want t view same e =
-    subst (λ layout. sought layout want ≡ Ok t) (ap (λ s. s.layout) view) (subst (λ devices. sought (record { chunks = chunks; devices = devices; setting = setting }) want ≡ Ok t) same e)
+    subst (λ layout. sought layout want ≡ Ok t) (ap (λ s. s.layout) view)
+    (subst (λ devices. sought (record { chunks = chunks; devices = devices; setting = setting }) want ≡ Ok t) same e)
 
 -- a want is no longer than a node
 pub len_fits : (setting : Setting) (want : Want) → 4096 ≤ setting.nodesize → len_of setting want ≤ setting.nodesize
@@ -68,7 +71,9 @@ some_is : (o : Option (List ℕ)) (bytes : List ℕ) → o ≡ Some bytes → Is
 some_is o bytes e = ap is_some e
 
 -- a slot was taken for a want, and written
-pub lent_by : (chunks : List Chunk) (devices : List Member) (setting : Setting) (p0 p2 : Slots) (kept kept' : List (Option Kept)) (k len : ℕ) (old : Blocks) (want : Want) → IsStore p0 setting → blocks chunks devices setting (loans_of p0) kept ≡ old → IsFree p0 k → OnlyWrites k (with_lent p0 k) p2 → len ≡ len_of setting want → IsLentBy old (blocks chunks devices setting (loans_of p2) kept') want (record { slot = k; len = len })
+pub lent_by : (chunks : List Chunk) (devices : List Member) (setting : Setting) (p0 p2 : Slots) (kept kept' : List (Option Kept)) (k len : ℕ) (old : Blocks)
+    (want : Want) → IsStore p0 setting → blocks chunks devices setting (loans_of p0) kept ≡ old → IsFree p0 k → OnlyWrites k (with_lent p0 k) p2
+    → len ≡ len_of setting want → IsLentBy old (blocks chunks devices setting (loans_of p2) kept') want (record { slot = k; len = len })
 lent_by chunks devices setting p0 p2 kept kept' k len old want is view free writes e =
     subst (λ old. IsLentBy old (blocks chunks devices setting (loans_of p2) kept') want (record { slot = k; len = len })) view (record {
       there = omega (arith, free.there, is.whole, length-loans p0);

@@ -47,7 +47,8 @@ fate_passes images addr (Ok t) bytes e = contains_first (passing images t) bytes
     some_of (Some x) e = let same : x ≡ bytes = cc in ap Some same
 
 -- a block that is kept is fetched without a read
-pub kept_fetched : (layout : Layout) (want : Want) (old new : Seen) (bytes : List ℕ) → IsKept layout old.held (record { want = want; bytes = bytes }) → IsFetched layout want old new bytes
+pub kept_fetched : (layout : Layout) (want : Want) (old new : Seen) (bytes : List ℕ) → IsKept layout old.held (record { want = want; bytes = bytes })
+    → IsFetched layout want old new bytes
 kept_fetched layout want old new bytes h = record {
   pass = h.pass;
   stand = told old.held (λ images. Contains (passing_for images (sought layout want)) bytes)
@@ -72,7 +73,8 @@ kept_last layout want old new e = (
     if_ok (Err e) P f = tt
 
 -- what is sought is found between a rack's two states `mid` and `after`, and before and behind these it is told to forget
-module _ (layout : Layout) (want : Want) (t : Target) (old mid after new : Seen) (seeks : sought layout want ≡ Ok t) (begin : mid ≡ forgot old) (end : new ≡ forgot after) where
+module _ (layout : Layout) (want : Want) (t : Target) (old mid after new : Seen) (seeks : sought layout want ≡ Ok t) (begin : mid ≡ forgot old)
+    (end : new ≡ forgot after) where
   held_mid : mid.held ≡ old.held
   held_mid = ap (λ (s : Seen). s.held) begin
 
@@ -106,7 +108,8 @@ module _ (layout : Layout) (want : Want) (t : Target) (old mid after new : Seen)
     agreed_is h = told old.held (λ images. Agree images layout want → fate images layout want ≡ Ok bytes) (λ images tells agree.
         let there = telling mid.held among h images (held_mid ∙ tells) in
         let one = first_there (passing images t) bytes there in
-        let for : (xs : List ℕ) → Contains (passing images t) xs → Contains (passing_for images (sought layout want)) xs = λ xs h. subst (λ s. Contains (passing_for images s) xs) (sym seeks) h in
+        let for : (xs : List ℕ) → Contains (passing images t) xs → Contains (passing_for images (sought layout want)) xs =
+        λ xs h. subst (λ s. Contains (passing_for images s) xs) (sym seeks) h in
         let same : one.0 ≡ bytes = agree one.0 bytes (for one.0 one.2) (for bytes there) in
         ap (fate_of images (addr_of want)) seeks ∙ ap (or_lost (addr_of want)) (one.1 ∙ ap Some same))
 

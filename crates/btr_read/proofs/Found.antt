@@ -46,14 +46,16 @@ tree_is (Block addr) h = refl
 tree_is (Sector addr sum) h = absurd (false≢true h)
 tree_is (Plain addr) h = absurd (false≢true h)
 
-module _ (chunks : List Chunk) (devices : List Member) (setting : Setting) (p0 : Slots) (w0 : List (Option Want)) (store : Blocks) (is : IsStore p0 setting) (view : blocks chunks devices setting (loans_of p0) (kept_in setting w0 p0.bytes) ≡ store) (want : Want) where
+module _ (chunks : List Chunk) (devices : List Member) (setting : Setting) (p0 : Slots) (w0 : List (Option Want)) (store : Blocks) (is : IsStore p0 setting)
+    (view : blocks chunks devices setting (loans_of p0) (kept_in setting w0 p0.bytes) ≡ store) (want : Want) where
   -- where no free slot is known to have the block, none keeps it
   pub not_again : ((k : ℕ) → IsFree p0 k → get_or w0 k None ≢ Some want) → KeepsFree store want → ⊥
   not_again missing h =
       let keeps : KeepsFree (blocks chunks devices setting (loans_of p0) (kept_in setting w0 p0.bytes)) want = subst (λ s. KeepsFree s want) (sym view) h in
       missing keeps.slot (free_of p0 keeps.slot is.whole keeps.there keeps.free) (known_in setting w0 p0.bytes keeps.slot want keeps.keeps)
 
-  module _ (t : Target) (seeks : sought store.layout want ≡ Ok t) (old mid after : Seen) (begin : mid ≡ forgot old) (reads : OnlyReads mid after) (p2 : Slots) (w2 : List (Option Want)) where
+  module _ (t : Target) (seeks : sought store.layout want ≡ Ok t) (old mid after : Seen) (begin : mid ≡ forgot old) (reads : OnlyReads mid after)
+      (p2 : Slots) (w2 : List (Option Want)) where
     -- the store then
     abbrev pub then_store : Blocks
     then_store = blocks chunks devices setting (loans_of p2) (kept_in setting w2 p2.bytes)
@@ -94,7 +96,8 @@ module _ (chunks : List Chunk) (devices : List Member) (setting : Setting) (p0 :
         | inl h ↦
             let one : w2 ≡ set h.0.then k (kept_want want) = h.0.one ∙ ap (λ w. set h.0.then k (kept_want w)) (sought_of store.layout want t seeks).want_is in
             let first = first_kept store.layout want t old mid after new seeks begin end (take (size_of t) (bytes_at p2 k)) h.1 in
-            let here : IsKept store.layout old.held (block_in setting (bytes_at p2 k) want) = subst (λ n. IsKept store.layout old.held (record { want = want; bytes = take n (bytes_at p2 k) })) size_is first in
+            let here : IsKept store.layout old.held (block_in setting (bytes_at p2 k) want) =
+            subst (λ n. IsKept store.layout old.held (record { want = want; bytes = take n (bytes_at p2 k) })) size_is first in
             serves_more chunks devices setting w0 h.0.then p0 p2 old new store view (ap (λ (s : Seen). s.slots) end ∙ slots_then)
             (ap (λ (s : Seen). s.held) end ∙ held_then) h.0.still serves (loans_of p2) w2 k want one here
         | inr h ↦ serves_still chunks devices setting w0 w2 p0 p2 old new store view (ap (λ (s : Seen). s.slots) end ∙ slots_then)
@@ -128,8 +131,10 @@ module _ (chunks : List Chunk) (devices : List Member) (setting : Setting) (p0 :
               | inl h ↦ first_fetched store.layout want t old mid after new seeks begin end (take (size_of t) (bytes_at p2 k)) h.1
               | inr h ↦ later_fetched store.layout want t old mid after new seeks begin end (take (size_of t) (bytes_at p2 k)) h.1
             ] in
-            let here : IsFetched store.layout want old new bytes = subst (λ n. IsFetched store.layout want old new (take n (bytes_at p2 k))) (sym long) of_size in
-            let block : option_map (take len) (get_or (loans_of p2) k None) ≡ Some bytes = ap (option_map (take len)) (loan_taken p0 p2 k is.whole taken.free taken.writes) in
+            let here : IsFetched store.layout want old new bytes =
+            subst (λ n. IsFetched store.layout want old new (take n (bytes_at p2 k))) (sym long) of_size in
+            let block : option_map (take len) (get_or (loans_of p2) k None) ≡ Some bytes =
+            ap (option_map (take len)) (loan_taken p0 p2 k is.whole taken.free taken.writes) in
             (ap is_ok seeks, subst (λ o. IsSomeAnd o (IsFetched store.layout want old new)) (sym block) here)
 
 -- the same where the pool and the wants known are those before

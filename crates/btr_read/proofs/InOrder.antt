@@ -45,7 +45,8 @@ past_three a b c xs k j e = ap (slice_get (a ∷ b ∷ c ∷ xs)) e
 pub pair_at : (k i n j other : ℕ) → i < k → n ≡ j + 3 → j + 1 < k → get_or (others k i) j 0 ≡ other → slice_get (rebuilt Raid6 k i) n ≡ Some (ByBoth other)
 pair_at k i n j other lt is below e =
     let long : j < length (map ByBoth (others k i)) = omega (arith, length-map (others k i) ByBoth, length-others k i lt, below) in
-    let at : get_or (map ByBoth (others k i)) j (ByBoth 0) ≡ ByBoth other = get_or-map ByBoth (others k i) j 0 (ByBoth 0) (omega (arith, length-others k i lt, below)) ∙ ap ByBoth e in
+    let at : get_or (map ByBoth (others k i)) j (ByBoth 0) ≡ ByBoth other =
+    get_or-map ByBoth (others k i) j 0 (ByBoth 0) (omega (arith, length-others k i lt, below)) ∙ ap ByBoth e in
     past_three (Read (Slice i)) ByP ByQ (map ByBoth (others k i)) n j (omega (arith, is))
     ∙ (slice_get-get_or (map ByBoth (others k i)) j (ByBoth 0) long ∙ ap Some at)
 

@@ -54,7 +54,8 @@ loans_taken p0 p2 k whole free writes =
     let set_len : length (set (loans_of p0) k (Some (bytes_at p2 k))) ≡ length p0.lent = length-set (loans_of p0) k (Some (bytes_at p2 k)) ∙ length-loans p0 in
     same_lists (loans_of p2) (set (loans_of p0) k (Some (bytes_at p2 k))) (new_len ∙ sym set_len) (λ j d lt.
     let within : j < length p0.lent = omega (arith, lt, new_len) in
-    let at : get_or (loans_of p2) j d ≡ loan_at p2 j = get_or-map-range_with_len (loan_at p2) 0 (length p2.lent) j j d (omega (arith, within, lent_len)) (omega arith) in
+    let at : get_or (loans_of p2) j d ≡ loan_at p2 j =
+    get_or-map-range_with_len (loan_at p2) 0 (length p2.lent) j j d (omega (arith, within, lent_len)) (omega arith) in
     at ∙ elim (cases_eq j k) [
       | inl e ↦ ap (loan_at p2) e ∙ ap (λ b. cond b (Some (bytes_at p2 k)) None) live.lent
           ∙ sym (ap (λ n. get_or (set (loans_of p0) k (Some (bytes_at p2 k))) n d) e
@@ -69,7 +70,8 @@ loans_taken p0 p2 k whole free writes =
 
     other_loan : (j : ℕ) → j ≢ k → loan_at p2 j ≡ loan_at p0 j
     other_loan j ne =
-        let lent : get_or p2.lent j false ≡ get_or p0.lent j false = ap (λ lent. get_or lent j false) writes.lent ∙ get_or-set_other p0.lent k j true false ne in
+        let lent : get_or p2.lent j false ≡ get_or p0.lent j false =
+        ap (λ lent. get_or lent j false) writes.lent ∙ get_or-set_other p0.lent k j true false ne in
         ap (λ b. cond b (Some (bytes_at p2 j)) None) lent
         ∙ same_if (get_or p0.lent j false) (bytes_at p2 j) (bytes_at p0 j) (λ live. writes.others j ne (get_or-set_other p0.lent k j true false ne ∙ live))
 
@@ -106,9 +108,13 @@ one_fewer p0 p2 k free writes =
     omega (arith, counted, same, before, free_count-with_lent p0 k free)
 
 -- the block of a live loan
-pub block_there : (chunks : List Chunk) (devices : List Member) (setting : Setting) (kept : List (Option Kept)) (pool : Slots) (store : Blocks) (slot len : ℕ) (loan : Lent) → blocks chunks devices setting (loans_of pool) kept ≡ store → (record { slot = slot; len = len }) ≡ loan → length pool.bytes ≡ length pool.lent → IsSome (get_or store.loans loan.slot None) → block_of store loan ≡ Some (take len (bytes_at pool slot))
+pub block_there : (chunks : List Chunk) (devices : List Member) (setting : Setting) (kept : List (Option Kept)) (pool : Slots) (store : Blocks)
+    (slot len : ℕ) (loan : Lent) → blocks chunks devices setting (loans_of pool) kept ≡ store → (record { slot = slot; len = len }) ≡ loan
+    → length pool.bytes ≡ length pool.lent → IsSome (get_or store.loans loan.slot None) → block_of store loan ≡ Some (take len (bytes_at pool slot))
 block_there chunks devices setting kept pool store slot len loan view loan_view whole some =
-    let held : IsSome (get_or (loans_of pool) slot None) = subst (λ (l : Lent). IsSome (get_or (loans_of pool) l.slot None)) (sym loan_view) (subst (λ (s : Blocks). IsSome (get_or s.loans loan.slot None)) (sym view) some) in
+    let held : IsSome (get_or (loans_of pool) slot None) =
+    subst (λ (l : Lent). IsSome (get_or (loans_of pool) l.slot None)) (sym loan_view)
+    (subst (λ (s : Blocks). IsSome (get_or s.loans loan.slot None)) (sym view) some) in
     ap (λ s. block_of s loan) (sym view)
     ∙ ap (λ (l : Lent). option_map (take l.len) (get_or (loans_of pool) l.slot None)) (sym loan_view)
     ∙ ap (option_map (take len)) (loan_is pool slot whole (live_of pool slot whole held))

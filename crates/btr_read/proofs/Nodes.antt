@@ -111,13 +111,16 @@ store_shaped p p' setting same is = record {
 -- a store whose slots were written, where nothing more is known of its blocks
 pub sound_still : (wants wants' : List (Option Want)) (nodes nodes' : List Bool) (p p' : Slots) (setting : Setting) → IsStore p' setting
     → StillNodes wants nodes wants' nodes' p p' → IsSound p wants nodes setting → IsSound p' wants' nodes' setting
-sound_still wants wants' nodes nodes' p p' setting store still is = record { store = store; known = still_nodes wants wants' nodes nodes' p p' setting.nodesize still is.known }
+sound_still wants wants' nodes nodes' p p' setting store still is =
+    record { store = store; known = still_nodes wants wants' nodes nodes' p p' setting.nodesize still is.known }
 
 -- a store is sound after what was found in its slots by a look at what is kept
 pub found_sound : (p0 p1 p2 : Slots) (w0 w1 w2 : List (Option Want)) (n0 n1 n2 : List Bool) (setting : Setting) → p1 ≡ p0 → w1 ≡ w0 → n1 ≡ n0
     → SameShape p1 p2 → StillNodes w1 n1 w2 n2 p1 p2 → IsSound p0 w0 n0 setting → IsSound p2 w2 n2 setting
 found_sound p0 p1 p2 w0 w1 w2 n0 n1 n2 setting pool wants nodes shape still is =
-    let was : IsSound p1 w1 n1 setting = subst (λ p. IsSound p w1 n1 setting) (sym pool) (subst (λ w. IsSound p0 w n1 setting) (sym wants) (subst (λ n. IsSound p0 w0 n setting) (sym nodes) is)) in
+    let was : IsSound p1 w1 n1 setting =
+    subst (λ p. IsSound p w1 n1 setting) (sym pool) (subst (λ w. IsSound p0 w n1 setting) (sym wants)
+    (subst (λ n. IsSound p0 w0 n setting) (sym nodes) is)) in
     sound_still w1 w2 n1 n2 p1 p2 setting (store_shaped p1 p2 setting shape was.store) still was
 
 -- a store is sound after a slot was taken and written

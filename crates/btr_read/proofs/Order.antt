@@ -172,7 +172,8 @@ pub copy_at : (n m : ℕ) → m < n → slice_get (copies n) m ≡ Some (Read (M
 copy_at n m lt =
     let long : m < length (copies n) = omega (arith, lt, length-map (range_with_len 0 n) (λ copy. Read (Mirror copy)), length-range_with_len 0 n) in
     let at : get_or (copies n) m (Read (Mirror 0)) ≡ Read (Mirror m) =
-    get_or-map (λ copy. Read (Mirror copy)) (range_with_len 0 n) m 0 (Read (Mirror 0)) (omega (arith, lt, length-range_with_len 0 n)) ∙ ap (λ copy. Read (Mirror copy)) (get_or-range_with_len 0 n m 0 lt ∙ omega arith) in
+    get_or-map (λ copy. Read (Mirror copy)) (range_with_len 0 n) m 0 (Read (Mirror 0)) (omega (arith, lt, length-range_with_len 0 n))
+    ∙ ap (λ copy. Read (Mirror copy)) (get_or-range_with_len 0 n m 0 lt ∙ omega arith) in
     slice_get-get_or (copies n) m (Read (Mirror 0)) long ∙ ap Some at
 
 pub length-copies : (n : ℕ) → length (copies n) ≡ n
@@ -188,7 +189,13 @@ pub copy_in_order : (t : Target) (n k m : ℕ) → mirrors t.chunk ≡ Some n �
 copy_in_order t n k m has lt at =
     let long : length (candidates t) ≡ n = length-candidates t ∙ ap length (with_copies t n has) ∙ length-copies n in
     let there = slice_get-get_or (candidates t) k (Read (Mirror 0)) (omega (arith, lt, long)) in
-    let within : m < n = omega (arith, slice_get_within (ways t) m (get_or (candidates t) k (Read (Mirror 0))) (at ∙ there), ap length (with_copies t n has), length-copies n) in
+    let within : m < n = omega (
+      arith,
+      slice_get_within (ways t) m (get_or (candidates t) k (Read (Mirror 0))) (at ∙ there),
+      ap length
+          (with_copies t n has),
+      length-copies n,
+    ) in
     (within, sym at ∙ ap (λ cs. slice_get cs m) (with_copies t n has) ∙ copy_at n m within)
 
 -- behind the slice itself the ways of a row with P and Q are by parities

@@ -108,7 +108,8 @@ module _ (P : List ℕ → Type 0) (k done : ℕ) (old now : Slots) (live : IsLi
   written_more Q end piece after there e meets =
       let xs = bytes_at old k in
       let front = h.written ++ drop done xs in
-      let bytes : pasted (bytes_at now k) done piece ≡ (h.written ++ piece) ++ drop end xs = ap (λ bytes. pasted bytes done piece) bytes_now ∙ pasted_behind xs h.written piece done end h.long there in
+      let bytes : pasted (bytes_at now k) done piece ≡ (h.written ++ piece) ++ drop end xs =
+      ap (λ bytes. pasted bytes done piece) bytes_now ∙ pasted_behind xs h.written piece done end h.long there in
       record {
         written = h.written ++ piece;
         long = omega (arith, length-append h.written piece, h.long, there);
@@ -143,7 +144,8 @@ pub sum_on : (p : Parity) (i done end : ℕ) (xs ys : List ℕ) → done ≤ end
     → plus (take done xs) (weighed p i (take done ys)) ++ plus (slice_range xs done end) (weighed p i (slice_range ys done end))
     ≡ plus (take end xs) (weighed p i (take end ys))
 sum_on p i done end xs ys le fits fits' =
-    let same : length (take done xs) ≡ length (weighed p i (take done ys)) = length-first xs done (omega arith) ∙ sym (length-weighed p i (take done ys) ∙ length-first ys done (omega arith)) in
+    let same : length (take done xs) ≡ length (weighed p i (take done ys)) =
+    length-first xs done (omega arith) ∙ sym (length-weighed p i (take done ys) ∙ length-first ys done (omega arith)) in
     sym (
     ap₂ (λ a b. plus a (weighed p i b)) (take_on xs done end le) (take_on ys done end le)
     ∙ ap (plus (take done xs ++ slice_range xs done end)) (weighed-append p i (take done ys) (slice_range ys done end))
@@ -154,7 +156,9 @@ abbrev pub AddedSoFar : Parity → ℕ → ℕ → ℕ → ℕ → Slots → Slo
 AddedSoFar p i k j done old now = WrittenSoFar (λ written. written ≡ plus (take done (bytes_at old k)) (weighed p i (take done (bytes_at old j)))) k
     done old now
 
-module _ (p : Parity) (i k j done end : ℕ) (old now after : Slots) (live : IsLive old k) (apart : k ≢ j) (lt : done < end) (fits : end ≤ old.size) (h : AddedSoFar p i k j done old now) (long : length (bytes_at now k) ≡ now.size) (long' : length (slice_range (bytes_at now j) done end) ≡ end - done) where
+module _ (p : Parity) (i k j done end : ℕ) (old now after : Slots) (live : IsLive old k) (apart : k ≢ j) (lt : done < end) (fits : end ≤ old.size)
+    (h : AddedSoFar p i k j done old now) (long : length (bytes_at now k) ≡ now.size)
+    (long' : length (slice_range (bytes_at now j) done end) ≡ end - done) where
   abbrev MeetsNow : List ℕ → Type 0
   MeetsNow written = written ≡ plus (take done (bytes_at old k)) (weighed p i (take done (bytes_at old j)))
 
@@ -172,7 +176,8 @@ module _ (p : Parity) (i k j done end : ℕ) (old now after : Slots) (live : IsL
 
   piece_long : done + length piece ≡ end
   piece_long =
-      let first : length (slice_range (bytes_at now k) done end) ≡ end - done = length-slice_range (bytes_at now k) done end (omega (arith, fits, long, size_same)) in
+      let first : length (slice_range (bytes_at now k) done end) ≡ end - done =
+      length-slice_range (bytes_at now k) done end (omega (arith, fits, long, size_same)) in
       omega (arith, lt, length-sum p i (end - done) (slice_range (bytes_at now k) done end) (slice_range (bytes_at now j) done end) first long')
 
   piece_old : piece ≡ plus (slice_range (bytes_at old k) done end) (weighed p i (slice_range (bytes_at old j) done end))
@@ -203,5 +208,6 @@ copied_more k j done end old now after live apart lt h long e =
     let Next : List ℕ → Type 0 = λ written. written ≡ take end (bytes_at old j) in
     let piece = slice_range (bytes_at now j) done end in
     let same : bytes_at now j ≡ bytes_at old j = other_now Now k done old now live h j (λ e. apart (sym e)) in
-    let meets : h.written ++ piece ≡ take end (bytes_at old j) = ap₂ (λ a b. a ++ slice_range b done end) h.meets same ∙ sym (take_on (bytes_at old j) done end (omega (arith, lt))) in
+    let meets : h.written ++ piece ≡ take end (bytes_at old j) =
+    ap₂ (λ a b. a ++ slice_range b done end) h.meets same ∙ sym (take_on (bytes_at old j) done end (omega (arith, lt))) in
     written_more Now k done old now live h Next end piece after (omega (arith, lt, long)) e meets

@@ -88,13 +88,15 @@ one_by_p images t bytes lt h =
     let n = size_of t in
     let r : List (List ℕ) = read_slices images t ByP in
     let one = lost_by_p n i r (element images t P) h.slices (omega (arith, lt, length-rs images t ByP)) h.whole in
-    let sum : plus (element images t P) (parity_p n (set r i (zeros n))) ≡ bytes = ap (λ xs. plus (element images t P) (parity_p n xs)) (only_sought images t ByP lt (not_itself i)) ∙ sym h.sum in
+    let sum : plus (element images t P) (parity_p n (set r i (zeros n))) ≡ bytes =
+    ap (λ xs. plus (element images t P) (parity_p n xs)) (only_sought images t ByP lt (not_itself i)) ∙ sym h.sum in
     let is : IsTheOne n (FitsP n r (element images t P) i) bytes = subst (IsTheOne n (FitsP n r (element images t P) i)) sum one in
     let same = same_with images t ByP (λ s ne. not_other s i ne) lt in
     record {
       slice = is.slice;
       meets = let d = bytes_eq-Decides (parity_p n (set (slices images t) i bytes)) (element images t P) in d.1 (sym (ap (parity_p n) (same bytes)) ∙ is.meets);
-      only = λ z slice test. let d = bytes_eq-Decides (parity_p n (set (slices images t) i z)) (element images t P) in is.only z slice (ap (parity_p n) (same z) ∙ d.0 test);
+      only = λ z slice test. let d = bytes_eq-Decides (parity_p n (set (slices images t) i z)) (element images t P) in
+          is.only z slice (ap (parity_p n) (same z) ∙ d.0 test);
     }
 
 -- so it is the candidate's value
@@ -109,13 +111,17 @@ one_by_q images t sum X lt h weighs =
     let i = t.at.index in
     let n = size_of t in
     let r : List (List ℕ) = read_slices images t ByQ in
-    let left : sum ≡ plus (element images t Q) (parity_q n (set r i (zeros n))) = h.sum ∙ ap (λ xs. plus (element images t Q) (parity_q n xs)) (sym (only_sought images t ByQ lt (not_itself i))) in
-    let is : IsTheOne n (FitsQ n r (element images t Q) i) X = lost_by_q n i r (element images t Q) X h.slices (omega (arith, lt, length-rs images t ByQ)) h.whole (subst (λ s. IsTheOne n (Weighs i s) X) left weighs) in
+    let left : sum ≡ plus (element images t Q) (parity_q n (set r i (zeros n))) =
+    h.sum ∙ ap (λ xs. plus (element images t Q) (parity_q n xs)) (sym (only_sought images t ByQ lt (not_itself i))) in
+    let is : IsTheOne n (FitsQ n r (element images t Q) i) X =
+    lost_by_q n i r (element images t Q) X h.slices (omega (arith, lt, length-rs images t ByQ)) h.whole
+    (subst (λ s. IsTheOne n (Weighs i s) X) left weighs) in
     let same = same_with images t ByQ (λ s ne. not_other s i ne) lt in
     record {
       slice = is.slice;
       meets = let d = bytes_eq-Decides (parity_q n (set (slices images t) i X)) (element images t Q) in d.1 (sym (ap (parity_q n) (same X)) ∙ is.meets);
-      only = λ z slice test. let d = bytes_eq-Decides (parity_q n (set (slices images t) i z)) (element images t Q) in is.only z slice (ap (parity_q n) (same z) ∙ d.0 test);
+      only = λ z slice test. let d = bytes_eq-Decides (parity_q n (set (slices images t) i z)) (element images t Q) in
+          is.only z slice (ap (parity_q n) (same z) ∙ d.0 test);
     }
 
 -- so it is the candidate's value
@@ -231,10 +237,13 @@ module _ (images : List (List ℕ)) (t : Target) (j : ℕ) (lt_j : j < slice_cou
       let n = size_of t in
       let E = element images t (part_of p) in
       let W = weighed p j other in
-      let slices : All (IsSlice n) (read_slices images t (ByBoth j)) = subst (All (IsSlice n)) left_out (All-set (IsSlice n) all_rs j (zeros n) (zeros_slice n) h.slices) in
+      let slices : All (IsSlice n) (read_slices images t (ByBoth j)) =
+      subst (All (IsSlice n)) left_out (All-set (IsSlice n) all_rs j (zeros n) (zeros_slice n) h.slices) in
       let B = parity_of p n (read_slices images t (ByBoth j)) in
       let whole : set all_rs j other ≡ all_rs = ap (set all_rs j) (sym there) ∙ set-get_or all_rs j [] in
-      let parts : parity_of p n all_rs ≡ plus W B = ap (parity_of p n) (sym whole) ∙ of_set p n j all_rs other h.slices (omega (arith, lt_j, length-rs images t ByP)) ∙ ap (λ ds. plus W (parity_of p n ds)) left_out in
+      let parts : parity_of p n all_rs ≡ plus W B =
+      ap (parity_of p n) (sym whole) ∙ of_set p n j all_rs other h.slices (omega (arith, lt_j, length-rs images t ByP))
+      ∙ ap (λ ds. plus W (parity_of p n ds)) left_out in
       let W_long : length W ≡ n = length-weighed p j other ∙ slice.long in
       let B_long : length B ≡ n = parity_long p n (read_slices images t (ByBoth j)) slices in
       let EB_long : length (plus E B) ≡ n = length-zip2 bit_xor E B (h.whole.long ∙ sym B_long) ∙ h.whole.long in
@@ -257,10 +266,15 @@ one_by_both images t j sum weighted X lt lt_j ne p q solves =
     let r : List (List ℕ) = read_slices images t (ByBoth j) in
     let len = length-rs images t (ByBoth j) in
     let clear = sym (neither images t j lt lt_j) in
-    let left_p : sum ≡ plus (element images t P) (parity_p n (set (set r j (zeros n)) i (zeros n))) = p.sum ∙ ap (λ xs. plus (element images t P) (parity_p n xs)) clear in
-    let left_q : weighted ≡ plus (element images t Q) (parity_q n (set (set r j (zeros n)) i (zeros n))) = q.sum ∙ ap (λ xs. plus (element images t Q) (parity_q n xs)) clear in
-    let given = subst (λ s. IsTheOne n (WeighsWith (plus (element images t P) (parity_p n (set (set r j (zeros n)) i (zeros n)))) s i j) X) left_q (subst (λ s. IsTheOne n (WeighsWith s weighted i j) X) left_p solves) in
-    let is : IsTheOne n (FitsBoth n r (element images t P) (element images t Q) i j) X = lost_by_both n i j r (element images t P) (element images t Q) X p.slices (omega (arith, lt, len)) (omega (arith, lt_j, len)) ne p.whole q.whole given in
+    let left_p : sum ≡ plus (element images t P) (parity_p n (set (set r j (zeros n)) i (zeros n))) =
+    p.sum ∙ ap (λ xs. plus (element images t P) (parity_p n xs)) clear in
+    let left_q : weighted ≡ plus (element images t Q) (parity_q n (set (set r j (zeros n)) i (zeros n))) =
+    q.sum ∙ ap (λ xs. plus (element images t Q) (parity_q n xs)) clear in
+    let given = subst (λ s. IsTheOne n (WeighsWith (plus (element images t P) (parity_p n (set (set r j (zeros n)) i (zeros n)))) s i j) X) left_q
+    (subst (λ s. IsTheOne n (WeighsWith s weighted i j) X) left_p solves) in
+    let is : IsTheOne n (FitsBoth n r (element images t P) (element images t Q) i j) X =
+    lost_by_both n i j r (element images t P) (element images t Q) X p.slices (omega (arith, lt, len))
+    (omega (arith, lt_j, len)) ne p.whole q.whole given in
     let same = same_both images t j lt lt_j in
     record {
       slice = is.slice;

@@ -16,9 +16,17 @@ use Rattle.btr_read.proofs.Parts.{slice_in, range_in_candidate, stands_in_row}
 of_ways : (t : Target) (part : Part) (m : Range) → t.chunk.profile ≡ Raid6 → RowStands t ByP → IsOfRow t ByP part → range_of t part ≡ Some m
     → Any (λ c. (stands t c ≡ true) × IsOf t m c) (ways t)
 of_ways t (Mirror i) m six rows of range = absurd of
-of_ways t (Slice s) m six rows of range = (1, ByP, omega (arith, ap length (with_p_and_q t six)), second_is_p t six ByP, (stands_in_row t ByP rows tt, range_in_candidate t ByP (Slice s) m (slice_in (slice_count t) t.at.index ByP s of.0 of.1) range))
-of_ways t P m six rows of range = (1, ByP, omega (arith, ap length (with_p_and_q t six)), second_is_p t six ByP, (stands_in_row t ByP rows tt, range_in_candidate t ByP P m (inl refl) range))
-of_ways t Q m six rows of range = (2, ByQ, omega (arith, ap length (with_p_and_q t six)), third_is_q t six ByQ, (stands_in_row t ByQ rows tt, range_in_candidate t ByQ Q m (inl refl) range))
+of_ways t (Slice s) m six rows of range = (
+  1,
+  ByP,
+  omega (arith, ap length (with_p_and_q t six)),
+  second_is_p t six ByP,
+  (stands_in_row t ByP rows tt, range_in_candidate t ByP (Slice s) m (slice_in (slice_count t) t.at.index ByP s of.0 of.1) range),
+)
+of_ways t P m six rows of range =
+    (1, ByP, omega (arith, ap length (with_p_and_q t six)), second_is_p t six ByP, (stands_in_row t ByP rows tt, range_in_candidate t ByP P m (inl refl) range))
+of_ways t Q m six rows of range =
+    (2, ByQ, omega (arith, ap length (with_p_and_q t six)), third_is_q t six ByQ, (stands_in_row t ByQ rows tt, range_in_candidate t ByQ Q m (inl refl) range))
 
 pub of_row : (t : Target) (part : Part) (m : Range) → candidates t ≡ ways t → t.chunk.profile ≡ Raid6 → RowStands t ByP → IsOfRow t ByP part
     → range_of t part ≡ Some m → Any (λ c. (stands t c ≡ true) × IsOf t m c) (candidates t)

@@ -141,11 +141,12 @@ still_taken w0 w1 w2 w3 p0 p1 p2 p3 k same known lent forgotten h =
 pub kept_more : (layout : Layout) (held : Option (List (List ℕ))) (setting : Setting) (wants wants' : List (Option Want)) (p : Slots) (slot : ℕ)
     (want : Want) → AllKept layout held setting wants p → wants' ≡ set wants slot (kept_want want)
     → IsKept layout held (block_in setting (bytes_at p slot) want) → AllKept layout held setting wants' p
-kept_more layout held setting wants wants' p slot want all e one = all_kept (IsKept layout held) setting wants' p.bytes (λ j w is. elim (set_at wants slot j (kept_want want) w (ap (λ ws. get_or ws j None) (sym e) ∙ is)) [
-  | inl here ↦ subst (λ k. IsKept layout held (block_in setting (bytes_at p k) w)) (sym here.0)
-      (subst (λ w. IsKept layout held (block_in setting (bytes_at p slot) w)) (kept_is want w here.1) one)
-  | inr there ↦ kept_one (IsKept layout held) setting wants p.bytes all j w there
-])
+kept_more layout held setting wants wants' p slot want all e one =
+    all_kept (IsKept layout held) setting wants' p.bytes (λ j w is. elim (set_at wants slot j (kept_want want) w (ap (λ ws. get_or ws j None) (sym e) ∙ is)) [
+      | inl here ↦ subst (λ k. IsKept layout held (block_in setting (bytes_at p k) w)) (sym here.0)
+          (subst (λ w. IsKept layout held (block_in setting (bytes_at p slot) w)) (kept_is want w here.1) one)
+      | inr there ↦ kept_one (IsKept layout held) setting wants p.bytes all j w there
+    ])
 
 -- nothing is kept where no want is known
 pub nothing_kept : (setting : Setting) (wants : List (Option Want)) (slots : List (List ℕ)) → wants ≡ replicate 24 None → kept_in setting wants slots
@@ -195,7 +196,8 @@ serves_as old new store store' slots held layout kept serves =
 pub serves_given : (rack : Seen) (store : Blocks) (slot : ℕ) → Serves rack store → Serves rack (with_loan store slot None)
 serves_given rack store slot serves = serves_as rack rack store (with_loan store slot None) refl refl refl refl serves
 
-module _ (chunks : List Chunk) (devices : List Member) (setting : Setting) (w w' : List (Option Want)) (p p' : Slots) (old new : Seen) (store : Blocks) (view : blocks chunks devices setting (loans_of p) (kept_in setting w p.bytes) ≡ store) where
+module _ (chunks : List Chunk) (devices : List Member) (setting : Setting) (w w' : List (Option Want)) (p p' : Slots) (old new : Seen) (store : Blocks)
+    (view : blocks chunks devices setting (loans_of p) (kept_in setting w p.bytes) ≡ store) where
   abbrev layout_is : Layout
   layout_is = record { chunks = chunks; devices = devices; setting = setting }
 
@@ -219,7 +221,9 @@ module _ (chunks : List Chunk) (devices : List Member) (setting : Setting) (w w'
       → IsKept store.layout old.held (block_in setting (bytes_at p' k) want) → Serves new (blocks chunks devices setting loans (kept_in setting w'' p'.bytes))
   serves_more slots held still serves loans w'' k want e one =
       let was = serving new (blocks chunks devices setting loans (kept_in setting w' p'.bytes)) (serves_still slots held still serves loans) in
-      let here : IsKept layout_is new.held (block_in setting (bytes_at p' k) want) = subst (λ h. IsKept layout_is h (block_in setting (bytes_at p' k) want)) (sym held) (subst (λ (s : Blocks). IsKept s.layout old.held (block_in setting (bytes_at p' k) want)) (sym view) one) in
+      let here : IsKept layout_is new.held (block_in setting (bytes_at p' k) want) =
+      subst (λ h. IsKept layout_is h (block_in setting (bytes_at p' k) want)) (sym held)
+      (subst (λ (s : Blocks). IsKept s.layout old.held (block_in setting (bytes_at p' k) want)) (sym view) one) in
       serves_of new (blocks chunks devices setting loans (kept_in setting w'' p'.bytes)) (record {
         are_open = was.are_open;
         own_slots = was.own_slots;

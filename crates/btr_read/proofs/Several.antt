@@ -90,9 +90,11 @@ module _ (p0 : Slots) (k q s : ℕ) (live : IsLive p0 k) (free_q : IsFree p0 q) 
       count = h.count;
       others = λ j ne lent.
           let live_j : get_or p0.lent j false ≡ true = lent in
-          let not_q : j ≢ q = λ e. false≢true (sym (get_or_default p0.lent q false true (free_below p0.lent q free_q.free) ∙ free_q.free) ∙ ap (λ n. get_or p0.lent n false) (sym e) ∙ live_j) in
+          let not_q : j ≢ q = λ e. false≢true (sym (get_or_default p0.lent q false true (free_below p0.lent q free_q.free) ∙ free_q.free)
+          ∙ ap (λ n. get_or p0.lent n false) (sym e) ∙ live_j) in
           let live_then : get_or (set p0.lent q true) j false ≡ true = get_or-set_other p0.lent q j true false not_q ∙ live_j in
-          let not_s : j ≢ s = λ e. false≢true (sym (get_or_default (set p0.lent q true) s false true (free_below (set p0.lent q true) s free_s.free) ∙ free_s.free) ∙ ap (λ n. get_or (set p0.lent q true) n false) (sym e) ∙ live_then) in
+          let not_s : j ≢ s = λ e. false≢true (sym (get_or_default (set p0.lent q true) s false true (free_below (set p0.lent q true) s free_s.free)
+          ∙ free_s.free) ∙ ap (λ n. get_or (set p0.lent q true) n false) (sym e) ∙ live_then) in
           h.others j (not_q, (not_s, (ne, tt)));
     }
 
@@ -135,7 +137,8 @@ given_back old new a ks free h = record {
   lent = ap (λ l. set l a false) h.lent ∙ set-set old.lent a true false ∙ ap (set old.lent a) (sym free.free) ∙ set-get_or old.lent a true;
   count = h.count;
   others = λ j none live.
-      let ne : j ≢ a = λ e. false≢true (sym (get_or_default old.lent a false true (free_below old.lent a free.free) ∙ free.free) ∙ ap (λ n. get_or old.lent n false) (sym e) ∙ live) in
+      let ne : j ≢ a = λ e. false≢true (sym (get_or_default old.lent a false true (free_below old.lent a free.free) ∙ free.free)
+      ∙ ap (λ n. get_or old.lent n false) (sym e) ∙ live) in
       h.others j (ne, none) (get_or-set_other old.lent a j true false ne ∙ live);
 }
 
@@ -162,7 +165,8 @@ not_forgotten ws n j want is = (ne, sym (get_or-set_other ws n j None None ne) �
         none_is_some : None ≡ Some want → ⊥
         none_is_some f = cc
 
-module _ (p0 : Slots) (k p q s : ℕ) (live : IsLive p0 k) (free_p : IsFree p0 p) (free_q : IsFree (with_lent p0 p) q) (free_s : IsFree (with_lent (with_lent p0 p) q) s) where
+module _ (p0 : Slots) (k p q s : ℕ) (live : IsLive p0 k) (free_p : IsFree p0 p) (free_q : IsFree (with_lent p0 p) q)
+    (free_s : IsFree (with_lent (with_lent p0 p) q) s) where
   abbrev p1 : Slots
   p1 = with_lent p0 p
 
@@ -201,8 +205,10 @@ module _ (p0 : Slots) (k p q s : ℕ) (live : IsLive p0 k) (free_p : IsFree p0 p
 
     pub three_back : OnlyWrites k p0 all_returned
     three_back =
-        let first : WritesLive (s ∷ q ∷ p ∷ k ∷ []) p3 p4 = record { size = h.size; lent = h.lent; count = h.count; others = λ j none live. h.others j (none.1.0, (none.0, none.1.1)) } in
-        let all = given_back p0 (with_free (with_free p4 s) q) p (k ∷ []) free_p (given_back p1 (with_free p4 s) q (p ∷ k ∷ []) free_q (given_back p2 p4 s (q ∷ p ∷ k ∷ []) free_s first)) in
+        let first : WritesLive (s ∷ q ∷ p ∷ k ∷ []) p3 p4 =
+        record { size = h.size; lent = h.lent; count = h.count; others = λ j none live. h.others j (none.1.0, (none.0, none.1.1)) } in
+        let all = given_back p0 (with_free (with_free p4 s) q) p (k ∷ []) free_p
+        (given_back p1 (with_free p4 s) q (p ∷ k ∷ []) free_q (given_back p2 p4 s (q ∷ p ∷ k ∷ []) free_s first)) in
         record { size = all.size; lent = all.lent; count = all.count; others = λ j ne live. all.others j (ne, tt) live }
 
     -- what is known of the other slots still stands

@@ -71,7 +71,8 @@ length-weighted_sum n x y X Y ex ey =
 
 -- ---- solutions of parts
 
-module _ (n m x y : ℕ) (p q p' q' X X' : List ℕ) (long : length p ≡ n) (long' : length p' ≡ m) (h : IsTheOne n (WeighsWith p q x y) X) (h' : IsTheOne m (WeighsWith p' q' x y) X') where
+module _ (n m x y : ℕ) (p q p' q' X X' : List ℕ) (long : length p ≡ n) (long' : length p' ≡ m) (h : IsTheOne n (WeighsWith p q x y) X)
+    (h' : IsTheOne m (WeighsWith p' q' x y) X') where
   abbrev Y : List ℕ
   Y = h.meets.other
 
@@ -128,7 +129,8 @@ module _ (n m x y : ℕ) (p q p' q' X X' : List ℕ) (long : length p ≡ n) (lo
 abbrev pub SolvedSoFar : ℕ → ℕ → ℕ → ℕ → ℕ → Slots → Slots → Type 0
 SolvedSoFar x y k j done old now = WrittenSoFar (IsTheOne done (WeighsWith (take done (bytes_at old k)) (take done (bytes_at old j)) x y)) k done old now
 
-module _ (x y k j done end : ℕ) (old now after : Slots) (live : IsLive old k) (apart : k ≢ j) (lt : done < end) (fits : end ≤ old.size) (h : SolvedSoFar x y k j done old now) (long : length (bytes_at now k) ≡ now.size) where
+module _ (x y k j done end : ℕ) (old now after : Slots) (live : IsLive old k) (apart : k ≢ j) (lt : done < end) (fits : end ≤ old.size)
+    (h : SolvedSoFar x y k j done old now) (long : length (bytes_at now k) ≡ now.size) where
   abbrev MeetsNow : List ℕ → Type 0
   MeetsNow = IsTheOne done (WeighsWith (take done (bytes_at old k)) (take done (bytes_at old j)) x y)
 
@@ -155,7 +157,8 @@ module _ (x y k j done end : ℕ) (old now after : Slots) (live : IsLive old k) 
       (other_now MeetsNow k done old now live h j (λ e. apart (sym e)))
       (subst (λ p. IsTheOne (end - done) (WeighsWith p (slice_range (bytes_at now j) done end) x y) X) (range_now MeetsNow k done old now live h end) one)
       in
-      let both = solved_on done (end - done) x y (take done ps) (take done qs) (slice_range ps done end) (slice_range qs done end) h.written X (length-first ps done (omega (arith, lt, first_long))) (length-slice_range ps done end first_long) h.meets of_old in
+      let both = solved_on done (end - done) x y (take done ps) (take done qs) (slice_range ps done end) (slice_range qs done end) h.written X
+      (length-first ps done (omega (arith, lt, first_long))) (length-slice_range ps done end first_long) h.meets of_old in
       subst (λ n. IsTheOne n (WeighsWith (take end ps) (take end qs) x y) (h.written ++ X)) whole
       (subst (λ q. IsTheOne (done + (end - done)) (WeighsWith (take end ps) q x y) (h.written ++ X)) (sym (take_on qs done end le))
       (subst (λ p. IsTheOne (done + (end - done)) (WeighsWith p (take done qs ++ slice_range qs done end) x y) (h.written ++ X))

@@ -13,7 +13,7 @@ use Rattle.btr_read.specs.declared.candidate.Candidate.{Candidate}
 use Rattle.btr_read.specs.Want.{passes}
 use Rattle.btr_read.specs.Candidates.{Target, size_of, candidates, stands, value_of, reading}
 use Rattle.btr_read.specs.Fate.{passing}
-use Rattle.btr_read.specs.declared.attempt.Outcome.TheVariants as outcome
+use Rattle.btr_read.specs.declared.attempt.TrialOutcome.TheVariants as outcome
 use Rattle.btr_read.specs.Attempt.{FitsOutcome}
 use Rattle.btr_read.specs.Cause.{IsOf, IsMissed, ReadFailed, Passes, IsUnread}
 use Rattle.btr_read.specs.Trial.{passing_of, passed_outcome, ended_outcome, CauseSoFar, TriedSoFar, BeganAt}
@@ -341,7 +341,8 @@ nothing_left [] ys e = (refl, e)
 nothing_left (x ∷ xs) ys e = absurd (cc)
 
 module _ (images : List (List ℕ)) (t : Target) where
-  module _ (k : ℕ) (c : Candidate) (is : slice_get (candidates t) k ≡ Some c) (lt : k < length (candidates t)) (standing : stands t c ≡ true) (so_far : passing_of images t (take k (candidates t)) ≡ []) where
+  module _ (k : ℕ) (c : Candidate) (is : slice_get (candidates t) k ≡ Some c) (lt : k < length (candidates t)) (standing : stands t c ≡ true)
+      (so_far : passing_of images t (take k (candidates t)) ≡ []) where
     -- one more that doesn't pass
     pub none_then : passes t.setting t.want (value_of images t c) ≡ false → passing_of images t (take (k + 1) (candidates t)) ≡ []
     none_then test = take_one_more images t (candidates t) k c is lt ∙ ap (λ xs. xs ++ passing_of images t (c ∷ [])) so_far

@@ -86,7 +86,8 @@ value_is_the_one images t (ByBoth j) is rebuilt whole =
     let p = gathered images t (ByBoth j) whole parity.P tt in
     let q = gathered images t (ByBoth j) whole parity.Q tt in
     let ne : t.at.index ≢ j = λ e. rebuilt.2 (sym e) in
-    let pair = pair_is_one (size_of t) t.at.index j S W (below_62 t t.at.index is rebuilt.0 is.position.index) (below_62 t j is rebuilt.0 rebuilt.1) ne (left_whole images t (ByBoth j) whole parity.P tt) (left_whole images t (ByBoth j) whole parity.Q tt) in
+    let pair = pair_is_one (size_of t) t.at.index j S W (below_62 t t.at.index is rebuilt.0 is.position.index) (below_62 t j is rebuilt.0 rebuilt.1) ne
+    (left_whole images t (ByBoth j) whole parity.P tt) (left_whole images t (ByBoth j) whole parity.Q tt) in
     subst (IsTheOne (size_of t) (Solves images t (ByBoth j))) (sym (by_both images t j S W pair.0 is.position.index rebuilt.1 ne p q pair.1))
     (one_by_both images t j S W pair.0 is.position.index rebuilt.1 ne p q pair.1)
 
@@ -118,7 +119,9 @@ same_set xs ys i X len h = same_lists (set xs i X) (set ys i X) (length-set xs i
       | inr ne ↦ get_or-set_other xs i s X d ne ∙ h s d within ne ∙ sym (get_or-set_other ys i s X d ne)
     ])
 
-module _ (images others : List (List ℕ)) (t : Target) (c : Candidate) (agree : (range : Range) → Contains (ranges_of t c) range → bytes_of images range.slot range.off range.len ≡ bytes_of others range.slot range.off range.len) where
+module _ (images others : List (List ℕ)) (t : Target) (c : Candidate)
+    (agree : (range : Range) → Contains (ranges_of t c) range → bytes_of images range.slot range.off range.len
+    ≡ bytes_of others range.slot range.off range.len) where
   same_part : (part : Part) → In part (parts_read (slice_count t) t.at.index c) → element images t part ≡ element others t part
   same_part part i = by (range_of t part) refl
     where

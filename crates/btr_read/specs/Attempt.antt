@@ -5,8 +5,8 @@ use Rattle.btr_rack.specs.Rack.{Seen, NoneFailed, Rose}
 use Rattle.btr_chunk.specs.declared.place.Part.{Part}
 use Rattle.btr_read.specs.declared.attempt.Attempt.{Attempt}
 use Rattle.btr_read.specs.declared.attempt.Attempt.TheVariants.{Passed, Differs, Absent, Failed}
-use Rattle.btr_read.specs.declared.attempt.Outcome.{Outcome}
-use Rattle.btr_read.specs.declared.attempt.Outcome.TheVariants as outcome
+use Rattle.btr_read.specs.declared.attempt.TrialOutcome.{TrialOutcome}
+use Rattle.btr_read.specs.declared.attempt.TrialOutcome.TheVariants as outcome
 use Rattle.btr_read.specs.declared.candidate.Candidate.{Candidate}
 use Rattle.btr_read.specs.declared.candidate.Candidate.TheVariants.{Read}
 use Rattle.btr_read.specs.Want.{passes}
@@ -50,7 +50,7 @@ pub record IsLater (t : Target) (old new : Seen) (bytes : List ℕ) : Type 0 whe
   pub stand : IfSome old.held (λ images. Contains (passing images t) bytes)
 
 -- all candidates, from an account of no fresh failure on
-abbrev pub FitsOutcome : Target → Seen → Seen → List ℕ → Outcome → Type 0
+abbrev pub FitsOutcome : Target → Seen → Seen → List ℕ → TrialOutcome → Type 0
 FitsOutcome t old new slot outcome.First = IsFirst t old new (take (size_of t) slot)
 FitsOutcome t old new slot outcome.Later = IsLater t old new (take (size_of t) slot)
 FitsOutcome t old new slot outcome.Lost =

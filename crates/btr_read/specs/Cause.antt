@@ -51,4 +51,5 @@ pub record IsUnread (t : Target) (old new : Seen) (slot : ℕ) : Type 0 where
   pub only : All (λ missed. Any (IsOf t missed) (candidates t)) new.account.missed
   pub some : 1 ≤ new.account.fresh
   pub enough : IfSome old.held (λ images. length (passing images t) ≤ new.account.fresh)
-  pub each : IfSome old.held (λ images. All (λ candidate. Passes images t candidate → Any (λ missed. IsOf t missed candidate) new.account.missed) (candidates t))
+  pub each : IfSome old.held (λ images. All (λ candidate. Passes images t candidate → Any (λ missed. IsOf t missed candidate) new.account.missed)
+      (candidates t))

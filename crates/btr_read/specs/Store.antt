@@ -1,5 +1,6 @@
 -- What a contract sees of a store and of its loans.
-use Rattle.std.specs.Prelude.{◌≡◌, ℕ, ◌+◌, ◌<◌, ◌≤◌, Bool, true, false, List, [], ◌∷◌, ◌++◌, length, take, drop, replicate, Option, Some, None, IsSome, IsSomeAnd, is_none, slice_index_or, slice_set, count_by}
+use Rattle.std.specs.Prelude.{◌≡◌, ℕ, ◌+◌, ◌<◌, ◌≤◌, Bool, true, false, List, [], ◌∷◌, ◌++◌, length, take, drop, replicate, Option, Some, None}
+use Rattle.std.specs.Prelude.{IsSome, IsSomeAnd, is_none, slice_index_or, slice_set, count_by}
 use Rattle.std.specs.Option.{option_map}
 use Rattle.btr_base.specs.declared.kind.SumKind.{SumKind}
 use Rattle.btr_chunk.specs.declared.chunk.Chunk.{Chunk}

@@ -1,11 +1,12 @@
 -- How far the candidates of a search were tried.
-use Rattle.std.specs.Prelude.{◌≡◌, ℕ, ◌<◌, ◌≤◌, Bool, true, false, List, length, take, slice_index_or, Option, Some, None, IfSome, Result, Ok, Err, is_none, if◌then◌else◌}
+use Rattle.std.specs.Prelude.{◌≡◌, ℕ, ◌<◌, ◌≤◌, Bool, true, false, List, length, take, slice_index_or, Option, Some, None, IfSome, Result, Ok, Err}
+use Rattle.std.specs.Prelude.{is_none, if◌then◌else◌}
 use Rattle.std.specs.List.{All, Any, filter, filter_map}
 use Rattle.btr_pool.specs.Slots.{Slots, bytes_at}
 use Rattle.btr_rack.specs.Rack.{Seen, NoneFailed, Rose}
 use Rattle.btr_chunk.specs.declared.place.Part.{Part}
-use Rattle.btr_read.specs.declared.attempt.Outcome.{Outcome}
-use Rattle.btr_read.specs.declared.attempt.Outcome.TheVariants as outcome
+use Rattle.btr_read.specs.declared.attempt.TrialOutcome.{TrialOutcome}
+use Rattle.btr_read.specs.declared.attempt.TrialOutcome.TheVariants as outcome
 use Rattle.btr_read.specs.declared.attempt.Trial.{Trial}
 use Rattle.btr_read.specs.declared.attempt.Trial.TheVariants.{Ended, Stopped}
 use Rattle.btr_read.specs.declared.attempt.Unread.{Unread}
@@ -44,11 +45,11 @@ pub record BeganAt (before now : Seen) : Type 0 where
   pub sure : now.sure ≡ before.sure
 
 -- what a search comes to when a candidate passes: the first one, or a later one after reads that failed
-abbrev pub passed_outcome : Option ℕ → Outcome
+abbrev pub passed_outcome : Option ℕ → TrialOutcome
 passed_outcome failed = if is_none failed then outcome.First else outcome.Later
 
 -- what a search comes to when no candidate passes: a read that failed, or a lost block
-abbrev pub ended_outcome : Option ℕ → Outcome
+abbrev pub ended_outcome : Option ℕ → TrialOutcome
 ended_outcome None = outcome.Lost
 ended_outcome (Some slot) = outcome.Unread slot
 
@@ -69,12 +70,12 @@ GoesOn t failed k old new pool slot trial =
     (before : Seen) → BeganAt before old → TriedSoFar t before old failed k → FitsTrial t before new (bytes_at pool slot) trial
 
 -- a trial and its outcome, when the first k candidates had been tried before it
-abbrev pub EndsFrom : Target → Option ℕ → ℕ → Seen → Seen → Slots → ℕ → Outcome → Type 0
+abbrev pub EndsFrom : Target → Option ℕ → ℕ → Seen → Seen → Slots → ℕ → TrialOutcome → Type 0
 EndsFrom t failed k old new pool slot outcome =
     (before : Seen) → BeganAt before old → TriedSoFar t before old failed k → FitsOutcome t before new (bytes_at pool slot) outcome
 
 -- its outcome, where the read of a part had failed last
-abbrev pub EndsAround : Target → Unread → ℕ → Seen → Seen → Slots → ℕ → Outcome → Type 0
+abbrev pub EndsAround : Target → Unread → ℕ → Seen → Seen → Slots → ℕ → TrialOutcome → Type 0
 EndsAround t unread k old new pool slot outcome = EndsFrom t (Some unread.slot) k old new pool slot outcome
 
 -- the part whose read stopped it

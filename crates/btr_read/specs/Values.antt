@@ -34,5 +34,6 @@ ValueIsTheOne =
 -- images that agree on a candidate's ranges give it the same value
 abbrev pub ValueByRanges : Type 0
 ValueByRanges = (images others : List (List ℕ)) (t : Target) (candidate : Candidate)
-    → ((range : Range) → Contains (ranges_of t candidate) range → bytes_of images range.slot range.off range.len ≡ bytes_of others range.slot range.off range.len)
+    → ((range : Range) → Contains (ranges_of t candidate) range → bytes_of images range.slot range.off range.len
+    ≡ bytes_of others range.slot range.off range.len)
     → value_of images t candidate ≡ value_of others t candidate

@@ -1,5 +1,6 @@
 -- What reading into slots may do to a pool.
-use Rattle.std.specs.Prelude.{◌≡◌, ◌≢◌, ℕ, Bool, true, false, List, [], ◌∷◌, length, slice_index_or, slice_set, Option, Some, None, IsSome, ◌≤◌, ◌+◌, ◌-◌, ◌^◌, min}
+use Rattle.std.specs.Prelude.{◌≡◌, ◌≢◌, ℕ, Bool, true, false, List, [], ◌∷◌, length, slice_index_or, slice_set, Option, Some, None, IsSome, ◌≤◌, ◌+◌}
+use Rattle.std.specs.Prelude.{◌-◌, ◌^◌, min}
 use Rattle.btr_pool.specs.Slots.{Slots, IsLive, IsFree, bytes_at}
 use Rattle.btr_read.specs.declared.row_slots.RowSlots.{RowSlots}
 use Rattle.btr_read.specs.declared.want.Want.{Want}

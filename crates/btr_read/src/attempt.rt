@@ -30,14 +30,14 @@ pub(crate) struct Unread {
 #[derive(Clone, Copy, Debug, PartialEq, Eq)]
 pub(crate) enum Trial {
     /// To the end, or to one that passes.
-    Ended(Outcome),
+    Ended(TrialOutcome),
     /// So many of all candidates, in their order, then a read failed.
     Stopped(u32, Unread),
 }
 
 /// What came of all candidates.
 #[derive(Clone, Copy, Debug, PartialEq, Eq)]
-pub(crate) enum Outcome {
+pub(crate) enum TrialOutcome {
     /// One passes, no read failed, and its bytes stand in the slot.
     First,
     /// One passes after a read that failed, and its bytes stand in the slot.
@@ -73,21 +73,21 @@ impl Missed {
 }
 
 // What it is that one passes, after the reads that failed.
-pub(crate) fn passed_after(failed: Option<usize>) -> Outcome
+pub(crate) fn passed_after(failed: Option<usize>) -> TrialOutcome
     ensures { result ≡ passed_outcome failed }
 {
     match failed {
-        None => Outcome::First,
-        Some(_) => Outcome::Later,
+        None => TrialOutcome::First,
+        Some(_) => TrialOutcome::Later,
     }
 }
 
 // What it is that none passes, after the reads that failed.
-pub(crate) fn ended_after(failed: Option<usize>) -> Outcome
+pub(crate) fn ended_after(failed: Option<usize>) -> TrialOutcome
     ensures { result ≡ ended_outcome failed }
 {
     match failed {
-        None => Outcome::Lost,
-        Some(slot) => Outcome::Unread(slot),
+        None => TrialOutcome::Lost,
+        Some(slot) => TrialOutcome::Unread(slot),
     }
 }

@@ -11,7 +11,7 @@ ghost use Rattle.btr_read.specs.Finding.{Finds, SameShape, TakesFound};
 ghost use Rattle.btr_read.specs.Serves.{Serves};
 ghost use Rattle.btr_read.specs.Writing.{StillNodes};
 
-use crate::attempt::{Missed, Outcome};
+use crate::attempt::{Missed, TrialOutcome};
 use crate::device::Member;
 use crate::kept::{Kept, lend_kept, take_least};
 use crate::search::Search;
@@ -73,16 +73,16 @@ fn find<R: Rack>(
 {
     let slot = take_least(pool, kept);
     match try_all(search, rack, pool, kept, &slot) {
-        Outcome::First => {
+        TrialOutcome::First => {
             kept.keep(slot.slot(), search.want);
             Ok(slot)
         }
-        Outcome::Later => Ok(slot),
-        Outcome::Lost => {
+        TrialOutcome::Later => Ok(slot),
+        TrialOutcome::Lost => {
             pool.give(slot);
             Err(Missed::Lost)
         }
-        Outcome::Unread(image) => {
+        TrialOutcome::Unread(image) => {
             pool.give(slot);
             Err(Missed::Unread(image))
         }

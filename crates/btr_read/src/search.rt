@@ -38,7 +38,8 @@ impl Search<'_> {
     ghost use Rattle.btr_read.specs.Want.{passes};
     ghost use Rattle.btr_chunk.specs.declared.place.Part.{Part};
     ghost use Rattle.btr_chunk.specs.Chunk.{mirror_count};
-    ghost use Rattle.btr_read.specs.Candidates.{size_of, range_of, ways, candidates, slice_count, slices_read, reads_slice, reads_older, is_on_older, parts_stand, stands, lacks_slice};
+    ghost use Rattle.btr_read.specs.Candidates.{size_of, range_of, ways, candidates, slice_count, slices_read, reads_slice, reads_older, is_on_older};
+    ghost use Rattle.btr_read.specs.Candidates.{parts_stand, stands, lacks_slice};
     ghost use Rattle.btr_read.specs.Comparing.{least_of, least_slot};
     ghost use Rattle.btr_read.specs.Order.{FitsAmong, IsWayAt};
     ghost use Rattle.std.specs.List.{list_any};

@@ -12,7 +12,7 @@ ghost use Rattle.btr_read.specs.Gathering.{IsOfRow, RowStands};
 ghost use Rattle.btr_read.specs.Trial.{GoesOn, EndsFrom, EndsAround, IfStopped};
 ghost use Rattle.btr_rack.specs.Rack.{OnlyReads};
 
-use crate::attempt::{Attempt, Outcome, Trial, Unread, ended_after, passed_after};
+use crate::attempt::{Attempt, Trial, TrialOutcome, Unread, ended_after, passed_after};
 use crate::candidate::Candidate;
 use crate::kept::{Kept, take_least};
 use crate::reading::read_into;
@@ -130,7 +130,7 @@ fn try_from<R: Rack>(
     pool: &mut Pool,
     kept: &mut Kept,
     loan: &Loan,
-) -> Outcome
+) -> TrialOutcome
     requires open { AreOpen (R.seen rack.old).slots search.now.devices }
     requires live { IsLive pool.old loan.now }
     requires room { 2 ≤ free_count pool.old }
@@ -204,7 +204,7 @@ fn try_around<R: Rack>(
     pool: &mut Pool,
     kept: &mut Kept,
     loan: &Loan,
-) -> Outcome
+) -> TrialOutcome
     requires profile { search.now.chunk.profile ≡ Profile.Raid6 }
     requires part { IsOfRow search.now Candidate.ByP unread.part }
     requires open { AreOpen (R.seen rack.old).slots search.now.devices }
@@ -221,7 +221,7 @@ fn try_around<R: Rack>(
 {
     let other = search.candidate(search.without(unread.part));
     let last = match try_candidate(search, other, rack, pool, kept, loan) {
-        Attempt::Passed => return Outcome::Later,
+        Attempt::Passed => return TrialOutcome::Later,
         Attempt::Differs => unread.slot,
         Attempt::Absent => unread.slot,
         Attempt::Failed(slot) => slot,
@@ -237,7 +237,7 @@ fn try_behind<R: Rack>(
     pool: &mut Pool,
     kept: &mut Kept,
     loan: &Loan,
-) -> Outcome
+) -> TrialOutcome
     requires profile { search.now.chunk.profile ≡ Profile.Raid6 }
     requires order { candidates search.now ≡ ways search.now }
     requires open { AreOpen (R.seen rack.old).slots search.now.devices }
@@ -271,7 +271,7 @@ pub(crate) fn try_all<R: Rack>(
     pool: &mut Pool,
     kept: &mut Kept,
     loan: &Loan,
-) -> Outcome
+) -> TrialOutcome
     requires open { AreOpen (R.seen rack.old).slots search.now.devices }
     requires live { IsLive pool.old loan.now }
     requires room { 3 ≤ free_count pool.old }
@@ -290,7 +290,7 @@ pub(crate) fn try_all<R: Rack>(
         return try_from(search, 0, None, rack, pool, kept, loan);
     }
     let failed = match try_candidate(search, search.candidate(0), rack, pool, kept, loan) {
-        Attempt::Passed => return Outcome::First,
+        Attempt::Passed => return TrialOutcome::First,
         Attempt::Differs => None,
         Attempt::Absent => None,
         Attempt::Failed(slot) => Some(slot),

@@ -1,5 +1,6 @@
 -- References, one more at a time.
-use Rattle.std.proofs.Common.{◌≡◌, ℕ, ◌+◌, Bool, true, false, cond, ◌||◌, List, [], ◌∷◌, ◌++◌, Option, Some, None, refl, sym, ap, ◌∙◌, subst, append_assoc, append-nil}
+use Rattle.std.proofs.Common.{◌≡◌, ℕ, ◌+◌, Bool, true, false, cond, ◌||◌, List, [], ◌∷◌, ◌++◌, Option, Some, None, refl, sym, ap, ◌∙◌, subst}
+use Rattle.std.proofs.Common.{append_assoc, append-nil}
 use Rattle.std.proofs.Common.{arith}
 use Rattle.std.proofs.lemmas.Bool.{false≢true}
 use Rattle.std.proofs.lemmas.Cmp.{then_total, on_total, nat_cmp_total}
@@ -73,8 +74,10 @@ pub HasCounts-more : (refs : List Counted) (old new : RefCounts) (key : RefKey) 
     → HasCounts (refs ++ record { key = key; count = count } ∷ []) new
 HasCounts-more refs old new key count total is total-is more one =
     more one ∙ by (same_ref key one) refl (same_swaps one key)
-    ∙ ap (λ b. cond b (Some (sum_of refs one + cond (same_ref one key) count 0)) None) (sym (list_any-append (λ (other : Counted). same_ref one other.key) refs (record { key = key; count = count } ∷ [])))
-    ∙ ap (λ n. cond (is_met (refs ++ record { key = key; count = count } ∷ []) one) (Some n) None) (sym (sum_by_push (λ (other : Counted). cond (same_ref one other.key) other.count 0) refs (record { key = key; count = count })))
+    ∙ ap (λ b. cond b (Some (sum_of refs one + cond (same_ref one key) count 0)) None)
+    (sym (list_any-append (λ (other : Counted). same_ref one other.key) refs (record { key = key; count = count } ∷ [])))
+    ∙ ap (λ n. cond (is_met (refs ++ record { key = key; count = count } ∷ []) one) (Some n) None)
+    (sym (sum_by_push (λ (other : Counted). cond (same_ref one other.key) other.count 0) refs (record { key = key; count = count })))
   where
     whole : (b : Bool) → b || true ≡ true
     whole true = refl
@@ -158,7 +161,8 @@ counts_on done [] counts is = subst (λ l. HasCounts l counts) (sym (append-nil 
 counts_on done (ref ∷ refs) counts is =
     let more : HasCounts (done ++ ref ∷ []) (counted counts ref) =
     HasCounts-more done counts (counted counts ref) ref.key ref.count (count_in counts ref.key + ref.count) is refl
-    (λ one. insert-get counts ref.key (count_in counts ref.key + ref.count) one ∙ ap (λ b. cond b (Some (count_in counts ref.key + ref.count)) (found_at counts one)) (same_swaps one ref.key)) in
+    (λ one. insert-get counts ref.key (count_in counts ref.key + ref.count) one
+    ∙ ap (λ b. cond b (Some (count_in counts ref.key + ref.count)) (found_at counts one)) (same_swaps one ref.key)) in
     subst (λ l. HasCounts l (counted_all (counted counts ref) refs)) (append_assoc done (ref ∷ []) refs)
     (counts_on (done ++ ref ∷ []) refs (counted counts ref) more)
 

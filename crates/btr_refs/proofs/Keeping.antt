@@ -12,7 +12,8 @@ use Rattle.btr_refs.specs.Extents.{Kept, StoredLaw, nothing_kept, kept_with, sto
 
 -- what some items leave
 abbrev all_kept : Kept → List TreeItem → Kept
-all_kept kept items = record { nodesize = kept.nodesize; refs = counted_all kept.refs (stored_in items); extents = kept.extents ++ extents_in kept.nodesize items }
+all_kept kept items =
+    record { nodesize = kept.nodesize; refs = counted_all kept.refs (stored_in items); extents = kept.extents ++ extents_in kept.nodesize items }
 
 abbrev kept_as : ℕ → RefCounts → List Extent → Kept
 kept_as nodesize refs extents = record { nodesize = nodesize; refs = refs; extents = extents }

@@ -1,5 +1,6 @@
 -- References in a list, in their order.
-use Rattle.std.proofs.Common.{◌≡◌, ℕ, suc, zero, ◌+◌, ◌-◌, ◌<◌, ◌≤◌, ◌==◌, Bool, true, false, cond, ◌||◌, List, [], ◌∷◌, length, take, drop, get_or, map, Some, None, ◌⊎◌, inl, inr, refl, sym, ap, ◌∙◌, true≢false, ltb, leb, ltb-true, leb-false, ne_eqb, zero-add, arith}
+use Rattle.std.proofs.Common.{◌≡◌, ℕ, suc, zero, ◌+◌, ◌-◌, ◌<◌, ◌≤◌, ◌==◌, Bool, true, false, cond, ◌||◌, List, [], ◌∷◌, length, take, drop, get_or}
+use Rattle.std.proofs.Common.{map, Some, None, ◌⊎◌, inl, inr, refl, sym, ap, ◌∙◌, true≢false, ltb, leb, ltb-true, leb-false, ne_eqb, zero-add, arith}
 use Rattle.std.proofs.Common.{sum_by}
 use Rattle.std.proofs.lemmas.Bool.{cases_lt}
 use Rattle.std.proofs.lemmas.List.{get_or-drop, get_or-map, get_or-take, length-drop, length-map, length-take-le, take_all}
@@ -89,13 +90,15 @@ ascends_by refs adjacent = sorted_from_all_adjacent ref_total (keys_in refs) non
         ∙ is_less (ref_cmp (get_or refs k none).key (get_or refs (k + 1) none).key) (adjacent k none lt)
 
 -- each is below those after it
-pub below_at : (refs : List Counted) → Ascends refs → (i j : ℕ) (d : Counted) → i < j → j < length refs → ref_cmp (get_or refs i d).key (get_or refs j d).key ≡ Less
+pub below_at : (refs : List Counted) → Ascends refs → (i j : ℕ) (d : Counted) → i < j → j < length refs
+    → ref_cmp (get_or refs i d).key (get_or refs j d).key ≡ Less
 below_at refs ascends i j d lt in_range =
     ap (λ key. ref_cmp key (get_or refs j d).key) (sym (key_at refs i d (omega (arith, lt, in_range))))
     ∙ ap (ref_cmp (get_or (keys_in refs) i d.key)) (sym (key_at refs j d in_range))
     ∙ Less-from_sorted ref_cmp (keys_in refs) i j d.key ascends lt (omega (arith, in_range, length_keys refs))
 
-no_key : (refs : List Counted) (key : RefKey) → ((k : ℕ) (d : Counted) → k < length refs → same_ref key (get_or refs k d).key ≡ false) → found_at (entries_of refs) key ≡ None
+no_key : (refs : List Counted) (key : RefKey) → ((k : ℕ) (d : Counted) → k < length refs → same_ref key (get_or refs k d).key ≡ false)
+    → found_at (entries_of refs) key ≡ None
 no_key [] key apart = refl
 no_key (one ∷ refs) key apart = ap (λ b. cond b (Some one.count) (found_at (entries_of refs) key)) (apart zero one (omega arith))
     ∙ no_key refs key (λ k d lt. apart (suc k) d (omega (arith, lt)))
@@ -103,13 +106,15 @@ no_key (one ∷ refs) key apart = ap (λ b. cond b (Some one.count) (found_at (e
 -- what a binary search finds
 module _ (refs : List Counted) (key : RefKey) (ascends : Ascends refs) where
   rises : IsNonDecreasingBy (λ (one : Counted). ordering_index (ref_cmp one.key key)) refs
-  rises = searchable_from_sorted ref_total key_in refs key (λ k d from to. ap is_lt (back (get_or refs k d).key (get_or refs (k + 1) d).key (below_at refs ascends k (k + 1) d (omega arith) to)))
+  rises = searchable_from_sorted ref_total key_in refs key (λ k d from to. ap is_lt
+      (back (get_or refs k d).key (get_or refs (k + 1) d).key (below_at refs ascends k (k + 1) d (omega arith) to)))
     where
       back : (a b : RefKey) → ref_cmp a b ≡ Less → ref_cmp b a ≡ Greater
       back a b less = ref_total.antisymm b a ∙ ap ordering_reverse less
 
   pub searched : (at : ℕ) → (IsNonDecreasingBy (λ (one : Counted). ordering_index (ref_cmp one.key key)) refs
-      → IsPartitionPoint (λ (one : Counted). ref_cmp one.key key ≡ Less) (λ (one : Counted). ref_cmp one.key key ≡ Greater) refs at) → found_at (entries_of refs) key ≡ None
+      → IsPartitionPoint (λ (one : Counted). ref_cmp one.key key ≡ Less) (λ (one : Counted). ref_cmp one.key key ≡ Greater) refs at)
+      → found_at (entries_of refs) key ≡ None
   searched at parted = no_key refs key (λ k d lt. by k d lt (cases_lt k at))
     where
       by : (k : ℕ) (d : Counted) → k < length refs → (k < at) ⊎ (at ≤ k) → same_ref key (get_or refs k d).key ≡ false
@@ -146,7 +151,8 @@ pub addresses_rise : (refs : List Counted) → Ascends refs → IsNonDecreasingB
 addresses_rise refs ascends i j d le in_range = by (cases_lt i j)
   where
     by : (i < j) ⊎ (j ≤ i) → addr_of (get_or refs i d) ≤ addr_of (get_or refs j d)
-    by (inl lt) = le_from_not_gt (addr_of (get_or refs i d)) (addr_of (get_or refs j d)) (addr_first (nat_cmp (addr_of (get_or refs i d)) (addr_of (get_or refs j d))) _
+    by (inl lt) = le_from_not_gt (addr_of (get_or refs i d)) (addr_of (get_or refs j d))
+        (addr_first (nat_cmp (addr_of (get_or refs i d)) (addr_of (get_or refs j d))) _
         (below_at refs ascends i j d lt in_range))
     by (inr ge) = let same : i ≡ j = omega arith in omega (arith, ap (λ k. addr_of (get_or refs k d)) same)
 
@@ -155,7 +161,8 @@ module _ (addr : ℕ) (refs : List Counted) (first count : ℕ) where
   abbrev pub from_first : List Counted
   from_first = take (length refs - first) (drop first refs)
 
-  pub all_within : first ≤ length refs → IsPartitionPoint (λ (one : Counted). ltb (addr_of one) addr ≡ true) (λ (one : Counted). ltb (addr_of one) addr ≡ false) refs first
+  pub all_within : first ≤ length refs → IsPartitionPoint (λ (one : Counted). ltb (addr_of one) addr ≡ true)
+      (λ (one : Counted). ltb (addr_of one) addr ≡ false) refs first
       → count ≤ length from_first
       → IsPartitionPoint (λ (one : Counted). leb (addr_of one) addr ≡ true) (λ (one : Counted). leb (addr_of one) addr ≡ false) from_first count
       → total_at (entries_of (take count from_first)) addr ≡ total_at (entries_of refs) addr

@@ -24,7 +24,8 @@ both false b p q = absurd p
 
 below : (key : RefKey) (counts : RefCounts) → AllByRecursion (λ y. ref_cmp key y ≡ Less) (keys_of counts) → T (below_all ref_cmp key counts)
 below key [] all = tt
-below key (entry ∷ counts) all = both (is_lt (ref_cmp key entry.0)) (below_all ref_cmp key counts) (subst (λ r. T (is_lt r)) (sym all.0) tt) (below key counts all.1)
+below key (entry ∷ counts) all =
+    both (is_lt (ref_cmp key entry.0)) (below_all ref_cmp key counts) (subst (λ r. T (is_lt r)) (sym all.0) tt) (below key counts all.1)
 
 pub is_ordered : (counts : RefCounts) → IsStrictlySortedBy ref_cmp (keys_of counts) → IsOrdered counts
 is_ordered [] sorted = tt

@@ -1,5 +1,6 @@
 -- Rows of references that are counted and stored, and of extents.
-use Rattle.std.proofs.Common.{◌≡◌, ℕ, suc, zero, ◌+◌, ◌*◌, ◌<◌, Bool, true, false, cond, ◌||◌, ◌&&◌, List, [], ◌∷◌, ◌++◌, length, get_or, replicate, Option, Some, None, filter_map}
+use Rattle.std.proofs.Common.{◌≡◌, ℕ, suc, zero, ◌+◌, ◌*◌, ◌<◌, Bool, true, false, cond, ◌||◌, ◌&&◌, List, [], ◌∷◌, ◌++◌, length, get_or, replicate}
+use Rattle.std.proofs.Common.{Option, Some, None, filter_map}
 use Rattle.std.proofs.Common.{T, refl, sym, ap, ◌∙◌, true≢false, zero-add, arith}
 use Rattle.std.proofs.lemmas.List.Folds.{list_any-append, sum_by-replicate}
 use Rattle.std.proofs.lemmas.List.Sums.{sum_by-append, sum_by-cons}
@@ -31,7 +32,8 @@ same_itself : (key : RefKey) → same_ref key key ≡ true
 same_itself key = (eq_by_cmp_equiv ref_total).refl key
 
 -- what holds at each place alike
-pub any_alike : {X : Type 0} (p q : X → Bool) (xs : List X) → ((i : ℕ) (d : X) → i < length xs → p (get_or xs i d) ≡ q (get_or xs i d)) → list_any p xs ≡ list_any q xs
+pub any_alike : {X : Type 0} (p q : X → Bool) (xs : List X) → ((i : ℕ) (d : X) → i < length xs → p (get_or xs i d) ≡ q (get_or xs i d))
+    → list_any p xs ≡ list_any q xs
 any_alike p q [] same = refl
 any_alike p q (x ∷ xs) same =
     ap (λ b. b || list_any p xs) (same zero x (omega arith)) ∙ ap (λ b. q x || b) (any_alike p q xs (λ i d lt. same (suc i) d (omega (arith, lt))))
@@ -58,7 +60,8 @@ module _ (key : RefKey) where
           let all = sum_by-append weight (replicate t (once ref.key)) (met_times refs times) in
           omega (arith, here, later, all)
 
-not_first : (ref : Counted) (refs : List Counted) (i : ℕ) (d : Counted) → is_met refs ref.key ≡ false → i < length refs → same_ref (get_or refs i d).key ref.key ≡ false
+not_first : (ref : Counted) (refs : List Counted) (i : ℕ) (d : Counted) → is_met refs ref.key ≡ false → i < length refs
+    → same_ref (get_or refs i d).key ref.key ≡ false
 not_first ref [] i d unmet lt = absurd (omega (arith, lt))
 not_first ref (one ∷ refs) i d unmet lt = by (same_ref ref.key one.key) refl unmet (λ i none lt. not_first ref refs i d none lt) i lt
   where
@@ -112,21 +115,25 @@ listed_count others more key none =
 met_at : (refs : List Counted) (i : ℕ) (d : Counted) → i < length refs → is_met refs (get_or refs i d).key ≡ true
 met_at [] i d lt = absurd (omega (arith, lt))
 met_at (ref ∷ refs) zero d lt = ap (λ b. b || is_met refs ref.key) (same_itself ref.key)
-met_at (ref ∷ refs) (suc i) d lt = ap (λ b. same_ref (get_or refs i d).key ref.key || b) (met_at refs i d (omega (arith, lt))) ∙ or_true (same_ref (get_or refs i d).key ref.key)
+met_at (ref ∷ refs) (suc i) d lt =
+    ap (λ b. same_ref (get_or refs i d).key ref.key || b) (met_at refs i d (omega (arith, lt))) ∙ or_true (same_ref (get_or refs i d).key ref.key)
   where
     or_true : (b : Bool) → (b || true) ≡ true
     or_true true = refl
     or_true false = refl
 
-no_other : (found : RefKey → Option ℕ) (others : RefCounts) (key : RefKey) (n : ℕ) → All (λ other. found other ≡ None) (keys_of others) → found key ≡ Some n → found_at others key ≡ None
+no_other : (found : RefKey → Option ℕ) (others : RefCounts) (key : RefKey) (n : ℕ) → All (λ other. found other ≡ None) (keys_of others) → found key ≡ Some n
+    → found_at others key ≡ None
 no_other found [] key n apart is = refl
 no_other found (entry ∷ others) key n apart is = by (same_ref key entry.0) refl (no_other found others key n (λ k d lt. apart (suc k) d (omega (arith, lt))) is)
   where
     by : (b : Bool) → same_ref key entry.0 ≡ b → found_at others key ≡ None → cond b (Some entry.1) (found_at others key) ≡ None
-    by true same rest = absurd (true≢false (sym (ap is_some is) ∙ ap (λ k. is_some (found k)) (same_is key entry.0 same) ∙ ap is_some (apart zero entry.0 (omega arith))))
+    by true same rest = absurd (true≢false (sym (ap is_some is) ∙ ap (λ k. is_some (found k)) (same_is key entry.0 same)
+        ∙ ap is_some (apart zero entry.0 (omega arith))))
     by false same rest = rest
 
-other_at : (others : RefCounts) (i : ℕ) (d : RefKey × ℕ) → IsOrdered others → i < length others → found_at others (get_or others i d).0 ≡ Some (get_or others i d).1
+other_at : (others : RefCounts) (i : ℕ) (d : RefKey × ℕ) → IsOrdered others → i < length others
+    → found_at others (get_or others i d).0 ≡ Some (get_or others i d).1
 other_at [] i d ordered lt = absurd (omega (arith, lt))
 other_at (entry ∷ others) zero d ordered lt = ap (λ b. cond b (Some entry.1) (found_at others entry.0)) (same_itself entry.0)
 other_at (entry ∷ others) (suc i) d ordered lt =
@@ -145,7 +152,8 @@ other_at (entry ∷ others) (suc i) d ordered lt =
 
     later : (es : RefCounts) (i : ℕ) (d : RefKey × ℕ) → T (below_all ref_cmp entry.0 es) → i < length es → same_ref (get_or es i d).0 entry.0 ≡ false
     later [] i d p lt = absurd (omega (arith, lt))
-    later (e ∷ es) zero d p lt = same_swaps e.0 entry.0 ∙ ap is_eq (less (ref_cmp entry.0 e.0) (split (is_lt (ref_cmp entry.0 e.0)) (below_all ref_cmp entry.0 es) p).0)
+    later (e ∷ es) zero d p lt =
+        same_swaps e.0 entry.0 ∙ ap is_eq (less (ref_cmp entry.0 e.0) (split (is_lt (ref_cmp entry.0 e.0)) (below_all ref_cmp entry.0 es) p).0)
     later (e ∷ es) (suc i) d p lt = later es i d (split (is_lt (ref_cmp entry.0 e.0)) (below_all ref_cmp entry.0 es) p).1 (omega (arith, lt))
 
 -- tests of the references of maps and lists
@@ -176,10 +184,12 @@ module _ (p : RefKey → Bool) where
           → list_any p (keys_of (match_ordering r ((key, n) ∷ entry ∷ counts) ((entry.0, n) ∷ counts) (entry ∷ insert_entry ref_cmp counts key n)))
           ≡ (p key || list_any p (keys_of (entry ∷ counts)))
       by Less is rest = refl
-      by Equal is rest = or_twice (p entry.0) (list_any p (keys_of counts)) ∙ ap (λ k. p k || (p entry.0 || list_any p (keys_of counts))) (sym (ref_exact key entry.0 is))
+      by Equal is rest = or_twice (p entry.0) (list_any p (keys_of counts))
+          ∙ ap (λ k. p k || (p entry.0 || list_any p (keys_of counts))) (sym (ref_exact key entry.0 is))
       by Greater is rest = ap (λ b. p entry.0 || b) rest ∙ or_swap (p entry.0) (p key) (list_any p (keys_of counts))
 
-  keys_any : (counts : RefCounts) (more : List Counted) → list_any p (keys_of (counted_all counts more)) ≡ (list_any (λ (ref : Counted). p ref.key) more || list_any p (keys_of counts))
+  keys_any : (counts : RefCounts) (more : List Counted) → list_any p (keys_of (counted_all counts more))
+      ≡ (list_any (λ (ref : Counted). p ref.key) more || list_any p (keys_of counts))
   keys_any counts [] = refl
   keys_any counts (ref ∷ more) =
       keys_any (counted counts ref) more
@@ -201,12 +211,14 @@ module _ (p : RefKey → Bool) where
       within false b e = e
 
   -- those that are met some times are among those in the list
-  any_times : (refs : List Counted) (times : List ℕ) → (list_any (λ (ref : Counted). p ref.key) (met_times refs times) || list_any (λ (ref : Counted). p ref.key) refs)
+  any_times : (refs : List Counted) (times : List ℕ) → (list_any (λ (ref : Counted). p ref.key) (met_times refs times)
+      || list_any (λ (ref : Counted). p ref.key) refs)
       ≡ list_any (λ (ref : Counted). p ref.key) refs
   any_times [] times = refl
   any_times (ref ∷ refs) [] = refl
   any_times (ref ∷ refs) (t ∷ times) =
-      ap (λ b. b || (p ref.key || list_any (λ (other : Counted). p other.key) refs)) (list_any-append (λ (other : Counted). p other.key) (replicate t (once ref.key)) (met_times refs times))
+      ap (λ b. b || (p ref.key || list_any (λ (other : Counted). p other.key) refs))
+      (list_any-append (λ (other : Counted). p other.key) (replicate t (once ref.key)) (met_times refs times))
       ∙ absorbed (list_any (λ (other : Counted). p other.key) (replicate t (once ref.key))) (list_any (λ (other : Counted). p other.key) (met_times refs times))
       (p ref.key) (list_any (λ (other : Counted). p other.key) refs) (any_once t ref.key) (any_times refs times)
     where
@@ -233,16 +245,19 @@ module _ (refs : List Counted) (times : List ℕ) (others : RefCounts) (are : Ar
   stored_count key = count-is refs stored (own_counts refs are.ascends) key
 
   -- the row of a reference in the list
-  pub listed_row : (i : ℕ) (d : Counted) → i < length refs → count_row (get_or refs i d).key (get_or times i 0) (get_or refs i d).count ≡ ref_count forward stored (get_or refs i d).key
+  pub listed_row : (i : ℕ) (d : Counted) → i < length refs → count_row (get_or refs i d).key (get_or times i 0) (get_or refs i d).count
+      ≡ ref_count forward stored (get_or refs i d).key
   listed_row i d lt =
       let one = get_or refs i d in
       let none : found_at others one.key ≡ None = no_other (found_at stored) others one.key (sum_of refs one.key) are.apart
       (own_counts refs are.ascends one.key ∙ ap (λ b. cond b (Some (sum_of refs one.key)) None) (met_at refs i d lt)) in
-      ap (λ n. count_row one.key n one.count) (sym (listed_count others (met_times refs times) one.key none ∙ times_at refs times i d are.ascends are.beside lt))
+      ap (λ n. count_row one.key n one.count) (sym (listed_count others (met_times refs times) one.key none
+      ∙ times_at refs times i d are.ascends are.beside lt))
       ∙ ap (count_row one.key (count_in forward one.key)) (sym (stored_count one.key ∙ sum_at refs i d are.ascends lt))
 
   -- the row of another one
-  pub other_row : (i : ℕ) (d : RefKey × ℕ) → i < length others → count_row (get_or others i d).0 (get_or others i d).1 0 ≡ ref_count forward stored (get_or others i d).0
+  pub other_row : (i : ℕ) (d : RefKey × ℕ) → i < length others
+      → count_row (get_or others i d).0 (get_or others i d).1 0 ≡ ref_count forward stored (get_or others i d).0
   other_row i d lt =
       let key = (get_or others i d).0 in
       let n = (get_or others i d).1 in
@@ -250,7 +265,8 @@ module _ (refs : List Counted) (times : List ℕ) (others : RefCounts) (are : Ar
       let unmet : is_met refs key ≡ false = unmet_none (is_met refs key) (sum_of refs key) (sym (own_counts refs are.ascends key) ∙ absent) in
       let none = unmet_times key refs times unmet in
       let counted_is : count_in forward key ≡ n = ap (λ o. unwrap_or o 0) (found-more others (met_times refs times) key)
-      ∙ ap (λ o. unwrap_or (cond (is_met (met_times refs times) key) (Some (unwrap_or o 0 + sum_of (met_times refs times) key)) o) 0) (other_at others i d are.ordered lt)
+      ∙ ap (λ o. unwrap_or (cond (is_met (met_times refs times) key) (Some (unwrap_or o 0 + sum_of (met_times refs times) key)) o) 0)
+      (other_at others i d are.ordered lt)
       ∙ alone (is_met (met_times refs times) key) n (sum_of (met_times refs times) key) none in
       ap (λ m. count_row key m 0) (sym counted_is) ∙ ap (count_row key (count_in forward key)) (sym (ap (λ o. unwrap_or o 0) absent))
     where

@@ -1,5 +1,6 @@
 -- How often references are counted beside those that are stored, one use more at a time.
-use Rattle.std.proofs.Common.{◌≡◌, ℕ, suc, zero, ◌+◌, ◌<◌, Bool, true, false, cond, ◌||◌, List, [], ◌∷◌, ◌++◌, length, get_or, set, replicate, None, Result, Ok, Err, OnOk, OnErr, refl, sym, ap, ◌∙◌, subst, arith}
+use Rattle.std.proofs.Common.{◌≡◌, ℕ, suc, zero, ◌+◌, ◌<◌, Bool, true, false, cond, ◌||◌, List, [], ◌∷◌, ◌++◌, length, get_or, set, replicate, None}
+use Rattle.std.proofs.Common.{Result, Ok, Err, OnOk, OnErr, refl, sym, ap, ◌∙◌, subst, arith}
 use Rattle.std.proofs.lemmas.List.{length-set}
 use Rattle.std.proofs.lemmas.List.Folds.{list_any-append}
 use Rattle.std.proofs.lemmas.List.Sums.{sum_by-append, sum_by-cons}
@@ -66,7 +67,8 @@ counted_there refs times others i d n ordered lt long =
     (λ one. sum_set one refs times i d n lt long ∙ sym (sum_by-cons (weight one) (once key) (met_times refs times)))
     ∙ counted_last others (met_times refs times) (once key) ordered
 
-pub still_tallied : (refs : List Counted) (times : List ℕ) (others : RefCounts) (i n : ℕ) → AreTallied refs times others → AreTallied refs (set times i n) others
+pub still_tallied : (refs : List Counted) (times : List ℕ) (others : RefCounts) (i n : ℕ) → AreTallied refs times others
+    → AreTallied refs (set times i n) others
 still_tallied refs times others i n are = record { ascends = are.ascends; beside = length-set times i n ∙ are.beside; ordered = are.ordered; apart = are.apart }
 
 -- counted among the others
@@ -74,7 +76,8 @@ pub counted_apart : (refs : List Counted) (times : List ℕ) (others : RefCounts
     → tallied refs times (counted others (once key)) ≡ counted (tallied refs times others) (once key)
 counted_apart refs times others key ordered = counted_last others (met_times refs times) (once key) ordered
 
-pub tallied_apart : (refs : List Counted) (times : List ℕ) (others : RefCounts) (key : RefKey) → AreTallied refs times others → found_at (entries_of refs) key ≡ None
+pub tallied_apart : (refs : List Counted) (times : List ℕ) (others : RefCounts) (key : RefKey) → AreTallied refs times others
+    → found_at (entries_of refs) key ≡ None
     → AreTallied refs times (counted others (once key))
 tallied_apart refs times others key are absent = record {
   ascends = are.ascends;
@@ -89,7 +92,8 @@ none_times [] n = refl
 none_times (ref ∷ refs) zero = refl
 none_times (ref ∷ refs) (suc n) = none_times refs n
 
-pub counted_next : (refs : List Counted) (times : List ℕ) (others : RefCounts) (i : ℕ) (d : Counted) (n next : ℕ) (key : RefKey) → IsOrdered others → i < length refs
+pub counted_next : (refs : List Counted) (times : List ℕ) (others : RefCounts) (i : ℕ) (d : Counted) (n next : ℕ) (key : RefKey) → IsOrdered others
+    → i < length refs
     → length times ≡ length refs → (get_or refs i d).key ≡ key → next ≡ get_or times i n + 1
     → tallied refs (set times i next) others ≡ counted (tallied refs times others) (once key)
 counted_next refs times others i d n next key ordered lt long is more =
@@ -97,7 +101,8 @@ counted_next refs times others i d n next key ordered lt long is more =
     ap (λ m. tallied refs (set times i m) others) (more ∙ one_more) ∙ counted_there refs times others i d n ordered lt long
     ∙ ap (λ k. counted (tallied refs times others) (once k)) is
 
-pub tallied_either : (refs : List Counted) (times : List ℕ) (others new : RefCounts) (key : RefKey) (r : Result (Unit {0}) Memory) → AreTallied refs times others
+pub tallied_either : (refs : List Counted) (times : List ℕ) (others new : RefCounts) (key : RefKey) (r : Result (Unit {0}) Memory)
+    → AreTallied refs times others
     → found_at (entries_of refs) key ≡ None → OnOk r (new ≡ counted others (once key)) → OnErr r (new ≡ others) → AreTallied refs times new
 tallied_either refs times others new key (Ok u) are absent ok err = subst (AreTallied refs times) (sym ok) (tallied_apart refs times others key are absent)
 tallied_either refs times others new key (Err e) are absent ok err = subst (AreTallied refs times) (sym err) are

@@ -24,7 +24,8 @@ child_more from level lower link ps i addr old now new below holds links lowers 
     let at : KeyPointer = slice_index_or ps i none in
     let done : List Use = map (child_use from level) (take i ps) in
     let taken : map (child_use from level) (take (i + 1) ps) ≡ done ++ (child_use from level at ∷ []) =
-    ap (λ n. map (child_use from level) (take n ps)) (one_more i) ∙ ap (map (child_use from level)) (take-suc ps i none below) ∙ map-append (child_use from level) (take i ps) (at ∷ []) in
+    ap (λ n. map (child_use from level) (take n ps)) (one_more i) ∙ ap (map (child_use from level)) (take-suc ps i none below)
+    ∙ map-append (child_use from level) (take i ps) (at ∷ []) in
     let same : block_use addr link lower ≡ child_use from level at =
     ap (λ n. block_use n link lower) (sym (holds none)) ∙ ap (λ l. block_use at.addr l lower) links ∙ ap (block_use at.addr (tree_link from)) lowers in
     is ∙ ap (tally_with now) same ∙ ap (λ (u : Tally). tally_with u (child_use from level at)) before

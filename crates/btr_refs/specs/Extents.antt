@@ -1,5 +1,6 @@
 -- The extents of the extent tree, and the references to them that it stores.
-use Rattle.std.specs.Prelude.{◌≡◌, ℕ, ◌==◌, ◌||◌, Bool, true, List, [], ◌++◌, map, fold, Some, Result, Ok, Err, filter_map, flat_map, option_map, option_to_list, if◌then◌else◌}
+use Rattle.std.specs.Prelude.{◌≡◌, ℕ, ◌==◌, ◌||◌, Bool, true, List, [], ◌++◌, map, fold, Some, Result, Ok, Err, filter_map, flat_map, option_map}
+use Rattle.std.specs.Prelude.{option_to_list, if◌then◌else◌}
 use Rattle.std.specs.List.{list_all}
 use Rattle.std.specs.Result.{result_ok}
 use Rattle.btr_base.specs.declared.key.Key.{Key}

@@ -16,7 +16,8 @@ key_of addr (SharedFile parent) = record { addr = addr; kind = shared_data_ref; 
 
 -- references are ordered field by field
 abbrev pub ref_cmp : RefKey → RefKey → Ordering
-ref_cmp a b = ordering_then (nat_cmp a.addr b.addr) (ordering_then (nat_cmp a.kind b.kind) (ordering_then (nat_cmp a.root b.root) (ordering_then (nat_cmp a.objectid b.objectid) (nat_cmp a.offset b.offset))))
+ref_cmp a b = ordering_then (nat_cmp a.addr b.addr) (ordering_then (nat_cmp a.kind b.kind)
+    (ordering_then (nat_cmp a.root b.root) (ordering_then (nat_cmp a.objectid b.objectid) (nat_cmp a.offset b.offset))))
 
 -- two references are the same
 abbrev pub same_ref : RefKey → RefKey → Bool

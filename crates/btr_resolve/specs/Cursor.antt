@@ -93,17 +93,17 @@ module _ (addr : ℕ) (tree : TreeRoot) where
       Tells old.layout before now (λ B. IsFound (unread_by old.layout before now) B old new scan scan' met met' result)
 
 -- the scan comes nearer to its end with each item
-abbrev pub TurnNears : Scan → Scan → Result Turn TreeFault → Type 0
-TurnNears scan scan' (Ok (turn.Owner owner)) = rank_of scan' < rank_of scan
-TurnNears scan scan' (Ok turn.Other) = rank_of scan' < rank_of scan
-TurnNears scan scan' (Ok turn.End) = Unit {0}
-TurnNears scan scan' (Err f) = Unit {0}
+abbrev pub TurnRankFalls : Scan → Scan → Result Turn TreeFault → Type 0
+TurnRankFalls scan scan' (Ok (turn.Owner owner)) = rank_of scan' < rank_of scan
+TurnRankFalls scan scan' (Ok turn.Other) = rank_of scan' < rank_of scan
+TurnRankFalls scan scan' (Ok turn.End) = Unit {0}
+TurnRankFalls scan scan' (Err f) = Unit {0}
 
 -- what is left to do is less with each owner
-abbrev pub FoundNears : ℕ → ℕ → Result (Option Owner) TreeFault → Type 0
-FoundNears rank rank' (Ok (Some owner)) = rank' < rank
-FoundNears rank rank' (Ok None) = Unit {0}
-FoundNears rank rank' (Err f) = Unit {0}
+abbrev pub FoundRankFalls : ℕ → ℕ → Result (Option Owner) TreeFault → Type 0
+FoundRankFalls rank rank' (Ok (Some owner)) = rank' < rank
+FoundRankFalls rank rank' (Ok None) = Unit {0}
+FoundRankFalls rank rank' (Err f) = Unit {0}
 
 -- the owners that are still to come
 abbrev pub owners_left : Map → Owners → Program Owner (Unit {0})

@@ -6,7 +6,7 @@ use Rattle.btr_prog.specs.Stages.{Early, Late}
 use Rattle.btr_chunk.specs.declared.chunk.Chunk.{Chunk}
 use Rattle.btr_files.specs.declared.plan.RestorePlan.{RestorePlan}
 use Rattle.btr_read.specs.Candidates.{Target}
-use Rattle.btr_read.specs.Fate.{Fault, Lost, Unmapped, Crosses, Malformed, NoTree, sought, passing, passing_for, or_lost, fate, is_plain, chosen}
+use Rattle.btr_read.specs.Fate.{Fault, Lost, sought, passing, passing_for, or_lost, fate, is_plain, chosen}
 use Rattle.btr_read.specs.Layout.{Layout}
 use Rattle.btr_read.specs.Want.{addr_of}
 use Rattle.btr_read.specs.declared.want.Want.{Want}
@@ -52,10 +52,7 @@ want_of (Late table want) = want
 -- nothing but candidates is missing
 abbrev pub is_lost : Fault → Bool
 is_lost (Lost addr) = true
-is_lost (Unmapped addr) = false
-is_lost (Crosses addr) = false
-is_lost (Malformed addr) = false
-is_lost (NoTree id) = false
+is_lost fault = false
 
 -- there is a value, or bytes, or it ends for want of a candidate
 abbrev pub EndsInOrder : {A : Type 0} → Result A Fault → Type 0

@@ -12,27 +12,27 @@ use Rattle.btr_volume.specs.Maps.{VolumeWant, diverged_at, volume_map}
 use Rattle.btr_volume.specs.Start.{Images, Start, start_of, layout_by}
 use Rattle.btr_restore.specs.Committed.{Commit, IsHonest, IsClosed, AreWhole, committed, want_of}
 use Rattle.btr_restore.specs.Journey.{journey}
-use Rattle.btr_restore.specs.Outcome.{Outcome, outcome_by, outcome}
+use Rattle.btr_restore.specs.Outcome.{RestoreOutcome, outcome_by, outcome}
 use Rattle.btr_listing.specs.Step.{Step}
 
 -- an outcome, where the candidates of the root tree's root block agree: else the images are refused
-abbrev pub unless_diverged : Option ℕ → Outcome → Outcome
+abbrev pub unless_diverged : Option ℕ → RestoreOutcome → RestoreOutcome
 unless_diverged None found = found
 unless_diverged (Some slot) found = outcome_by [] (Ok (Err (Diverged slot)))
 
 -- what comes of restore by what the images start as
-abbrev pub from_start : RestorePlan → List ℕ → Images → Result Start OpenFault → Outcome
+abbrev pub from_start : RestorePlan → List ℕ → Images → Result Start OpenFault → RestoreOutcome
 from_start plan dest images (Err refusal) = outcome_by [] (Ok (Err refusal))
 from_start plan dest images (Ok start) =
     unless_diverged (diverged_at images start) (outcome (exec (volume_map start (fate images)) (journey plan dest start)))
 
 -- what comes of restore over the bytes of the images
-abbrev pub restore_outcome : RestorePlan → List ℕ → Images → Outcome
+abbrev pub restore_outcome : RestorePlan → List ℕ → Images → RestoreOutcome
 restore_outcome plan dest images = from_start plan dest images (start_of images)
 
 module _ (plan : RestorePlan) (dest : List ℕ) (images : Images) (start : Start) (C : Commit) where
   -- the outcome is that of exactly the steps before the first need without a candidate that passes, and names it
-  pub record StopsShort (found : Outcome) : Type 0 where
+  pub record StopsShort (found : RestoreOutcome) : Type 0 where
     pub want : VolumeWant
     pub before : List (Mark VolumeWant Step)
     pub behind : List (Mark VolumeWant Step)
@@ -43,7 +43,7 @@ module _ (plan : RestorePlan) (dest : List ℕ) (images : Images) (start : Start
 
   -- the outcome is that of the committed journey where each need has a candidate that passes;
   -- else it stops before the first without one
-  pub record IsRestored (found : Outcome) : Type 0 where
+  pub record IsRestored (found : RestoreOutcome) : Type 0 where
     pub whole : AreWhole plan dest images start C → found ≡ outcome (exec (volume_map start (committed C images)) (journey plan dest start))
     pub short : (AreWhole plan dest images start C → ⊥) → StopsShort found
 

@@ -50,16 +50,16 @@ abbrev pub Ending : Type 0
 Ending = Result (Result Counts OpenFault) Fault
 
 -- the rows of the sink, its unfinished file, the lines, and the ending
-pub record Outcome : Type 0 where
+pub record RestoreOutcome : Type 0 where
   pub rows : List Row
   pub part : Option Part
   pub text : List ℕ
   pub ending : Ending
 
 -- the outcome of some steps and an ending
-abbrev pub outcome_by : List Step → Ending → Outcome
+abbrev pub outcome_by : List Step → Ending → RestoreOutcome
 outcome_by steps ending = record { rows = (tree_after steps).rows; part = (tree_after steps).part; text = text_of steps; ending = ending }
 
 -- the outcome of a run
-abbrev pub outcome : Run VolumeWant Fault Step (Result Counts OpenFault) → Outcome
+abbrev pub outcome : Run VolumeWant Fault Step (Result Counts OpenFault) → RestoreOutcome
 outcome r = outcome_by (steps_of r.marks) r.ending

@@ -189,7 +189,8 @@ module _ (xs ys : List ℕ) where
                 (joined 8 56 0x88 (of 8 0x88 (nth 7)) (joined 4 52 0x90 (of 4 0x90 (nth 8)) (joined 4 48 0x94 (of 4 0x94 (nth 9))
                 (joined 4 44 0x98 (of 4 0x98 (nth 10)) (joined 4 40 0x9c (of 4 0x9c (nth 11)) (joined 4 36 0xa0 (of 4 0xa0 (nth 12))
                 (joined 8 28 0xa4 (of 8 0xa4 (nth 13)) (joined 8 20 0xac (of 8 0xac (nth 14)) (joined 8 12 0xb4 (of 8 0xb4 (nth 15))
-                (joined 8 4 0xbc (of 8 0xbc (nth 16)) (joined 2 2 0xc4 (of 2 0xc4 (nth 17)) (joined 1 1 0xc6 (one 0xc6 (nth 18)) (one 0xc7 (nth 19)))))))))))))))),
+                (joined 8 4 0xbc (of 8 0xbc (nth 16)) (joined 2 2 0xc4 (of 2 0xc4 (nth 17))
+                (joined 1 1 0xc6 (one 0xc6 (nth 18)) (one 0xc7 (nth 19)))))))))))))))),
             joined 256 3541 0x12b (from_bytes 256 0x12b f.2) (joined 8 3533 0x22b (of 8 0x22b (nth 20)) (joined 8 3525 0x233 (of 8 0x233 (nth 21))
                 (joined 16 3509 0x23b (from_bytes 16 0x23b f.3) (joined 224 3285 0x24b (from_bytes 224 0x24b f.4)
                 (joined 2048 1237 0x32b (from_bytes 2048 0x32b f.5) (from_bytes 1237 0xb2b f.6)))))),

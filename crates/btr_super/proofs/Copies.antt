@@ -76,13 +76,15 @@ abbrev pub Beats : Option Super → Super → Type 0
 Beats None s = Unit {0}
 Beats (Some n) s = n.generation < s.generation
 
-pub sofar_same : (found : List Found) (n s : Super) (k : Option ℕ) → s.generation ≤ n.generation → IsSoFar found (record { newest = Some n; kind = k }) → IsSoFar (found ++ Ok s ∷ []) (record { newest = Some n; kind = k })
+pub sofar_same : (found : List Found) (n s : Super) (k : Option ℕ) → s.generation ≤ n.generation → IsSoFar found (record { newest = Some n; kind = k })
+    → IsSoFar (found ++ Ok s ∷ []) (record { newest = Some n; kind = k })
 sofar_same found n s k le so = record {
   newest = subst (λ l. IsNewest l n) (sym (filter_map-append result_ok found (Ok s ∷ []))) (kept (valid found) n s so.newest le);
   kind = so.kind ∙ sym (ap (λ l. slice_get l 0) (filter_map-append sum_kind found (Ok s ∷ []) ∙ append-nil (filter_map sum_kind found)));
 }
 
-pub sofar_newer : (found : List Found) (o : Option Super) (s : Super) (k : Option ℕ) → Beats o s → IsSoFar found (record { newest = o; kind = k }) → IsSoFar (found ++ Ok s ∷ []) (record { newest = Some s; kind = k })
+pub sofar_newer : (found : List Found) (o : Option Super) (s : Super) (k : Option ℕ) → Beats o s → IsSoFar found (record { newest = o; kind = k })
+    → IsSoFar (found ++ Ok s ∷ []) (record { newest = Some s; kind = k })
 sofar_newer found o s k beats so = record {
   newest = subst (λ l. IsNewest l s) (sym (filter_map-append result_ok found (Ok s ∷ []))) (new o beats so.newest);
   kind = so.kind ∙ sym (ap (λ l. slice_get l 0) (filter_map-append sum_kind found (Ok s ∷ []) ∙ append-nil (filter_map sum_kind found)));
@@ -97,7 +99,8 @@ first_push [] None = refl
 first_push [] (Some n) = refl
 first_push (k ∷ ks) o = refl
 
-pub sofar_refused : (found : List Found) (o : Option Super) (k : Option ℕ) (fault : SuperFault) → IsSoFar found (record { newest = o; kind = k }) → IsSoFar (found ++ Err fault ∷ []) (record { newest = o; kind = kind_then k (sum_kind (Err fault)) })
+pub sofar_refused : (found : List Found) (o : Option Super) (k : Option ℕ) (fault : SuperFault) → IsSoFar found (record { newest = o; kind = k })
+    → IsSoFar (found ++ Err fault ∷ []) (record { newest = o; kind = kind_then k (sum_kind (Err fault)) })
 sofar_refused found o k fault so = record {
   newest = subst (λ l. MatchOption o (l ≡ []) (IsNewest l)) (sym (filter_map-append result_ok found (Err fault ∷ []) ∙ append-nil (valid found))) so.newest;
   kind = ap (λ j. kind_then j (sum_kind (Err fault))) so.kind ∙ sym (first_push (filter_map sum_kind found) (sum_kind (Err fault)))
@@ -114,10 +117,13 @@ pub standing_fits : (image : List ℕ) (before : List ℕ) (place : ℕ) → pla
     ≡ standing image before ++ superblock (bytes_at 4096 place image) place ∷ []
 unfolding standing
 standing_fits image [] place le = ap (λ b. cond b (superblock (bytes_at 4096 place image) place ∷ []) []) (leb_true (place + 4096) (length image) le)
-standing_fits image (p ∷ before) place le = elim (leb (p + 4096) (length image)) as (λ b. cond b (superblock (bytes_at 4096 p image) p ∷ standing image (before ++ place ∷ [])) (standing image (before ++ place ∷ [])) ≡ cond b (superblock (bytes_at 4096 p image) p ∷ standing image before) (standing image before) ++ superblock (bytes_at 4096 place image) place ∷ []) [
-  | true ↦ ap (λ l. superblock (bytes_at 4096 p image) p ∷ l) (standing_fits image before place le)
-  | false ↦ standing_fits image before place le
-]
+standing_fits image (p ∷ before) place le =
+    elim (leb (p + 4096) (length image)) as (λ b. cond b (superblock (bytes_at 4096 p image) p ∷ standing image (before ++ place ∷ []))
+    (standing image (before ++ place ∷ [])) ≡ cond b (superblock (bytes_at 4096 p image) p ∷ standing image before) (standing image before)
+    ++ superblock (bytes_at 4096 place image) place ∷ []) [
+      | true ↦ ap (λ l. superblock (bytes_at 4096 p image) p ∷ l) (standing_fits image before place le)
+      | false ↦ standing_fits image before place le
+    ]
 
 pub standing_past : (image : List ℕ) (before : List ℕ) (place : ℕ) → length image < place + 4096 → standing image (before ++ place ∷ []) ≡ standing image before
 unfolding standing

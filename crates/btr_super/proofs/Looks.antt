@@ -45,7 +45,8 @@ goes_on (Some images) slots slot place seen after found sized lt fits is step = 
     ∙ ap (λ x. standing (image_of images slot) before ++ x ∷ []) (sym is)))
     (step (standing (image_of images slot) before) so)
 
-pub begins : (held : Option (List (List ℕ))) (slot : ℕ) → IfSome held (λ images. IsSoFar (standing (image_of images slot) []) (record { newest = None; kind = None }))
+pub begins : (held : Option (List (List ℕ))) (slot : ℕ) → IfSome held
+    (λ images. IsSoFar (standing (image_of images slot) []) (record { newest = None; kind = None }))
 unfolding standing
 begins None slot = tt
 begins (Some images) slot = record { newest = λ i. []; kind = λ i. None }

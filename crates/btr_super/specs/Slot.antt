@@ -1,5 +1,6 @@
 -- The superblock of an image.
-use Rattle.std.specs.Prelude.{◌≡◌, ◌≢◌, ℕ, ◌+◌, nat_le, if◌then◌else◌, List, [], ◌∷◌, ◌++◌, length, IfSome, IfOk, slice_get, Contains, Option, Some, None, Result, Ok, Err, MatchOption}
+use Rattle.std.specs.Prelude.{◌≡◌, ◌≢◌, ℕ, ◌+◌, nat_le, if◌then◌else◌, List, [], ◌∷◌, ◌++◌, length, IfSome, IfOk, slice_get, Contains, Option, Some}
+use Rattle.std.specs.Prelude.{None, Result, Ok, Err, MatchOption}
 use Rattle.std.specs.List.{filter_map}
 use Rattle.std.specs.Result.{result_ok}
 use Rattle.btr_base.specs.Field.{bytes_at}

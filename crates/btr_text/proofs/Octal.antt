@@ -10,7 +10,8 @@ octal_begins n = refl
 
 pub octal_last : (i n : ℕ) (acc : List ℕ) → 0 < i → n / 8 ≡ 0 → digits_onto i 8 false n acc ≡ (48 + n % 8) ∷ acc
 octal_last zero n acc some is = absurd (omega arith)
-octal_last (suc k) n acc some is = let e : eqb (n / 8) 0 ≡ true = grind (arith, nat_tests) in let g : ltb (n % 8) 10 ≡ true = grind (arith, nat_tests) in rw (e, g) refl
+octal_last (suc k) n acc some is =
+    let e : eqb (n / 8) 0 ≡ true = grind (arith, nat_tests) in let g : ltb (n % 8) 10 ≡ true = grind (arith, nat_tests) in rw (e, g) refl
 
 pub octal_step : (i n : ℕ) (acc : List ℕ) → 0 < i → (n / 8 ≡ 0 → ⊥) → digits_onto i 8 false n acc ≡ digits_onto (i - 1) 8 false (n / 8) ((48 + n % 8) ∷ acc)
 octal_step zero n acc some is = absurd (omega arith)

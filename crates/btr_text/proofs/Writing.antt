@@ -28,7 +28,8 @@ wrote_nothing out waits = wrote_waiting out waits waits [] (sym (append-nil wait
 -- what waited was put, and then a text that waits
 pub wrote_flushed : (old new : Option (List ℕ)) (waited between waits text : List ℕ) → Adds old new waited → between ≡ [] → waits ≡ between ++ text
     → Wrote old new waited waits text
-wrote_flushed old new waited between waits text adds none is = record { put = waited; adds = adds; whole = ap (λ l. waited ++ l) (is ∙ ap (λ l. l ++ text) none) }
+wrote_flushed old new waited between waits text adds none is =
+    record { put = waited; adds = adds; whole = ap (λ l. waited ++ l) (is ∙ ap (λ l. l ++ text) none) }
 
 -- a first part of what waited was put
 pub cut_flushing : (old new : Option (List ℕ)) (waited waits text : List ℕ) → (n : ℕ) → Adds old new (take n waited) → waits ≡ []
@@ -43,7 +44,11 @@ cut_flushing old new waited waits text n adds none = record {
 pub writes_at_once : {T : Type 0} (old mid new : Option (List ℕ)) (waited waits text : List ℕ) (r : Result T SinkError) → Adds old mid waited → waits
     ≡ [] → Puts mid new text r → WritesOut old new waited waits text r
 writes_at_once old mid new waited waits text (Ok x) adds none puts =
-    record { put = waited ++ text; adds = adds_twice old mid new waited text adds puts; whole = ap (λ l. (waited ++ text) ++ l) none ∙ append-nil (waited ++ text) }
+    record {
+      put = waited ++ text;
+      adds = adds_twice old mid new waited text adds puts;
+      whole = ap (λ l. (waited ++ text) ++ l) none ∙ append-nil (waited ++ text);
+    }
 writes_at_once old mid new waited waits text (Err e) adds none puts = record {
   count = length waited + puts.0;
   adds = subst (Adds old new) (sym (take-append-add waited text puts.0)) (adds_twice old mid new waited (take puts.0 text) adds puts.1);
@@ -65,7 +70,8 @@ wrote_then {old = old} {mid = mid} {new = new} {waited = waited} {between = betw
 pub cut_then : {old mid new : Option (List ℕ)} {waited between waits first second : List ℕ} → Wrote old mid waited between first
     → WasCut mid new between waits second → WasCut old new waited waits (first ++ second)
 cut_then {old = old} {mid = mid} {new = new} {waited = waited} {between = between} {first = first} {second = second} a b =
-    let whole : a.put ++ (between ++ second) ≡ waited ++ (first ++ second) = sym (append_assoc a.put between second) ∙ ap (λ l. l ++ second) a.whole ∙ append_assoc waited first second in
+    let whole : a.put ++ (between ++ second) ≡ waited ++ (first ++ second) =
+    sym (append_assoc a.put between second) ∙ ap (λ l. l ++ second) a.whole ∙ append_assoc waited first second in
     record {
       count = length a.put + b.count;
       adds = subst (Adds old new) (sym (take-append-add a.put (between ++ second) b.count) ∙ ap (take (length a.put + b.count)) whole)

@@ -75,7 +75,8 @@ pub hand_none : (store : Blocks) (l : LeafAt) (block : List ℕ) (rest : TourPro
 hand_none store l block rest is le = leaf_hand store l block rest is ∙ ap (λ xs. act_all (map marks.Item xs) rest) (part_none l.spot.addr block l.next l.end le)
 
 -- the child that a node has
-pub next_child : (ps : List KeyPointer) (level : ℕ) (frame : Frame) (o : Option Frame) (todo : Todo) → IsNextBelow ps level frame o (Some todo) → IsChild ps level frame todo
+pub next_child : (ps : List KeyPointer) (level : ℕ) (frame : Frame) (o : Option Frame) (todo : Todo) → IsNextBelow ps level frame o (Some todo)
+    → IsChild ps level frame todo
 next_child ps level frame None todo h = h.0
 next_child ps level frame (Some f) todo h = h.0
 
@@ -96,7 +97,8 @@ module _ (lo hi : Key) (B : Map) where
   -- the next item of a leaf in hand is met
   pub hand_meets : (seen : List Want) (store : Blocks) (place : Where) (l : LeafAt) (block : List ℕ) → block_of store l.loan ≡ Some block
       → l.next < l.end → l.end ≤ length (items block) → IsAlong lo hi B seen place → IsHeld B seen store l
-      → MeetsItem lo hi B seen (left lo hi B store place (Some l)) store place (Some (record { spot = l.spot; next = l.next + 1; end = l.end; loan = l.loan })) l.next
+      → MeetsItem lo hi B seen (left lo hi B store place (Some l)) store place
+      (Some (record { spot = l.spot; next = l.next + 1; end = l.end; loan = l.loan })) l.next
   hand_meets seen store place l block is lt within on held =
       let then : LeafAt = record { spot = l.spot; next = l.next + 1; end = l.end; loan = l.loan } in
       let rest : TourProg = place_left lo hi B place in
@@ -109,12 +111,21 @@ module _ (lo hi : Key) (B : Map) where
             ∙ ap (λ xs. act_all (map marks.Item xs) rest) (part_next l.spot.addr block l.next l.end d lt within)
             ∙ ap (Act (marks.Item (tree_item l.spot.addr (get_or (items block) l.next d)))) (sym (leaf_hand store then block rest is)));
         on = subst (λ (ws : List Want). IsAlong lo hi B ws place) (sym (append-nil seen)) on;
-        held = record { block = held.block; lent = held.lent; came = held.came; is = held.is; read = Contains-append_left seen [] (want_of 0 l.spot) held.read };
+        held = record {
+          block = held.block;
+          lent = held.lent;
+          came = held.came;
+          is = held.is;
+          read = Contains-append_left seen [] (want_of 0 l.spot) held.read;
+        };
       })
 
   -- a good leaf
-  pub enter_leaf : (seen : List Want) (sums : SumKind) (place : Where) (level : ℕ) (spot : Spot) (store : Blocks) (loan : Lent) (block : List ℕ) (part : Part) → place.todo ≡ Some (record { level = level; spot = spot }) → level ≡ 0 → IsLeafAt level spot block → B (want_of level spot) ≡ Ok block → block_of store loan ≡ Some block → IsPart lo hi (items block) part → IsAlong lo hi B seen place
-      → MeetsBlock lo hi B seen sums (place_left lo hi B place) store (record { path = place.path; todo = None }) (Some (record { spot = spot; next = part.next; end = part.end; loan = loan })) (place_of level spot) (header_of sums block)
+  pub enter_leaf : (seen : List Want) (sums : SumKind) (place : Where) (level : ℕ) (spot : Spot) (store : Blocks) (loan : Lent) (block : List ℕ)
+      (part : Part) → place.todo ≡ Some (record { level = level; spot = spot }) → level ≡ 0 → IsLeafAt level spot block → B (want_of level spot) ≡ Ok block
+      → block_of store loan ≡ Some block → IsPart lo hi (items block) part → IsAlong lo hi B seen place
+      → MeetsBlock lo hi B seen sums (place_left lo hi B place) store (record { path = place.path; todo = None })
+      (Some (record { spot = spot; next = part.next; end = part.end; loan = loan })) (place_of level spot) (header_of sums block)
   enter_leaf seen sums place (suc n) spot store loan block part todo low leaf came is p on = absurd (omega (arith, low))
   enter_leaf seen sums place zero spot store loan block part todo low leaf came is p on =
       let l : LeafAt = record { spot = spot; next = part.next; end = part.end; loan = loan } in
@@ -142,7 +153,10 @@ module _ (lo hi : Key) (B : Map) where
       }
 
   -- a good inner node
-  pub enter_node : (seen : List Want) (sums : SumKind) (place : Where) (level : ℕ) (spot : Spot) (store : Blocks) (block : List ℕ) (path' : List (Option Frame)) (part : Part) (o : Option Frame) → place.todo ≡ Some (record { level = level; spot = spot }) → IsInnerAt level spot block → B (want_of level spot) ≡ Ok block → IsShaped place → IsChoice lo hi (pointers block) part → FramesPart spot part o → path' ≡ set place.path (level - 1) o → IsAlong lo hi B seen place
+  pub enter_node : (seen : List Want) (sums : SumKind) (place : Where) (level : ℕ) (spot : Spot) (store : Blocks) (block : List ℕ)
+      (path' : List (Option Frame)) (part : Part) (o : Option Frame) → place.todo ≡ Some (record { level = level; spot = spot })
+      → IsInnerAt level spot block → B (want_of level spot) ≡ Ok block → IsShaped place → IsChoice lo hi (pointers block) part → FramesPart spot part o
+      → path' ≡ set place.path (level - 1) o → IsAlong lo hi B seen place
       → MeetsBlock lo hi B seen sums (place_left lo hi B place) store (record { path = path'; todo = None }) None (place_of level spot) (header_of sums block)
   enter_node seen sums place zero spot store block path' part o todo inner came shaped choice from set_is on = let l = inner.some in absurd (omega (arith, l))
   enter_node seen sums place (suc n) spot store block path' part o todo inner came shaped choice from set_is on =
@@ -151,7 +165,8 @@ module _ (lo hi : Key) (B : Map) where
       let up : n + 1 ≡ suc n = omega arith in
       let few = inner.few in
       let within : n < length place.path = omega (arith, shaped.long, few) in
-      let above : (k : ℕ) → k < suc n → get_or place.path k None ≡ None = let P : Option Todo → Type 0 = λ x. IfSome x (λ t. (k : ℕ) → k < t.level → get_or place.path k None ≡ None) in subst P todo shaped.above in
+      let above : (k : ℕ) → k < suc n → get_or place.path k None ≡ None =
+      let P : Option Todo → Type 0 = λ x. IfSome x (λ t. (k : ℕ) → k < t.level → get_or place.path k None ≡ None) in subst P todo shaped.above in
       let clear : (k : ℕ) → k < n → get_or place.path k None ≡ None = λ k lt. above k (omega arith) in
       let path_is : path' ≡ set place.path n o = set_is ∙ ap (λ i. set place.path i o) down in
       let rest : TourProg = path_left lo hi B (n + 1) (drop (suc n) place.path) in
@@ -161,7 +176,8 @@ module _ (lo hi : Key) (B : Map) where
       path_set (frame_left lo hi B) (Done tt) n place.path path' o within clear path_is
       ∙ ap (λ l. frame_or (frame_left lo hi B) l o rest) up ∙ chosen_left lo hi B (suc n) spot block part came choice o rest from in
       let gone : path_left lo hi B 0 (set path' n None) ≡ rest =
-      path_set (frame_left lo hi B) (Done tt) n place.path (set path' n None) None within clear (ap (λ p. set p n None) path_is ∙ set-set place.path n o None) in
+      path_set (frame_left lo hi B) (Done tt) n place.path (set path' n None) None within clear
+      (ap (λ p. set p n None) path_is ∙ set-set place.path n o None) in
       record {
         spot = spot;
         block = block;
@@ -188,7 +204,9 @@ module _ (lo hi : Key) (B : Map) where
       }
 
   -- a block that is left out
-  out_of_todo : (seen : List Want) (place : Where) (level : ℕ) (spot : Spot) (store : Blocks) (fault : fate.Fault) → place.todo ≡ Some (record { level = level; spot = spot }) → IsOut lo hi B level spot (path_left lo hi B 0 place.path) fault → IsAlong lo hi B seen place → Meets lo hi B seen (place_left lo hi B place) store (record { path = place.path; todo = None }) None (marks.Left fault)
+  out_of_todo : (seen : List Want) (place : Where) (level : ℕ) (spot : Spot) (store : Blocks) (fault : fate.Fault)
+      → place.todo ≡ Some (record { level = level; spot = spot }) → IsOut lo hi B level spot (path_left lo hi B 0 place.path) fault
+      → IsAlong lo hi B seen place → Meets lo hi B seen (place_left lo hi B place) store (record { path = place.path; todo = None }) None (marks.Left fault)
   out_of_todo seen place level spot store fault todo is on = record {
     past = want_of level spot ∷ [];
     met = ap (tried B) (todo_is place (Some (record { level = level; spot = spot })) todo) ∙ is;
@@ -197,16 +215,22 @@ module _ (lo hi : Key) (B : Map) where
   }
 
   -- a block that could not be read
-  refused_todo : (Is : UnreadBlock → Want → Type 0) (seen : List Want) (place : Where) (level : ℕ) (spot : Spot) (u : UnreadBlock) → place.todo ≡ Some (record { level = level; spot = spot }) → Is u (want_of level spot) → Follows Is no_part seen (tried B (place_left lo hi B place)) [] (Err (halt.Unread u))
+  refused_todo : (Is : UnreadBlock → Want → Type 0) (seen : List Want) (place : Where) (level : ℕ) (spot : Spot) (u : UnreadBlock)
+      → place.todo ≡ Some (record { level = level; spot = spot }) → Is u (want_of level spot)
+      → Follows Is no_part seen (tried B (place_left lo hi B place)) [] (Err (halt.Unread u))
   refused_todo Is seen place level spot u todo is =
       let w = wants_first lo hi B level spot (path_left lo hi B 0 place.path) in
-      subst (λ r. Follows Is no_part seen r [] (Err (halt.Unread u))) (sym (ap (tried B) (todo_is place (Some (record { level = level; spot = spot })) todo) ∙ w.1))
+      subst (λ r. Follows Is no_part seen r [] (Err (halt.Unread u)))
+      (sym (ap (tried B) (todo_is place (Some (record { level = level; spot = spot })) todo) ∙ w.1))
       (want_unread Is no_part seen u (want_of level spot) w.0 is)
 
-  pub enter_fault : (Is : UnreadBlock → Want → Type 0) (sums : SumKind) (place : Where) (level : ℕ) (spot : Spot) (store : Blocks) (f : TreeFault) → place.todo ≡ Some (record { level = level; spot = spot }) → Reads Is B level spot store (Err f) → Advances lo hi B Is (λ seen. Unit {0}) sums place (place_left lo hi B place) store (left_out place (record { path = place.path; todo = None }) f)
+  pub enter_fault : (Is : UnreadBlock → Want → Type 0) (sums : SumKind) (place : Where) (level : ℕ) (spot : Spot) (store : Blocks) (f : TreeFault)
+      → place.todo ≡ Some (record { level = level; spot = spot }) → Reads Is B level spot store (Err f)
+      → Advances lo hi B Is (λ seen. Unit {0}) sums place (place_left lo hi B place) store (left_out place (record { path = place.path; todo = None }) f)
   enter_fault Is sums place level spot store (Lost a) todo h seen on none = out_of_todo seen place level spot store (fate.Lost a) todo
       (fault_from lo hi B Is level spot (path_left lo hi B 0 place.path) store (Lost a) h) on
-  enter_fault Is sums place level spot store (Unread a slot) todo h seen on none = record { refused = refused_todo Is seen place level spot (record { addr = a; slot = slot }) todo h; same = refl; on = on; held = tt }
+  enter_fault Is sums place level spot store (Unread a slot) todo h seen on none =
+      record { refused = refused_todo Is seen place level spot (record { addr = a; slot = slot }) todo h; same = refl; on = on; held = tt }
   enter_fault Is sums place level spot store (Unmapped a) todo h seen on none = out_of_todo seen place level spot store (fate.Unmapped a) todo
       (fault_from lo hi B Is level spot (path_left lo hi B 0 place.path) store (Unmapped a) h) on
   enter_fault Is sums place level spot store (Crosses a) todo h seen on none = out_of_todo seen place level spot store (fate.Crosses a) todo
@@ -223,16 +247,20 @@ module _ (lo hi : Key) (B : Map) where
 
     -- the next child of the lowest node
     pub meets_child : (seen : List Want) (store : Blocks) (b : Below) (todo : Todo) (path' : List (Option Frame)) (on : IsAlong lo hi B seen place)
-        → IsNextBelow (pointers (frame_here seen on).node.block) (low.at + 1) low.frame b.frame b.todo → b.todo ≡ Some todo → path' ≡ set place.path low.at b.frame
-        → Meets lo hi B seen (place_left lo hi B place) store (record { path = path'; todo = Some todo }) None (marks.Child low.frame.spot.addr (place_of todo.level todo.spot))
+        → IsNextBelow (pointers (frame_here seen on).node.block) (low.at + 1) low.frame b.frame b.todo → b.todo ≡ Some todo
+        → path' ≡ set place.path low.at b.frame
+        → Meets lo hi B seen (place_left lo hi B place) store (record { path = path'; todo = Some todo }) None
+        (marks.Child low.frame.spot.addr (place_of todo.level todo.spot))
     meets_child seen store b todo path' on h some set_is =
         let f = frame_here seen on in
         let frame = low.frame in
-        let next : IsNextBelow (pointers f.node.block) (low.at + 1) frame b.frame (Some todo) = subst (IsNextBelow (pointers f.node.block) (low.at + 1) frame b.frame) some h in
+        let next : IsNextBelow (pointers f.node.block) (low.at + 1) frame b.frame (Some todo) =
+        subst (IsNextBelow (pointers f.node.block) (low.at + 1) frame b.frame) some h in
         let again = again_as lo hi B (low.at + 1) frame seen f b.frame b.todo h in
         let child = next_child (pointers f.node.block) (low.at + 1) frame b.frame todo next in
         let rest : TourProg = path_left lo hi B (low.at + 1) (drop (suc low.at) place.path) in
-        let then : path_left lo hi B 0 path' ≡ children_left lo hi (low.at + 1) frame.spot (frame.next + 1) (child_spots (pointers f.node.block) frame.spot.up) rest =
+        let then : path_left lo hi B 0 path' ≡ children_left lo hi (low.at + 1) frame.spot (frame.next + 1)
+        (child_spots (pointers f.node.block) frame.spot.up) rest =
         path_set (frame_left lo hi B) (Done tt) low.at place.path path' b.frame within lowest.before set_is
         ∙ later_left lo hi B seen (low.at + 1) frame f b.frame (Some todo) rest next in
         let level : todo.level ≤ low.at = omega (arith, child.level_is) in
@@ -255,10 +283,12 @@ module _ (lo hi : Key) (B : Map) where
 
     -- a node that could not be read again
     pub child_fault : (Is : UnreadBlock → Want → Type 0) (sums : SumKind) (after : Where) (store : Blocks) (f : TreeFault)
-        → Rereads Is B (low.at + 1) low.frame (Err f) → Advances lo hi B Is (λ seen. Unit {0}) sums place (place_left lo hi B place) store (left_out place after f)
+        → Rereads Is B (low.at + 1) low.frame (Err f) → Advances lo hi B Is (λ seen. Unit {0}) sums place (place_left lo hi B place) store
+        (left_out place after f)
     child_fault Is sums after store f h seen on none = by f (h seen (frame_here seen on).node)
       where
-        by : (f : TreeFault) → IsUnreadOf Is seen f → let a = left_out place after f in StepsBy lo hi B Is seen sums (place_left lo hi B place) store a.place a.leaf a.step
+        by : (f : TreeFault) → IsUnreadOf Is seen f → let a = left_out place after f in
+            StepsBy lo hi B Is seen sums (place_left lo hi B place) store a.place a.leaf a.step
         by (Lost a) u = absurd u
         by (Unread a slot) u = record { refused = unread_halts Is seen (Unread a slot) (tried B (place_left lo hi B place)) u; same = refl; on = on; held = tt }
         by (Unmapped a) u = absurd u
@@ -271,7 +301,8 @@ is_none_of (Some l) h = absurd (h l refl)
 
 -- a step with a leaf in hand: its next item is met, or it has none, and the step goes on without it
 module _ (scope : Scope) (Is : UnreadBlock → Want → Type 0) (B : Map) (old : Blocks) (place : Where) (l : LeafAt) (hand : IsInHand old l) where
-  pub hand_steps : l.next < l.end → AdvancesIn scope Is B old place (Some l) old (record { place = place; leaf = Some (behind_next l); step = Ok (Item l.next) })
+  pub hand_steps : l.next < l.end → AdvancesIn scope Is B old place (Some l) old
+      (record { place = place; leaf = Some (behind_next l); step = Ok (Item l.next) })
   hand_steps lt seen on held =
       hand_meets scope.lo scope.hi B seen old place l held.block held.lent lt
       (block_is old l.loan held.block (λ (b : List ℕ). IsTrue (is_leaf b) × (l.end ≤ length (items b))) held.lent hand.good).1 on held

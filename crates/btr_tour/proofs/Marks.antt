@@ -72,7 +72,16 @@ module _ (Is : UnreadBlock → Want → Type 0) (B : Map) (seen : List Want) (ol
 
   by_meets : (met : Met) (mark : Mark) → Shows met mark → Meets tour.scope.lo tour.scope.hi B seen (left_of B old tour) new tour'.place tour'.leaf
       mark → Next met
-  by_meets met mark shown h = record { past = h.past; mark = mark; shown = shown; first = h.met ∙ ap (λ p. prepend (want_marks h.past) (first (prog.Does mark) (tried B p))) left_is; on = on_is (seen ++ h.past) h.on; held = h.held }
+  by_meets met mark shown h =
+      record {
+        past = h.past;
+        mark = mark;
+        shown = shown;
+        first = h.met
+            ∙ ap (λ p. prepend (want_marks h.past) (first (prog.Does mark) (tried B p))) left_is;
+        on = on_is (seen ++ h.past) h.on;
+        held = h.held;
+      }
 
   pub next_is : (met : Met) → TourNextBy Is B seen old new tour tour' (Ok (Some met)) → Next met
   next_is (Block place header) h = record {
@@ -128,7 +137,8 @@ module _ {St : Type 0} (step : St → Mark → St) (B : Map) (store : Blocks) (t
     pub led_more : (E : Type 0) (Now : UnreadBlock → Want → Type 0) (store' : Blocks) (tour' : Tour) (state' : St) → Led Was now tour-now state-now
         → IsMet step Now B {E = E} now store' tour-now tour' state-now state' (Ok true) → Led Is store' tour' state'
     led_more E Now store' tour' state' led met seen on held =
-        let seen_then : (ps qs : List (prog.Mark Want Mark)) → (seen ++ wants_of ps) ++ wants_of qs ≡ seen ++ wants_of (ps ++ qs) = λ ps qs. append_assoc seen (wants_of ps) (wants_of qs) ∙ ap (λ ws. seen ++ ws) (sym (wants_of-append ps qs)) in
+        let seen_then : (ps qs : List (prog.Mark Want Mark)) → (seen ++ wants_of ps) ++ wants_of qs ≡ seen ++ wants_of (ps ++ qs) =
+        λ ps qs. append_assoc seen (wants_of ps) (wants_of qs) ∙ ap (λ ws. seen ++ ws) (sym (wants_of-append ps qs)) in
         let before = led seen on held in
         let after = met (seen ++ wants_of before.past) before.on before.held in
         record {
@@ -172,7 +182,8 @@ module _ {St : Type 0} (step : St → Mark → St) (B : Map) (store : Blocks) (t
     any_fault E Now store' tour' state' (Own e) weaker led met = λ seen on held. tt
 
 -- a visit from the beginning
-module _ {St : Type 0} (E : Type 0) (step : St → Mark → St) (Is : UnreadBlock → Want → Type 0) (B : Map) (store : Blocks) (tour : Tour) (root : RootPlace) (old new : St) (all : left_of B store tour ≡ tour_prog first_key last_key root) (on : IsUnderway B [] tour) (held : HoldsLeaf B [] store tour) where
+module _ {St : Type 0} (E : Type 0) (step : St → Mark → St) (Is : UnreadBlock → Want → Type 0) (B : Map) (store : Blocks) (tour : Tour) (root : RootPlace)
+    (old new : St) (all : left_of B store tour ≡ tour_prog first_key last_key root) (on : IsUnderway B [] tour) (held : HoldsLeaf B [] store tour) where
   pub visit_begun : (result : Result (Unit {0}) (FoldFault E)) → IsRun step Is B {E = E} store tour old new result
       → Visits step Is B {E = E} root old new result
   visit_begun (Ok u) h = h [] on held ∙ ap (λ p. fold step old (steps_of (tried B p).marks)) all ∙ ap (fold step old) (marks_law B root first_key last_key)

@@ -31,7 +31,9 @@ stepped Is B store new tour taken place a leaf is_taken kept h seen on held =
     subst (λ l. StepsBy tour.scope.lo tour.scope.hi B Is seen tour.scope.sums (left_of B store tour) new place l a.step) (sym kept)
     (subst (λ l. AdvancesIn tour.scope Is B store tour.place l new (arrived place a)) is_taken h seen on held)
 
-module _ (old new : Blocks) (tour tour' : Tour) (before now : Seen) (result : Result Step TreeFault) (others : SameLoans (without_leaf old tour) (without_leaf new tour')) (ready : IsTourReady now new tour') (content : TellsOf old before now (λ Is B. IsNextStep Is B old new tour tour' result)) where
+module _ (old new : Blocks) (tour tour' : Tour) (before now : Seen) (result : Result Step TreeFault)
+    (others : SameLoans (without_leaf old tour) (without_leaf new tour')) (ready : IsTourReady now new tour')
+    (content : TellsOf old before now (λ Is B. IsNextStep Is B old new tour tour' result)) where
   -- what was met is what is answered
   pub toured : (step : Result Step TreeFault) (answer : Result (Option Met) TreeFault) → result ≡ step
       → ((Is : UnreadBlock → Want → Type 0) (B : Map) (seen : List Want)
@@ -55,6 +57,8 @@ module _ (old new : Blocks) (tour tour' : Tour) (before now : Seen) (result : Re
       let lo = tour.scope.lo in
       let hi = tour.scope.hi in
       let at_item = subst (λ l. StepsBy lo hi B Is seen tour.scope.sums (left_of B old tour) new tour'.place l (Ok (Item at))) is h in
-      let met = block_is new hand.loan bytes (λ (b : List ℕ). (d : NodeItem) → Meets lo hi B seen (left_of B old tour) new tour'.place (Some hand) (marks.Item (tree_item hand.spot.addr (get_or (items b) at d)))) block at_item in
+      let met = block_is new hand.loan bytes (λ (b : List ℕ). (d : NodeItem)
+      → Meets lo hi B seen (left_of B old tour) new tour'.place (Some hand)
+      (marks.Item (tree_item hand.spot.addr (get_or (items b) at d)))) block at_item in
       subst (λ l. Meets lo hi B seen (left_of B old tour) new tour'.place l (marks.Item (item_of found))) (sym is)
       (subst (λ (i : TreeItem). Meets lo hi B seen (left_of B old tour) new tour'.place (Some hand) (marks.Item i)) (shows some_item) (met some_item)))

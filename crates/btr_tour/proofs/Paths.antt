@@ -66,7 +66,8 @@ module _ (lo hi : Key) (B : Map) where
         let spot_is : get_or spots frame.next some_spot ≡ todo.spot =
         spot_at (pointers f.node.block) frame.spot.up frame.next some_pointer some_spot c.there ∙ sym (c.spot_is some_pointer) in
         ap (λ x. children_left lo hi level frame.spot frame.next (child_spots (pointers_in x) frame.spot.up) rest) f.node.came
-        ∙ ap (λ l. children (tour_from lo hi (level - 1)) frame.spot.addr (level - 1) l rest) (filter_at (meets_keys lo hi) spots frame.next some_spot there meets)
+        ∙ ap (λ l. children (tour_from lo hi (level - 1)) frame.spot.addr (level - 1) l rest)
+        (filter_at (meets_keys lo hi) spots frame.next some_spot there meets)
         ∙ ap (λ s. Act (marks.Child frame.spot.addr (place_of (level - 1) s)) (tour_from lo hi (level - 1) s then)) spot_is
         ∙ ap (λ l. Act (marks.Child frame.spot.addr (place_of l todo.spot)) (tour_from lo hi l todo.spot then)) (sym c.level_is)
 

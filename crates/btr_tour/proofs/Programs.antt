@@ -33,7 +33,8 @@ module _ (lo hi : Key) (B : Map) where
   act_met [] rest = refl
   act_met (x ∷ xs) rest = ap (λ ms. x ∷ ms) (act_met xs rest)
 
-  module _ (tour : Spot → TourProg → TourProg) (marks : Spot → List Mark) (met : (spot : Spot) (rest : TourProg) → met_by (tour spot rest) ≡ marks spot ++ met_by rest) where
+  module _ (tour : Spot → TourProg → TourProg) (marks : Spot → List Mark)
+      (met : (spot : Spot) (rest : TourProg) → met_by (tour spot rest) ≡ marks spot ++ met_by rest) where
     children_met : (addr level : ℕ) (spots : List Spot) (rest : TourProg) → met_by (children tour addr level spots rest)
         ≡ flat_map (child_tour lo hi marks addr level) spots ++ met_by rest
     children_met addr level [] rest = refl

@@ -37,7 +37,8 @@ module _ (lo hi : Key) where
   stops_items [] rest = refl
   stops_items (x ∷ xs) rest = ap (Emit x) (stops_items xs rest)
 
-  module _ (tour : Spot → TourProg → TourProg) (child : Spot → RangeProg → RangeProg) (stops : (spot : Spot) (rest : TourProg) → items_until_fault (tour spot rest) ≡ child spot (items_until_fault rest)) (addr level : ℕ) where
+  module _ (tour : Spot → TourProg → TourProg) (child : Spot → RangeProg → RangeProg)
+      (stops : (spot : Spot) (rest : TourProg) → items_until_fault (tour spot rest) ≡ child spot (items_until_fault rest)) (addr level : ℕ) where
     by_test : (b : Bool) (spot : Spot) (spots : List Spot) (rest : TourProg) (more : RangeProg)
         → items_until_fault (children tour addr level spots rest) ≡ more
         → items_until_fault (children tour addr level (cond b (spot ∷ spots) spots) rest) ≡ cond b (child spot more) more

@@ -14,7 +14,7 @@ use Rattle.btr_walk.specs.declared.leaf_at.LeafAt.{LeafAt}
 use Rattle.btr_walk.specs.declared.path.AtLevel.{AtLevel}
 use Rattle.btr_walk.specs.declared.spot.Spot.{Spot}
 use Rattle.btr_walk.proofs.Ranking.{one_more, shaped_set, near_again, near_place}
-use Rattle.btr_tour.specs.Shape.{rank_on, StepNears}
+use Rattle.btr_tour.specs.Shape.{rank_on, StepRankFalls}
 use Rattle.btr_tour.specs.Steps.{IsLowest, left_out, passed_leaf}
 
 -- the children of a node are less than the node
@@ -58,16 +58,21 @@ pass_leaf place None = omega arith
 pass_leaf place (Some l) = omega arith
 
 -- a place with a block that is to be read
-todo_rank : (place : Where) (level : ℕ) (spot : Spot) → place.todo ≡ Some (record { level = level; spot = spot }) → rank_at place.todo place.path ≡ 2 * rank_todo level place.path
+todo_rank : (place : Where) (level : ℕ) (spot : Spot) → place.todo ≡ Some (record { level = level; spot = spot })
+    → rank_at place.todo place.path ≡ 2 * rank_todo level place.path
 todo_rank place level spot e = ap (λ t. rank_at t place.path) e
 
-pub leaf_nears : (place : Where) (level : ℕ) (spot : Spot) (l : LeafAt) → place.todo ≡ Some (record { level = level; spot = spot }) → l.end < 2 ^ 64 → rank_on (record { path = place.path; todo = None }) (Some l) < rank_on place None
+pub leaf_nears : (place : Where) (level : ℕ) (spot : Spot) (l : LeafAt) → place.todo ≡ Some (record { level = level; spot = spot }) → l.end < 2 ^ 64
+    → rank_on (record { path = place.path; todo = None }) (Some l) < rank_on place None
 leaf_nears place level spot l e small = omega (arith, todo_rank place level spot e, one_more level place.path, small)
 
-behind_nears : (place : Where) (level : ℕ) (spot : Spot) → place.todo ≡ Some (record { level = level; spot = spot }) → rank_on (record { path = place.path; todo = None }) None < rank_on place None
+behind_nears : (place : Where) (level : ℕ) (spot : Spot) → place.todo ≡ Some (record { level = level; spot = spot })
+    → rank_on (record { path = place.path; todo = None }) None < rank_on place None
 behind_nears place level spot e = omega (arith, todo_rank place level spot e, one_more level place.path)
 
-pub out_nears : (place : Where) (level : ℕ) (spot : Spot) (f : TreeFault) → place.todo ≡ Some (record { level = level; spot = spot }) → StepNears (rank_on place None) (rank_on (left_out place (record { path = place.path; todo = None }) f).place (left_out place (record { path = place.path; todo = None }) f).leaf) (left_out place (record { path = place.path; todo = None }) f).step
+pub out_nears : (place : Where) (level : ℕ) (spot : Spot) (f : TreeFault) → place.todo ≡ Some (record { level = level; spot = spot })
+    → StepRankFalls (rank_on place None) (rank_on (left_out place (record { path = place.path; todo = None }) f).place
+    (left_out place (record { path = place.path; todo = None }) f).leaf) (left_out place (record { path = place.path; todo = None }) f).step
 out_nears place level spot (Lost a) e = behind_nears place level spot e
 out_nears place level spot (Unread a slot) e = omega arith
 out_nears place level spot (Unmapped a) e = behind_nears place level spot e
@@ -83,16 +88,21 @@ fits_digit : (o : Option Frame) → IfSome o FrameFits → digit o < 2 ^ 64
 fits_digit None h = omega arith
 fits_digit (Some f) h = omega (arith, h.0, h.1)
 
-above_todo : (place : Where) (level : ℕ) (spot : Spot) → place.todo ≡ Some (record { level = level; spot = spot }) → IsShaped place → (k : ℕ) → k < level → get_or place.path k None ≡ None
-above_todo place level spot e s = let P : Option Todo → Type 0 = λ x. IfSome x (λ t. (k : ℕ) → k < t.level → get_or place.path k None ≡ None) in subst P e s.above
+above_todo : (place : Where) (level : ℕ) (spot : Spot) → place.todo ≡ Some (record { level = level; spot = spot }) → IsShaped place → (k : ℕ) → k < level
+    → get_or place.path k None ≡ None
+above_todo place level spot e s =
+    let P : Option Todo → Type 0 = λ x. IfSome x (λ t. (k : ℕ) → k < t.level → get_or place.path k None ≡ None) in subst P e s.above
 
 -- an inner node was met
-pub node_nears : (place : Where) (level : ℕ) (spot : Spot) (path' : List (Option Frame)) (o : Option Frame) → place.todo ≡ Some (record { level = level; spot = spot }) → 0 < level → level ≤ 7 → IfSome o FrameFits → path' ≡ set place.path (level - 1) o → IsShaped place → IsShaped (record { path = path'; todo = None }) × (rank_on (record { path = path'; todo = None }) None < rank_on place None)
+pub node_nears : (place : Where) (level : ℕ) (spot : Spot) (path' : List (Option Frame)) (o : Option Frame)
+    → place.todo ≡ Some (record { level = level; spot = spot }) → 0 < level → level ≤ 7 → IfSome o FrameFits → path' ≡ set place.path (level - 1) o
+    → IsShaped place → IsShaped (record { path = path'; todo = None }) × (rank_on (record { path = path'; todo = None }) None < rank_on place None)
 node_nears place level spot path' o e some few fits set_is s =
     let i : ℕ = level - 1 in
     let up : suc i ≡ level = omega (arith, some) in
     let above : (k : ℕ) → k < level → get_or place.path k None ≡ None = above_todo place level spot e s in
-    let less : rank_path (set place.path i o) + 1 ≤ rank_todo (suc i) place.path = enter_less i place.path o (omega (arith, s.long, few, some)) (fits_digit o fits) (λ k l. above k (omega (arith, l, up))) in
+    let less : rank_path (set place.path i o) + 1 ≤ rank_todo (suc i) place.path =
+    enter_less i place.path o (omega (arith, s.long, few, some)) (fits_digit o fits) (λ k l. above k (omega (arith, l, up))) in
     let same : rank_todo (suc i) place.path ≡ rank_todo level place.path = ap (λ n. rank_todo n place.path) up in
     subst (λ p. IsShaped (record { path = p; todo = None }) × (rank_on (record { path = p; todo = None }) None < rank_on place None)) (sym set_is) (
       shaped_set place.path i o None s.long (omega (arith, few, some)) s.frames fits (λ k l. above k (omega (arith, l, up))) tt,
@@ -107,7 +117,9 @@ module _ (place : Where) (low : AtLevel) (none : place.todo ≡ None) (lowest : 
   fits = subst (λ o. IfSome o FrameFits) lowest.here (shaped.frames low.at)
 
   -- a child was met
-  pub child_nears : (b : Below) (todo : Todo) (path' : List (Option Frame)) → FitsNext (low.at + 1) low.frame b.frame b.todo → b.todo ≡ Some todo → path' ≡ set place.path low.at b.frame → IsShaped (record { path = path'; todo = Some todo }) × (rank_on (record { path = path'; todo = Some todo }) None < rank_on place None)
+  pub child_nears : (b : Below) (todo : Todo) (path' : List (Option Frame)) → FitsNext (low.at + 1) low.frame b.frame b.todo → b.todo ≡ Some todo
+      → path' ≡ set place.path low.at b.frame → IsShaped (record { path = path'; todo = Some todo })
+      × (rank_on (record { path = path'; todo = Some todo }) None < rank_on place None)
   child_nears b todo path' fits some set_is =
       let near : IsShaped (record { path = path'; todo = b.todo }) × (rank (record { path = path'; todo = b.todo }) < rank place) =
       near_place place None (record { path = path'; todo = b.todo }) none shaped
@@ -124,10 +136,14 @@ module _ (place : Where) (low : AtLevel) (none : place.todo ≡ None) (lowest : 
       subst (λ p. rank_on (record { path = p; todo = None }) None < rank_on place None) (sym set_is) (omega (arith, path_rank, less, digit_is, fits.0))
 
   pub gone_shaped : (path' : List (Option Frame)) → path' ≡ set place.path low.at None → IsShaped (record { path = path'; todo = None })
-  gone_shaped path' set_is = subst (λ p. IsShaped (record { path = p; todo = None })) (sym set_is) (shaped_set place.path low.at None None shaped.long lowest.within shaped.frames tt lowest.before tt)
+  gone_shaped path' set_is =
+      subst (λ p. IsShaped (record { path = p; todo = None })) (sym set_is)
+      (shaped_set place.path low.at None None shaped.long lowest.within shaped.frames tt lowest.before tt)
 
   -- a node was left out
-  pub gone_out : (path' : List (Option Frame)) (f : TreeFault) → path' ≡ set place.path low.at None → StepNears (rank_on place None) (rank_on (left_out place (record { path = path'; todo = None }) f).place (left_out place (record { path = path'; todo = None }) f).leaf) (left_out place (record { path = path'; todo = None }) f).step
+  pub gone_out : (path' : List (Option Frame)) (f : TreeFault) → path' ≡ set place.path low.at None
+      → StepRankFalls (rank_on place None) (rank_on (left_out place (record { path = path'; todo = None }) f).place
+      (left_out place (record { path = path'; todo = None }) f).leaf) (left_out place (record { path = path'; todo = None }) f).step
   gone_out path' (Lost a) e = gone_nears path' e
   gone_out path' (Unread a slot) e = omega arith
   gone_out path' (Unmapped a) e = gone_nears path' e

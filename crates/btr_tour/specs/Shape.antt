@@ -12,10 +12,10 @@ abbrev pub rank_on : Where → Option LeafAt → ℕ
 rank_on place leaf = 2 ^ 64 * rank place + rank_leaf leaf None
 
 -- a step comes nearer to the end, but where it meets nothing
-abbrev pub StepNears : ℕ → ℕ → Result Step TreeFault → Type 0
-StepNears old new (Ok (Block place header)) = new < old
-StepNears old new (Ok (Child block place)) = new < old
-StepNears old new (Ok (Item at)) = new < old
-StepNears old new (Ok (Fault f)) = new < old
-StepNears old new (Ok End) = new ≤ old
-StepNears old new (Err f) = new ≤ old
+abbrev pub StepRankFalls : ℕ → ℕ → Result Step TreeFault → Type 0
+StepRankFalls old new (Ok (Block place header)) = new < old
+StepRankFalls old new (Ok (Child block place)) = new < old
+StepRankFalls old new (Ok (Item at)) = new < old
+StepRankFalls old new (Ok (Fault f)) = new < old
+StepRankFalls old new (Ok End) = new ≤ old
+StepRankFalls old new (Err f) = new ≤ old

@@ -92,7 +92,8 @@ pub record Toured (old new : Blocks) (tour tour' : Tour) (before now : Seen) (re
 
 -- the tour and its store end as the step's answer says, and no other loan changed
 abbrev pub TourEnds : MutBor Blocks → Tour → Tour → Seen → Seen → Result (Option Met) TreeFault → Fml
-TourEnds store tour tour' before now result = follows_so the_row the_row store.ghost_name none (λ _ _. ⊤) (λ new. Toured store.now new tour tour' before now result)
+TourEnds store tour tour' before now result =
+    follows_so the_row the_row store.ghost_name none (λ _ _. ⊤) (λ new. Toured store.now new tour tour' before now result)
 
 -- the level of the block that was met
 abbrev pub level_met : Result (Option Met) TreeFault → Option ℕ
@@ -117,10 +118,10 @@ abbrev pub rank_of : Tour → ℕ
 rank_of tour = rank_on tour.place tour.leaf
 
 -- a tour comes nearer to its end with each mark, and never goes back
-abbrev pub NextNears : Tour → Tour → Result (Option Met) TreeFault → Type 0
-NextNears tour tour' (Ok (Some met)) = rank_of tour' < rank_of tour
-NextNears tour tour' (Ok None) = rank_of tour' ≤ rank_of tour
-NextNears tour tour' (Err f) = rank_of tour' ≤ rank_of tour
+abbrev pub NextRankFalls : Tour → Tour → Result (Option Met) TreeFault → Type 0
+NextRankFalls tour tour' (Ok (Some met)) = rank_of tour' < rank_of tour
+NextRankFalls tour tour' (Ok None) = rank_of tour' ≤ rank_of tour
+NextRankFalls tour tour' (Err f) = rank_of tour' ≤ rank_of tour
 
 -- A block that is left out or could not be read is the one that the tour was to read next, and has its cause. Only one
 -- that could not be read is refused, and then the place stays; it is never left out.

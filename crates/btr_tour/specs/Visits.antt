@@ -91,10 +91,10 @@ module _ {St : Type 0} (step : St → Mark → St) where
     Visits root old new (Err (Own e)) = ⊤
 
 -- a tour comes nearer to its end with each mark
-abbrev pub MetNears : {E : Type 0} → Tour → Tour → Result Bool (FoldFault E) → Type 0
-MetNears tour tour' (Ok true) = rank_of tour' < rank_of tour
-MetNears tour tour' (Ok false) = rank_of tour' ≤ rank_of tour
-MetNears tour tour' (Err f) = ⊤
+abbrev pub MetRankFalls : {E : Type 0} → Tour → Tour → Result Bool (FoldFault E) → Type 0
+MetRankFalls tour tour' (Ok true) = rank_of tour' < rank_of tour
+MetRankFalls tour tour' (Ok false) = rank_of tour' ≤ rank_of tour
+MetRankFalls tour tour' (Err f) = ⊤
 
 -- of the faults of a tree only that a block could not be read is a refusal
 abbrev pub OnlyUnread : {A E : Type 0} → Result A (FoldFault E) → Type 0

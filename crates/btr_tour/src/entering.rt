@@ -8,7 +8,7 @@ ghost use Rattle.btr_walk.specs.Lending.{base};
 ghost use Rattle.btr_walk.specs.Ranks.{IsShaped};
 ghost use Rattle.btr_walk.specs.Reading.{TellsOf};
 ghost use Rattle.btr_tour.specs.Tour.{place_of};
-ghost use Rattle.btr_tour.specs.Shape.{rank_on, StepNears};
+ghost use Rattle.btr_tour.specs.Shape.{rank_on, StepRankFalls};
 ghost use Rattle.btr_tour.specs.Steps.{arrived, left_out, IsLowest, HasStep, StepCause, AdvancesIn};
 
 use crate::scope::Scope;
@@ -71,7 +71,7 @@ pub(crate) fn enter<R: Rack>(
     ensures others { SameLoans store.old (base store.new (loan_of result.leaf)) }
     ensures hand { IfSome result.leaf (IsInHand store.new) }
     ensures shaped { IsShaped place.new }
-    ensures nears { StepNears (rank_on place.old None) (rank_on place.new result.leaf) result.step }
+    ensures nears { StepRankFalls (rank_on place.old None) (rank_on place.new result.leaf) result.step }
     ensures step { HasStep place.old place.new result.leaf result.step }
     ensures cause { StepCause store.old.layout (R.seen rack.old) (R.seen rack.new) place.old result.step }
     ensures content { TellsOf store.old (R.seen rack.old) (R.seen rack.new)
@@ -131,7 +131,7 @@ pub(crate) fn meet_child<R: Rack>(
     ensures others { SameLoans store.old (base store.new (loan_of result.leaf)) }
     ensures hand { IfSome result.leaf (IsInHand store.new) }
     ensures shaped { IsShaped place.new }
-    ensures nears { StepNears (rank_on place.old None) (rank_on place.new result.leaf) result.step }
+    ensures nears { StepRankFalls (rank_on place.old None) (rank_on place.new result.leaf) result.step }
     ensures step { HasStep place.old place.new result.leaf result.step }
     ensures cause { StepCause store.old.layout (R.seen rack.old) (R.seen rack.new) place.old result.step }
     ensures content { TellsOf store.old (R.seen rack.old) (R.seen rack.new)

@@ -9,8 +9,9 @@ ghost use Rattle.btr_walk.specs.Hand.{IsInHand};
 ghost use Rattle.btr_walk.specs.Reading.{Map, TellsOf};
 ghost use Rattle.btr_tour.specs.Program.{tour_prog};
 ghost use Rattle.btr_tour.specs.Steps.{passed_leaf, HasStep, StepCause};
-ghost use Rattle.btr_tour.specs.Shape.{StepNears};
-ghost use Rattle.btr_tour.specs.TourEnds.{left_of, passed, without_leaf, rank_of, level_met, IsTourReady, IsUnderway, HoldsLeaf, KeepsLeaf, NextNears, NextCause, IsNextStep, TourEnds};
+ghost use Rattle.btr_tour.specs.Shape.{StepRankFalls};
+ghost use Rattle.btr_tour.specs.TourEnds.{left_of, passed, without_leaf, rank_of, level_met, IsTourReady, IsUnderway, HoldsLeaf, KeepsLeaf};
+ghost use Rattle.btr_tour.specs.TourEnds.{NextRankFalls, NextCause, IsNextStep, TourEnds};
 
 use crate::Met;
 use crate::advancing::advance;
@@ -120,7 +121,7 @@ fn step<R: Rack>(tour: &mut Tour, rack: &mut R, store: &mut Store) -> Result<Ste
     ensures others { SameLoans (without_leaf store.old tour.old) (without_leaf store.new tour.new) }
     ensures scope { tour.new.scope ≡ tour.old.scope }
     ensures level { tour.new.level ≡ None }
-    ensures nears { StepNears (rank_of tour.old) (rank_of tour.new) result }
+    ensures nears { StepRankFalls (rank_of tour.old) (rank_of tour.new) result }
     ensures step { HasStep tour.old.place tour.new.place tour.new.leaf result }
     ensures cause { StepCause store.old.layout (R.seen rack.old) (R.seen rack.new) tour.old.place result }
     ensures content { TellsOf store.old (R.seen rack.old) (R.seen rack.new)
@@ -151,7 +152,7 @@ pub fn next<'e, R: Rack>(
     ensures scope { tour.new.scope ≡ tour.old.scope }
     ensures level { tour.new.level ≡ level_met result }
     ensures kept { KeepsLeaf tour.new.leaf result }
-    ensures nears { NextNears tour.old tour.new result }
+    ensures nears { NextRankFalls tour.old tour.new result }
     ensures cause { NextCause store.old.layout (R.seen rack.old) (R.seen rack.new) tour.old tour.new result }
 {
     match step(tour, rack, store)? {

@@ -6,7 +6,7 @@ ghost use Rattle.btr_read.specs.Store.{SameLoans, free_count};
 ghost use Rattle.btr_tour.specs.TourEnds.{IsTourReady, without_leaf};
 ghost use Rattle.btr_walk.specs.Folding.{FoldCause};
 ghost use Rattle.btr_walk.specs.Reading.{TellsOf};
-ghost use Rattle.btr_tour.specs.Visits.{IsTaken, IsMet, MetNears, OnlyUnread, IsRun, Visits};
+ghost use Rattle.btr_tour.specs.Visits.{IsTaken, IsMet, MetRankFalls, OnlyUnread, IsRun, Visits};
 
 use crate::visitor::Visitor;
 use crate::{Met, Tour, next};
@@ -38,7 +38,7 @@ fn meet_next<R: Rack, E, V: Visitor<E>>(
     ensures reads { OnlyReads (R.seen rack.old) (R.seen rack.new) }
     ensures others { SameLoans (without_leaf store.old tour.old) (without_leaf store.new tour.new) }
     ensures scope { tour.new.scope ≡ tour.old.scope }
-    ensures nears { MetNears tour.old tour.new result }
+    ensures nears { MetRankFalls tour.old tour.new result }
     ensures unread { OnlyUnread result }
     ensures cause { FoldCause store.old.layout (R.seen rack.old) (R.seen rack.new) result }
     ensures content { TellsOf store.old (R.seen rack.old) (R.seen rack.new)

@@ -55,7 +55,8 @@ module _ (supers : List Super) (slot : ℕ) (d : Super) (lt : slot < length supe
       × (twin_from (slot + 1) (take (slot + 1) supers) (drop (slot + 1) supers) ≡ None)
   own_next none =
       let from : drop slot supers ≡ this ∷ drop (slot + 1) supers = drop-cons supers slot d lt ∙ ap (λ k. this ∷ drop k supers) (sym (add-one slot)) in
-      let both = not_some (has_device (take slot supers) this.devid) slot (twin_from (slot + 1) (take slot supers ++ this ∷ []) (drop (slot + 1) supers)) (sym (ap (twin_from slot (take slot supers)) from) ∙ none) in
+      let both = not_some (has_device (take slot supers) this.devid) slot (twin_from (slot + 1) (take slot supers ++ this ∷ []) (drop (slot + 1) supers))
+      (sym (ap (twin_from slot (take slot supers)) from) ∙ none) in
       (both.0, ap (λ xs. twin_from (slot + 1) xs (drop (slot + 1) supers)) one_taken ∙ both.1)
 
   module _ (g : ℕ) (slots : List Slot) (within : slot < length slots) where
@@ -63,17 +64,22 @@ module _ (supers : List Super) (slot : ℕ) (d : Super) (lt : slot < length supe
     lens = map (λ slot. slot.len) slots
 
     -- the device of a slot's superblock isn't there yet
-    pub device_new : (layout layout' : Layout) → layout' ≡ record layout { devices = devices_from g 0 (take slot supers) lens } → has_device (take slot supers) this.devid ≡ false → device_in layout'.devices this.devid ≡ None
+    pub device_new : (layout layout' : Layout) → layout' ≡ record layout { devices = devices_from g 0 (take slot supers) lens }
+        → has_device (take slot supers) this.devid ≡ false → device_in layout'.devices this.devid ≡ None
     device_new layout layout' is none = ap (λ (l : Layout). device_in l.devices this.devid) is ∙ not_among g 0 this.devid (take slot supers) lens none
 
     -- the devices up to and with a slot's
     pub layout_next : (layout layout' : Layout) → layout' ≡ record layout { devices = devices_from g 0 (take slot supers) lens }
-        → record layout' { devices = layout'.devices ++ member g slot this (len_of slots slot) ∷ [] } ≡ record layout { devices = devices_from g 0 (take (slot + 1) supers) lens }
+        → record layout' { devices = layout'.devices ++ member g slot this (len_of slots slot) ∷ [] }
+        ≡ record layout { devices = devices_from g 0 (take (slot + 1) supers) lens }
     layout_next layout layout' is =
         let long : length (take slot supers) ≡ slot = length-take-le slot supers (omega (arith, lt)) in
-        let len : get_or lens (length (take slot supers)) 0 ≡ len_of slots slot = ap (λ (k : ℕ). get_or lens k 0) long ∙ get_or-map (λ (x : Slot). x.len) slots slot no_slot 0 within in
-        let devices : devices_from g 0 (take slot supers ++ this ∷ []) lens ≡ devices_from g 0 (take slot supers) lens ++ member g slot this (len_of slots slot) ∷ [] =
-        devices_more g 0 (take slot supers) this lens (len_of slots slot) 0 (omega (arith, long, within, length-map slots (λ (x : Slot). x.len))) len ∙ ap (λ (n : ℕ). devices_from g 0 (take slot supers) lens ++ member g n this (len_of slots slot) ∷ []) (omega (arith, long)) in
+        let len : get_or lens (length (take slot supers)) 0 ≡ len_of slots slot =
+        ap (λ (k : ℕ). get_or lens k 0) long ∙ get_or-map (λ (x : Slot). x.len) slots slot no_slot 0 within in
+        let devices : devices_from g 0 (take slot supers ++ this ∷ []) lens
+        ≡ devices_from g 0 (take slot supers) lens ++ member g slot this (len_of slots slot) ∷ [] =
+        devices_more g 0 (take slot supers) this lens (len_of slots slot) 0 (omega (arith, long, within, length-map slots (λ (x : Slot). x.len))) len
+        ∙ ap (λ (n : ℕ). devices_from g 0 (take slot supers) lens ++ member g n this (len_of slots slot) ∷ []) (omega (arith, long)) in
         ap {A = Layout} (λ l. record l { devices = l.devices ++ member g slot this (len_of slots slot) ∷ [] }) is
         ∙ ap {A = List Member} (λ ds. record layout { devices = ds }) (sym devices ∙ ap (λ (xs : List Super). devices_from g 0 xs lens) (sym one_taken))
 
@@ -119,9 +125,14 @@ pub none_is : {A : Type 0} (o : Option A) → o ≡ None → IsNone o
 none_is o e = subst IsNone (sym e) refl
 
 -- what a push of a device at a slot comes to
-pub layout_pushed : (g : ℕ) (supers : List Super) (slot : ℕ) (lt : slot < length supers) (slots : List Slot) (within : slot < length slots) (layout layout' : Layout) (len : ℕ) → len ≡ len_of slots slot → layout' ≡ record layout { devices = devices_from g 0 (take slot supers) (map (λ slot. slot.len) slots) }
-    → record layout' { devices = layout'.devices ++ member g slot (get_or supers slot blank) len ∷ [] } ≡ record layout { devices = devices_from g 0 (take (slot + 1) supers) (map (λ slot. slot.len) slots) }
-layout_pushed g supers slot lt slots within layout layout' len len-is is = ap {A = Layout} (λ l. l) (ap {A = ℕ} (λ n. record layout' { devices = layout'.devices ++ member g slot (get_or supers slot blank) n ∷ [] }) len-is ∙ layout_next supers slot blank lt g slots within layout layout' is)
+pub layout_pushed : (g : ℕ) (supers : List Super) (slot : ℕ) (lt : slot < length supers) (slots : List Slot) (within : slot < length slots)
+    (layout layout' : Layout) (len : ℕ) → len ≡ len_of slots slot
+    → layout' ≡ record layout { devices = devices_from g 0 (take slot supers) (map (λ slot. slot.len) slots) }
+    → record layout' { devices = layout'.devices ++ member g slot (get_or supers slot blank) len ∷ [] }
+    ≡ record layout { devices = devices_from g 0 (take (slot + 1) supers) (map (λ slot. slot.len) slots) }
+layout_pushed g supers slot lt slots within layout layout' len len-is is =
+    ap {A = Layout} (λ l. l) (ap {A = ℕ} (λ n. record layout' { devices = layout'.devices ++ member g slot (get_or supers slot blank) n ∷ [] }) len-is
+    ∙ layout_next supers slot blank lt g slots within layout layout' is)
 
 -- where a device stands: its place among the superblocks is its slot
 record At (slot : ℕ) (xs : List Super) (lens : List ℕ) (devid : ℕ) (device : Device) : Type 0 where
@@ -149,10 +160,24 @@ located g slot (x ∷ xs) (l ∷ lens) devid device e = by (x.devid == devid) re
         → (device_in (devices_from g (slot + 1) xs lens) devid ≡ Some device → At (slot + 1) xs lens devid device) → At slot (x ∷ xs) (l ∷ lens) devid device
     by true is e on =
         let d : (member g slot x l).device ≡ device = the_device (member g slot x l).device device e in
-        record { index = 0; within = omega arith; long = omega arith; slot_is = sym (ap (λ (y : Device). y.slot) d) ∙ omega arith; len_is = sym (ap (λ (y : Device). y.len) d); devid_is = equal x.devid devid is }
+        record {
+          index = 0;
+          within = omega arith;
+          long = omega arith;
+          slot_is = sym (ap (λ (y : Device). y.slot) d) ∙ omega arith;
+          len_is = sym (ap (λ (y : Device). y.len) d);
+          devid_is = equal x.devid devid is;
+        }
     by false is e on =
         let a = on e in
-        record { index = a.index + 1; within = omega (arith, a.within); long = omega (arith, a.long); slot_is = a.slot_is ∙ omega arith; len_is = a.len_is ∙ sym (get_or-cons l lens a.index 0); devid_is = ap (λ (y : Super). y.devid) (get_or-cons x xs a.index blank) ∙ a.devid_is }
+        record {
+          index = a.index + 1;
+          within = omega (arith, a.within);
+          long = omega (arith, a.long);
+          slot_is = a.slot_is ∙ omega arith;
+          len_is = a.len_is ∙ sym (get_or-cons l lens a.index 0);
+          devid_is = ap (λ (y : Super). y.devid) (get_or-cons x xs a.index blank) ∙ a.devid_is;
+        }
       where
         get_or-cons : {X : Type 0} (x : X) (xs : List X) (i : ℕ) (d : X) → get_or (x ∷ xs) (i + 1) d ≡ get_or xs i d
         get_or-cons x xs i d = ap (λ n. get_or (x ∷ xs) n d) (add-one i)

@@ -24,7 +24,7 @@ use Rattle.btr_volume.specs.Opening.{ReadsTable, MakesStore, BeginsVolume, NoneA
 use Rattle.btr_volume.specs.declared.volume.Volume.{Volume}
 use Rattle.btr_prog.specs.Prog.{exec}
 use Rattle.btr_prog.specs.Answers.{Follows, no_part}
-use Rattle.btr_prog.specs.Calls.{CanTell, Sure, First, Any, IsCalm}
+use Rattle.btr_prog.specs.Calls.{CanTell, Sure, First, Any, NoReadFailed}
 use Rattle.btr_read.specs.Fate.{fate, Agreed}
 use Rattle.btr_read.specs.Reading.{AgreedOn, OnMap, shown}
 use Rattle.btr_volume.specs.Maps.{array_layout}
@@ -51,7 +51,9 @@ newest_at supers slot s index lt is =
 
 module _ (supers : List Super) (s : Super) (is : newest supers ≡ Some s) (lens : List ℕ) where
   -- the volume that begins
-  pub begun : (store store' : Blocks) → first_refusal (refusals supers s) ≡ None → MakesStore s (Ok store) → store'.layout ≡ record (store.layout) { devices = devices_from s.generation 0 supers lens } → BeginsVolume supers lens (Ok (record { store = store'; sup = s }))
+  pub begun : (store store' : Blocks) → first_refusal (refusals supers s) ≡ None → MakesStore s (Ok store)
+      → store'.layout ≡ record (store.layout) { devices = devices_from s.generation 0 supers lens }
+      → BeginsVolume supers lens (Ok (record { store = store'; sup = s }))
   begun store store' none made layout =
       ap (start_by supers lens) is ∙ ap (started s (devices_from s.generation 0 supers lens)) none ∙ made.3 (devices_from s.generation 0 supers lens)
       ∙ ap {A = Layout} (λ l. Ok (record { sup = s; devices = l.devices; setting = l.setting; array = l.chunks })) (sym layout)
@@ -77,7 +79,14 @@ array_made s store made = array_kept s [] (kind_of_type s.csum_type) _ (made.3 [
 -- no call failed, so nothing of the rack is other than it was
 pub same_seen : (old new : Seen) → OnlyCounts old new → NoneFailed old.account new.account → new ≡ old
 same_seen old new same none =
-    same ∙ ap {A = Account} (λ a. record old { account = a }) (λ i. record { faults = none.faults i; fresh = none.fresh i; missed = none.missed i; last = none.last i; opening = none.opening i; shut = none.shut i })
+    same ∙ ap {A = Account} (λ a. record old { account = a }) (λ i. record {
+      faults = none.faults i;
+      fresh = none.fresh i;
+      missed = none.missed i;
+      last = none.last i;
+      opening = none.opening i;
+      shut = none.shut i;
+    })
 
 -- what the superblocks come to over the images
 module _ (slots : List Slot) (supers : List Super) where
@@ -273,7 +282,7 @@ opened_is images old new volume held opened known = record {
     P : Map → Type 0
     P B = Follows {S = ⊥} (unread_by (array_layout opened.start) old new) no_part [] (exec B (table_scan opened.start)) [] (Ok (Ok volume.store.layout.chunks))
 
-    by : IsCalm old.account.faults new.account.faults ⊎ Agreed images (array_layout opened.start) → P (fate images (array_layout opened.start))
+    by : NoReadFailed old.account.faults new.account.faults ⊎ Agreed images (array_layout opened.start) → P (fate images (array_layout opened.start))
     by (inl calm) = told_of images (array_layout opened.start) P old.held First held (opened.scans.calls.content First calm)
     by (inr agreed) = told_of images (array_layout opened.start) P old.held Any held
         (opened.scans.calls.content Any (subst (λ h. AgreedOn (array_layout opened.start) h) (sym held) agreed))

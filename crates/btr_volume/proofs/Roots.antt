@@ -37,7 +37,14 @@ pub root_read : (key : Key) (body : List ℕ) (root : RootItem) → root_item_of
 })
 root_read key body root e =
     ap (map_ok (described key)) e
-    ∙ ap (λ (level : ℕ). Ok (record { id = key.objectid; offset = key.offset; place = record { addr = root.bytenr; generation = root.generation; level = level }; dirid = root.dirid; refs = root.refs })) (sym (root_level body root e))
+    ∙ ap (λ (level : ℕ). Ok (record {
+      id = key.objectid;
+      offset = key.offset;
+      place = record { addr = root.bytenr; generation = root.generation; level = level };
+      dirid =
+          root.dirid;
+      refs = root.refs;
+    })) (sym (root_level body root e))
 
 if_true : {A : Type 0} (b : Bool) (x y : A) → b ≡ true → (if b then x else y) ≡ x
 if_true true x y e = refl

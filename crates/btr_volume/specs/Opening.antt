@@ -8,7 +8,7 @@ use Rattle.btr_chunk.specs.declared.chunk.Chunk.{Chunk}
 use Rattle.btr_prog.specs.Prog.{exec}
 use Rattle.btr_prog.specs.Answers.{Halt, Follows, no_part}
 use Rattle.btr_rack.specs.Rack.{Seen, Rose, NoneFailed, Steady, range_in}
-use Rattle.btr_prog.specs.Calls.{IsCalm}
+use Rattle.btr_prog.specs.Calls.{NoReadFailed}
 use Rattle.btr_read.specs.Comparing.{Compares, disagreeing}
 use Rattle.btr_read.specs.Fate.{Fault, fate, Agreed}
 use Rattle.btr_read.specs.Layout.{Layout}
@@ -79,7 +79,8 @@ ReadsArray array (Err refusal) = (fault : ArrayFault) × (array ≡ Err fault) �
 abbrev pub MakesStore : Super → Result Blocks OpenFault → Type 0
 MakesStore s (Ok store) =
     (store.loans ≡ replicate 24 None) × (store.kept ≡ none_kept) × (store.layout.devices ≡ [])
-    × ((devices : List Member) → with_kind s devices (kind_of_type s.csum_type) ≡ Ok (record { sup = s; devices = devices; setting = store.layout.setting; array = store.layout.chunks }))
+    × ((devices : List Member) → with_kind s devices (kind_of_type s.csum_type)
+    ≡ Ok (record { sup = s; devices = devices; setting = store.layout.setting; array = store.layout.chunks }))
 MakesStore s (Err Memory) = ⊤
 MakesStore s (Err refusal) = (devices : List Member) → with_kind s devices (kind_of_type s.csum_type) ≡ Err refusal
 
@@ -143,7 +144,8 @@ Prepares images (Err refusal) = start_of images ≡ Err refusal
 -- the scan of the chunk tree from the chunks of a layout on
 abbrev pub ScansTable : Super → Layout → Seen → Seen → Result TableResult (Halt Fault UnreadBlock) → Type 0
 ScansTable s layout old new answer =
-    Tells layout old new (λ B. Follows {S = ⊥} (unread_by layout old new) no_part [] (exec B (folded table_step whole_table layout.chunks (chunk_root s) first_key last_key)) [] answer)
+    Tells layout old new (λ B. Follows {S = ⊥} (unread_by layout old new) no_part []
+    (exec B (folded table_step whole_table layout.chunks (chunk_root s) first_key last_key)) [] answer)
 
 -- the chunks of the chunk tree, or why there are none
 abbrev pub ReadsTable : Super → Layout → Seen → Seen → Result (List Chunk) OpenFault → Type 0
@@ -169,7 +171,8 @@ Opens images old new (Err (ImageFault slot)) = ⊤
 Opens images old new (Err Memory) = ⊤
 Opens images old new (Err (Tree fault)) = Starts images old new (Err (halt_of fault))
 Opens images old new (Err (Diverged slot)) = (start_of images ≡ Err (Diverged slot)) ⊎ RootsDiffer images old new slot
-Opens images old new (Err refusal) = (start_of images ≡ Err refusal) ⊎ ((fault : TableFault) × (refusal_of fault ≡ refusal) × Starts images old new (Ok (Err fault)))
+Opens images old new (Err refusal) =
+    (start_of images ≡ Err refusal) ⊎ ((fault : TableFault) × (refusal_of fault ≡ refusal) × Starts images old new (Ok (Err fault)))
 
 -- what the images of a rack begin with, where the rack tells them
 pub record StartOf (rack : Seen) : Type 0 where
@@ -212,7 +215,7 @@ OpenedIsOfImages =
     (images : Images) (old new : Seen) (volume : Volume)
     → old.held ≡ Some images
     → (opened : Opened images old new volume)
-    → IsCalm old.account.faults new.account.faults ⊎ Agreed images (array_layout opened.start)
+    → NoReadFailed old.account.faults new.account.faults ⊎ Agreed images (array_layout opened.start)
     → IsVolumeOf images volume
 
 -- In a volume that was opened the candidates of the root tree's root block agree, where

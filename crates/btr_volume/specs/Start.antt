@@ -1,6 +1,7 @@
 -- What is known of a volume before its chunk tree is read: the newest superblock, the
 -- devices, and the chunks of the system array.
-use Rattle.std.specs.Prelude.{ℕ, ◌+◌, Bool, not, ◌&&◌, ◌==◌, nat_lt, if◌then◌else◌, List, [], ◌∷◌, ◌++◌, length, map, take, slice_get, Option, Some, None, Result, Ok, Err, bit_and}
+use Rattle.std.specs.Prelude.{ℕ, ◌+◌, Bool, not, ◌&&◌, ◌==◌, nat_lt, if◌then◌else◌, List, [], ◌∷◌, ◌++◌, length, map, take, slice_get, Option, Some}
+use Rattle.std.specs.Prelude.{None, Result, Ok, Err, bit_and}
 use Rattle.std.specs.List.{list_any, filter_map}
 use Rattle.std.specs.Option.{option_map}
 use Rattle.std.specs.Str.{bytes_eq}
@@ -22,7 +23,8 @@ use Rattle.btr_read.specs.declared.device.Member.{Member}
 use Rattle.btr_read.specs.declared.setting.Setting.{Setting}
 use Rattle.btr_volume.specs.declared.which.Which.TheVariants.{Stripes}
 use Rattle.btr_volume.specs.declared.fault.OpenFault.{OpenFault}
-use Rattle.btr_volume.specs.declared.fault.OpenFault.TheVariants.{ImageFault, NoSuper, SumKind as kind_fault, Foreign, Twin, Diverged, Unsupported, Geometry, LogPending, BadArray, BadChunk, Limit, Memory}
+use Rattle.btr_volume.specs.declared.fault.OpenFault.TheVariants.{ImageFault, NoSuper, SumKind as kind_fault, Foreign, Twin, Diverged, Unsupported}
+use Rattle.btr_volume.specs.declared.fault.OpenFault.TheVariants.{Geometry, LogPending, BadArray, BadChunk, Limit, Memory}
 
 -- the bytes of the images, by slot
 abbrev pub Images : Type 0

@@ -8,20 +8,14 @@ use Rattle.btr_read.specs.Fate as fate
 use Rattle.btr_read.specs.Layout.{Layout}
 use Rattle.btr_walk.specs.Reading.{UnreadBlock, FaultCause, halt_of}
 use Rattle.btr_volume.specs.declared.stop.Stop.{Stop}
-use Rattle.btr_volume.specs.declared.stop.Stop.TheVariants.{NoTree, Tree, Deletion, Balance}
-use Rattle.btr_volume.specs.declared.stop.Stop.TheVariants.{Missing, Image, Sink, Out, Memory}
+use Rattle.btr_volume.specs.declared.stop.Stop.TheVariants.{NoTree, Tree}
+use Rattle.btr_volume.specs.declared.stop.Stop.TheVariants.{Sink, Out, Memory}
 
 -- how a stop ends a run: by its fault, or at any place
 abbrev pub stop_halt : Stop → Halt fate.Fault UnreadBlock
 stop_halt (NoTree id) = halt_fault (fate.NoTree id)
 stop_halt (Tree f) = halt_of f
-stop_halt (Deletion id) = Broke
-stop_halt Balance = Broke
-stop_halt (Missing id) = Broke
-stop_halt (Image slot) = Broke
-stop_halt Sink = Broke
-stop_halt Out = Broke
-stop_halt Memory = Broke
+stop_halt stop = Broke
 
 -- the answer of a call as the answer of its program
 abbrev pub ended : {A : Type 0} → Result A Stop → Result A (Halt fate.Fault UnreadBlock)

@@ -51,7 +51,8 @@ is_root_of id key = (key.objectid == id) && (key.kind == root_item)
 -- the root in what was found for an id: none where it is another one's item
 abbrev pub root_found : ℕ → Option TreeItem → Lookup (Option TreeRoot)
 root_found id None = Return None
-root_found id (Some item) = if is_root_of id item.key then formed item (root_item_of item.body) (λ root. Return (Some (described item.key root))) else Return None
+root_found id (Some item) =
+    if is_root_of id item.key then formed item (root_item_of item.body) (λ root. Return (Some (described item.key root))) else Return None
 
 -- the root of the tree of an id in a root tree: the ROOT_ITEM with the greatest offset has it
 abbrev pub root_in : RootPlace → ℕ → Lookup (Option TreeRoot)

@@ -6,7 +6,8 @@ ghost use Rattle.btr_read.specs.Serves.{Serves};
 ghost use Rattle.btr_read.specs.Store.{SameLoans, free_count};
 ghost use Rattle.btr_volume.specs.Start.{array_bytes, header_id};
 ghost use Rattle.btr_super.specs.Newest.{newest};
-ghost use Rattle.btr_volume.specs.Opening.{NoneAtFault, ReadsArray, MakesStore, BeginsVolume, Prepares, SupersCause, ReadsTable, TableCause, Opens, OpenCause, IsFresh};
+ghost use Rattle.btr_volume.specs.Opening.{NoneAtFault, ReadsArray, MakesStore, BeginsVolume, Prepares, SupersCause, ReadsTable, TableCause, Opens};
+ghost use Rattle.btr_volume.specs.Opening.{OpenCause, IsFresh};
 
 use crate::devices::add_devices;
 use crate::refusing::test_supers;

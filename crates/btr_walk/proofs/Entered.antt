@@ -43,7 +43,9 @@ module _ (lo hi : Key) (B : Map) where
   enter_leaf (suc n) spot block part leaf p e rest = let l = leaf.zero_level in absurd (omega (arith, l))
 
   -- a leaf that is in hand
-  pub held_leaf : (level : ℕ) (spot : Spot) (block : List ℕ) (store : Blocks) (next end : ℕ) (loan : Lent) (seen : List Want) → IsLeafAt level spot block → block_of store loan ≡ Some block → B (want_of level spot) ≡ Ok block → Contains seen (want_of level spot) → IsHeld B seen store (record { spot = spot; next = next; end = end; loan = loan })
+  pub held_leaf : (level : ℕ) (spot : Spot) (block : List ℕ) (store : Blocks) (next end : ℕ) (loan : Lent) (seen : List Want) → IsLeafAt level spot block
+      → block_of store loan ≡ Some block → B (want_of level spot) ≡ Ok block → Contains seen (want_of level spot)
+      → IsHeld B seen store (record { spot = spot; next = next; end = end; loan = loan })
   held_leaf level spot block store next end loan seen leaf lent e c = record {
     block = block;
     lent = lent;
@@ -70,8 +72,11 @@ module _ (lo hi : Key) (B : Map) where
       ∙ ap (λ (x : ℕ). first (Wants (want_of (suc n) spot)) (exec B (over lo hi (range_at lo hi x) (pointers block) spot.up rest))) m
 
   -- the children that were chosen, and the first of them
-  module _ (todo : Todo) (block : List ℕ) (part : Part) (b : Below) (inner : IsInnerAt todo.level todo.spot block) (c : IsChoice lo hi (pointers block) part) (first_is : IsFirstBelow (pointers block) todo part b) (e : B (want_of todo.level todo.spot) ≡ Ok block) (up : is_below todo.spot.up lo ≡ true) where
-    abbrev chosen : (seen : List Want) → Contains seen (want_of todo.level todo.spot) → part.next < part.end → IsFrame lo hi B seen todo.level (record { spot = todo.spot; next = part.next; end = part.end })
+  module _ (todo : Todo) (block : List ℕ) (part : Part) (b : Below) (inner : IsInnerAt todo.level todo.spot block)
+      (c : IsChoice lo hi (pointers block) part) (first_is : IsFirstBelow (pointers block) todo part b) (e : B (want_of todo.level todo.spot) ≡ Ok block)
+      (up : is_below todo.spot.up lo ≡ true) where
+    abbrev chosen : (seen : List Want) → Contains seen (want_of todo.level todo.spot) → part.next < part.end
+        → IsFrame lo hi B seen todo.level (record { spot = todo.spot; next = part.next; end = part.end })
     chosen seen read lt = record {
       node = record { block = block; came = e; is = inner.is; read = read; more = lt; within = c.within };
       up = up;
@@ -82,7 +87,8 @@ module _ (lo hi : Key) (B : Map) where
 
     again : (seen : List Want) → Contains seen (want_of todo.level todo.spot) → part.next < part.end
         → IsAgainBelow lo hi B todo.level (record { spot = todo.spot; next = part.next; end = part.end }) seen b
-    again seen read lt = again_as lo hi B todo.level (record { spot = todo.spot; next = part.next; end = part.end }) seen (chosen seen read lt) b.frame b.todo (first_is.some lt)
+    again seen read lt = again_as lo hi B todo.level (record { spot = todo.spot; next = part.next; end = part.end }) seen
+        (chosen seen read lt) b.frame b.todo (first_is.some lt)
 
     pub enter_inner : (rest : RangeProg) → exec B (range_at lo hi todo.level todo.spot rest)
         ≡ first (Wants (want_of todo.level todo.spot)) (exec B (todo_prog lo hi b.todo (frame_or (frame_prog lo hi B) todo.level b.frame rest)))

@@ -57,7 +57,8 @@ module _ {P : Type 0} (left : ℕ → Frame → P → P) (end : P) where
 
   -- no frame stands at a place or below it
   pub path_bare : (i : ℕ) (fs : List (Option Frame)) → i < length fs → ((k : ℕ) → k < suc i → get_or fs k None ≡ None) → path_of left end 0 fs ≡ behind i fs
-  path_bare i fs lt h = let e : 0 + suc i ≡ i + 1 = omega arith in path_clear 0 (suc i) fs (omega (arith, lt)) h ∙ ap (λ l. path_of left end l (drop (suc i) fs)) e
+  path_bare i fs lt h =
+      let e : 0 + suc i ≡ i + 1 = omega arith in path_clear 0 (suc i) fs (omega (arith, lt)) h ∙ ap (λ l. path_of left end l (drop (suc i) fs)) e
 
   -- no frame is left
   pub path_none : (m : ℕ) (fs : List (Option Frame)) → ((k : ℕ) → get_or fs k None ≡ None) → path_of left end m fs ≡ end
@@ -71,7 +72,8 @@ pub frames_set : (P Q : ℕ → Frame → Type 0) (fs : List (Option Frame)) (i 
 frames_set P Q fs i o lt weaker h g k = elim (cases_eq k i) [
   | inl e ↦ subst (λ (j : ℕ). IfSome (get_or (set fs i o) j None) (Q (j + 1))) (sym e)
       (subst (λ x. IfSome x (Q (i + 1))) (sym (get_or-set_same fs i o None lt)) g)
-  | inr ne ↦ subst (λ x. IfSome x (Q (k + 1))) (sym (get_or-set_other fs i k o None ne)) (if_weaker (P (k + 1)) (Q (k + 1)) (weaker (k + 1)) (get_or fs k None) (h k))
+  | inr ne ↦ subst (λ x. IfSome x (Q (k + 1))) (sym (get_or-set_other fs i k o None ne))
+      (if_weaker (P (k + 1)) (Q (k + 1)) (weaker (k + 1)) (get_or fs k None) (h k))
 ]
   where
     if_weaker : (P Q : Frame → Type 0) → ((f : Frame) → P f → Q f) → (x : Option Frame) → IfSome x P → IfSome x Q

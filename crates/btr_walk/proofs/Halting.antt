@@ -36,7 +36,16 @@ module _ {S A : Type 0} (Is : UnreadBlock → Want → Type 0) (B : Map) where
 
   unread : (w : Want) (u : UnreadBlock) (k : List ℕ → Prog Want fate.Fault S A) (seen : List Want) → Is u w
       → Follows Is no_part seen (exec B (Need w k)) [] (Err (Unread u))
-  unread w u k seen e = record { before = Wants w ∷ []; behind = (given (B w) (λ b. exec B (k b))).marks; left = None; place = refl; steps = refl; leaves = tt; holds = names_last Is u seen w e }
+  unread w u k seen e =
+      record {
+        before = Wants w ∷ [];
+        behind = (given (B w) (λ b. exec B (k b))).marks;
+        left = None;
+        place = refl;
+        steps = refl;
+        leaves = tt;
+        holds = names_last Is u seen w e;
+      }
 
   -- a block of a level at a spot that could not be had, or does not fit, ends what wants it
   pub need_halts : (level : ℕ) (spot : Spot) (store : Blocks) (f : TreeFault) (k : List ℕ → Prog Want fate.Fault S A) (seen : List Want)
@@ -68,7 +77,8 @@ pub read_still : (Is : UnreadBlock → Want → Type 0) (B : Map) (seen : List W
     (node : Node) → B (want_of level spot) ≡ Ok block → judged level spot block ≡ Some node → Contains seen (want_of level spot)
     → Reads Is B level spot store (Err f) → IsUnreadOf Is seen f
 read_still Is B seen level spot store (tree.Lost a) block node came is read h = let g : Ok block ≡ Err (fate.Lost a) = sym came ∙ h in cc
-read_still Is B seen level spot store (tree.Unread a slot) block node came is read h = named Is (record { addr = a; slot = slot }) seen (want_of level spot) h read
+read_still Is B seen level spot store (tree.Unread a slot) block node came is read h =
+    named Is (record { addr = a; slot = slot }) seen (want_of level spot) h read
 read_still Is B seen level spot store (tree.Unmapped a) block node came is read h = let g : Ok block ≡ Err (fate.Unmapped a) = sym came ∙ h in cc
 read_still Is B seen level spot store (tree.Crosses a) block node came is read h = let g : Ok block ≡ Err (fate.Crosses a) = sym came ∙ h in cc
 read_still Is B seen level spot store (tree.Malformed a) block node came is read h =

@@ -22,9 +22,9 @@ use Rattle.btr_walk.specs.Le.{tree_item, want_of}
 use Rattle.btr_walk.specs.Range.{RangeProg, emit_all}
 use Rattle.btr_walk.specs.Reading.{Map, UnreadBlock, Tells, unread_by, Reads, HasCause, halt_of}
 use Rattle.btr_walk.specs.Scans.{wants, part_items, items_in, kept_items}
-use Rattle.btr_walk.specs.Going.{place_prog, IsAlong, ComesTo, IsOn}
-use Rattle.btr_walk.specs.Leaving.{IsReached, LendsReached, NearsReached}
-use Rattle.btr_walk.specs.Ranks.{IsShaped, rank, StepNears}
+use Rattle.btr_walk.specs.Going.{place_prog, IsAlong, GoesOnHolding, IsOn}
+use Rattle.btr_walk.specs.Leaving.{IsReached, LendsReached, RankFallsReached}
+use Rattle.btr_walk.specs.Ranks.{IsShaped, rank, StepRankFalls}
 use Rattle.btr_walk.specs.Advancing.{arrived, HasItem, Lends, hand_items, hand_prog, leaf_prog, left, Meets, AdvancesBy, FromPlace, FromHand, IsAdvanced}
 use Rattle.btr_prog.proofs.Follow.{follows_as}
 use Rattle.btr_walk.proofs.Halting.{read_still, same_block, unread_halts}
@@ -68,11 +68,12 @@ module _ (lo hi : Key) (B : Map) where
       }
 
   -- a leaf that was reached
-  pub meets_reached : (Is : UnreadBlock → Want → Type 0) (from after : Where) (store : Blocks) (l : LeafAt) → IsInHand store l → l.next < l.end → IsReached lo hi Is B from after store (Ok (Some l)) → FromPlace lo hi Is B from after store (record { leaf = Some (behind_next l); met = Ok true })
+  pub meets_reached : (Is : UnreadBlock → Want → Type 0) (from after : Where) (store : Blocks) (l : LeafAt) → IsInHand store l → l.next < l.end
+      → IsReached lo hi Is B from after store (Ok (Some l)) → FromPlace lo hi Is B from after store (record { leaf = Some (behind_next l); met = Ok true })
   meets_reached Is from after store l hand lt h seen on = at_block (block_of store l.loan) refl (h seen on)
     where
       at_block : (o : Option (List ℕ)) → block_of store l.loan ≡ o
-          → IsSomeAnd o (λ block. ComesTo lo hi B seen from (emit_all (part_items l.spot.addr block l.next l.end) (place_prog lo hi B after)) after
+          → IsSomeAnd o (λ block. GoesOnHolding lo hi B seen from (emit_all (part_items l.spot.addr block l.next l.end) (place_prog lo hi B after)) after
           store l) → Meets lo hi (Unit {0}) B seen (place_prog lo hi B from) store (behind_next l) after
       at_block None is g = absurd g
       at_block (Some block) is g =
@@ -81,7 +82,8 @@ module _ (lo hi : Key) (B : Map) where
           (c.is ∙ ap (λ x. prepend (wants c.past) (exec B (emit_all (hand_items x l) (place_prog lo hi B after)))) (sym is)) c.on hand.good lt (λ u. g.held)
 
   -- the leaf in hand has one more
-  pub meets_hand : (Is : UnreadBlock → Want → Type 0) (store : Blocks) (l : LeafAt) (place : Where) → IsInHand store l → l.next < l.end → FromHand lo hi Is B place place l store store (record { leaf = Some (behind_next l); met = Ok true })
+  pub meets_hand : (Is : UnreadBlock → Want → Type 0) (store : Blocks) (l : LeafAt) (place : Where) → IsInHand store l → l.next < l.end
+      → FromHand lo hi Is B place place l store store (record { leaf = Some (behind_next l); met = Ok true })
   meets_hand Is store l place hand lt seen on =
       meets_in (IsHeld B seen store l) seen [] (hand_prog store l (place_prog lo hi B place)) store l place (block_of store l.loan) refl refl
       (subst (λ (x : List Want). IsAlong lo hi B x place) (sym (append-nil seen)) on) hand.good lt
@@ -92,7 +94,8 @@ module _ (lo hi : Key) (B : Map) where
       (leaf : Option LeafAt) (met : Result Bool TreeFault) → ((u : UnreadBlock) (w : Want) → Is u w → Less u w) → (then → was) → exec B a ≡ exec B b
       → AdvancesBy lo hi was Is B seen b store place leaf met → AdvancesBy lo hi then Less B seen a store place leaf met
   advances_as was then Is Less seen a b store place None (Ok true) weaker f e h = absurd h
-  advances_as was then Is Less seen a b store place (Some l) (Ok true) weaker f e h = record { past = h.past; item = h.item; is = e ∙ h.is; on = h.on; some = h.some; at = h.at; held = λ t. h.held (f t) }
+  advances_as was then Is Less seen a b store place (Some l) (Ok true) weaker f e h =
+      record { past = h.past; item = h.item; is = e ∙ h.is; on = h.on; some = h.some; at = h.at; held = λ t. h.held (f t) }
   advances_as was then Is Less seen a b store place None (Ok false) weaker f e h = subst (λ r. Follows Less no_part seen r [] (Ok tt)) (sym e)
       (follows_as Is Less weaker no_part seen (exec B b) [] (Ok tt) h)
   advances_as was then Is Less seen a b store place (Some l) (Ok false) weaker f e h = subst (λ r. Follows Less no_part seen r [] (Ok tt)) (sym e)
@@ -117,9 +120,9 @@ module _ (lo hi : Key) (B : Map) where
       a.leaf a.met (λ u w x. x) (λ t. tt) (hand_none store l place (block_of store l.loan) refl hand.good le) (h seen on)
 
   -- a leaf is in hand, or none is, and none was given back
-  pub with_hand : (Is : UnreadBlock → Want → Type 0) (old new : Blocks) (leaf : Option LeafAt) (l : LeafAt) (place : ScanPlace) (after : Where)
+  pub with_leaf_in_hand : (Is : UnreadBlock → Want → Type 0) (old new : Blocks) (leaf : Option LeafAt) (l : LeafAt) (place : ScanPlace) (after : Where)
       (a : Advanced) → leaf ≡ Some l → FromHand lo hi Is B place.rest after l old new a → IsAdvanced lo hi Is B place after leaf old new a
-  with_hand Is old new leaf l place after a is h seen on =
+  with_leaf_in_hand Is old new leaf l place after a is h seen on =
       advances_as (IsHeld B seen old l) (IfSome leaf (IsHeld B seen old)) Is Is seen (left lo hi B old leaf place)
       (hand_prog old l (place_prog lo hi B place.rest)) new after a.leaf a.met (λ u w x. x) (λ x. subst (λ o. IfSome o (IsHeld B seen old)) is x)
       (ap (λ o. exec B (leaf_prog B old o place.leaf (place_prog lo hi B place.rest))) is) (h seen on.rest)
@@ -146,7 +149,8 @@ module _ (lo hi : Key) (B : Map) where
     kept_is seen on = subst (λ k. IfSome k (IsKept B seen)) kept on.kept
 
     kept_prog : (old : Blocks) → exec B (left lo hi B old leaf place) ≡ exec B (emit_all (kept_items B frame) (place_prog lo hi B place.rest))
-    kept_prog old = let rest = place_prog lo hi B place.rest in ap (λ o. exec B (leaf_prog B old o place.leaf rest)) is ∙ ap (λ k. exec B (leaf_prog B old None k rest)) kept
+    kept_prog old = let rest = place_prog lo hi B place.rest in
+        ap (λ o. exec B (leaf_prog B old o place.leaf rest)) is ∙ ap (λ k. exec B (leaf_prog B old None k rest)) kept
 
     pub with_kept : (Was Then Is : UnreadBlock → Want → Type 0) (old mid new : Blocks) (l : LeafAt) (after : Where) (a : Advanced)
         → ((u : UnreadBlock) (w : Want) → Then u w → Is u w) → IsLeafOf frame l → IsLeafAgain Was B frame mid (Ok l)
@@ -157,7 +161,8 @@ module _ (lo hi : Key) (B : Map) where
         (hand_prog mid l (place_prog lo hi B place.rest)) new after a.leaf a.met weaker (λ x. held)
         (kept_prog old ∙ ap (λ x. exec B (emit_all x (place_prog lo hi B place.rest))) (again_items seen mid l frame same held)) (h seen on.rest)
 
-    pub kept_halts : (Is : UnreadBlock → Want → Type 0) (old new : Blocks) (f : TreeFault) → IsLeafAgain Is B frame new (Err f) → IsAdvanced lo hi Is B place place.rest leaf old new (record { leaf = None; met = Err f })
+    pub kept_halts : (Is : UnreadBlock → Want → Type 0) (old new : Blocks) (f : TreeFault) → IsLeafAgain Is B frame new (Err f)
+        → IsAdvanced lo hi Is B place place.rest leaf old new (record { leaf = None; met = Err f })
     kept_halts Is old new f h seen on = unread_halts Is seen f (exec B (left lo hi B old leaf place)) (h seen (kept_is seen on))
 
 -- a leaf that is read again
@@ -198,8 +203,8 @@ module _ (old new : Blocks) where
   item_arrived None same = refl
   item_arrived (Some l) t = (omega arith, omega (arith, t.1))
 
-  pub nears_arrived : (place after : Where) (o : Option LeafAt) → LendsReached old new (Ok o) → NearsReached place after (Ok o)
-      → StepNears (2 ^ 64 * rank place) after (arrived o).leaf (arrived o).met
+  pub nears_arrived : (place after : Where) (o : Option LeafAt) → LendsReached old new (Ok o) → RankFallsReached place after (Ok o)
+      → StepRankFalls (2 ^ 64 * rank place) after (arrived o).leaf (arrived o).met
   nears_arrived place after None t n = tt
   nears_arrived place after (Some l) t n = let small = t.0.hand.small in omega (arith, n.1, small)
 
@@ -216,7 +221,7 @@ pub no_cause_arrived : (layout : Layout) (before now : Seen) (o : Option LeafAt)
 no_cause_arrived layout before now None = tt
 no_cause_arrived layout before now (Some l) = tt
 
-pub shaped_arrived : (place after : Where) (o : Option LeafAt) → NearsReached place after (Ok o) → IsShaped after × (rank after ≤ rank place)
+pub shaped_arrived : (place after : Where) (o : Option LeafAt) → RankFallsReached place after (Ok o) → IsShaped after × (rank after ≤ rank place)
 shaped_arrived place after None n = n
 shaped_arrived place after (Some l) n = (n.0, omega (arith, n.1))
 

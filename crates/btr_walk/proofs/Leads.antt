@@ -7,7 +7,7 @@ use Rattle.btr_prog.specs.Answers.{Halt, Follows, no_part}
 use Rattle.btr_prog.proofs.Follow.{follows_as}
 use Rattle.btr_read.specs.Fate as fate
 use Rattle.btr_read.specs.Store.{Blocks, SameLoans, block_of}
-use Rattle.btr_walk.specs.Ranks.{IsShaped, Nears, rank}
+use Rattle.btr_walk.specs.Ranks.{IsShaped, RankFalls, rank}
 use Rattle.btr_read.specs.declared.want.Want.{Want}
 use Rattle.btr_walk.specs.declared.fault.TreeFault.{TreeFault}
 use Rattle.btr_walk.specs.declared.going.Gone.TheVariants as gone
@@ -16,7 +16,7 @@ use Rattle.btr_walk.specs.Le.{TreeItem}
 use Rattle.btr_walk.specs.Range.{RangeProg, emit_all}
 use Rattle.btr_walk.specs.Reading.{Map, UnreadBlock, halt_of}
 use Rattle.btr_walk.specs.Scans.{wants, part_items}
-use Rattle.btr_walk.specs.Going.{place_prog, IsAlong, Comes, ComesTo, IsGone, LendsGone}
+use Rattle.btr_walk.specs.Going.{place_prog, IsAlong, GoesOnTo, GoesOnHolding, IsGone, LendsGone}
 use Rattle.btr_walk.specs.Leaving.{IsReached}
 use Rattle.btr_walk.proofs.Items.{part_none}
 use Rattle.btr_walk.proofs.Marks.{behind_wants, past_both}
@@ -26,11 +26,11 @@ use Rattle.btr_walk.specs.Hand.{IsHeld, LendsHand}
 module _ (lo hi : Key) (B : Map) where
   -- from whatever was seen before
   abbrev pub Leads : Where → Where → Type 0
-  Leads from to = (seen : List Want) → IsAlong lo hi B seen from → Comes lo hi B seen from (place_prog lo hi B to) to
+  Leads from to = (seen : List Want) → IsAlong lo hi B seen from → GoesOnTo lo hi B seen from (place_prog lo hi B to) to
 
   -- one after another
-  abbrev comes_then : (seen : List Want) (from at : Where) (c : RangeProg) (after : Where) → (x : Comes lo hi B seen from (place_prog lo hi B at) at)
-      → Comes lo hi B (seen ++ x.past) at c after → Comes lo hi B seen from c after
+  abbrev comes_then : (seen : List Want) (from at : Where) (c : RangeProg) (after : Where) → (x : GoesOnTo lo hi B seen from (place_prog lo hi B at) at)
+      → GoesOnTo lo hi B (seen ++ x.past) at c after → GoesOnTo lo hi B seen from c after
   comes_then seen from at c after x y = record {
     past = x.past ++ y.past;
     is = x.is ∙ ap (prepend (wants x.past)) y.is ∙ past_both x.past y.past (exec B c);
@@ -49,10 +49,11 @@ module _ (lo hi : Key) (B : Map) where
       let x = lead seen on in
       both (block_of store l.loan) x (g (seen ++ x.past) x.on)
     where
-      both : (o : Option (List ℕ)) (x : Comes lo hi B seen from (place_prog lo hi B at) at)
-          → IsSomeAnd o (λ block. ComesTo lo hi B (seen ++ x.past) at
+      both : (o : Option (List ℕ)) (x : GoesOnTo lo hi B seen from (place_prog lo hi B at) at)
+          → IsSomeAnd o (λ block. GoesOnHolding lo hi B (seen ++ x.past) at
           (emit_all (part_items l.spot.addr block l.next l.end) (place_prog lo hi B after)) after store l)
-          → IsSomeAnd o (λ block. ComesTo lo hi B seen from (emit_all (part_items l.spot.addr block l.next l.end) (place_prog lo hi B after)) after store l)
+          → IsSomeAnd o (λ block. GoesOnHolding lo hi B seen from (emit_all (part_items l.spot.addr block l.next l.end)
+          (place_prog lo hi B after)) after store l)
       both None x h = absurd h
       both (Some block) x h =
           let c = h.comes in
@@ -68,19 +69,19 @@ module _ (lo hi : Key) (B : Map) where
       let x = lead seen on in
       empty (block_of store l.loan) x (g (seen ++ x.past) x.on)
     where
-      empty : (o : Option (List ℕ)) (x : Comes lo hi B seen from (place_prog lo hi B at) at)
-          → IsSomeAnd o (λ block. ComesTo lo hi B (seen ++ x.past) at
+      empty : (o : Option (List ℕ)) (x : GoesOnTo lo hi B seen from (place_prog lo hi B at) at)
+          → IsSomeAnd o (λ block. GoesOnHolding lo hi B (seen ++ x.past) at
           (emit_all (part_items l.spot.addr block l.next l.end) (place_prog lo hi B after)) after store l)
-          → Comes lo hi B seen from (place_prog lo hi B after) after
+          → GoesOnTo lo hi B seen from (place_prog lo hi B after) after
       empty None x h = absurd h
       empty (Some block) x h =
           comes_then seen from at (place_prog lo hi B after) after x
-          (subst (λ (items : List TreeItem). Comes lo hi B (seen ++ x.past) at (emit_all items (place_prog lo hi B after)) after)
+          (subst (λ (items : List TreeItem). GoesOnTo lo hi B (seen ++ x.past) at (emit_all items (place_prog lo hi B after)) after)
           (part_none l.spot.addr block l.next l.end le) h.comes)
 
   -- what is answered from here is answered from the beginning
   follows_from : (Is : UnreadBlock → Want → Type 0) (seen : List Want) (from at : Where) (ans : Result (Unit {0}) (Halt fate.Fault UnreadBlock))
-      → (x : Comes lo hi B seen from (place_prog lo hi B at) at) → Follows Is no_part (seen ++ x.past) (exec B (place_prog lo hi B at)) [] ans
+      → (x : GoesOnTo lo hi B seen from (place_prog lo hi B at) at) → Follows Is no_part (seen ++ x.past) (exec B (place_prog lo hi B at)) [] ans
       → Follows Is no_part seen (exec B (place_prog lo hi B from)) [] ans
   follows_from Is seen from at ans x h =
       behind_wants Is seen x.past (exec B (place_prog lo hi B from)) no_part (exec B (place_prog lo hi B at)) [] ans x.is h
@@ -99,14 +100,14 @@ gone_lent old new x l e h = subst (λ y. LendsGone old new (Ok y)) e h
 pub gone_same : (old new : Blocks) (x : _) → x ≡ gone.Between → LendsGone old new (Ok x) → SameLoans old new
 gone_same old new x e h = subst (λ y. LendsGone old new (Ok y)) e h
 
-pub gone_near : (place after : Where) (x : _) (l : LeafAt) → x ≡ gone.Leaf l → Nears place after (Ok x) → IsShaped after × (rank after < rank place)
-gone_near place after x l e h = subst (λ y. Nears place after (Ok y)) e h
+pub gone_near : (place after : Where) (x : _) (l : LeafAt) → x ≡ gone.Leaf l → RankFalls place after (Ok x) → IsShaped after × (rank after < rank place)
+gone_near place after x l e h = subst (λ y. RankFalls place after (Ok y)) e h
 
-pub gone_near_between : (place after : Where) (x : _) → x ≡ gone.Between → Nears place after (Ok x) → IsShaped after × (rank after < rank place)
-gone_near_between place after x e h = subst (λ y. Nears place after (Ok y)) e h
+pub gone_near_between : (place after : Where) (x : _) → x ≡ gone.Between → RankFalls place after (Ok x) → IsShaped after × (rank after < rank place)
+gone_near_between place after x e h = subst (λ y. RankFalls place after (Ok y)) e h
 
-pub gone_at_end : (place after : Where) (x : _) → x ≡ gone.End → Nears place after (Ok x) → after ≡ place
-gone_at_end place after x e h = subst (λ y. Nears place after (Ok y)) e h
+pub gone_at_end : (place after : Where) (x : _) → x ≡ gone.End → RankFalls place after (Ok x) → after ≡ place
+gone_at_end place after x e h = subst (λ y. RankFalls place after (Ok y)) e h
 
 -- less may be said of a block that could not be read
 pub gone_as : (lo hi : Key) (B : Map) (Is Less : UnreadBlock → Want → Type 0) (place after : Where) (store : Blocks) (result : Result _ TreeFault)

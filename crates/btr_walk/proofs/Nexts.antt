@@ -24,7 +24,7 @@ use Rattle.btr_walk.specs.Scans.{wants, items_in, kept_items}
 use Rattle.btr_walk.specs.Showing.{item_of}
 use Rattle.btr_walk.specs.Lending.{base}
 use Rattle.btr_walk.specs.Advancing.{hand_items, hand_prog, leaf_prog, left, HasItem, Meets, AdvancesBy, IsAdvanced}
-use Rattle.btr_walk.specs.Ranks.{IsShaped, rank, rank_leaf, rank_on, StepNears}
+use Rattle.btr_walk.specs.Ranks.{IsShaped, rank, rank_leaf, rank_on, StepRankFalls}
 use Rattle.btr_walk.specs.Going.{place_prog}
 use Rattle.btr_walk.specs.ScanEnds.{left_of, HoldsLeaf, WasMet, Gives, IsNextOn, IsScanReady, Scanned, Paused, rank_of}
 use Rattle.btr_walk.proofs.Joined.{drawn, block_is}
@@ -148,9 +148,9 @@ keeps_item leaf leaf' l met same is e h =
 
 -- the scan came nearer to its end
 pub near_some : (scan : Scan) (taken leaf' : Option LeafAt) (after : Where) (a : Advanced) → taken ≡ scan.leaf → leaf' ≡ a.leaf
-    → StepNears (rank_on scan.place taken) after a.leaf a.met → a.met ≡ Ok true → rank_of (scan_at scan (in_hand after) leaf') < rank_of scan
+    → StepRankFalls (rank_on scan.place taken) after a.leaf a.met → a.met ≡ Ok true → rank_of (scan_at scan (in_hand after) leaf') < rank_of scan
 near_some scan taken leaf' after a is_taken is_leaf h e =
-    let g : 2 ^ 64 * rank after + rank_leaf a.leaf None < rank_on scan.place taken = subst (λ m. StepNears (rank_on scan.place taken) after a.leaf m) e h in
+    let g : 2 ^ 64 * rank after + rank_leaf a.leaf None < rank_on scan.place taken = subst (λ m. StepRankFalls (rank_on scan.place taken) after a.leaf m) e h in
     let x : rank_leaf taken scan.place.leaf ≡ rank_leaf scan.leaf scan.place.leaf = ap (λ l. rank_leaf l scan.place.leaf) is_taken in
     let y : rank_leaf leaf' None ≡ rank_leaf a.leaf None = ap (λ l. rank_leaf l None) is_leaf in
     omega (arith, g, x, y)

@@ -43,7 +43,8 @@ module _ (B : Map) where
   at_end place none clear = ap (λ t. todo_blocks t (path_blocks B 0 place.path)) none ∙ path_none (frame_blocks B) (Return tt) 0 place.path clear
 
   -- the beginning
-  pub begun : (root : RootPlace) (place : Where) → place.todo ≡ Some (record { level = root.level; spot = root_spot root }) → ((k : ℕ) → get_or place.path k None ≡ None) → place_blocks B place ≡ blocks root
+  pub begun : (root : RootPlace) (place : Where) → place.todo ≡ Some (record { level = root.level; spot = root_spot root })
+      → ((k : ℕ) → get_or place.path k None ≡ None) → place_blocks B place ≡ blocks root
   begun root place is clear = ap (λ t. todo_blocks t (path_blocks B 0 place.path)) is
       ∙ ap (blocks_at root.level (root_spot root)) (path_none (frame_blocks B) (Return tt) 0 place.path clear)
 
@@ -166,7 +167,10 @@ module _ (B : Map) where
       ∙ ap (λ (x : List KeyPointer). first (Wants (want_of (suc n) spot))
       (first (Does (tree_block (suc n) spot block)) (exec B (each (blocks_at (suc n - 1)) x spot.up rest)))) (sym (ap pointers_in e))
 
-  pub enters_leaf : (ahead : Ahead) (block : List ℕ) (seen : List Want) → IsLeafAt ahead.todo.level ahead.todo.spot block → B (want_of ahead.todo.level ahead.todo.spot) ≡ Ok block → IsAmong B seen (place_of ahead) → Enters B seen (place_of ahead) (record { path = ahead.path; todo = None }) (want_of ahead.todo.level ahead.todo.spot) (tree_block ahead.todo.level ahead.todo.spot block)
+  pub enters_leaf : (ahead : Ahead) (block : List ℕ) (seen : List Want) → IsLeafAt ahead.todo.level ahead.todo.spot block
+      → B (want_of ahead.todo.level ahead.todo.spot) ≡ Ok block → IsAmong B seen (place_of ahead)
+      → Enters B seen (place_of ahead) (record { path = ahead.path; todo = None }) (want_of ahead.todo.level ahead.todo.spot)
+      (tree_block ahead.todo.level ahead.todo.spot block)
   enters_leaf ahead block seen leaf e on =
       let w : Want = want_of ahead.todo.level ahead.todo.spot in
       record {
@@ -183,7 +187,8 @@ module _ (B : Map) where
       → IsInnerAt ahead.todo.level ahead.todo.spot block → 0 < length (pointers block) → path' ≡ set ahead.path (ahead.todo.level - 1) b.frame
       → IsNextBelow (pointers block) ahead.todo.level (whole_node ahead.todo.spot block) b.frame b.todo → B (want_of ahead.todo.level ahead.todo.spot)
       ≡ Ok block → IsAmong B seen (place_of ahead)
-      → Enters B seen (place_of ahead) (record { path = path'; todo = b.todo }) (want_of ahead.todo.level ahead.todo.spot) (tree_block ahead.todo.level ahead.todo.spot block)
+      → Enters B seen (place_of ahead) (record { path = path'; todo = b.todo }) (want_of ahead.todo.level ahead.todo.spot)
+      (tree_block ahead.todo.level ahead.todo.spot block)
   enters_node ahead block seen b path' long inner more set_is n e on =
       let level : ℕ = ahead.todo.level in
       let spot : Spot = ahead.todo.spot in
@@ -195,9 +200,13 @@ module _ (B : Map) where
       let up : i + 1 ≡ level = omega (arith, some) in
       let clear : (k : ℕ) → k < i → get_or ahead.path k None ≡ None = λ k lt. on.above k (omega (arith, lt)) in
       let d : KeyPointer = record { key = record { objectid = 0; kind = 0; offset = 0 }; addr = 0; generation = 0 } in
-      let old : path_blocks B 0 ahead.path ≡ rest_behind i ahead.path = path_bare (frame_blocks B) (Return tt) i ahead.path within (λ k lt. on.above k (omega (arith, lt, up))) in
-      let new : path_blocks B 0 path' ≡ frame_or (frame_blocks B) level b.frame (rest_behind i ahead.path) = path_set (frame_blocks B) (Return tt) i ahead.path path' b.frame within clear set_is ∙ ap (λ x. frame_or (frame_blocks B) x b.frame (rest_behind i ahead.path)) up in
-      let f : IsWhole B (seen ++ (w ∷ [])) level (whole_node spot block) = record { node = record { block = block; came = e; is = inner.is; read = last_read seen w; more = more; within = omega arith }; all = refl } in
+      let old : path_blocks B 0 ahead.path ≡ rest_behind i ahead.path =
+      path_bare (frame_blocks B) (Return tt) i ahead.path within (λ k lt. on.above k (omega (arith, lt, up))) in
+      let new : path_blocks B 0 path' ≡ frame_or (frame_blocks B) level b.frame (rest_behind i ahead.path) =
+      path_set (frame_blocks B) (Return tt) i ahead.path path' b.frame within clear set_is
+      ∙ ap (λ x. frame_or (frame_blocks B) x b.frame (rest_behind i ahead.path)) up in
+      let f : IsWhole B (seen ++ (w ∷ [])) level (whole_node spot block) =
+      record { node = record { block = block; came = e; is = inner.is; read = last_read seen w; more = more; within = omega arith }; all = refl } in
       record {
         is = ap (λ x. exec B (blocks_at level spot x)) old
             ∙ node_read level spot block (rest_behind i ahead.path) some inner.is e

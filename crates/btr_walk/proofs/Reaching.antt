@@ -99,11 +99,14 @@ module _ (key other : Key) (le : key_number key ≤ key_number other) where
           → or_here (le_child other ps up) (key_le p.key other) (below p (up_of ps up)) ≡ Some child
       here true is same =
           let one : below p (up_of ps up) ≡ child = cc same in
-          let none : le_child other ps up ≡ None = none_behind ps up (ascends_behind pointer_key p ps asc) (ap (λ (s : Spot). is_below s.up other) one ∙ less) in
+          let none : le_child other ps up ≡ None =
+          none_behind ps up (ascends_behind pointer_key p ps asc) (ap (λ (s : Spot). is_below s.up other) one ∙ less) in
           ap (λ o. or_here o (key_le p.key other) (below p (up_of ps up))) none ∙ ap (λ b. or_here None b (below p (up_of ps up))) (at_or_below p.key is) ∙ same
       here false is same = absurd (cc same)
 
-      of : (o : Option Spot) → le_child key ps up ≡ o → or_here o (key_le p.key key) (below p (up_of ps up)) ≡ Some child → (le_child key ps up ≡ Some child → le_child other ps up ≡ Some child) → or_here (le_child other ps up) (key_le p.key other) (below p (up_of ps up)) ≡ Some child
+      of : (o : Option Spot) → le_child key ps up ≡ o → or_here o (key_le p.key key) (below p (up_of ps up)) ≡ Some child
+          → (le_child key ps up ≡ Some child → le_child other ps up ≡ Some child)
+          → or_here (le_child other ps up) (key_le p.key other) (below p (up_of ps up)) ≡ Some child
       of None is same rest = here (key_le p.key key) refl same
       of (Some later) is same rest =
           let one : later ≡ child = cc same in
@@ -129,7 +132,8 @@ module _ (key other : Key) (le : key_number key ≤ key_number other) where
       here true same = let one : below p (up_of ps up) ≡ child = cc same in pointers_below ps up rest (ap (λ (s : Spot). is_below s.up other) one ∙ less)
       here false same = absurd (cc same)
 
-      of : (o : Option Spot) → le_child key ps up ≡ o → or_here o (key_le p.key key) (below p (up_of ps up)) ≡ Some child → (le_child key ps up ≡ Some child → is_below up other ≡ true) → is_below up other ≡ true
+      of : (o : Option Spot) → le_child key ps up ≡ o → or_here o (key_le p.key key) (below p (up_of ps up)) ≡ Some child
+          → (le_child key ps up ≡ Some child → is_below up other ≡ true) → is_below up other ≡ true
       of None is same further = here (key_le p.key key) same
       of (Some later) is same further = let one : later ≡ child = cc same in further (is ∙ ap Some one)
 
@@ -142,7 +146,8 @@ module _ (key other : Key) (le : key_number key ≤ key_number other) where
       here true is same = let one : y ≡ x = cc same in subst (λ (z : Item). key_number z.key ≤ key_number key) one (leb-true _ _ is)
       here false is same = absurd (cc same)
 
-      of : (o : Option Item) → le_item key ys ≡ o → or_here o (key_le y.key key) y ≡ Some x → (le_item key ys ≡ Some x → key_number x.key ≤ key_number key) → key_number x.key ≤ key_number key
+      of : (o : Option Item) → le_item key ys ≡ o → or_here o (key_le y.key key) y ≡ Some x → (le_item key ys ≡ Some x → key_number x.key ≤ key_number key)
+          → key_number x.key ≤ key_number key
       of None is same rest = here (key_le y.key key) refl same
       of (Some later) is same rest = let one : later ≡ x = cc same in rest (is ∙ ap Some one)
 
@@ -155,7 +160,8 @@ module _ (key other : Key) (le : key_number key ≤ key_number other) where
       → ((d : Item) → le_item key xs ≡ Some (get_or xs i d)) → is_below (next_key (drop (i + 1) xs) up) other ≡ true → (d : Item) → le_item other xs
       ≡ Some (get_or xs i d)
   same_item xs i up lt asc some less d =
-      some_le other xs i d lt (let h = found_le xs (get_or xs i d) (some d) in omega (arith, h, le)) (behind_all (drop (i + 1) xs) up (ascends_from item_key (i + 1) xs asc) less)
+      some_le other xs i d lt (let h = found_le xs (get_or xs i d) (some d) in omega (arith, h, le))
+      (behind_all (drop (i + 1) xs) up (ascends_from item_key (i + 1) xs asc) less)
 
   -- a key below the next item's, or below the bound, is below the leaf's bound
   leaf_below : (xs : List Item) (up : Option Key) → list_all (is_below up) (map item_key xs) ≡ true → is_below (next_key xs up) other ≡ true
@@ -183,7 +189,8 @@ module _ (B : Map) (key : Key) (root : RootPlace) where
       → le_child key (pointers block) spot.up ≡ Some child → B (want_of level spot) ≡ Ok block → Carries (level - 1) child
   carries_down level spot child block carries inner some came other le less same =
       let all = all_below_up level spot block (Inner (pointers block)) inner.is in
-      let too : le_child other (pointers block) spot.up ≡ Some child = same_child key other le (pointers block) spot.up child (ascends-pointers block inner.good) some less in
+      let too : le_child other (pointers block) spot.up ≡ Some child =
+      same_child key other le (pointers block) spot.up child (ascends-pointers block inner.good) some less in
       carries other le (child_below key other le (pointers block) spot.up child all some less)
       (down_at B other level spot child block inner too came ∙ ap (prepend (Wants (want_of level spot) ∷ [])) same
       ∙ sym (down_at B key level spot child block inner some came))

@@ -21,7 +21,8 @@ module _ (lo hi : Key) (B : Map) (level : ℕ) (frame : Frame) (seen : List Want
   in_map = ap pointers_in f.node.came
 
   child_up : (todo : Todo) → IsChild (pointers f.node.block) level frame todo → is_below todo.spot.up lo ≡ true
-  child_up todo c = ap (λ (s : Spot). is_below s.up lo) (c.spot_is (record { key = lo; addr = 0; generation = 0 })) ∙ bound_behind lo (drop (frame.next + 1) (pointers f.node.block)) frame.spot.up f.up f.behind
+  child_up todo c = ap (λ (s : Spot). is_below s.up lo) (c.spot_is (record { key = lo; addr = 0; generation = 0 }))
+      ∙ bound_behind lo (drop (frame.next + 1) (pointers f.node.block)) frame.spot.up f.up f.behind
 
   child_prog : (todo : Todo) → IsChild (pointers f.node.block) level frame todo → (rest : RangeProg) → frame_prog lo hi B level frame rest
       ≡ range_at lo hi todo.level todo.spot (over lo hi (range_at lo hi (level - 1)) (drop (frame.next + 1) (pointers f.node.block)) frame.spot.up rest)
@@ -39,13 +40,15 @@ module _ (lo hi : Key) (B : Map) (level : ℕ) (frame : Frame) (seen : List Want
   later_frame more = record {
     node = record { block = f.node.block; came = f.node.came; is = f.node.is; read = f.node.read; more = more; within = f.node.within };
     up = f.up;
-    behind = all_later (λ (p : KeyPointer). key_number lo < key_number p.key) (frame.next + 1) (frame.next + 1 + 1) (pointers f.node.block) (omega arith) f.behind;
+    behind = all_later (λ (p : KeyPointer). key_number lo < key_number p.key) (frame.next + 1) (frame.next + 1 + 1) (pointers f.node.block)
+        (omega arith) f.behind;
     low = f.low;
     high = f.high;
   }
 
   -- what is left of a frame is its next child, and then the frame behind it
-  pub again_as : (o : Option Frame) (t : Option Todo) → IsNextBelow (pointers f.node.block) level frame o t → IsAgainBelow lo hi B level frame seen (record { frame = o; todo = t })
+  pub again_as : (o : Option Frame) (t : Option Todo) → IsNextBelow (pointers f.node.block) level frame o t
+      → IsAgainBelow lo hi B level frame seen (record { frame = o; todo = t })
   again_as None None h = absurd h
   again_as (Some g) None h = absurd h
   again_as None (Some todo) h = record {

@@ -61,7 +61,8 @@ met_kept : (B : Map) (seen : List Want) (store : Blocks) (item : TreeItem) (leaf
 met_kept B seen store item None kept h held i m = absurd i
 met_kept B seen store item (Some l) kept h held i m =
     let d : Item = record { key = item.key; offset = 0; size = 0; body = [] } in
-    let here = block_is store l.loan held.block (λ block. (l.next ≤ length (items block)) × ((e : Item) → tree_item l.spot.addr (get_or (items block) (l.next - 1) e) ≡ item)) held.lent m in
+    let here = block_is store l.loan held.block (λ block. (l.next ≤ length (items block))
+    × ((e : Item) → tree_item l.spot.addr (get_or (items block) (l.next - 1) e) ≡ item)) held.lent m in
     ap (item_before B) h
     ∙ ap (λ x. slice_get (items_of_leaf x l.spot.addr) (l.next - 1)) held.came
     ∙ item_at l.spot.addr (items held.block) (l.next - 1) item d (omega (arith, here.0, i.0)) (here.1 d)
@@ -82,7 +83,8 @@ rests_is old new scan paused p ready = record {
 }
 
 -- the leaf of the item that was met last is lent again
-pub again_lent : (old new : Blocks) (frame : Frame) (l : LeafAt) → (0 < frame.next) × (frame.next ≤ frame.end) → IsLeafOf frame l → LendsHand old new l → LendsItemAt old new l.loan (l.next - 1)
+pub again_lent : (old new : Blocks) (frame : Frame) (l : LeafAt) → (0 < frame.next) × (frame.next ≤ frame.end) → IsLeafOf frame l → LendsHand old new l
+    → LendsItemAt old new l.loan (l.next - 1)
 again_lent old new frame l some same t = record {
   others = t.others;
   live = t.hand.live;
@@ -100,14 +102,16 @@ again_lent old new frame l some same t = record {
 
 module _ (B : Map) (rest : Rest) (frame : Frame) (is : rest.place.leaf ≡ Some frame) where
   -- the leaf of the item that was met last, lent again, is the one that was read before
-  pub again_met : (Is : UnreadBlock → Want → Type 0) (store : Blocks) (l : LeafAt) → IsLeafOf frame l → IsLeafAgain Is B frame store (Ok l) → IsMetAgain Is B rest store (Ok (record { loan = l.loan; at = l.next - 1 }))
+  pub again_met : (Is : UnreadBlock → Want → Type 0) (store : Blocks) (l : LeafAt) → IsLeafOf frame l → IsLeafAgain Is B frame store (Ok l)
+      → IsMetAgain Is B rest store (Ok (record { loan = l.loan; at = l.next - 1 }))
   again_met Is store l same again seen on =
       let held = again seen (subst (λ k. IfSome k (IsKept B seen)) is on.kept) in
       subst (λ b. IsSomeAnd b (λ block. (item : TreeItem) → item_before B rest.place.leaf ≡ Some item → (d : Item)
       → (get_or (items block) (l.next - 1) d).body ≡ item.body)) (sym held.lent)
       (λ item e d.
       let f : slice_get (map (tree_item frame.spot.addr) (items held.block)) (frame.next - 1) ≡ Some item =
-      sym (ap (λ x. slice_get (items_of_leaf x frame.spot.addr) (frame.next - 1)) (sym (ap (λ (s : Spot). B (want_of 0 s)) same.0) ∙ held.came)) ∙ (sym (ap (item_before B) is) ∙ e) in
+      sym (ap (λ x. slice_get (items_of_leaf x frame.spot.addr) (frame.next - 1)) (sym (ap (λ (s : Spot). B (want_of 0 s)) same.0) ∙ held.came))
+      ∙ (sym (ap (item_before B) is) ∙ e) in
       let g = item_is frame.spot.addr (items held.block) (frame.next - 1) item d f in
       ap (λ k. (get_or (items held.block) (k - 1) d).body) same.1 ∙ ap (λ (i : TreeItem). i.body) g)
 
@@ -116,8 +120,11 @@ module _ (B : Map) (rest : Rest) (frame : Frame) (is : rest.place.leaf ≡ Some 
   again_unread Is store f again seen on = again seen (subst (λ k. IfSome k (IsKept B seen)) is on.kept)
 
 module _ (layout : Layout) (before now : Seen) (store : Blocks) (rest : Rest) (frame : Frame) (is : rest.place.leaf ≡ Some frame) where
-  pub tells_met : (l : LeafAt) → IsLeafOf frame l → Tells layout before now (λ B. IsLeafAgain (unread_by layout before now) B frame store (Ok l)) → Tells layout before now (λ B. IsMetAgain (unread_by layout before now) B rest store (Ok (record { loan = l.loan; at = l.next - 1 })))
-  tells_met l same t = drawn layout (λ B. IsLeafAgain (unread_by layout before now) B frame store (Ok l)) (λ B. IsMetAgain (unread_by layout before now) B rest store (Ok (record { loan = l.loan; at = l.next - 1 }))) (λ B h. again_met B rest frame is (unread_by layout before now) store l same h) t
+  pub tells_met : (l : LeafAt) → IsLeafOf frame l → Tells layout before now (λ B. IsLeafAgain (unread_by layout before now) B frame store (Ok l))
+      → Tells layout before now (λ B. IsMetAgain (unread_by layout before now) B rest store (Ok (record { loan = l.loan; at = l.next - 1 })))
+  tells_met l same t = drawn layout (λ B. IsLeafAgain (unread_by layout before now) B frame store (Ok l))
+      (λ B. IsMetAgain (unread_by layout before now) B rest store (Ok (record { loan = l.loan; at = l.next - 1 })))
+      (λ B h. again_met B rest frame is (unread_by layout before now) store l same h) t
 
   pub tells_unread : (f : TreeFault) → Tells layout before now (λ B. IsLeafAgain (unread_by layout before now) B frame store (Err f))
       → Tells layout before now (λ B. IsMetAgain (unread_by layout before now) B rest store (Err f))

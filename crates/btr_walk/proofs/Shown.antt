@@ -20,12 +20,14 @@ use Rattle.btr_walk.specs.Showing.{item_of, FindsItem}
 use Rattle.btr_walk.specs.Lending.{IsLentOnly}
 use Rattle.btr_walk.proofs.Joined.{drawn, block_is}
 
-module _ (Is : UnreadBlock → Want → Type 0) (root : RootPlace) (key : Key) (store : Blocks) (spotted : Spotted) (found : Found) (block : List ℕ) (is : block_of store spotted.loan ≡ Some block) (at : (d : Item) → tree_item spotted.leaf (get_or (items block) spotted.at d) ≡ item_of found) where
+module _ (Is : UnreadBlock → Want → Type 0) (root : RootPlace) (key : Key) (store : Blocks) (spotted : Spotted) (found : Found) (block : List ℕ)
+    (is : block_of store spotted.loan ≡ Some block) (at : (d : Item) → tree_item spotted.leaf (get_or (items block) spotted.at d) ≡ item_of found) where
   shown_as : (B : Map) (shown : Result (Option TreeItem) TreeFault) → Shows store (Ok (Some spotted)) shown
       → Follows {S = ⊥} Is no_part [] (exec B (le root key)) [] (answer_of shown) → FindsItem Is B root key (Ok (Some found))
   shown_as B (Ok (Some item)) s f =
       let d : Item = record { key = key; offset = 0; size = 0; body = [] } in
-      let here : tree_item spotted.leaf (get_or (items block) spotted.at d) ≡ item = block_is store spotted.loan block (λ b. (e : Item) → tree_item spotted.leaf (get_or (items b) spotted.at e) ≡ item) is s d in
+      let here : tree_item spotted.leaf (get_or (items block) spotted.at d) ≡ item =
+      block_is store spotted.loan block (λ b. (e : Item) → tree_item spotted.leaf (get_or (items b) spotted.at e) ≡ item) is s d in
       let same : item ≡ item_of found = sym here ∙ at d in
       subst (λ (x : TreeItem). Follows {S = ⊥} Is no_part [] (exec B (le root key)) [] (Ok (Some x))) same f
   shown_as B (Ok None) s f = absurd s
@@ -51,5 +53,6 @@ lent_only rack old new spotted o serves t e = subst (IsLentOnly rack old new) (s
 pub same_lent : (a b : Lent) (o : Option Lent) → o ≡ Some a → o ≡ Some b → a ≡ b
 same_lent a b o e f = let g : Some a ≡ Some b = sym e ∙ f in cc
 
-pub lends_is : (old new : Blocks) (o : Option Spotted) (spotted : Spotted) → o ≡ Some spotted → LendsItem old new (Ok o) → LendsItemAt old new spotted.loan spotted.at
+pub lends_is : (old new : Blocks) (o : Option Spotted) (spotted : Spotted) → o ≡ Some spotted → LendsItem old new (Ok o)
+    → LendsItemAt old new spotted.loan spotted.at
 lends_is old new o spotted e h = subst (λ x. LendsItem old new (Ok x)) e h

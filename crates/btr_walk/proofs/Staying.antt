@@ -73,8 +73,10 @@ hand_same old new (Some l) same h = record {
 }
 
 -- and it stays ready
-pub ready_same : (before now : Seen) (old new : Blocks) (scan : Scan) → SameLoans old new → Serves now new → IsScanReady before old scan → IsScanReady now new scan
-ready_same before now old new scan same serves ready = record { serves = serves; hand = hand_same old new scan.leaf same ready.hand; shaped = ready.shaped; alone = ready.alone }
+pub ready_same : (before now : Seen) (old new : Blocks) (scan : Scan) → SameLoans old new → Serves now new → IsScanReady before old scan
+    → IsScanReady now new scan
+ready_same before now old new scan same serves ready =
+    record { serves = serves; hand = hand_same old new scan.leaf same ready.hand; shaped = ready.shaped; alone = ready.alone }
 
 -- the loans but for one
 pub base_same : (old new : Blocks) (loan : Option Lent) → SameLoans old new → SameLoans (base old loan) (base new loan)

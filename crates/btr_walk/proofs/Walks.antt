@@ -18,7 +18,8 @@ use Rattle.btr_walk.specs.Le.{want_of}
 use Rattle.btr_walk.specs.Lending.{base}
 use Rattle.btr_walk.specs.Ranks.{IsShaped, rank}
 use Rattle.btr_walk.specs.Reading.{Map, UnreadBlock, Tells, unread_by, FaultCause, halt_of}
-use Rattle.btr_walk.specs.Preorder.{place_blocks, place_of, IsAhead, Enters, IsEntry, GivesBlock, IsStep, NearsStep, LendsBlock, LendsStep, IsNextBlock, Walked}
+use Rattle.btr_walk.specs.Preorder.{place_blocks, place_of, IsAhead, Enters, IsEntry, GivesBlock, IsStep, RankFallsStep, LendsBlock, LendsStep}
+use Rattle.btr_walk.specs.Preorder.{IsNextBlock, Walked}
 use Rattle.btr_walk.proofs.Joined.{drawn, block_is}
 use Rattle.btr_walk.proofs.Lending.{given_back, same_then}
 use Rattle.btr_walk.proofs.Preorders.{gives_entered}
@@ -43,8 +44,11 @@ module _ (B : Map) (was then is : UnreadBlock → Want → Type 0) (place : Wher
       → IsStep is B place store (Ok (Some e))
   step_gives ahead e a h seen on =
       let x = a seen on in
-      some_as (block_of store e.loan) (λ block. Enters B seen (place_of ahead) e.place (want_of ahead.todo.level ahead.todo.spot) (record { addr = e.addr; level = e.level; bytes = block })) (λ block. GivesBlock B seen place e.place (record { addr = e.addr; level = e.level; bytes = block }))
-      (λ block y. gives_entered B seen place (place_of ahead) e.place (want_of ahead.todo.level ahead.todo.spot) (record { addr = e.addr; level = e.level; bytes = block }) x.0 y) (h seen x.1)
+      some_as (block_of store e.loan) (λ block. Enters B seen (place_of ahead) e.place (want_of ahead.todo.level ahead.todo.spot)
+      (record { addr = e.addr; level = e.level; bytes = block }))
+      (λ block. GivesBlock B seen place e.place (record { addr = e.addr; level = e.level; bytes = block }))
+      (λ block y. gives_entered B seen place (place_of ahead) e.place (want_of ahead.todo.level ahead.todo.spot)
+      (record { addr = e.addr; level = e.level; bytes = block }) x.0 y) (h seen x.1)
 
 pub lends_block : (old mid new : Blocks) (want : Want) (e : Entry) → SameLoans old mid → IsLentBy mid new want e.loan → LendsBlock old new e
 lends_block old mid new want e same t = record { others = same_then same (given_back mid new (base new (Some e.loan)) want e.loan t refl); live = t.live }
@@ -55,7 +59,8 @@ step_as : (layout layout' : Layout) (before now : Seen) (place : Where) (store :
     → Tells layout before now (λ B. IsStep (unread_by layout before now) B place store r)
 step_as layout layout' before now place store r e h = subst (λ (l : Layout). Tells l before now (λ B. IsStep (unread_by l before now) B place store r)) e h
 
-module _ (store mid new : Blocks) (scan : BlockScan) (taken : Option Lent) (is_taken : taken ≡ scan.loan) (back : SameLoans (base store taken) mid) (before now : Seen) (serves : Serves now new) where
+module _ (store mid new : Blocks) (scan : BlockScan) (taken : Option Lent) (is_taken : taken ≡ scan.loan) (back : SameLoans (base store taken) mid)
+    (before now : Seen) (serves : Serves now new) where
   abbrev Is : UnreadBlock → Want → Type 0
   Is = unread_by store.layout before now
 
@@ -65,25 +70,40 @@ module _ (store mid new : Blocks) (scan : BlockScan) (taken : Option Lent) (is_t
   layout : mid.layout ≡ store.layout
   layout = from_store.layout ∙ base_layout store scan.loan
 
-  walked_free : (loan : Option Lent) (result : Result (Option FoundBlock) TreeFault) (r : Result (Option Entry) TreeFault) → loan ≡ None → SameLoans mid new → IsShaped scan.place → ((B : Map) → IsStep Is B scan.place new r → IsNextBlock Is B scan (record { place = scan.place; loan = loan }) result) → Tells mid.layout before now (λ B. IsStep (unread_by mid.layout before now) B scan.place new r) → Walked store new scan (record { place = scan.place; loan = loan }) before now result
+  walked_free : (loan : Option Lent) (result : Result (Option FoundBlock) TreeFault) (r : Result (Option Entry) TreeFault) → loan ≡ None → SameLoans mid new
+      → IsShaped scan.place → ((B : Map) → IsStep Is B scan.place new r → IsNextBlock Is B scan (record { place = scan.place; loan = loan }) result)
+      → Tells mid.layout before now (λ B. IsStep (unread_by mid.layout before now) B scan.place new r)
+      → Walked store new scan (record { place = scan.place; loan = loan }) before now result
   walked_free loan result r none same shaped f c = record {
     others = subst (λ l. SameLoans (base store scan.loan) (base new l)) (sym none) (same_then from_store same);
     ready = record { serves = serves; live = subst (λ l. IfSome l (IsLiveIn new)) (sym none) tt; shaped = shaped };
-    content = drawn store.layout (λ B. IsStep Is B scan.place new r) (λ B. IsNextBlock Is B scan (record { place = scan.place; loan = loan }) result) f (step_as store.layout mid.layout before now scan.place new r layout c);
+    content = drawn store.layout (λ B. IsStep Is B scan.place new r) (λ B. IsNextBlock Is B scan (record { place = scan.place; loan = loan }) result) f
+        (step_as store.layout mid.layout before now scan.place new r layout c);
   }
 
-  pub walked_err : (loan : Option Lent) (f : TreeFault) → loan ≡ None → SameLoans mid new → IsShaped scan.place → Tells mid.layout before now (λ B. IsStep (unread_by mid.layout before now) B scan.place new (Err f)) → Walked store new scan (record { place = scan.place; loan = loan }) before now (Err f)
+  pub walked_err : (loan : Option Lent) (f : TreeFault) → loan ≡ None → SameLoans mid new → IsShaped scan.place
+      → Tells mid.layout before now (λ B. IsStep (unread_by mid.layout before now) B scan.place new (Err f))
+      → Walked store new scan (record { place = scan.place; loan = loan }) before now (Err f)
   walked_err loan f none same shaped c = walked_free loan (Err f) (Err f) none same shaped (λ B h seen on. h seen on) c
 
-  pub walked_end : (loan : Option Lent) → loan ≡ None → SameLoans mid new → IsShaped scan.place → Tells mid.layout before now (λ B. IsStep (unread_by mid.layout before now) B scan.place new (Ok None)) → Walked store new scan (record { place = scan.place; loan = loan }) before now (Ok None)
+  pub walked_end : (loan : Option Lent) → loan ≡ None → SameLoans mid new → IsShaped scan.place
+      → Tells mid.layout before now (λ B. IsStep (unread_by mid.layout before now) B scan.place new (Ok None))
+      → Walked store new scan (record { place = scan.place; loan = loan }) before now (Ok None)
   walked_end loan none same shaped c = walked_free loan (Ok None) (Ok None) none same shaped (λ B h seen on. h seen on) c
 
-  pub walked_some : (loan : Option Lent) (e : Entry) (found : FoundBlock) → loan ≡ Some e.loan → block_of new e.loan ≡ Some found.bytes.now → found.addr ≡ e.addr → found.level ≡ e.level → LendsBlock mid new e → IsShaped e.place → Tells mid.layout before now (λ B. IsStep (unread_by mid.layout before now) B scan.place new (Ok (Some e))) → Walked store new scan (record { place = e.place; loan = loan }) before now (Ok (Some found))
+  pub walked_some : (loan : Option Lent) (e : Entry) (found : FoundBlock) → loan ≡ Some e.loan → block_of new e.loan ≡ Some found.bytes.now
+      → found.addr ≡ e.addr → found.level ≡ e.level → LendsBlock mid new e → IsShaped e.place
+      → Tells mid.layout before now (λ B. IsStep (unread_by mid.layout before now) B scan.place new (Ok (Some e)))
+      → Walked store new scan (record { place = e.place; loan = loan }) before now (Ok (Some found))
   walked_some loan e found kept is addr level lent shaped c = record {
     others = subst (λ l. SameLoans (base store scan.loan) (base new l)) (sym kept) (same_then from_store lent.others);
     ready = record { serves = serves; live = subst (λ l. IfSome l (IsLiveIn new)) (sym kept) lent.live; shaped = shaped };
-    content = drawn store.layout (λ B. IsStep Is B scan.place new (Ok (Some e))) (λ B. IsNextBlock Is B scan (record { place = e.place; loan = loan }) (Ok (Some found)))
-        (λ B h seen on. subst (λ (n : ℕ). GivesBlock B seen scan.place e.place (record { addr = n; level = found.level; bytes = found.bytes.now })) (sym addr) (subst (λ (n : ℕ). GivesBlock B seen scan.place e.place (record { addr = e.addr; level = n; bytes = found.bytes.now })) (sym level) (block_is new e.loan found.bytes.now (λ block. GivesBlock B seen scan.place e.place (record { addr = e.addr; level = e.level; bytes = block })) is (h seen on))))
+    content = drawn store.layout (λ B. IsStep Is B scan.place new (Ok (Some e)))
+        (λ B. IsNextBlock Is B scan (record { place = e.place; loan = loan }) (Ok (Some found)))
+        (λ B h seen on. subst (λ (n : ℕ). GivesBlock B seen scan.place e.place (record { addr = n; level = found.level; bytes = found.bytes.now }))
+        (sym addr) (subst (λ (n : ℕ). GivesBlock B seen scan.place e.place (record { addr = e.addr; level = n; bytes = found.bytes.now })) (sym level)
+        (block_is new e.loan found.bytes.now (λ block. GivesBlock B seen scan.place e.place
+        (record { addr = e.addr; level = e.level; bytes = block })) is (h seen on))))
         (step_as store.layout mid.layout before now scan.place new (Ok (Some e)) layout c);
   }
 
@@ -93,8 +113,8 @@ module _ (store mid new : Blocks) (scan : BlockScan) (taken : Option Lent) (is_t
 pub lends_is : (old new : Blocks) (o : Option Entry) (e : Entry) → o ≡ Some e → LendsStep old new (Ok o) → LendsBlock old new e
 lends_is old new o e is h = subst (λ x. LendsStep old new (Ok x)) is h
 
-pub nears_is : (place : Where) (o : Option Entry) (e : Entry) → o ≡ Some e → NearsStep place (Ok o) → IsShaped e.place × (rank e.place < rank place)
-nears_is place o e is h = subst (λ x. NearsStep place (Ok x)) is h
+pub nears_is : (place : Where) (o : Option Entry) (e : Entry) → o ≡ Some e → RankFallsStep place (Ok o) → IsShaped e.place × (rank e.place < rank place)
+nears_is place o e is h = subst (λ x. RankFallsStep place (Ok x)) is h
 
 -- the loan that is kept is the one that was put there
 pub held_is : (place : Option Lent) (held loan : Lent) → place ≡ Some held → place ≡ Some loan → held ≡ loan

@@ -57,14 +57,24 @@ fitting_some spot block node is h =
 node_is : (level : ℕ) (spot : Spot) (block : List ℕ) (leaf inner : Bool) → is_leaf block ≡ leaf → is_inner block ≡ inner → level_of block ≡ level
     → judged level spot block ≡ fitting spot (node_of block) → IsSome (fitting spot (node_of block)) → IsLeafAt level spot block ⊎ IsInnerAt level spot block
 node_is level spot block true inner e f same is h =
-    let node : node_of block ≡ Some (Leaf (items block)) = ap (λ b. cond b (Some (Leaf (items block))) (cond (is_inner block) (Some (Inner (pointers block))) None)) e in
+    let node : node_of block ≡ Some (Leaf (items block)) =
+    ap (λ b. cond b (Some (Leaf (items block))) (cond (is_inner block) (Some (Inner (pointers block))) None)) e in
     inl (record { zero_level = sym same ∙ level-leaf block e; good = e; is = is ∙ fitting_some spot block (Leaf (items block)) node h })
 node_is level spot block false true e f same is h =
-    let node : node_of block ≡ Some (Inner (pointers block)) = ap (λ b. cond b (Some (Leaf (items block))) (cond (is_inner block) (Some (Inner (pointers block))) None)) e ∙ ap (λ b. cond b (Some (Inner (pointers block))) None) f in
+    let node : node_of block ≡ Some (Inner (pointers block)) =
+    ap (λ b. cond b (Some (Leaf (items block))) (cond (is_inner block) (Some (Inner (pointers block))) None)) e
+    ∙ ap (λ b. cond b (Some (Inner (pointers block))) None) f in
     let l = level-inner block f in
-    inr (record { some = omega (arith, l.0, same); few = omega (arith, l.1, same); good = f; is = is ∙ fitting_some spot block (Inner (pointers block)) node h })
+    inr (record {
+      some = omega (arith, l.0, same);
+      few = omega (arith, l.1, same);
+      good = f;
+      is = is ∙ fitting_some spot block (Inner (pointers block)) node h;
+    })
 node_is level spot block false false e f same is h =
-    let node : node_of block ≡ None = ap (λ b. cond b (Some (Leaf (items block))) (cond (is_inner block) (Some (Inner (pointers block))) None)) e ∙ ap (λ b. cond b (Some (Inner (pointers block))) None) f in
+    let node : node_of block ≡ None =
+    ap (λ b. cond b (Some (Leaf (items block))) (cond (is_inner block) (Some (Inner (pointers block))) None)) e
+    ∙ ap (λ b. cond b (Some (Inner (pointers block))) None) f in
     absurd (false≢true (subst (λ o. IsSome (fitting spot o)) node h))
 
 pub judged_is : (level : ℕ) (spot : Spot) (block : List ℕ) → IsSome (judged level spot block) → IsLeafAt level spot block ⊎ IsInnerAt level spot block
@@ -144,8 +154,27 @@ module _ (B : BlockMap Want fate.Fault) (key : Key) where
 
   unread_at : (Is : UnreadBlock → Want → Type 0) (level : ℕ) (spot : Spot) (u : UnreadBlock) (seen : List Want) → Is u (want_of level spot)
       → Ends Is level spot seen (Err (Unread u))
-  unread_at Is zero spot u seen e = record { before = Wants (want_of 0 spot) ∷ []; behind = (given (B (want_of 0 spot)) (λ b. exec B (le_leaf key spot (judged 0 spot b)))).marks; left = None; place = refl; steps = refl; leaves = tt; holds = names_last Is u seen (want_of 0 spot) e }
-  unread_at Is (suc n) spot u seen e = record { before = Wants (want_of (suc n) spot) ∷ []; behind = (given (B (want_of (suc n) spot)) (λ b. exec B (le_inner (le_at n key) key spot (judged (suc n) spot b)))).marks; left = None; place = refl; steps = refl; leaves = tt; holds = names_last Is u seen (want_of (suc n) spot) e }
+  unread_at Is zero spot u seen e =
+      record {
+        before = Wants (want_of 0 spot) ∷ [];
+        behind = (given (B (want_of 0 spot)) (λ b. exec B (le_leaf key spot (judged 0 spot b)))).marks;
+        left = None;
+        place = refl;
+        steps = refl;
+        leaves = tt;
+        holds = names_last Is u seen (want_of 0 spot) e;
+      }
+  unread_at Is (suc n) spot u seen e =
+      record {
+        before = Wants (want_of (suc n) spot) ∷ [];
+        behind = (given (B (want_of (suc n) spot))
+            (λ b. exec B (le_inner (le_at n key) key spot (judged (suc n) spot b)))).marks;
+        left = None;
+        place = refl;
+        steps = refl;
+        leaves = tt;
+        holds = names_last Is u seen (want_of (suc n) spot) e;
+      }
 
   pub halts_at : (Is : UnreadBlock → Want → Type 0) (level : ℕ) (spot : Spot) (store : Blocks) (f : TreeFault) → Reads Is B level spot store (Err f)
       → (seen : List Want) → Ends Is level spot seen (Err (halt_of f))

@@ -62,7 +62,8 @@ module _ {St R : Type 0} (step : St → TreeItem → Next St R) (answer : St →
   Ends Is B seen store scan state result = Follows Is no_part seen (exec B (to_fold B store scan state)) [] (fold_answer result)
 
   -- a turn of a fold goes on with a new state and scan, or ends it with its value, its result or a fault
-  abbrev pub TurnsBy : {E : Type 0} → (UnreadBlock → Want → Type 0) → Map → List Want → Blocks → Blocks → Scan → Scan → St → St → Result (Turn R) (FoldFault E) → Type 0
+  abbrev pub TurnsBy : {E : Type 0} → (UnreadBlock → Want → Type 0) → Map → List Want → Blocks → Blocks → Scan → Scan → St → St
+      → Result (Turn R) (FoldFault E) → Type 0
   TurnsBy Is B seen old new scan scan' state state' (Ok More) = Turns B seen old new scan scan' state state'
   TurnsBy {E} Is B seen old new scan scan' state state' (Ok Last) = Ends {E = E} Is B seen old scan state (Ok (answer state'))
   TurnsBy {E} Is B seen old new scan scan' state state' (Ok (Out r)) = Ends {E = E} Is B seen old scan state (Ok r)
@@ -91,8 +92,8 @@ module _ {St R : Type 0} (step : St → TreeItem → Next St R) (answer : St →
   FoldFollows Is B state root lo hi result = Follows Is no_part [] (exec B (folded step answer state root lo hi)) [] (fold_answer result)
 
 -- a scan comes nearer to its end with each item, and never goes back
-abbrev pub TurnNears : {R E : Type 0} → Scan → Scan → Result (Turn R) (FoldFault E) → Type 0
-TurnNears scan scan' (Ok More) = rank_of scan' < rank_of scan
-TurnNears scan scan' (Ok Last) = Unit {0}
-TurnNears scan scan' (Ok (Out r)) = Unit {0}
-TurnNears scan scan' (Err f) = Unit {0}
+abbrev pub TurnRankFalls : {R E : Type 0} → Scan → Scan → Result (Turn R) (FoldFault E) → Type 0
+TurnRankFalls scan scan' (Ok More) = rank_of scan' < rank_of scan
+TurnRankFalls scan scan' (Ok Last) = Unit {0}
+TurnRankFalls scan scan' (Ok (Out r)) = Unit {0}
+TurnRankFalls scan scan' (Err f) = Unit {0}

@@ -40,22 +40,22 @@ module _ (lo hi : Key) where
     pub kept : IfSome place.leaf (IsKept B seen)
 
   -- some wants are past, and the rest is still to come
-  pub record Comes (B : Map) (seen : List Want) (from : Where) (to : RangeProg) (place : Where) : Type 0 where
+  pub record GoesOnTo (B : Map) (seen : List Want) (from : Where) (to : RangeProg) (place : Where) : Type 0 where
     pub past : List Want
     pub is : exec B (place_prog lo hi B from) ≡ prepend (wants past) (exec B to)
     pub on : IsAlong B (seen ++ past) place
 
   -- the same, and the leaf in hand is among the blocks that were read
-  pub record ComesTo (B : Map) (seen : List Want) (from : Where) (to : RangeProg) (place : Where) (store : Blocks) (l : LeafAt) : Type 0 where
-    pub comes : Comes B seen from to place
+  pub record GoesOnHolding (B : Map) (seen : List Want) (from : Where) (to : RangeProg) (place : Where) (store : Blocks) (l : LeafAt) : Type 0 where
+    pub comes : GoesOnTo B seen from to place
     pub held : IsHeld B (seen ++ comes.past) store l
 
   -- the scan came to a leaf with items, or to none yet, or to its end
   abbrev pub GoneTo : (UnreadBlock → Want → Type 0) → Map → List Want → Where → Where → Blocks → Result Gone TreeFault → Type 0
   GoneTo Is B seen place after store (Ok (Leaf l)) =
       IsSomeAnd (block_of store l.loan)
-      (λ block. ComesTo B seen place (emit_all (part_items l.spot.addr block l.next l.end) (place_prog lo hi B after)) after store l)
-  GoneTo Is B seen place after store (Ok Between) = Comes B seen place (place_prog lo hi B after) after
+      (λ block. GoesOnHolding B seen place (emit_all (part_items l.spot.addr block l.next l.end) (place_prog lo hi B after)) after store l)
+  GoneTo Is B seen place after store (Ok Between) = GoesOnTo B seen place (place_prog lo hi B after) after
   GoneTo Is B seen place after store (Ok End) = Follows Is no_part seen (exec B (place_prog lo hi B place)) [] (Ok tt)
   GoneTo Is B seen place after store (Err f) = Follows Is no_part seen (exec B (place_prog lo hi B place)) [] (Err (halt_of f))
 

@@ -10,7 +10,7 @@ use Rattle.btr_walk.specs.declared.going.Where.{Where}
 use Rattle.btr_walk.specs.Range.{emit_all}
 use Rattle.btr_walk.specs.Reading.{Map, UnreadBlock, halt_of}
 use Rattle.btr_walk.specs.Scans.{part_items}
-use Rattle.btr_walk.specs.Going.{place_prog, IsAlong, ComesTo}
+use Rattle.btr_walk.specs.Going.{place_prog, IsAlong, GoesOnHolding}
 use Rattle.btr_walk.specs.Ranks.{IsShaped, rank}
 use Rattle.btr_walk.specs.declared.leaf_at.LeafAt.{LeafAt}
 use Rattle.btr_walk.specs.Hand.{LendsHand}
@@ -20,7 +20,7 @@ module _ (lo hi : Key) where
   abbrev pub ReachedTo : (UnreadBlock → Want → Type 0) → Map → List Want → Where → Where → Blocks → Result (Option LeafAt) TreeFault → Type 0
   ReachedTo Is B seen place after store (Ok (Some l)) =
       IsSomeAnd (block_of store l.loan)
-      (λ block. ComesTo lo hi B seen place (emit_all (part_items l.spot.addr block l.next l.end) (place_prog lo hi B after)) after store l)
+      (λ block. GoesOnHolding lo hi B seen place (emit_all (part_items l.spot.addr block l.next l.end) (place_prog lo hi B after)) after store l)
   ReachedTo Is B seen place after store (Ok None) = Follows Is no_part seen (exec B (place_prog lo hi B place)) [] (Ok tt)
   ReachedTo Is B seen place after store (Err f) = Follows Is no_part seen (exec B (place_prog lo hi B place)) [] (Err (halt_of f))
 
@@ -35,7 +35,7 @@ LendsReached old new (Ok None) = SameLoans old new
 LendsReached old new (Err f) = SameLoans old new
 
 -- a place behind a leaf that was reached is nearer to the end, and no place is farther from it
-abbrev pub NearsReached : Where → Where → Result (Option LeafAt) TreeFault → Type 0
-NearsReached place after (Ok (Some l)) = IsShaped after × (rank after < rank place)
-NearsReached place after (Ok None) = IsShaped after × (rank after ≤ rank place)
-NearsReached place after (Err f) = Unit {0}
+abbrev pub RankFallsReached : Where → Where → Result (Option LeafAt) TreeFault → Type 0
+RankFallsReached place after (Ok (Some l)) = IsShaped after × (rank after < rank place)
+RankFallsReached place after (Ok None) = IsShaped after × (rank after ≤ rank place)
+RankFallsReached place after (Err f) = Unit {0}

@@ -1,5 +1,6 @@
 -- What a walk over the blocks of a tree has still to give.
-use Rattle.std.specs.Prelude.{◌≡◌, ℕ, ◌+◌, ◌-◌, ◌<◌, ◌≤◌, List, [], ◌∷◌, ◌++◌, length, drop, slice_index_or, Option, Some, None, IfSome, IsSome, IsSomeAnd, Result, Ok, Err, ⊤}
+use Rattle.std.specs.Prelude.{◌≡◌, ℕ, ◌+◌, ◌-◌, ◌<◌, ◌≤◌, List, [], ◌∷◌, ◌++◌, length, drop, slice_index_or, Option, Some, None, IfSome, IsSome}
+use Rattle.std.specs.Prelude.{IsSomeAnd, Result, Ok, Err, ⊤}
 use Rattle.std.specs.Borrow.{follows_so, MutBor, Fml}
 use mathlib.Core.Option.{none}
 use Rattle.btr_node.specs.Block.{pointers}
@@ -68,10 +69,10 @@ abbrev pub IsAhead : (UnreadBlock → Want → Type 0) → Map → Where → Res
 IsAhead Is B place result = (seen : List Want) → IsAmong B seen place → AheadBy Is B seen place result
 
 -- the walk goes to a place that is nearer to its end
-abbrev pub NearsAhead : Where → Result (Option Ahead) TreeFault → Type 0
-NearsAhead place (Ok (Some ahead)) = IsShaped (place_of ahead) × (rank (place_of ahead) ≤ rank place)
-NearsAhead place (Ok None) = Unit {0}
-NearsAhead place (Err f) = Unit {0}
+abbrev pub RankFallsAhead : Where → Result (Option Ahead) TreeFault → Type 0
+RankFallsAhead place (Ok (Some ahead)) = IsShaped (place_of ahead) × (rank (place_of ahead) ≤ rank place)
+RankFallsAhead place (Ok None) = Unit {0}
+RankFallsAhead place (Err f) = Unit {0}
 
 -- a block was read: its want, then its step; what is left comes behind
 pub record Enters (B : Map) (seen : List Want) (from to : Where) (want : Want) (met : TreeBlock) : Type 0 where
@@ -97,9 +98,9 @@ abbrev pub IsEntry : (UnreadBlock → Want → Type 0) → Map → Ahead → Blo
 IsEntry Is B ahead store result = (seen : List Want) → IsAmong B seen (place_of ahead) → EntersBy Is B seen ahead store result
 
 -- the place after a block is nearer to the end than the one before it
-abbrev pub NearsEntry : Where → Result Entry TreeFault → Type 0
-NearsEntry place (Ok e) = IsShaped e.place × (rank e.place < rank place)
-NearsEntry place (Err f) = Unit {0}
+abbrev pub RankFallsEntry : Where → Result Entry TreeFault → Type 0
+RankFallsEntry place (Ok e) = IsShaped e.place × (rank e.place < rank place)
+RankFallsEntry place (Err f) = Unit {0}
 
 -- the loan of the block that was read is new and live, or no loan changed
 abbrev pub LendsEntry : Blocks → Blocks → Ahead → Result Entry TreeFault → Type 0
@@ -125,10 +126,10 @@ abbrev pub IsStep : (UnreadBlock → Want → Type 0) → Map → Where → Bloc
 IsStep Is B place store result = (seen : List Want) → IsAmong B seen place → StepsBy Is B seen place store result
 
 -- the place after a step is nearer to the end than the one before it
-abbrev pub NearsStep : Where → Result (Option Entry) TreeFault → Type 0
-NearsStep place (Ok (Some e)) = IsShaped e.place × (rank e.place < rank place)
-NearsStep place (Ok None) = Unit {0}
-NearsStep place (Err f) = Unit {0}
+abbrev pub RankFallsStep : Where → Result (Option Entry) TreeFault → Type 0
+RankFallsStep place (Ok (Some e)) = IsShaped e.place × (rank e.place < rank place)
+RankFallsStep place (Ok None) = Unit {0}
+RankFallsStep place (Err f) = Unit {0}
 
 -- the loan of a block is new and live, and no other loan changed
 pub record LendsBlock (old new : Blocks) (e : Entry) : Type 0 where
@@ -173,7 +174,8 @@ pub record Walked (old new : Blocks) (scan scan' : BlockScan) (before now : Seen
 
 -- the walk and its store end as the step's answer says, and no other loan changed
 abbrev pub BlockScanEnds : MutBor Blocks → BlockScan → BlockScan → Seen → Seen → Result (Option FoundBlock) TreeFault → Fml
-BlockScanEnds store scan scan' before now result = follows_so the_row the_row store.ghost_name none (λ _ _. ⊤) (λ new. Walked store.now new scan scan' before now result)
+BlockScanEnds store scan scan' before now result =
+    follows_so the_row the_row store.ghost_name none (λ _ _. ⊤) (λ new. Walked store.now new scan scan' before now result)
 
 -- a loan is kept with a block, and only then
 abbrev pub KeepsBlock : Result (Option FoundBlock) TreeFault → BlockScan → Type 0
@@ -186,7 +188,7 @@ abbrev pub blocks_rank : BlockScan → ℕ
 blocks_rank scan = rank scan.place
 
 -- a call of the walk comes nearer to the end where it gives a block, and else leaves its place
-abbrev pub NextBlockNears : BlockScan → BlockScan → Result (Option FoundBlock) TreeFault → Type 0
-NextBlockNears scan scan' (Ok (Some found)) = blocks_rank scan' < blocks_rank scan
-NextBlockNears scan scan' (Ok None) = scan'.place ≡ scan.place
-NextBlockNears scan scan' (Err f) = scan'.place ≡ scan.place
+abbrev pub NextBlockRankFalls : BlockScan → BlockScan → Result (Option FoundBlock) TreeFault → Type 0
+NextBlockRankFalls scan scan' (Ok (Some found)) = blocks_rank scan' < blocks_rank scan
+NextBlockRankFalls scan scan' (Ok None) = scan'.place ≡ scan.place
+NextBlockRankFalls scan scan' (Err f) = scan'.place ≡ scan.place

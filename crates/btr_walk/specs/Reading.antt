@@ -77,7 +77,8 @@ module _ (Is : UnreadBlock → Want → Type 0) (B : Map) where
   Reads level spot store (Err (tree.Unread a slot)) = Is (record { addr = a; slot = slot }) (want_of level spot)
   Reads level spot store (Err (tree.Unmapped a)) = B (want_of level spot) ≡ Err (fate.Unmapped a)
   Reads level spot store (Err (tree.Crosses a)) = B (want_of level spot) ≡ Err (fate.Crosses a)
-  Reads level spot store (Err (tree.Malformed a)) = (a ≡ spot.addr) × ((block : List ℕ) × (B (want_of level spot) ≡ Ok block) × (judged level spot block ≡ None))
+  Reads level spot store (Err (tree.Malformed a)) =
+      (a ≡ spot.addr) × ((block : List ℕ) × (B (want_of level spot) ≡ Ok block) × (judged level spot block ≡ None))
 
 -- the block lent is a good one that fits its spot
 abbrev pub IsGoodFor : ℕ → Spot → Blocks → Lent → Type 0

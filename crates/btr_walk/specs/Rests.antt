@@ -77,5 +77,6 @@ LendsMet old new (Err f) = SameLoans old new
 abbrev pub IsMetAgain : (UnreadBlock → Want → Type 0) → Map → Rest → Blocks → Result MetAgain TreeFault → Type 0
 IsMetAgain Is B rest store (Ok m) =
     (seen : List Want) → IsRestOn B seen rest
-    → IsSomeAnd (block_of store m.loan) (λ block. (item : TreeItem) → met_last B rest ≡ Some item → (d : Item) → (slice_index_or (items block) m.at d).body ≡ item.body)
+    → IsSomeAnd (block_of store m.loan) (λ block. (item : TreeItem) → met_last B rest ≡ Some item → (d : Item)
+    → (slice_index_or (items block) m.at d).body ≡ item.body)
 IsMetAgain Is B rest store (Err f) = (seen : List Want) → IsRestOn B seen rest → IsUnreadOf Is seen f

@@ -77,7 +77,8 @@ pub record Scanned (old new : Blocks) (scan scan' : Scan) (before now : Seen) (r
 
 -- the scan and its store end as the step's answer says, and no other loan changed
 abbrev pub ScanEnds : MutBor Blocks → Scan → Scan → Seen → Seen → Result (Option Found) TreeFault → Fml
-ScanEnds store scan scan' before now result = follows_so the_row the_row store.ghost_name none (λ _ _. ⊤) (λ new. Scanned store.now new scan scan' before now result)
+ScanEnds store scan scan' before now result =
+    follows_so the_row the_row store.ghost_name none (λ _ _. ⊤) (λ new. Scanned store.now new scan scan' before now result)
 
 -- a leaf is kept with an item, which stands before `next`, and only then
 abbrev pub KeepsLeaf : Result (Option Found) TreeFault → Option LeafAt → Type 0
@@ -90,10 +91,10 @@ abbrev pub rank_of : Scan → ℕ
 rank_of scan = rank_on scan.place scan.leaf
 
 -- a scan comes nearer to its end with each item, and never goes back
-abbrev pub NextNears : Scan → Scan → Result (Option Found) TreeFault → Type 0
-NextNears scan scan' (Ok (Some found)) = rank_of scan' < rank_of scan
-NextNears scan scan' (Ok None) = rank_of scan' ≤ rank_of scan
-NextNears scan scan' (Err f) = rank_of scan' ≤ rank_of scan
+abbrev pub NextRankFalls : Scan → Scan → Result (Option Found) TreeFault → Type 0
+NextRankFalls scan scan' (Ok (Some found)) = rank_of scan' < rank_of scan
+NextRankFalls scan scan' (Ok None) = rank_of scan' ≤ rank_of scan
+NextRankFalls scan scan' (Err f) = rank_of scan' ≤ rank_of scan
 
 -- a scan that gave its leaf back has still to give the same, and comes to its end as near
 pub record Paused (old new : Blocks) (scan scan' : Scan) : Type 0 where

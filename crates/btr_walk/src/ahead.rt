@@ -3,7 +3,7 @@ ghost use Rattle.std.specs.Prelude.{◌≤◌};
 ghost use Rattle.btr_rack.specs.Rack.{OnlyReads};
 ghost use Rattle.btr_read.specs.Serves.{Serves};
 ghost use Rattle.btr_read.specs.Store.{SameLoans, free_count};
-ghost use Rattle.btr_walk.specs.Preorder.{IsAhead, NearsAhead};
+ghost use Rattle.btr_walk.specs.Preorder.{IsAhead, RankFallsAhead};
 ghost use Rattle.btr_walk.specs.Ranks.{IsShaped};
 ghost use Rattle.btr_walk.specs.Reading.{TellsOf, HasCause};
 
@@ -31,7 +31,7 @@ pub(crate) fn ahead_of<R: Rack>(
     requires serves { Serves (R.seen rack.old) store.old }
     requires room { 4 ≤ free_count store.old }
     requires shaped { IsShaped place.now }
-    ensures nears { NearsAhead place.now result }
+    ensures nears { RankFallsAhead place.now result }
     ensures serves { Serves (R.seen rack.new) store.new }
     ensures reads { OnlyReads (R.seen rack.old) (R.seen rack.new) }
     ensures store { SameLoans store.old store.new }

@@ -6,7 +6,7 @@ ghost use Rattle.btr_read.specs.Serves.{Serves};
 ghost use Rattle.btr_read.specs.Store.{Blocks, SameLoans, IsLiveIn, free_count};
 ghost use Rattle.btr_walk.specs.Blocks.{blocks};
 ghost use Rattle.btr_walk.specs.Lending.{base};
-ghost use Rattle.btr_walk.specs.Preorder.{IsAmong, IsReadyFor, blocks_left, without_block, BlockScanEnds, KeepsBlock, NextBlockNears};
+ghost use Rattle.btr_walk.specs.Preorder.{IsAmong, IsReadyFor, blocks_left, without_block, BlockScanEnds, KeepsBlock, NextBlockRankFalls};
 ghost use Rattle.btr_walk.specs.Reading.{Map, HasCause};
 
 use crate::beginning::begin;
@@ -78,7 +78,7 @@ pub fn next_block<'e, R: Rack>(
     ensures* after { sem 𝓛 (BlockScanEnds store.entry scan.old scan.new (R.seen rack.old) (R.seen rack.new) result) }
     ensures reads { OnlyReads (R.seen rack.old) (R.seen rack.new) }
     ensures kept { KeepsBlock result scan.new }
-    ensures nears { NextBlockNears scan.old scan.new result }
+    ensures nears { NextBlockRankFalls scan.old scan.new result }
     ensures cause { HasCause store.old.layout (R.seen rack.old) (R.seen rack.new) result }
 {
     give_back(scan.loan.take(), store);

@@ -3,7 +3,7 @@ ghost use Rattle.std.specs.Prelude.{◌≡◌, ◌<◌, ◌≤◌};
 ghost use Rattle.btr_rack.specs.Rack.{OnlyReads};
 ghost use Rattle.btr_read.specs.Serves.{Serves};
 ghost use Rattle.btr_read.specs.Store.{SameLoans, free_count};
-ghost use Rattle.btr_walk.specs.Folding.{FoldCause, IsTaken, IsTurned, IsRun, FoldFollows, TurnNears};
+ghost use Rattle.btr_walk.specs.Folding.{FoldCause, IsTaken, IsTurned, IsRun, FoldFollows, TurnRankFalls};
 ghost use Rattle.btr_walk.specs.Reading.{TellsOf};
 ghost use Rattle.btr_walk.specs.ScanEnds.{IsScanReady, without_leaf};
 ghost use Rattle.btr_walk.specs.Showing.{item_of};
@@ -49,7 +49,7 @@ fn take_next<R: Rack, Out, E, F: Folder<Out, E>>(
     ensures others { SameLoans (without_leaf store.old scan.old) (without_leaf store.new scan.new) }
     ensures lo { scan.new.lo ≡ scan.old.lo }
     ensures hi { scan.new.hi ≡ scan.old.hi }
-    ensures nears { TurnNears scan.old scan.new result }
+    ensures nears { TurnRankFalls scan.old scan.new result }
     ensures cause { FoldCause store.old.layout (R.seen rack.old) (R.seen rack.new) result }
     ensures content { TellsOf store.old (R.seen rack.old) (R.seen rack.new)
         (λ Is B. IsTurned F.step F.answer Is B store.old store.new scan.old scan.new state.old state.new result) }

@@ -5,7 +5,7 @@ ghost use Rattle.btr_rack.specs.Rack.{OnlyReads};
 ghost use Rattle.btr_read.specs.Store.{free_count};
 ghost use Rattle.btr_walk.specs.Reading.{TellsOf, HasCause};
 ghost use Rattle.btr_walk.specs.Going.{LendsGone, IsGone};
-ghost use Rattle.btr_walk.specs.Ranks.{IsShaped, Nears};
+ghost use Rattle.btr_walk.specs.Ranks.{IsShaped, RankFalls};
 
 use crate::TreeFault;
 use crate::again::read_again;
@@ -44,7 +44,7 @@ pub(crate) fn go_on<R: Rack>(
     requires serves { Serves (R.seen rack.old) store.old }
     requires room { 4 ≤ free_count store.old }
     requires shaped { IsShaped place.old }
-    ensures nears { Nears place.old place.new result }
+    ensures nears { RankFalls place.old place.new result }
     ensures serves { Serves (R.seen rack.new) store.new }
     ensures reads { OnlyReads (R.seen rack.old) (R.seen rack.new) }
     ensures lent { LendsGone store.old store.new result }

@@ -3,7 +3,7 @@ ghost use Rattle.std.specs.Prelude.{◌<◌, ◌≤◌, length, IsSome};
 ghost use Rattle.btr_rack.specs.Rack.{OnlyReads};
 ghost use Rattle.btr_read.specs.Serves.{Serves};
 ghost use Rattle.btr_read.specs.Store.{free_count};
-ghost use Rattle.btr_walk.specs.Preorder.{place_of, IsBehind, IsEntry, NearsEntry, LendsEntry, IsStep, NearsStep, LendsStep};
+ghost use Rattle.btr_walk.specs.Preorder.{place_of, IsBehind, IsEntry, RankFallsEntry, LendsEntry, IsStep, RankFallsStep, LendsStep};
 ghost use Rattle.btr_walk.specs.Ranks.{IsShaped, rank};
 ghost use Rattle.btr_walk.specs.Spot.{judged};
 ghost use Rattle.btr_walk.specs.Reading.{TellsOf, HasCause};
@@ -64,7 +64,7 @@ pub(crate) fn enter_block<R: Rack>(
     requires serves { Serves (R.seen rack.old) store.old }
     requires room { 4 ≤ free_count store.old }
     requires shaped { IsShaped (place_of ahead.now) }
-    ensures nears { NearsEntry (place_of ahead.now) result }
+    ensures nears { RankFallsEntry (place_of ahead.now) result }
     ensures serves { Serves (R.seen rack.new) store.new }
     ensures reads { OnlyReads (R.seen rack.old) (R.seen rack.new) }
     ensures lent { LendsEntry store.old store.new ahead.now result }
@@ -92,7 +92,7 @@ pub(crate) fn step_block<R: Rack>(
     requires serves { Serves (R.seen rack.old) store.old }
     requires room { 4 ≤ free_count store.old }
     requires shaped { IsShaped place.now }
-    ensures nears { NearsStep place.now result }
+    ensures nears { RankFallsStep place.now result }
     ensures serves { Serves (R.seen rack.new) store.new }
     ensures reads { OnlyReads (R.seen rack.old) (R.seen rack.new) }
     ensures lent { LendsStep store.old store.new result }

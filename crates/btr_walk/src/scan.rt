@@ -14,7 +14,7 @@ ghost use Rattle.btr_walk.specs.Going.{IsOn, place_prog};
 ghost use Rattle.btr_walk.specs.Le.{root_spot};
 ghost use Rattle.btr_walk.specs.Ranks.{IsShaped};
 ghost use Rattle.btr_rack.specs.Rack.{Seen};
-ghost use Rattle.btr_walk.specs.ScanEnds.{left_of, without_leaf, IsScanReady, KeepsLeaf, NextNears, Paused, ScanEnds};
+ghost use Rattle.btr_walk.specs.ScanEnds.{left_of, without_leaf, IsScanReady, KeepsLeaf, NextRankFalls, Paused, ScanEnds};
 
 use crate::advancing::{Advanced, advance};
 use crate::beginning::begin;
@@ -116,7 +116,7 @@ pub fn next<'e, R: Rack>(
     ensures lo { scan.new.lo ≡ scan.old.lo }
     ensures hi { scan.new.hi ≡ scan.old.hi }
     ensures kept { KeepsLeaf result scan.new.leaf }
-    ensures nears { NextNears scan.old scan.new result }
+    ensures nears { NextRankFalls scan.old scan.new result }
     ensures place { OnErr result (scan.new.place ≡ scan.old.place) }
     ensures cause { HasCause store.old.layout (R.seen rack.old) (R.seen rack.new) result }
 {

@@ -7,7 +7,8 @@ use Rattle.btr_ahead.proofs.first_place.first_part.Goals as goal
 
 pub returns-in-Some-clause-part : goal.returns-in-Some-clause-part
 returns-in-Some-clause-part c =
-    let at = at_target c.args.store.now.layout c.args.addr c.args.chunk.now c.args.at.now c.way_at-way.result c.requires.chunk c.requires.placed c.way_at-way.ensures in
+    let at = at_target c.args.store.now.layout c.args.addr c.args.chunk.now c.args.at.now c.way_at-way.result c.requires.chunk c.requires.placed
+    c.way_at-way.ensures in
     let t = target c.args.store.now.layout (Plain c.args.addr) c.args.chunk.now c.args.at.now in
     sym (with_copies t _ c.way_at-way.result c.requires.rule (sym c.mirrors.ensures ∙ c.in-Some.is) at).1
 
@@ -22,6 +23,7 @@ returns-in-Some-clause-there c =
 
 pub returns-else-way-eq0-clause-part : goal.returns-else-way-eq0-clause-part
 returns-else-way-eq0-clause-part c =
-    let at = at_target c.args.store.now.layout c.args.addr c.args.chunk.now c.args.at.now c.way_at-way.result c.requires.chunk c.requires.placed c.way_at-way.ensures in
+    let at = at_target c.args.store.now.layout c.args.addr c.args.chunk.now c.args.at.now c.way_at-way.result c.requires.chunk c.requires.placed
+    c.way_at-way.ensures in
     let t = target c.args.store.now.layout (Plain c.args.addr) c.args.chunk.now c.args.at.now in
     sym (with_other t c.way_at-way.result (sym c.mirrors.ensures ∙ c.in-None.is) at c.if-way-eq0.false)

@@ -14,7 +14,8 @@ returns-clause-first c = λ images sum pass.
     let chunk = c.in-Some.chunk.now in
     let part = c.in-Some-first_part.part in
     let device = c.in-Some-device.device in
-    let there : chunk_at layout.chunks c.args.addr ≡ Some chunk = ap (λ (chunks : List Chunk). chunk_at chunks c.args.addr) (sym c.chunks.ensures) ∙ sym c.in-Some.ensures.chunk in
+    let there : chunk_at layout.chunks c.args.addr ≡ Some chunk =
+    ap (λ (chunks : List Chunk). chunk_at chunks c.args.addr) (sym c.chunks.ensures) ∙ sym c.in-Some.ensures.chunk in
     let placed : elements_of chunk c.args.addr 4096 ≡ Ok c.in-Ok.at = sym c.in-Ok.ensures.value in
     let place : c.place_of-place.result ≡ place_at chunk part c.in-Ok.at = c.place_of-place.ensures in
     let given : device_in layout.devices (place_at chunk part c.in-Ok.at).devid ≡ Some device =

@@ -17,7 +17,9 @@ unfolding block_text
 returns-then-level-eq0-clause-text g c =
     let block = c.args.block.now in
     let zero : eqb (level_of block) 0 ≡ true = grind (arith, nat_tests) in
-    let is : leaf_text c.args.sums c.args.addr block ≡ cond (eqb (level_of block) 0) (leaf_text c.args.sums c.args.addr block) (node_text c.args.sums c.args.addr block) = ap (λ b. cond b (leaf_text c.args.sums c.args.addr block) (node_text c.args.sums c.args.addr block)) (sym zero) in
+    let is : leaf_text c.args.sums c.args.addr block ≡ cond (eqb (level_of block) 0) (leaf_text c.args.sums c.args.addr block)
+    (node_text c.args.sums c.args.addr block) =
+    ap (λ b. cond b (leaf_text c.args.sums c.args.addr block) (node_text c.args.sums c.args.addr block)) (sym zero) in
     writes_as _ _ _ _ _ (block_text c.args.sums c.args.addr block) c.write_leaf.result is c.write_leaf.ensures.text
 
 pub returns-else-level-eq0-clause-text : goal.returns-else-level-eq0-clause-text
@@ -25,5 +27,7 @@ unfolding block_text
 returns-else-level-eq0-clause-text g c =
     let block = c.args.block.now in
     let other : eqb (level_of block) 0 ≡ false = grind (arith, nat_tests) in
-    let is : node_text c.args.sums c.args.addr block ≡ cond (eqb (level_of block) 0) (leaf_text c.args.sums c.args.addr block) (node_text c.args.sums c.args.addr block) = ap (λ b. cond b (leaf_text c.args.sums c.args.addr block) (node_text c.args.sums c.args.addr block)) (sym other) in
+    let is : node_text c.args.sums c.args.addr block ≡ cond (eqb (level_of block) 0) (leaf_text c.args.sums c.args.addr block)
+    (node_text c.args.sums c.args.addr block) =
+    ap (λ b. cond b (leaf_text c.args.sums c.args.addr block) (node_text c.args.sums c.args.addr block)) (sym other) in
     writes_as _ _ _ _ _ (block_text c.args.sums c.args.addr block) c.write_inner.result is c.write_inner.ensures.text

@@ -39,7 +39,13 @@ returns-in_err-push_all-2-clause-text g c =
     let text = λ (k : ℕ). pointer_line (pointer_at block k) in
     let found : KeyPointer = record { key = c.key.result; addr = c.child.result.addr; generation = c.child.result.generation } in
     let seen = (pointer_seen block c.of-inner.result (sym c.of-inner.ensures)).at i found (omega (arith, c.count-i-end.ensures.all)) in
-    let is : found ≡ pointer_at block i = λ j. record { key = (sym (c.key.ensures found) ∙ ap (λ (p : KeyPointer). p.key) seen) j; addr = (sym (c.child.ensures.addr found) ∙ ap (λ (p : KeyPointer). p.addr) seen) j; generation = (sym (c.child.ensures.generation found) ∙ ap (λ (p : KeyPointer). p.generation) seen) j } in
+    let is : found ≡ pointer_at block i =
+    λ j. record {
+      key = (sym (c.key.ensures found) ∙ ap (λ (p : KeyPointer). p.key) seen) j;
+      addr = (sym (c.child.ensures.addr found) ∙ ap (λ (p : KeyPointer). p.addr) seen) j;
+      generation =
+          (sym (c.child.ensures.generation found) ∙ ap (λ (p : KeyPointer). p.generation) seen) j;
+    } in
     cut_writes c.from_residual-in_err-push_all-2.result c.from_residual-in_err-push_all-2.ensures.0
     (so_far_cut (flat_map text (range_with_len (i + 1) (n - (i + 1)))) c.loop-i.invariant.text (numbers_first text i n c.loop-i-test.true)
     (cut_as (text i) (c.pointer_line.ensures ∙ ap pointer_line is) c.in_err-push_all-2.ensures.text))
@@ -52,7 +58,13 @@ loop-i-preserved g c =
     let text = λ (k : ℕ). pointer_line (pointer_at block k) in
     let found : KeyPointer = record { key = c.key.result; addr = c.child.result.addr; generation = c.child.result.generation } in
     let seen = (pointer_seen block c.of-inner.result (sym c.of-inner.ensures)).at i found (omega (arith, c.count-i-end.ensures.all)) in
-    let is : found ≡ pointer_at block i = λ j. record { key = (sym (c.key.ensures found) ∙ ap (λ (p : KeyPointer). p.key) seen) j; addr = (sym (c.child.ensures.addr found) ∙ ap (λ (p : KeyPointer). p.addr) seen) j; generation = (sym (c.child.ensures.generation found) ∙ ap (λ (p : KeyPointer). p.generation) seen) j } in
+    let is : found ≡ pointer_at block i =
+    λ j. record {
+      key = (sym (c.key.ensures found) ∙ ap (λ (p : KeyPointer). p.key) seen) j;
+      addr = (sym (c.child.ensures.addr found) ∙ ap (λ (p : KeyPointer). p.addr) seen) j;
+      generation =
+          (sym (c.child.ensures.generation found) ∙ ap (λ (p : KeyPointer). p.generation) seen) j;
+    } in
     record {
       text = so_far_more (flat_map text (range_with_len (i + 1) (n - (i + 1)))) c.loop-i.invariant.text (numbers_first text i n c.loop-i-test.true)
           (wrote_as (text i) (c.pointer_line.ensures ∙ ap pointer_line is) c.in_ok-push_all-2.ensures.text);

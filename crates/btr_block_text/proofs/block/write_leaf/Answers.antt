@@ -40,7 +40,8 @@ returns-in_err-write_item-clause-text g c =
     let n = c.count-i-end.result in
     let text = λ (k : ℕ). item_text c.args.sums k (item_at block k) in
     let item = item_of c.item.result in
-    let is : item ≡ item_at block i = sym (c.item.ensures item) ∙ (item_seen block c.of-leaf.result (sym c.of-leaf.ensures)).at i item (omega (arith, c.count-i-end.ensures.all)) in
+    let is : item ≡ item_at block i =
+    sym (c.item.ensures item) ∙ (item_seen block c.of-leaf.result (sym c.of-leaf.ensures)).at i item (omega (arith, c.count-i-end.ensures.all)) in
     cut_writes c.from_residual-in_err-write_item.result c.from_residual-in_err-write_item.ensures.0
     (so_far_cut (flat_map text (range_with_len (i + 1) (n - (i + 1)))) c.loop-i.invariant.text (numbers_first text i n c.loop-i-test.true)
     (cut_as (text i) (ap (item_text c.args.sums i) is) c.in_err-write_item.ensures.text))
@@ -52,7 +53,8 @@ loop-i-preserved g c =
     let n = c.count-i-end.result in
     let text = λ (k : ℕ). item_text c.args.sums k (item_at block k) in
     let item = item_of c.item.result in
-    let is : item ≡ item_at block i = sym (c.item.ensures item) ∙ (item_seen block c.of-leaf.result (sym c.of-leaf.ensures)).at i item (omega (arith, c.count-i-end.ensures.all)) in
+    let is : item ≡ item_at block i =
+    sym (c.item.ensures item) ∙ (item_seen block c.of-leaf.result (sym c.of-leaf.ensures)).at i item (omega (arith, c.count-i-end.ensures.all)) in
     record {
       text = so_far_more (flat_map text (range_with_len (i + 1) (n - (i + 1)))) c.loop-i.invariant.text (numbers_first text i n c.loop-i-test.true)
           (wrote_as (text i) (ap (item_text c.args.sums i) is) c.in_ok-write_item.ensures.text);

@@ -39,7 +39,8 @@ returns-then-is_err-clause-err c =
 pub returns-then-is_err-clause-index : goal.returns-then-is_err-clause-index
 returns-then-is_err-clause-index c =
     let absent = absent-overlaps c.args.chunks.now c.args.chunk c.requires.index.chunks c.requires.chunk c.requires.apart in
-    let entries = rw c.in_ok-insert.ensures.entries at c.remove.ensures.entries ∙ remove_entry-insert_entry c.args.chunks.now.entries c.args.chunk.start c.args.chunk absent in
+    let entries = rw c.in_ok-insert.ensures.entries at c.remove.ensures.entries
+    ∙ remove_entry-insert_entry c.args.chunks.now.entries c.args.chunk.start c.args.chunk absent in
     IsIndexed-same c.args.chunks.now c.remove.new.self c.args.extents.now c.enter-entered.new.extents entries
     (at-OnErr c.enter-entered.result (sym c.is_err.ensures.value ∙ c.if-is_err.true) c.enter-entered.ensures.err) c.requires.index
 

@@ -7,7 +7,7 @@ use Rattle.btr_walk.proofs.Joined.{joined, unread_on}
 use Rattle.btr_walk.proofs.Lending.{same_none, same_then}
 use Rattle.btr_walk.proofs.Staying.{room_same}
 use Rattle.btr_walk.proofs.Turns.{same_layout}
-use Rattle.btr_dump.specs.Showing.{TurnNears}
+use Rattle.btr_dump.specs.Showing.{TurnRankFalls}
 use Rattle.btr_dump.proofs.Growing.{grows_none, grows_twice}
 use Rattle.btr_dump.proofs.Loops.{Led, Turned, Shows, goes_none, led_more, led_ends, led_stops}
 use Rattle.btr_dump.proofs.Telling.{stop_cause_since, counts_since}
@@ -39,7 +39,7 @@ show_next-requires-clause-room g c = c.loop.invariant.room
 
 pub loop-smaller : goal.loop-smaller
 loop-smaller g c =
-    subst (λ r. TurnNears (g.C.Cursor.rank c.loop.cursor) (g.C.Cursor.rank c.show_next.new.self) (Ok r)) c.if-not-branch.false
+    subst (λ r. TurnRankFalls (g.C.Cursor.rank c.loop.cursor) (g.C.Cursor.rank c.show_next.new.self) (Ok r)) c.if-not-branch.false
     c.in_ok-show_next.ensures.nears
 
 pub loop-preserved : goal.loop-preserved

@@ -3,7 +3,7 @@ use Rattle.std.proofs.lemmas.Result.{err_from_is_err_and}
 use Rattle.btr_walk.specs.declared.fault.TreeFault.{TreeFault}
 use Rattle.btr_walk.specs.declared.found.Found.{Found}
 use Rattle.btr_walk.specs.Reading.{Map, unread_by}
-use Rattle.btr_walk.specs.ScanEnds.{IsNextOn, NextNears}
+use Rattle.btr_walk.specs.ScanEnds.{IsNextOn, NextRankFalls}
 use Rattle.btr_walk.specs.Showing.{item_of}
 use Rattle.btr_walk.proofs.Joined.{drawn}
 use Rattle.btr_files.specs.Listing.{IsNextRow}
@@ -51,7 +51,7 @@ returns-in-Some-clause-content g c =
 
 pub returns-in-Some-clause-nears : goal.returns-in-Some-clause-nears
 returns-in-Some-clause-nears g c = row_nears c.args.scan.now c.next.new.scan c.row_found.result
-    (subst (NextNears c.args.scan.now c.next.new.scan) (c.in_ok-next.was ∙ ap Ok c.in-Some.is) c.next.ensures.nears)
+    (subst (NextRankFalls c.args.scan.now c.next.new.scan) (c.in_ok-next.was ∙ ap Ok c.in-Some.is) c.next.ensures.nears)
 
 pub returns-in-Some-clause-cause : goal.returns-in-Some-clause-cause
 returns-in-Some-clause-cause g c = row_cause c.args.store.now.layout (g.R.Rack.seen c.args.rack.now) (g.R.Rack.seen c.next.new.rack)

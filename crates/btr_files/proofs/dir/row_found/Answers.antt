@@ -12,7 +12,8 @@ set-requires c = name_fits c.args.found.now.body.now c.in-Ok.entry c.name.result
 pub returns-in-Ok-clause-row : goal.returns-in-Ok-clause-row
 returns-in-Ok-clause-row c =
     let row : DirRow = record { index = c.args.found.now.key.offset; kind = c.in-Ok.entry.kind; location = c.in-Ok.entry.location } in
-    subst (λ r. IsRowBy (item_of c.args.found.now) c.set.new.self r (Ok (Some row))) c.in-Ok.ensures.form (ap (λ n. record { row = row; name = n }) (c.set.ensures ∙ c.name.ensures))
+    subst (λ r. IsRowBy (item_of c.args.found.now) c.set.new.self r (Ok (Some row))) c.in-Ok.ensures.form
+    (ap (λ n. record { row = row; name = n }) (c.set.ensures ∙ c.name.ensures))
 
 pub returns-in-Err-clause-row : goal.returns-in-Err-clause-row
 returns-in-Err-clause-row c = subst (λ r. IsRowBy (item_of c.args.found.now) c.args.name.now r (Err (Malformed c.args.found.now.block)))

@@ -29,7 +29,8 @@ returns-in-Ok-None-clause-content g c =
     let scan = c.scan-scan.result in
     let scan' = c.find_extent.new.scan in
     let is = unread_by old.layout (g.R.Rack.seen c.args.rack.now) (g.R.Rack.seen c.find_extent.new.rack) in
-    drawn old.layout (λ B. IsNextExtent source is B old new scan scan' p.end (Ok c.in-Ok-None.field-0)) (λ B. IsLooked source is B p (Ok (record { rest = p.rest; at = p.at; end = p.end; todo = Over })))
+    drawn old.layout (λ B. IsNextExtent source is B old new scan scan' p.end (Ok c.in-Ok-None.field-0))
+    (λ B. IsLooked source is B p (Ok (record { rest = p.rest; at = p.at; end = p.end; todo = Over })))
     (λ B n. looked_none source is B old new p scan scan' c.scan-scan.ensures c.requires.next
     (subst (λ (o : Option Ahead). IsNextExtent source is B old new scan scan' p.end (Ok o)) c.in-Ok-None.field-0-is n))
     c.in-Ok-None.ensures.content
@@ -45,7 +46,8 @@ returns-in-Ok-Some-clause-content g c =
     let ahead = c.in-Ok-Some.ahead in
     let rest = c.rest-rest.result in
     let is = unread_by old.layout (g.R.Rack.seen c.args.rack.now) (g.R.Rack.seen c.find_extent.new.rack) in
-    drawn old.layout (λ B. IsNextExtent source is B old new scan scan' p.end (Ok c.in-Ok-Some.field-0)) (λ B. IsLooked source is B p (Ok (record { rest = rest; at = p.at; end = ahead.end; todo = ahead.todo })))
+    drawn old.layout (λ B. IsNextExtent source is B old new scan scan' p.end (Ok c.in-Ok-Some.field-0))
+    (λ B. IsLooked source is B p (Ok (record { rest = rest; at = p.at; end = ahead.end; todo = ahead.todo })))
     (λ B n. looked_some source is B old new p scan scan' c.scan-scan.ensures c.requires.next c.find_extent.ensures.lo c.find_extent.ensures.hi rest
     c.rest-rest.ensures.rests ahead
     (subst (λ (o : Option Ahead). KeepsItem (Ok o) scan'.leaf) c.in-Ok-Some.field-0-is c.in-Ok-Some.ensures.kept)

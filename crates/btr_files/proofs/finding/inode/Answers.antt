@@ -13,5 +13,6 @@ returns-clause-content g c =
     let root = c.args.tree.now.place in
     let at = c.key_of-key.result in
     looked _ _ _ (folded_over inode_step (λ s. None) (record {}) (range at at root)) (inode_in c.args.tree.now c.args.ino) c.lookup.result
-    (ap (λ k. folded_over inode_step (λ s. None) (record {}) (range k k root)) c.key_of-key.ensures ∙ sym (inode_as (range (key c.args.ino 1 0) (key c.args.ino 1 0) root)))
+    (ap (λ k. folded_over inode_step (λ s. None) (record {}) (range k k root)) c.key_of-key.ensures
+    ∙ sym (inode_as (range (key c.args.ino 1 0) (key c.args.ino 1 0) root)))
     c.lookup.ensures.content

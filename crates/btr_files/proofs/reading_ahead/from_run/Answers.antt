@@ -13,8 +13,11 @@ returns c =
     let size = c.size-size.result in
     let first : ℕ = (addr - run.start) / 4096 in
     let few : part ≤ run.count - first = grind (arith, c.min-count.ensures, c.min.ensures) in
-    let ends : first * size + part * size ≤ length body = subst (λ n. first * size + part * size ≤ n) (ap (λ s. run.count * s) c.size-size.ensures ∙ c.requires.size) (part_ends first part run.count size few c.requires.covered) in
-    let same = subst (λ s. take (part * s) copy ≡ take (part * s) (drop (first * s) body)) c.size-size.ensures (part_copied (first * size) (part * size) copy body ends c.copied.ensures) in
+    let ends : first * size + part * size ≤ length body =
+    subst (λ n. first * size + part * size ≤ n) (ap (λ s. run.count * s) c.size-size.ensures ∙ c.requires.size)
+    (part_ends first part run.count size few c.requires.covered) in
+    let same = subst (λ s. take (part * s) copy ≡ take (part * s) (drop (first * s) body)) c.size-size.ensures
+    (part_copied (first * size) (part * size) copy body ends c.copied.ensures) in
     record {
       of_kind = refl;
       behind = taken_behind kind addr body run part copy c.requires.behind c.requires.aligned c.requires.covered few same;

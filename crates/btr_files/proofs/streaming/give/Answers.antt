@@ -2,7 +2,7 @@ use Rattle.std.proofs.Common.{Ok, Some, None, ap, ◌∙◌, arith}
 use Rattle.std.proofs.lemmas.Result.{err_from_is_err_and}
 use Rattle.btr_walk.specs.Reading.{unread_by}
 use Rattle.btr_files.specs.declared.streaming.Shown.TheVariants as shown
-use Rattle.btr_files.specs.Giving.{behind_zeros, zeros_at}
+use Rattle.btr_files.specs.Giving.{after_zeros, zeros_at}
 use Rattle.btr_files.specs.Sums.{kind_in}
 use Rattle.btr_files.proofs.AllMaps.{all_unread}
 use Rattle.btr_files.proofs.Stepping.{zeros_given, nothing_left}
@@ -18,7 +18,7 @@ returns-then-zeros-gt0-clause-content g c =
     let a = g.R.Rack.seen c.args.rack.now in
     let is = unread_by store.layout a a in
     let zeros = c.zeros_at-zeros.result in
-    all_unread store.layout (λ Bs. NextWithSums kind source is Bs p (behind_zeros p zeros) store c.args.ahead.now c.args.ahead.now
+    all_unread store.layout (λ Bs. NextWithSums kind source is Bs p (after_zeros p zeros) store c.args.ahead.now c.args.ahead.now
     (Ok (Some (shown.Gap zeros))))
     (λ Bs summed. (zeros_given kind source Bs p zeros c.if-zeros-gt0.true is store c.zeros_at-zeros.ensures, summed))
 

@@ -10,7 +10,7 @@ use Rattle.btr_files.specs.declared.progress.Progress.{Progress}
 use Rattle.btr_files.specs.declared.streaming.Shown.{Shown}
 use Rattle.btr_files.specs.declared.streaming.Shown.TheVariants as shown
 use Rattle.btr_files.specs.declared.streaming.Span.TheVariants as span
-use Rattle.btr_files.specs.Giving.{behind_end, IsGiven}
+use Rattle.btr_files.specs.Giving.{after_end, IsGiven}
 use Rattle.btr_files.specs.Maps.{TellsAll}
 use Rattle.btr_files.specs.Sums.{kind_in}
 use Rattle.btr_files.proofs.AllMaps.{all_of_one}
@@ -70,7 +70,7 @@ returns-clause-content g c =
     let len = c.min-len.result in
     let given : Shown = shown.Bytes m.loan (span.Inline m.at len) in
     subst (λ (x : Progress). TellsAll layout a b (λ Bs. IsGiven kind source is Bs p x new (Ok given))) (sym c.pass_extent.ensures)
-    (all_of_one layout (λ B. IsMetAgain is B p.rest new c.met_again.result) (λ Bs. IsGiven kind source is Bs p (behind_end source.size p) new (Ok given))
+    (all_of_one layout (λ B. IsMetAgain is B p.rest new c.met_again.result) (λ Bs. IsGiven kind source is Bs p (after_end source.size p) new (Ok given))
     (λ Bs h. inline_given kind source Bs p is c.args.part.now c.requires.todo new m.loan m.at c.bytes.result.now c.bytes.ensures.value
     (subst (λ (r : Result MetAgain TreeFault). IsMetAgain is (Bs 0) p.rest new r) (c.in_ok-loan.was {u = tt}) h)
     c.requires.begun len c.min-len.ensures)

@@ -11,7 +11,7 @@ use Rattle.btr_files.specs.declared.streaming.Shown.{Shown}
 use Rattle.btr_files.specs.declared.streaming.Shown.TheVariants as shown
 use Rattle.btr_files.specs.declared.streaming.Span.TheVariants as span
 use Rattle.btr_files.specs.Content.{sector_want}
-use Rattle.btr_files.specs.Giving.{behind_sector, SectorComes}
+use Rattle.btr_files.specs.Giving.{after_sector, SectorComes}
 use Rattle.btr_files.specs.Maps.{TellsAll}
 use Rattle.btr_files.specs.Streaming.{FitsTodo}
 use Rattle.btr_files.specs.Sums.{kind_in}
@@ -33,12 +33,17 @@ returns-in_err-want-clause-content g c =
     let is = unread_by layout a b in
     let fault = c.in_err-want.field-0.0 in
     let some : 0 < part.count = (subst (FitsTodo source.size p.at p.end) c.requires.todo c.requires.underway.fits).1 in
-    let looked = λ (r : Result Want TreeFault) (B : Map). Follows is no_part [] (exec B (sector_want kind source.sums source.nosum part.addr)) [] (answer_of r) in
+    let looked = λ (r : Result Want TreeFault) (B : Map). Follows is no_part [] (exec B (sector_want kind source.sums source.nosum part.addr)) []
+    (answer_of r) in
     passed_on (λ r. TellsAll layout a b (λ Bs. GivenWithSums kind source is Bs p p new c.args.ahead.now c.want_of.new.ahead r)) c.from_residual.result
     fault c.from_residual.ensures.1
     (all_of_one layout (with_sums (looked c.want_of.result) source.sums c.args.ahead.now c.want_of.new.ahead)
     (λ Bs. GivenWithSums kind source is Bs p p new c.args.ahead.now c.want_of.new.ahead (Err fault))
-    (λ Bs h summed. let both = h summed in (sum_lacked kind source Bs p part c.requires.todo c.requires.begun some is p new fault (subst (λ r. looked r (Bs 0)) (c.in_err-want.was {u = tt}) both.0), both.1))
+    (λ Bs h summed. let both = h summed in (
+      sum_lacked kind source Bs p part c.requires.todo c.requires.begun some is p new fault
+          (subst (λ r. looked r (Bs 0)) (c.in_err-want.was {u = tt}) both.0),
+      both.1,
+    ))
     (looked_with_sums layout (looked c.want_of.result) source.sums c.args.ahead.now c.want_of.new.ahead c.want_of.ensures.content c.want_of.ensures.ahead))
 
 pub returns-in_err-loan-clause-content : goal.returns-in_err-loan-clause-content
@@ -57,7 +62,8 @@ returns-in_err-loan-clause-content g c =
     let fault = c.in_err-loan.field-0.0 in
     let want = c.in_ok-want.want in
     let some : 0 < part.count = (subst (FitsTodo source.size p.at p.end) c.requires.todo c.requires.underway.fits).1 in
-    let looked = λ (r : Result Want TreeFault) (B : Map). Follows (unread_by layout a b) no_part [] (exec B (sector_want kind source.sums source.nosum part.addr)) [] (answer_of r) in
+    let looked = λ (r : Result Want TreeFault) (B : Map). Follows (unread_by layout a b) no_part []
+    (exec B (sector_want kind source.sums source.nosum part.addr)) [] (answer_of r) in
     let comes = λ (r : Result Lent TreeFault) (Bs : ℕ → Map). SectorComes (unread_by mid b d) Bs want new r in
     passed_on (λ r. TellsAll layout a d (λ Bs. GivenWithSums kind source is Bs p p new c.args.ahead.now c.want_of.new.ahead r))
     c.from_residual-in_err-loan.result fault c.from_residual-in_err-loan.ensures.1
@@ -91,13 +97,14 @@ returns-clause-content g c =
     let loan = c.in_ok-loan.loan in
     let want = c.in_ok-want.want in
     let some : 0 < part.count = (subst (FitsTodo source.size p.at p.end) c.requires.todo c.requires.underway.fits).1 in
-    let looked = λ (r : Result Want TreeFault) (B : Map). Follows (unread_by layout a b) no_part [] (exec B (sector_want kind source.sums source.nosum part.addr)) [] (answer_of r) in
+    let looked = λ (r : Result Want TreeFault) (B : Map). Follows (unread_by layout a b) no_part []
+    (exec B (sector_want kind source.sums source.nosum part.addr)) [] (answer_of r) in
     let comes = λ (r : Result Lent TreeFault) (Bs : ℕ → Map). SectorComes (unread_by mid b d) Bs want new r in
     let given : Shown = shown.Bytes loan (span.Sector c.min-len.result c.is_tested-verified.result c.crc_of-crc.result) in
     subst (λ (x : Progress). TellsAll layout a d (λ Bs. GivenWithSums kind source is Bs p x new c.args.ahead.now c.want_of.new.ahead (Ok given)))
     (sym c.pass_sector.ensures)
     (all_joined (λ Bs. with_sums (looked c.want_of.result) source.sums c.args.ahead.now c.want_of.new.ahead (Bs 0)) (comes c.read_sector.result)
-    (λ Bs. GivenWithSums kind source is Bs p (behind_sector source.size p part) new c.args.ahead.now c.want_of.new.ahead (Ok given))
+    (λ Bs. GivenWithSums kind source is Bs p (after_sector source.size p part) new c.args.ahead.now c.want_of.new.ahead (Ok given))
     c.want_of.ensures.volume.store.layout
     (λ Bs h k summed. let both = h summed in (
       sector_given kind source Bs p part c.requires.todo c.requires.begun some want (unread_by layout a b)

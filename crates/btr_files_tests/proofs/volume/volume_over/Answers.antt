@@ -12,7 +12,8 @@ returns-clause-serves c =
     let slots = slots_of c.args.rack.now in
     let member : Member = record { devid = 1; device = record { slot = 0; len = c.len.result; older = false } } in
     let added = c.in_ok-add_device.ensures.added in
-    let devices : c.add_device.new.self.layout.devices ≡ member ∷ [] = ap (λ s. s.layout.devices) added ∙ ap (λ s. s.layout.devices ++ member ∷ []) c.in_ok-store.ensures in
+    let devices : c.add_device.new.self.layout.devices ≡ member ∷ [] =
+    ap (λ s. s.layout.devices) added ∙ ap (λ s. s.layout.devices ++ member ∷ []) c.in_ok-store.ensures in
     let are = open_more slots [] member (open_none slots) (record { slot = c.requires; len = sym c.len.ensures.len }) in
     let own = own_more [] member own_none (λ d a e. cc) in
     serves_anew (seen_of c.args.rack.now) c.add_device.new.self (subst (AreOpen slots) (sym devices) are) (subst HaveOwnSlots (sym devices) own)

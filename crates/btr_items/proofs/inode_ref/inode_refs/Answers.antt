@@ -9,4 +9,8 @@ use Rattle.btr_items.proofs.Walks.{all_parts}
 use Rattle.btr_items.proofs.inode_ref.inode_refs.Goals as goal
 
 pub returns-clause-names : goal.returns-clause-names
-returns-clause-names c = let body = c.args.body.now in subst (All (λ read. IfOk read (λ (part : InodeRef). HasName body part.name_at part.name_len))) (sym c.new.ensures) (all_parts inode_ref_at (λ part. part.end) (λ read. IfOk read (λ (part : InodeRef). HasName body part.name_at part.name_len)) body (λ at. inode_ref_named at body) (length body) 0)
+returns-clause-names c =
+    let body = c.args.body.now in
+    subst (All (λ read. IfOk read (λ (part : InodeRef). HasName body part.name_at part.name_len))) (sym c.new.ensures)
+    (all_parts inode_ref_at (λ part. part.end) (λ read. IfOk read (λ (part : InodeRef). HasName body part.name_at part.name_len)) body
+    (λ at. inode_ref_named at body) (length body) 0)

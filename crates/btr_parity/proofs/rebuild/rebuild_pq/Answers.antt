@@ -23,7 +23,8 @@ returns c =
     let b = c.power-2.result in
     let w = c.inverse-quotient.result in
     let fits : (i : ℕ) → Fits w8 (get_or p i 0) = search rules in
-    let one : product w (bit_xor a b) ≡ 1 = product_comm w (bit_xor a b) (omega arith) (xor_lt 8 a b (omega arith) (omega arith)) ∙ c.inverse-quotient.ensures in
+    let one : product w (bit_xor a b) ≡ 1 =
+    product_comm w (bit_xor a b) (omega arith) (xor_lt 8 a b (omega arith) (omega arith)) ∙ c.inverse-quotient.ensures in
     let first : c.of.result.factor ≡ product w b = c.of.ensures ∙ c.product.ensures ∙ ap (product w) (c.power-3.ensures ∙ sym c.power-2.ensures) in
     let same : c.add_scaled.new.acc ≡ zip2 (first_of_pair a b w) p q =
     c.add_scaled.ensures ∙ ap₂ (λ s f. plus s (scaled f q)) (c.scale.ensures ∙ ap (λ f. scaled f p) first) c.of-2.ensures

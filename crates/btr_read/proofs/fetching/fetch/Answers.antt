@@ -71,15 +71,21 @@ returns-in-Some-clause-answer g c =
     let len = c.len-len.result in
     let lent = c.in-Some.ensures.lent in
     let writes = subst (OnlyWrites k (with_lent p0 k)) (sym lent) (only_writes_none (with_lent p0 k) k) in
-    let kept = kept_there s.chunks s.devices.items s.setting s.kept.wants c.lend_kept.new.kept.wants p0 p1 old new c.args.store.now c.store.view_is k want c.requires.serves c.in-Some.ensures.kept in
+    let kept = kept_there s.chunks s.devices.items s.setting s.kept.wants c.lend_kept.new.kept.wants p0 p1 old new c.args.store.now c.store.view_is k want
+    c.requires.serves c.in-Some.ensures.kept in
     let here = kept_fetched layout want old new (take (len_of s.setting want) (bytes_at p0 k)) kept in
     let whole = subst (λ n. IsFetched layout want old new (take n (bytes_at p0 k))) (sym c.len-len.ensures) here in
     let there = subst (λ p. IsFetched layout want old new (take len (bytes_at p k))) (sym lent) whole in
-    let block : option_map (take len) (get_or (loans_of p1) k None) ≡ Some (take len (bytes_at p1 k)) = ap (option_map (take len)) (loan_taken p0 p1 k c.store.invariant.store.whole c.in-Some.ensures.free writes) in
+    let block : option_map (take len) (get_or (loans_of p1) k None) ≡ Some (take len (bytes_at p1 k)) =
+    ap (option_map (take len)) (loan_taken p0 p1 k c.store.invariant.store.whole c.in-Some.ensures.free writes) in
     (kept.sought, subst (λ o. IsSomeAnd o (IsFetched layout want old new)) (sym block) there)
 
 pub returns-in-Some-clause-calls : goal.returns-in-Some-clause-calls
-returns-in-Some-clause-calls g c = calls_of c.args.store.now.layout c.args.want.now (g.R.Rack.seen c.args.rack.now) (g.R.Rack.seen c.forget.new.self) (blocks c.store.inside.chunks c.store.inside.devices.items c.store.inside.setting (loans_of c.lend_kept.new.pool) (kept_in c.store.inside.setting c.lend_kept.new.kept.wants c.lend_kept.new.pool.bytes)) (Ok (record { slot = c.in-Some.slot; len = c.len-len.result })) (returns-in-Some-clause-reads g c) (returns-in-Some-clause-answer g c)
+returns-in-Some-clause-calls g c =
+    calls_of c.args.store.now.layout c.args.want.now (g.R.Rack.seen c.args.rack.now) (g.R.Rack.seen c.forget.new.self)
+    (blocks c.store.inside.chunks c.store.inside.devices.items c.store.inside.setting (loans_of c.lend_kept.new.pool)
+    (kept_in c.store.inside.setting c.lend_kept.new.kept.wants c.lend_kept.new.pool.bytes))
+    (Ok (record { slot = c.in-Some.slot; len = c.len-len.result })) (returns-in-Some-clause-reads g c) (returns-in-Some-clause-answer g c)
 
 -- ---- what is known of the blocks that are kept
 
@@ -120,7 +126,8 @@ find-requires-clause-open g c =
     let s = c.store.inside in
     let p0 = s.pool in
     let t = c.in_ok-search.search in
-    let seeks = located s.chunks s.devices.items c.deref.result.now s.setting (loans_of p0) (kept_in s.setting s.kept.wants p0.bytes) c.args.store.now c.args.want.now t c.store.view_is c.deref.ensures.value c.in_ok-search.ensures in
+    let seeks = located s.chunks s.devices.items c.deref.result.now s.setting (loans_of p0)
+    (kept_in s.setting s.kept.wants p0.bytes) c.args.store.now c.args.want.now t c.store.view_is c.deref.ensures.value c.in_ok-search.ensures in
     let is = sought_of c.args.store.now.layout c.args.want.now t seeks in
     let are = serving (g.R.Rack.seen c.args.rack.now) c.args.store.now c.requires.serves in
     subst (λ slots. AreOpen slots t.devices) (sym (ap (λ s. s.slots) c.forget.ensures))
@@ -137,7 +144,8 @@ find-requires-clause-fits g c =
     let s = c.store.inside in
     let p0 = s.pool in
     let t = c.in_ok-search.search in
-    let seeks = located s.chunks s.devices.items c.deref.result.now s.setting (loans_of p0) (kept_in s.setting s.kept.wants p0.bytes) c.args.store.now c.args.want.now t c.store.view_is c.deref.ensures.value c.in_ok-search.ensures in
+    let seeks = located s.chunks s.devices.items c.deref.result.now s.setting (loans_of p0)
+    (kept_in s.setting s.kept.wants p0.bytes) c.args.store.now c.args.want.now t c.store.view_is c.deref.ensures.value c.in_ok-search.ensures in
     let is = sought_of c.args.store.now.layout c.args.want.now t seeks in
     let setting = ap (λ s. s.nodesize) (is.setting_is ∙ sym (ap (λ s. s.layout.setting) c.store.view_is)) in
     let same = ap (λ p. p.size) c.in_default.ensures.none in
@@ -156,11 +164,13 @@ returns-in-Err-clause-serves g c =
     let store = c.args.store.now in
     let want = c.args.want.now in
     let t = c.in_ok-search.search in
-    let seeks = located s.chunks s.devices.items c.deref.result.now s.setting (loans_of p0) (kept_in s.setting w0 p0.bytes) store want t c.store.view_is c.deref.ensures.value c.in_ok-search.ensures in
+    let seeks = located s.chunks s.devices.items c.deref.result.now s.setting (loans_of p0)
+    (kept_in s.setting w0 p0.bytes) store want t c.store.view_is c.deref.ensures.value c.in_ok-search.ensures in
     let old = g.R.Rack.seen c.args.rack.now in
     let mid = g.R.Rack.seen c.forget.new.self in
     let after = g.R.Rack.seen c.find.new.rack in
-    let found = found_of t w0 c.lend_kept.new.kept.wants w2 p0 c.lend_kept.new.pool p2 mid after (Err c.in-Err.missed) c.in_default.ensures.none c.lend_kept.ensures.wants c.in-Err.ensures.found in
+    let found = found_of t w0 c.lend_kept.new.kept.wants w2 p0 c.lend_kept.new.pool p2 mid after
+    (Err c.in-Err.missed) c.in_default.ensures.none c.lend_kept.ensures.wants c.in-Err.ensures.found in
     missed_serves s.chunks s.devices.items s.setting p0 w0 store c.store.invariant.store c.store.view_is want t seeks old mid after c.forget.ensures
     c.in-Err.ensures.reads p2 w2 (missed_still s.chunks s.devices.items s.setting p0 w0 store c.store.invariant.store c.store.view_is want t seeks
     old mid after c.forget.ensures c.in-Err.ensures.reads p2 w2 c.in-Err.missed found) c.requires.serves
@@ -175,11 +185,13 @@ returns-in-Err-clause-account g c =
     let store = c.args.store.now in
     let want = c.args.want.now in
     let t = c.in_ok-search.search in
-    let seeks = located s.chunks s.devices.items c.deref.result.now s.setting (loans_of p0) (kept_in s.setting w0 p0.bytes) store want t c.store.view_is c.deref.ensures.value c.in_ok-search.ensures in
+    let seeks = located s.chunks s.devices.items c.deref.result.now s.setting (loans_of p0)
+    (kept_in s.setting w0 p0.bytes) store want t c.store.view_is c.deref.ensures.value c.in_ok-search.ensures in
     let old = g.R.Rack.seen c.args.rack.now in
     let mid = g.R.Rack.seen c.forget.new.self in
     let after = g.R.Rack.seen c.find.new.rack in
-    let found = found_of t w0 c.lend_kept.new.kept.wants w2 p0 c.lend_kept.new.pool p2 mid after (Err c.in-Err.missed) c.in_default.ensures.none c.lend_kept.ensures.wants c.in-Err.ensures.found in
+    let found = found_of t w0 c.lend_kept.new.kept.wants w2 p0 c.lend_kept.new.pool p2 mid after
+    (Err c.in-Err.missed) c.in_default.ensures.none c.lend_kept.ensures.wants c.in-Err.ensures.found in
     subst (λ f. AccountsFetch store.layout want old.account after.account (Err f))
     (sym (c.fault.ensures ∙ ap (λ a. fault_of a c.in-Err.missed) c.addr.ensures))
     (missed_accounts s.chunks s.devices.items s.setting p0 w0 store c.store.invariant.store c.store.view_is want t seeks old mid after
@@ -204,11 +216,13 @@ returns-in-Err-clause-answer g c =
     let store = c.args.store.now in
     let want = c.args.want.now in
     let t = c.in_ok-search.search in
-    let seeks = located s.chunks s.devices.items c.deref.result.now s.setting (loans_of p0) (kept_in s.setting w0 p0.bytes) store want t c.store.view_is c.deref.ensures.value c.in_ok-search.ensures in
+    let seeks = located s.chunks s.devices.items c.deref.result.now s.setting (loans_of p0)
+    (kept_in s.setting w0 p0.bytes) store want t c.store.view_is c.deref.ensures.value c.in_ok-search.ensures in
     let old = g.R.Rack.seen c.args.rack.now in
     let mid = g.R.Rack.seen c.forget.new.self in
     let after = g.R.Rack.seen c.find.new.rack in
-    let found = found_of t w0 c.lend_kept.new.kept.wants w2 p0 c.lend_kept.new.pool p2 mid after (Err c.in-Err.missed) c.in_default.ensures.none c.lend_kept.ensures.wants c.in-Err.ensures.found in
+    let found = found_of t w0 c.lend_kept.new.kept.wants w2 p0 c.lend_kept.new.pool p2 mid after
+    (Err c.in-Err.missed) c.in_default.ensures.none c.lend_kept.ensures.wants c.in-Err.ensures.found in
     subst (λ f. FitsFetch store.layout want old after (blocks s.chunks s.devices.items s.setting (loans_of p2) (kept_in s.setting w2 p2.bytes))
     (Err f)) (sym (c.fault.ensures ∙ ap (λ a. fault_of a c.in-Err.missed) c.addr.ensures))
     (missed_fetched s.chunks s.devices.items s.setting p0 w0 store c.store.invariant.store c.store.view_is want t seeks old mid after
@@ -240,13 +254,15 @@ returns-clause-serves g c =
     let store = c.args.store.now in
     let want = c.args.want.now in
     let t = c.in_ok-search.search in
-    let seeks = located s.chunks s.devices.items c.deref.result.now s.setting (loans_of p0) (kept_in s.setting w0 p0.bytes) store want t c.store.view_is c.deref.ensures.value c.in_ok-search.ensures in
+    let seeks = located s.chunks s.devices.items c.deref.result.now s.setting (loans_of p0)
+    (kept_in s.setting w0 p0.bytes) store want t c.store.view_is c.deref.ensures.value c.in_ok-search.ensures in
     let old = g.R.Rack.seen c.args.rack.now in
     let mid = g.R.Rack.seen c.forget.new.self in
     let after = g.R.Rack.seen c.find.new.rack in
     let new = g.R.Rack.seen c.forget-in-Ok.new.self in
     let k = c.in-Ok.slot in
-    let found = found_of t w0 c.lend_kept.new.kept.wants w2 p0 c.lend_kept.new.pool p2 mid after (Ok k) c.in_default.ensures.none c.lend_kept.ensures.wants c.in-Ok.ensures.found in
+    let found = found_of t w0 c.lend_kept.new.kept.wants w2 p0 c.lend_kept.new.pool p2 mid after
+    (Ok k) c.in_default.ensures.none c.lend_kept.ensures.wants c.in-Ok.ensures.found in
     found_serves s.chunks s.devices.items s.setting p0 w0 store c.store.invariant.store c.store.view_is want t seeks old mid after c.forget.ensures
     c.in-Ok.ensures.reads p2 w2 k found new c.forget-in-Ok.ensures c.requires.serves
 
@@ -260,13 +276,15 @@ returns-clause-account g c =
     let store = c.args.store.now in
     let want = c.args.want.now in
     let t = c.in_ok-search.search in
-    let seeks = located s.chunks s.devices.items c.deref.result.now s.setting (loans_of p0) (kept_in s.setting w0 p0.bytes) store want t c.store.view_is c.deref.ensures.value c.in_ok-search.ensures in
+    let seeks = located s.chunks s.devices.items c.deref.result.now s.setting (loans_of p0)
+    (kept_in s.setting w0 p0.bytes) store want t c.store.view_is c.deref.ensures.value c.in_ok-search.ensures in
     let old = g.R.Rack.seen c.args.rack.now in
     let mid = g.R.Rack.seen c.forget.new.self in
     let after = g.R.Rack.seen c.find.new.rack in
     let new = g.R.Rack.seen c.forget-in-Ok.new.self in
     let k = c.in-Ok.slot in
-    let found = found_of t w0 c.lend_kept.new.kept.wants w2 p0 c.lend_kept.new.pool p2 mid after (Ok k) c.in_default.ensures.none c.lend_kept.ensures.wants c.in-Ok.ensures.found in (
+    let found = found_of t w0 c.lend_kept.new.kept.wants w2 p0 c.lend_kept.new.pool p2 mid after
+    (Ok k) c.in_default.ensures.none c.lend_kept.ensures.wants c.in-Ok.ensures.found in (
       ap (λ s. s.account.fresh) c.forget-in-Ok.ensures,
       ap (λ s. s.account.missed) c.forget-in-Ok.ensures,
       found_last s.chunks s.devices.items
@@ -284,7 +302,8 @@ returns-clause-lent g c =
     let store = c.args.store.now in
     let want = c.args.want.now in
     let t = c.in_ok-search.search in
-    let seeks = located s.chunks s.devices.items c.deref.result.now s.setting (loans_of p0) (kept_in s.setting w0 p0.bytes) store want t c.store.view_is c.deref.ensures.value c.in_ok-search.ensures in
+    let seeks = located s.chunks s.devices.items c.deref.result.now s.setting (loans_of p0)
+    (kept_in s.setting w0 p0.bytes) store want t c.store.view_is c.deref.ensures.value c.in_ok-search.ensures in
     let old = g.R.Rack.seen c.args.rack.now in
     let mid = g.R.Rack.seen c.forget.new.self in
     let after = g.R.Rack.seen c.find.new.rack in
@@ -314,13 +333,15 @@ returns-clause-keeps g c =
     let store = c.args.store.now in
     let want = c.args.want.now in
     let t = c.in_ok-search.search in
-    let seeks = located s.chunks s.devices.items c.deref.result.now s.setting (loans_of p0) (kept_in s.setting w0 p0.bytes) store want t c.store.view_is c.deref.ensures.value c.in_ok-search.ensures in
+    let seeks = located s.chunks s.devices.items c.deref.result.now s.setting (loans_of p0)
+    (kept_in s.setting w0 p0.bytes) store want t c.store.view_is c.deref.ensures.value c.in_ok-search.ensures in
     let old = g.R.Rack.seen c.args.rack.now in
     let mid = g.R.Rack.seen c.forget.new.self in
     let after = g.R.Rack.seen c.find.new.rack in
     let new = g.R.Rack.seen c.forget-in-Ok.new.self in
     let k = c.in-Ok.slot in
-    let found = found_of t w0 c.lend_kept.new.kept.wants w2 p0 c.lend_kept.new.pool p2 mid after (Ok k) c.in_default.ensures.none c.lend_kept.ensures.wants c.in-Ok.ensures.found in
+    let found = found_of t w0 c.lend_kept.new.kept.wants w2 p0 c.lend_kept.new.pool p2 mid after
+    (Ok k) c.in_default.ensures.none c.lend_kept.ensures.wants c.in-Ok.ensures.found in
     found_keeps s.chunks s.devices.items s.setting p0 w0 store c.store.invariant.store c.store.view_is want t seeks old mid after c.forget.ensures
     c.in-Ok.ensures.reads p2 w2 k found new c.forget-in-Ok.ensures c.size-len.result c.size-len.ensures.value
 
@@ -334,13 +355,15 @@ returns-clause-answer g c =
     let store = c.args.store.now in
     let want = c.args.want.now in
     let t = c.in_ok-search.search in
-    let seeks = located s.chunks s.devices.items c.deref.result.now s.setting (loans_of p0) (kept_in s.setting w0 p0.bytes) store want t c.store.view_is c.deref.ensures.value c.in_ok-search.ensures in
+    let seeks = located s.chunks s.devices.items c.deref.result.now s.setting (loans_of p0)
+    (kept_in s.setting w0 p0.bytes) store want t c.store.view_is c.deref.ensures.value c.in_ok-search.ensures in
     let old = g.R.Rack.seen c.args.rack.now in
     let mid = g.R.Rack.seen c.forget.new.self in
     let after = g.R.Rack.seen c.find.new.rack in
     let new = g.R.Rack.seen c.forget-in-Ok.new.self in
     let k = c.in-Ok.slot in
-    let found = found_of t w0 c.lend_kept.new.kept.wants w2 p0 c.lend_kept.new.pool p2 mid after (Ok k) c.in_default.ensures.none c.lend_kept.ensures.wants c.in-Ok.ensures.found in
+    let found = found_of t w0 c.lend_kept.new.kept.wants w2 p0 c.lend_kept.new.pool p2 mid after
+    (Ok k) c.in_default.ensures.none c.lend_kept.ensures.wants c.in-Ok.ensures.found in
     found_fetched s.chunks s.devices.items s.setting p0 w0 store c.store.invariant.store c.store.view_is want t seeks old mid after c.forget.ensures
     c.in-Ok.ensures.reads p2 w2 k found new c.forget-in-Ok.ensures c.size-len.result c.size-len.ensures.value
     (taken_of p0 c.lend_kept.new.pool p2 k c.in_default.ensures.none c.in-Ok.ensures.taken)
@@ -357,4 +380,6 @@ returns-clause-calls g c =
     let after = g.R.Rack.seen c.find.new.rack in
     let new = g.R.Rack.seen c.forget-in-Ok.new.self in
     let k = c.in-Ok.slot in
-    calls_of store.layout want old new (blocks s.chunks s.devices.items s.setting (loans_of p2) (kept_in s.setting w2 p2.bytes)) (Ok (record { slot = k; len = c.size-len.result })) (reads_more (reads_more (reads_forget old mid c.forget.ensures) c.in-Ok.ensures.reads) (reads_forget after new c.forget-in-Ok.ensures)) (returns-clause-answer g c)
+    calls_of store.layout want old new (blocks s.chunks s.devices.items s.setting (loans_of p2) (kept_in s.setting w2 p2.bytes))
+    (Ok (record { slot = k; len = c.size-len.result })) (reads_more (reads_more (reads_forget old mid c.forget.ensures) c.in-Ok.ensures.reads)
+    (reads_forget after new c.forget-in-Ok.ensures)) (returns-clause-answer g c)

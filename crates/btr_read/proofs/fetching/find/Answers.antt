@@ -14,7 +14,8 @@ returns-in-First-clause-found g c =
     let w0 = c.args.kept.now.wants in
     let taken = c.take_least-slot.ensures in
     let e = c.in-First.ensures in
-    let still = still_taken w0 w0 c.take_least-slot.new.kept.wants c.try_all.new.kept.wants p0 p0 c.take_least-slot.new.pool c.try_all.new.pool c.take_least-slot.result refl refl taken.lent taken.forgotten e.kept in
+    let still = still_taken w0 w0 c.take_least-slot.new.kept.wants c.try_all.new.kept.wants p0 p0 c.take_least-slot.new.pool c.try_all.new.pool
+    c.take_least-slot.result refl refl taken.lent taken.forgotten e.kept in
     inl (
       record {
         then = c.try_all.new.kept.wants;
@@ -35,7 +36,8 @@ returns-in-First-clause-nodes g c =
     let e = c.in-First.ensures in
     let w3 = c.try_all.new.kept.wants in
     let n3 = c.try_all.new.kept.nodes in
-    let still = still_taken w0 w0 c.take_least-slot.new.kept.wants c.try_all.new.kept.wants p0 p0 c.take_least-slot.new.pool c.try_all.new.pool c.take_least-slot.result refl refl taken.lent taken.forgotten e.kept in
+    let still = still_taken w0 w0 c.take_least-slot.new.kept.wants c.try_all.new.kept.wants p0 p0 c.take_least-slot.new.pool c.try_all.new.pool
+    c.take_least-slot.result refl refl taken.lent taken.forgotten e.kept in
     let one = c.keep.ensures.kept ∙ ap (λ n. set w3 n (kept_want c.search.inside.want.now)) c.slot.ensures in
     let nodes = c.keep.ensures.nodes ∙ ap (λ n. set n3 n false) c.slot.ensures ∙ ap (λ ns. set ns k false) (e.nodes ∙ taken.nodes) in
     nodes_more w0 w3 c.keep.new.self.wants c.args.kept.now.nodes c.keep.new.self.nodes p0 c.try_all.new.pool k (kept_want c.search.inside.want.now)
@@ -59,7 +61,8 @@ returns-in-Later-clause-nodes g c =
     let w0 = c.args.kept.now.wants in
     let taken = c.take_least-slot.ensures in
     let e = c.in-Later.ensures in
-    let still = still_taken w0 w0 c.take_least-slot.new.kept.wants c.try_all.new.kept.wants p0 p0 c.take_least-slot.new.pool c.try_all.new.pool c.take_least-slot.result refl refl taken.lent taken.forgotten e.kept in
+    let still = still_taken w0 w0 c.take_least-slot.new.kept.wants c.try_all.new.kept.wants p0 p0 c.take_least-slot.new.pool c.try_all.new.pool
+    c.take_least-slot.result refl refl taken.lent taken.forgotten e.kept in
     nodes_with w0 c.try_all.new.kept.wants c.args.kept.now.nodes c.try_all.new.kept.nodes p0 c.try_all.new.pool still (e.nodes ∙ taken.nodes)
 
 pub returns-in-Lost-clause-refused : goal.returns-in-Lost-clause-refused
@@ -76,7 +79,8 @@ returns-in-Lost-clause-found g c =
     let w3 = c.try_all.new.kept.wants in
     let taken = c.take_least-slot.ensures in
     let e = c.in-Lost.ensures in
-    let still = still_taken w0 w0 c.take_least-slot.new.kept.wants w3 p0 p0 c.take_least-slot.new.pool c.try_all.new.pool c.take_least-slot.result refl refl taken.lent taken.forgotten e.kept in (
+    let still = still_taken w0 w0 c.take_least-slot.new.kept.wants w3 p0 p0 c.take_least-slot.new.pool c.try_all.new.pool c.take_least-slot.result refl refl
+    taken.lent taken.forgotten e.kept in (
       still_more w0 w3 w3 p0 c.try_all.new.pool c.give.new.self still
           (still_same w3 c.try_all.new.pool c.give.new.self (ap (λ p. p.bytes) c.give.ensures)),
       e.outcome.0,
@@ -92,7 +96,8 @@ returns-in-Lost-clause-nodes g c =
     let p4 = c.give.new.self in
     let taken = c.take_least-slot.ensures in
     let e = c.in-Lost.ensures in
-    let still = still_taken w0 w0 c.take_least-slot.new.kept.wants c.try_all.new.kept.wants p0 p0 c.take_least-slot.new.pool c.try_all.new.pool c.take_least-slot.result refl refl taken.lent taken.forgotten e.kept in
+    let still = still_taken w0 w0 c.take_least-slot.new.kept.wants c.try_all.new.kept.wants p0 p0 c.take_least-slot.new.pool c.try_all.new.pool
+    c.take_least-slot.result refl refl taken.lent taken.forgotten e.kept in
     nodes_with w0 w3 c.args.kept.now.nodes c.try_all.new.kept.nodes p0 p4
     (still_more w0 w3 w3 p0 p3 p4 still (still_same w3 p3 p4 (ap (λ p. p.bytes) c.give.ensures))) (e.nodes ∙ taken.nodes)
 
@@ -111,7 +116,8 @@ returns-in-Unread-clause-found g c =
     let p4 = c.give-in-Unread.new.self in
     let taken = c.take_least-slot.ensures in
     let e = c.in-Unread.ensures in
-    let still = still_taken w0 w0 c.take_least-slot.new.kept.wants w3 p0 p0 c.take_least-slot.new.pool c.try_all.new.pool c.take_least-slot.result refl refl taken.lent taken.forgotten e.kept in
+    let still = still_taken w0 w0 c.take_least-slot.new.kept.wants w3 p0 p0 c.take_least-slot.new.pool c.try_all.new.pool c.take_least-slot.result refl refl
+    taken.lent taken.forgotten e.kept in
     (still_more w0 w3 w3 p0 c.try_all.new.pool p4 still (still_same w3 c.try_all.new.pool p4 (ap (λ p. p.bytes) c.give-in-Unread.ensures)), e.outcome)
 
 pub returns-in-Unread-clause-nodes : goal.returns-in-Unread-clause-nodes
@@ -123,6 +129,7 @@ returns-in-Unread-clause-nodes g c =
     let p4 = c.give-in-Unread.new.self in
     let taken = c.take_least-slot.ensures in
     let e = c.in-Unread.ensures in
-    let still = still_taken w0 w0 c.take_least-slot.new.kept.wants c.try_all.new.kept.wants p0 p0 c.take_least-slot.new.pool c.try_all.new.pool c.take_least-slot.result refl refl taken.lent taken.forgotten e.kept in
+    let still = still_taken w0 w0 c.take_least-slot.new.kept.wants c.try_all.new.kept.wants p0 p0 c.take_least-slot.new.pool c.try_all.new.pool
+    c.take_least-slot.result refl refl taken.lent taken.forgotten e.kept in
     nodes_with w0 w3 c.args.kept.now.nodes c.try_all.new.kept.nodes p0 p4
     (still_more w0 w3 w3 p0 p3 p4 still (still_same w3 p3 p4 (ap (λ p. p.bytes) c.give-in-Unread.ensures))) (e.nodes ∙ taken.nodes)

@@ -18,8 +18,10 @@ loop-done-preserved c =
     let e = c.add_piece.ensures in
     let lt : done < end = omega (arith, c.min.ensures) in
     let there : done + length (take (end - done) c.loop-done.buffer) ≡ end = omega (arith, c.min.ensures, length-take (end - done) c.loop-done.buffer) in
-    let whole : length (slice_range (bytes_at now slice) done end) ≡ end - done = omega (arith, lt, there, subst (λ n. length (slice_range (bytes_at now slice) done n) ≡ length (take (end - done) c.loop-done.buffer)) there e.whole) in
-    let added = subst (λ n. after ≡ with_bytes now sum (pasted (bytes_at now sum) done (plus (slice_range (bytes_at now sum) done n) (weighed c.args.parity c.args.index (slice_range (bytes_at now slice) done n))))) there e.added in
+    let whole : length (slice_range (bytes_at now slice) done end) ≡ end - done =
+    omega (arith, lt, there, subst (λ n. length (slice_range (bytes_at now slice) done n) ≡ length (take (end - done) c.loop-done.buffer)) there e.whole) in
+    let added = subst (λ n. after ≡ with_bytes now sum (pasted (bytes_at now sum) done
+    (plus (slice_range (bytes_at now sum) done n) (weighed c.args.parity c.args.index (slice_range (bytes_at now slice) done n))))) there e.added in
     record {
       within = omega (arith, c.min.ensures);
       so_far = added_more c.args.parity c.args.index sum slice done end old now after c.requires.live c.requires.apart lt

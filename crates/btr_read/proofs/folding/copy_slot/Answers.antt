@@ -16,7 +16,8 @@ loop-done-preserved c =
     let e = c.copy_piece.ensures in
     let lt : done < end = omega (arith, c.min.ensures) in
     let there : done + length (take (end - done) c.loop-done.buffer) ≡ end = omega (arith, c.min.ensures, length-take (end - done) c.loop-done.buffer) in
-    let whole : length (slice_range (bytes_at now from) done end) ≡ end - done = omega (arith, lt, there, subst (λ n. length (slice_range (bytes_at now from) done n) ≡ length (take (end - done) c.loop-done.buffer)) there e.whole) in
+    let whole : length (slice_range (bytes_at now from) done end) ≡ end - done =
+    omega (arith, lt, there, subst (λ n. length (slice_range (bytes_at now from) done n) ≡ length (take (end - done) c.loop-done.buffer)) there e.whole) in
     let copied = subst (λ n. after ≡ with_bytes now to (pasted (bytes_at now to) done (slice_range (bytes_at now from) done n))) there e.copied in
     record {
       within = omega (arith, c.min.ensures);

@@ -18,7 +18,8 @@ pub returns-in_err-read_part-clause-account : goal.returns-in_err-read_part-clau
 returns-in_err-read_part-clause-account g c =
     let t = c.args.search.now in
     let e = c.in_err-read_part.ensures.account in
-    let part = range_in_candidate t c.args.candidate (part_of c.args.parity) e.0 (parity_in (slice_count t) t.at.index c.args.parity c.args.candidate c.requires.uses) (ap (range_of t) (sym c.part.ensures) ∙ e.3) in
+    let part = range_in_candidate t c.args.candidate (part_of c.args.parity) e.0
+    (parity_in (slice_count t) t.at.index c.args.parity c.args.candidate c.requires.uses) (ap (range_of t) (sym c.part.ensures) ∙ e.3) in
     let p = err_from_is_err_and c.from_residual.result c.from_residual.ensures.1 in
     rw (p.1, p.2) (e.0, e.1, e.2, part)
 
@@ -66,7 +67,8 @@ loop-slice-preserved g c =
             sum = λ images is.
                 let old = bytes_at c.loop-slice.pool c.args.sum.now in
                 let new = bytes_at w.add_slice.new.pool c.args.sum.now in
-                let added = telling (g.R.Rack.seen c.loop-slice.rack).held (λ images. IsAdded images t k c.args.parity old new) e.bytes images (same_held inv.reads ∙ is) in
+                let added = telling (g.R.Rack.seen c.loop-slice.rack).held (λ images. IsAdded images t k c.args.parity old new) e.bytes images
+                (same_held inv.reads ∙ is) in
                 gathered_more images t c.args.candidate c.args.parity k (take n old) (take n new) (inv.sum images is)
                 (sym c.reads.ensures ∙ w.if-reads.true) added.slice added.sum;
           }))
@@ -86,8 +88,10 @@ returns-in_err-add_slice-clause-account g c =
     let k = c.loop-slice.slice in
     let e = c.in_err-add_slice.ensures.account in
     let lt : k < slice_count t = omega (arith, c.loop-slice-test.true, c.slice_count-slice-end.ensures.value) in
-    let one = one_after e.0 (g.R.Rack.seen c.args.rack.now) (g.R.Rack.seen c.loop-slice.rack) (g.R.Rack.seen c.add_slice.new.rack) (same_sure c.loop-slice.invariant.reads) c.loop-slice.invariant.calm e.1 in
-    let part = range_in_candidate t c.args.candidate (Slice k) e.0 (slice_in (slice_count t) t.at.index c.args.candidate k lt (sym c.reads.ensures ∙ c.if-reads.true)) e.3 in
+    let one = one_after e.0 (g.R.Rack.seen c.args.rack.now) (g.R.Rack.seen c.loop-slice.rack) (g.R.Rack.seen c.add_slice.new.rack)
+    (same_sure c.loop-slice.invariant.reads) c.loop-slice.invariant.calm e.1 in
+    let part = range_in_candidate t c.args.candidate (Slice k) e.0
+    (slice_in (slice_count t) t.at.index c.args.candidate k lt (sym c.reads.ensures ∙ c.if-reads.true)) e.3 in
     let p = err_from_is_err_and c.from_residual-in_err-add_slice.result c.from_residual-in_err-add_slice.ensures.1 in
     rw (p.1, p.2) (e.0, one, e.2, part)
 

@@ -68,8 +68,10 @@ loop-slice-init g c =
     let p = c.args.p.now in
     let q = c.args.q.now in
     let three : List ℕ = q ∷ c.args.spare.now ∷ p ∷ [] in
-    let writes = writes_more c.args.pool.now pool new three (writes_one c.args.pool.now pool p three (λ j none. none.1.1.0) first.kept) (writes_one pool new q three (λ j none. none.0) second.kept) in
-    let same : bytes_at new p ≡ bytes_at pool p = ap (λ pool. bytes_at pool p) second.kept.1 ∙ bytes_at-with_bytes_other pool p q second.kept.0 c.requires.loans.ab in
+    let writes = writes_more c.args.pool.now pool new three (writes_one c.args.pool.now pool p three (λ j none. none.1.1.0) first.kept)
+    (writes_one pool new q three (λ j none. none.0) second.kept) in
+    let same : bytes_at new p ≡ bytes_at pool p =
+    ap (λ pool. bytes_at pool p) second.kept.1 ∙ bytes_at-with_bytes_other pool p q second.kept.0 c.requires.loans.ab in
     record {
       reads = reads_more first.reads second.reads;
       writes = writes;
@@ -80,7 +82,8 @@ loop-slice-init g c =
           subst (λ bytes. GatheredSoFar images t both parity.P 0 (take n bytes)) (sym same)
           (gathered_none images t both parity.P (take n (bytes_at pool p)) read first.slice);
       of_q = λ images is.
-          let read = telling (g.R.Rack.seen c.read_part.new.rack).held (λ images. take n (bytes_at new q) ≡ element images t Q) second.bytes images (same_held first.reads ∙ is) in
+          let read = telling (g.R.Rack.seen c.read_part.new.rack).held (λ images. take n (bytes_at new q) ≡ element images t Q) second.bytes images
+          (same_held first.reads ∙ is) in
           gathered_none images t both parity.Q (take n (bytes_at new q)) read second.slice;
     }
 

@@ -29,7 +29,8 @@ try_part-requires-clause-open g c =
     let layout = c.args.store.now.layout in
     let want = c.args.want.now in
     let t = c.in-Ok.search in
-    let seeks = located s.chunks s.devices.items c.deref.result.now s.setting (loans_of p0) (kept_in s.setting w0 p0.bytes) c.args.store.now want t c.store.view_is c.deref.ensures.value c.in-Ok.ensures in
+    let seeks = located s.chunks s.devices.items c.deref.result.now s.setting (loans_of p0)
+    (kept_in s.setting w0 p0.bytes) c.args.store.now want t c.store.view_is c.deref.ensures.value c.in-Ok.ensures in
     let is = sought_of layout want t seeks in
     let are = serving (g.R.Rack.seen c.args.rack.now) c.args.store.now c.requires.serves in
     subst (AreOpen (g.R.Rack.seen c.args.rack.now).slots) (sym is.devices_is) are.are_open
@@ -42,7 +43,8 @@ try_part-requires-clause-fits g c =
     let layout = c.args.store.now.layout in
     let want = c.args.want.now in
     let t = c.in-Ok.search in
-    let seeks = located s.chunks s.devices.items c.deref.result.now s.setting (loans_of p0) (kept_in s.setting w0 p0.bytes) c.args.store.now want t c.store.view_is c.deref.ensures.value c.in-Ok.ensures in
+    let seeks = located s.chunks s.devices.items c.deref.result.now s.setting (loans_of p0)
+    (kept_in s.setting w0 p0.bytes) c.args.store.now want t c.store.view_is c.deref.ensures.value c.in-Ok.ensures in
     let is = sought_of layout want t seeks in
     let setting = ap (λ s. s.nodesize) (is.setting_is ∙ sym (ap (λ s. s.layout.setting) c.store.view_is)) in
     let size = ap (λ p. p.size) c.take_least-slot.ensures.lent in
@@ -62,7 +64,8 @@ returns-in-Passed-clause-serves g c =
     let free = c.take_least-slot.ensures.free in
     let writes = subst (λ p. OnlyWrites k p p3) lent (only_writes p2 p3 k c.in-Passed.ensures.kept) in
     let forgotten = c.take_least-slot.ensures.forgotten in
-    let still = still_taken w0 w0 w2 w2 p0 p0 p2 p3 k refl refl lent forgotten (still_written w2 k p2 p3 (ap (λ w. get_or w k None) forgotten ∙ forgotten_at w0 k) c.try_part.ensures.kept) in
+    let still = still_taken w0 w0 w2 w2 p0 p0 p2 p3 k refl refl lent forgotten
+    (still_written w2 k p2 p3 (ap (λ w. get_or w k None) forgotten ∙ forgotten_at w0 k) c.try_part.ensures.kept) in
     serves_still s.chunks s.devices.items s.setting w0 w2 p0 p3 (g.R.Rack.seen c.args.rack.now) (g.R.Rack.seen c.try_part.new.rack) c.args.store.now
     c.store.view_is (same_slots c.try_part.ensures.reads) (same_held c.try_part.ensures.reads) still c.requires.serves (loans_of p3)
 
@@ -74,7 +77,8 @@ returns-in-Passed-clause-lent g c =
     let layout = c.args.store.now.layout in
     let want = c.args.want.now in
     let t = c.in-Ok.search in
-    let seeks = located s.chunks s.devices.items c.deref.result.now s.setting (loans_of p0) (kept_in s.setting w0 p0.bytes) c.args.store.now want t c.store.view_is c.deref.ensures.value c.in-Ok.ensures in
+    let seeks = located s.chunks s.devices.items c.deref.result.now s.setting (loans_of p0)
+    (kept_in s.setting w0 p0.bytes) c.args.store.now want t c.store.view_is c.deref.ensures.value c.in-Ok.ensures in
     let k = c.take_least-slot.result in
     let p2 = c.take_least-slot.new.pool in
     let w2 = c.take_least-slot.new.kept.wants in
@@ -83,7 +87,8 @@ returns-in-Passed-clause-lent g c =
     let free = c.take_least-slot.ensures.free in
     let writes = subst (λ p. OnlyWrites k p p3) lent (only_writes p2 p3 k c.in-Passed.ensures.kept) in
     let is = sought_of layout want t seeks in
-    let len = c.size-len.ensures.value ∙ ap (λ z. len_of z t.want) (is.setting_is ∙ sym (ap (λ z. z.layout.setting) c.store.view_is)) ∙ ap (len_of s.setting) is.want_is in
+    let len = c.size-len.ensures.value ∙ ap (λ z. len_of z t.want) (is.setting_is ∙ sym (ap (λ z. z.layout.setting) c.store.view_is))
+    ∙ ap (len_of s.setting) is.want_is in
     lent_by s.chunks s.devices.items s.setting p0 p3 (kept_in s.setting w0 p0.bytes) (kept_in s.setting w2 p3.bytes) k c.size-len.result
     c.args.store.now want c.store.invariant.store c.store.view_is free writes len
 
@@ -95,7 +100,8 @@ returns-in-Passed-clause-answer g c =
     let layout = c.args.store.now.layout in
     let want = c.args.want.now in
     let t = c.in-Ok.search in
-    let seeks = located s.chunks s.devices.items c.deref.result.now s.setting (loans_of p0) (kept_in s.setting w0 p0.bytes) c.args.store.now want t c.store.view_is c.deref.ensures.value c.in-Ok.ensures in
+    let seeks = located s.chunks s.devices.items c.deref.result.now s.setting (loans_of p0)
+    (kept_in s.setting w0 p0.bytes) c.args.store.now want t c.store.view_is c.deref.ensures.value c.in-Ok.ensures in
     let k = c.take_least-slot.result in
     let p2 = c.take_least-slot.new.pool in
     let w2 = c.take_least-slot.new.kept.wants in
@@ -107,7 +113,8 @@ returns-in-Passed-clause-answer g c =
     let there = ap (option_map (take c.size-len.result)) (loan_taken p0 p3 k c.store.invariant.store.whole free writes) in
     let block = there ∙ ap (λ n. Some (take n slot)) c.size-len.ensures.value in
     let store = blocks s.chunks s.devices.items s.setting (loans_of p3) (kept_in s.setting w2 p3.bytes) in
-    tried_passes _ t (mirror_candidate c.args.mirror) (g.R.Rack.seen c.args.rack.now).held store (record { slot = k; len = c.size-len.result }) slot seeks c.in-Passed.ensures.attempt block
+    tried_passes _ t (mirror_candidate c.args.mirror) (g.R.Rack.seen c.args.rack.now).held store
+    (record { slot = k; len = c.size-len.result }) slot seeks c.in-Passed.ensures.attempt block
 
 pub returns-clause-lent : goal.returns-clause-lent
 returns-clause-lent g c =
@@ -146,7 +153,8 @@ returns-clause-serves g c =
     let free = c.take_least-slot.ensures.free in
     let writes = subst (λ p. OnlyWrites k p p3) lent (only_writes p2 p3 k c.try_part.ensures.kept) in
     let forgotten = c.take_least-slot.ensures.forgotten in
-    let still = still_taken w0 w0 w2 w2 p0 p0 p2 p3 k refl refl lent forgotten (still_written w2 k p2 p3 (ap (λ w. get_or w k None) forgotten ∙ forgotten_at w0 k) c.try_part.ensures.kept) in
+    let still = still_taken w0 w0 w2 w2 p0 p0 p2 p3 k refl refl lent forgotten
+    (still_written w2 k p2 p3 (ap (λ w. get_or w k None) forgotten ∙ forgotten_at w0 k) c.try_part.ensures.kept) in
     let p4 = c.give.new.self in
     let back = still_more w0 w2 w2 p0 p3 p4 still (still_same w2 p3 p4 (ap (λ p. p.bytes) c.give.ensures)) in
     serves_still s.chunks s.devices.items s.setting w0 w2 p0 p4 (g.R.Rack.seen c.args.rack.now) (g.R.Rack.seen c.try_part.new.rack) c.args.store.now
@@ -162,7 +170,8 @@ invariant_of-store g c =
     let w2 = c.take_least-slot.new.kept.wants in
     let p3 = c.try_part.new.pool in
     let taken = c.take_least-slot.ensures in
-    let still = still_taken w0 w0 w2 w2 p0 p0 p2 p3 k refl refl taken.lent taken.forgotten (still_written w2 k p2 p3 (ap (λ w. get_or w k None) taken.forgotten ∙ forgotten_at w0 k) c.try_part.ensures.kept) in
+    let still = still_taken w0 w0 w2 w2 p0 p0 p2 p3 k refl refl taken.lent taken.forgotten
+    (still_written w2 k p2 p3 (ap (λ w. get_or w k None) taken.forgotten ∙ forgotten_at w0 k) c.try_part.ensures.kept) in
     written_sound p0 p2 p3 w0 w2 s.kept.nodes c.take_least-slot.new.kept.nodes s.setting k taken.lent (only_writes p2 p3 k c.try_part.ensures.kept)
     still taken.nodes c.store.invariant
 
@@ -178,7 +187,9 @@ invariant_of-store-2 g c =
     let p3 = c.try_part.new.pool in
     let p4 = c.give.new.self in
     let taken = c.take_least-slot.ensures in
-    let still = still_taken w0 w0 w2 w2 p0 p0 p2 p3 k refl refl taken.lent taken.forgotten (still_written w2 k p2 p3 (ap (λ w. get_or w k None) taken.forgotten ∙ forgotten_at w0 k) c.try_part.ensures.kept) in
-    let written = written_sound p0 p2 p3 w0 w2 s.kept.nodes n2 s.setting k taken.lent (only_writes p2 p3 k c.try_part.ensures.kept) still taken.nodes c.store.invariant in
+    let still = still_taken w0 w0 w2 w2 p0 p0 p2 p3 k refl refl taken.lent taken.forgotten
+    (still_written w2 k p2 p3 (ap (λ w. get_or w k None) taken.forgotten ∙ forgotten_at w0 k) c.try_part.ensures.kept) in
+    let written = written_sound p0 p2 p3 w0 w2 s.kept.nodes n2 s.setting k taken.lent
+    (only_writes p2 p3 k c.try_part.ensures.kept) still taken.nodes c.store.invariant in
     sound_still w2 w2 n2 n2 p3 p4 s.setting (store_freed p3 p4 s.setting k c.give.ensures written.store)
     (nodes_with w2 w2 n2 n2 p3 p4 (still_same w2 p3 p4 (ap (λ p. p.bytes) c.give.ensures)) refl) written

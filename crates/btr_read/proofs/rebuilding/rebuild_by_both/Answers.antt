@@ -22,8 +22,11 @@ returns-clause-value g c =
     let sum = take n (bytes_at c.gather_both.new.pool c.args.p.now) in
     let weighted = take n (bytes_at c.gather_both.new.pool c.args.q.now) in
     let slice = bytes_at c.solve.new.pool c.args.p.now in
-    let sized : IsTheOne n (WeighsWith sum weighted c.index.result c.args.other) (take n slice) = subst (λ n. IsTheOne n (WeighsWith (take n (bytes_at c.gather_both.new.pool c.args.p.now)) (take n (bytes_at c.gather_both.new.pool c.args.q.now)) c.index.result c.args.other) (take n slice)) c.size.ensures.value c.solve.ensures.one in
-    let solves : IsTheOne n (WeighsWith sum weighted t.at.index c.args.other) (take n slice) = subst (λ i. IsTheOne n (WeighsWith sum weighted i c.args.other) (take n slice)) c.index.ensures sized in
+    let sized : IsTheOne n (WeighsWith sum weighted c.index.result c.args.other) (take n slice) =
+    subst (λ n. IsTheOne n (WeighsWith (take n (bytes_at c.gather_both.new.pool c.args.p.now))
+    (take n (bytes_at c.gather_both.new.pool c.args.q.now)) c.index.result c.args.other) (take n slice)) c.size.ensures.value c.solve.ensures.one in
+    let solves : IsTheOne n (WeighsWith sum weighted t.at.index c.args.other) (take n slice) =
+    subst (λ i. IsTheOne n (WeighsWith sum weighted i c.args.other) (take n slice)) c.index.ensures sized in
     let differ : t.at.index ≢ c.args.other = λ e. c.requires.rebuilt.2 (sym e) in
     told held (λ images. value_of images t both ≡ take n slice) (λ images is.
     by_both images t c.args.other sum weighted (take n slice) e.sought.0 c.requires.rebuilt.1 differ

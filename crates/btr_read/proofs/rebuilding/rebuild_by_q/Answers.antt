@@ -15,8 +15,10 @@ returns-clause-value g c =
     let n : ℕ = size_of t in
     let left = bytes_at c.gather.new.pool c.args.loan.now in
     let slice = bytes_at c.divide.new.pool c.args.loan.now in
-    let sized : IsTheOne n (Weighs c.index.result (take n left)) (take n slice) = subst (λ n. IsTheOne n (Weighs c.index.result (take n left)) (take n slice)) c.size.ensures.value c.divide.ensures.one in
-    let weighs : IsTheOne n (Weighs t.at.index (take n left)) (take n slice) = subst (λ i. IsTheOne n (Weighs i (take n left)) (take n slice)) c.index.ensures sized in
+    let sized : IsTheOne n (Weighs c.index.result (take n left)) (take n slice) =
+    subst (λ n. IsTheOne n (Weighs c.index.result (take n left)) (take n slice)) c.size.ensures.value c.divide.ensures.one in
+    let weighs : IsTheOne n (Weighs t.at.index (take n left)) (take n slice) =
+    subst (λ i. IsTheOne n (Weighs i (take n left)) (take n slice)) c.index.ensures sized in
     told (g.R.Rack.seen c.args.rack.now).held (λ images. value_of images t ByQ ≡ take n slice) (λ images is.
     by_q images t (take n left) (take n slice) c.in_ok-gather.ensures.sought.0
     (telling (g.R.Rack.seen c.args.rack.now).held (λ images. IsGathered images t ByQ parity.Q (take n left)) c.in_ok-gather.ensures.bytes images is) weighs)

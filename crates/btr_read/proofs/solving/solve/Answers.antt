@@ -20,7 +20,8 @@ loop-done-preserved c =
     let ps = bytes_at now p in
     let qs = bytes_at now q in
     let X : List ℕ = e.solved.0 in
-    let one = subst (λ n. IsTheOne n (WeighsWith (slice_range ps done end) (slice_range qs done end) c.args.index c.args.other) X) few (subst (λ m. IsTheOne n (WeighsWith (slice_range ps done m) (slice_range qs done m) c.args.index c.args.other) X) there e.solved.1) in
+    let one = subst (λ n. IsTheOne n (WeighsWith (slice_range ps done end) (slice_range qs done end) c.args.index c.args.other) X) few
+    (subst (λ m. IsTheOne n (WeighsWith (slice_range ps done m) (slice_range qs done m) c.args.index c.args.other) X) there e.solved.1) in
     record {
       within = omega (arith, c.min.ensures);
       so_far = solved_more c.args.index c.args.other p q done end old now c.solve_piece.new.pool c.requires.live c.requires.apart lt

@@ -21,5 +21,6 @@ add_slot-requires-clause-live c = live c.args.pool.now c.copy_slot.new.pool c.ar
     c.requires.loans.first.a_live
 
 pub add_slot-requires-clause-other_live : goal.add_slot-requires-clause-other_live
-add_slot-requires-clause-other_live c = live c.args.pool.now c.copy_slot.new.pool c.args.slots.now.spare.now c.args.slots.now.sought.now c.copy_slot.ensures.kept
+add_slot-requires-clause-other_live c =
+    live c.args.pool.now c.copy_slot.new.pool c.args.slots.now.spare.now c.args.slots.now.sought.now c.copy_slot.ensures.kept
     c.requires.loans.d_live

@@ -22,7 +22,8 @@ returns-in-ByP-clause-value g c =
     let old = c.args.pool.now in
     let P : List ℕ = take n (bytes_at old c.args.slots.now.p.now) in
     let X : List ℕ = take n (bytes_at c.copy_slot.new.pool c.args.slots.now.sought.now) in
-    let copied : X ≡ P = subst (λ m. take m (bytes_at c.copy_slot.new.pool c.args.slots.now.sought.now) ≡ take m (bytes_at old c.args.slots.now.p.now)) c.size-len.ensures.value c.copy_slot.ensures.copy in
+    let copied : X ≡ P = subst (λ m. take m (bytes_at c.copy_slot.new.pool c.args.slots.now.sought.now) ≡ take m (bytes_at old c.args.slots.now.p.now))
+    c.size-len.ensures.value c.copy_slot.ensures.copy in
     subst (λ d. IfSome held (λ images. value_of images t d ≡ X)) (sym c.in-ByP.is) (told held (λ images. value_of images t ByP ≡ X) (λ images is.
     let syn = telling held (λ images. AreSyndromes images t P (take n (bytes_at old c.args.slots.now.q.now))) c.requires.syndromes images is in
     by_p images t P c.requires.sought syn.of_p ∙ sym copied))
@@ -53,8 +54,11 @@ returns-in-ByQ-clause-value g c =
     let Q : List ℕ = take n (bytes_at old c.args.slots.now.q.now) in
     let S : List ℕ = take n (bytes_at mid loan) in
     let X : List ℕ = take n (bytes_at c.divide.new.pool loan) in
-    let copied : S ≡ Q = subst (λ m. take m (bytes_at mid loan) ≡ take m (bytes_at old c.args.slots.now.q.now)) c.size-len.ensures.value c.copy_slot-in-ByQ.ensures.copy in
-    let sized : IsTheOne n (Weighs c.index-index.result S) X = subst (λ m. IsTheOne m (Weighs c.index-index.result (take m (bytes_at mid loan))) (take m (bytes_at c.divide.new.pool loan))) c.size-len.ensures.value c.divide.ensures.one in
+    let copied : S ≡ Q = subst (λ m. take m (bytes_at mid loan) ≡ take m (bytes_at old c.args.slots.now.q.now)) c.size-len.ensures.value
+    c.copy_slot-in-ByQ.ensures.copy in
+    let sized : IsTheOne n (Weighs c.index-index.result S) X =
+    subst (λ m. IsTheOne m (Weighs c.index-index.result (take m (bytes_at mid loan))) (take m (bytes_at c.divide.new.pool loan)))
+    c.size-len.ensures.value c.divide.ensures.one in
     let weighs : IsTheOne n (Weighs t.at.index S) X = subst (λ i. IsTheOne n (Weighs i S) X) c.index-index.ensures sized in
     subst (λ d. IfSome held (λ images. value_of images t d ≡ X)) (sym c.in-ByQ.is) (told held (λ images. value_of images t ByQ ≡ X) (λ images is.
     let syn = telling held (λ images. AreSyndromes images t (take n (bytes_at old c.args.slots.now.p.now)) Q) c.requires.syndromes images is in
@@ -72,7 +76,9 @@ returns-in-ByQ-clause-syndromes g c =
     let loan = c.args.slots.now.sought.now in
     let mid = c.copy_slot-in-ByQ.new.pool in
     let end = c.divide.new.pool in
-    let same_p = still mid end p loan c.requires.loans.first.ab c.divide.ensures.kept ∙ still old mid p loan c.requires.loans.first.ab c.copy_slot-in-ByQ.ensures.kept in
-    let same_q = still mid end q loan c.requires.loans.first.ac c.divide.ensures.kept ∙ still old mid q loan c.requires.loans.first.ac c.copy_slot-in-ByQ.ensures.kept in
+    let same_p = still mid end p loan c.requires.loans.first.ab c.divide.ensures.kept
+    ∙ still old mid p loan c.requires.loans.first.ab c.copy_slot-in-ByQ.ensures.kept in
+    let same_q = still mid end q loan c.requires.loans.first.ac c.divide.ensures.kept
+    ∙ still old mid q loan c.requires.loans.first.ac c.copy_slot-in-ByQ.ensures.kept in
     subst (λ x. IfSome held (λ images. AreSyndromes images t (take n x) (take n (bytes_at end q)))) (sym same_p)
     (subst (λ x. IfSome held (λ images. AreSyndromes images t (take n (bytes_at old p)) (take n x))) (sym same_q) c.requires.syndromes)

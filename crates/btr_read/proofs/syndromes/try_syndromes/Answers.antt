@@ -25,7 +25,8 @@ returns-then-passes-clause-trial g c = λ before is h.
     let slot = bytes_at c.try_by_syndromes.new.pool c.args.slots.now.sought.now in
     let bytes : List ℕ = take (size_of t) slot in
     let lt : c.loop-k.k < length (candidates t) = omega (arith, c.loop-k-test.true, c.candidate_count-k-end.ensures) in
-    let standing = stands_in_row t cand c.requires.stands (c.candidate-candidate.ensures.behind c.requires.order c.requires.profile (omega (arith, c.loop-k.auto.k))) in
+    let standing = stands_in_row t cand c.requires.stands (c.candidate-candidate.ensures.behind c.requires.order c.requires.profile
+    (omega (arith, c.loop-k.auto.k))) in
     subst (FitsOutcome t before after slot) (sym c.passed_after.ensures)
     (one_passes t before now after c.args.failed c.loop-k.k cand slot is.fresh (c.loop-k.invariant.tried before is h)
     c.candidate-candidate.ensures.value lt e.account standing (e.value.0 ∙ c.if-passes.true)
@@ -53,7 +54,8 @@ loop-k-preserved g c =
     let e = c.in-Ok.ensures in
     let bytes : List ℕ = take n (bytes_at new c.args.slots.now.sought.now) in
     let lt : c.loop-k.k < length (candidates t) = omega (arith, c.loop-k-test.true, c.candidate_count-k-end.ensures) in
-    let standing = stands_in_row t cand c.requires.stands (c.candidate-candidate.ensures.behind c.requires.order c.requires.profile (omega (arith, c.loop-k.auto.k))) in
+    let standing = stands_in_row t cand c.requires.stands (c.candidate-candidate.ensures.behind c.requires.order c.requires.profile
+    (omega (arith, c.loop-k.auto.k))) in
     record {
       reads = reads_more inv.reads e.reads;
       writes = writes_more c.args.pool.now c.loop-k.pool new _ inv.writes e.pool;
@@ -61,7 +63,8 @@ loop-k-preserved g c =
           (take n (bytes_at new c.args.slots.now.q.now)))) (sym (same_held e.reads)) e.syndromes;
       tried = λ before is h. tried_calm t before now after c.args.failed c.loop-k.k cand (inv.tried before is h) c.candidate-candidate.ensures.value
           lt e.account (λ images im.
-          let value : value_of images t cand ≡ bytes = telling now.held (λ images. value_of images t cand ≡ bytes) e.value.1 images (same_held inv.reads ∙ is.held ∙ im) in
+          let value : value_of images t cand ≡ bytes =
+          telling now.held (λ images. value_of images t cand ≡ bytes) e.value.1 images (same_held inv.reads ∙ is.held ∙ im) in
           let fails : passes t.setting t.want (value_of images t cand) ≡ false = ap (passes t.setting t.want) value ∙ e.value.0 ∙ c.if-passes.false in
           differs_alone images t cand (value_of images t cand) (reading_stands images t cand standing) fails);
     }

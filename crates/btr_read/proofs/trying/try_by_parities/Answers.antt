@@ -33,7 +33,8 @@ give-requires g c =
     let two = c.take_least-q.ensures.lent ∙ ap (λ x. with_lent x q) c.take_least-p.ensures.lent in
     let free_s = subst (λ x. IsFree x s) two c.take_least-spare.ensures.free in
     let taken = c.take_least-spare.ensures.lent ∙ ap (λ x. with_lent x s) two in
-    let four = four_still _ p4 _ k p q s c.try_row-trial.ensures.pool (subst (λ x. AreFour x k p q s) (sym taken) (four_taken p0 k p q s c.requires.live free_p free_q free_s)) in
+    let four = four_still _ p4 _ k p q s c.try_row-trial.ensures.pool
+    (subst (λ x. AreFour x k p q s) (sym taken) (four_taken p0 k p q s c.requires.live free_p free_q free_s)) in
     four.d_live
 
 pub give-requires-2 : goal.give-requires-2
@@ -49,7 +50,8 @@ give-requires-2 g c =
     let two = c.take_least-q.ensures.lent ∙ ap (λ x. with_lent x q) c.take_least-p.ensures.lent in
     let free_s = subst (λ x. IsFree x s) two c.take_least-spare.ensures.free in
     let taken = c.take_least-spare.ensures.lent ∙ ap (λ x. with_lent x s) two in
-    let four = four_still _ p4 _ k p q s c.try_row-trial.ensures.pool (subst (λ x. AreFour x k p q s) (sym taken) (four_taken p0 k p q s c.requires.live free_p free_q free_s)) in
+    let four = four_still _ p4 _ k p q s c.try_row-trial.ensures.pool
+    (subst (λ x. AreFour x k p q s) (sym taken) (four_taken p0 k p q s c.requires.live free_p free_q free_s)) in
     subst (λ x. IsLive x q) (sym c.give.ensures) (live_after_give p4 q s four.cd four.first.c_live)
 
 pub give-requires-3 : goal.give-requires-3
@@ -65,7 +67,8 @@ give-requires-3 g c =
     let two = c.take_least-q.ensures.lent ∙ ap (λ x. with_lent x q) c.take_least-p.ensures.lent in
     let free_s = subst (λ x. IsFree x s) two c.take_least-spare.ensures.free in
     let taken = c.take_least-spare.ensures.lent ∙ ap (λ x. with_lent x s) two in
-    let four = four_still _ p4 _ k p q s c.try_row-trial.ensures.pool (subst (λ x. AreFour x k p q s) (sym taken) (four_taken p0 k p q s c.requires.live free_p free_q free_s)) in
+    let four = four_still _ p4 _ k p q s c.try_row-trial.ensures.pool
+    (subst (λ x. AreFour x k p q s) (sym taken) (four_taken p0 k p q s c.requires.live free_p free_q free_s)) in
     let then = live_after_give p4 p s four.bd four.first.b_live in
     subst (λ x. IsLive x p) (sym (c.give-2.ensures ∙ ap (λ x. with_free x q) c.give.ensures)) (live_after_give (with_free p4 s) p q four.first.bc then)
 
@@ -101,7 +104,8 @@ returns-clause-kept g c =
     let taken = c.take_least-spare.ensures.lent ∙ ap (λ x. with_lent x s) two in
     let writes = subst (λ x. OnlyWritesIn (q ∷ s ∷ p ∷ k ∷ []) x p4) taken c.try_row-trial.ensures.pool in
     let given = c.give-3.ensures ∙ ap (λ x. with_free x p) (c.give-2.ensures ∙ ap (λ x. with_free x q) c.give.ensures) in
-    let wants = c.take_least-spare.ensures.forgotten ∙ ap (λ w. set w s None) (c.take_least-q.ensures.forgotten ∙ ap (λ w. set w q None) c.take_least-p.ensures.forgotten) in
+    let wants = c.take_least-spare.ensures.forgotten ∙ ap (λ w. set w s None)
+    (c.take_least-q.ensures.forgotten ∙ ap (λ w. set w q None) c.take_least-p.ensures.forgotten) in
     subst (StillKept c.args.kept.now.wants c.take_least-spare.new.kept.wants p0) (sym given)
     (three_forgotten p0 k p q s c.requires.live free_p free_q free_s p4 writes c.args.kept.now.wants c.take_least-spare.new.kept.wants
     c.requires.forgotten wants)

@@ -17,5 +17,6 @@ returns-then-not-any_older c =
     each_ok (sought c.args.store.now.layout c.args.want.now) (IsWayAt c.args.k c.args.k) (λ t e.
     let is = sought_of c.args.store.now.layout c.args.want.now t e in
     let none : list_any is_older t.devices ≡ false =
-    ap (list_any is_older) (is.devices_is ∙ sym (ap (λ s. s.layout.devices) c.store.view_is) ∙ sym c.deref.ensures.value) ∙ sym c.any_older.ensures ∙ c.if-not-any_older.true in
+    ap (list_any is_older) (is.devices_is ∙ sym (ap (λ s. s.layout.devices) c.store.view_is) ∙ sym c.deref.ensures.value) ∙ sym c.any_older.ensures
+    ∙ c.if-not-any_older.true in
     none_older_at t none c.args.k)

@@ -43,5 +43,6 @@ loop-member-preserved c =
 
 pub returns : goal.returns
 returns c =
-    let nothing_left : drop c.loop-member.member-index c.args.members.now ≡ [] = drop_all c.loop-member.member-index c.args.members.now c.loop-member-test.false in
+    let nothing_left : drop c.loop-member.member-index c.args.members.now ≡ [] =
+    drop_all c.loop-member.member-index c.args.members.now c.loop-member-test.false in
     λ _. c.loop-member.invariant (subst (AreOpen (slots_of c.args.rack.now)) (sym nothing_left) (open_none (slots_of c.args.rack.now)))

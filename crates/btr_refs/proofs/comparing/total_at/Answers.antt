@@ -7,4 +7,5 @@ pub returns : goal.returns
 returns c =
     let addr = c.args.addr in
     let refs = c.refs_at-one-items.result.now in
-    c.loop-one.invariant ∙ ap (sum_by (weight addr)) (take_all c.loop-one.one-index refs (omega (arith, c.loop-one-test.false))) ∙ sym (total_of addr refs) ∙ c.refs_at-one-items.ensures
+    c.loop-one.invariant ∙ ap (sum_by (weight addr)) (take_all c.loop-one.one-index refs (omega (arith, c.loop-one-test.false))) ∙ sym (total_of addr refs)
+    ∙ c.refs_at-one-items.ensures

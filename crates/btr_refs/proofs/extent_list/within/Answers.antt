@@ -1,5 +1,6 @@
 use Rattle.std.proofs.Common.{◌-◌, length, ltb, leb, rules}
-use Rattle.std.proofs.lemmas.List.Sorted.{IsNonDecreasingBy-drop, IsNonDecreasingBy-take, IsPartitionPoint-from_clause, IsPartitionedBy-leb, IsPartitionedBy-ltb}
+use Rattle.std.proofs.lemmas.List.Sorted.{IsNonDecreasingBy-drop, IsNonDecreasingBy-take, IsPartitionPoint-from_clause, IsPartitionedBy-leb}
+use Rattle.std.proofs.lemmas.List.Sorted.{IsPartitionedBy-ltb}
 use Rattle.btr_findings.specs.declared.extent.Extent.{Extent}
 use Rattle.btr_refs.proofs.Extents.{addr_in, all_within, from_first}
 use Rattle.btr_refs.proofs.extent_list.within.Goals as goal

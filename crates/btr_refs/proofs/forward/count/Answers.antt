@@ -12,7 +12,8 @@ returns-in-Some-clause-counted c =
     let times = c.args.times.now in
     let others = c.args.others.now.entries in
     let has = c.in-Some.ensures.found in
-    on_ok c.count_again.result _ (tallied refs (slice_set times c.in-Some.at c.count_again.new.times) others ≡ counted (tallied refs times others) (once c.args.key))
+    on_ok c.count_again.result _ (tallied refs (slice_set times c.in-Some.at c.count_again.new.times) others
+    ≡ counted (tallied refs times others) (once c.args.key))
     (counted_next refs times others c.in-Some.at none 0 c.count_again.new.times c.args.key c.requires.ordered has.below c.requires.beside
     (has.is none)) c.count_again.ensures.ok
 

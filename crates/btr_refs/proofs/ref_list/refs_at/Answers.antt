@@ -1,5 +1,6 @@
 use Rattle.std.proofs.Common.{◌-◌, length, ltb, leb, rules}
-use Rattle.std.proofs.lemmas.List.Sorted.{IsNonDecreasingBy-drop, IsNonDecreasingBy-take, IsPartitionPoint-from_clause, IsPartitionedBy-leb, IsPartitionedBy-ltb}
+use Rattle.std.proofs.lemmas.List.Sorted.{IsNonDecreasingBy-drop, IsNonDecreasingBy-take, IsPartitionPoint-from_clause, IsPartitionedBy-leb}
+use Rattle.std.proofs.lemmas.List.Sorted.{IsPartitionedBy-ltb}
 use Rattle.btr_refs.specs.declared.counted.Counted.{Counted}
 use Rattle.btr_refs.proofs.Listing.{addr_of, addresses_rise, all_within, from_first}
 use Rattle.btr_refs.proofs.ref_list.refs_at.Goals as goal

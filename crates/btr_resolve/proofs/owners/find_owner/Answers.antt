@@ -7,7 +7,7 @@ use Rattle.btr_walk.proofs.Fetched.{since}
 use Rattle.btr_walk.proofs.Joined.{joined, unread_on}
 use Rattle.btr_walk.proofs.Lending.{same_none, same_then}
 use Rattle.btr_walk.proofs.Turns.{same_layout, same_room}
-use Rattle.btr_resolve.specs.Cursor.{IsFound, IsTurn, TurnNears}
+use Rattle.btr_resolve.specs.Cursor.{IsFound, IsTurn, TurnRankFalls}
 use Rattle.btr_resolve.specs.declared.owners.Turn.{Turn}
 use Rattle.btr_resolve.proofs.Cursors.{Gone, gone_end, gone_fault, gone_more, gone_none, gone_owner}
 use Rattle.btr_resolve.proofs.owners.find_owner.Goals as goal
@@ -84,7 +84,7 @@ loop-owner-preserved g c =
     let is = unread_by first.layout (g.R.Rack.seen c.args.rack.now) (g.R.Rack.seen c.next_turn.new.rack) in
     let was = unread_by f.store.layout (g.R.Rack.seen f.rack) (g.R.Rack.seen c.next_turn.new.rack) in
     let s = c.in_ok-next_turn.ensures in
-    let nears = subst (λ (o : Turn). TurnNears f.scan scan' (Ok o)) c.in-Other.is s.nears in
+    let nears = subst (λ (o : Turn). TurnRankFalls f.scan scan' (Ok o)) c.in-Other.is s.nears in
     record {
       ready = s.ready;
       reads = reads_more f.invariant.reads s.reads;
@@ -117,7 +117,7 @@ returns-in-Owner g c =
     let is = unread_by first.layout (g.R.Rack.seen c.args.rack.now) (g.R.Rack.seen c.next_turn.new.rack) in
     let was = unread_by f.store.layout (g.R.Rack.seen f.rack) (g.R.Rack.seen c.next_turn.new.rack) in
     let s = c.in_ok-next_turn.ensures in
-    let nears = subst (λ (o : Turn). TurnNears f.scan scan' (Ok o)) c.in-Owner.is s.nears in
+    let nears = subst (λ (o : Turn). TurnRankFalls f.scan scan' (Ok o)) c.in-Owner.is s.nears in
     record {
       ready = s.ready;
       reads = reads_more f.invariant.reads s.reads;

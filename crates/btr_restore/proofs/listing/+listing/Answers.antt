@@ -6,7 +6,7 @@ use Rattle.btr_files.specs.declared.counts.Counts.{Counts}
 use Rattle.btr_files.specs.Entries.{entries}
 use Rattle.btr_files.specs.Listing.{named_row}
 use Rattle.btr_files.specs.declared.dir_row.DirRow.{DirRow}
-use Rattle.btr_files.specs.Listing.{DirNears}
+use Rattle.btr_files.specs.Listing.{DirRankFalls}
 use Rattle.btr_restore.specs.declared.treated.Treated.{Treated}
 use Rattle.btr_restore.specs.Journey.{listed_in, treated}
 use Rattle.btr_restore.specs.Journey as journey
@@ -118,7 +118,7 @@ list-list_entry-requires g t c κs within = (
 )
 
 pub list-loop-fault-smaller : goal.list-loop-fault-smaller
-list-loop-fault-smaller g t c = subst (λ (r : Option DirRow). DirNears c.loop-fault.here.dir c.next.new.self (Ok r)) c.in-Ok-Some.field-0-is
+list-loop-fault-smaller g t c = subst (λ (r : Option DirRow). DirRankFalls c.loop-fault.here.dir c.next.new.self (Ok r)) c.in-Ok-Some.field-0-is
     c.in-Ok-Some.ensures.nears
 
 pub list-loop-fault-preserved : goal.list-loop-fault-preserved

@@ -10,7 +10,8 @@ returns-then-newest-s c = λ found so. sofar_newer found c.args.seen.newest c.ar
 pub returns-else-newest-s : goal.returns-else-newest-s
 returns-else-newest-s c = λ found so.
     subst (λ o. IsSoFar (found ++ Ok c.args.s ∷ []) (record { newest = o; kind = c.args.seen.kind })) (sym c.in-Some.is)
-    (sofar_same found c.in-Some.newest c.args.s c.args.seen.kind c.if-newest-s.false (subst (λ o. IsSoFar found (record { newest = o; kind = c.args.seen.kind })) c.in-Some.is so))
+    (sofar_same found c.in-Some.newest c.args.s c.args.seen.kind c.if-newest-s.false
+    (subst (λ o. IsSoFar found (record { newest = o; kind = c.args.seen.kind })) c.in-Some.is so))
 
 pub returns-in-None : goal.returns-in-None
 returns-in-None c = λ found so. sofar_newer found c.args.seen.newest c.args.s c.args.seen.kind (subst (λ o. Beats o c.args.s) (sym c.in-None.is) tt) so

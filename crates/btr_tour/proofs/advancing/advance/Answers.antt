@@ -27,7 +27,8 @@ returns-then-hand-clause-content g c =
     let then : LeafAt = behind_next hand in
     let in_hand : IsInHand store hand = subst (λ l. IfSome l (IsInHand store)) c.in-Some.is c.requires.hand in
     let lt = c.if-hand.true in
-    unread_on store.layout (λ B. AdvancesIn c.args.scope.now is B store place c.args.leaf store (record { place = place; leaf = Some c.behind_next.result; step = Ok (Item hand.next) }))
+    unread_on store.layout (λ B. AdvancesIn c.args.scope.now is B store place c.args.leaf store
+    (record { place = place; leaf = Some c.behind_next.result; step = Ok (Item hand.next) }))
     (λ B. subst (λ l. AdvancesIn c.args.scope.now is B store place c.args.leaf store (record { place = place; leaf = Some l; step = Ok (Item hand.next) }))
     (sym c.behind_next.ensures)
     (subst (λ l. AdvancesIn c.args.scope.now is B store place l store (record { place = place; leaf = Some then; step = Ok (Item hand.next) }))
@@ -50,5 +51,6 @@ returns-clause-content g c =
     (λ B h. subst (λ l. AdvancesIn c.args.scope.now (unread_by old.layout before now) B old place l c.from_place-2.new.store then) (sym c.in-Some.is)
     (subst (λ (layout : Layout). AdvancesIn c.args.scope.now (unread_by layout before now) B old place (Some hand) c.from_place-2.new.store then) same
     (hand_over c.args.scope.now (unread_by given.layout before now) B old place hand in_hand given le c.from_place-2.new.store then h)))
-    (subst (λ (layout : Layout). Tells layout before now (λ B. AdvancesIn c.args.scope.now (unread_by given.layout before now) B given place None c.from_place-2.new.store then)) same
+    (subst (λ (layout : Layout). Tells layout before now (λ B. AdvancesIn c.args.scope.now
+    (unread_by given.layout before now) B given place None c.from_place-2.new.store then)) same
     c.from_place-2.ensures.content)

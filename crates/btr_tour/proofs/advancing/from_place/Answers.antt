@@ -13,5 +13,6 @@ returns-in-None-lowest-clause-content g c =
     let hi = c.args.scope.now.hi in
     let place = c.args.place.now in
     let is = unread_by c.args.store.now.layout (g.R.Rack.seen c.args.rack.now) (g.R.Rack.seen c.args.rack.now) in
-    unread_on c.args.store.now.layout (λ B. Advances lo hi B is (λ seen. Unit {0}) c.args.scope.now.sums place (place_left lo hi B place) c.args.store.now (record { place = place; leaf = None; step = Ok End }))
+    unread_on c.args.store.now.layout (λ B. Advances lo hi B is (λ seen. Unit {0}) c.args.scope.now.sums place (place_left lo hi B place) c.args.store.now
+    (record { place = place; leaf = None; step = Ok End }))
     (λ B seen on none. all_met lo hi B place c.in-None.is c.in-None-lowest.ensures.none)

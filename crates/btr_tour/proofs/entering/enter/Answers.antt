@@ -14,7 +14,7 @@ use Rattle.btr_walk.specs.declared.going.Where.{Where}
 use Rattle.btr_tour.specs.Tour.{place_of}
 use Rattle.btr_read.specs.Store.{SameLoans}
 use Rattle.btr_walk.specs.Lending.{base}
-use Rattle.btr_tour.specs.Shape.{rank_on, StepNears}
+use Rattle.btr_tour.specs.Shape.{rank_on, StepRankFalls}
 use Rattle.btr_tour.specs.Steps.{Arrived, arrived, HasStep, Advances, StepCause, MeetsBlock}
 use Rattle.btr_tour.specs.Place.{place_left}
 use Rattle.btr_tour.proofs.Enters.{same_block, enter_leaf, enter_node, enter_fault, todo_wanted, out_shaped, out_step, out_leaf, out_cause}
@@ -34,7 +34,8 @@ choose-part-requires-clause-good g c = (is_inner_at c.args.todo.now.level c.args
 
 pub set_frame-requires : goal.set_frame-requires
 set_frame-requires g c =
-    let inner = is_inner_at c.args.todo.now.level c.args.todo.now.spot c.read_block.new.store c.in-Ok.loan c.bytes-in-Ok.result.now c.bytes-in-Ok.ensures.value c.in-Ok.ensures.good c.if-todo-eq0.false in
+    let inner = is_inner_at c.args.todo.now.level c.args.todo.now.spot c.read_block.new.store c.in-Ok.loan c.bytes-in-Ok.result.now
+    c.bytes-in-Ok.ensures.value c.in-Ok.ensures.good c.if-todo-eq0.false in
     let some = inner.some in
     let few = inner.few in
     omega (arith, some, few)
@@ -42,7 +43,7 @@ set_frame-requires g c =
 pub returns-in-Err-clause-nears : goal.returns-in-Err-clause-nears
 returns-in-Err-clause-nears g c =
     let place = c.args.place.now in
-    subst (λ (a : Arrived). StepNears (rank_on place None) (rank_on a.place a.leaf) a.step) (sym c.left_out.ensures)
+    subst (λ (a : Arrived). StepRankFalls (rank_on place None) (rank_on a.place a.leaf) a.step) (sym c.left_out.ensures)
     (out_nears place c.args.todo.now.level c.args.todo.now.spot c.in-Err.fault c.requires.todo)
 
 pub returns-in-Err-clause-shaped : goal.returns-in-Err-clause-shaped
@@ -50,21 +51,25 @@ returns-in-Err-clause-shaped g c =
     let place = c.args.place.now in
     let after : Where = record { path = place.path; todo = None } in
     let s = c.requires.shaped in
-    subst (λ (a : Arrived). IsShaped a.place) (sym c.left_out.ensures) (out_shaped place after c.in-Err.fault s (record { long = s.long; frames = s.frames; above = tt }))
+    subst (λ (a : Arrived). IsShaped a.place) (sym c.left_out.ensures)
+    (out_shaped place after c.in-Err.fault s (record { long = s.long; frames = s.frames; above = tt }))
 
 pub returns-in-Err-clause-step : goal.returns-in-Err-clause-step
 returns-in-Err-clause-step g c =
     let place = c.args.place.now in
-    subst (λ (a : Arrived). HasStep place a.place a.leaf a.step) (sym c.left_out.ensures) (out_step place (record { path = place.path; todo = None }) c.in-Err.fault)
+    subst (λ (a : Arrived). HasStep place a.place a.leaf a.step) (sym c.left_out.ensures)
+    (out_step place (record { path = place.path; todo = None }) c.in-Err.fault)
 
 pub returns-in-Err-clause-others : goal.returns-in-Err-clause-others
 returns-in-Err-clause-others g c =
-    let none = ap (λ (a : Arrived). a.leaf) c.left_out.ensures ∙ out_leaf c.args.place.now (record { path = c.args.place.now.path; todo = None }) c.in-Err.fault in
+    let none = ap (λ (a : Arrived). a.leaf) c.left_out.ensures ∙ out_leaf c.args.place.now
+    (record { path = c.args.place.now.path; todo = None }) c.in-Err.fault in
     subst (λ l. SameLoans c.args.store.now (base c.read_block.new.store (loan_of l))) (sym none) c.in-Err.ensures.refused
 
 pub returns-in-Err-clause-hand : goal.returns-in-Err-clause-hand
 returns-in-Err-clause-hand g c =
-    let none = ap (λ (a : Arrived). a.leaf) c.left_out.ensures ∙ out_leaf c.args.place.now (record { path = c.args.place.now.path; todo = None }) c.in-Err.fault in
+    let none = ap (λ (a : Arrived). a.leaf) c.left_out.ensures ∙ out_leaf c.args.place.now
+    (record { path = c.args.place.now.path; todo = None }) c.in-Err.fault in
     subst (λ l. IfSome l (IsInHand c.read_block.new.store)) (sym none) tt
 
 pub returns-in-Err-clause-content : goal.returns-in-Err-clause-content
@@ -88,7 +93,8 @@ returns-in-Err-clause-cause g c =
     let now = g.R.Rack.seen c.read_block.new.rack in
     let place = c.args.place.now in
     subst (λ (a : Arrived). StepCause layout before now place a.step) (sym c.left_out.ensures)
-    (out_cause layout before now place (record { path = place.path; todo = None }) c.in-Err.fault (todo_wanted place c.args.todo.now (λ want. CauseOf layout want before now c.in-Err.fault) c.requires.todo c.in-Err.ensures.of_want))
+    (out_cause layout before now place (record { path = place.path; todo = None }) c.in-Err.fault
+    (todo_wanted place c.args.todo.now (λ want. CauseOf layout want before now c.in-Err.fault) c.requires.todo c.in-Err.ensures.of_want))
 
 pub returns-then-todo-eq0-clause-others : goal.returns-then-todo-eq0-clause-others
 returns-then-todo-eq0-clause-others g c = given_back _ _ _ _ c.in-Ok.loan c.in-Ok.ensures.lent refl
@@ -96,7 +102,8 @@ returns-then-todo-eq0-clause-others g c = given_back _ _ _ _ c.in-Ok.loan c.in-O
 pub returns-then-todo-eq0-clause-hand : goal.returns-then-todo-eq0-clause-hand
 returns-then-todo-eq0-clause-hand g c =
     let block = c.bytes-then-todo-eq0.result.now in
-    let leaf = is_leaf_at c.args.todo.now.level c.args.todo.now.spot c.read_block.new.store c.in-Ok.loan block c.bytes-then-todo-eq0.ensures.value c.in-Ok.ensures.good c.if-todo-eq0.true in
+    let leaf = is_leaf_at c.args.todo.now.level c.args.todo.now.spot c.read_block.new.store c.in-Ok.loan block c.bytes-then-todo-eq0.ensures.value
+    c.in-Ok.ensures.good c.if-todo-eq0.true in
     let part = c.part_of-part.result in
     record {
       live = c.in-Ok.ensures.lent.live;
@@ -107,7 +114,10 @@ returns-then-todo-eq0-clause-hand g c =
     }
 
 pub returns-then-todo-eq0-clause-nears : goal.returns-then-todo-eq0-clause-nears
-returns-then-todo-eq0-clause-nears g c = leaf_nears c.args.place.now c.args.todo.now.level c.args.todo.now.spot (record { spot = c.args.todo.now.spot; next = c.part_of-part.result.next; end = c.part_of-part.result.end; loan = c.in-Ok.loan }) c.requires.todo c.part_of-part.ensures.fits
+returns-then-todo-eq0-clause-nears g c =
+    leaf_nears c.args.place.now c.args.todo.now.level c.args.todo.now.spot
+    (record { spot = c.args.todo.now.spot; next = c.part_of-part.result.next; end = c.part_of-part.result.end; loan = c.in-Ok.loan }) c.requires.todo
+    c.part_of-part.ensures.fits
 
 pub returns-then-todo-eq0-clause-content : goal.returns-then-todo-eq0-clause-content
 returns-then-todo-eq0-clause-content g c =
@@ -124,7 +134,10 @@ returns-then-todo-eq0-clause-content g c =
     let after : Where = record { path = place.path; todo = None } in
     let hand : LeafAt = record { spot = todo.spot; next = part.next; end = part.end; loan = loan } in
     let leaf = is_leaf_at todo.level todo.spot store loan block c.bytes.ensures.value c.in-Ok.ensures.good c.if-todo-eq0.true in
-    let is_part : IsPart lo hi (items block) part = subst (λ (b : List ℕ). IsPart lo hi (items b) part) (same_block (block_of store loan) c.bytes-then-todo-eq0.result.now block c.bytes-then-todo-eq0.ensures.value c.bytes.ensures.value) c.part_of-part.ensures.part in
+    let is_part : IsPart lo hi (items block) part =
+    subst (λ (b : List ℕ). IsPart lo hi (items b) part) (same_block
+    (block_of store loan) c.bytes-then-todo-eq0.result.now block c.bytes-then-todo-eq0.ensures.value
+    c.bytes.ensures.value) c.part_of-part.ensures.part in
     drawn c.args.store.now.layout (λ B. Reads is B todo.level todo.spot store (Ok loan))
     (λ B. (seen : List Want) → IsAlong lo hi B seen place → Unit {0}
     → MeetsBlock lo hi B seen sums (place_left lo hi B place) store after (Some hand) c.place_of.result c.read.result)
@@ -143,21 +156,24 @@ returns-else-todo-eq0-clause-others g c = given_back _ _ _ _ c.in-Ok.loan c.in-O
 
 pub returns-else-todo-eq0-clause-shaped : goal.returns-else-todo-eq0-clause-shaped
 returns-else-todo-eq0-clause-shaped g c =
-    let inner = is_inner_at c.args.todo.now.level c.args.todo.now.spot c.read_block.new.store c.in-Ok.loan c.bytes-in-Ok.result.now c.bytes-in-Ok.ensures.value c.in-Ok.ensures.good c.if-todo-eq0.false in
+    let inner = is_inner_at c.args.todo.now.level c.args.todo.now.spot c.read_block.new.store c.in-Ok.loan c.bytes-in-Ok.result.now
+    c.bytes-in-Ok.ensures.value c.in-Ok.ensures.good c.if-todo-eq0.false in
     (node_nears c.args.place.now c.args.todo.now.level c.args.todo.now.spot c.set_frame.new.path c.frame_of-frame.result c.requires.todo inner.some
     inner.few (fits_part c.args.todo.now.spot c.choose-part.result c.frame_of-frame.result c.choose-part.ensures.fits c.frame_of-frame.ensures)
     c.set_frame.ensures.set c.requires.shaped).0
 
 pub returns-else-todo-eq0-clause-nears : goal.returns-else-todo-eq0-clause-nears
 returns-else-todo-eq0-clause-nears g c =
-    let inner = is_inner_at c.args.todo.now.level c.args.todo.now.spot c.read_block.new.store c.in-Ok.loan c.bytes-in-Ok.result.now c.bytes-in-Ok.ensures.value c.in-Ok.ensures.good c.if-todo-eq0.false in
+    let inner = is_inner_at c.args.todo.now.level c.args.todo.now.spot c.read_block.new.store c.in-Ok.loan c.bytes-in-Ok.result.now
+    c.bytes-in-Ok.ensures.value c.in-Ok.ensures.good c.if-todo-eq0.false in
     (node_nears c.args.place.now c.args.todo.now.level c.args.todo.now.spot c.set_frame.new.path c.frame_of-frame.result c.requires.todo inner.some
     inner.few (fits_part c.args.todo.now.spot c.choose-part.result c.frame_of-frame.result c.choose-part.ensures.fits c.frame_of-frame.ensures)
     c.set_frame.ensures.set c.requires.shaped).1
 
 pub returns-else-todo-eq0-clause-step : goal.returns-else-todo-eq0-clause-step
 returns-else-todo-eq0-clause-step g c =
-    let inner = is_inner_at c.args.todo.now.level c.args.todo.now.spot c.read_block.new.store c.in-Ok.loan c.bytes-in-Ok.result.now c.bytes-in-Ok.ensures.value c.in-Ok.ensures.good c.if-todo-eq0.false in
+    let inner = is_inner_at c.args.todo.now.level c.args.todo.now.spot c.read_block.new.store c.in-Ok.loan c.bytes-in-Ok.result.now
+    c.bytes-in-Ok.ensures.value c.in-Ok.ensures.good c.if-todo-eq0.false in
     let few = inner.few in
     omega (arith, few, ap (λ (p : RootPlace). p.level) c.place_of.ensures)
 
@@ -178,7 +194,8 @@ returns-else-todo-eq0-clause-content g c =
     let after : Where = record { path = c.set_frame.new.path; todo = None } in
     let inner = is_inner_at todo.level todo.spot store loan block c.bytes.ensures.value c.in-Ok.ensures.good c.if-todo-eq0.false in
     let choice : IsChoice lo hi (pointers block) part =
-    subst (λ (b : List ℕ). IsChoice lo hi (pointers b) part) (same_block (block_of store loan) c.bytes-in-Ok.result.now block c.bytes-in-Ok.ensures.value c.bytes.ensures.value) c.choose-part.ensures.choice in
+    subst (λ (b : List ℕ). IsChoice lo hi (pointers b) part) (same_block
+    (block_of store loan) c.bytes-in-Ok.result.now block c.bytes-in-Ok.ensures.value c.bytes.ensures.value) c.choose-part.ensures.choice in
     drawn c.args.store.now.layout (λ B. Reads is B todo.level todo.spot store (Ok loan))
     (λ B. (seen : List Want) → IsAlong lo hi B seen place → Unit {0}
     → MeetsBlock lo hi B seen sums (place_left lo hi B place) new after None c.place_of.result c.read.result)
@@ -186,6 +203,7 @@ returns-else-todo-eq0-clause-content g c =
     (sym c.place_of.ensures) (
     subst (MeetsBlock lo hi B seen sums (place_left lo hi B place) new after None (place_of todo.level todo.spot)) (sym c.read.ensures) (
     enter_node lo hi B seen sums place todo.level todo.spot new block c.set_frame.new.path part o c.requires.todo inner
-    (block_is store loan block (λ (b : List ℕ). B (want_of todo.level todo.spot) ≡ Ok b) c.bytes.ensures.value reads) c.requires.shaped choice c.frame_of-frame.ensures
+    (block_is store loan block (λ (b : List ℕ). B (want_of todo.level todo.spot) ≡ Ok b) c.bytes.ensures.value reads) c.requires.shaped choice
+    c.frame_of-frame.ensures
     c.set_frame.ensures.set on)))
     c.in-Ok.ensures.content

@@ -4,7 +4,7 @@ use Rattle.btr_walk.specs.Again.{Rereads}
 use Rattle.btr_walk.specs.Reading.{CauseOf, unread_by}
 use Rattle.btr_read.specs.Store.{SameLoans}
 use Rattle.btr_walk.specs.Lending.{base}
-use Rattle.btr_tour.specs.Shape.{rank_on, StepNears}
+use Rattle.btr_tour.specs.Shape.{rank_on, StepRankFalls}
 use Rattle.btr_walk.specs.declared.place.RootPlace.{RootPlace}
 use Rattle.btr_walk.specs.declared.going.Where.{Where}
 use Rattle.btr_tour.specs.Tour.{Child}
@@ -21,7 +21,7 @@ use Rattle.btr_tour.proofs.entering.meet_child.Goals as goal
 pub returns-in-Err-clause-nears : goal.returns-in-Err-clause-nears
 returns-in-Err-clause-nears g c =
     let place = c.args.place.now in
-    subst (λ (a : Arrived). StepNears (rank_on place None) (rank_on a.place a.leaf) a.step) (sym c.left_out.ensures)
+    subst (λ (a : Arrived). StepRankFalls (rank_on place None) (rank_on a.place a.leaf) a.step) (sym c.left_out.ensures)
     (gone_out place c.args.low.now c.requires.todo c.requires.low c.requires.shaped c.set_frame.new.path c.in-Err.fault c.set_frame.ensures.set)
 
 pub returns-in-Err-clause-shaped : goal.returns-in-Err-clause-shaped
@@ -35,16 +35,19 @@ returns-in-Err-clause-shaped g c =
 pub returns-in-Err-clause-step : goal.returns-in-Err-clause-step
 returns-in-Err-clause-step g c =
     let place = c.args.place.now in
-    subst (λ (a : Arrived). HasStep place a.place a.leaf a.step) (sym c.left_out.ensures) (out_step place (record { path = c.set_frame.new.path; todo = None }) c.in-Err.fault)
+    subst (λ (a : Arrived). HasStep place a.place a.leaf a.step) (sym c.left_out.ensures)
+    (out_step place (record { path = c.set_frame.new.path; todo = None }) c.in-Err.fault)
 
 pub returns-in-Err-clause-others : goal.returns-in-Err-clause-others
 returns-in-Err-clause-others g c =
-    let none = ap (λ (a : Arrived). a.leaf) c.left_out.ensures ∙ out_leaf c.args.place.now (record { path = c.set_frame.new.path; todo = None }) c.in-Err.fault in
+    let none = ap (λ (a : Arrived). a.leaf) c.left_out.ensures ∙ out_leaf c.args.place.now
+    (record { path = c.set_frame.new.path; todo = None }) c.in-Err.fault in
     subst (λ l. SameLoans c.args.store.now (base c.read_again.new.store (loan_of l))) (sym none) c.in-Err.ensures.store
 
 pub returns-in-Err-clause-hand : goal.returns-in-Err-clause-hand
 returns-in-Err-clause-hand g c =
-    let none = ap (λ (a : Arrived). a.leaf) c.left_out.ensures ∙ out_leaf c.args.place.now (record { path = c.set_frame.new.path; todo = None }) c.in-Err.fault in
+    let none = ap (λ (a : Arrived). a.leaf) c.left_out.ensures ∙ out_leaf c.args.place.now
+    (record { path = c.set_frame.new.path; todo = None }) c.in-Err.fault in
     subst (λ l. IfSome l (IsInHand c.read_again.new.store)) (sym none) tt
 
 pub returns-in-Err-clause-content : goal.returns-in-Err-clause-content
@@ -58,7 +61,9 @@ returns-in-Err-clause-content g c =
     let store = c.read_again.new.store in
     drawn c.args.store.now.layout (λ B. Rereads is B (low.at + 1) low.frame (Err c.in-Err.fault))
     (λ B. Advances lo hi B is (λ seen. Unit {0}) sums place (place_left lo hi B place) store (arrived c.left_out.new.place c.left_out.result))
-    (λ B h. subst (Advances lo hi B is (λ seen. Unit {0}) sums place (place_left lo hi B place) store) (sym c.left_out.ensures) (child_fault lo hi B place low c.requires.todo c.requires.low c.requires.shaped is sums (record { path = c.set_frame.new.path; todo = None }) store c.in-Err.fault h)) c.in-Err.ensures.content
+    (λ B h. subst (Advances lo hi B is (λ seen. Unit {0}) sums place (place_left lo hi B place) store) (sym c.left_out.ensures)
+    (child_fault lo hi B place low c.requires.todo c.requires.low c.requires.shaped is sums
+    (record { path = c.set_frame.new.path; todo = None }) store c.in-Err.fault h)) c.in-Err.ensures.content
 
 pub returns-in-Err-clause-cause : goal.returns-in-Err-clause-cause
 returns-in-Err-clause-cause g c =
@@ -67,7 +72,8 @@ returns-in-Err-clause-cause g c =
     let now = g.R.Rack.seen c.read_again.new.rack in
     let place = c.args.place.now in
     subst (λ (a : Arrived). StepCause layout before now place a.step) (sym c.left_out.ensures)
-    (out_cause layout before now place (record { path = c.set_frame.new.path; todo = None }) c.in-Err.fault (low_wanted place c.args.low.now (λ want. CauseOf layout want before now c.in-Err.fault) c.requires.todo c.requires.low c.in-Err.ensures.of_want))
+    (out_cause layout before now place (record { path = c.set_frame.new.path; todo = None }) c.in-Err.fault
+    (low_wanted place c.args.low.now (λ want. CauseOf layout want before now c.in-Err.fault) c.requires.todo c.requires.low c.in-Err.ensures.of_want))
 
 pub returns-in-Some-clause-nears : goal.returns-in-Some-clause-nears
 returns-in-Some-clause-nears g c = (child_nears c.args.place.now c.args.low.now c.requires.todo c.requires.low c.requires.shaped c.in-Ok.below c.in-Some.todo

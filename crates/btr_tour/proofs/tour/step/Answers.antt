@@ -4,7 +4,7 @@ use Rattle.btr_walk.specs.Hand.{loan_of, IsInHand}
 use Rattle.btr_walk.specs.Lending.{base}
 use Rattle.btr_walk.specs.Reading.{unread_by}
 use Rattle.btr_walk.proofs.Joined.{drawn}
-use Rattle.btr_tour.specs.Shape.{rank_on, StepNears}
+use Rattle.btr_tour.specs.Shape.{rank_on, StepRankFalls}
 use Rattle.btr_tour.specs.Steps.{arrived, HasStep, AdvancesIn}
 use Rattle.btr_tour.specs.TourEnds.{IsNextStep}
 use Rattle.btr_tour.proofs.Nexts.{stepped}
@@ -31,8 +31,8 @@ pub returns-clause-nears : goal.returns-clause-nears
 returns-clause-nears g c =
     let place = c.args.tour.now.place in
     let a = c.advance-leaf.result in
-    subst (λ l. StepNears (rank_on place c.args.tour.now.leaf) (rank_on c.advance-leaf.new.place l) a.step) (sym c.put_leaf.ensures)
-    (subst (λ l. StepNears (rank_on place l) (rank_on c.advance-leaf.new.place a.leaf) a.step) c.take-leaf.ensures.value c.advance-leaf.ensures.nears)
+    subst (λ l. StepRankFalls (rank_on place c.args.tour.now.leaf) (rank_on c.advance-leaf.new.place l) a.step) (sym c.put_leaf.ensures)
+    (subst (λ l. StepRankFalls (rank_on place l) (rank_on c.advance-leaf.new.place a.leaf) a.step) c.take-leaf.ensures.value c.advance-leaf.ensures.nears)
 
 pub returns-clause-step : goal.returns-clause-step
 returns-clause-step g c = subst (λ l. HasStep c.args.tour.now.place c.advance-leaf.new.place l c.advance-leaf.result.step) (sym c.put_leaf.ensures)
@@ -45,6 +45,11 @@ returns-clause-content g c =
     let new = c.advance-leaf.new.store in
     let is = unread_by old.layout (g.R.Rack.seen c.args.rack.now) (g.R.Rack.seen c.advance-leaf.new.rack) in
     drawn old.layout (λ B. AdvancesIn tour.scope is B old tour.place c.take-leaf.result new (arrived c.advance-leaf.new.place c.advance-leaf.result))
-    (λ B. IsNextStep is B old new tour (record { scope = tour.scope; place = c.advance-leaf.new.place; leaf = c.put_leaf.new.place; level = None }) c.advance-leaf.result.step)
+    (λ B. IsNextStep is B old new tour (record {
+      scope = tour.scope;
+      place = c.advance-leaf.new.place;
+      leaf = c.put_leaf.new.place;
+      level = None;
+    }) c.advance-leaf.result.step)
     (λ B h. stepped is B old new tour c.take-leaf.result c.advance-leaf.new.place c.advance-leaf.result c.put_leaf.new.place c.take-leaf.ensures.value
     c.put_leaf.ensures h) c.advance-leaf.ensures.content

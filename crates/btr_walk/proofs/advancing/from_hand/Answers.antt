@@ -10,8 +10,12 @@ use Rattle.btr_walk.proofs.advancing.from_hand.Goals as goal
 pub returns-then-hand-clause-content : goal.returns-then-hand-clause-content
 returns-then-hand-clause-content g c =
     let is = unread_by c.args.store.now.layout (g.R.Rack.seen c.args.rack.now) (g.R.Rack.seen c.args.rack.now) in
-    unread_on c.args.store.now.layout (λ B. FromHand c.args.lo c.args.hi is B c.args.place.now c.args.place.now c.args.hand c.args.store.now c.args.store.now (record { leaf = Some c.behind_next.result; met = Ok true }))
-    (λ B. subst (λ l. FromHand c.args.lo c.args.hi is B c.args.place.now c.args.place.now c.args.hand c.args.store.now c.args.store.now (record { leaf = Some l; met = Ok true })) (sym c.behind_next.ensures) (meets_hand c.args.lo c.args.hi B is c.args.store.now c.args.hand c.args.place.now c.requires.hand c.if-hand.true))
+    unread_on c.args.store.now.layout
+    (λ B. FromHand c.args.lo c.args.hi is B c.args.place.now c.args.place.now c.args.hand c.args.store.now c.args.store.now
+    (record { leaf = Some c.behind_next.result; met = Ok true }))
+    (λ B. subst (λ l. FromHand c.args.lo c.args.hi is B c.args.place.now c.args.place.now c.args.hand c.args.store.now c.args.store.now
+    (record { leaf = Some l; met = Ok true }))
+    (sym c.behind_next.ensures) (meets_hand c.args.lo c.args.hi B is c.args.store.now c.args.hand c.args.place.now c.requires.hand c.if-hand.true))
 
 pub returns-clause-content : goal.returns-clause-content
 returns-clause-content g c =

@@ -1,7 +1,7 @@
 use Rattle.std.proofs.Common.{◌≡◌, ◌^◌, ◌*◌, Ok, OnErr, sym, subst}
 use Rattle.btr_walk.specs.Reading.{HasCause, unread_by}
 use Rattle.btr_walk.specs.Leaving.{IsReached}
-use Rattle.btr_walk.specs.Ranks.{rank, StepNears}
+use Rattle.btr_walk.specs.Ranks.{rank, StepRankFalls}
 use Rattle.btr_walk.specs.Advancing.{HasItem, Lends, FromPlace}
 use Rattle.btr_walk.proofs.Joined.{drawn}
 use Rattle.btr_walk.proofs.Hands.{lends_arrived, items_arrived, item_arrived, nears_arrived, from_arrived, shaped_arrived, no_fault_arrived, no_cause_arrived}
@@ -30,7 +30,7 @@ returns-in-Ok g c =
       stays = subst (λ a. OnErr a.met (after ≡ place)) same (no_fault_arrived o (after ≡ place));
       shaped = (shaped_arrived place after o nears).0;
       on = (shaped_arrived place after o nears).1;
-      nears = subst (λ a. StepNears (2 ^ 64 * rank place) after a.leaf a.met) same (nears_arrived old new place after o lent nears);
+      nears = subst (λ a. StepRankFalls (2 ^ 64 * rank place) after a.leaf a.met) same (nears_arrived old new place after o lent nears);
       item = subst (λ a. HasItem a.leaf a.met) same (item_arrived old new o lent);
       cause = subst (λ a. HasCause old.layout seen now a.met) same (no_cause_arrived old.layout seen now o);
       content = drawn old.layout (λ B. IsReached c.args.lo c.args.hi is B place after new (Ok o))

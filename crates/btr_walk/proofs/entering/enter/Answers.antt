@@ -20,7 +20,8 @@ part_of-part-requires-clause-good g c = (is_leaf_at c.args.todo.now.level c.args
 
 pub returns-then-todo-eq0-clause-lent : goal.returns-then-todo-eq0-clause-lent
 returns-then-todo-eq0-clause-lent g c =
-    let leaf = is_leaf_at c.args.todo.now.level c.args.todo.now.spot c.read_block.new.store c.in_ok-loan.loan c.bytes.result.now c.bytes.ensures.value c.in_ok-loan.ensures.good c.if-todo-eq0.true in
+    let leaf = is_leaf_at c.args.todo.now.level c.args.todo.now.spot c.read_block.new.store c.in_ok-loan.loan c.bytes.result.now c.bytes.ensures.value
+    c.in_ok-loan.ensures.good c.if-todo-eq0.true in
     record {
       others = given_back _ _ _ _ c.in_ok-loan.loan c.in_ok-loan.ensures.lent refl;
       hand = record {
@@ -40,7 +41,9 @@ returns-then-todo-eq0-clause-content g c =
     let store = c.read_block.new.store in
     let block = c.bytes.result.now in
     let leaf = is_leaf_at todo.level todo.spot store c.in_ok-loan.loan block c.bytes.ensures.value c.in_ok-loan.ensures.good c.if-todo-eq0.true in
-    drawn c.args.store.now.layout (λ B. Reads is B todo.level todo.spot store (Ok c.in_ok-loan.loan)) (λ B. IsEntered c.args.lo c.args.hi is B todo store (Ok (Leaf (record { spot = todo.spot; next = c.part_of-part.result.next; end = c.part_of-part.result.end; loan = c.in_ok-loan.loan }))))
+    drawn c.args.store.now.layout (λ B. Reads is B todo.level todo.spot store (Ok c.in_ok-loan.loan))
+    (λ B. IsEntered c.args.lo c.args.hi is B todo store (Ok (Leaf
+    (record { spot = todo.spot; next = c.part_of-part.result.next; end = c.part_of-part.result.end; loan = c.in_ok-loan.loan }))))
     (λ B reads. let e = block_is store c.in_ok-loan.loan block (λ (b : List ℕ). B (want_of todo.level todo.spot) ≡ Ok b) c.bytes.ensures.value reads in (
       some_block store c.in_ok-loan.loan block (λ (b : List ℕ). (rest : RangeProg) → exec B (range_at c.args.lo c.args.hi todo.level todo.spot rest)
           ≡ first (Wants (want_of todo.level todo.spot)) (exec B
@@ -87,5 +90,6 @@ returns-clause-content g c =
 
 pub returns-clause-level : goal.returns-clause-level
 returns-clause-level g c =
-    let inner = is_inner_at c.args.todo.now.level c.args.todo.now.spot c.read_block.new.store c.in_ok-loan.loan c.bytes-block.result.now c.bytes-block.ensures.value c.in_ok-loan.ensures.good c.if-todo-eq0.false in
+    let inner = is_inner_at c.args.todo.now.level c.args.todo.now.spot c.read_block.new.store c.in_ok-loan.loan c.bytes-block.result.now
+    c.bytes-block.ensures.value c.in_ok-loan.ensures.good c.if-todo-eq0.false in
     fits_first _ c.args.todo.now c.choose.result c.first_of-below.result inner.some inner.few c.choose.ensures.fits c.first_of-below.ensures

@@ -55,7 +55,8 @@ pub returns-then-is_judged-clause-content : goal.returns-then-is_judged-clause-c
 returns-then-is_judged-clause-content g c =
     let old = g.R.Rack.seen c.args.rack.now in
     let new = g.R.Rack.seen c.fetch.new.rack in
-    let told : TellsOf c.args.store.now old new (λ Is B. Reads Is B c.args.level c.args.spot.now c.fetch.new.store (Ok c.in_ok-loan.loan)) = record { calls = c.in_ok-loan.ensures.calls tt } in
+    let told : TellsOf c.args.store.now old new (λ Is B. Reads Is B c.args.level c.args.spot.now c.fetch.new.store (Ok c.in_ok-loan.loan)) =
+    record { calls = c.in_ok-loan.ensures.calls tt } in
     subst (λ (s : Blocks). TellsOf c.args.store.now old new (λ Is B. Reads Is B c.args.level c.args.spot.now s (Ok c.in_ok-loan.loan)))
     (sym c.is_judged.ensures.same) told
 

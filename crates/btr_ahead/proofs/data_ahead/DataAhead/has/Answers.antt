@@ -2,7 +2,7 @@ use Rattle.std.proofs.Common.{◌≡◌, true, Option, List, ℕ, ap, ◌∙◌,
 use Rattle.btr_read.proofs.ReadsOn.{same_held, same_slots}
 use Rattle.btr_read.proofs.Serving.{serves_as, serving}
 use Rattle.btr_read.specs.Want.{len_of, passes}
-use Rattle.btr_ahead.specs.Ahead.{Comes, SaysFirst}
+use Rattle.btr_ahead.specs.Ahead.{CanBeRead, SaysFirst}
 use Rattle.btr_ahead.proofs.Pieces.{piece_comes, piece_says}
 use Rattle.btr_ahead.proofs.data_ahead.DataAhead.has.Goals as goal
 
@@ -12,7 +12,8 @@ look-requires-clause-slot g c = c.in-Some.ensures.slot (g.R.Rack.seen c.args.rac
 
 pub passes_in-requires : goal.passes_in-requires
 passes_in-requires g c =
-    let slot = c.in-Some.ensures.slot (g.R.Rack.seen c.args.rack.now).slots (serving (g.R.Rack.seen c.args.rack.now) c.args.store.now c.requires.serves).are_open in
+    let slot = c.in-Some.ensures.slot (g.R.Rack.seen c.args.rack.now).slots
+    (serving (g.R.Rack.seen c.args.rack.now) c.args.store.now c.requires.serves).are_open in
     c.in-Some-piece.ensures.long ∙ slot.sector ∙ ap (len_of c.args.store.now.layout.setting) (sym c.in-Sector.is)
 
 pub returns-in-Some-piece-clause-serves : goal.returns-in-Some-piece-clause-serves
@@ -26,15 +27,17 @@ returns-in-Some-piece-clause-comes g c = λ passed.
     let layout = c.args.store.now.layout in
     let want = c.args.want.now in
     let pass : passes layout.setting want c.in-Some-piece.piece.now ≡ true = sym c.passes_in.ensures ∙ passed in
-    let comes = piece_comes (g.R.Rack.seen c.look.new.rack).held layout c.look.new.self c.in-Some.first.place c.in-Sector.addr c.in-Sector.sum want c.in-Sector.is c.look.ensures.ahead c.in-Some.ensures.first c.in-Some-piece.ensures.inside.lies
+    let comes = piece_comes (g.R.Rack.seen c.look.new.rack).held layout c.look.new.self c.in-Some.first.place c.in-Sector.addr c.in-Sector.sum want
+    c.in-Sector.is c.look.ensures.ahead c.in-Some.ensures.first c.in-Some-piece.ensures.inside.lies
     (ap (passes layout.setting want) (sym c.in-Some-piece.ensures.piece) ∙ pass) in
-    subst (λ (held : Option (List (List ℕ))). Comes held layout want) (same_held c.look.ensures.reads) comes
+    subst (λ (held : Option (List (List ℕ))). CanBeRead held layout want) (same_held c.look.ensures.reads) comes
 
 pub returns-in-Some-piece-clause-first : goal.returns-in-Some-piece-clause-first
 returns-in-Some-piece-clause-first g c = λ some steady.
     let layout = c.args.store.now.layout in
     let want = c.args.want.now in
-    let says = piece_says (g.R.Rack.seen c.look.new.rack).held layout c.look.new.self c.in-Some.first.place c.in-Sector.addr c.in-Sector.sum want c.passes_in.result c.in-Sector.is c.look.ensures.ahead c.in-Some.ensures.place c.in-Some-piece.ensures.inside.lies
+    let says = piece_says (g.R.Rack.seen c.look.new.rack).held layout c.look.new.self c.in-Some.first.place c.in-Sector.addr c.in-Sector.sum want
+    c.passes_in.result c.in-Sector.is c.look.ensures.ahead c.in-Some.ensures.place c.in-Some-piece.ensures.inside.lies
     (c.passes_in.ensures ∙ ap (passes layout.setting want) c.in-Some-piece.ensures.piece) in
     subst (λ (held : Option (List (List ℕ))). SaysFirst held layout want c.passes_in.result) (same_held c.look.ensures.reads) says
 

@@ -4,7 +4,7 @@ use Rattle.btr_walk.specs.Reading.{Map, HasCause, unread_by}
 use Rattle.btr_walk.specs.declared.fault.TreeFault.{TreeFault}
 use Rattle.btr_walk.proofs.Joined.{drawn}
 use Rattle.btr_files.specs.declared.dir_row.DirRow.{DirRow}
-use Rattle.btr_files.specs.Listing.{IsNextRow, IsNextEntry, KeepsName, RowNears}
+use Rattle.btr_files.specs.Listing.{IsNextRow, IsNextEntry, KeepsName, RowRankFalls}
 use Rattle.btr_files.proofs.Rows.{ready_is, free_is, same_through, dir_some, dir_ends, dir_fault, dir_nears}
 use Rattle.btr_files.proofs.dir.Dir.next.Goals as goal
 
@@ -47,7 +47,7 @@ returns-in-Ok-Some-clause-volume g c = record {
 pub returns-in-Ok-Some-clause-nears : goal.returns-in-Ok-Some-clause-nears
 returns-in-Ok-Some-clause-nears g c =
     dir_nears c.args.self.now c.scan-scan.result c.read_row.new.scan c.read_row.new.store c.rest-after.result c.scan-scan.ensures c.rest-after.ensures.rests
-    (subst (RowNears c.scan-scan.result c.read_row.new.scan) (c.in-Ok-Some.is ∙ ap Ok c.in-Ok-Some.field-0-is) c.read_row.ensures.nears)
+    (subst (RowRankFalls c.scan-scan.result c.read_row.new.scan) (c.in-Ok-Some.is ∙ ap Ok c.in-Ok-Some.field-0-is) c.read_row.ensures.nears)
 
 pub returns-in-Ok-None-clause-content : goal.returns-in-Ok-None-clause-content
 returns-in-Ok-None-clause-content g c =

@@ -4,7 +4,9 @@ use Rattle.btr_items.proofs.parts.PartsIterator.next.Goals as goal
 
 pub returns-then-self-clause-steps : goal.returns-then-self-clause-steps
 returns-then-self-clause-steps g c =
-    let none : c.args.self.now ≡ [] = sym c.self.view_is ∙ none_at_end g.P.Part.part_at g.P.Part.end_of (length c.self.inside.body.now) c.self.inside.at c.self.inside.body.now c.if-self.true in (none, none)
+    let none : c.args.self.now ≡ [] =
+    sym c.self.view_is ∙ none_at_end g.P.Part.part_at g.P.Part.end_of
+    (length c.self.inside.body.now) c.self.inside.at c.self.inside.body.now c.if-self.true in (none, none)
 
 pub returns-clause-steps : goal.returns-clause-steps
 returns-clause-steps g c =

@@ -29,7 +29,8 @@ pub returns-clause-size : goal.returns-clause-size
 returns-clause-size c = λ d.
     let block = c.self.inside.block.now in
     let within : c.args.i < entry_count block = omega (arith, length-items block, ap length c.self.view_is) in
-    let fits : 101 + (item_at block c.args.i).offset + (item_at block c.args.i).size ≤ length block = leaf_item_fits block c.self.invariant.0 c.self.invariant.1 c.args.i within in
+    let fits : 101 + (item_at block c.args.i).offset + (item_at block c.args.i).size ≤ length block =
+    leaf_item_fits block c.self.invariant.0 c.self.invariant.1 c.args.i within in
     let begin = 101 + c.item_offset.result in
     ap (λ (item : Item). item.size) ((item_seen block c.args.self.now c.self.view_is).at c.args.i d c.requires)
     ∙ omega (arith, length-take (begin + c.item_size-size.result - begin) (drop begin block), length-drop begin block)

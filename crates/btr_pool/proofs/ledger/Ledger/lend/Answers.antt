@@ -16,11 +16,13 @@ returns-clause-full c =
 pub returns-clause-was_free : goal.returns-clause-was_free
 returns-clause-was_free c =
     let ledger = c.self.inside in
-    let lent = lent_when_free ledger.count ledger.free c.in_ok-slot.slot c.args.self.now c.self.view_is c.self.invariant.within c.self.invariant.few c.in_ok-slot.ensures.within c.in_ok-slot.ensures.one in
+    let lent = lent_when_free ledger.count ledger.free c.in_ok-slot.slot c.args.self.now c.self.view_is c.self.invariant.within c.self.invariant.few
+    c.in_ok-slot.ensures.within c.in_ok-slot.ensures.one in
     lent.was_free
 
 pub returns-clause-lent : goal.returns-clause-lent
 returns-clause-lent c =
     let ledger = c.self.inside in
-    let lent = lent_when_free ledger.count ledger.free c.in_ok-slot.slot c.args.self.now c.self.view_is c.self.invariant.within c.self.invariant.few c.in_ok-slot.ensures.within c.in_ok-slot.ensures.one in
+    let lent = lent_when_free ledger.count ledger.free c.in_ok-slot.slot c.args.self.now c.self.view_is c.self.invariant.within c.self.invariant.few
+    c.in_ok-slot.ensures.within c.in_ok-slot.ensures.one in
     lent.after

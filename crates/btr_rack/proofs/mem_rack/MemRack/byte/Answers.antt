@@ -11,7 +11,8 @@ returns-in-Some c =
     let at : Some c.in-Some.at ≡ position (is_named c.args.name.now) c.self.inside.images.items = rw (← c.deref.ensures.value) c.in-Some.ensures in
     let image = c.index.result.now in
     let found : find (is_named c.args.name.now) c.self.inside.images.items ≡ Some image =
-    finds c.args.name.now c.self.inside.images.items c.in-Some.at image (stands_at c.args.name.now c.self.inside.images.items c.in-Some.at at) ∙ ap Some (sym c.index.ensures) in
+    finds c.args.name.now c.self.inside.images.items c.in-Some.at image (stands_at c.args.name.now c.self.inside.images.items c.in-Some.at at)
+    ∙ ap Some (sym c.index.ensures) in
     c.byte.ensures
     ∙ ap (λ found. option_and_then (λ bytes. slice_get bytes c.args.off) (option_map bytes_in found)) (sym found)
     ∙ ap (λ rack. option_and_then (λ bytes. slice_get bytes c.args.off) (named rack c.args.name.now)) c.self.view_is

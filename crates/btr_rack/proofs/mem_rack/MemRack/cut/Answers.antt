@@ -7,13 +7,23 @@ use Rattle.btr_rack.proofs.mem_rack.MemRack.cut.Goals as goal
 
 pub returns-in-Some : goal.returns-in-Some
 returns-in-Some c =
-    let answer : Some c.in-Some.at ≡ cond (list_any (is_named c.args.name.now) (take c.self.inside.opened c.self.inside.images.items)) None (position (is_named c.args.name.now) (drop c.self.inside.opened c.self.inside.images.items)) =
+    let answer : Some c.in-Some.at ≡ cond (list_any (is_named c.args.name.now) (take c.self.inside.opened c.self.inside.images.items)) None
+    (position (is_named c.args.name.now) (drop c.self.inside.opened c.self.inside.images.items)) =
     rw (← c.deref.ensures.value) c.in-Some.ensures in
-    let old : MemoryRack = record { images = c.self.inside.images.items; opened = c.self.inside.opened; failing = c.self.inside.failing; unsynced = c.self.inside.unsynced.places; never_synced = c.self.inside.never_synced.places; account = c.self.inside.ledger } in
+    let old : MemoryRack =
+    record {
+      images = c.self.inside.images.items;
+      opened = c.self.inside.opened;
+      failing = c.self.inside.failing;
+      unsynced = c.self.inside.unsynced.places;
+      never_synced = c.self.inside.never_synced.places;
+      account = c.self.inside.ledger;
+    } in
     rw (← c.self.view_is) (cuts c.args.name.now c.args.len c.in-Some.at old c.cut_image.new.images.items c.cut_image.result answer c.cut_image.ensures)
 
 pub returns-in-None : goal.returns-in-None
 returns-in-None c =
-    let answer : None ≡ cond (list_any (is_named c.args.name.now) (take c.self.inside.opened c.self.inside.images.items)) None (position (is_named c.args.name.now) (drop c.self.inside.opened c.self.inside.images.items)) =
+    let answer : None ≡ cond (list_any (is_named c.args.name.now) (take c.self.inside.opened c.self.inside.images.items)) None
+    (position (is_named c.args.name.now) (drop c.self.inside.opened c.self.inside.images.items)) =
     rw (← c.deref.ensures.value) c.in-None.ensures in
     rw (← c.self.view_is) (rw (shelf_nowhere c.args.name.now c.self.inside.images.items c.self.inside.opened answer) (tt, refl))

@@ -10,7 +10,8 @@ pub returns-in-Some : goal.returns-in-Some
 returns-in-Some c =
     let at : Some c.in-Some.at ≡ position (is_named c.args.name.now) c.self.inside.images.items = rw (← c.deref.ensures.value) c.in-Some.ensures in
     let found : find (is_named c.args.name.now) c.self.inside.images.items ≡ Some c.index.result.now =
-    finds c.args.name.now c.self.inside.images.items c.in-Some.at c.index.result.now (stands_at c.args.name.now c.self.inside.images.items c.in-Some.at at) ∙ ap Some (sym c.index.ensures) in
+    finds c.args.name.now c.self.inside.images.items c.in-Some.at c.index.result.now (stands_at c.args.name.now c.self.inside.images.items c.in-Some.at at)
+    ∙ ap Some (sym c.index.ensures) in
     c.page.ensures
     ∙ ap (λ found. option_and_then (λ image. page_at image.pages c.args.index) found) (sym found)
     ∙ ap (λ rack. named_page rack c.args.name.now c.args.index) c.self.view_is

@@ -17,7 +17,8 @@ returns-in_default c =
 pub returns-then-off-len : goal.returns-then-off-len
 returns-then-off-len c =
     let at : Some c.in-Some.at ≡ position (is_named c.args.name.now) c.self.inside.images.items = rw (← c.deref.ensures.value) c.in-Some.ensures in
-    let found = finds c.args.name.now c.self.inside.images.items c.in-Some.at c.index.result.now (stands_at c.args.name.now c.self.inside.images.items c.in-Some.at at) ∙ ap Some (sym c.index.ensures) in
+    let found = finds c.args.name.now c.self.inside.images.items c.in-Some.at c.index.result.now
+    (stands_at c.args.name.now c.self.inside.images.items c.in-Some.at at) ∙ ap Some (sym c.index.ensures) in
     let past : c.index.result.now.slot.len < c.args.off + length c.args.bytes.now =
     elim c.then-off-len.branch [ then-off-len-via-then-off-len w ↦ omega arith | then-off-len-via-else-off-len+then-bytes-len w ↦ omega arith ] in
     rw (← c.self.view_is) (
@@ -31,7 +32,15 @@ returns-then-off-len c =
 pub returns-in_default-write_image : goal.returns-in_default-write_image
 returns-in_default-write_image c =
     let at : Some c.in-Some.at ≡ position (is_named c.args.name.now) c.self.inside.images.items = rw (← c.deref.ensures.value) c.in-Some.ensures in
-    let old : MemoryRack = record { images = c.self.inside.images.items; opened = c.self.inside.opened; failing = c.self.inside.failing; unsynced = c.self.inside.unsynced.places; never_synced = c.self.inside.never_synced.places; account = c.self.inside.ledger } in
+    let old : MemoryRack =
+    record {
+      images = c.self.inside.images.items;
+      opened = c.self.inside.opened;
+      failing = c.self.inside.failing;
+      unsynced = c.self.inside.unsynced.places;
+      never_synced = c.self.inside.never_synced.places;
+      account = c.self.inside.ledger;
+    } in
     let some = c.in_default-write_image.ensures in
     let sized : length some.0 ≡ length c.args.bytes.now = some.1 in
     rw (← c.self.view_is) (
@@ -44,7 +53,15 @@ returns-in_default-write_image c =
 pub returns : goal.returns
 returns c =
     let at : Some c.in-Some.at ≡ position (is_named c.args.name.now) c.self.inside.images.items = rw (← c.deref.ensures.value) c.in-Some.ensures in
-    let old : MemoryRack = record { images = c.self.inside.images.items; opened = c.self.inside.opened; failing = c.self.inside.failing; unsynced = c.self.inside.unsynced.places; never_synced = c.self.inside.never_synced.places; account = c.self.inside.ledger } in
+    let old : MemoryRack =
+    record {
+      images = c.self.inside.images.items;
+      opened = c.self.inside.opened;
+      failing = c.self.inside.failing;
+      unsynced = c.self.inside.unsynced.places;
+      never_synced = c.self.inside.never_synced.places;
+      account = c.self.inside.ledger;
+    } in
     rw (← c.self.view_is)
     (rewrites c.args.name.now c.args.off c.in-Some.at c.args.bytes.now old c.write_image.new.images.items c.index.result.now at c.index.ensures
     (omega arith) c.in-Ok.ensures)

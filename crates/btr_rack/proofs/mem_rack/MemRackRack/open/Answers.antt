@@ -13,7 +13,8 @@ use Rattle.btr_rack.proofs.mem_rack.MemRackRack.open.Goals.{in_default-place_on_
 
 pub returns-in-Some-clause-slots : goal.returns-in-Some-clause-slots
 returns-in-Some-clause-slots c =
-    let answer : Some c.in-Some.at ≡ cond (list_any (is_named c.args.name.now) (take c.self.inside.opened c.self.inside.images.items)) None (position (is_named c.args.name.now) (drop c.self.inside.opened c.self.inside.images.items)) =
+    let answer : Some c.in-Some.at ≡ cond (list_any (is_named c.args.name.now) (take c.self.inside.opened c.self.inside.images.items)) None
+    (position (is_named c.args.name.now) (drop c.self.inside.opened c.self.inside.images.items)) =
     rw (← c.deref.ensures.value) c.in-Some.ensures in
     let placed = on_shelf _ _ c.in-Some.at answer in
     rw (← c.self.view_is)
@@ -22,7 +23,8 @@ returns-in-Some-clause-slots c =
 
 pub returns-in-Some-clause-images : goal.returns-in-Some-clause-images
 returns-in-Some-clause-images c =
-    let answer : Some c.in-Some.at ≡ cond (list_any (is_named c.args.name.now) (take c.self.inside.opened c.self.inside.images.items)) None (position (is_named c.args.name.now) (drop c.self.inside.opened c.self.inside.images.items)) =
+    let answer : Some c.in-Some.at ≡ cond (list_any (is_named c.args.name.now) (take c.self.inside.opened c.self.inside.images.items)) None
+    (position (is_named c.args.name.now) (drop c.self.inside.opened c.self.inside.images.items)) =
     rw (← c.deref.ensures.value) c.in-Some.ensures in
     let placed = on_shelf _ _ c.in-Some.at answer in
     rw (← c.self.view_is)
@@ -31,12 +33,21 @@ returns-in-Some-clause-images c =
 
 pub returns-in-Some-clause-fails : goal.returns-in-Some-clause-fails
 returns-in-Some-clause-fails c =
-    let answer : Some c.in-Some.at ≡ cond (list_any (is_named c.args.name.now) (take c.self.inside.opened c.self.inside.images.items)) None (position (is_named c.args.name.now) (drop c.self.inside.opened c.self.inside.images.items)) =
+    let answer : Some c.in-Some.at ≡ cond (list_any (is_named c.args.name.now) (take c.self.inside.opened c.self.inside.images.items)) None
+    (position (is_named c.args.name.now) (drop c.self.inside.opened c.self.inside.images.items)) =
     rw (← c.deref.ensures.value) c.in-Some.ensures in
     let shelved = shelf_at c.args.name.now c.self.inside.images.items c.self.inside.opened c.in-Some.at (zeros [] 0) answer in
     let spared : call_strikes c.self.inside.failing ≡ false = cc c.call-struck.ensures.strikes in
     rw (← c.self.view_is)
-    (ap (λ b. b || is_none (shelf_of (record { images = c.self.inside.images.items; opened = c.self.inside.opened; failing = c.self.inside.failing; unsynced = c.self.inside.unsynced.places; never_synced = c.self.inside.never_synced.places; account = c.self.inside.ledger }) c.args.name.now)) spared ∙ ap is_none shelved)
+    (ap (λ b. b || is_none (shelf_of (record {
+      images = c.self.inside.images.items;
+      opened = c.self.inside.opened;
+      failing = c.self.inside.failing;
+      unsynced = c.self.inside.unsynced.places;
+      never_synced =
+          c.self.inside.never_synced.places;
+      account = c.self.inside.ledger;
+    }) c.args.name.now)) spared ∙ ap is_none shelved)
 
 pub returns-in_default-place_on_shelf-clause-fails : goal.returns-in_default-place_on_shelf-clause-fails
 returns-in_default-place_on_shelf-clause-fails c =
@@ -45,7 +56,8 @@ returns-in_default-place_on_shelf-clause-fails c =
           let struck : call_strikes c.self.inside.failing ≡ true = cc c.call-struck.ensures.strikes in
           rw (← c.self.view_is) (rw struck refl)
       | in_default-place_on_shelf-via-in_default-place_on_shelf w ↦
-          let answer : None ≡ cond (list_any (is_named c.args.name.now) (take c.self.inside.opened c.self.inside.images.items)) None (position (is_named c.args.name.now) (drop c.self.inside.opened c.self.inside.images.items)) =
+          let answer : None ≡ cond (list_any (is_named c.args.name.now) (take c.self.inside.opened c.self.inside.images.items)) None
+          (position (is_named c.args.name.now) (drop c.self.inside.opened c.self.inside.images.items)) =
           rw (← c.deref.ensures.value) w.in_default-place_on_shelf.ensures in
           rw (← c.self.view_is)
           (ap (λ shelved. call_strikes c.self.inside.failing || is_none shelved)
@@ -54,14 +66,23 @@ returns-in_default-place_on_shelf-clause-fails c =
 
 pub returns-in_default-place_on_shelf-clause-sure : goal.returns-in_default-place_on_shelf-clause-sure
 returns-in_default-place_on_shelf-clause-sure c =
-    let old : MemoryRack = record { images = c.self.inside.images.items; opened = c.self.inside.opened; failing = c.self.inside.failing; unsynced = c.self.inside.unsynced.places; never_synced = c.self.inside.never_synced.places; account = c.self.inside.ledger } in
+    let old : MemoryRack =
+    record {
+      images = c.self.inside.images.items;
+      opened = c.self.inside.opened;
+      failing = c.self.inside.failing;
+      unsynced = c.self.inside.unsynced.places;
+      never_synced = c.self.inside.never_synced.places;
+      account = c.self.inside.ledger;
+    } in
     elim c.in_default-place_on_shelf.branch [
       | in_default-place_on_shelf-via-in-Some+else-not-struck w ↦
           let struck : call_strikes c.self.inside.failing ≡ true = cc c.call-struck.ensures.strikes in
           let no : is_sure old ≡ false = unsure old (call_struck c.self.inside.failing struck) in
           rw (← c.self.view_is) (λ sure. absurd (true≢false (sym sure ∙ no)))
       | in_default-place_on_shelf-via-in_default-place_on_shelf w ↦
-          let answer : None ≡ cond (list_any (is_named c.args.name.now) (take c.self.inside.opened c.self.inside.images.items)) None (position (is_named c.args.name.now) (drop c.self.inside.opened c.self.inside.images.items)) =
+          let answer : None ≡ cond (list_any (is_named c.args.name.now) (take c.self.inside.opened c.self.inside.images.items)) None
+          (position (is_named c.args.name.now) (drop c.self.inside.opened c.self.inside.images.items)) =
           rw (← c.deref.ensures.value) w.in_default-place_on_shelf.ensures in
           rw (← c.self.view_is) (λ sure. shelf_nowhere c.args.name.now c.self.inside.images.items c.self.inside.opened answer)
     ]

@@ -7,7 +7,8 @@ use Rattle.btr_rack.proofs.mem_rack.MemRackRack.read_at.Goals as goal
 pub returns-clause-bytes : goal.returns-clause-bytes
 returns-clause-bytes c =
     let front : c.args.slot < c.self.inside.opened =
-    open-front c.self.inside.images.items c.self.inside.opened c.args.slot (subst (λ rack. c.args.slot < length (slots_of rack)) (sym c.self.view_is) c.requires.open) in
+    open-front c.self.inside.images.items c.self.inside.opened c.args.slot
+    (subst (λ rack. c.args.slot < length (slots_of rack)) (sym c.self.view_is) c.requires.open) in
     rw (← c.self.view_is)
     (c.read.ensures
     ∙ ap (λ image. slice_range image c.args.off (c.args.off + length c.args.buf.now))

@@ -24,7 +24,8 @@ loop-k-preserved c =
     let k = c.loop-k.k in
     let lt : k < length (ways t) = omega (arith, c.loop-k-test.true, c.way_count-k-end.ensures) in
     let before = length (filter (λ candidate. beq (reads_older t candidate) c.args.older) (take k (ways t))) in
-    let more : length (filter (λ candidate. beq (reads_older t candidate) c.args.older) (take (k + 1) (ways t))) ≡ before + cond (beq (reads_older t way) c.args.older) 1 0 =
+    let more : length (filter (λ candidate. beq (reads_older t candidate) c.args.older) (take (k + 1) (ways t)))
+    ≡ before + cond (beq (reads_older t way) c.args.older) 1 0 =
     length-filter_more (λ candidate. beq (reads_older t candidate) c.args.older) (ways t) k way lt
     ∙ ap (λ x. before + cond (beq (reads_older t x) c.args.older) 1 0) (get_or_from_slice_get (ways t) k way way c.way.ensures.value) in
     elim c.if-reads_older-older.branch [

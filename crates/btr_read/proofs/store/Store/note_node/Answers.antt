@@ -10,7 +10,8 @@ invariant_of-self c =
     let s = c.self.inside in
     let slot = c.loan.inside.slot in
     let len = c.loan.inside.len in
-    let block = block_there s.chunks s.devices.items s.setting (kept_in s.setting s.kept.wants s.pool.bytes) s.pool c.args.self.now slot len c.args.loan.now c.self.view_is c.loan.view_is c.self.invariant.store.whole c.requires.live.live in
+    let block = block_there s.chunks s.devices.items s.setting (kept_in s.setting s.kept.wants s.pool.bytes) s.pool c.args.self.now slot len c.args.loan.now
+    c.self.view_is c.loan.view_is c.self.invariant.store.whole c.requires.live.live in
     let node : IsNode (take len (bytes_at s.pool slot)) = subst (λ o. IsSomeAnd o IsNode) block c.requires.node in
     let whole = subst (λ n. IsNode (take n (bytes_at s.pool slot))) c.if-loan-self.false node in
     let noted = c.note_node.ensures.nodes ∙ ap (λ k. set s.kept.nodes k true) c.slot-slot.ensures in

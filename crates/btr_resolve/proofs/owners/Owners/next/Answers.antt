@@ -6,7 +6,7 @@ use Rattle.btr_walk.specs.ScanEnds.{rank_of}
 use Rattle.btr_walk.specs.declared.fault.TreeFault.{TreeFault}
 use Rattle.btr_walk.proofs.Joined.{drawn}
 use Rattle.btr_files.proofs.Rows.{free_is, ready_is, same_through}
-use Rattle.btr_resolve.specs.Cursor.{AreOn, FoundNears, IsFound, NextOwnerBy}
+use Rattle.btr_resolve.specs.Cursor.{AreOn, FoundRankFalls, IsFound, NextOwnerBy}
 use Rattle.btr_resolve.specs.declared.owner.Owner.{Owner}
 use Rattle.btr_resolve.specs.declared.owners.Owners.{Owners}
 use Rattle.btr_resolve.proofs.Cursors.{next_fault, next_nears, next_none, next_owner}
@@ -57,7 +57,7 @@ pub returns-in-Ok-Some-clause-nears : goal.returns-in-Ok-Some-clause-nears
 returns-in-Ok-Some-clause-nears g c =
     next_nears c.args.self.now.rest c.scan-scan.result c.find_owner.new.scan c.find_owner.new.store c.rest-self.result
     c.scan-scan.ensures c.rest-self.ensures.rests
-    (subst (FoundNears (rank_of c.scan-scan.result) (rank_of c.find_owner.new.scan))
+    (subst (FoundRankFalls (rank_of c.scan-scan.result) (rank_of c.find_owner.new.scan))
     (c.in-Ok-Some.is ∙ ap Ok c.in-Ok-Some.field-0-is) c.find_owner.ensures.nears)
 
 pub returns-in-Ok-None-clause-content : goal.returns-in-Ok-None-clause-content

@@ -15,7 +15,8 @@ returns-clause-nears c =
     let P : Tour → Type 0 = λ t. rank_on t.place t.leaf ≤ rank_on old.place old.leaf in
     elim c.if-level-eq0.branch [
       | then-level-eq0 w ↦
-          let behind : w.put_leaf.new.place ≡ passed_leaf 0 old.leaf = w.put_leaf.ensures ∙ w.behind_all-leaf.ensures ∙ ap (passed_leaf 0) w.take.ensures.value in
+          let behind : w.put_leaf.new.place ≡ passed_leaf 0 old.leaf =
+          w.put_leaf.ensures ∙ w.behind_all-leaf.ensures ∙ ap (passed_leaf 0) w.take.ensures.value in
           subst P (sym w.self-is) (subst (λ (l : Option LeafAt). rank_on old.place l ≤ rank_on old.place old.leaf) (sym behind) (pass_leaf old.place old.leaf))
       | else-level-eq0 w ↦ subst P (sym w.self-is) (pass_node old.place (c.in-Some.level - 1) old.leaf)
     ]
@@ -27,7 +28,8 @@ returns-clause-held c =
     let P : Tour → Type 0 = λ t. IfSome t.leaf (IsHeld B seen store) in
     elim c.if-level-eq0.branch [
       | then-level-eq0 w ↦
-          let behind : w.put_leaf.new.place ≡ passed_leaf 0 old.leaf = w.put_leaf.ensures ∙ w.behind_all-leaf.ensures ∙ ap (passed_leaf 0) w.take.ensures.value in
+          let behind : w.put_leaf.new.place ≡ passed_leaf 0 old.leaf =
+          w.put_leaf.ensures ∙ w.behind_all-leaf.ensures ∙ ap (passed_leaf 0) w.take.ensures.value in
           subst P (sym w.self-is) (subst (λ (l : Option LeafAt). IfSome l (IsHeld B seen store)) (sym behind) (held_passed B seen store old.leaf held))
       | else-level-eq0 w ↦ subst P (sym w.self-is) held
     ]
