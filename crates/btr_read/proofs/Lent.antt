@@ -1,35 +1,13 @@
 -- Loans of a store, from call to call.
-use Rattle.std.proofs.Common.{◌≡◌, ◌≢◌, ℕ, ◌+◌, ◌<◌, cond, List, length, take, get_or, set, count_by, Option, Some, None, IsSome, refl, sym, ap, ◌∙◌, subst}
+use Rattle.std.proofs.Common.{◌≡◌, ◌≢◌, ℕ, ◌+◌, ◌<◌, cond, List, length, get_or, set, count_by, Option, Some, None, IsSome, refl, sym, ap, ◌∙◌, subst}
 use Rattle.std.proofs.Common.{arith, inl, inr}
 use Rattle.std.proofs.lemmas.Bool.{cases_lt, false≢true}
 use Rattle.std.proofs.lemmas.List.Sums.{sum_by-set}
-use Rattle.std.proofs.lemmas.List.{get_or_past, get_or-set_other, set-set, set-get_or}
-use Rattle.std.specs.Option.{option_map, is_none, is_some}
+use Rattle.std.proofs.lemmas.List.{get_or_past, set-set, set-get_or}
+use Rattle.std.specs.Option.{is_none}
 use Rattle.btr_read.specs.Layout.{Layout}
-use Rattle.btr_read.specs.Store.{Blocks, Lent, loan_in, block_of, free_count, with_loan, IsLiveIn, IsLentBy, SameLoans}
+use Rattle.btr_read.specs.Store.{Blocks, Lent, free_count, with_loan, IsLiveIn, IsLentBy, SameLoans}
 use Rattle.btr_read.specs.declared.want.Want.{Want}
-
--- a live loan is none that was free
-not_free : (store : Blocks) (loan other : Lent) → IsLiveIn store other → loan_in store loan.slot ≡ None → other.slot ≢ loan.slot
-not_free store loan other live free same = false≢true (sym (ap is_some free) ∙ ap (λ n. is_some (loan_in store n)) (sym same) ∙ live.live)
-
--- what stands in a slot that wasn't lent stays
-pub loan_stays : (old new : Blocks) (want : Want) (loan other : Lent) → IsLentBy old new want loan → IsLiveIn old other → loan_in new other.slot
-    ≡ loan_in old other.slot
-loan_stays old new want loan other t live =
-    ap (λ loans. get_or loans other.slot None) t.after.1 ∙ get_or-set_other old.loans loan.slot other.slot (Some t.after.0) None
-    (not_free old loan other live t.free)
-
--- a live loan stays live while another is lent, and keeps its bytes
-pub stays_live : (old new : Blocks) (want : Want) (loan other : Lent) → IsLentBy old new want loan → IsLiveIn old other → IsLiveIn new other
-stays_live old new want loan other t live = record {
-  live = subst IsSome (sym (loan_stays old new want loan other t live)) live.live;
-  fits = omega (arith, live.fits, ap (λ (l : Layout). l.setting.nodesize) t.layout);
-}
-
-pub stays_block : (old new : Blocks) (want : Want) (loan other : Lent) → IsLentBy old new want loan → IsLiveIn old other → block_of new other
-    ≡ block_of old other
-stays_block old new want loan other t live = ap (option_map (take other.len)) (loan_stays old new want loan other t live)
 
 -- the same where nothing was lent
 pub stays_same : (old new : Blocks) (other : Lent) → SameLoans old new → IsLiveIn old other → IsLiveIn new other

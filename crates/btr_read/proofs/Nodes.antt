@@ -1,6 +1,6 @@
 -- Which of the blocks that are kept are known to be good nodes.
 use Rattle.std.proofs.Common.{◌≡◌, ℕ, zero, suc, Bool, true, false, List, [], ◌∷◌, length, take, get_or, set, Option, Some, None, IsSome, refl, sym, ap, ◌∙◌}
-use Rattle.std.proofs.Common.{subst, inl, inr, replicate, arith}
+use Rattle.std.proofs.Common.{subst, inl, inr, arith}
 use Rattle.std.proofs.lemmas.Bool.{cases_eq, false≢true}
 use Rattle.std.proofs.lemmas.List.{get_or-set_other, length-set}
 use Rattle.btr_pool.specs.Slots.{Slots, with_lent, with_free}
@@ -41,15 +41,6 @@ nodes_more wants then wants' nodes nodes' p p' k x still one e j w is node =
           (was.0, sym (get_or-set_other nodes k j false false other) ∙ here, was.1)
     ]
 
--- nothing is known where nothing is kept
-pub no_nodes : (wants : List (Option Want)) (nodes : List Bool) (slots : List (List ℕ)) (size : ℕ) → wants ≡ replicate 24 None → AreNodes wants nodes slots size
-no_nodes wants nodes slots size e k w is node = absurd (never 24 k w (ap (λ ws. get_or ws k None) (sym e) ∙ is))
-  where
-    never : (n k : ℕ) (w : Want) → get_or (replicate n None) k None ≡ Some w → ⊥
-    never zero k w e = cc
-    never (suc n) zero w e = cc
-    never (suc n) (suc k) w e = never n k w e
-
 -- one more is known, which is one
 pub nodes_noted : (wants wants' : List (Option Want)) (nodes nodes' : List Bool) (slots : List (List ℕ)) (size k : ℕ)
     → AreNodes wants nodes slots size → wants' ≡ wants → nodes' ≡ set nodes k true → IsNode (take size (get_or slots k [])) → AreNodes wants' nodes' slots size
@@ -67,16 +58,6 @@ known_node wants nodes slots size k are some node = by (get_or wants k None) ref
     by : (o : Option Want) → get_or wants k None ≡ o → IsSome o → IsNode (take size (get_or slots k []))
     by None e some = absurd (false≢true some)
     by (Some w) e some = are k w e node
-
--- the slots of a store, of which one was lent
-pub store_lent : (p p' : Slots) (setting : Setting) (k : ℕ) → p' ≡ with_lent p k → IsStore p setting → IsStore p' setting
-store_lent p p' setting k e is = subst (λ q. IsStore q setting) (sym e) (record {
-  size = is.size;
-  large = is.large;
-  small = is.small;
-  whole = is.whole ∙ sym (length-set p.lent k true);
-  count = is.count;
-})
 
 -- the slots of a store, of which one was lent and written
 pub store_written : (p p' : Slots) (setting : Setting) (k : ℕ) → OnlyWrites k (with_lent p k) p' → IsStore p setting → IsStore p' setting

@@ -29,10 +29,6 @@ writes_more a b c ks h g = record {
   others = λ j none. g.others j none ∙ h.others j none;
 }
 
--- more slots might have been
-pub writes_within : (a b : Slots) (k : ℕ) (ks : List ℕ) → OnlyWritesIn ks a b → OnlyWritesIn (k ∷ ks) a b
-writes_within a b k ks h = record { size = h.size; lent = h.lent; count = h.count; others = λ j none. h.others j none.1 }
-
 -- the loans stay live and apart
 pub live_still : (a b : Slots) (ks : List ℕ) (j : ℕ) → OnlyWritesIn ks a b → IsLive a j → IsLive b j
 live_still a b ks j h live = record { there = omega (arith, h.count, live.there); lent = ap (λ lent. get_or lent j false) h.lent ∙ live.lent }

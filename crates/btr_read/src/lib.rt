@@ -44,6 +44,7 @@ pub use fetching::fetch;
 pub use laws::{value_by_ranges, value_is_the_one};
 pub use loan::Loan;
 pub use mirror::{Tried, TryFault, try_mirror};
+pub use parity::Parity;
 pub use passing::{passes, passes_in};
 pub use setting::Setting;
 pub use store::Store;

@@ -5,16 +5,18 @@ ghost use Rattle.btr_read.specs.Folding.{with_added};
 use btr_chunk::Part;
 use btr_parity::{fold_p, fold_q};
 
-/// The parities of a row.
+/// A parity of a full stripe (`docs/FORMAT.md`, "Full stripes").
 #[derive(Clone, Copy, Debug, PartialEq, Eq)]
-pub(crate) enum Parity {
+pub enum Parity {
+    /// The sum of the slices.
     P,
+    /// The sum of the slices, each weighed by its power of two.
     Q,
 }
 
 impl Parity {
-    // The part that it is.
-    pub(crate) fn part(self) -> Part
+    /// The part that it is.
+    pub fn part(self) -> Part
         ensures { result ≡ part_of self }
     {
         match self {

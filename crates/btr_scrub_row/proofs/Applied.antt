@@ -19,8 +19,8 @@ use Rattle.btr_scrub_row.specs.Memory.{HasParity, HoldsRow, IsStripeOf}
 use Rattle.btr_scrub_row.specs.Writing.{AreTold, KnowsParity, Tells, told_writes}
 use Rattle.btr_scrub_row.specs.declared.buffer.RowBuffer.{RowBuffer}
 use Rattle.btr_scrub_row.specs.declared.judged.Judged.{Judged}
-use Rattle.btr_scrub_row.specs.declared.parity.Parity.{Parity}
-use Rattle.btr_scrub_row.specs.declared.parity.Parity.TheVariants as parity
+use Rattle.btr_read.specs.declared.parity.Parity.{Parity}
+use Rattle.btr_read.specs.declared.parity.Parity.TheVariants as parity
 use Rattle.btr_scrub_row.specs.declared.prepared_row.PreparedRow.{PreparedRow}
 use Rattle.btr_scrub_row.specs.declared.stripe.FullStripe.{FullStripe}
 

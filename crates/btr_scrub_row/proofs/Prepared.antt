@@ -13,7 +13,7 @@ use Rattle.btr_scrub_row.specs.Memory.{HoldsRow, IsStripeOf, element_in}
 use Rattle.btr_scrub_row.specs.Judging.{AreJudged}
 use Rattle.btr_scrub_row.specs.Writing.{KnowsParity}
 use Rattle.btr_scrub_row.specs.declared.judged.Judged.{Judged}
-use Rattle.btr_scrub_row.specs.declared.parity.Parity.TheVariants as parity
+use Rattle.btr_read.specs.declared.parity.Parity.TheVariants as parity
 use Rattle.btr_scrub_row.specs.declared.stripe.FullStripe.{FullStripe}
 use Rattle.btr_scrub_row.proofs.Columns.{decided_is}
 use Rattle.btr_scrub_row.proofs.Shapes.{part_p, part_q, row_counted}

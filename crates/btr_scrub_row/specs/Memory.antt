@@ -1,5 +1,5 @@
 -- A row's bytes in memory, element by element: the slices, P, and Q; and a block of it.
-use Rattle.std.specs.List.{All, list_any, range_with_len}
+use Rattle.std.specs.List.{list_any, range_with_len}
 use Rattle.std.specs.Prelude.{◌≡◌, ℕ, ◌+◌, ◌*◌, ◌<◌, ◌≤◌, ◌==◌, ◌&&◌, ◌||◌, Bool, true, false, List, [], ◌∷◌, length, map, nat_lt, take, Option, Some}
 use Rattle.std.specs.Prelude.{None, IfSome, IsOkAnd, IsSome}
 use Rattle.std.specs.Prelude.{Result, Ok, slice_get, slice_index_or, slice_range, if◌then◌else◌}
@@ -9,12 +9,10 @@ use Rattle.btr_chunk.specs.declared.place.Part.{Part}
 use Rattle.btr_chunk.specs.declared.place.Part.TheVariants.{Slice, P, Q}
 use Rattle.btr_chunk.specs.declared.profile.Profile.{Profile}
 use Rattle.btr_chunk.specs.declared.profile.Profile.TheVariants.{Raid6}
-use Rattle.btr_parity.specs.Field.{power}
-use Rattle.btr_parity.specs.Slices.{IsSlice, plus, scaled, parity_p, parity_q}
 use Rattle.btr_read.specs.Candidates as candidates
 use Rattle.btr_read.specs.Candidates.{Target, range_of, reads_slice, rebuilt, size_of, value_of}
 use Rattle.btr_read.specs.Fate.{sought}
-use Rattle.btr_read.specs.Gathering.{read_slices}
+use Rattle.btr_read.specs.Gathering.{IsGathered}
 use Rattle.btr_read.specs.Layout.{Layout}
 use Rattle.btr_read.specs.Want.{len_of}
 use Rattle.btr_read.specs.declared.candidate.Candidate.{Candidate}
@@ -31,8 +29,8 @@ use Rattle.btr_scrub_row.specs.Mending.{IsFullStripe, IsOfRow, IsOn, IsRowOf}
 use Rattle.btr_scrub_row.specs.declared.doubts.Doubts.{Doubts}
 use Rattle.btr_scrub_row.specs.declared.settling.Settled.{Settled}
 use Rattle.btr_scrub_row.specs.declared.stripe.FullStripe.{FullStripe}
-use Rattle.btr_scrub_row.specs.declared.parity.Parity.{Parity}
-use Rattle.btr_scrub_row.specs.declared.parity.Parity.TheVariants as parity
+use Rattle.btr_read.specs.declared.parity.Parity.{Parity}
+use Rattle.btr_read.specs.declared.parity.Parity.TheVariants as parity
 use Rattle.btr_scrub_row.specs.declared.shape.Shape.{Shape}
 use Rattle.btr_scrub_row.specs.declared.row_view.RowView.{RowView}
 use Rattle.btr_scrub_row.specs.declared.spot.Spot.{Spot}
@@ -149,31 +147,10 @@ pub record IsHeld (images : Images) (t : Target) (spot : Spot) (bytes : List ℕ
 
 -- ---- what the parities leave of slices
 
--- the part of a full stripe that a parity is
-abbrev pub part_of : Parity → Part
-part_of parity.P = P
-part_of parity.Q = Q
-
 -- the number of a parity's element: P's comes after the slices, and then Q's
 abbrev pub element_of : Parity → ℕ → ℕ
 element_of parity.P slices = slices
 element_of parity.Q slices = slices + 1
-
--- what a slice adds to a parity
-abbrev pub weighed : Parity → ℕ → List ℕ → List ℕ
-weighed parity.P i slice = slice
-weighed parity.Q i slice = scaled (power i) slice
-
--- the parity of slices
-abbrev pub parity_of : Parity → ℕ → List (List ℕ) → List ℕ
-parity_of parity.P size slices = parity_p size slices
-parity_of parity.Q size slices = parity_q size slices
-
--- a parity less the slices that a candidate reads
-pub record IsLeft (images : Images) (t : Target) (c : Candidate) (p : Parity) (bytes : List ℕ) : Type 0 where
-  pub slices : All (IsSlice (size_of t)) (read_slices images t c)
-  pub whole : IsSlice (size_of t) (candidates.element images t (part_of p))
-  pub sum : bytes ≡ plus (candidates.element images t (part_of p)) (parity_of p (size_of t) (read_slices images t c))
 
 -- the row has a parity
 abbrev pub HasParity : Profile → Parity → Type 0
@@ -189,7 +166,7 @@ ReadsQ (ByBoth j) = Unit {0}
 
 -- the front of a buffer has what a parity leaves of the slices that a candidate doesn't read
 abbrev pub Gathers : Spot → List ℕ → Candidate → Parity → List ℕ → Type 0
-Gathers spot bytes c p sum = (images : Images) (t : Target) → IsHeld images t spot bytes → IsLeft images t c p (take spot.len sum)
+Gathers spot bytes c p sum = (images : Images) (t : Target) → IsHeld images t spot bytes → IsGathered images t c p (take spot.len sum)
 
 -- the front of a buffer has what a candidate gives
 abbrev pub Computes : Spot → List ℕ → Candidate → List ℕ → Type 0

@@ -13,8 +13,8 @@ use Rattle.btr_scrub_row.specs.Judging.{AreJudged}
 use Rattle.btr_scrub_row.specs.Writing.{AreTold, KnowsParity, told_writes}
 use Rattle.btr_scrub_row.specs.declared.buffer.RowBuffer.{RowBuffer}
 use Rattle.btr_scrub_row.specs.declared.judged.Judged.{Judged}
-use Rattle.btr_scrub_row.specs.declared.parity.Parity.{Parity}
-use Rattle.btr_scrub_row.specs.declared.parity.Parity.TheVariants.{P, Q}
+use Rattle.btr_read.specs.declared.parity.Parity.{Parity}
+use Rattle.btr_read.specs.declared.parity.Parity.TheVariants.{P, Q}
 use Rattle.btr_scrub_row.specs.declared.prepared_row.PreparedRow.{PreparedRow}
 use Rattle.btr_scrub_row.specs.declared.stripe.FullStripe.{FullStripe}
 use Rattle.btr_scrub_row.specs.declared.wanted_row.WantedRow.{WantedRow}

@@ -3,6 +3,7 @@ use Rattle.std.specs.Prelude.{◌≡◌, ℕ, ◌+◌, ◌<◌, ◌≤◌, ◌^�
 use Rattle.std.specs.Prelude.{Ok, if◌then◌else◌}
 use Rattle.std.specs.List.{cons_option, flat_map}
 use Rattle.std.specs.Option.{option_map_or}
+use Rattle.btr_read.specs.Gathering.{part_of}
 use Rattle.btr_chunk.specs.declared.place.Part.{Part}
 use Rattle.btr_rack.specs.Rack.{Seen, len_of, range_in}
 use Rattle.btr_rack.specs.declared.place.Place.{Place as Range}
@@ -16,9 +17,9 @@ use Rattle.btr_scrub_copies.specs.declared.mended.MendFault.{MendFault}
 use Rattle.btr_scrub_row.specs.Mending.{IsOfRow}
 use Rattle.btr_scrub_row.specs.Rows.{Row, differs, element, element_with, is_decided, sector_write, slice_count}
 use Rattle.btr_scrub_row.specs.declared.judged.Judged.{Judged}
-use Rattle.btr_scrub_row.specs.declared.parity.Parity.{Parity}
+use Rattle.btr_read.specs.declared.parity.Parity.{Parity}
 use Rattle.btr_scrub_row.specs.declared.row_view.RowView.{RowView}
-use Rattle.btr_scrub_row.specs.Memory.{HoldsRow, IsStripeOf, IsWantedRow, KnowsDoubts, element_in, element_of, part_of}
+use Rattle.btr_scrub_row.specs.Memory.{HoldsRow, IsStripeOf, IsWantedRow, KnowsDoubts, element_in, element_of}
 
 -- the images of a filesystem are open for writing, and there is a mark for each slot
 pub record CanWrite (layout : Layout) (rack : Seen) (marks : List Bool) : Type 0 where

@@ -7,11 +7,10 @@ ghost use Rattle.btr_read.specs.Want.{len_of, passes};
 ghost use Rattle.btr_scrub_row.specs.Memory.{AcceptsWant, Computes, FitsIn, IsCandidate, IsSpotOf, ReadsQ, piece_in};
 
 use crate::gathering::{copy_front, divide_front, gather, solve_front};
-use crate::parity::Parity;
 use crate::row_view::RowView;
 use crate::spot::Spot;
 use btr_chunk::{Part, Profile};
-use btr_read::{Candidate, Store, Want, passes, way_at};
+use btr_read::{Candidate, Parity, Store, Want, passes, way_at};
 
 // The way of a number, for slice `index`.
 pub(crate) fn way_of(index: u32, k: u32) -> Candidate

@@ -11,7 +11,6 @@ ghost use Rattle.btr_scrub_row.specs.Writing.{CanWrite};
 use crate::RowBuffer;
 use crate::blocks::write_blocks;
 use crate::judged::Judged;
-use crate::parity::Parity;
 use crate::prepared_row::PreparedRow;
 use crate::row_view::RowView;
 use crate::sectors::{count_wrong, write_parity};
@@ -19,7 +18,7 @@ use crate::stripe::FullStripe;
 use crate::wanted_row::WantedRow;
 use btr_chunk::Profile;
 use btr_rack::Rack;
-use btr_read::Store;
+use btr_read::{Parity, Store};
 use btr_scrub_copies::{MendFault, sync_if};
 
 // How many sectors of the parities are wrong.

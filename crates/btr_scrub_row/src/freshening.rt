@@ -13,10 +13,10 @@ ghost use Rattle.btr_scrub_row.specs.Rows.{Row};
 use crate::accepting::{compute, way_count, way_of};
 use crate::doubts::{Doubts, flag_of};
 use crate::gathering::reads;
-use crate::parity::Parity;
+use crate::parity::element_of;
 use crate::row_view::RowView;
 use crate::spot::Spot;
-use btr_read::{Candidate, Store, Want};
+use btr_read::{Candidate, Parity, Store, Want};
 
 // Whether a candidate reads a slice that is flagged.
 fn reads_flagged_slice(candidate: Candidate, spot: &Spot, flags: &[bool; 64]) -> bool
@@ -36,8 +36,8 @@ fn reads_flagged(candidate: Candidate, spot: &Spot, flags: &[bool; 64]) -> bool
     ensures { result ≡ reads_flagged flags.now spot.now.shape.slices spot.now.index candidate }
 {
     let slices = spot.shape.slices;
-    let p = flag_of(flags, Parity::P.element(slices));
-    let q = flag_of(flags, Parity::Q.element(slices));
+    let p = flag_of(flags, element_of(Parity::P, slices));
+    let q = flag_of(flags, element_of(Parity::Q, slices));
     match candidate {
         Candidate::Read(_) => flag_of(flags, spot.index),
         Candidate::ByP => p || reads_flagged_slice(candidate, spot, flags),

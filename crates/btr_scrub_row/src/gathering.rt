@@ -1,14 +1,15 @@
 // What the parities leave of slices, in memory.
 ghost use Rattle.std.specs.Prelude.{◌≡◌, ◌≢◌, ◌+◌, ◌≤◌, length, take};
+ghost use Rattle.btr_read.specs.Gathering.{weighed};
 ghost use Rattle.btr_parity.specs.Slices.{plus};
 ghost use Rattle.btr_parity.specs.Solutions.{IsTheOne, Weighs, WeighsWith};
 ghost use Rattle.btr_read.specs.Candidates.{reads_slice};
-ghost use Rattle.btr_scrub_row.specs.Memory.{FitsIn, Gathers, HasParity, piece_at, weighed};
+ghost use Rattle.btr_scrub_row.specs.Memory.{FitsIn, Gathers, HasParity, piece_at};
 
-use crate::parity::Parity;
+use crate::parity::element_of;
 use crate::spot::Spot;
 use btr_parity::{fold_p, fold_q, rebuild_pq, rebuild_q};
-use btr_read::Candidate;
+use btr_read::{Candidate, Parity};
 
 // Copies some bytes into the front of a buffer.
 pub(crate) fn copy_front(front: &mut [u8], bytes: &[u8], start: usize, len: usize)
@@ -86,7 +87,7 @@ pub(crate) fn gather(
     requires has { HasParity spot.now.shape.profile parity }
     ensures { Gathers spot.now bytes.now candidate parity sum.new }
 {
-    let element = parity.element(spot.shape.slices);
+    let element = element_of(parity, spot.shape.slices);
     copy_front(sum, bytes, spot.start(element), spot.len);
     for slice in 0..spot.shape.slices {
         if reads(candidate, spot.index, slice) {

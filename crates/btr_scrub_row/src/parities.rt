@@ -5,8 +5,8 @@ ghost use Rattle.btr_scrub_row.specs.Memory.{piece_at, slices_in};
 
 use crate::buffer::ELEMENT;
 use crate::gathering::{add_front, copy_front};
-use crate::parity::Parity;
 use btr_parity::double_and_add;
+use btr_read::Parity;
 
 // Doubles what the front of a buffer has of Q, and adds some bytes of the slice in front.
 fn double_front(front: &mut [u8], bytes: &[u8], start: usize, len: usize)

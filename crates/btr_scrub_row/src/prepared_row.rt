@@ -3,8 +3,8 @@ ghost use Rattle.btr_scrub_row.specs.Preparing.{sums_of};
 
 use crate::RowBuffer;
 use crate::judged::Judged;
-use crate::parity::Parity;
 use crate::stripe::FullStripe;
+use btr_read::Parity;
 
 // A row whose blocks were judged, and whose parities were made.
 #[derive(Clone, Copy)]

@@ -1,19 +1,20 @@
 // The sectors of a parity that differ from those of the new data.
 ghost use Rattle.std.specs.Prelude.{◌≡◌, ◌+◌, ◌<◌, ◌≤◌, length, if◌then◌else◌};
 ghost use Rattle.std.specs.Str.{bytes_eq};
+ghost use Rattle.btr_read.specs.Gathering.{part_of};
 ghost use Rattle.btr_read.specs.Layout.{Layout};
 ghost use Rattle.btr_scrub_row.specs.Rows.{parity_writes};
-ghost use Rattle.btr_scrub_row.specs.Memory.{HasParity, IsStripe, part_of, piece_at};
+ghost use Rattle.btr_scrub_row.specs.Memory.{HasParity, IsStripe, piece_at};
 ghost use Rattle.btr_scrub_row.specs.Preparing.{IsWhole, WherePrepared, WritesPrepared};
 ghost use Rattle.btr_scrub_row.specs.Writing.{CanWrite, column_writes, is_wrong};
 
 use crate::buffer::ELEMENT;
-use crate::parity::Parity;
+use crate::parity::element_of;
 use crate::prepared_row::{PreparedRow, sums_of};
 use crate::stripe::place_of_part;
 use crate::writing::write_range;
 use btr_rack::Rack;
-use btr_read::Store;
+use btr_read::{Parity, Store};
 use btr_scrub_copies::{MendFault, same_bytes};
 
 // How many bytes a sector has.
@@ -42,7 +43,8 @@ fn is_wrong(column: usize, parity: Parity, prepared: &PreparedRow<'_>) -> bool
     if !prepared.judged.met[column] || prepared.judged.broken[column] {
         return false;
     }
-    let start = parity.element(prepared.stripe.shape.slices) as usize * ELEMENT + column * SECTOR;
+    let start = element_of(parity, prepared.stripe.shape.slices) as usize * ELEMENT
+        + column * SECTOR;
     let sums = sums_of(parity, prepared.buffer);
     !same_pieces(
         &prepared.buffer.elements,

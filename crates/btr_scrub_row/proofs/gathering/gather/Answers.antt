@@ -1,6 +1,7 @@
 use Rattle.std.proofs.Common.{◌+◌, ◌*◌, take, sym, ap, ◌∙◌, subst}
 use Rattle.btr_parity.proofs.Solving.{bytes_of}
-use Rattle.btr_scrub_row.proofs.Gathered.{LeftSoFar, left_begun, left_more, left_same}
+use Rattle.btr_scrub_row.proofs.Gathered.{left_begun, left_more, left_same}
+use Rattle.btr_read.proofs.Sums.{GatheredSoFar}
 use Rattle.btr_scrub_row.proofs.gathering.gather.Goals as goal
 use Rattle.btr_scrub_row.proofs.gathering.gather.Goals.{then-reads, else-reads}
 
@@ -8,7 +9,7 @@ pub loop-slice-init : goal.loop-slice-init
 loop-slice-init c = λ images t h.
     left_begun images t c.args.spot.now c.args.bytes.now (bytes_of c.args.bytes.now c.type_inv.bytes) c.requires.within h c.args.candidate
     c.args.parity c.start.result (take c.args.spot.now.len c.copy_front.new.front) c.requires.has
-    (c.start.ensures ∙ ap (λ e. e * 65536 + c.args.spot.now.rest) c.element-element.ensures) c.copy_front.ensures
+    (c.start.ensures ∙ ap (λ e. e * 65536 + c.args.spot.now.rest) c.element_of-element.ensures) c.copy_front.ensures
 
 pub loop-slice-preserved : goal.loop-slice-preserved
 loop-slice-preserved c = λ images t h.
@@ -23,6 +24,6 @@ loop-slice-preserved c = λ images t h.
       | else-reads w ↦
           left_same images t spot bytes (bytes_of c.args.bytes.now c.type_inv.bytes) c.requires.within h c.args.candidate c.args.parity
           c.loop-slice.slice (take spot.len c.if-reads.sum)
-          (subst (λ s. LeftSoFar images t c.args.candidate c.args.parity c.loop-slice.slice (take spot.len s)) (sym w.sum-is)
+          (subst (λ s. GatheredSoFar images t c.args.candidate c.args.parity c.loop-slice.slice (take spot.len s)) (sym w.sum-is)
           (c.loop-slice.invariant images t h)) (sym c.reads.ensures ∙ w.if-reads.false)
     ]

@@ -5,7 +5,7 @@ use Rattle.btr_scrub_row.specs.Rows.{Row}
 use Rattle.btr_scrub_row.specs.Memory.{HoldsRow, IsStripeOf}
 use Rattle.btr_scrub_row.specs.Judging.{AreJudged}
 use Rattle.btr_scrub_row.specs.Writing.{KnowsParity}
-use Rattle.btr_scrub_row.specs.declared.parity.Parity.TheVariants as parity
+use Rattle.btr_read.specs.declared.parity.Parity.TheVariants as parity
 use Rattle.btr_scrub_row.proofs.Prepared.{knows_p, knows_q}
 use Rattle.btr_scrub_row.proofs.preparing.prepare.Goals as goal
 

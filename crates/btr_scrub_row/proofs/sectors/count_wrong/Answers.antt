@@ -3,8 +3,8 @@ use Rattle.std.specs.List.{range_with_len}
 use Rattle.std.proofs.lemmas.List.{take_all, take_more}
 use Rattle.std.proofs.lemmas.List.FromFn.{length-range_with_len}
 use Rattle.std.proofs.lemmas.List.Sums.{sum_by_push}
+use Rattle.btr_read.specs.Gathering.{part_of}
 use Rattle.btr_scrub_row.specs.Rows.{differs, is_decided}
-use Rattle.btr_scrub_row.specs.Memory.{part_of}
 use Rattle.btr_scrub_row.proofs.Columns.{column_at, counted_all}
 use Rattle.btr_scrub_row.proofs.Parts.{parity_there}
 use Rattle.btr_scrub_row.proofs.sectors.count_wrong.Goals as goal

@@ -2,11 +2,11 @@ use Rattle.std.proofs.Common.{Ok, Err, refl, sym, ap, ◌∙◌, subst, arith}
 use Rattle.std.specs.List.{flat_map, range_with_len}
 use Rattle.std.proofs.lemmas.List.{take_all}
 use Rattle.std.proofs.lemmas.List.FromFn.{length-range_with_len}
+use Rattle.btr_read.specs.Gathering.{part_of}
 use Rattle.btr_scrub_copies.specs.Writes.{Does}
 use Rattle.btr_scrub_copies.proofs.Doing.{does_passed}
 use Rattle.btr_scrub_row.specs.Rows.{parity_writes}
 use Rattle.btr_scrub_row.specs.Mending.{IsOfRow}
-use Rattle.btr_scrub_row.specs.Memory.{part_of}
 use Rattle.btr_scrub_row.specs.Writing.{column_writes, told_writes}
 use Rattle.btr_scrub_row.proofs.BlockWrites.{does_nothing}
 use Rattle.btr_scrub_row.proofs.Columns.{column_at, columns_are}

@@ -1,9 +1,9 @@
 use Rattle.std.proofs.Common.{◌≡◌, ◌+◌, ◌*◌, ◌≤◌, [], ◌∷◌, length, slice_range, take, Some, Ok, sym, ap, ◌∙◌, subst, arith}
+use Rattle.btr_read.specs.Gathering.{part_of}
 use Rattle.btr_chunk.specs.Mapping.{HasPart}
 use Rattle.btr_read.proofs.Trials.{telling}
 use Rattle.btr_scrub_row.specs.Rows.{range_in_element}
 use Rattle.btr_scrub_row.specs.Mending.{IsOfRow}
-use Rattle.btr_scrub_row.specs.Memory.{part_of}
 use Rattle.btr_scrub_row.specs.Preparing.{IsPrepared}
 use Rattle.btr_scrub_row.specs.Writing.{column_writes, write_at}
 use Rattle.btr_scrub_row.proofs.Applied.{knows_of, sums_long}
