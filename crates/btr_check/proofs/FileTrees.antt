@@ -1,11 +1,10 @@
 -- Trees of files, one after another.
 use Rattle.std.proofs.Common.{◌≡◌, ℕ, Bool, true, false, ◌&&◌, cond, map, filter_map, ◌+◌, ◌<◌, ◌≤◌, List, [], ◌∷◌, ◌++◌, length, take, get_or, filter}
 use Rattle.std.proofs.Common.{flat_map}
-use Rattle.std.proofs.Common.{fold, Result, Ok, Err, refl, sym, ap, ◌∙◌, subst, append_assoc, append-nil}
+use Rattle.std.proofs.Common.{fold, refl, sym, ap, ◌∙◌, subst, append_assoc, append-nil}
 use Rattle.std.proofs.lemmas.Grind.{flat_map-append}
 use Rattle.std.proofs.lemmas.List.{take_more, take_all}
 use Rattle.std.specs.List.{list_all}
-use Rattle.btr_base.specs.declared.memory.Memory.{Memory}
 use Rattle.btr_check_differences.specs.Law.{is_plain}
 use Rattle.btr_chunk.specs.declared.chunk.Chunk.{Chunk}
 use Rattle.btr_items.specs.declared.sum_run.SumRun.{SumRun}
@@ -13,15 +12,12 @@ use Rattle.btr_check_names.specs.Names.{Names, NamesLaw, no_names, names_step, n
 use Rattle.btr_check_names.specs.Settled.{AreSettled}
 use Rattle.btr_check_names.specs.Subvolumes.{Subvolumes, leads_to_root, name_at, subvolumes_at, subvolumes_in, subvolume_findings}
 use Rattle.btr_check_names.specs.Unpaired.{UnpairedLaw, are_paired, nothing_unpaired, unpaired_step}
-use Rattle.btr_check_names.specs.declared.unpaired.Unpaired.{Unpaired}
 use Rattle.btr_findings.proofs.Adding.{adds_none, adds_as, adds_then}
 use Rattle.btr_findings.specs.declared.finding.Finding.{Finding}
 use Rattle.btr_findings.specs.Findings.{Adds, FoundSet}
 use Rattle.btr_check_sums.specs.Items.{UsesMet, KeepsUses, uses_step, loose_in, used_in}
 use Rattle.btr_check_sums.specs.Sums.{tree_missing}
 use Rattle.btr_tour.specs.Tour.{Mark, Block, Child, Item, Left, items_met, whole}
-use Rattle.btr_tour.specs.Visits.{Takes, Shows}
-use Rattle.btr_tour.specs.declared.met.Met.{Met}
 use Rattle.btr_volume.specs.declared.root.TreeRoot.{TreeRoot}
 use Rattle.btr_walk.specs.Reading.{Map}
 use Rattle.btr_check.specs.Data.{sum_runs}
@@ -32,15 +28,6 @@ use Rattle.btr_check.specs.FileTrees.{TreatsNames}
 use Rattle.btr_check.specs.Passes.{Lists}
 use Rattle.btr_check.specs.Trees.{items_in}
 use Rattle.btr_check.specs.declared.file_tree.FileTree.{FileTree}
-
--- names, uses and whether nothing is an orphan's were kept
-pub both_taken : (old : FileTree) (names : Unpaired) (uses : UsesMet) (plain : Bool) (met : Met) (result : Result (Unit {0}) Memory)
-    → ((mark : Mark) → Shows met mark → names ≡ unpaired_step old.names mark) → Takes uses_step old.uses met uses result
-    → ((mark : Mark) → Shows met mark → plain ≡ (old.is_plain && mark_plain mark))
-    → Takes file_step old met (record { names = names; uses = uses; is_plain = plain }) result
-both_taken old names uses plain met (Ok u) one two three =
-    λ mark shows. λ i. record { names = one mark shows i; uses = two mark shows i; is_plain = three mark shows i }
-both_taken old names uses plain met (Err e) one two three = tt
 
 and_true : (a : Bool) → (a && true) ≡ a
 and_true true = refl

@@ -1,11 +1,10 @@
 -- Calls that read a volume, one after another.
-use Rattle.std.proofs.Common.{◌≡◌, None, true, Result, Ok, Err, IsErrAnd, refl, ap, ◌∙◌, subst}
+use Rattle.std.proofs.Common.{◌≡◌, Result, Ok, Err, IsErrAnd, refl, ap, ◌∙◌, subst}
 use Rattle.std.specs.Bool.{⊤}
 use Rattle.btr_rack.specs.Rack.{Seen, OnlyReads}
 use Rattle.btr_rack.proofs.Reading.{reads_none, reads_more}
 use Rattle.btr_read.specs.Layout.{Layout}
 use Rattle.btr_read.specs.declared.want.Want.{Want}
-use Rattle.btr_tour.specs.Steps.{reason}
 use Rattle.btr_volume.specs.Looking.{SameVolume}
 use Rattle.btr_volume.specs.declared.stop.Stop.{Stop}
 use Rattle.btr_volume.specs.declared.stop.Stop.TheVariants.{NoTree, Tree, Deletion, Balance, Missing, Image, Sink, Out, Memory as NoMemory}
@@ -21,7 +20,6 @@ use Rattle.btr_check.specs.declared.block_fault.BlockFault.{BlockFault}
 use Rattle.btr_check.specs.declared.block_fault.BlockFault.TheVariants as block
 use Rattle.btr_check.specs.Filesystem.{Filesystem}
 use Rattle.btr_check.specs.Running.{World, CanCheck, filesystem, FaultUnread, StopUnread, IfUnread, IsUnreadOf, IsAnyUnread, OfReading, StopsReading, Ran}
-use Rattle.btr_check.specs.Running.{is_unread}
 
 -- a volume is as it was
 pub volume_none : (vol : Volume) → SameVolume vol vol
@@ -175,14 +173,6 @@ pub ran_stop_within : {A C : Type 0} {W U : Filesystem → Want → Type 0} (P S
 ran_stop_within {A} {C} P S x y stop one f g =
     let r : Result A Stop = Err stop in
     ran_stop S S x y stop (ran_within P S x y r one f g) (λ B s. s)
-
--- a block that could not be read
-pub unread_is : (f : TreeFault) → reason f ≡ None → is_unread f ≡ true
-unread_is (Lost addr) e = cc
-unread_is (Unread addr slot) e = refl
-unread_is (Unmapped addr) e = cc
-unread_is (Crosses addr) e = cc
-unread_is (Malformed addr) e = cc
 
 -- a stop that says what is wrong with the filesystem
 pub listed_unread : (P : UnreadBlock → Type 0) (stop : Stop) → OfList stop → StopUnread P stop

@@ -16,12 +16,11 @@ use Rattle.btr_rack.specs.Rack.{Seen}
 use Rattle.btr_read.specs.Fate as fate
 use Rattle.btr_read.specs.Layout.{Layout}
 use Rattle.btr_read.specs.declared.want.Want.{Want}
-use Rattle.btr_tour.proofs.Ranges.{stops_law}
 use Rattle.btr_tour.specs.Program.{TourProg, by_block, by_node, children, items_until_fault, tour_from, tour_prog}
 use Rattle.btr_tour.specs.Tour.{Mark, Block, Child, Item, Left, block_tour, child_spots, child_tour, first_key, meets_keys, node_tour, place_of, tour_at}
 use Rattle.btr_tour.specs.Visits.{Visits}
 use Rattle.btr_walk.specs.Folding.{FoldCause}
-use Rattle.btr_walk.specs.Folds.{Next, Go, End, Broken, folded, folded_over, next_prog}
+use Rattle.btr_walk.specs.Folds.{Next, Go, End, Broken, folded_over, next_prog}
 use Rattle.btr_walk.specs.Le.{TreeItem, root_spot, want_of}
 use Rattle.btr_walk.specs.Range.{RangeProg, items_within, range}
 use Rattle.btr_walk.specs.Reading.{Map, UnreadBlock, halt_of}
@@ -178,13 +177,6 @@ module _ (Is : UnreadBlock → Want → Type 0) (u : UnreadBlock) (B : Map) wher
         by on (Go more) h = on more h
         by on (End r) h = absurd h
         by on Broken h = absurd h
-
-    pub folded_want : (state : St) (root : RootPlace) → Names Is u (wants_of (exec B (folded step answer state root first_key last_key)).marks)
-        → (want : Want) × Contains (tree_wants B root) want × Is u want
-    folded_want state root h =
-        tree_want root (range_want (tour_prog first_key last_key root)
-        (subst (λ p. Names Is u (wants_of (exec B p).marks)) (sym (stops_law root first_key last_key))
-        (fold_wants (range first_key last_key root) state h)))
 
 -- a visit that was broken off by a block that could not be read wanted it
 pub visit_unread : {St E : Type 0} (step : St → Mark → St) (Is : UnreadBlock → Want → Type 0) (B : Map) (root : RootPlace) (old new : St) (r : FoldFault E)

@@ -76,13 +76,6 @@ lengthened lengths place more i below = by (leb place i) refl
         let none : cond (leb place i) more 0 ≡ 0 = ap (λ b. cond b more 0) e in
         omega (arith, same, none)
 
--- behind the last place nothing is
-pub not_lengthened : (lengths : List ℕ) (place more : ℕ) → length lengths ≤ place → Lengthened place more lengths lengths
-not_lengthened lengths place more behind i below =
-    let none : leb place i ≡ false = grind (arith, nat_tests) in
-    let nothing : cond (leb place i) more 0 ≡ 0 = ap (λ b. cond b more 0) none in
-    omega (arith, nothing)
-
 -- one extent more
 before_more : (extents : List Extent) (i addr : ℕ) (d : Extent) → i < length extents
     → before (take (i + 1) extents) addr ≡ before (take i extents) addr + cond (ltb (get_or extents i d).addr addr) (get_or extents i d).len 0

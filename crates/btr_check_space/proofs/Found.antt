@@ -78,7 +78,3 @@ extent_found extents set range keys = keys range ∙ any_same _ _ extents (λ ex
 pub place_found : (ranges : List DeviceExtent) (set : BTreeSet StripePlace) (extent : DeviceExtent) → KeysOf place_cmp extent_place ranges set
     → contains place_cmp set (extent_place extent) ≡ list_any (λ (range : DeviceExtent). eqb range.devid extent.devid && eqb range.offset extent.offset) ranges
 place_found ranges set extent keys = keys (extent_place extent) ∙ any_same _ _ ranges (λ range. same_place (extent_place range) (extent_place extent))
-
-pub devid_found : {X : Type 0} (number : X → ℕ) (xs : List X) (set : BTreeSet ℕ) → KeysOf nat_cmp number xs set → (one : ℕ) → contains nat_cmp set one
-    ≡ list_any (λ x. eqb (number x) one) xs
-devid_found number xs set keys one = keys one ∙ any_same _ _ xs (λ x. same_number (number x) one)

@@ -120,10 +120,6 @@ want_looked layout {a} {b} program result sums ahead looks =
     drawn layout (λ B. ComesOf (unread_by layout a b) B program result) (λ B. IsSummed B sums ahead → ComesOf (unread_by layout a b) B program result)
     (λ B f summed. f) looks
 
-pub kept_still : (layout : Layout) {a : Seen} (sums : Option TreeRoot) (ahead : SumsAhead)
-    → Tells layout a a (λ B. IsSummed B sums ahead → IsSummed B sums ahead)
-kept_still layout sums ahead = unread_on layout (λ B. IsSummed B sums ahead → IsSummed B sums ahead) (λ B kept. kept)
-
 -- ---- a sector
 
 -- what a sector comes to where the checksums that are kept are those of the tree, and they are so behind it

@@ -23,7 +23,7 @@ use Rattle.btr_walk.specs.Spot.{is_below}
 use Rattle.btr_walk.specs.declared.found.Found.{Found}
 use Rattle.btr_walk.specs.declared.found.Reach.{Reach}
 use Rattle.btr_files.specs.declared.sums_ahead.SumsAhead.{SumsAhead}
-use Rattle.btr_files.specs.Aheads.{kept_sum, sum_key, IsFrom, IsReadAhead}
+use Rattle.btr_files.specs.Aheads.{sum_key, IsFrom, IsReadAhead}
 use Rattle.btr_files.specs.Sums.{covers, is_sums, sum_found, sum_in, sum_under}
 
 -- ---- parts of lists
@@ -187,8 +187,3 @@ module _ (kind : SumKind) (addr : ℕ) (reach : Reach) (shown : Found) (run : Su
       subst (λ k. (exec B (sum_under k root other)).ending ≡ Ok (Some sum)) (sym from.of_kind)
       (bind_ending B (le root (sum_key other)) (sum_found kind other) (Some (item_of shown)) (Ok (Some sum)) there
       (run_found kind other (item_of shown) run B sum sums is (from.same other sum kept)))
-
--- where nothing is kept
-pub none_ahead : (kind : SumKind) (addr : ℕ) (reach : Reach) (ahead : SumsAhead) → ((other : ℕ) → kept_sum ahead other ≡ None)
-    → IsReadAhead kind addr reach ahead
-none_ahead kind addr reach ahead none B root found same other sum kept = absurd (cc (sym (none other) ∙ kept))

@@ -98,10 +98,6 @@ module _ {T : Type 0} (of : T → Link) where
   part_linked found next parts rest read part e r n =
       ap (λ (m : List Link). parts_linked of m rest) n ∙ sym (ap (parts_linked of found) (e ∙ ap (λ x. x ∷ rest) r))
 
-  pub part_unlinked : (found : List Link) (parts rest : List (Result T ItemFault)) (read : Result T ItemFault)
-      (fault : ItemFault) → parts ≡ read ∷ rest → read ≡ Err fault → parts_linked of found parts ≡ None
-  part_unlinked found parts rest read fault e r = ap (parts_linked of found) (e ∙ ap (λ x. x ∷ rest) r)
-
   by_test : (found : List Link) (parts : List T) (b : Bool)
       → linked_if found b (map of parts) ≡ links_more found (map_ok (map of) (fields_if b parts))
   by_test found parts true = refl
@@ -130,13 +126,6 @@ by_kind : (found : List Link) (b : Bool) (refs exts : Result (List Link) ItemFau
     → links_more found exts ≡ None → links_more found (cond b refs exts) ≡ None
 by_kind found true refs exts h k = h
 by_kind found false refs exts h k = k
-
--- an empty item breaks its form
-pub no_links : (found : List Link) (key : Key) (body : List ℕ) → (length body == 0) ≡ true → links_more found (links_of key body) ≡ None
-no_links found key body h =
-    by_kind found (key.kind == 12) (map_ok (map (inode_link key.offset body)) (parts_of body (inode_refs_of body)))
-    (map_ok (map (ext_link body)) (parts_of body (ext_refs_of body)))
-    (none_in (inode_link key.offset body) found body (inode_refs_of body) h) (none_in (ext_link body) found body (ext_refs_of body) h)
 
 is_ref : (key : Key) → key.kind ≡ 12 → (key.kind == 12) ≡ true
 is_ref key h = grind (arith, nat_tests)

@@ -49,10 +49,6 @@ module _ (wanted : Link) where
     part_more seen next parts rest read part e r n =
         ap (λ (m : Met). parts_met wanted of m rest) n ∙ sym (ap (parts_met wanted of seen) (e ∙ ap (λ x. x ∷ rest) r))
 
-    pub part_broken : (seen : Met) (parts rest : List (Result T ItemFault)) (read : Result T ItemFault) (fault : ItemFault) → parts ≡ read ∷ rest
-        → read ≡ Err fault → None ≡ parts_met wanted of seen parts
-    part_broken seen parts rest read fault e r = sym (ap (parts_met wanted of seen) (e ∙ ap (λ x. x ∷ rest) r))
-
     by_test : (seen : Met) (links : List T) (b : Bool) → met_if seen b (map of links) ≡ links_met wanted seen (map_ok (map of) (fields_if b links))
     by_test seen links true = refl
     by_test seen links false = refl

@@ -1,5 +1,5 @@
 -- A file goes on to its next extent.
-use Rattle.std.proofs.Common.{◌≡◌, ℕ, ◌<◌, ◌≤◌, List, [], ◌++◌, Option, Some, None, IsSomeAnd, Ok, Err, sym, ap, ◌∙◌, subst}
+use Rattle.std.proofs.Common.{◌≡◌, ℕ, ◌<◌, ◌≤◌, List, ◌++◌, Option, Some, None, IsSomeAnd, Ok, Err, sym, ap, ◌∙◌, subst}
 use Rattle.btr_base.specs.declared.key.Key.{Key}
 use Rattle.btr_base.specs.declared.kind.SumKind.{SumKind}
 use Rattle.btr_items.specs.FileExtent.{inline_data}
@@ -77,11 +77,3 @@ module _ (source : Source) (Is : UnreadBlock → Want → Type 0) (B : Map) (old
               (λ (x : RangeProg). Then kind source Bs (todo_prog kind source p.at ahead.end (inline_data o.item.body) ahead.todo) (exec B x) q) program a));
           on = record { rest = r.on B (seen ++ o.past) held on'; inline = subst (λ (x : Option TreeItem). IsInline x ahead.todo) (sym met) o.inline };
         }
-
--- nothing is looked for
-pub looked_here : (source : Source) (Is : UnreadBlock → Want → Type 0) (B : Map) (p : Progress) → IsLooked source Is B p (Ok p)
-looked_here source Is B p seen going = record {
-  past = [];
-  goes = λ kind Bs q h. h;
-  on = record { rest = rest_more B seen [] p.rest going.rest; inline = going.inline };
-}

@@ -1,7 +1,6 @@
 -- How often references are counted beside those that are stored, one use more at a time.
 use Rattle.std.proofs.Common.{◌≡◌, ℕ, suc, zero, ◌+◌, ◌<◌, Bool, true, false, cond, ◌||◌, List, [], ◌∷◌, ◌++◌, length, get_or, set, replicate, None}
 use Rattle.std.proofs.Common.{Result, Ok, Err, OnOk, OnErr, refl, sym, ap, ◌∙◌, subst, arith}
-use Rattle.std.proofs.lemmas.List.{length-set}
 use Rattle.std.proofs.lemmas.List.Folds.{list_any-append}
 use Rattle.std.proofs.lemmas.List.Sums.{sum_by-append, sum_by-cons}
 use Rattle.std.proofs.lemmas.Map.Views.{All-keys-insert_entry}
@@ -66,10 +65,6 @@ counted_there refs times others i d n ordered lt long =
     (λ one. met_set one refs times i d n lt long)
     (λ one. sum_set one refs times i d n lt long ∙ sym (sum_by-cons (weight one) (once key) (met_times refs times)))
     ∙ counted_last others (met_times refs times) (once key) ordered
-
-pub still_tallied : (refs : List Counted) (times : List ℕ) (others : RefCounts) (i n : ℕ) → AreTallied refs times others
-    → AreTallied refs (set times i n) others
-still_tallied refs times others i n are = record { ascends = are.ascends; beside = length-set times i n ∙ are.beside; ordered = are.ordered; apart = are.apart }
 
 -- counted among the others
 pub counted_apart : (refs : List Counted) (times : List ℕ) (others : RefCounts) (key : RefKey) → IsOrdered others

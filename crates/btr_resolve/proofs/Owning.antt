@@ -100,10 +100,6 @@ module _ (addr : ℕ) (tree : TreeRoot) (met : Met) (item : TreeItem) where
   met_extent is r read = ap (λ b. cond b (by_form (file_extent_of item.key.offset item.body)) (Return (Ok met))) (eq-eqb _ _ is)
       ∙ ap by_form (sym read)
 
-  pub met_broken : item.key.kind ≡ 108 → (fault : ItemFault) → Err fault ≡ file_extent_of item.key.offset item.body
-      → item_met addr tree met item ≡ Stop (fate.Malformed item.leaf)
-  met_broken is fault read = met_extent is (Err fault) read
-
   module _ (is : item.key.kind ≡ 108) (fields : FileExtent) (read : Ok fields ≡ file_extent_of item.key.offset item.body) where
     abbrev next : Met
     next = record { inode = item.key.objectid; end = end_of item.key.offset fields }

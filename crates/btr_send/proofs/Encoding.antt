@@ -1,5 +1,5 @@
 -- Commands byte by byte.
-use Rattle.std.proofs.Common.{◌≡◌, ◌≢◌, ℕ, ◌+◌, ◌-◌, ◌≤◌, Option, Some, None, IfSome, List, [], ◌∷◌, ◌++◌, length, take, drop, replicate, Result, Ok, Err}
+use Rattle.std.proofs.Common.{◌≡◌, ◌≢◌, ℕ, ◌+◌, ◌-◌, ◌≤◌, Option, Some, None, IfSome, List, [], ◌++◌, length, take, drop, replicate, Result, Ok, Err}
 use Rattle.std.proofs.Common.{refl, sym, ap, ◌∙◌, arith, append_assoc, length-append, length-drop}
 use Rattle.std.specs.Prelude.{OnOk}
 use Rattle.std.specs.Int.{to_le_bytes, w16, w32}
@@ -25,11 +25,6 @@ attribute_behind old kind bytes =
 pub attribute_more : (old new : List ℕ) (kind : ℕ) (bytes : List ℕ) → new ≡ old ++ attribute kind bytes → length new ≡ length old + (4 + length bytes)
 attribute_more old new kind bytes e = ap (λ (x : List ℕ). length x) e ∙ (length-append old (attribute kind bytes)
     ∙ ap (λ (n : ℕ). length old + n) (attribute_length kind bytes))
-
--- the head of a command, written over ten zeros
-headless : (number len : ℕ) (rest : List ℕ) → to_le_bytes w32 len ++ to_le_bytes w16 number ++ 0 ∷ 0 ∷ 0 ∷ 0 ∷ rest ≡ to_le_bytes w32 len ++ to_le_bytes w16
-    number ++ to_le_bytes w32 0 ++ rest
-headless number len rest = refl
 
 module _ (number : ℕ) (rest : List ℕ) where
   abbrev blank : List ℕ

@@ -44,7 +44,6 @@ use Rattle.btr_volume.specs.Lookup.{Program, formed, looks}
 use Rattle.btr_volume.specs.Table.{chunk_root}
 use Rattle.btr_volume.specs.Tree.{described, is_root_of, key, last, named_root, root_found, root_in, root_root, tree_of}
 use Rattle.btr_volume.specs.declared.root.TreeRoot.{TreeRoot}
-use Rattle.btr_walk.specs.declared.place.RootPlace.{RootPlace}
 use Rattle.btr_walk.specs.Le.{TreeItem, le}
 use Rattle.btr_walk.specs.Reading.{Map}
 use Rattle.btr_send.specs.declared.progress.Progress.{Progress}
@@ -56,7 +55,7 @@ use Rattle.btr_send.specs.Replay.{all_made, bytes_of, grow, made_with, members_o
 use Rattle.btr_send.specs.Restored.{GivesSectors, OwnRules, SentLaw, at_top, behind_row, plain}
 use Rattle.btr_send.specs.Restored as restored
 use Rattle.btr_send.specs.Sending as sending
-use Rattle.btr_send.specs.Sending.{behind, cuts, rules, tells, writes}
+use Rattle.btr_send.specs.Sending.{behind, cuts, rules, writes}
 use Rattle.btr_send.specs.Source.{source_at, source_found, source_in, unnamed, uuid_in}
 use Rattle.btr_send.proofs.Beside as beside
 use Rattle.btr_send.proofs.Beside.{fold-append}
@@ -622,10 +621,6 @@ module _ (B : Map) (s : Super) (id : ℕ) (dest name : List ℕ) (long : length 
       (bind (quiet (root_found id found)) (restored.from_root rules (plain id) dest s))
   found_sent None = no_source (restored.from_root rules (plain id) dest s None)
   found_sent (Some item) = item_sent item (is_root_of id item.key)
-
-  named_sent : (place : RootPlace) → beside.Both after_step B Stream nothing nothing (sending.from_source dest name s id (Some (unnamed
-      (named_root id place)))) (restored.from_root rules (plain id) dest s (Some (named_root id place)))
-  named_sent place = source_sent (unnamed (named_root id place)) refl
 
   abbrev Chosen : Bool → Bool → Type 0
   Chosen one three =
