@@ -30,6 +30,7 @@ pub part_made : (f : ℕ → ℕ) (xs : List ℕ) (n off : ℕ) → off + length
     ≡ slice_range (map f (range_with_len 0 n)) off (off + length xs)
 part_made f xs n off fits each = same_lists _ _ sized (λ k d lt. at k d lt)
   where
+    -- the part is as long as its range
     sized : length xs ≡ length (slice_range (map f (range_with_len 0 n)) off (off + length xs))
     sized = omega (
       arith,
@@ -38,6 +39,7 @@ part_made f xs n off fits each = same_lists _ _ sized (λ k d lt. at k d lt)
       length-map-range_with_len f 0 n,
     )
 
+    -- the part and its range have the same byte at each place
     at : (k d : ℕ) → k < length xs → get_or xs k d ≡ get_or (slice_range (map f (range_with_len 0 n)) off (off + length xs)) k d
     at k d lt =
         let within : k < off + length xs - off = omega arith in
@@ -51,10 +53,12 @@ pub patched_bytes : (f g : ℕ → ℕ) (n off : ℕ) (piece : List ℕ) → off
     → map g (range_with_len 0 n) ≡ pasted (map f (range_with_len 0 n)) off piece
 patched_bytes f g n off piece fits each = same_lists _ _ sized at
   where
+    -- with the piece written over them, the bytes are as many as before
     sized : length (map g (range_with_len 0 n)) ≡ length (take off (map f (range_with_len 0 n)) ++ piece
         ++ drop (off + length piece) (map f (range_with_len 0 n)))
     sized = simp (length-append, length-take, length-drop, length-map-range_with_len) (omega arith)
 
+    -- what the patched function makes has the same byte at each place as what was written over
     at : (k d : ℕ) → k < length (map g (range_with_len 0 n)) → get_or (map g (range_with_len 0 n)) k d
         ≡ get_or (take off (map f (range_with_len 0 n)) ++ piece ++ drop (off + length piece) (map f (range_with_len 0 n))) k d
     at k d lt =
@@ -79,9 +83,11 @@ partly_patched f g len off n piece fits each = (
       (omega (arith, sized)) at,
 )
   where
+    -- what stands in the piece's place is as long as the piece
     sized : length (standing g off (length piece)) ≡ length piece
     sized = length-map-range_with_len g off (length piece)
 
+    -- the patched function is the old one with what stands in the piece's place
     at : (i : ℕ) → g i ≡ patched (f i) off (standing g off (length piece)) i
     at i =
         let part : length (take n piece) ≤ length piece = omega (arith, length-take n piece) in
@@ -94,12 +100,15 @@ partly_patched f g len off n piece fits each = (
 pub pasted-same : (bytes : List ℕ) (off n : ℕ) → off + n ≤ length bytes → pasted bytes off (slice_range bytes off (off + n)) ≡ bytes
 pasted-same bytes off n le = same_lists _ _ whole at
   where
+    -- the range has its length
     part : length (slice_range bytes off (off + n)) ≡ n
     part = omega (arith, length-take (off + n - off) (drop off bytes), length-drop off bytes)
 
+    -- what was written over is as long as before
     whole : length (pasted bytes off (slice_range bytes off (off + n))) ≡ length bytes
     whole = simp (length-append, length-take, length-drop) (omega arith)
 
+    -- at each place stands the byte that stood there
     at : (k d : ℕ) → k < length (pasted bytes off (slice_range bytes off (off + n))) → get_or (pasted bytes off (slice_range bytes off (off + n))) k d
         ≡ get_or bytes k d
     at k d lt = grind (arith, places, nat_tests, part, whole)
@@ -115,13 +124,16 @@ patched_byte old new at piece i fits is =
     let small = fits (i - at) in
     grind (arith, nat_tests, small, is)
 
+-- a piece of bytes that was written over pages stands in what is read of them
 pub patched_pages : (old new : Pages) (off : ℕ) (piece : List ℕ) → ((k : ℕ) → get_or piece k 0 < 256) → Patches old new off piece → (i : ℕ)
     → page_byte new i ≡ patched (page_byte old i) off piece i
 patched_pages old new off piece fits each = λ i. patched_byte (kept_byte old i) (kept_byte new i) off piece i fits (each i)
 
+-- the first part of a piece of bytes is bytes
 pub take_fits : (n : ℕ) (piece : List ℕ) → ((k : ℕ) → get_or piece k 0 < 256) → (k : ℕ) → get_or (take n piece) k 0 < 256
 take_fits n piece fits k = let small = fits k in grind (arith, places, small)
 
+-- a byte, however often, is bytes
 pub replicate_fits : (n b : ℕ) → b < 256 → (k : ℕ) → get_or (replicate n b) k 0 < 256
 replicate_fits zero b small k = omega arith
 replicate_fits (suc n) b small zero = small

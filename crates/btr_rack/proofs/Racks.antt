@@ -28,6 +28,7 @@ get-within [] i d lt = absurd (omega arith)
 get-within (x ∷ xs) zero d lt = refl
 get-within (x ∷ xs) (suc i) d lt = get-within xs i d (omega arith)
 
+-- past the end of a list nothing stands
 pub get-past : {X : Type 0} (xs : List X) (i : ℕ) → length xs ≤ i → slice_get xs i ≡ None
 get-past [] i le = refl
 get-past (x ∷ xs) zero le = absurd (omega arith)
@@ -38,6 +39,7 @@ stands : (name : List ℕ) (images : List MemoryImage) → MatchOption (position
 stands name images =
     cases (nat_lt (position_or_len (is_named name) images) (length images)) refl
   where
+    -- the first image of a name, by whether its place is one of the list
     cases : (b : Bool) → b ≡ nat_lt (position_or_len (is_named name) images) (length images)
         → MatchOption (cond b (Some (position_or_len (is_named name) images)) None) (find (is_named name) images ≡ None) (StandsAt name images)
     cases true e = record { within = grind (arith, nat_tests, e); first = refl }
@@ -45,9 +47,11 @@ stands name images =
         let past : length images ≤ position_or_len (is_named name) images = grind (arith, nat_tests, e) in
         find_at (is_named name) images ∙ get-past images _ past
 
+-- where an image of a name is found at a place, the first of that name stands there
 pub stands_at : (name : List ℕ) (images : List MemoryImage) (at : ℕ) → Some at ≡ position (is_named name) images → StandsAt name images at
 stands_at name images at e = subst (λ found. MatchOption found (find (is_named name) images ≡ None) (StandsAt name images)) (sym e) (stands name images)
 
+-- where no place of a name is found, no image has the name
 pub stands_nowhere : (name : List ℕ) (images : List MemoryImage) → None ≡ position (is_named name) images → find (is_named name) images ≡ None
 stands_nowhere name images e = subst (λ found. MatchOption found (find (is_named name) images ≡ None) (StandsAt name images)) (sym e) (stands name images)
 
@@ -61,6 +65,7 @@ pub finds_read : (name : List ℕ) (images : List MemoryImage) (at : ℕ) (image
     → find (is_named name) images ≡ Some image
 finds_read name images at image s e = finds name images at image s ∙ ap Some (sym e)
 
+-- a name is that of the first image or of a later one
 any_case : (b any : Bool) (image : MemoryImage) (found : Option MemoryImage) → is_some (option_map bytes_in found) ≡ any
     → is_some (option_map bytes_in (cond b (Some image) found)) ≡ (b || any)
 any_case true any image found e = refl
@@ -72,6 +77,7 @@ is_some-named name [] = refl
 is_some-named name (image ∷ images) = any_case (is_named name image) (list_any (is_named name) images) image (find (is_named name) images)
     (is_some-named name images)
 
+-- a name is that of a slot just where it is that of an image
 list_any-slots : (name : List ℕ) (images : List MemoryImage)
     → list_any (λ (s : Slot). bytes_eq s.name name) (map (λ (i : MemoryImage). i.slot) images) ≡ list_any (is_named name) images
 list_any-slots name [] = refl
@@ -84,6 +90,7 @@ moved-front [] (suc o) j x le within = absurd (omega arith)
 moved-front (y ∷ xs) (suc o) zero x le within = absurd (omega arith)
 moved-front {X} (y ∷ xs) (suc o) (suc j) x le within = ap (λ (ys : List X). y ∷ ys) (moved-front xs o j x (omega arith) (omega arith))
 
+-- moving an image to the shelf's front takes it from the rest of the shelf
 moved-rest : {X : Type 0} (xs : List X) (o at j : ℕ) (x : X) → j ≡ o + at → o ≤ length xs → drop (suc o) (insert (remove xs j) o x) ≡ remove (drop o xs) at
 moved-rest xs zero at j x e within = ap (remove xs) (omega arith)
 moved-rest [] (suc o) at j x e within = absurd (omega arith)
@@ -100,19 +107,24 @@ find-remove p (x ∷ xs) (suc i) d lt fails = ap (λ found. cond (p x) (Some x) 
 module _ (name : List ℕ) (write : Bool) (images images' : List MemoryImage) (opened at : ℕ) (within : opened ≤ length images)
     (shut : list_any (is_named name) (take opened images) ≡ false) (found : Some at ≡ position (is_named name) (drop opened images))
     (m : Moves opened at write images images') where
+  -- the image that was moved stood at its place of the shelf
   stood : get_or (drop opened images) at m.image ≡ m.image
   stood = get_or-drop opened images at m.image ∙ sym m.stood
 
+  -- the place is one of the shelf, the image there has the name, and none before it has
   placed : (at < length (drop opened images)) × (is_named name (get_or (drop opened images) at m.image) ≡ true)
       × ((k : ℕ) → k < at → is_named name (get_or (drop opened images) k m.image) ≡ false)
   placed = position-Some (is_named name) (drop opened images) at m.image (sym found)
 
+  -- the image that was opened has the name that was asked
   called : m.image.slot.name ≡ name
   called = (bytes_eq-Decides m.image.slot.name name).0 (ap (is_named name) (sym stood) ∙ placed.1)
 
+  -- the open images are the old ones and the one that was opened
   front : take (opened + 1) images' ≡ take opened images ++ opened_for write m.image ∷ []
   front = rw add-one (ap (take (suc opened)) m.moved ∙ moved-front images opened (opened + at) (opened_for write m.image) (omega arith) within)
 
+  -- the rest of the shelf is the old one without the image
   rest : drop (opened + 1) images' ≡ remove (drop opened images) at
   rest = rw add-one (ap (drop (suc opened)) m.moved ∙ moved-rest images opened at (opened + at) (opened_for write m.image) refl within)
 
@@ -120,9 +132,11 @@ module _ (name : List ℕ) (write : Bool) (images images' : List MemoryImage) (o
   pub opens : Opens name write (map (λ image. image.slot) (take opened images)) (map (λ image. image.slot) (take (opened + 1) images')) (Ok opened)
   opens = (number, (m.image.slot.len, m.short, appended))
     where
+      -- the new slot's number is the number of the old slots
       number : opened ≡ length (map (λ (image : MemoryImage). image.slot) (take opened images))
       number = omega (arith, length-map (take opened images) (λ (image : MemoryImage). image.slot), length-take opened images)
 
+      -- the new slot stands behind the old ones, with the image's length
       appended : map (λ (image : MemoryImage). image.slot) (take (opened + 1) images')
           ≡ map (λ (image : MemoryImage). image.slot) (take opened images) ++ record { name = name; len = m.image.slot.len; write = write } ∷ []
       appended = ap (map (λ (image : MemoryImage). image.slot)) front
@@ -135,6 +149,7 @@ module _ (name : List ℕ) (write : Bool) (images images' : List MemoryImage) (o
       ≡ (list_any (is_named other) (take opened images) || (bytes_eq m.image.slot.name other || false))
   named_in other = ap (list_any (is_named other)) front ∙ list_any-append (is_named other) (take opened images) (opened_for write m.image ∷ [])
 
+  -- the image left the shelf under its name, no other did, and its bytes stand last of the open ones
   pub takes : TakesImage name
       (λ n. cond (list_any (is_named n) (take opened images)) None (option_map bytes_in (find (is_named n) (drop opened images))))
       (λ n. cond (list_any (is_named n) (take (opened + 1) images')) None (option_map bytes_in (find (is_named n) (drop (opened + 1) images'))))
@@ -160,18 +175,23 @@ module _ (name : List ℕ) (write : Bool) (images images' : List MemoryImage) (o
 -- Reading and writing an open image.
 module _ (images : List MemoryImage) (opened slot : ℕ) (image : MemoryImage) (front : slot < opened) (within : opened ≤ length images)
     (is : image ≡ get_or images slot image) where
+  -- the image stands at its slot among the open ones
   in_front : get_or (take opened images) slot image ≡ image
   in_front = get_or-take opened images slot image front ∙ sym is
 
+  -- the slot is one of the open ones
   front_within : slot < length (take opened images)
   front_within = omega (arith, length-take opened images)
 
+  -- the slot that is seen there is the image's
   pub slot-is : slot_at (map (λ i. i.slot) (take opened images)) slot ≡ image.slot
   slot-is = get_or-map (λ (i : MemoryImage). i.slot) (take opened images) slot image no_slot front_within ∙ ap (λ (i : MemoryImage). i.slot) in_front
 
+  -- the bytes that are seen there are the image's
   pub image-is : image_of (map bytes_in (take opened images)) slot ≡ bytes_in image
   image-is = get_or-map bytes_in (take opened images) slot image [] front_within ∙ ap bytes_in in_front
 
+  -- the bytes that are seen there are as many as the slot says
   image-len : length (image_of (map bytes_in (take opened images)) slot) ≡ len_of (map (λ (i : MemoryImage). i.slot) (take opened images)) slot
   image-len = ap length image-is ∙ length-map-range_with_len (page_byte image.pages) 0 image.slot.len ∙ ap (λ (s : Slot). s.len) (sym slot-is)
 
@@ -180,9 +200,11 @@ module _ (images : List MemoryImage) (opened slot : ℕ) (image : MemoryImage) (
       → (some : List ℕ) × (length some ≡ n) × (map bytes_in (take opened images) ≡ written (map bytes_in (take opened images)) slot off some)
   writes-same off n fits = (bytes_of (map bytes_in (take opened images)) slot off n, sized, sym kept)
     where
+      -- the range lies in the image's bytes
       fits' : off + n ≤ length (image_of (map bytes_in (take opened images)) slot)
       fits' = omega (arith, image-len)
 
+      -- what stands in the range has its length
       sized : length (bytes_of (map bytes_in (take opened images)) slot off n) ≡ n
       sized = omega (
         arith,
@@ -192,6 +214,7 @@ module _ (images : List MemoryImage) (opened slot : ℕ) (image : MemoryImage) (
             (image_of (map bytes_in (take opened images)) slot),
       )
 
+      -- writing over the range what stood there leaves all images as they were
       kept : written (map bytes_in (take opened images)) slot off (bytes_of (map bytes_in (take opened images)) slot off n) ≡ map bytes_in (take opened images)
       kept = ap (set (map bytes_in (take opened images)) slot) (pasted-same (image_of (map bytes_in (take opened images)) slot) off n fits')
           ∙ set-get_or (map bytes_in (take opened images)) slot []
@@ -203,13 +226,16 @@ pub record Overwritten (opened slot off : ℕ) (bytes : List ℕ) (xs ys : List 
   pub shelf : (n : List ℕ) → cond (list_any (is_named n) (take opened ys)) None (option_map bytes_in (find (is_named n) (drop opened ys)))
       ≡ cond (list_any (is_named n) (take opened xs)) None (option_map bytes_in (find (is_named n) (drop opened xs)))
 
+-- the slot of an image
 abbrev pub slot_in : MemoryImage → Slot
 slot_in image = image.slot
 
+-- an image put in the place of one with the same slot leaves the slots as they were
 pub slots-set : (xs : List MemoryImage) (n at : ℕ) (x d : MemoryImage) → x.slot ≡ (get_or xs at d).slot → map slot_in (take n (set xs at x))
     ≡ map slot_in (take n xs)
 slots-set xs n at x d same = sym (take-map slot_in n (set xs at x)) ∙ ap (take n) (map-set_same slot_in xs at x d same) ∙ take-map slot_in n xs
 
+-- a write to an open image leaves its bytes there, and all slots and the shelf as they were
 pub overwritten : (opened slot off : ℕ) (bytes : List ℕ) (xs ys : List MemoryImage) → slot < opened → opened ≤ length xs
     → Overwrites slot off bytes xs ys → Overwritten opened slot off bytes xs ys
 overwritten opened slot off bytes xs ys front within o = record {
@@ -221,12 +247,15 @@ overwritten opened slot off bytes xs ys front within o = record {
   shelf = λ n. λ i. cond (names n i) None (option_map bytes_in (find (is_named n) (rest i)));
 }
   where
+    -- the slots of the open images are as before
     same : map slot_in (take opened ys) ≡ map slot_in (take opened xs)
     same = ap (λ zs. map slot_in (take opened zs)) o.now ∙ slots-set xs opened slot o.after o.before (o.slot ∙ ap slot_in o.stood)
 
+    -- the images on the shelf are as before
     rest : drop opened ys ≡ drop opened xs
     rest = ap (drop opened) o.now ∙ drop-set-lt opened xs slot o.after front
 
+    -- the names of the open images are as before
     names : (n : List ℕ) → list_any (is_named n) (take opened ys) ≡ list_any (is_named n) (take opened xs)
     names n = sym (list_any-slots n (take opened ys)) ∙ ap (list_any (λ s. bytes_eq s.name n))
         (ap (λ zs. map slot_in (take opened zs)) o.now ∙ slots-set xs opened slot o.after o.before (o.slot ∙ ap slot_in o.stood))
@@ -236,6 +265,7 @@ overwritten opened slot off bytes xs ys front within o = record {
 abbrev pub SomeOverwritten : ℕ → ℕ → ℕ → ℕ → List MemoryImage → List MemoryImage → Type 0
 SomeOverwritten opened slot off n xs ys = (some : List ℕ) × (length some ≡ n) × Overwritten opened slot off some xs ys
 
+-- a write that was broken off leaves some bytes of its length in its range
 pub partly : (opened slot off n : ℕ) (xs ys : List MemoryImage) → slot < opened → opened ≤ length xs
     → (some : List ℕ) × (length some ≡ n) × Overwrites slot off some xs ys → SomeOverwritten opened slot off n xs ys
 partly opened slot off n xs ys front within p = (p.0, p.1, overwritten opened slot off p.0 xs ys front within p.2)
@@ -253,10 +283,12 @@ unchanged opened slot off n xs ys front within fits same = (
   },
 )
   where
+    -- what stood in the range may be taken as what was written
     kept : (some : List ℕ) × (length some ≡ n) × (map bytes_in (take opened xs) ≡ written (map bytes_in (take opened xs)) slot off some)
     kept = writes-same xs opened slot (get_or xs slot (zeros [] 0)) front within
         (get_or_default xs slot (zeros [] 0) (get_or xs slot (zeros [] 0)) (omega arith)) off n fits
 
+-- a write that is to fail leaves the tear, or what stood there, in its range
 pub torn : {T E : Type 0} (tear : Option ℕ) (opened slot off n : ℕ) (xs ys : List MemoryImage) (result : Result T E) → slot < opened
     → opened ≤ length xs → off + n ≤ len_of (map slot_in (take opened xs)) slot
     → TearsImage tear slot off n xs ys result → SomeOverwritten opened slot off n xs ys

@@ -22,6 +22,7 @@ none_on : (open? : Bool) (place : Option ℕ) (found : Option MemoryImage) → (
 none_on true place found nowhere e = refl
 none_on false place found nowhere e = ap (option_map bytes_in) (nowhere e)
 
+-- a name that is open, or of no image on the shelf, may not be opened
 pub shelf_nowhere : (name : List ℕ) (images : List MemoryImage) (opened : ℕ) → None
     ≡ cond (list_any (is_named name) (take opened images)) None (position (is_named name) (drop opened images))
     → cond (list_any (is_named name) (take opened images)) None (option_map bytes_in (find (is_named name) (drop opened images))) ≡ None
@@ -74,12 +75,15 @@ rewrites name off at bytes old ys image found read fits o = record {
   account = refl;
 }
   where
+    -- the first image of the name stands at the place
     s : StandsAt name old.images at
     s = stands_at name old.images at found
 
+    -- the image that was written over is the one that was found
     same : o.before ≡ image
     same = o.stood ∙ get_or_default old.images at o.before image (stands_at name old.images at found).within ∙ sym read
 
+    -- the image that was written over has the name still
     called : is_named name o.after ≡ true
     called = ap (λ (n : List ℕ). bytes_eq n name) (ap (λ s. s.name) o.slot)
         ∙ ap (is_named name) (o.stood ∙ get_or_default old.images at o.before image (stands_at name old.images at found).within)
@@ -92,11 +96,13 @@ drop-set-behind [] (suc o) at j y e = refl
 drop-set-behind (x ∷ xs) (suc o) at zero y e = absurd (omega arith)
 drop-set-behind (x ∷ xs) (suc o) at (suc j) y e = drop-set-behind xs o at j y (omega arith)
 
+-- the first bytes of what a function makes are what it makes of fewer
 take-made : (f : ℕ → ℕ) (a n m : ℕ) → n ≤ m → take n (map f (range_with_len a m)) ≡ map f (range_with_len a n)
 take-made f a zero m le = refl
 take-made f a (suc n) zero le = absurd (omega arith)
 take-made f a (suc n) (suc m) le = ap (λ (xs : List ℕ). f a ∷ xs) (take-made f (a + 1) n m (omega arith))
 
+-- cutting an image of the shelf shortens it under its name, or is refused where it is shorter
 pub cuts : (name : List ℕ) (len at : ℕ) (old : MemoryRack) (ys : List MemoryImage) (result : Bool)
     → Some at ≡ cond (list_any (is_named name) (take old.opened old.images)) None (position (is_named name) (drop old.opened old.images))
     → CutsImage (old.opened + at) len old.images ys result → Cuts name len old (record old { images = ys }) result
@@ -128,19 +134,24 @@ cuts name len at old ys true found c = record {
   account = refl;
 }
   where
+    -- the name is not open, and stands at its place on the shelf
     placed : (list_any (is_named name) (take old.opened old.images) ≡ false) × (Some at ≡ position (is_named name) (drop old.opened old.images))
     placed = on_shelf (list_any (is_named name) (take old.opened old.images)) (position (is_named name) (drop old.opened old.images)) at found
 
+    -- the first image of the name on the shelf stands at the place
     s : StandsAt name (drop old.opened old.images) at
     s = stands_at name (drop old.opened old.images) at (on_shelf (list_any (is_named name) (take old.opened old.images))
         (position (is_named name) (drop old.opened old.images)) at found).1
 
+    -- the open images are as before
     front : take old.opened ys ≡ take old.opened old.images
     front = ap (take old.opened) c.3 ∙ take-set-le old.opened old.images (old.opened + at) (shortened len c.0) (omega arith)
 
+    -- the shelf has the shortened image in its place
     rest : drop old.opened ys ≡ set (drop old.opened old.images) at (shortened len c.0)
     rest = ap (drop old.opened) c.3 ∙ drop-set-behind old.images old.opened at (old.opened + at) (shortened len c.0) refl
 
+    -- the image that was cut has the name
     called : is_named name c.0 ≡ true
     called = ap (is_named name) (c.1 ∙ sym (get_or-drop old.opened old.images at c.0))
         ∙ stands-named name (drop old.opened old.images) at c.0

@@ -11,6 +11,7 @@ pub slots_set : (images : List OpenImage) (i : ℕ) (image image' : OpenImage) �
     → slots_of (slice_set images i image') ≡ slots_of images
 slots_set images i image image' is same = map-set_same (λ (im : OpenImage). im.slot) images i image' image (same ∙ ap (λ (im : OpenImage). im.slot) is)
 
+-- there is a slot for each open file
 pub length_slots : (images : List OpenImage) → length (slots_of images) ≡ length images
 length_slots images = length-map images (λ (im : OpenImage). im.slot)
 
@@ -31,6 +32,7 @@ abbrev pub seen_files : List Slot → List Place → List Place → Account → 
 seen_files slots unsynced never_synced account =
     record { slots = slots; held = None; shelf = None; unsynced = unsynced; never_synced = never_synced; sure = false; account = account }
 
+-- a rack of files is seen the same where its slots and what waits for a sync are
 pub same_seen : (slots slots' : List Slot) (unsynced unsynced' never never' : List Place) (account : Account) → slots' ≡ slots → unsynced' ≡ unsynced
     → never' ≡ never
     → seen_files slots' unsynced' never' account ≡ seen_files slots unsynced never account

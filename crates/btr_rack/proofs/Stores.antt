@@ -7,12 +7,15 @@ use Rattle.std.proofs.lemmas.Grind.{common_steps}
 use Rattle.btr_rack.specs.declared.raw_call.RawCall.TheVariants.{Stored}
 use Rattle.btr_rack.specs.History.{Event, refused, interrupted, Moves, nothing_moved, piece_moved, none_moved, Moved, Stops, resized, overwritten, replay}
 
+-- a resized file has the length
 pub length_resized : (len : ℕ) (file : List ℕ) → length (resized len file) ≡ len
 length_resized len file = grind (arith, common_steps)
 
+-- a file resized to its own length is as it was
 pub resized_same : (len : ℕ) (file : List ℕ) → length file ≡ len → resized len file ≡ file
 resized_same len file e = grind (arith, common_steps)
 
+-- a file that ends before a place is longer by zeros from there on
 pub resized_gap : (a count : ℕ) (file : List ℕ) → length file ≤ a → resized (a + count) file ≡ resized a file ++ replicate count 0
 resized_gap a count file h =
     let whole : take (a + count) file ≡ file = take_all (a + count) file (omega arith) in
@@ -34,6 +37,7 @@ gap_contents position count position' file buffer h e p = rw (e, p)
 pub overwritten_end : (off : ℕ) (bytes file : List ℕ) → length file ≤ off → overwritten off bytes file ≡ resized off file ++ bytes
 overwritten_end off bytes file h = grind (arith, common_steps)
 
+-- the first piece, stored at the end of a file or behind it, stands at its end
 grown_first : (off : ℕ) (bytes file file' piece : List ℕ) → length file ≤ off → bytes ≡ [] → file' ≡ file
     → overwritten (off + length bytes) piece file' ≡ resized off file ++ (bytes ++ piece)
 grown_first off bytes file file' piece h e f =
@@ -41,6 +45,7 @@ grown_first off bytes file file' piece h e f =
     ap (λ n. overwritten n piece file') at ∙ ap (λ g. overwritten off piece g) f ∙ overwritten_end off piece file h
     ∙ ap (λ b. resized off file ++ (b ++ piece)) (sym e)
 
+-- one piece more, stored behind those that stand at the end, stands behind them
 grown_next : (off : ℕ) (bytes file file' piece : List ℕ) → file' ≡ resized off file ++ bytes → overwritten (off + length bytes) piece file'
     ≡ resized off file ++ (bytes ++ piece)
 grown_next off bytes file file' piece f =
@@ -53,11 +58,13 @@ grown_next off bytes file file' piece f =
 abbrev pub Made : ℕ → List ℕ → List ℕ → List ℕ → Type 0
 Made off file bytes file' = ((bytes ≡ []) × (file' ≡ file)) ⊎ ((0 < length bytes) × (file' ≡ resized off file ++ bytes))
 
+-- where pieces were stored, one piece more makes a file that they all end
 made_more : (off : ℕ) (bytes file file' piece : List ℕ) → length file ≤ off → 0 < length piece → Made off file bytes file'
     → Made off file (bytes ++ piece) (overwritten (off + length bytes) piece file')
 made_more off bytes file file' piece h some (inl m) = inr (grind (arith, common_steps), grown_first off bytes file file' piece h m.0 m.1)
 made_more off bytes file file' piece h some (inr m) = inr (grind (arith, common_steps), grown_next off bytes file file' piece m.1)
 
+-- bytes that were stored since, one piece after the other, stand at the end of the file
 moves_made : (off : ℕ) (old : List Event) (again : ℕ) (now : List Event) (bytes : List ℕ) → length (replay old) ≤ off
     → Moves Stored off old again now bytes → Made off (replay old) bytes (replay now)
 moves_made off old _ _ _ h nothing_moved = inl (refl, refl)
@@ -65,6 +72,7 @@ moves_made off old _ _ _ h (piece_moved again now bytes piece before some) = mad
     (moves_made off old again now bytes h before)
 moves_made off old _ _ _ h (none_moved again now bytes before) = moves_made off old again now bytes h before
 
+-- a call that was refused or interrupted leaves what was made
 stops_made : (off : ℕ) (old before new : List Event) (bytes : List ℕ) → Made off (replay old) bytes (replay before) → (new ≡ refused ∷ before)
     ⊎ (new ≡ interrupted ∷ before) → Made off (replay old) bytes (replay new)
 stops_made off old before new bytes made (inl e) = subst (λ n. Made off (replay old) bytes (replay n)) (sym e) made
@@ -85,9 +93,11 @@ stores_made off old new bytes stored h within all some = elim (cases_lt stored (
       subst (λ bs. Made off (replay old) bs (replay new)) (sym (take_all stored bytes (omega (arith, whole)))) (moves_made off old m.again new bytes h m.moves)
 ]
 
+-- the first bytes of some are not none, where they are said to be more than none
 made_none : (bytes : List ℕ) (stored : ℕ) → take stored bytes ≡ [] → 0 < stored → stored ≤ length bytes → ⊥
 made_none bytes stored e some h = grind (arith, common_steps, ap length e, length-take-le stored bytes h)
 
+-- where the first bytes are more than none, more than none were asked for
 made_some_of_none : (stored : ℕ) (bytes : List ℕ) → 0 < length (take stored bytes) → stored ≡ 0 → ⊥
 made_some_of_none stored bytes h e = let k : 0 < length (take 0 bytes) = rw e at h in omega (arith, k)
 

@@ -7,11 +7,13 @@ use borrow.Rule.Slice.PartMut.{put_mid, post_of, same_len_mid}
 use Rattle.btr_rack.specs.declared.raw_call.RawCall.{RawCall}
 use Rattle.btr_rack.specs.History.{Event, event, refused, interrupted, Moves, piece_moved, none_moved, Stops, FallsShort}
 
+-- one more piece was moved, behind those before it
 moves_next : (call : ℕ → RawCall) (off at again : ℕ) (old now now' : List Event) (bytes bytes' piece : List ℕ) → Moves call off old again now bytes
     → at ≡ off + length bytes → 0 < length piece
     → now' ≡ event (call at) piece ∷ now → bytes' ≡ bytes ++ piece → Moves call off old again now' bytes'
 moves_next call off at again old now now' bytes bytes' piece before e some en eb = rw (en, e, eb) (piece_moved again now bytes piece before some)
 
+-- one more call was interrupted, and moved nothing
 pub moves_again : (call : ℕ → RawCall) (off again : ℕ) (old now now' : List Event) (bytes : List ℕ) → Moves call off old again now bytes → now'
     ≡ interrupted ∷ now → Moves call off old (again + 1) now' bytes
 moves_again call off again old now now' bytes before e = rw e (none_moved again now bytes before)
@@ -22,15 +24,18 @@ pub moves_refused : (call : ℕ → RawCall) (off again : ℕ) (old now now' : L
 moves_refused call off again old now now' bytes few before e =
     record { before = now; moved = record { again = again; few = few; moves = before }; stop = inl e }
 
+-- an interruption behind sixteen others stops the transfer
 pub moves_too_often : (call : ℕ → RawCall) (off again : ℕ) (old now now' : List Event) (bytes : List ℕ) → again ≤ 16 → 16 ≤ again
     → Moves call off old again now bytes → now' ≡ interrupted ∷ now → Stops call off old now' bytes
 moves_too_often call off again old now now' bytes few many before e =
     record { before = now; moved = record { again = again; few = few; moves = before }; stop = inr (omega arith, e) }
 
+-- the first bytes and a part of what is behind them are that many more of the first
 pub take_piece : (done n : ℕ) (bytes : List ℕ) → n ≤ length (take (length bytes - done) (drop done bytes)) → take (done + n) bytes ≡ take done bytes
     ++ take n (take (length bytes - done) (drop done bytes))
 take_piece done n bytes h = grind (arith, common_steps, take-add {A = ℕ})
 
+-- one more piece of the bytes was stored
 pub stores_piece : (call : ℕ → RawCall) (off done n again : ℕ) (old now now' : List Event) (bytes : List ℕ)
     → Moves call off old again now (take done bytes) → done < length bytes → 0 < n
     → n ≤ length (take (length bytes - done) (drop done bytes)) → now' ≡ event (call (off + done)) (take n (take (length bytes - done) (drop done bytes))) ∷ now
@@ -41,6 +46,7 @@ stores_piece call off done n again old now now' bytes before below some h e = (
       (take n (take (length bytes - done) (drop done bytes))) before (grind (arith, common_steps)) (grind (arith, common_steps)) e (take_piece done n bytes h),
 )
 
+-- what was read into a buffer behind its first bytes stands behind them
 take_put : (done n : ℕ) (buf new : List ℕ) → done ≤ length buf → n ≤ length new → take (done + n) (put_mid done (length buf - done) buf new)
     ≡ take done buf ++ take n new
 take_put done n buf new h k =
@@ -48,6 +54,7 @@ take_put done n buf new h k =
     ∙ take-append-add (take done buf) (new ++ post_of done (length buf - done) buf) n
     ∙ ap (λ r. take done buf ++ r) (take-append-le n new (post_of done (length buf - done) buf) k)
 
+-- one more piece was read into the buffer
 pub reads_piece : (call : ℕ → RawCall) (off done n again : ℕ) (old now now' : List Event) (buf new : List ℕ)
     → Moves call off old again now (take done buf) → done < length buf → 0 < n → n ≤ length new
     → length new ≡ length (take (length buf - done) (drop done buf)) → now' ≡ event (call (off + done)) (take n new) ∷ now
@@ -66,6 +73,7 @@ take_kept done buf new h =
     ∙ take-append-le (length (take done buf)) (take done buf) (new ++ post_of done (length buf - done) buf) (omega arith)
     ∙ take_all (length (take done buf)) (take done buf) (omega arith)
 
+-- a buffer keeps what was read into it before, whatever a call that read nothing leaves behind that
 pub still_read : (call : ℕ → RawCall) (off done again : ℕ) (old now : List Event) (buf new : List ℕ) → done < length buf → length new
     ≡ length (take (length buf - done) (drop done buf)) → again ≤ 16
     → Moves call off old again now (take done buf)
@@ -80,6 +88,7 @@ still_read call off done again old now buf new below l few moves = record {
   moves = subst (Moves call off old again now) (sym (take_kept done buf new below)) moves;
 }
 
+-- a buffer that was not filled when the transfer stopped fell short
 pub fell_short : (call : ℕ → RawCall) (off done : ℕ) (old now : List Event) (buf new : List ℕ) → done < length buf → length new
     ≡ length (take (length buf - done) (drop done buf))
     → Stops call off old now (take done buf) → FallsShort call off old now (put_mid done (length buf - done) buf new)

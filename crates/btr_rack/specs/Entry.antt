@@ -10,7 +10,7 @@ use Rattle.btr_rack.specs.History.{event}
 abbrev pub IsEntry : List ℕ → Entry → Type 0
 IsEntry path Refused = ⊤
 IsEntry path Astray = ⊤
-IsEntry path (Entered _ calls) = calls.events ≡ event ChangedTo path ∷ []
+IsEntry path (Entered _ calls) = calls ≡ event ChangedTo path ∷ []
 
 -- what is entered is this folder
 abbrev pub IsOf : FileId → Entry → Type 0

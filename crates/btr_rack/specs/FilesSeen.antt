@@ -7,7 +7,7 @@ use Rattle.btr_rack.specs.Opened.{history_in, seen_files}
 
 -- what is seen of it
 abbrev pub seen_of : {R File : Type 0} → FileRack R File → Seen
-seen_of rack = seen_files rack.files.items rack.unsynced.places rack.never_synced.places rack.ledger
+seen_of rack = seen_files rack.files.items rack.unsynced rack.never_synced rack.ledger
 
 -- what was asked of the file in a slot
 abbrev pub history_of : {R File : Type 0} → FileRack R File → ℕ → List Event

@@ -7,7 +7,7 @@ use Rattle.btr_rack.specs.declared.part.Part.{Part}
 use Rattle.btr_rack.specs.declared.row.Row.{Row}
 use Rattle.btr_rack.specs.History.{replay}
 use Rattle.btr_rack.specs.Growing.{Growing, contents}
-use Rattle.btr_rack.specs.Sink.{Sink, Stage, NotStarted, BetweenFiles, InFile, is_in_file, IsSound}
+use Rattle.btr_rack.specs.Sink.{Sink, Stage, NotStarted, BetweenFiles, InFile, is_in_file, IsSoundSink}
 
 -- the stage of a folder that was started, by whether a file is unfinished
 abbrev pub started_stage : Bool → Stage
@@ -27,7 +27,7 @@ unfoldable pub at_sink : Destination → Sink
 at_sink at = record {
   stage = started_stage (is_some at.file);
   depth = length at.folders;
-  tree = Some (record { rows = at.trail.told.rows; part = option_map (part_of at.trail.told.name at.buffer) at.file });
+  tree = Some (record { rows = at.trail.rows; part = option_map (part_of at.trail.name at.buffer) at.file });
 }
 
 -- the sink that a folder is
@@ -66,12 +66,12 @@ told_part name buffer None = refl
 told_part name buffer (Some file) = refl
 
 -- a folder is a sound sink
-pub folder_sound : (at : Option Destination) → IsSound (folder_sink at)
+pub folder_sound : (at : Option Destination) → IsSoundSink (folder_sink at)
 unfolding at_sink
 folder_sound None = record { part = refl; rows = λ e. refl; depth = λ e. refl }
 folder_sound (Some at) = record {
-  part = told_part at.trail.told.name at.buffer at.file;
-  rows = started_rows at.trail.told.rows (is_some at.file);
+  part = told_part at.trail.name at.buffer at.file;
+  rows = started_rows at.trail.rows (is_some at.file);
   depth = started_depth (length at.folders) (is_some at.file);
 }
 

@@ -2,7 +2,7 @@
 use Rattle.std.specs.Prelude.{◌≡◌, List, [], ◌∷◌, Option, Some, None, is_some, refl}
 use Rattle.btr_rack.specs.declared.row.Row.{Row}
 use Rattle.btr_rack.specs.declared.part.Part.{Part}
-use Rattle.btr_rack.specs.Sink.{Tree, NotStarted, is_in_file, IsSound}
+use Rattle.btr_rack.specs.Sink.{Tree, NotStarted, is_in_file, IsSoundSink}
 use Rattle.btr_rack.specs.MemTree.{stage_of, depth_of, sink_of}
 
 -- a tree has an unfinished file just when its stage says so
@@ -24,5 +24,5 @@ no_depth (_ ∷ _) (Some _) e = cc
 no_depth (_ ∷ _) None e = cc
 
 -- a tree in memory is a sound sink
-pub sound_tree : (tree : Tree) → IsSound (sink_of tree)
+pub sound_tree : (tree : Tree) → IsSoundSink (sink_of tree)
 sound_tree tree = record { part = in_file tree.rows tree.part; rows = no_rows tree.rows tree.part; depth = no_depth tree.rows tree.part }

@@ -127,12 +127,12 @@ is_empty [] = true
 is_empty (_ ∷ _) = false
 
 -- nothing is to fail
-abbrev pub is_calm : Failures → Bool
-is_calm f = is_empty f.failing_calls && is_empty f.failing_writes && is_empty f.failing_ranges
+abbrev pub fails_nothing : Failures → Bool
+fails_nothing f = is_empty f.failing_calls && is_empty f.failing_writes && is_empty f.failing_ranges
 
 -- nothing is to fail, and the count of faults is below its type's last value
 abbrev pub is_sure : MemoryRack → Bool
-is_sure rack = is_calm rack.failing && nat_lt rack.account.faults (2 ^ 64 - 1)
+is_sure rack = fails_nothing rack.failing && nat_lt rack.account.faults (2 ^ 64 - 1)
 
 -- what is seen of it
 abbrev pub seen_of : MemoryRack → Seen

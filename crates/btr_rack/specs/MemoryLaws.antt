@@ -1,13 +1,13 @@
 -- What holds of every rack in memory.
-use Rattle.std.specs.Prelude.{◌≡◌, ℕ, ◌+◌, ◌-◌, ◌%◌, ◌^◌, ◌<◌, nat_lt, Bool, true, false, ◌&&◌, List, [], ◌∷◌, length, map, take, All, refl}
+use Rattle.std.specs.Prelude.{◌≡◌, ℕ, ◌+◌, ◌-◌, ◌%◌, ◌<◌, List, [], ◌∷◌, length, map, take, All, refl}
 use Rattle.std.specs.List.{range_with_len}
 use Rattle.std.proofs.Common.{zero, suc, arith}
 use Rattle.std.proofs.lemmas.List.Elements.{All-cons}
-use Rattle.std.proofs.lemmas.Bool.{ltb-true}
 use Rattle.std.proofs.lemmas.List.FromFn.{length-map-range_with_len}
 use Rattle.btr_rack.specs.Rack.{IsRack}
 use Rattle.btr_rack.specs.Image.{MemoryImage, Pages, bytes_in, kept_byte, page_byte}
-use Rattle.btr_rack.specs.Memory.{MemoryRack, seen_of, is_calm}
+use Rattle.btr_rack.specs.CallsLaws.{count_left}
+use Rattle.btr_rack.specs.Memory.{MemoryRack, seen_of, fails_nothing}
 
 -- each open image has as many bytes as its slot says
 sized : (images : List MemoryImage) → map length (map bytes_in images) ≡ map (λ slot. slot.len) (map (λ image. image.slot) images)
@@ -31,15 +31,10 @@ bytes [] = λ k d lt. absurd (omega arith)
 bytes (image ∷ images) =
     All-cons (All (λ b. b < 256)) (bytes_in image) (map bytes_in images) (small image.pages 0 image.slot.len) (bytes images)
 
--- the count of failed calls of a sure account is below its type's last value
-calm : (calm? : Bool) (faults : ℕ) → (calm? && nat_lt faults (2 ^ 64 - 1)) ≡ true → faults < 2 ^ 64 - 1
-calm true faults e = ltb-true faults (2 ^ 64 - 1) e
-calm false faults e = cc
-
 -- what is seen of a rack in memory
 pub sound_rack : (rack : MemoryRack) → IsRack (seen_of rack)
 sound_rack rack = record {
   sized = sized (take rack.opened rack.images);
   bytes = bytes (take rack.opened rack.images);
-  calm = calm (is_calm rack.failing) rack.account.faults;
+  count_left = count_left (fails_nothing rack.failing) rack.account.faults;
 }

@@ -231,7 +231,7 @@ Syncs slot old new (Err Memory) = OnlyCounts old new
 pub record IsRack (seen : Seen) : Type 0 where
   pub sized : IfSome seen.held (λ images. map length images ≡ map (λ slot. slot.len) seen.slots)
   pub bytes : IfSome seen.held (λ images. All (All (λ b. b < 256)) images)
-  pub calm : seen.sure ≡ true → seen.account.faults < 2 ^ 64 - 1
+  pub count_left : seen.sure ≡ true → seen.account.faults < 2 ^ 64 - 1
 
 -- a call fails exactly where the test says so; want of memory comes freely
 abbrev pub FailsWhere : {T : Type 0} → Bool → Result T RackError → Type 0

@@ -89,7 +89,7 @@ is_in_file BetweenFiles = false
 is_in_file InFile = true
 
 -- a file is unfinished exactly in a file, and before the start nothing was written
-pub record IsSound (s : Sink) : Type 0 where
+pub record IsSoundSink (s : Sink) : Type 0 where
   pub part : IfSome s.tree (λ t. is_some t.part ≡ is_in_file s.stage)
   pub rows : s.stage ≡ NotStarted → IfSome s.tree (λ t. t.rows ≡ [])
   pub depth : s.stage ≡ NotStarted → s.depth ≡ 0

@@ -4,7 +4,7 @@ ghost use Rattle.btr_rack.specs.Rack.{OneFailed, forgotten, next_count, no_failu
 
 use crate::opening::Opening;
 use crate::place::Place;
-use crate::place_list::PlaceList;
+use crate::place_list::{PlaceList, Places};
 use std::marker::Model;
 
 /// The failed calls of a rack, which it counts and has the places of. Clauses see it as an `Account`.
@@ -23,7 +23,7 @@ impl Model for Ledger {
 
     ghost Value = { Account };
 
-    ghost view = { λ l. record { faults = l.faults; fresh = l.fresh; missed = l.missed.places; last = l.last; opening = l.opening; shut = l.shut } };
+    ghost view = { λ l. record { faults = l.faults; fresh = l.fresh; missed = l.missed; last = l.last; opening = l.opening; shut = l.shut } };
 }
 
 impl Ledger {
@@ -41,7 +41,7 @@ impl Ledger {
                 len: 0,
             },
             opening: None,
-            missed: PlaceList::new(),
+            missed: PlaceList::new(&Places),
         }
     }
 
@@ -53,7 +53,7 @@ impl Ledger {
     {
         self.faults = self.faults.saturating_add(1);
         self.fresh = self.fresh.saturating_add(1);
-        self.missed = PlaceList::with(&self.missed, &place);
+        self.missed = self.missed.with(&place);
         self.last = place;
         self.opening = None;
     }
@@ -74,6 +74,6 @@ impl Ledger {
         ensures { self.new ≡ forgotten self.old }
     {
         self.fresh = 0;
-        self.missed = PlaceList::new();
+        self.missed = PlaceList::new(&Places);
     }
 }

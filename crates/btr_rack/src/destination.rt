@@ -12,7 +12,7 @@ use crate::history::History;
 use crate::new_file::NewFile;
 use crate::room::Room;
 use crate::step::Step;
-use crate::trail::Trail;
+use crate::trail::{DoneBy, Steps, Trail};
 
 /// Where a folder that is a sink stands, once it is started.
 #[derive(Drop)]
@@ -31,7 +31,7 @@ impl Destination {
     /// The destination was entered by these calls.
     #[tactic(auto, unfolding(crate::specs::FolderTree::at_sink))]
     pub(crate) fn new(folder: FileId, calls: &History, room: Room) -> Destination
-        ensures { at_sink result ≡ started (path_of calls.now.events) unstarted }
+        ensures { at_sink result ≡ started (path_of calls.now) unstarted }
     {
         let Room { buffer, folders } = room;
         Destination {
@@ -39,7 +39,7 @@ impl Destination {
             folders,
             file: None,
             buffer,
-            trail: Trail::with(&Trail::new(), &Step::Started, calls),
+            trail: Trail::new(&Steps).with(&DoneBy(Step::Started, calls)),
         }
     }
 
@@ -56,10 +56,10 @@ impl Destination {
     #[tactic(auto, unfolding(crate::specs::FolderTree::at_sink))]
     pub(crate) fn enter(&mut self, folder: FileId, calls: &History)
         requires { (at_sink self.old).depth < 512 }
-        ensures { at_sink self.new ≡ entered (path_of calls.now.events) (at_sink self.old) }
+        ensures { at_sink self.new ≡ entered (path_of calls.now) (at_sink self.old) }
     {
         self.folders.enter(folder);
-        self.trail = Trail::with(&self.trail, &Step::Entered, calls);
+        self.trail = self.trail.with(&DoneBy(Step::Entered, calls));
     }
 
     /// A folder was left to this one by these calls.
@@ -70,7 +70,7 @@ impl Destination {
         ensures { at_sink self.new ≡ left (at_sink self.old) }
     {
         self.folders.leave();
-        self.trail = Trail::with(&self.trail, &Step::Left, calls);
+        self.trail = self.trail.with(&DoneBy(Step::Left, calls));
     }
 
     /// An empty file was made.
@@ -80,7 +80,7 @@ impl Destination {
         ensures { at_sink self.new ≡ begun (path_of file.history) (at_sink self.old) }
     {
         self.buffer.clear();
-        self.trail = Trail::with(&self.trail, &Step::Begun, file.history());
+        self.trail = self.trail.with(&DoneBy(Step::Begun, file.history()));
         self.file = Some(file);
     }
 
@@ -123,7 +123,7 @@ impl Destination {
         if !file.finish(&mut self.buffer) {
             return false;
         }
-        self.trail = Trail::with(&self.trail, &Step::Closed, file.history());
+        self.trail = self.trail.with(&DoneBy(Step::Closed, file.history()));
         self.file = None;
         true
     }

@@ -6,7 +6,7 @@ ghost use Rattle.btr_rack.specs.Entry.{IsEntry, IsOf};
 ghost use Rattle.btr_rack.specs.Name.{IsGoodName};
 
 use crate::file_id::FileId;
-use crate::history::History;
+use crate::history::{Call, Events, History};
 use crate::raw_call::RawCall;
 use std::fs::DirBuilder;
 use std::os::unix::fs::DirBuilderExt;
@@ -72,10 +72,10 @@ fn move_to(rt: &(impl Files + Env), path: &str, folder: FileId) -> Entry
 
 // Makes the folder of the path the working directory, and notes it. That it does so is read here, and proved nowhere.
 fn change(rt: &impl Env, path: &str) -> Option<History>
-    ensures { IfSome result (λ calls. calls.events ≡ event ChangedTo path.now ∷ []) }
+    ensures { IfSome result (λ calls. calls ≡ event ChangedTo path.now ∷ []) }
 {
     env::set_current_dir(rt, path).ok()?;
-    let calls = History::with(&History::new(), &RawCall::Entered, path.as_bytes());
+    let calls = History::new(&Events).with(&Call(RawCall::Entered, path.as_bytes()));
     Some(calls)
 }
 

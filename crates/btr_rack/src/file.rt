@@ -10,7 +10,7 @@ use crate::account::Ledger;
 use crate::opened::OpenedFile;
 use crate::opening::Opening;
 use crate::place::Place;
-use crate::place_list::PlaceList;
+use crate::place_list::{InSlot, NoneInSlot, PlaceList, Places};
 use crate::{Rack, RackError};
 use std::alloc::Global;
 use std::fs::File;
@@ -36,8 +36,8 @@ impl<R: Files<File = File> + Drop> FileRack<R> {
             rt,
             alloc,
             files: Vec::new(alloc),
-            unsynced: PlaceList::new(),
-            never_synced: PlaceList::new(),
+            unsynced: PlaceList::new(&Places),
+            never_synced: PlaceList::new(&Places),
             ledger: Ledger::new(),
         }
     }
@@ -46,9 +46,9 @@ impl<R: Files<File = File> + Drop> FileRack<R> {
 impl<R: Files<File = File> + Drop> Rack for FileRack<R> {
     ghost use Rattle.btr_rack.specs.FileRack.{sound_files};
 
-    ghost seen = { λ rack. seen_files rack.files.items rack.unsynced.places rack.never_synced.places rack.ledger };
+    ghost seen = { λ rack. seen_files rack.files.items rack.unsynced rack.never_synced rack.ledger };
 
-    ghost sound = { λ rack. sound_files (slots_of rack.files.items) rack.unsynced.places rack.never_synced.places rack.ledger };
+    ghost sound = { λ rack. sound_files (slots_of rack.files.items) rack.unsynced rack.never_synced rack.ledger };
 
     fn open(&mut self, name: &str, write: bool) -> Result<usize, RackError> {
         let slot = self.files.len();
@@ -107,7 +107,7 @@ impl<R: Files<File = File> + Drop> Rack for FileRack<R> {
     {
         let len = bytes.len() as u64;
         let place = Place { slot, off, len };
-        self.unsynced = PlaceList::with(&self.unsynced, &place);
+        self.unsynced = self.unsynced.with(&place);
         let file = &mut self.files[slot];
         let _end = file.len();
         if file.store(off, bytes) {
@@ -127,11 +127,11 @@ impl<R: Files<File = File> + Drop> Rack for FileRack<R> {
     {
         let place = Place::of_slot(slot);
         if self.files[slot].sync() {
-            self.unsynced = PlaceList::without(&self.unsynced, &place);
+            self.unsynced = self.unsynced.with(&NoneInSlot(place));
             return Ok(());
         }
-        self.never_synced = PlaceList::with_slot(&self.never_synced, &self.unsynced, &place);
-        self.unsynced = PlaceList::without(&self.unsynced, &place);
+        self.never_synced = self.never_synced.with(&InSlot(&self.unsynced, place));
+        self.unsynced = self.unsynced.with(&NoneInSlot(place));
         self.ledger.fail(place);
         Err(RackError::Failed)
     }

@@ -1,6 +1,6 @@
 // A sink that is a real folder.
 ghost use Rattle.std.specs.Prelude.{◌≡◌, None, Err, false, is_some, ◌||◌};
-ghost use Rattle.btr_rack.specs.CallsLaws.{unsure_calm};
+ghost use Rattle.btr_rack.specs.CallsLaws.{unsure_count_left};
 ghost use Rattle.btr_rack.specs.Rack.{Rose};
 ghost use Rattle.btr_rack.specs.FolderTree.{folder_sink, folder_sound, folder_waits, folder_settled};
 
@@ -61,7 +61,7 @@ impl<R: Files<File = File> + Env + Drop> TreeSink for FolderTree<R> {
 
     ghost account = { λ t. record { faults = t.faults; sure = false; ample = is_some t.room || is_some t.at } };
 
-    ghost calm = { λ t. unsure_calm t.faults (is_some t.room || is_some t.at) };
+    ghost count_left = { λ t. unsure_count_left t.faults (is_some t.room || is_some t.at) };
 
     ghost sound = { λ t. folder_sound t.at };
 

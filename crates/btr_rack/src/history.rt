@@ -1,31 +1,31 @@
-// The calls that were made on a file. It takes no memory.
-ghost use Rattle.std.specs.Prelude.{◌≡◌, List, [], ◌∷◌};
-ghost use Rattle.std.specs.Borrow.{ftrue};
-ghost use Rattle.btr_rack.specs.History.{Event, event};
+// The calls that were made on a file.
+ghost use Rattle.std.specs.Prelude.{◌∷◌};
+ghost use Rattle.btr_rack.specs.History.{event};
 
 use crate::raw_call::RawCall;
+use crate::unseen::{Change, Unseen};
 use std::marker::Model;
 
-/// The calls of the system that were made on a file, the newest first. It takes no bytes, and only clauses see it.
+/// The calls of the system that were made on a file, the newest first.
+pub(crate) type History = Unseen<Events>;
+
+/// No calls.
 #[derive(Drop)]
-pub(crate) struct History {
-    pub ghost events: { List Event },
+pub(crate) struct Events;
+
+impl Model for Events {
+    ghost use Rattle.std.specs.Prelude.{List, []};
+    ghost use Rattle.btr_rack.specs.History.{Event};
+
+    ghost Value = { List Event };
+
+    ghost view = { λ _. [] };
 }
 
-impl Model for History {
-    ghost also_owns = { λ _. ftrue };
-}
+/// A call, with the bytes that it took or gave.
+#[derive(Drop)]
+pub(crate) struct Call<'a>(pub(crate) RawCall, pub(crate) &'a [u8]);
 
-impl History {
-    pub(crate) fn new() -> History
-        ensures { result.events ≡ [] }
-    {
-        History {}
-    }
-
-    pub(crate) fn with(_before: &History, _call: &RawCall, _bytes: &[u8]) -> History
-        ensures { result.events ≡ event _call.now _bytes.now ∷ _before.now.events }
-    {
-        History {}
-    }
+impl<'a> Change<Events> for Call<'a> {
+    ghost after = { λ call events. event call.0 call.1.now ∷ events };
 }

@@ -47,6 +47,7 @@ mod trail;
 mod transfer;
 mod tree_sink;
 mod tried;
+mod unseen;
 
 pub use account::Ledger;
 pub use bytes::Bytes;

@@ -3,7 +3,7 @@ ghost use Rattle.std.specs.Prelude.{◌≡◌, Some, OnOk, OnErr};
 ghost use Rattle.btr_rack.specs.MemOut.{empty_out};
 ghost use Rattle.btr_rack.specs.Out.{Puts, Counts};
 ghost use Rattle.btr_rack.specs.Calls.{account_of, failing_call, CallsOnce};
-ghost use Rattle.btr_rack.specs.CallsLaws.{calm_calls};
+ghost use Rattle.btr_rack.specs.CallsLaws.{calls_count_left};
 
 use crate::calls::Calls;
 use crate::{Out, SinkError};
@@ -58,7 +58,7 @@ impl Out for MemOut {
 
     ghost account = { λ out. account_of out.calls };
 
-    ghost calm = { λ out. calm_calls out.calls };
+    ghost count_left = { λ out. calls_count_left out.calls };
 
     // A call that is made to fail changes nothing but the count of faults.
     fn put(&mut self, bytes: &[u8]) -> Result<(), SinkError>

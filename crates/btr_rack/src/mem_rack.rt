@@ -16,7 +16,7 @@ use crate::images::{
 };
 use crate::opening::Opening;
 use crate::place::Place;
-use crate::place_list::PlaceList;
+use crate::place_list::{InSlot, NoneInSlot, PlaceList, Places};
 use crate::{AddError, PokeError, Rack, RackError};
 use btr_base::Memory;
 use std::alloc::Global;
@@ -41,7 +41,7 @@ impl Model for MemRack {
 
     ghost Value = { MemoryRack };
 
-    ghost view = { λ r. record { images = r.images.items; opened = r.opened; failing = r.failing; unsynced = r.unsynced.places; never_synced = r.never_synced.places; account = r.ledger } };
+    ghost view = { λ r. record { images = r.images.items; opened = r.opened; failing = r.failing; unsynced = r.unsynced; never_synced = r.never_synced; account = r.ledger } };
 
     ghost invariant = { λ r. r.opened ≤ length r.images.items };
 }
@@ -56,8 +56,8 @@ impl MemRack {
             images: Vec::new(alloc),
             opened: 0,
             failing: Failing::new(alloc),
-            unsynced: PlaceList::new(),
-            never_synced: PlaceList::new(),
+            unsynced: PlaceList::new(&Places),
+            never_synced: PlaceList::new(&Places),
             ledger: Ledger::new(),
         }
     }
@@ -137,8 +137,8 @@ impl MemRack {
         ensures { self.new ≡ record self.old { opened = 0; failing = nothing_fails; unsynced = []; never_synced = [] } }
     {
         self.opened = 0;
-        self.unsynced = PlaceList::new();
-        self.never_synced = PlaceList::new();
+        self.unsynced = PlaceList::new(&Places);
+        self.never_synced = PlaceList::new(&Places);
         self.failing.clear();
     }
 
@@ -261,7 +261,7 @@ impl Rack for MemRack {
     {
         let len = bytes.len() as u64;
         let place = Place { slot, off, len };
-        self.unsynced = PlaceList::with(&self.unsynced, &place);
+        self.unsynced = self.unsynced.with(&place);
         let struck = self.failing.write();
         if struck || self.failing.meets(self.images[slot].name(), off, len) {
             let tear = self.failing.tear();
@@ -290,10 +290,10 @@ impl Rack for MemRack {
         let place = Place::of_slot(slot);
         let struck = self.failing.call();
         if struck {
-            self.never_synced = PlaceList::with_slot(&self.never_synced, &self.unsynced, &place);
+            self.never_synced = self.never_synced.with(&InSlot(&self.unsynced, place));
             self.ledger.fail(place);
         }
-        self.unsynced = PlaceList::without(&self.unsynced, &place);
+        self.unsynced = self.unsynced.with(&NoneInSlot(place));
         if struck {
             return Err(RackError::Failed);
         }

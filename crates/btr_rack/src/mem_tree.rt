@@ -4,7 +4,7 @@ ghost use Rattle.std.specs.Option.{option_copied};
 ghost use Rattle.std.specs.Vec.{vec_capacity};
 ghost use Rattle.btr_rack.specs.Out.{Counts};
 ghost use Rattle.btr_rack.specs.Calls.{account_of, failing_call, CallsOnce};
-ghost use Rattle.btr_rack.specs.CallsLaws.{calm_calls};
+ghost use Rattle.btr_rack.specs.CallsLaws.{calls_count_left};
 ghost use Rattle.btr_rack.specs.Name.{IsGoodName};
 ghost use Rattle.btr_rack.specs.Sink.{NotStarted, BetweenFiles, InFile, Steps, Grows, started, entered, left, begun, finished, longer};
 ghost use Rattle.btr_rack.specs.MemTree.{empty_tree, stage_of, depth_of, sink_of};
@@ -113,7 +113,7 @@ impl TreeSink for MemTree {
 
     ghost account = { λ t. account_of t.calls };
 
-    ghost calm = { λ t. calm_calls t.calls };
+    ghost count_left = { λ t. calls_count_left t.calls };
 
     ghost sound = { λ t. sound_tree t.tree };
 

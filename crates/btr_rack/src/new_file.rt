@@ -33,9 +33,9 @@ impl Model for NewFile {
 
     ghost Value = { Growing };
 
-    ghost view = { λ f. record { history = f.raw.history.events; position = f.position } };
+    ghost view = { λ f. record { history = f.raw.history; position = f.position } };
 
-    ghost invariant = { λ f. (length (replay f.raw.history.events) ≡ f.len) × (f.len ≤ f.position) };
+    ghost invariant = { λ f. (length (replay f.raw.history) ≡ f.len) × (f.len ≤ f.position) };
 }
 
 impl NewFile {
@@ -57,7 +57,7 @@ impl NewFile {
 
     /// What was asked of the file.
     pub(crate) fn history(&self) -> &History
-        ensures { result.now.events ≡ self.now.history }
+        ensures { result.now ≡ self.now.history }
     {
         &self.raw.history
     }

@@ -25,7 +25,7 @@ impl Model for OpenedFile {
 
     ghost Value = { OpenImage };
 
-    ghost view = { λ f. record { slot = record { name = f.opening.name; len = f.len; write = f.opening.write }; history = f.raw.history.events } };
+    ghost view = { λ f. record { slot = record { name = f.opening.name; len = f.len; write = f.opening.write }; history = f.raw.history } };
 
     ghost invariant = { λ f. f.len < 2 ^ 63 };
 }
@@ -85,7 +85,7 @@ impl OpenedFile {
 // The file or block device of a path, and its length. It is looked at first, so that a pipe isn't waited for, and has to be
 // the same when it is open.
 fn open_image<R: Files<File = File>>(rt: &R, path: &str, write: bool) -> Option<(RawFile, u64)>
-    ensures { IfSome result (λ image. (image.1 < 2 ^ 63) × OnlyOpenedSame path.now write image.0.history.events) }
+    ensures { IfSome result (λ image. (image.1 < 2 ^ 63) × OnlyOpenedSame path.now write image.0.history) }
 {
     let (seen, look) = look_at(rt, path)?;
     let mut how = File::options();

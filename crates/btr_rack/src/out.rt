@@ -18,5 +18,5 @@ pub trait Out {
         ensures account { Counts (account self.old) (account self.new) result };
 
     /// The count of faults of a sure output is below its type's last value.
-    ghost calm: { (out : Self) → HasCountLeft (account out) };
+    ghost count_left: { (out : Self) → HasCountLeft (account out) };
 }

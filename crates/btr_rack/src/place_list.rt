@@ -1,48 +1,44 @@
 // A list of places that takes no memory.
-ghost use Rattle.std.specs.Prelude.{◌≡◌, List, [], ◌∷◌, ◌++◌};
-ghost use Rattle.std.specs.Borrow.{ftrue};
-ghost use Rattle.btr_rack.specs.declared.place.Place.{Place};
+ghost use Rattle.std.specs.Prelude.{[], ◌∷◌, ◌++◌};
 ghost use Rattle.btr_rack.specs.Rack.{in_others, in_slot};
 
 use crate::place::Place;
+use crate::unseen::{Change, Unseen};
 use std::marker::Model;
 
-/// Places of calls: of those that failed, or of the writes that wait for a sync. It takes no bytes, and only
-/// clauses see it.
+/// Places of calls: of those that failed, or of the writes that wait for a sync.
+pub type PlaceList = Unseen<Places>;
+
+/// No places.
 #[derive(Drop)]
-pub struct PlaceList {
-    pub ghost places: { List Place },
+pub struct Places;
+
+impl Model for Places {
+    ghost use Rattle.std.specs.Prelude.{List, []};
+    ghost use Rattle.btr_rack.specs.declared.place.Place.{Place};
+
+    ghost Value = { List Place };
+
+    ghost view = { λ _. [] };
 }
 
-impl Model for PlaceList {
-    ghost also_owns = { λ _. ftrue };
+// One more place.
+impl Change<Places> for Place {
+    ghost after = { λ place places. places ++ place ∷ [] };
 }
 
-impl PlaceList {
-    pub(crate) fn new() -> PlaceList
-        ensures { result.places ≡ [] }
-    {
-        PlaceList {}
-    }
+/// The places of another list in the slot of a place.
+#[derive(Drop)]
+pub(crate) struct InSlot<'a>(pub(crate) &'a PlaceList, pub(crate) Place);
 
-    /// With one more place.
-    pub(crate) fn with(_before: &PlaceList, _place: &Place) -> PlaceList
-        ensures { result.places ≡ _before.now.places ++ _place.now ∷ [] }
-    {
-        PlaceList {}
-    }
+impl<'a> Change<Places> for InSlot<'a> {
+    ghost after = { λ more places. places ++ in_slot more.1.slot more.0.now };
+}
 
-    /// With those of another list in the slot of a place.
-    pub(crate) fn with_slot(_before: &PlaceList, _other: &PlaceList, _place: &Place) -> PlaceList
-        ensures { result.places ≡ _before.now.places ++ in_slot _place.now.slot _other.now.places }
-    {
-        PlaceList {}
-    }
+/// No place in the slot of a place.
+#[derive(Drop)]
+pub(crate) struct NoneInSlot(pub(crate) Place);
 
-    /// Without those in the slot of a place.
-    pub(crate) fn without(_before: &PlaceList, _place: &Place) -> PlaceList
-        ensures { result.places ≡ in_others _place.now.slot _before.now.places }
-    {
-        PlaceList {}
-    }
+impl Change<Places> for NoneInSlot {
+    ghost after = { λ none places. in_others none.0.slot places };
 }

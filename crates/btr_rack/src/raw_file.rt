@@ -4,7 +4,7 @@ ghost use Rattle.btr_rack.specs.declared.raw_call.RawCall.TheVariants.{Read, Sto
 ghost use Rattle.btr_rack.specs.History.{event, looked, refused, IsInVain, IsOpenedBy, Notes, NotesLook};
 
 use crate::file_id::FileId;
-use crate::history::History;
+use crate::history::{Call, Events, History};
 use crate::raw_call::RawCall;
 use crate::tried::Tried;
 use std::fs::{File, OpenOptions};
@@ -28,10 +28,10 @@ pub(crate) struct RawFile {
 
 /// Looks which file or block device stands at a path, and notes it. `None`: none, or another kind of file.
 pub(crate) fn look_at(rt: &impl Files, path: &str) -> Option<(FileId, History)>
-    ensures { IfSome result (λ seen. seen.1.events ≡ looked path.now seen.0 ∷ []) }
+    ensures { IfSome result (λ seen. seen.1 ≡ looked path.now seen.0 ∷ []) }
 {
     let id = FileId::of_image(&fs::metadata(rt, path).ok()?)?;
-    let history = History::with(&History::new(), &RawCall::Looked(id), path.as_bytes());
+    let history = History::new(&Events).with(&Call(RawCall::Looked(id), path.as_bytes()));
     Some((id, history))
 }
 
@@ -55,9 +55,9 @@ impl RawFile {
         path: &str,
         how: &OpenOptions,
     ) -> Option<RawFile>
-        ensures { IfSome result (λ f. IsOpenedBy how.now path.now [] f.history.events) }
+        ensures { IfSome result (λ f. IsOpenedBy how.now path.now [] f.history) }
     {
-        RawFile::open_behind(rt, path, how, &History::new())
+        RawFile::open_behind(rt, path, how, &History::new(&Events))
     }
 
     /// The same, behind other calls.
@@ -67,20 +67,20 @@ impl RawFile {
         how: &OpenOptions,
         before: &History,
     ) -> Option<RawFile>
-        ensures { IfSome result (λ f. IsOpenedBy how.now path.now before.now.events f.history.events) }
+        ensures { IfSome result (λ f. IsOpenedBy how.now path.now before.now f.history) }
     {
         let file = how.open(rt, path).ok()?;
         let call = RawCall::Opened {
             write: how.asks_write(),
             made: how.asks_create_new(),
         };
-        let history = History::with(before, &call, path.as_bytes());
+        let history = before.with(&Call(call, path.as_bytes()));
         Some(RawFile { file, history })
     }
 
     /// Looks which file or block device it is. `None`: that can't be known, or it is another kind of file.
     pub(crate) fn look(&mut self) -> Option<FileId>
-        ensures { NotesLook self.old.history.events self.new.history.events result }
+        ensures { NotesLook self.old.history self.new.history result }
     {
         let seen = match self.file.metadata() {
             Ok(found) => FileId::of_image(&found),
@@ -90,43 +90,45 @@ impl RawFile {
             Some(id) => RawCall::Looked(id),
             None => RawCall::Refused,
         };
-        self.history = History::with(&self.history, &call, &[]);
+        self.history = self.history.with(&Call(call, &[]));
         seen
     }
 
     /// Reads into the beginning of `buf` from `off` on.
     pub(crate) fn read(&mut self, off: u64, buf: &mut [u8]) -> Tried
-        ensures { Notes (Read off) buf.new self.old.history.events self.new.history.events result }
+        ensures { Notes (Read off) buf.new self.old.history self.new.history result }
     {
         let (tried, call) = match self.file.read_at(buf, off) {
             Ok(count) if count > 0 => {
-                self.history = History::with(&self.history, &RawCall::Read(off), &buf[..count]);
+                self.history = self.history.with(&Call(RawCall::Read(off), &buf[..count]));
                 return Tried::Done(count);
             }
             other => in_vain(other),
         };
-        self.history = History::with(&self.history, &call, &[]);
+        self.history = self.history.with(&Call(call, &[]));
         tried
     }
 
     /// Writes a first part of the bytes from `off` on.
     pub(crate) fn store(&mut self, off: u64, bytes: &[u8]) -> Tried
-        ensures { Notes (Stored off) bytes.now self.old.history.events self.new.history.events result }
+        ensures { Notes (Stored off) bytes.now self.old.history self.new.history result }
     {
         let (tried, call) = match self.file.write_at(bytes, off) {
             Ok(count) if count > 0 => {
-                self.history = History::with(&self.history, &RawCall::Stored(off), &bytes[..count]);
+                self.history = self
+                    .history
+                    .with(&Call(RawCall::Stored(off), &bytes[..count]));
                 return Tried::Done(count);
             }
             other => in_vain(other),
         };
-        self.history = History::with(&self.history, &call, &[]);
+        self.history = self.history.with(&Call(call, &[]));
         tried
     }
 
     /// Sets the length, or says that it could not.
     pub(crate) fn cut(&mut self, len: u64) -> bool
-        ensures { self.new.history.events ≡ (if result then event (Cut len) [] else refused) ∷ self.old.history.events }
+        ensures { self.new.history ≡ (if result then event (Cut len) [] else refused) ∷ self.old.history }
     {
         let done = self.file.set_len(len).is_ok();
         let call = if done {
@@ -134,13 +136,13 @@ impl RawFile {
         } else {
             RawCall::Refused
         };
-        self.history = History::with(&self.history, &call, &[]);
+        self.history = self.history.with(&Call(call, &[]));
         done
     }
 
     /// Waits until what was written is stored, or says that it could not.
     pub(crate) fn sync(&mut self) -> bool
-        ensures { self.new.history.events ≡ (if result then event Synced [] else refused) ∷ self.old.history.events }
+        ensures { self.new.history ≡ (if result then event Synced [] else refused) ∷ self.old.history }
     {
         let done = self.file.sync_all().is_ok();
         let call = if done {
@@ -148,7 +150,7 @@ impl RawFile {
         } else {
             RawCall::Refused
         };
-        self.history = History::with(&self.history, &call, &[]);
+        self.history = self.history.with(&Call(call, &[]));
         done
     }
 

@@ -2,7 +2,7 @@
 ghost use Rattle.std.specs.Prelude.{◌≡◌, ◌<◌, ◌≤◌, [], length, IfOk};
 ghost use Rattle.btr_rack.specs.StdOut.{NotesWrite};
 
-use crate::history::History;
+use crate::history::{Call, Events, History};
 use crate::raw_call::RawCall;
 use std::io::ErrorKind;
 
@@ -24,30 +24,32 @@ pub(crate) struct RawOut<R: Print + Drop> {
 impl<R: Print + Drop> RawOut<R> {
     /// The standard output of a runtime, which took nothing yet.
     pub(crate) fn new(rt: R) -> RawOut<R>
-        ensures { result.history.events ≡ [] }
+        ensures { result.history ≡ [] }
     {
         RawOut {
             rt,
-            history: History::new(),
+            history: History::new(&Events),
         }
     }
 
     /// Writes a first part of the bytes, and answers how many.
     pub(crate) fn write(&mut self, bytes: &[u8]) -> Result<usize, Refusal>
         ensures count { IfOk result (λ n. (0 < n) × (n ≤ length bytes.now)) }
-        ensures noted { NotesWrite bytes.now self.old.history.events self.new.history.events result }
+        ensures noted { NotesWrite bytes.now self.old.history self.new.history result }
     {
         match self.rt.write_some(bytes) {
             Ok(count) if count > 0 => {
-                self.history = History::with(&self.history, &RawCall::Stored(0), &bytes[..count]);
+                self.history = self
+                    .history
+                    .with(&Call(RawCall::Stored(0), &bytes[..count]));
                 Ok(count)
             }
             Err(error) if error.kind() == ErrorKind::Interrupted => {
-                self.history = History::with(&self.history, &RawCall::Refused, &[]);
+                self.history = self.history.with(&Call(RawCall::Refused, &[]));
                 Err(Refusal::Interrupted)
             }
             _ => {
-                self.history = History::with(&self.history, &RawCall::Refused, &[]);
+                self.history = self.history.with(&Call(RawCall::Refused, &[]));
                 Err(Refusal::Failed)
             }
         }

@@ -1,6 +1,6 @@
 // The standard output.
 ghost use Rattle.std.specs.Prelude.{◌≡◌, ◌++◌, [], ℕ, Some, true, false, take, IsTrue};
-ghost use Rattle.btr_rack.specs.CallsLaws.{unsure_calm};
+ghost use Rattle.btr_rack.specs.CallsLaws.{unsure_count_left};
 ghost use Rattle.btr_rack.specs.StdOut.{text_of};
 
 use crate::raw_out::{RawOut, Refusal};
@@ -19,7 +19,7 @@ pub struct StdOut<R: Print + Drop> {
 impl<R: Print + Drop> StdOut<R> {
     /// The standard output of a runtime.
     pub fn new(rt: R) -> StdOut<R>
-        ensures text { result.raw.history.events ≡ [] }
+        ensures text { result.raw.history ≡ [] }
         ensures faults { result.faults ≡ 0 }
     {
         StdOut {
@@ -30,11 +30,11 @@ impl<R: Print + Drop> StdOut<R> {
 }
 
 impl<R: Print + Drop> Out for StdOut<R> {
-    ghost text = { λ out. Some (text_of out.raw.history.events) };
+    ghost text = { λ out. Some (text_of out.raw.history) };
 
     ghost account = { λ out. record { faults = out.faults; sure = false; ample = true } };
 
-    ghost calm = { λ out. unsure_calm out.faults true };
+    ghost count_left = { λ out. unsure_count_left out.faults true };
 
     fn put(&mut self, bytes: &[u8]) -> Result<(), SinkError> {
         if !write_all(&mut self.raw, bytes) {
@@ -48,9 +48,9 @@ impl<R: Print + Drop> Out for StdOut<R> {
 // Writes the bytes, or says that it could not: then a first part of them went out. A write that is interrupted is made
 // again.
 fn write_all<R: Print + Drop>(raw: &mut RawOut<R>, bytes: &[u8]) -> bool
-    ensures all { IsTrue result → text_of raw.new.history.events ≡ text_of raw.old.history.events ++ bytes.now }
+    ensures all { IsTrue result → text_of raw.new.history ≡ text_of raw.old.history ++ bytes.now }
     ensures some { result ≡ false
-        → (n : ℕ) × (text_of raw.new.history.events ≡ text_of raw.old.history.events ++ take n bytes.now) }
+        → (n : ℕ) × (text_of raw.new.history ≡ text_of raw.old.history ++ take n bytes.now) }
 {
     let mut done = 0;
     let mut tries = 0;

@@ -1,33 +1,30 @@
-// What was done in a folder that is a sink. It takes no memory.
-ghost use Rattle.std.specs.Prelude.{◌≡◌};
-ghost use Rattle.std.specs.Borrow.{ftrue};
-ghost use Rattle.btr_rack.specs.Told.{Told, nothing_told, told_after};
+// What was done in a folder that is a sink.
+ghost use Rattle.btr_rack.specs.Told.{told_after};
 
 use crate::history::History;
 use crate::step::Step;
+use crate::unseen::{Change, Unseen};
 use std::marker::Model;
 
-/// The rows that the calls of the system came to. It takes no bytes, and only clauses see it.
+/// The rows that the calls of the system came to.
+pub(crate) type Trail = Unseen<Steps>;
+
+/// Nothing was done.
 #[derive(Drop)]
-pub(crate) struct Trail {
-    pub ghost told: { Told },
+pub(crate) struct Steps;
+
+impl Model for Steps {
+    ghost use Rattle.btr_rack.specs.Told.{Told, nothing_told};
+
+    ghost Value = { Told };
+
+    ghost view = { λ _. nothing_told };
 }
 
-impl Model for Trail {
-    ghost also_owns = { λ _. ftrue };
-}
+/// A step, which these calls did.
+#[derive(Drop)]
+pub(crate) struct DoneBy<'a>(pub(crate) Step, pub(crate) &'a History);
 
-impl Trail {
-    pub(crate) fn new() -> Trail
-        ensures { result.told ≡ nothing_told }
-    {
-        Trail {}
-    }
-
-    /// One more step, which these calls did.
-    pub(crate) fn with(_before: &Trail, _step: &Step, _calls: &History) -> Trail
-        ensures { result.told ≡ told_after _step.now _calls.now.events _before.now.told }
-    {
-        Trail {}
-    }
+impl<'a> Change<Steps> for DoneBy<'a> {
+    ghost after = { λ done told. told_after done.0 done.1.now told };
 }

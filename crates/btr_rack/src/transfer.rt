@@ -13,8 +13,8 @@ const TRIES_AGAIN: u64 = 16;
 /// often, or the file ends.
 pub(crate) fn fill(raw: &mut RawFile, off: u64, buf: &mut [u8]) -> bool
     requires { off + length buf.old < 2 ^ 63 }
-    ensures read { IsTrue result → Moved Read off raw.old.history.events raw.new.history.events buf.new }
-    ensures cause { result ≡ false → FallsShort Read off raw.old.history.events raw.new.history.events buf.new }
+    ensures read { IsTrue result → Moved Read off raw.old.history raw.new.history buf.new }
+    ensures cause { result ≡ false → FallsShort Read off raw.old.history raw.new.history buf.new }
 {
     let mut done = 0;
     let mut again = 0;
@@ -38,8 +38,8 @@ pub(crate) fn fill(raw: &mut RawFile, off: u64, buf: &mut [u8]) -> bool
 pub(crate) fn store(raw: &mut RawFile, off: u64, bytes: &[u8]) -> usize
     requires { off + length bytes.now < 2 ^ 64 }
     ensures count { result ≤ length bytes.now }
-    ensures stored { result ≡ length bytes.now → Moved Stored off raw.old.history.events raw.new.history.events bytes.now }
-    ensures cause { result < length bytes.now → Stops Stored off raw.old.history.events raw.new.history.events (take result bytes.now) }
+    ensures stored { result ≡ length bytes.now → Moved Stored off raw.old.history raw.new.history bytes.now }
+    ensures cause { result < length bytes.now → Stops Stored off raw.old.history raw.new.history (take result bytes.now) }
 {
     let mut done = 0;
     let mut again = 0;

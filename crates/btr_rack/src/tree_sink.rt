@@ -2,7 +2,7 @@
 ghost use Rattle.std.specs.Prelude.{◌≡◌, ◌≢◌, ◌<◌, Bool, false, [], replicate, OnOk, IfErr};
 ghost use Rattle.btr_rack.specs.Out.{CallAccount, HasCountLeft, Counts};
 ghost use Rattle.btr_rack.specs.Name.{IsGoodName};
-ghost use Rattle.btr_rack.specs.Sink.{Sink, NotStarted, BetweenFiles, InFile, is_in_file, Steps, Grows, IsSound, started, entered, left, begun, finished};
+ghost use Rattle.btr_rack.specs.Sink.{Sink, NotStarted, BetweenFiles, InFile, is_in_file, Steps, Grows, IsSoundSink, started, entered, left, begun, finished};
 
 use crate::SinkError;
 
@@ -77,8 +77,8 @@ pub trait TreeSink {
     ghost settled: { (s : Self) → is_in_file (sink s).stage ≡ false → waits s ≡ false };
 
     /// A file is unfinished exactly in a file, and nothing was written before the start.
-    ghost sound: { (s : Self) → IsSound (sink s) };
+    ghost sound: { (s : Self) → IsSoundSink (sink s) };
 
     /// The count of faults of a sure sink is below its type's last value.
-    ghost calm: { (s : Self) → HasCountLeft (account s) };
+    ghost count_left: { (s : Self) → HasCountLeft (account s) };
 }

@@ -6,7 +6,7 @@ abbrev pub invariant-loop-done : goal.invariant-loop-done
 invariant-loop-done g l = record {
   done : l.done ≤ length l.bytes;
   tries : l.tries ≤ 16;
-  text : text_of l.raw.history.events ≡ text_of l.initial.raw.history.events ++ take l.done l.bytes;
+  text : text_of l.raw.history ≡ text_of l.initial.raw.history ++ take l.done l.bytes;
 }
 
 abbrev pub decreases-loop-done : goal.decreases-loop-done

@@ -7,7 +7,7 @@ abbrev pub invariant-loop-done : goal.invariant-loop-done
 invariant-loop-done l = record {
   inside : l.done ≤ length l.buf;
   few : l.again ≤ 16;
-  moves : Moves Read l.off l.initial.raw.history.events l.again l.raw.history.events (take l.done l.buf);
+  moves : Moves Read l.off l.initial.raw.history l.again l.raw.history (take l.done l.buf);
 }
 
 abbrev pub decreases-loop-done : goal.decreases-loop-done

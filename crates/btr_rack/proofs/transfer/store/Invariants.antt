@@ -7,7 +7,7 @@ abbrev pub invariant-loop-done : goal.invariant-loop-done
 invariant-loop-done l = record {
   inside : l.done ≤ length l.bytes;
   few : l.again ≤ 16;
-  moves : Moves Stored l.off l.initial.raw.history.events l.again l.raw.history.events (take l.done l.bytes);
+  moves : Moves Stored l.off l.initial.raw.history l.again l.raw.history (take l.done l.bytes);
 }
 
 abbrev pub decreases-loop-done : goal.decreases-loop-done

@@ -15,8 +15,8 @@ returns-in-Some c =
       images = c.self.inside.images.items;
       opened = c.self.inside.opened;
       failing = c.self.inside.failing;
-      unsynced = c.self.inside.unsynced.places;
-      never_synced = c.self.inside.never_synced.places;
+      unsynced = c.self.inside.unsynced;
+      never_synced = c.self.inside.never_synced;
       account = c.self.inside.ledger;
     } in
     rw (← c.self.view_is) (cuts c.args.name.now c.args.len c.in-Some.at old c.cut_image.new.images.items c.cut_image.result answer c.cut_image.ensures)

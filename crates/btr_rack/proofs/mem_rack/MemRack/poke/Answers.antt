@@ -37,8 +37,8 @@ returns-in_default-write_image c =
       images = c.self.inside.images.items;
       opened = c.self.inside.opened;
       failing = c.self.inside.failing;
-      unsynced = c.self.inside.unsynced.places;
-      never_synced = c.self.inside.never_synced.places;
+      unsynced = c.self.inside.unsynced;
+      never_synced = c.self.inside.never_synced;
       account = c.self.inside.ledger;
     } in
     let some = c.in_default-write_image.ensures in
@@ -58,8 +58,8 @@ returns c =
       images = c.self.inside.images.items;
       opened = c.self.inside.opened;
       failing = c.self.inside.failing;
-      unsynced = c.self.inside.unsynced.places;
-      never_synced = c.self.inside.never_synced.places;
+      unsynced = c.self.inside.unsynced;
+      never_synced = c.self.inside.never_synced;
       account = c.self.inside.ledger;
     } in
     rw (← c.self.view_is)

@@ -43,9 +43,9 @@ returns-in-Some-clause-fails c =
       images = c.self.inside.images.items;
       opened = c.self.inside.opened;
       failing = c.self.inside.failing;
-      unsynced = c.self.inside.unsynced.places;
+      unsynced = c.self.inside.unsynced;
       never_synced =
-          c.self.inside.never_synced.places;
+          c.self.inside.never_synced;
       account = c.self.inside.ledger;
     }) c.args.name.now)) spared ∙ ap is_none shelved)
 
@@ -71,8 +71,8 @@ returns-in_default-place_on_shelf-clause-sure c =
       images = c.self.inside.images.items;
       opened = c.self.inside.opened;
       failing = c.self.inside.failing;
-      unsynced = c.self.inside.unsynced.places;
-      never_synced = c.self.inside.never_synced.places;
+      unsynced = c.self.inside.unsynced;
+      never_synced = c.self.inside.never_synced;
       account = c.self.inside.ledger;
     } in
     elim c.in_default-place_on_shelf.branch [

@@ -1,6 +1,6 @@
 use Rattle.std.proofs.Common.{◌≡◌, ◌<◌, ◌≤◌, ◌+◌, Some, false, inl, inr, ap, sym, ◌∙◌, subst, refl, length}
 use Rattle.btr_rack.specs.Rack.{len_of, range_in}
-use Rattle.btr_rack.specs.Memory.{MemoryRack, slots_of, is_calm}
+use Rattle.btr_rack.specs.Memory.{MemoryRack, slots_of, fails_nothing}
 use Rattle.btr_rack.proofs.Racks.{open-front, overwritten, partly, torn, tears}
 use Rattle.btr_rack.proofs.Sures.{unsyncs, as_sure, write_struck, range_struck, unsure}
 use Rattle.btr_rack.proofs.mem_rack.MemRackRack.write_at.Goals as goal
@@ -26,10 +26,10 @@ returns-then-struck-clause-rest c =
     let left = torn c.tear-tear.result c.self.inside.opened c.args.slot c.args.off
     (length c.args.bytes.now) c.self.inside.images.items c.tear_image.new.images.items c.tear_image.result front c.self.invariant range
     c.tear_image.ensures in
-    let calm : is_calm c.self.inside.failing ≡ false =
+    let failing : fails_nothing c.self.inside.failing ≡ false =
     elim c.then-struck.branch [
       | then-struck-via-then-struck w ↦ write_struck c.self.inside.failing (sym c.write-struck.ensures.strikes ∙ w.if-struck.true)
-      | then-struck-via-else-struck+then-meets w ↦ sym (ap is_calm c.write-struck.ensures.writes)
+      | then-struck-via-else-struck+then-meets w ↦ sym (ap fails_nothing c.write-struck.ensures.writes)
           ∙ range_struck c.write-struck.new.self _ (sym w.meets.ensures ∙ w.if-meets.true)
     ] in
     let old : MemoryRack =
@@ -37,8 +37,8 @@ returns-then-struck-clause-rest c =
       images = c.self.inside.images.items;
       opened = c.self.inside.opened;
       failing = c.self.inside.failing;
-      unsynced = c.self.inside.unsynced.places;
-      never_synced = c.self.inside.never_synced.places;
+      unsynced = c.self.inside.unsynced;
+      never_synced = c.self.inside.never_synced;
       account = c.self.inside.ledger;
     } in
     let new : MemoryRack =
@@ -46,12 +46,12 @@ returns-then-struck-clause-rest c =
       images = c.tear_image.new.images.items;
       opened = c.self.inside.opened;
       failing = c.write-struck.new.self;
-      unsynced = c.with-self-inside.result.places;
-      never_synced = c.self.inside.never_synced.places;
+      unsynced = c.with-self-inside.result;
+      never_synced = c.self.inside.never_synced;
       account = c.fail.new.self;
     } in
     rw (← c.self.view_is) (unsyncs (range_in c.args.slot c.args.off (length c.args.bytes.now)) old new left.2.slots
-    (ap Some (λ i n. left.2.shelf n i)) c.with-self-inside.ensures refl (as_sure old new (ap is_calm c.write-struck.ensures.writes) (inl calm)))
+    (ap Some (λ i n. left.2.shelf n i)) c.with-self-inside.ensures refl (as_sure old new (ap fails_nothing c.write-struck.ensures.writes) (inl failing)))
 
 pub returns-in_default-clause-held : goal.returns-in_default-clause-held
 returns-in_default-clause-held c =
@@ -78,8 +78,8 @@ returns-in_default-clause-rest c =
       images = c.self.inside.images.items;
       opened = c.self.inside.opened;
       failing = c.self.inside.failing;
-      unsynced = c.self.inside.unsynced.places;
-      never_synced = c.self.inside.never_synced.places;
+      unsynced = c.self.inside.unsynced;
+      never_synced = c.self.inside.never_synced;
       account = c.self.inside.ledger;
     } in
     let new : MemoryRack =
@@ -87,12 +87,12 @@ returns-in_default-clause-rest c =
       images = c.tear_image.new.images.items;
       opened = c.self.inside.opened;
       failing = c.write-struck.new.self;
-      unsynced = c.with-self-inside.result.places;
-      never_synced = c.self.inside.never_synced.places;
+      unsynced = c.with-self-inside.result;
+      never_synced = c.self.inside.never_synced;
       account = c.self.inside.ledger;
     } in
     rw (← c.self.view_is) (unsyncs (range_in c.args.slot c.args.off (length c.args.bytes.now)) old new left.2.slots
-    (ap Some (λ i n. left.2.shelf n i)) c.with-self-inside.ensures refl (as_sure old new (ap is_calm c.write-struck.ensures.writes) (inr refl)))
+    (ap Some (λ i n. left.2.shelf n i)) c.with-self-inside.ensures refl (as_sure old new (ap fails_nothing c.write-struck.ensures.writes) (inr refl)))
 
 pub returns-in_default-write_image-clause-held : goal.returns-in_default-write_image-clause-held
 returns-in_default-write_image-clause-held c =
@@ -115,8 +115,8 @@ returns-in_default-write_image-clause-rest c =
       images = c.self.inside.images.items;
       opened = c.self.inside.opened;
       failing = c.self.inside.failing;
-      unsynced = c.self.inside.unsynced.places;
-      never_synced = c.self.inside.never_synced.places;
+      unsynced = c.self.inside.unsynced;
+      never_synced = c.self.inside.never_synced;
       account = c.self.inside.ledger;
     } in
     let new : MemoryRack =
@@ -124,12 +124,12 @@ returns-in_default-write_image-clause-rest c =
       images = c.write_image.new.images.items;
       opened = c.self.inside.opened;
       failing = c.write-struck.new.self;
-      unsynced = c.with-self-inside.result.places;
-      never_synced = c.self.inside.never_synced.places;
+      unsynced = c.with-self-inside.result;
+      never_synced = c.self.inside.never_synced;
       account = c.self.inside.ledger;
     } in
     rw (← c.self.view_is) (unsyncs (range_in c.args.slot c.args.off (length c.args.bytes.now)) old new left.2.slots
-    (ap Some (λ i n. left.2.shelf n i)) c.with-self-inside.ensures refl (as_sure old new (ap is_calm c.write-struck.ensures.writes) (inr refl)))
+    (ap Some (λ i n. left.2.shelf n i)) c.with-self-inside.ensures refl (as_sure old new (ap fails_nothing c.write-struck.ensures.writes) (inr refl)))
 
 pub returns-clause-held : goal.returns-clause-held
 returns-clause-held c =
@@ -152,8 +152,8 @@ returns-clause-rest c =
       images = c.self.inside.images.items;
       opened = c.self.inside.opened;
       failing = c.self.inside.failing;
-      unsynced = c.self.inside.unsynced.places;
-      never_synced = c.self.inside.never_synced.places;
+      unsynced = c.self.inside.unsynced;
+      never_synced = c.self.inside.never_synced;
       account = c.self.inside.ledger;
     } in
     let new : MemoryRack =
@@ -161,12 +161,12 @@ returns-clause-rest c =
       images = c.write_image.new.images.items;
       opened = c.self.inside.opened;
       failing = c.write-struck.new.self;
-      unsynced = c.with-self-inside.result.places;
-      never_synced = c.self.inside.never_synced.places;
+      unsynced = c.with-self-inside.result;
+      never_synced = c.self.inside.never_synced;
       account = c.self.inside.ledger;
     } in
     rw (← c.self.view_is) (unsyncs (range_in c.args.slot c.args.off (length c.args.bytes.now)) old new left.slots (ap Some (λ i n. left.shelf n i))
-    c.with-self-inside.ensures refl (as_sure old new (ap is_calm c.write-struck.ensures.writes) (inr refl)))
+    c.with-self-inside.ensures refl (as_sure old new (ap fails_nothing c.write-struck.ensures.writes) (inr refl)))
 
 pub returns-then-struck-clause-torn : goal.returns-then-struck-clause-torn
 returns-then-struck-clause-torn c =
@@ -185,14 +185,14 @@ returns-then-struck-clause-sure c =
       images = c.self.inside.images.items;
       opened = c.self.inside.opened;
       failing = c.self.inside.failing;
-      unsynced = c.self.inside.unsynced.places;
-      never_synced = c.self.inside.never_synced.places;
+      unsynced = c.self.inside.unsynced;
+      never_synced = c.self.inside.never_synced;
       account = c.self.inside.ledger;
     } in
-    let calm : is_calm c.self.inside.failing ≡ false =
+    let failing : fails_nothing c.self.inside.failing ≡ false =
     elim c.then-struck.branch [
       | then-struck-via-then-struck w ↦ write_struck c.self.inside.failing (sym c.write-struck.ensures.strikes ∙ w.if-struck.true)
-      | then-struck-via-else-struck+then-meets w ↦ sym (ap is_calm c.write-struck.ensures.writes)
+      | then-struck-via-else-struck+then-meets w ↦ sym (ap fails_nothing c.write-struck.ensures.writes)
           ∙ range_struck c.write-struck.new.self _ (sym w.meets.ensures ∙ w.if-meets.true)
     ] in
-    rw (← c.self.view_is) (unsure old calm)
+    rw (← c.self.view_is) (unsure old failing)
