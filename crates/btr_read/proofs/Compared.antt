@@ -3,7 +3,7 @@ use Rattle.std.proofs.Common.{◌≡◌, ℕ, ◌+◌, ◌<◌, ◌≤◌, Bool,
 use Rattle.std.proofs.Common.{None, IfSome, Result, Ok, Err, refl, sym, ap, ◌∙◌, subst, arith, inl, inr}
 use Rattle.std.specs.Option.{option_and_then, option_map_or, option_or}
 use Rattle.std.proofs.lemmas.Slice.Eq.{bytes_eq-Decides}
-use Rattle.std.proofs.lemmas.List.{take_more, take_all, take-append-drop, append-nil, append_assoc, map-append, map-id}
+use Rattle.std.proofs.lemmas.List.{drop_all, take_more, take_all, take-append-drop, append-nil, append_assoc, map-append, map-id}
 use Rattle.std.proofs.lemmas.List.Elements.{filter-append}
 use Rattle.std.proofs.lemmas.List.FromFn.{map-range_with_len_more}
 use Rattle.std.proofs.lemmas.List.Sums.{fold-append}
@@ -26,16 +26,18 @@ use Rattle.btr_read.specs.Comparing.{AreAlike, AreRead, Compares, ComparesSought
 use Rattle.btr_read.specs.Comparing.{is_other, least_of, least_slot, lesser, other_of, other_slot}
 use Rattle.btr_read.proofs.Ones.{In, at_in, in_either, in_left, in_right}
 use Rattle.btr_read.proofs.ReadsOn.{same_held}
-use Rattle.btr_read.proofs.Trials.{any_before, any_last, passes_first, passing-append, telling, told}
+use Rattle.btr_read.proofs.Trials.{any_before, any_last, nothing_left, passes_first, passing-append, telling, told}
 
 -- ---- which candidates were read
 
 module _ (t : Target) (missed : List Range) where
+  -- what was read of one list of candidates and of another behind it was read of both together
   pub are_read-append : (cs ds xs ys : List Candidate) → AreRead t missed cs xs → AreRead t missed ds ys → AreRead t missed (cs ++ ds) (xs ++ ys)
   are_read-append [] ds xs ys a b = subst (λ zs. AreRead t missed ds (zs ++ ys)) (sym a) b
   are_read-append (c ∷ cs) ds xs ys (inl h) b = inl (h.0 ++ ys, ap (λ zs. zs ++ ys) h.1, are_read-append cs ds h.0 ys h.2 b)
   are_read-append (c ∷ cs) ds xs ys (inr h) b = inr (h.0, are_read-append cs ds xs ys h.1 b)
 
+  -- all candidates may have been read, whatever reads failed
   pub all_read : (cs : List Candidate) → AreRead t missed cs cs
   all_read [] = refl
   all_read (c ∷ cs) = inl (cs, refl, all_read cs)
@@ -52,17 +54,20 @@ none_left_out t [] xs a = a
 none_left_out t (c ∷ cs) xs (inl h) = h.1 ∙ ap (λ rest. c ∷ rest) (none_left_out t cs h.0 h.2)
 none_left_out t (c ∷ cs) xs (inr h) = let lt = h.0.2 in absurd (omega (arith, lt))
 
-steady_not_rose : (before now : ℕ) → Steady before now → Rose before now → ⊥
+-- a count that was steady didn't rise
+pub steady_not_rose : (before now : ℕ) → Steady before now → Rose before now → ⊥
 steady_not_rose before now steady rose = omega (arith, steady.0, steady.1, rose.0, rose.1)
 
 -- the first k candidates and one more
 take_next : (cs : List Candidate) (k : ℕ) (c : Candidate) → slice_get cs k ≡ Some c → k < length cs → take (k + 1) cs ≡ take k cs ++ c ∷ []
 take_next cs k c is lt = take_more cs k c lt ∙ ap (λ x. take k cs ++ x ∷ []) (get_or_from_slice_get cs k c c is)
 
+-- before a candidate is tried none was read
 pub none_yet : (t : Target) (rack : Seen) (P : List (List ℕ) → List Candidate → Type 0) → IfSome rack.held (λ images. P images [])
     → ReadUpTo t rack rack 0 P
-none_yet t rack P h = record { read = []; are_read = refl; holds = h; later = omega arith; calm = λ steady. refl }
+none_yet t rack P h = record { read = []; are_read = refl; holds = h; later = omega arith; misses_none = λ steady. refl }
 
+-- a fact of what is told, if anything is, gives the fact that follows from it
 mapped : {X : Type 0} (o : Option X) (P Q : X → Type 0) → ((x : X) → o ≡ Some x → P x → Q x) → IfSome o P → IfSome o Q
 mapped None P Q f h = tt
 mapped (Some x) P Q f h = f x refl h
@@ -80,7 +85,7 @@ one_read t old now after k c P Q h is lt none f =
           (are_read-append t ms (take k (candidates t)) (c ∷ []) h.read (c ∷ []) before (all_read t ms (c ∷ [])));
       holds = mapped old.held (λ images. P images h.read) (λ images. Q images (h.read ++ c ∷ [])) (λ images told p. f images told h.read p) h.holds;
       later = omega (arith, h.later, none.faults);
-      calm = λ steady. none.missed ∙ h.calm (omega (arith, steady.0, none.faults), omega (arith, steady.1, none.faults));
+      misses_none = λ steady. none.missed ∙ h.misses_none (omega (arith, steady.0, none.faults), omega (arith, steady.1, none.faults));
     }
 
 -- one more is left out, of which a read failed
@@ -102,7 +107,7 @@ one_missed t old now after k s c P h is lt fault =
           (subst (λ cs. AreRead t all cs h.read) (sym (take_next (candidates t) k c is lt)) both);
       holds = h.holds;
       later = omega (arith, h.later, one.faults.0);
-      calm = λ steady. absurd (steady_not_rose old.account.faults after.account.faults steady
+      misses_none = λ steady. absurd (steady_not_rose old.account.faults after.account.faults steady
           (omega (arith, h.later, one.faults.0), omega (arith, h.later, one.faults.1)));
     }
 
@@ -121,38 +126,30 @@ with_rest t old now k P Q h f =
           (are_read-append t ms (take k (candidates t)) rest h.read rest h.are_read (all_read t ms rest));
       holds = mapped old.held (λ images. P images h.read) (λ images. Q images (h.read ++ rest)) (λ images told p. f images h.read p) h.holds;
       later = h.later;
-      calm = h.calm;
+      misses_none = h.misses_none;
     }
 
 -- all were read
 pub up_to_all : (t : Target) (old now : Seen) (k : ℕ) (P Q : List (List ℕ) → List Candidate → Type 0) → length (candidates t) ≤ k
     → ReadUpTo t old now k P → ((images : List (List ℕ)) (cs : List Candidate) → P images cs → Q images cs)
     → ReadUpTo t old now (length (candidates t)) Q
-up_to_all t old now k P Q le h f = record {
-  read = h.read;
-  are_read = subst (λ cs. AreRead t now.account.missed cs h.read)
-      (take_all k (candidates t) le ∙ sym (take_all (length (candidates t)) (candidates t) (omega arith))) h.are_read;
-  holds = mapped old.held (λ images. P images h.read) (λ images. Q images h.read) (λ images told p. f images h.read p) h.holds;
-  later = h.later;
-  calm = h.calm;
-}
+up_to_all t old now k P Q le h f = with_rest t old now k P Q h (λ images cs p. subst (λ rest. Q images (cs ++ rest))
+    (sym (drop_all k (candidates t) le)) (subst (Q images) (sym (append-nil cs)) (f images cs p)))
 
 -- ---- blocks that differ
 
+-- no block differs from itself
 pub differ_not : (block : List ℕ) → differ block block ≡ false
 differ_not block = ap not ((bytes_eq-Decides (drop 32 block) (drop 32 block)).1 refl)
 
-and_false : (b : Bool) → (b && false) ≡ false
+pub and_false : (b : Bool) → (b && false) ≡ false
 and_false true = refl
 and_false false = refl
 
+-- the first of a list stays the first where more follow
 first_stays : (xs ys : List (List ℕ)) (x : List ℕ) → slice_get xs 0 ≡ Some x → slice_get (xs ++ ys) 0 ≡ Some x
 first_stays [] ys x e = cc
 first_stays (y ∷ xs) ys x e = e
-
-nothing_left : {X : Type 0} (xs ys : List X) → xs ++ ys ≡ [] → (xs ≡ []) × (ys ≡ [])
-nothing_left [] ys e = (refl, e)
-nothing_left (x ∷ xs) ys e = absurd (cc)
 
 module _ (images : List (List ℕ)) (t : Target) where
   -- a candidate that doesn't pass is none that differs
@@ -189,6 +186,7 @@ module _ (images : List (List ℕ)) (t : Target) where
       let parts = nothing_left (passing_of images t (c ∷ [])) (passing_of images t cs) (sym (passing-append images t (c ∷ []) cs) ∙ none) in
       ap (λ b. cond b (Some c) (find (is_other images t block) cs)) (not_other block c parts.0) ∙ none_other block cs parts.1
 
+  -- where none of some candidates differs from a block, nor one more, none of all does
   find_last : (block : List ℕ) (cs : List Candidate) (c : Candidate) → find (is_other images t block) cs ≡ None → is_other images t block c ≡ false
       → find (is_other images t block) (cs ++ c ∷ []) ≡ None
   find_last block cs c none test =
@@ -200,13 +198,19 @@ module _ (images : List (List ℕ)) (t : Target) where
   pub none_then : (c : Candidate) → passing_of images t (c ∷ []) ≡ [] → (cs : List Candidate) → NonePass t images cs → NonePass t images (cs ++ c ∷ [])
   none_then c none cs so_far = passing-append images t cs (c ∷ []) ∙ ap (λ xs. xs ++ passing_of images t (c ∷ [])) so_far ∙ none
 
-  pub alike_then : (block : List ℕ) (c : Candidate) → passing_of images t (c ∷ []) ≡ [] → (cs : List Candidate) → AreAlike t block images cs
+  -- one more that doesn't differ
+  alike_more : (block : List ℕ) (c : Candidate) → is_other images t block c ≡ false → (cs : List Candidate) → AreAlike t block images cs
       → AreAlike t block images (cs ++ c ∷ [])
-  alike_then block c none cs are = record {
+  alike_more block c test cs are = record {
     first = ap (λ xs. slice_get xs 0) (passing-append images t cs (c ∷ []))
         ∙ first_stays (passing_of images t cs) (passing_of images t (c ∷ [])) block are.first;
-    none = find_last block cs c are.none (not_other block c none);
+    none = find_last block cs c are.none test;
   }
+
+  -- one more candidate that doesn't pass leaves the others alike
+  pub alike_then : (block : List ℕ) (c : Candidate) → passing_of images t (c ∷ []) ≡ [] → (cs : List Candidate) → AreAlike t block images cs
+      → AreAlike t block images (cs ++ c ∷ [])
+  alike_then block c none = alike_more block c (not_other block c none)
 
   -- the first one that passes
   pub first_then : (block : List ℕ) (c : Candidate) → reading images t c ≡ Some block → passes t.setting t.want block ≡ true → (cs : List Candidate)
@@ -220,11 +224,7 @@ module _ (images : List (List ℕ)) (t : Target) where
   -- one more that is alike
   pub same_then : (block bytes : List ℕ) (c : Candidate) → reading images t c ≡ Some bytes → differ block bytes ≡ false → (cs : List Candidate)
       → AreAlike t block images cs → AreAlike t block images (cs ++ c ∷ [])
-  same_then block bytes c e same cs are = record {
-    first = ap (λ xs. slice_get xs 0) (passing-append images t cs (c ∷ []))
-        ∙ first_stays (passing_of images t cs) (passing_of images t (c ∷ [])) block are.first;
-    none = find_last block cs c are.none (alike_other block bytes c e same);
-  }
+  same_then block bytes c e same = alike_more block c (alike_other block bytes c e same)
 
   -- one that differs, before others
   pub other_then : (block bytes : List ℕ) (c : Candidate) → reading images t c ≡ Some bytes → passes t.setting t.want bytes ≡ true
@@ -241,6 +241,7 @@ module _ (images : List (List ℕ)) (t : Target) where
   pub alike_none : (block : List ℕ) (cs : List Candidate) → AreAlike t block images cs → other_of images t cs ≡ None
   alike_none block cs are = ap (option_and_then (λ b. find (is_other images t b) cs)) are.first ∙ are.none
 
+  -- where no candidate passes, there is none that differs from the first that does
   pub no_other : (cs : List Candidate) → NonePass t images cs → other_of images t cs ≡ None
   no_other cs none = ap (λ xs. option_and_then (λ b. find (is_other images t b) cs) (slice_get xs 0)) none
 
@@ -315,6 +316,7 @@ module _ (images : List (List ℕ)) (t : Target) where
       by None e all = ap (λ o. option_map_or (λ other. passes t.setting t.want other && differ block other) o false) e
       by (Some bytes) e all = test (passes t.setting t.want bytes) bytes refl e all
 
+  -- where all blocks that pass agree, none of the candidates that were read differs
   agree_none : (missed : List Range) (xs : List Candidate) → AreRead t missed (candidates t) xs
       → ((a b : List ℕ) → In a (passing images t) → In b (passing images t) → a ≡ b) → other_of images t xs ≡ None
   agree_none missed xs read agree = by (passing_of images t xs) refl
@@ -328,9 +330,11 @@ module _ (images : List (List ℕ)) (t : Target) where
           ap (λ blocks. option_and_then (λ b. find (is_other images t b) xs) (slice_get blocks 0)) e
           ∙ none_differs block xs (λ other i. agree block other (all block (subst (In block) (sym e) (inl refl))) (all other i))
 
+-- what is in a list stands at a place of it
 contained : (xs : List (List ℕ)) (x : List ℕ) → In x xs → Contains xs x
 contained xs x i = at_in x xs i
 
+-- where the candidates of what is sought agree, comparing them answers no slot
 agree_of : (images : List (List ℕ)) (old new : Seen) (s : Result Target Fault) (slot : Option ℕ) → old.held ≡ Some images
     → ((a b : List ℕ) → Contains (passing_for images s) a → Contains (passing_for images s) b → a ≡ b)
     → ComparesSought s old new slot → slot ≡ None
@@ -345,18 +349,20 @@ pub compares_agreed : (images : List (List ℕ)) (layout : Layout) (want : Want)
     → Agree images layout want → Compares layout want old new slot → slot ≡ None
 compares_agreed images layout want old new slot told agree h = agree_of images old new (sought layout want) slot told agree h
 
+-- where no count rose, comparing the candidates of what is sought answers just where they don't agree
 steady_of : (images : List (List ℕ)) (old new : Seen) (s : Result Target Fault) (slot : Option ℕ) → old.held ≡ Some images
     → Steady old.account.faults new.account.faults → ComparesSought s old new slot → slot ≡ disagreeing_of images s
 steady_of images old new (Err fault) slot told steady h = h
 steady_of images old new (Ok t) slot told steady h =
     telling old.held (λ images. slot ≡ other_slot images t h.read) h.is_other images told
-    ∙ ap (other_slot images t) (none_left_out t (candidates t) h.read (subst (λ m. AreRead t m (candidates t) h.read) (h.calm steady) h.are_read))
+    ∙ ap (other_slot images t) (none_left_out t (candidates t) h.read (subst (λ m. AreRead t m (candidates t) h.read) (h.misses_none steady) h.are_read))
 
 -- where no count rose all are compared
 pub compares_steady : (images : List (List ℕ)) (layout : Layout) (want : Want) (old new : Seen) (slot : Option ℕ) → old.held ≡ Some images
     → Steady old.account.faults new.account.faults → Compares layout want old new slot → slot ≡ disagreeing images layout want
 compares_steady images layout want old new slot told steady h = steady_of images old new (sought layout want) slot told steady h
 
+-- where the candidates of what is sought agree, there is no slot by which they don't
 disagree_agreed_of : (images : List (List ℕ)) (s : Result Target Fault)
     → ((a b : List ℕ) → Contains (passing_for images s) a → Contains (passing_for images s) b → a ≡ b) → disagreeing_of images s ≡ None
 disagree_agreed_of images (Err fault) agree = refl
@@ -380,12 +386,13 @@ compares_before layout want old now new slot reads h = by (sought layout want) h
       are_read = h.are_read;
       is_other = subst (λ o. IfSome o (λ images. slot ≡ other_slot images t h.read)) (same_held reads) h.is_other;
       of_one = h.of_one;
-      calm = λ steady. h.calm (omega (arith, steady.0, reads.later), steady.1);
+      misses_none = λ steady. h.misses_none (omega (arith, steady.0, reads.later), steady.1);
     }
 
 -- ---- the smallest slot
 
 module _ (t : Target) (first least least' : Option ℕ) (candidate : Candidate) (slice : ℕ) where
+  -- of one more slice the candidate reads those it read before, and that slice if it is one that it reads
   slices_more : slices_read (slice + 1) t.at.index candidate ≡ slices_read slice t.at.index candidate ++ map Slice
       (cond (reads_slice t.at.index candidate slice) (slice ∷ []) [])
   slices_more =
@@ -396,6 +403,7 @@ module _ (t : Target) (first least least' : Option ℕ) (candidate : Candidate) 
       ap (λ xs. map Slice (filter p xs)) more ∙ ap (map Slice) (filter-append p (range_with_len 0 slice) (slice ∷ []))
       ∙ map-append Slice (filter p (range_with_len 0 slice)) (filter p (slice ∷ []))
 
+  -- the smallest slot with one more slice comes of the smallest before and of that slice, if it is read
   least_more : least ≡ least_of t first (slices_read slice t.at.index candidate)
       → least_of t first (slices_read (slice + 1) t.at.index candidate) ≡ least_of t least
       (map Slice (cond (reads_slice t.at.index candidate slice) (slice ∷ []) []))
@@ -418,6 +426,7 @@ module _ (t : Target) (first least least' : Option ℕ) (candidate : Candidate) 
 -- ---- what comparing answers, where the rack was told to forget before
 
 module _ (t : Target) (old mid new : Seen) (forgot : mid ≡ record old { account = forgotten old.account }) where
+  -- a fact of the candidates that were read makes the answer, if it gives the slot and the slot is one that a candidate reads
   compared_by : (slot : Option ℕ) (P : List (List ℕ) → List Candidate → Type 0) → ReadUpTo t mid new (length (candidates t)) P
       → ((images : List (List ℕ)) (cs : List Candidate) → P images cs → slot ≡ other_slot images t cs)
       → IfSome slot (λ s. Any (λ c. (stands t c ≡ true) × (least_slot t c ≡ Some s)) (candidates t)) → IsCompared t old new slot
@@ -431,7 +440,7 @@ module _ (t : Target) (old mid new : Seen) (forgot : mid ≡ record old { accoun
         is_other = mapped old.held (λ images. P images h.read) (λ images. slot ≡ other_slot images t h.read) (λ images told p. f images h.read p)
             (subst (λ o. IfSome o (λ images. P images h.read)) held h.holds);
         of_one = one;
-        calm = λ steady. h.calm (omega (arith, steady.0, faults), steady.1) ∙ missed;
+        misses_none = λ steady. h.misses_none (omega (arith, steady.0, faults), steady.1) ∙ missed;
       }
 
   -- none differs
@@ -448,6 +457,7 @@ module _ (t : Target) (old mid new : Seen) (forgot : mid ≡ record old { accoun
       compared_by slot (λ images cs. other_of images t cs ≡ Some h.candidate) h.other
       (λ images cs e. is ∙ sym (ap (option_and_then (least_slot t)) (e ∙ same))) (one slot is standing)
     where
+      -- the slot, if one is answered, is the smallest that a candidate that stands reads
       one : (slot : Option ℕ) → slot ≡ least_slot t c → stands t c ≡ true
           → IfSome slot (λ s. Any (λ c. (stands t c ≡ true) × (least_slot t c ≡ Some s)) (candidates t))
       one None e standing = tt
@@ -461,5 +471,5 @@ module _ (t : Target) (old mid new : Seen) (forgot : mid ≡ record old { accoun
     is_other = told old.held (λ images. None ≡ other_slot images t (candidates t))
         (λ images e. sym (ap (option_and_then (least_slot t)) (only_one images t (candidates t) few)));
     of_one = tt;
-    calm = λ steady. ap (λ (s : Seen). s.account.missed) still ∙ ap (λ (s : Seen). s.account.missed) forgot;
+    misses_none = λ steady. ap (λ (s : Seen). s.account.missed) still ∙ ap (λ (s : Seen). s.account.missed) forgot;
   }

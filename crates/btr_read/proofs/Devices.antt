@@ -12,9 +12,11 @@ use Rattle.btr_read.specs.Layout.{IsOpen, AreOpen, HaveOwnSlots, device_in}
 pub open_none : (slots : List Slot) → AreOpen slots []
 open_none slots devid device e = cc
 
+-- where there are no devices, no slot is that of two
 pub own_none : HaveOwnSlots []
 own_none d e a b first second same = cc
 
+-- what follows for a search behind a member follows for the search from that member on
 in_either : (b : Bool) (x o p y : Option Device) (P : Type 0) → (o ≡ y → (p ≡ y) ⊎ P) → cond b x o ≡ y → (cond b x p ≡ y) ⊎ P
 in_either true x o p y P f e = inl e
 in_either false x o p y P f e = f e
@@ -30,6 +32,7 @@ in_last [] m d a e = by (nat_eq m.devid d) refl e
 in_last (x ∷ members) m d a e = in_either (nat_eq x.devid d) (Some x.device) (device_in (members ++ m ∷ []) d) (device_in members d) (Some a)
     ((m.devid ≡ d) × (m.device ≡ a)) (in_last members m d a) e
 
+-- devices stay open with one more that is open
 pub open_more : (slots : List Slot) (members : List Member) (m : Member) → AreOpen slots members → IsOpen slots m.device → AreOpen slots (members ++ m ∷ [])
 open_more slots members m are one devid device e = elim (in_last members m devid device e) [
   | inl h ↦ are devid device h
@@ -59,6 +62,7 @@ module _ (slot : ℕ) where
   abbrev pub lies_there : Member → Bool
   lies_there m = nat_eq m.device.slot slot
 
+  -- where no member lies in the slot, no device of theirs has it
   pub lacks_slot : (members : List Member) → list_any lies_there members ≡ false → (d : ℕ) (a : Device) → device_in members d ≡ Some a → a.slot ≢ slot
   lacks_slot [] none d a e = cc
   lacks_slot (x ∷ members) none d a e =

@@ -1,5 +1,5 @@
 -- What a fetch answers and leaves.
-use Rattle.std.proofs.Common.{◌≡◌, ℕ, ◌≤◌, List, take, get_or, Option, Some, None, IsSomeAnd, IsSome, Result, Ok, Err, IfOk, refl, sym, ap, subst, arith}
+use Rattle.std.proofs.Common.{◌≡◌, ℕ, ◌≤◌, List, take, get_or, Option, Some, None, IsSomeAnd, IsSome, Result, Ok, Err, IfOk, refl, sym, ap, ◌∙◌, subst, arith}
 use Rattle.std.specs.Option.{is_some}
 use Rattle.btr_chunk.specs.declared.chunk.Chunk.{Chunk}
 use Rattle.btr_chunk.specs.declared.position.Elements.{Elements}
@@ -31,6 +31,7 @@ pub record IsOf (layout : Layout) (want : Want) (t : Target) : Type 0 where
   pub setting_is : t.setting ≡ layout.setting
   pub devices_is : t.devices ≡ layout.devices
 
+-- what is sought at a position of a chunk has the want, and the setting and the devices of the layout
 of_at : (layout : Layout) (want : Want) (t : Target) (chunk : Chunk) (r : Result Elements MapFault) → sought_at layout want chunk r ≡ Ok t → IsOf layout want t
 of_at layout want t chunk (Err map_fault.Unmapped) e = cc
 of_at layout want t chunk (Err map_fault.Crosses) e = cc
@@ -38,10 +39,12 @@ of_at layout want t chunk (Ok at) e =
     let same : record { want = want; setting = layout.setting; chunk = chunk; at = at; devices = layout.devices } ≡ t = cc in
     subst (IsOf layout want) same (record { want_is = refl; setting_is = refl; devices_is = refl })
 
+-- what is sought in a chunk has the want, and the setting and the devices of the layout
 of_in : (layout : Layout) (want : Want) (t : Target) (o : Option Chunk) → sought_in layout want o ≡ Ok t → IsOf layout want t
 of_in layout want t None e = cc
 of_in layout want t (Some chunk) e = of_at layout want t chunk (elements_of chunk (addr_of want) (len_of layout.setting want)) e
 
+-- what is sought for a want has that want, and the setting and the devices of the layout
 pub sought_of : (layout : Layout) (want : Want) (t : Target) → sought layout want ≡ Ok t → IsOf layout want t
 sought_of layout want t e = of_in layout want t (chunk_at layout.chunks (addr_of want)) e
 
@@ -59,6 +62,18 @@ len_fits setting (Tree addr generation level) h = omega arith
 len_fits setting (Block addr) h = omega arith
 len_fits setting (Sector addr sum) h = h
 len_fits setting (Plain addr) h = h
+
+-- what is sought is as long as its want
+pub sought_size : (layout : Layout) (want : Want) (t : Target) (setting : Setting) → layout.setting ≡ setting → sought layout want ≡ Ok t
+    → size_of t ≡ len_of setting want
+sought_size layout want t setting same seeks =
+    let is = sought_of layout want t seeks in
+    ap (λ s. len_of s t.want) (is.setting_is ∙ same) ∙ ap (len_of setting) is.want_is
+
+-- what is sought fits a slot
+pub sought_fits : (layout : Layout) (want : Want) (t : Target) (pool : Slots) (setting : Setting) → layout.setting ≡ setting → sought layout want ≡ Ok t
+    → IsStore pool setting → size_of t ≤ pool.size
+sought_fits layout want t pool setting same seeks is = omega (arith, sought_size layout want t setting same seeks, len_fits setting want is.large, is.size)
 
 -- a want is no shorter than a sector
 len_large : (setting : Setting) (want : Want) → 4096 ≤ setting.nodesize → 4096 ≤ len_of setting want

@@ -3,7 +3,7 @@ use Rattle.std.proofs.Common.{◌≡◌, ℕ, ◌≤◌, true, List, [], ◌∷�
 use Rattle.std.proofs.Common.{◌∙◌, subst, arith, inl, inr}
 use Rattle.std.specs.List.{All, Any as AnyOf, Contains}
 use Rattle.std.specs.Result.{is_ok}
-use Rattle.btr_prog.specs.Calls.{Sure, First, Any, Calls}
+use Rattle.btr_prog.specs.Calls.{Sure, First, Any}
 use Rattle.btr_prog.specs.Calls as calls
 use Rattle.btr_rack.specs.Rack.{Seen, Steady, OnlyReads, forgotten}
 use Rattle.btr_read.specs.declared.fault.ReadFault.{ReadFault}
@@ -15,7 +15,7 @@ use Rattle.btr_read.specs.Candidates.{Target, candidates, stands}
 use Rattle.btr_read.specs.Fate.{Fault, Unmapped, Crosses, Lost, sought, passing, passing_for, or_lost, fate_of, fate, Agree, IsTested}
 use Rattle.btr_rack.specs.declared.place.Place.{Place as Range}
 use Rattle.btr_read.specs.Cause.{IsOf, LastOf, Passes, IsUnread}
-use Rattle.btr_read.specs.Attempt.{IsFirst, IsLater}
+use Rattle.btr_read.specs.Attempt.{IsFirstPassing, IsLater}
 use Rattle.btr_read.specs.Reading.{AgreedOn, OnMap, shown}
 use Rattle.btr_read.specs.Serves.{IsKept}
 use Rattle.btr_read.specs.Store.{Blocks, Lent, block_of}
@@ -28,10 +28,12 @@ use Rattle.btr_read.proofs.Trials.{told, telling}
 abbrev pub forgot : Seen → Seen
 forgot seen = record seen { account = forgotten seen.account }
 
+-- a list that contains something has a first entry, which it contains
 first_there : (xs : List (List ℕ)) (bytes : List ℕ) → Contains xs bytes → (first : List ℕ) × (slice_get xs 0 ≡ Some first) × Contains xs first
 first_there [] bytes h = absurd (omega (arith, h.1))
 first_there (x ∷ xs) bytes h = (x, refl, (0, omega arith, refl))
 
+-- a list contains its first entry
 contains_first : (xs : List (List ℕ)) (bytes : List ℕ) → slice_get xs 0 ≡ Some bytes → Contains xs bytes
 contains_first [] bytes e = cc
 contains_first (x ∷ xs) bytes e = let same : x ≡ bytes = cc in (0, omega arith, same)
@@ -54,7 +56,7 @@ kept_fetched layout want old new bytes h = record {
   stand = told old.held (λ images. Contains (passing_for images (sought layout want)) bytes)
       (λ images tells. fate_passes images (addr_of want) (sought layout want) bytes
       (telling old.held (λ images. fate images layout want ≡ Ok bytes) h.fate images tells));
-  first = λ calm. h.fate;
+  first = λ steady. h.fate;
   agreed = told old.held (λ images. Agree images layout want → fate images layout want ≡ Ok bytes)
       (λ images tells agree. telling old.held (λ images. fate images layout want ≡ Ok bytes) h.fate images tells);
 }
@@ -75,35 +77,44 @@ kept_last layout want old new e = (
 -- what is sought is found between a rack's two states `mid` and `after`, and before and behind these it is told to forget
 module _ (layout : Layout) (want : Want) (t : Target) (old mid after new : Seen) (seeks : sought layout want ≡ Ok t) (begin : mid ≡ forgot old)
     (end : new ≡ forgot after) where
+  -- forgetting before the search changes no image that is told
   held_mid : mid.held ≡ old.held
   held_mid = ap (λ (s : Seen). s.held) begin
 
+  -- forgetting before the search leaves the count of faults
   faults_mid : mid.account.faults ≡ old.account.faults
   faults_mid = ap (λ (s : Seen). s.account.faults) begin
 
+  -- forgetting behind the search leaves the count of faults
   faults_new : new.account.faults ≡ after.account.faults
   faults_new = ap (λ (s : Seen). s.account.faults) end
 
+  -- bytes that pass for what is sought pass for the want
   pass_is : (bytes : List ℕ) → passes t.setting t.want bytes ≡ true → passes layout.setting want bytes ≡ true
   pass_is bytes test =
       let is = sought_of layout want t seeks in
       subst (λ s. passes s want bytes ≡ true) is.setting_is (subst (λ w. passes t.setting w bytes ≡ true) is.want_is test)
 
   module _ (bytes : List ℕ) where
+    -- the bytes are those of the first candidate that stands and passes
     abbrev leads : List (List ℕ) → Type 0
     leads images = slice_get (passing images t) 0 ≡ Some bytes
 
+    -- the bytes are among those of the candidates that stand and pass
     abbrev among : List (List ℕ) → Type 0
     among images = Contains (passing images t) bytes
 
+    -- the first bytes that pass are the want's fate
     fate_is : IfSome mid.held leads → IfSome old.held (λ images. fate images layout want ≡ Ok bytes)
     fate_is h = told old.held (λ images. fate images layout want ≡ Ok bytes)
         (λ images tells. ap (fate_of images (addr_of want)) seeks ∙ ap (or_lost (addr_of want)) (telling mid.held leads h images (held_mid ∙ tells)))
 
+    -- bytes that pass for what is sought are among those that pass for the want
     stands_for : IfSome mid.held among → IfSome old.held (λ images. Contains (passing_for images (sought layout want)) bytes)
     stands_for h = told old.held (λ images. Contains (passing_for images (sought layout want)) bytes)
         (λ images tells. subst (λ s. Contains (passing_for images s) bytes) (sym seeks) (telling mid.held among h images (held_mid ∙ tells)))
 
+    -- where all bytes that pass are equal, any of them are the want's fate
     agreed_is : IfSome mid.held among → IfSome old.held (λ images. Agree images layout want → fate images layout want ≡ Ok bytes)
     agreed_is h = told old.held (λ images. Agree images layout want → fate images layout want ≡ Ok bytes) (λ images tells agree.
         let there = telling mid.held among h images (held_mid ∙ tells) in
@@ -113,40 +124,44 @@ module _ (layout : Layout) (want : Want) (t : Target) (old mid after new : Seen)
         let same : one.0 ≡ bytes = agree one.0 bytes (for one.0 one.2) (for bytes there) in
         ap (fate_of images (addr_of want)) seeks ∙ ap (or_lost (addr_of want)) (one.1 ∙ ap Some same))
 
+    -- the first bytes that pass are among those that do
     among_first : IfSome mid.held leads → IfSome mid.held among
     among_first h = told mid.held among (λ images tells. contains_first (passing images t) bytes (telling mid.held leads h images tells))
 
     -- the first that passes
-    pub first_fetched : IsFirst t mid after bytes → IsFetched layout want old new bytes
+    pub first_fetched : IsFirstPassing t mid after bytes → IsFetched layout want old new bytes
     first_fetched h = record {
       pass = pass_is bytes h.pass;
       stand = stands_for (among_first h.first);
-      first = λ calm. fate_is h.first;
+      first = λ steady. fate_is h.first;
       agreed = agreed_is (among_first h.first);
     }
 
     -- it may be kept
-    pub first_kept : IsFirst t mid after bytes → IsKept layout old.held (record { want = want; bytes = bytes })
+    pub first_kept : IsFirstPassing t mid after bytes → IsKept layout old.held (record { want = want; bytes = bytes })
     first_kept h = record { sought = ap is_ok seeks; pass = pass_is bytes h.pass; fate = fate_is h.first }
 
     -- one that passes after a read that failed
-    pub not_calm : IsLater t mid after bytes → Steady old.account.faults new.account.faults → ⊥
-    not_calm h calm = omega (arith, h.rose.0, h.rose.1, calm.0, calm.1, faults_mid, faults_new)
+    pub not_steady : IsLater t mid after bytes → Steady old.account.faults new.account.faults → ⊥
+    not_steady h steady = omega (arith, h.rose.0, h.rose.1, steady.0, steady.1, faults_mid, faults_new)
 
+    -- bytes that passed after a failed read are what a fetch may answer
     pub later_fetched : IsLater t mid after bytes → IsFetched layout want old new bytes
     later_fetched h = record {
       pass = pass_is bytes h.pass;
       stand = stands_for h.stand;
-      first = λ calm. absurd (not_calm h calm);
+      first = λ steady. absurd (not_steady h steady);
       agreed = agreed_is h.stand;
     }
 
-    pub first_last : IsFirst t mid after bytes → IfOk (sought layout want) (λ t. LastOf t old.account new.account)
+    -- where no read failed, the last failed call is the one before
+    pub first_last : IsFirstPassing t mid after bytes → IfOk (sought layout want) (λ t. LastOf t old.account new.account)
     first_last h = subst (λ s. IfOk s (λ t. LastOf t old.account new.account)) (sym seeks) (inl (
       ap (λ (s : Seen). s.account.last) end ∙ h.none.last ∙ ap (λ (s : Seen). s.account.last) begin,
       ap (λ (s : Seen). s.account.opening) end ∙ h.none.opening ∙ ap (λ (s : Seen). s.account.opening) begin,
     ))
 
+    -- where a read failed, the last failed call lies in a range of a candidate that stands
     pub later_last : IsLater t mid after bytes → IfOk (sought layout want) (λ t. LastOf t old.account new.account)
     later_last h =
         let last : new.account.last ≡ after.account.last = ap (λ (s : Seen). s.account.last) end in
@@ -189,14 +204,17 @@ module _ (layout : Layout) (want : Want) (t : Target) (old mid after new : Seen)
 
 -- ---- as calls
 
-map_some : {X : Type 0} (o : Option X) (P Q : X → Type 0) → ((x : X) → P x → Q x) → IfSome o P → IfSome o Q
+-- a fact of what may be there gives the fact that follows from it
+pub map_some : {X : Type 0} (o : Option X) (P Q : X → Type 0) → ((x : X) → P x → Q x) → IfSome o P → IfSome o Q
 map_some None P Q f p = tt
 map_some (Some x) P Q f p = f x p
 
-if_all : {X : Type 0} (o : Option X) (P : X → Type 0) → ((x : X) → P x) → IfSome o P
+-- what holds of all holds of what may be there
+pub if_all : {X : Type 0} (o : Option X) (P : X → Type 0) → ((x : X) → P x) → IfSome o P
 if_all None P f = tt
 if_all (Some x) P f = f x
 
+-- the bytes that were fetched for a tested want are its fate, where no count rose or all candidates agree
 known : (layout : Layout) (want : Want) (old new : Seen) (bytes : List ℕ) → IsTested want → IsFetched layout want old new bytes → (sure : Sure)
     → calls.CanTell (AgreedOn layout) sure (shown old) (shown new) → IfSome old.held (λ images. fate images layout want ≡ Ok bytes)
 known layout want old new bytes tested f First s = f.first (omega (arith, s.0), s.1)
@@ -216,6 +234,7 @@ calls_of layout want old new store result reads fits tested = record {
   content = content result fits;
 }
   where
+    -- the bytes of the loan are those of the block map, so far as the call can tell
     bytes_came : (loan : Lent) (o : Option (List ℕ)) → block_of store loan ≡ o → IsSomeAnd o (IsFetched layout want old new) → (sure : Sure)
         → calls.CanTell (AgreedOn layout) sure (shown old) (shown new) → OnMap layout (AnswersOf want store (Ok loan)) sure old.held
     bytes_came loan None e h sure s = absurd h
@@ -223,6 +242,7 @@ calls_of layout want old new store result reads fits tested = record {
         (λ images. AnswersOf want store (Ok loan) (fate images layout))
         (λ images is. subst (λ o. IsSomeAnd o (λ block. fate images layout want ≡ Ok block)) (sym e) is) (known layout want old new block tested h sure s)
 
+    -- each answer of a fetch is that of the block map, so far as the call can tell
     content : (result : Result Lent ReadFault) → FitsFetch layout want old new store result → (sure : Sure)
         → calls.CanTell (AgreedOn layout) sure (shown old) (shown new) → OnMap layout (AnswersOf want store result) sure old.held
     content (Ok loan) f sure s = bytes_came loan (block_of store loan) refl f.1 sure s

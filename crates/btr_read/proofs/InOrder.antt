@@ -25,12 +25,14 @@ length-others k i lt =
     let above = length-range_with_len (i + 1) (k - (i + 1)) in
     omega (arith, all, below, above, lt)
 
+-- below the slice that is sought each other slice stands at its own number
 pub others_below : (k i j d : ℕ) → j < i → get_or (others k i) j d ≡ j
 others_below k i j d lt =
     let left = get_or_append_left (range_with_len 0 i) (range_with_len (i + 1) (k - (i + 1))) d j (omega (arith, lt, length-range_with_len 0 i)) in
     let at = get_or-range_with_len 0 i j d lt in
     omega (arith, left, at)
 
+-- from the slice that is sought on each other slice stands one place before its number
 pub others_above : (k i j d : ℕ) → i ≤ j → j + 1 < k → get_or (others k i) j d ≡ j + 1
 others_above k i j d le lt =
     let right = get_or-append_right (range_with_len 0 i) (range_with_len (i + 1) (k - (i + 1))) i j d (length-range_with_len 0 i) le in
@@ -54,6 +56,7 @@ pair_at k i n j other lt is below e =
 pub with_p : (t : Target) → t.chunk.profile ≡ Raid5 → ways t ≡ rebuilt Raid5 (length t.chunk.stripes - 1) t.at.index
 with_p t e = ap (λ p. option_map_or copies (mirror_count p (length t.chunk.stripes)) (rebuilt p (data_count p (length t.chunk.stripes)) t.at.index)) e
 
+-- with P and Q the ways are those of a row with two slices fewer than stripes
 pub with_p_and_q : (t : Target) → t.chunk.profile ≡ Raid6 → ways t ≡ rebuilt Raid6 (length t.chunk.stripes - 2) t.at.index
 with_p_and_q t e = ap (λ p. option_map_or copies (mirror_count p (length t.chunk.stripes)) (rebuilt p (data_count p (length t.chunk.stripes)) t.at.index)) e
 
@@ -61,9 +64,11 @@ with_p_and_q t e = ap (λ p. option_map_or copies (mirror_count p (length t.chun
 pub is_slice : (t : Target) (p : Profile) → IsTarget t.setting t.chunk t.at → t.chunk.profile ≡ p → t.at.index < data_count p (length t.chunk.stripes)
 is_slice t p h e = subst (λ p. t.at.index < data_count p (length t.chunk.stripes)) e h.position.index
 
+-- the slice that is sought is there, so a part that is this slice is
 slice_there : (p : Profile) (n i : ℕ) (part : Part) → HasPart p n (Slice i) → part ≡ Slice i → HasPart p n part
 slice_there p n i part h e = subst (HasPart p n) (sym e) h
 
+-- a candidate for the slice that is sought in a row with P can be tried
 pub can_try_one : (t : Target) (c : Candidate) → IsTarget t.setting t.chunk t.at → t.chunk.profile ≡ Raid5 → IsOneParity t.at.index c → CanTry t c
 can_try_one t (Read part) h e is = slice_there t.chunk.profile (length t.chunk.stripes) t.at.index part
     (subst (λ p. HasPart p (length t.chunk.stripes) (Slice t.at.index)) (sym e) (refl, is_slice t Raid5 h e)) is
@@ -71,6 +76,7 @@ can_try_one t ByP h e is = subst (λ p. IsNone (mirror_count p (length t.chunk.s
 can_try_one t ByQ h e is = absurd is
 can_try_one t (ByBoth j) h e is = absurd is
 
+-- a candidate for the slice that is sought in a row with P and Q can be tried
 pub can_try_two : (t : Target) (c : Candidate) → IsTarget t.setting t.chunk t.at → t.chunk.profile ≡ Raid6
     → IsTwoParities (length t.chunk.stripes - 2) t.at.index c → CanTry t c
 can_try_two t (Read part) h e is = slice_there t.chunk.profile (length t.chunk.stripes) t.at.index part
@@ -83,6 +89,7 @@ can_try_two t (ByBoth j) h e is = (e, subst (λ p. j < data_count p (length t.ch
 pub second_is_p : (t : Target) → t.chunk.profile ≡ Raid6 → (d : Candidate) → get_or (ways t) 1 d ≡ ByP
 second_is_p t e d = ap (λ cs. get_or cs 1 d) (with_p_and_q t e)
 
+-- with P and Q the third way is by Q
 pub third_is_q : (t : Target) → t.chunk.profile ≡ Raid6 → (d : Candidate) → get_or (ways t) 2 d ≡ ByQ
 third_is_q t e d = ap (λ cs. get_or cs 2 d) (with_p_and_q t e)
 

@@ -8,6 +8,7 @@ use Rattle.btr_read.specs.Cause.{ReadFailed}
 pub none_failed : (a : Account) → NoneFailed a a
 none_failed a = record { faults = refl; fresh = refl; missed = refl; last = refl; opening = refl; shut = refl }
 
+-- where no call failed and then again none, none failed in all
 pub none_more : (a b c : Account) → NoneFailed a b → NoneFailed b c → NoneFailed a c
 none_more a b c h g = record {
   faults = g.faults ∙ h.faults;

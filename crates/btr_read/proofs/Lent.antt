@@ -1,5 +1,5 @@
 -- Loans of a store, from call to call.
-use Rattle.std.proofs.Common.{◌≡◌, ◌≢◌, ℕ, ◌+◌, ◌<◌, cond, List, length, get_or, set, count_by, Option, Some, None, IsSome, refl, sym, ap, ◌∙◌, subst}
+use Rattle.std.proofs.Common.{◌≡◌, ℕ, ◌+◌, ◌<◌, cond, List, length, get_or, set, count_by, Option, Some, None, IsSome, refl, sym, ap, ◌∙◌, subst}
 use Rattle.std.proofs.Common.{arith, inl, inr}
 use Rattle.std.proofs.lemmas.Bool.{cases_lt, false≢true}
 use Rattle.std.proofs.lemmas.List.Sums.{sum_by-set}
@@ -26,19 +26,23 @@ given_back old new want loan t = record {
       ∙ set-get_or old.loans loan.slot None;
 }
 
+-- how much a slot counts among the free ones: one without a loan, nothing with one
 abbrev counts : Option (List ℕ) → ℕ
 counts o = cond (is_none o) 1 0
 
+-- a slot with a loan doesn't count as free
 counts_some : (o : Option (List ℕ)) → IsSome o → counts o ≡ 0
 counts_some None h = absurd (false≢true h)
 counts_some (Some x) h = refl
 
+-- a slot with a loan is one of the store's
 below : (loans : List (Option (List ℕ))) (k : ℕ) → IsSome (get_or loans k None) → k < length loans
 below loans k h = elim (cases_lt k (length loans)) [
   | inl lt ↦ lt
   | inr past ↦ absurd (false≢true (subst IsSome (get_or_past loans k None past) h))
 ]
 
+-- where a loan goes, one more slot is without
 count_given : (loans : List (Option (List ℕ))) (k : ℕ) → IsSome (get_or loans k None) → count_by is_none (set loans k None) ≡ count_by is_none loans + 1
 count_given loans k h =
     omega (arith, counts_some (get_or loans k None) h, sum_by-set counts loans k None None (below loans k h))

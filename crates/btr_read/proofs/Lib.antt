@@ -23,3 +23,4 @@ pub mod Rebuilt
 pub mod Values
 pub mod Order
 pub mod Rows
+pub mod Taken

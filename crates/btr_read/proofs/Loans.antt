@@ -22,9 +22,11 @@ blocks chunks devices setting loans kept = record { layout = record { chunks = c
 pub loan_there : (pool : Slots) (k : ℕ) → k < length pool.lent → get_or (loans_of pool) k None ≡ loan_at pool k
 loan_there pool k lt = get_or-map-range_with_len (loan_at pool) 0 (length pool.lent) k k None lt (omega arith)
 
+-- each slot has an entry among the loans
 pub length-loans : (pool : Slots) → length (loans_of pool) ≡ length pool.lent
 length-loans pool = length-map-range_with_len (loan_at pool) 0 (length pool.lent)
 
+-- a loan's bytes are there only where the slot is lent
 lent_if : (b : Bool) (bytes : List ℕ) → IsSome (cond b (Some bytes) None) → b ≡ true
 lent_if true bytes h = refl
 lent_if false bytes h = absurd (false≢true h)
@@ -68,6 +70,7 @@ loans_taken p0 p2 k whole free writes =
     same_if true x y h = ap Some (h refl)
     same_if false x y h = refl
 
+    -- the loan of every other slot is as it was
     other_loan : (j : ℕ) → j ≢ k → loan_at p2 j ≡ loan_at p0 j
     other_loan j ne =
         let lent : get_or p2.lent j false ≡ get_or p0.lent j false =

@@ -1,14 +1,14 @@
 -- Which of the blocks that are kept are known to be good nodes.
-use Rattle.std.proofs.Common.{◌≡◌, ℕ, zero, suc, Bool, true, false, List, [], ◌∷◌, length, take, get_or, set, Option, Some, None, IsSome, refl, sym, ap, ◌∙◌}
+use Rattle.std.proofs.Common.{◌≡◌, ℕ, zero, suc, Bool, true, false, List, [], ◌∷◌, take, get_or, set, Option, Some, None, IsSome, refl, sym, ap, ◌∙◌}
 use Rattle.std.proofs.Common.{subst, inl, inr, arith}
 use Rattle.std.proofs.lemmas.Bool.{cases_eq, false≢true}
-use Rattle.std.proofs.lemmas.List.{get_or-set_other, length-set}
-use Rattle.btr_pool.specs.Slots.{Slots, with_lent, with_free}
+use Rattle.std.proofs.lemmas.List.{get_or-set_other}
+use Rattle.btr_pool.specs.Slots.{Slots}
 use Rattle.btr_read.specs.declared.setting.Setting.{Setting}
 use Rattle.btr_read.specs.declared.want.Want.{Want}
 use Rattle.btr_read.specs.Finding.{SameShape}
 use Rattle.btr_read.specs.Store.{AreNodes, IsNode, IsSound, IsStore}
-use Rattle.btr_read.specs.Writing.{OnlyWrites, StillKept, StillNodes}
+use Rattle.btr_read.specs.Writing.{StillKept, StillNodes}
 
 -- what is still known to be a good node is one
 pub still_nodes : (wants wants' : List (Option Want)) (nodes nodes' : List Bool) (p p' : Slots) (size : ℕ) → StillNodes wants nodes wants' nodes' p p'
@@ -24,6 +24,7 @@ nodes_with wants wants' nodes nodes' p p' still e j w is node =
     let was = still j w is in
     (was.0, ap (λ ns. get_or ns j false) (sym e) ∙ node, was.1)
 
+-- a slot that was noted as unknown isn't known to hold a good node
 unknown_at : (nodes : List Bool) (k : ℕ) → get_or (set nodes k false) k false ≡ false
 unknown_at [] k = refl
 unknown_at (n ∷ ns) zero = refl
@@ -59,26 +60,6 @@ known_node wants nodes slots size k are some node = by (get_or wants k None) ref
     by None e some = absurd (false≢true some)
     by (Some w) e some = are k w e node
 
--- the slots of a store, of which one was lent and written
-pub store_written : (p p' : Slots) (setting : Setting) (k : ℕ) → OnlyWrites k (with_lent p k) p' → IsStore p setting → IsStore p' setting
-store_written p p' setting k writes is = record {
-  size = writes.size ∙ is.size;
-  large = is.large;
-  small = is.small;
-  whole = omega (arith, writes.count, ap length writes.lent, length-set p.lent k true, is.whole);
-  count = writes.count ∙ is.count;
-}
-
--- the slots of a store, of which one was given back
-pub store_freed : (p p' : Slots) (setting : Setting) (k : ℕ) → p' ≡ with_free p k → IsStore p setting → IsStore p' setting
-store_freed p p' setting k e is = subst (λ q. IsStore q setting) (sym e) (record {
-  size = is.size;
-  large = is.large;
-  small = is.small;
-  whole = is.whole ∙ sym (length-set p.lent k false);
-  count = is.count;
-})
-
 -- as many slots as before, and as long
 pub store_shaped : (p p' : Slots) (setting : Setting) → SameShape p p' → IsStore p setting → IsStore p' setting
 store_shaped p p' setting same is = record {
@@ -95,6 +76,12 @@ pub sound_still : (wants wants' : List (Option Want)) (nodes nodes' : List Bool)
 sound_still wants wants' nodes nodes' p p' setting store still is =
     record { store = store; known = still_nodes wants wants' nodes nodes' p p' setting.nodesize still is.known }
 
+-- and so where what is known of its slots still stands
+pub sound_kept : (p p' : Slots) (w w' : List (Option Want)) (n n' : List Bool) (setting : Setting) → SameShape p p' → StillKept w w' p p' → n' ≡ n
+    → IsSound p w n setting → IsSound p' w' n' setting
+sound_kept p p' w w' n n' setting shape still nodes is =
+    sound_still w w' n n' p p' setting (store_shaped p p' setting shape is.store) (nodes_with w w' n n' p p' still nodes) is
+
 -- a store is sound after what was found in its slots by a look at what is kept
 pub found_sound : (p0 p1 p2 : Slots) (w0 w1 w2 : List (Option Want)) (n0 n1 n2 : List Bool) (setting : Setting) → p1 ≡ p0 → w1 ≡ w0 → n1 ≡ n0
     → SameShape p1 p2 → StillNodes w1 n1 w2 n2 p1 p2 → IsSound p0 w0 n0 setting → IsSound p2 w2 n2 setting
@@ -103,10 +90,3 @@ found_sound p0 p1 p2 w0 w1 w2 n0 n1 n2 setting pool wants nodes shape still is =
     subst (λ p. IsSound p w1 n1 setting) (sym pool) (subst (λ w. IsSound p0 w n1 setting) (sym wants)
     (subst (λ n. IsSound p0 w0 n setting) (sym nodes) is)) in
     sound_still w1 w2 n1 n2 p1 p2 setting (store_shaped p1 p2 setting shape was.store) still was
-
--- a store is sound after a slot was taken and written
-pub written_sound : (p0 p2 p3 : Slots) (w0 w2 : List (Option Want)) (n0 n2 : List Bool) (setting : Setting) (k : ℕ) → p2 ≡ with_lent p0 k
-    → OnlyWrites k p2 p3 → StillKept w0 w2 p0 p3 → n2 ≡ n0 → IsSound p0 w0 n0 setting → IsSound p3 w2 n2 setting
-written_sound p0 p2 p3 w0 w2 n0 n2 setting k lent writes still nodes is =
-    sound_still w0 w2 n0 n2 p0 p3 setting (store_written p0 p3 setting k (subst (λ p. OnlyWrites k p p3) lent writes) is.store)
-    (nodes_with w0 w2 n0 n2 p0 p3 still nodes) is

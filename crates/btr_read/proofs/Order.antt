@@ -42,6 +42,7 @@ module _ {X : Type 0} (p : X → Bool) where
       by true rest = rest
       by false rest = rest
 
+  -- what a test leaves of a list was in the list
   pub of_filter : (x : X) (xs : List X) → In x (filter p xs) → In x xs
   of_filter x [] h = absurd h
   of_filter x (y ∷ ys) h = by (p y) h (of_filter x ys)
@@ -51,6 +52,7 @@ module _ {X : Type 0} (p : X → Bool) where
       by true (inr j) rest = inr (rest j)
       by false j rest = inr (rest j)
 
+  -- what is in a list and passes the test is left
   pub to_filter : (x : X) (xs : List X) → In x xs → p x ≡ true → In x (filter p xs)
   to_filter x [] h e = absurd h
   to_filter x (y ∷ ys) (inl same) e = subst (λ b. In x (cond b (y ∷ filter p ys) (filter p ys))) (sym (ap p same ∙ e)) (inl same)
@@ -60,12 +62,14 @@ module _ {X : Type 0} (p : X → Bool) where
       by true j = inr j
       by false j = j
 
+-- an entry of a list stands at the same place with more behind
 slice_left : {X : Type 0} (xs ys : List X) (k : ℕ) (x : X) → slice_get xs k ≡ Some x → slice_get (xs ++ ys) k ≡ Some x
 slice_left [] ys zero x at = cc
 slice_left [] ys (suc k) x at = cc
 slice_left (y ∷ xs) ys zero x at = at
 slice_left (y ∷ xs) ys (suc k) x at = slice_left xs ys k x at
 
+-- behind a list stand the entries of the list that follows
 slice_right : {X : Type 0} (xs ys : List X) (left : ℕ) → slice_get (xs ++ ys) (left + length xs) ≡ slice_get ys left
 slice_right [] ys left = ap (slice_get ys) (omega arith)
 slice_right (x ∷ xs) ys left =
@@ -93,18 +97,21 @@ module _ (t : Target) where
       by true e = in_right c (among t false) (among t true) (to_filter (λ c. beq (reads_older t c) true) c (ways t) h (ap (λ b. beq b true) e))
       by false e = in_left c (among t false) (among t true) (to_filter (λ c. beq (reads_older t c) false) c (ways t) h (ap (λ b. beq b false) e))
 
+  -- each candidate in the order is one of the ways
   pub in_ways : (c : Candidate) → In c (candidates t) → In c (ways t)
   in_ways c h = elim (in_either c (among t false) (among t true) h) [
     | inl i ↦ of_filter (λ c. beq (reads_older t c) false) c (ways t) i
     | inr i ↦ of_filter (λ c. beq (reads_older t c) true) c (ways t) i
   ]
 
+  -- what some way has some candidate in the order has
   pub any_candidates : (P : Candidate → Type 0) → Any P (ways t) → Any P (candidates t)
   any_candidates P h =
       let there = subst (λ c. In c (ways t)) h.3 (in_at (ways t) h.0 h.1 h.2) in
       let at = at_in h.1 (candidates t) (in_candidates h.1 there) in
       (at.0, h.1, at.1, at.2, h.4)
 
+  -- where no way reads an older image, those that read none, before those that do, are all in their order
   newest : (cs : List Candidate) → length (filter (λ c. beq (reads_older t c) true) cs) ≡ 0
       → filter (λ c. beq (reads_older t c) false) cs ++ filter (λ c. beq (reads_older t c) true) cs ≡ cs
   newest [] e = refl
@@ -122,6 +129,7 @@ module _ (t : Target) where
   pub same_order : length (among t true) ≡ 0 → candidates t ≡ ways t
   same_order e = newest (ways t) e
 
+  -- where no device's image is older, that of an id isn't
   none_in : (members : List Member) (devid : ℕ) → list_any is_older members ≡ false
       → option_map_or (λ (device : Device). device.older) (device_in members devid) false ≡ false
   none_in [] devid none = refl
@@ -136,10 +144,12 @@ module _ (t : Target) where
 
   -- where no device is older, no candidate reads an older image
   module _ (none : list_any is_older t.devices ≡ false) where
+    -- where no device's image is older, no part lies on an older one
     none_read : (parts : List Part) → list_any (is_on_older t) parts ≡ false
     none_read [] = refl
     none_read (part ∷ parts) = ap (λ b. b || list_any (is_on_older t) parts) (none_in t.devices (place_at t.chunk part t.at).devid none) ∙ none_read parts
 
+    -- where no device's image is older, no candidate reads an older one
     none_among : (cs : List Candidate) → length (filter (λ c. beq (reads_older t c) true) cs) ≡ 0
     none_among [] = refl
     none_among (c ∷ cs) =
@@ -147,9 +157,11 @@ module _ (t : Target) where
         (none_read (parts_read (slice_count t) t.at.index c))
         ∙ none_among cs
 
+    -- where no device's image is older, the order is that of the ways
     pub none_older : candidates t ≡ ways t
     none_older = same_order (none_among (ways t))
 
+    -- where no device's image is older, each place in the order has the way of its number
     pub none_older_at : (k : ℕ) → IsWayAt k k t
     none_older_at k = ap (λ cs. slice_get cs k) (sym none_older)
 
@@ -157,9 +169,11 @@ module _ (t : Target) where
   pub first_part : (k way : ℕ) → FitsAmong t false k (Ok way) → IsWayAt k way t
   first_part k way h = h.1 ∙ sym (slice_left (among t false) (among t true) k h.0 h.2)
 
+  -- a place behind those that read no older image is that of a way that reads one
   pub second_part : (k left way : ℕ) → FitsAmong t false k (Err left) → FitsAmong t true left (Ok way) → IsWayAt k way t
   second_part k left way before h = h.1 ∙ sym (ap (slice_get (candidates t)) (sym before) ∙ slice_right (among t false) (among t true) left ∙ h.2)
 
+  -- a place behind all candidates is one behind all ways
   pub behind_all : (k left rest : ℕ) → FitsAmong t false k (Err left) → FitsAmong t true left (Err rest) → IsWayAt k k t
   behind_all k left rest before h =
       let all = length-append (among t false) (among t true) in
@@ -168,6 +182,7 @@ module _ (t : Target) where
 
 -- ---- copies
 
+-- the copy at a place is the mirror of its number
 pub copy_at : (n m : ℕ) → m < n → slice_get (copies n) m ≡ Some (Read (Mirror m))
 copy_at n m lt =
     let long : m < length (copies n) = omega (arith, lt, length-map (range_with_len 0 n) (λ copy. Read (Mirror copy)), length-range_with_len 0 n) in
@@ -176,6 +191,7 @@ copy_at n m lt =
     ∙ ap (λ copy. Read (Mirror copy)) (get_or-range_with_len 0 n m 0 lt ∙ omega arith) in
     slice_get-get_or (copies n) m (Read (Mirror 0)) long ∙ ap Some at
 
+-- there are as many candidates as copies
 pub length-copies : (n : ℕ) → length (copies n) ≡ n
 length-copies n = length-map (range_with_len 0 n) (λ copy. Read (Mirror copy)) ∙ length-range_with_len 0 n
 
@@ -205,6 +221,7 @@ both_there [] (suc j) c e = cc
 both_there (x ∷ xs) zero c e = let same : ByBoth x ≡ c = cc in subst IsByParities same tt
 both_there (x ∷ xs) (suc j) c e = both_there xs j c e
 
+-- with P and Q each way but the first is by parities
 pub by_parities : (t : Target) (k : ℕ) (c : Candidate) → t.chunk.profile ≡ Raid6 → 0 < k → slice_get (ways t) k ≡ Some c → IsByParities c
 by_parities t k c six some at = by k some (ap (λ cs. slice_get cs k) (sym (with_p_and_q t six)) ∙ at)
   where
@@ -217,6 +234,7 @@ by_parities t k c six some at = by k some (ap (λ cs. slice_get cs k) (sym (with
 -- ---- the slices that are read
 
 module _ (f : Part → Bool) (p : ℕ → Bool) where
+  -- of a list of slices none that is read passes a test, where each is unread or fails it
   none_of : (xs : List ℕ) → ((x : ℕ) → In x xs → (p x && f (Slice x)) ≡ false) → list_any f (map Slice (filter p xs)) ≡ false
   none_of [] h = refl
   none_of (x ∷ xs) h = by (p x) (f (Slice x)) refl (h x (inl refl)) (none_of xs (λ y i. h y (inr i)))
@@ -227,6 +245,7 @@ module _ (f : Part → Bool) (p : ℕ → Bool) where
       by true false e test rest = ap (λ c. c || list_any f (map Slice (filter p xs))) e ∙ rest
       by false c e test rest = rest
 
+  -- of a list of slices one that is read passes a test, where some slice is read and passes
   one_of : (xs : List ℕ) (x : ℕ) → In x xs → (p x && f (Slice x)) ≡ true → list_any f (map Slice (filter p xs)) ≡ true
   one_of [] x i test = absurd i
   one_of (y ∷ xs) x (inl same) test =
@@ -244,8 +263,10 @@ module _ (f : Part → Bool) (p : ℕ → Bool) where
       by true false e rest = ap (λ c. c || list_any f (map Slice (filter p xs))) e ∙ rest
       by false c e rest = rest
 
+  -- of the slices below k none that is read passes a test, where each is unread or fails it
   pub none_slice : (k : ℕ) → ((s : ℕ) → s < k → (p s && f (Slice s)) ≡ false) → list_any f (map Slice (filter p (range_with_len 0 k))) ≡ false
   none_slice k h = none_of (range_with_len 0 k) (λ s i. h s (in_below k s i))
 
+  -- of the slices below k one that is read passes a test, where some slice is read and passes
   pub one_slice : (k s : ℕ) → s < k → (p s && f (Slice s)) ≡ true → list_any f (map Slice (filter p (range_with_len 0 k))) ≡ true
   one_slice k s lt test = one_of (range_with_len 0 k) s (below_in k s lt) test

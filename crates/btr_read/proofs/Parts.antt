@@ -1,5 +1,5 @@
 -- The parts that a candidate by parities reads, and their ranges.
-use Rattle.std.proofs.Common.{◌≡◌, ℕ, suc, ◌<◌, Bool, true, false, not, cond, ◌&&◌, eqb, List, [], ◌∷◌, Option, Some, None, IsSome, is_some, Err, refl, sym, ap}
+use Rattle.std.proofs.Common.{◌≡◌, ℕ, ◌<◌, Bool, true, not, ◌&&◌, eqb, List, [], ◌∷◌, Option, Some, None, IsSome, is_some, Err, refl, sym, ap}
 use Rattle.std.proofs.Common.{◌∙◌, subst, inl, inr, arith}
 use Rattle.std.proofs.lemmas.Bool.{false≢true}
 use Rattle.std.specs.List.{filter, filter_map, cons_option, list_all, range_with_len, Any}
@@ -17,28 +17,20 @@ use Rattle.btr_rack.specs.Rack.{Seen, NoneFailed}
 use Rattle.btr_read.specs.declared.attempt.Unread.{Unread}
 use Rattle.btr_read.proofs.Keeping.{one_after}
 use Rattle.btr_read.specs.Cause.{LiesIn}
-use Rattle.btr_read.proofs.Ones.{In, below_in, in_map}
+use Rattle.btr_read.proofs.Ones.{In, at_in, below_in, in_map}
+use Rattle.btr_read.proofs.Order.{to_filter}
 use Rattle.btr_read.proofs.Standing.{both, left_of, right_of, all_read}
-
-in_filter : (p : ℕ → Bool) (x : ℕ) (xs : List ℕ) → In x xs → p x ≡ true → In x (filter p xs)
-in_filter p x [] i e = absurd i
-in_filter p x (y ∷ xs) i e = by (p y) refl i (λ j. in_filter p x xs j e)
-  where
-    by : (b : Bool) → p y ≡ b → In x (y ∷ xs) → (In x xs → In x (filter p xs)) → In x (cond b (y ∷ filter p xs) (filter p xs))
-    by true q (inl same) rest = inl same
-    by true q (inr j) rest = inr (rest j)
-    by false q (inl same) rest = absurd (false≢true (sym q ∙ ap p same ∙ e))
-    by false q (inr j) rest = rest j
 
 -- a slice that is read is among the parts
 pub slice_in : (k i : ℕ) (c : Candidate) (s : ℕ) → s < k → reads_slice i c s ≡ true → In (Slice s) (parts_read k i c)
-slice_in k i (Read part) s lt e = absurd (false≢true e)
-slice_in k i ByP s lt e = inr (in_map Slice s (filter (reads_slice i ByP) (range_with_len 0 k))
-    (in_filter (reads_slice i ByP) s (range_with_len 0 k) (below_in k s lt) e))
-slice_in k i ByQ s lt e = inr (in_map Slice s (filter (reads_slice i ByQ) (range_with_len 0 k))
-    (in_filter (reads_slice i ByQ) s (range_with_len 0 k) (below_in k s lt) e))
-slice_in k i (ByBoth j) s lt e = inr (inr (in_map Slice s (filter (reads_slice i (ByBoth j)) (range_with_len 0 k))
-    (in_filter (reads_slice i (ByBoth j)) s (range_with_len 0 k) (below_in k s lt) e)))
+slice_in k i c s lt e = by c (in_map Slice s (filter (reads_slice i c) (range_with_len 0 k))
+    (to_filter (reads_slice i c) s (range_with_len 0 k) (below_in k s lt) e)) e
+  where
+    by : (c : Candidate) → In (Slice s) (slices_read k i c) → reads_slice i c s ≡ true → In (Slice s) (parts_read k i c)
+    by (Read part) i e = absurd (false≢true e)
+    by ByP i e = inr i
+    by ByQ i e = inr i
+    by (ByBoth j) i e = inr (inr i)
 
 -- so is a parity
 pub parity_in : (k i : ℕ) (p : Parity) (c : Candidate) → Uses p c → In (part_of p) (parts_read k i c)
@@ -51,6 +43,7 @@ parity_in k i parity.Q ByP u = absurd u
 parity_in k i parity.Q ByQ u = inl refl
 parity_in k i parity.Q (ByBoth j) u = inr (inl refl)
 
+-- what holds of all parts holds of each
 all_in : (f : Part → Bool) (ps : List Part) (part : Part) → list_all f ps ≡ true → In part ps → f part ≡ true
 all_in f [] part h i = absurd i
 all_in f (q ∷ ps) part h (inl same) = ap f (sym same) ∙ left_of (f q) (list_all f ps) h
@@ -74,6 +67,7 @@ row_stands t p q (Slice s) h = part_stands t ByP (Slice s) p (slice_in (slice_co
 row_stands t p q P h = part_stands t ByP P p (inl refl)
 row_stands t p q Q h = part_stands t ByQ Q q (inl refl)
 
+-- where P, Q and all slices but the one that is sought stand, each candidate by parities does
 pub stands_in_row : (t : Target) (c : Candidate) → RowStands t ByP → IsByParities c → stands t c ≡ true
 stands_in_row t (Read part) h by = absurd by
 stands_in_row t ByP h by = both (is_some (range_of t P)) (list_all (λ part. is_some (range_of t part)) (slices_read (slice_count t) t.at.index ByP))
@@ -89,23 +83,27 @@ stands_in_row t (ByBoth j) h by =
 -- a read of one of them failed, after others that didn't
 pub row_missed : (t : Target) (c : Candidate) (part : Part) (u : Unread) (a b n : Seen) → b.sure ≡ a.sure → NoneFailed a.account b.account
     → AccountsPart t part b n (Err u) → IsOfRow t c part → AccountsRow {T = Unit {0}} t c a n (Err u)
-row_missed t c part u a b n sure calm e h = (e.0, one_after e.0 a b n sure calm e.1, e.2, ap (range_of t) e.4 ∙ e.3, subst (IsOfRow t c) (sym e.4) h)
+row_missed t c part u a b n sure unfailed e h = (e.0, one_after e.0 a b n sure unfailed e.1, e.2, ap (range_of t) e.4 ∙ e.3, subst (IsOfRow t c) (sym e.4) h)
 
+-- a range lies in itself
 lies_self : (m : Range) → LiesIn m m
 lies_self m = record { slot = refl; from = omega arith; to = omega arith }
 
-any_more : (m : Range) (o : Option Range) (rs : List Range) → Any (LiesIn m) rs → Any (LiesIn m) (cons_option o rs)
-any_more m None rs h = h
-any_more m (Some r) rs h = (suc h.0, h.1, omega (arith, h.2), h.3, h.4)
+in_more : (m : Range) (o : Option Range) (rs : List Range) → In m rs → In m (cons_option o rs)
+in_more m None rs h = h
+in_more m (Some r) rs h = inr h
 
-in_ranges : (t : Target) (ps : List Part) (part : Part) (m : Range) → In part ps → range_of t part ≡ Some m → Any (LiesIn m) (filter_map (range_of t) ps)
-in_ranges t [] part m i e = absurd i
-in_ranges t (q ∷ ps) part m (inl same) e =
+-- where a part stands, its range is one of the candidate's
+pub range_in : (t : Target) (ps : List Part) (part : Part) (m : Range) → In part ps → range_of t part ≡ Some m → In m (filter_map (range_of t) ps)
+range_in t [] part m i e = absurd i
+range_in t (q ∷ ps) part m (inl same) e =
     let here : range_of t q ≡ Some m = ap (range_of t) same ∙ e in
-    subst (λ o. Any (LiesIn m) (cons_option o (filter_map (range_of t) ps))) (sym here) (0, m, omega arith, refl, lies_self m)
-in_ranges t (q ∷ ps) part m (inr i) e = any_more m (range_of t q) (filter_map (range_of t) ps) (in_ranges t ps part m i e)
+    subst (λ o. In m (cons_option o (filter_map (range_of t) ps))) (sym here) (inl refl)
+range_in t (q ∷ ps) part m (inr i) e = in_more m (range_of t q) (filter_map (range_of t) ps) (range_in t ps part m i e)
 
 -- a range of a part is one of the candidate's
 pub range_in_candidate : (t : Target) (c : Candidate) (part : Part) (m : Range) → In part (parts_read (slice_count t) t.at.index c) → range_of t part
     ≡ Some m → Any (LiesIn m) (ranges_of t c)
-range_in_candidate t c part m i e = in_ranges t (parts_read (slice_count t) t.at.index c) part m i e
+range_in_candidate t c part m i e =
+    let at = at_in m (ranges_of t c) (range_in t (parts_read (slice_count t) t.at.index c) part m i e) in
+    (at.0, m, at.1, at.2, lies_self m)

@@ -36,6 +36,7 @@ take_on xs done end le =
     let whole : end ≡ done + (end - done) = omega arith in
     ap (λ n. take n xs) whole ∙ take-add done (end - done) xs
 
+-- a piece that ends within the list is as long as from its start to its end
 pub length-slice_range : (xs : List ℕ) (done end : ℕ) → end ≤ length xs → length (slice_range xs done end) ≡ end - done
 length-slice_range xs done end le = omega (arith, length-take (end - done) (drop done xs), length-drop done xs)
 
@@ -43,6 +44,7 @@ length-slice_range xs done end le = omega (arith, length-take (end - done) (drop
 pub reaches : (xs : List ℕ) (done end : ℕ) → done < end → length (slice_range xs done end) ≡ end - done → end ≤ length xs
 reaches xs done end lt e = omega (arith, lt, e, length-take (end - done) (drop done xs), length-drop done xs)
 
+-- a first part within a list has as many entries as were taken
 pub length-first : (xs : List ℕ) (done : ℕ) → done ≤ length xs → length (take done xs) ≡ done
 length-first xs done le = omega (arith, length-take done xs)
 
@@ -77,15 +79,19 @@ pub record WrittenSoFar (P : List ℕ → Type 0) (k done : ℕ) (old now : Slot
   pub is : now ≡ with_bytes old k (written ++ drop done (bytes_at old k))
 
 module _ (P : List ℕ → Type 0) (k done : ℕ) (old now : Slots) (live : IsLive old k) (h : WrittenSoFar P k done old now) where
+  -- the slot has what was written, and its old bytes behind it
   bytes_now : bytes_at now k ≡ h.written ++ drop done (bytes_at old k)
   bytes_now = ap (λ pool. bytes_at pool k) h.is ∙ bytes_at-with_bytes_same old k (h.written ++ drop done (bytes_at old k)) live
 
+  -- writing the slot leaves the size of the pool's slots
   pub size_now : now.size ≡ old.size
   size_now = ap (λ pool. pool.size) h.is
 
+  -- the slot's bytes behind what was written are as they were
   pub range_now : (end : ℕ) → slice_range (bytes_at now k) done end ≡ slice_range (bytes_at old k) done end
   range_now end = ap (λ bytes. slice_range bytes done end) bytes_now ∙ range_behind (bytes_at old k) h.written done end h.long
 
+  -- every other slot is as it was
   pub other_now : (j : ℕ) → j ≢ k → bytes_at now j ≡ bytes_at old j
   other_now j ne = ap (λ pool. bytes_at pool j) h.is ∙ bytes_at-with_bytes_other old j k (h.written ++ drop done (bytes_at old k)) ne
 
@@ -122,20 +128,24 @@ module _ (P : List ℕ → Type 0) (k done : ℕ) (old now : Slots) (live : IsLi
 
 -- ---- sums of pieces
 
+-- the sum of lists put together is that of their sums, where the first parts are as long as each other
 pub plus-append : (xs ys xs' ys' : List ℕ) → length xs ≡ length ys → plus (xs ++ xs') (ys ++ ys') ≡ plus xs ys ++ plus xs' ys'
 plus-append [] [] xs' ys' e = refl
 plus-append [] (y ∷ ys) xs' ys' e = absurd (omega arith)
 plus-append (x ∷ xs) [] xs' ys' e = absurd (omega arith)
 plus-append (x ∷ xs) (y ∷ ys) xs' ys' e = ap (λ rest. bit_xor x y ∷ rest) (plus-append xs ys xs' ys' (omega arith))
 
+-- what two pieces together add to a parity is what each adds
 weighed-append : (p : Parity) (i : ℕ) (xs ys : List ℕ) → weighed p i (xs ++ ys) ≡ weighed p i xs ++ weighed p i ys
 weighed-append parity.P i xs ys = refl
 weighed-append parity.Q i xs ys = map-append (product (power i)) xs ys
 
+-- what a slice adds to a parity is as long as the slice
 pub length-weighed : (p : Parity) (i : ℕ) (xs : List ℕ) → length (weighed p i xs) ≡ length xs
 length-weighed parity.P i xs = refl
 length-weighed parity.Q i xs = length-map xs (product (power i))
 
+-- a sum with what a slice adds to a parity is as long as both
 pub length-sum : (p : Parity) (i n : ℕ) (xs ys : List ℕ) → length xs ≡ n → length ys ≡ n → length (plus xs (weighed p i ys)) ≡ n
 length-sum p i n xs ys ex ey = length-zip2 bit_xor xs (weighed p i ys) (ex ∙ sym ey ∙ sym (length-weighed p i ys)) ∙ ex
 
@@ -159,30 +169,37 @@ AddedSoFar p i k j done old now = WrittenSoFar (λ written. written ≡ plus (ta
 module _ (p : Parity) (i k j done end : ℕ) (old now after : Slots) (live : IsLive old k) (apart : k ≢ j) (lt : done < end) (fits : end ≤ old.size)
     (h : AddedSoFar p i k j done old now) (long : length (bytes_at now k) ≡ now.size)
     (long' : length (slice_range (bytes_at now j) done end) ≡ end - done) where
+  -- what was written is the sum of the two slots' first bytes, as many as are done
   abbrev MeetsNow : List ℕ → Type 0
   MeetsNow written = written ≡ plus (take done (bytes_at old k)) (weighed p i (take done (bytes_at old j)))
 
+  -- what was written is the sum of the two slots' bytes up to the next piece's end
   abbrev MeetsNext : List ℕ → Type 0
   MeetsNext written = written ≡ plus (take end (bytes_at old k)) (weighed p i (take end (bytes_at old j)))
 
+  -- the next piece of the sum
   abbrev piece : List ℕ
   piece = plus (slice_range (bytes_at now k) done end) (weighed p i (slice_range (bytes_at now j) done end))
 
+  -- the slot of the slice that is added is as it was
   same_j : bytes_at now j ≡ bytes_at old j
   same_j = other_now MeetsNow k done old now live h j (λ e. apart (sym e))
 
   size_same : now.size ≡ old.size
   size_same = size_now MeetsNow k done old now live h
 
+  -- the next piece goes from what is done to its end
   piece_long : done + length piece ≡ end
   piece_long =
       let first : length (slice_range (bytes_at now k) done end) ≡ end - done =
       length-slice_range (bytes_at now k) done end (omega (arith, fits, long, size_same)) in
       omega (arith, lt, length-sum p i (end - done) (slice_range (bytes_at now k) done end) (slice_range (bytes_at now j) done end) first long')
 
+  -- the next piece is the sum of what the two slots had there
   piece_old : piece ≡ plus (slice_range (bytes_at old k) done end) (weighed p i (slice_range (bytes_at old j) done end))
   piece_old = ap₂ (λ a b. plus a (weighed p i (slice_range b done end))) (range_now MeetsNow k done old now live h end) same_j
 
+  -- with the next piece, what was written is the sum up to its end
   meets_next : MeetsNext (h.written ++ piece)
   meets_next =
       let le : end ≤ length (bytes_at old k) = long_enough MeetsNow k done old now live h end lt (omega (arith, fits, long, size_same)) in

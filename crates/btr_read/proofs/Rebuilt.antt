@@ -30,6 +30,7 @@ use Rattle.btr_read.proofs.Sums.{read_slice, is_read, isnt_read, parity_long}
 not_itself : (i : ℕ) → not (eqb i i) ≡ false
 not_itself i = ap not (eq-eqb i i refl)
 
+-- a slice of another number than the one that is sought is another one
 pub not_other : (s i : ℕ) → s ≢ i → not (eqb s i) ≡ true
 not_other s i ne = by (eqb s i) refl
   where
@@ -37,48 +38,56 @@ not_other s i ne = by (eqb s i) refl
     by true e = absurd (ne (eqb-true s i e))
     by false e = ap not e
 
+-- where two lists have the same in a place, they still have it with an entry set in both
+pub set_alike : (xs ys : List (List ℕ)) (i : ℕ) (X : List ℕ) → length xs ≡ length ys → (j : ℕ) (d : List ℕ) → j < length xs
+    → (j ≢ i → get_or xs j d ≡ get_or ys j d) → get_or (set xs i X) j d ≡ get_or (set ys i X) j d
+set_alike xs ys i X len j d lt same = elim (cases_eq j i) [
+  | inl e ↦
+      let at : i < length xs = omega (arith, e, lt) in
+      ap (λ n. get_or (set xs i X) n d) e ∙ get_or-set_same xs i X d at
+      ∙ sym (ap (λ n. get_or (set ys i X) n d) e ∙ get_or-set_same ys i X d (omega (arith, at, len)))
+  | inr ne ↦ get_or-set_other xs i j X d ne ∙ same ne ∙ sym (get_or-set_other ys i j X d ne)
+]
+
+-- lists that agree but for one place are the same once that place is set
+pub same_set : (xs ys : List (List ℕ)) (i : ℕ) (X : List ℕ) → length xs ≡ length ys
+    → ((j : ℕ) (d : List ℕ) → j ≢ i → j < length xs → get_or xs j d ≡ get_or ys j d) → set xs i X ≡ set ys i X
+same_set xs ys i X len same = same_lists (set xs i X) (set ys i X) (length-set xs i X ∙ len ∙ sym (length-set ys i X)) (λ j d below.
+    let within : j < length xs = omega (arith, below, length-set xs i X) in
+    set_alike xs ys i X len j d within (λ ne. same j d ne within))
+
 module _ (images : List (List ℕ)) (t : Target) (c : Candidate) where
+  -- the slices of the row, with zeros in the place of those that the candidate doesn't read
   abbrev rs : List (List ℕ)
   rs = read_slices images t c
 
+  -- the slices that are read, and zeros, are as many as the row's slices
   pub length-rs : length rs ≡ slice_count t
   length-rs = length-map-range_with_len (read_slice images t c) 0 (slice_count t)
 
+  -- at the place of a slice stands what the candidate reads of it
   pub at_slice : (j : ℕ) (d : List ℕ) → j < slice_count t → get_or rs j d ≡ read_slice images t c j
   at_slice j d lt = get_or-map-range_with_len (read_slice images t c) 0 (slice_count t) j j d lt (omega arith)
 
+  -- at a place of the row's slices stand the bytes of that slice
   pub at_element : (j : ℕ) (d : List ℕ) → j < slice_count t → get_or (slices images t) j d ≡ element images t (Slice j)
   at_element j d lt = get_or-map-range_with_len (λ s. element images t (Slice s)) 0 (slice_count t) j j d lt (omega arith)
 
+  -- the row's slices are as many as its profile gives
   pub length-slices : length (slices images t) ≡ slice_count t
   length-slices = length-map-range_with_len (λ s. element images t (Slice s)) 0 (slice_count t)
 
-  -- only the slice that is sought isn't read
-  only_sought : t.at.index < slice_count t → reads_slice t.at.index c t.at.index ≡ false → set rs t.at.index (zeros (size_of t)) ≡ rs
-  only_sought lt e =
-      let here : get_or rs t.at.index [] ≡ zeros (size_of t) = at_slice t.at.index [] lt ∙ isnt_read images t c t.at.index e in
-      ap (set rs t.at.index) (sym here) ∙ set-get_or rs t.at.index []
+  -- a slice that isn't read counts as zeros
+  unread : (s : ℕ) → s < slice_count t → reads_slice t.at.index c s ≡ false → set rs s (zeros (size_of t)) ≡ rs
+  unread s lt e =
+      let here : get_or rs s [] ≡ zeros (size_of t) = at_slice s [] lt ∙ isnt_read images t c s e in
+      ap (set rs s) (sym here) ∙ set-get_or rs s []
 
-  -- so with any other in its place the slices are the same
-  same_with : ((s : ℕ) → s ≢ t.at.index → reads_slice t.at.index c s ≡ true) → t.at.index < slice_count t → (X : List ℕ) → set rs t.at.index X
-      ≡ set (slices images t) t.at.index X
-  same_with reads lt X =
-      let len : length (set rs t.at.index X) ≡ slice_count t = length-set rs t.at.index X ∙ length-rs in
-      let len' : length (set (slices images t) t.at.index X) ≡ slice_count t = length-set (slices images t) t.at.index X ∙ length-slices in
-      same_lists (set rs t.at.index X) (set (slices images t) t.at.index X) (len ∙ sym len') (λ j d below.
-      let within : j < slice_count t = omega (arith, below, len) in
-      elim (cases_eq j t.at.index) [
-        | inl e ↦
-            ap (λ n. get_or (set rs t.at.index X) n d) e
-            ∙ get_or-set_same rs t.at.index X d (omega (arith, lt, length-rs))
-            ∙ sym (ap (λ n. get_or (set (slices images t) t.at.index X) n d) e
-            ∙ get_or-set_same (slices images t) t.at.index X d (omega (arith, lt, length-slices)))
-        | inr ne ↦
-            get_or-set_other rs t.at.index j X d ne
-            ∙ at_slice j d within
-            ∙ is_read images t c j (reads j ne)
-            ∙ sym (get_or-set_other (slices images t) t.at.index j X d ne ∙ at_element j d within)
-      ])
+  -- so with any other in the place of the one that is sought the slices are the same
+  same_with : ((s : ℕ) → s ≢ t.at.index → reads_slice t.at.index c s ≡ true) → (X : List ℕ) → set rs t.at.index X ≡ set (slices images t) t.at.index X
+  same_with reads X = same_set rs (slices images t) t.at.index X (length-rs ∙ sym length-slices) (λ j d ne below.
+      let within : j < slice_count t = omega (arith, below, length-rs) in
+      at_slice j d within ∙ is_read images t c j (reads j ne) ∙ sym (at_element j d within))
 
 -- what P leaves is the one slice that fits P
 pub one_by_p : (images : List (List ℕ)) (t : Target) (bytes : List ℕ) → t.at.index < slice_count t → IsGathered images t ByP parity.P bytes
@@ -89,9 +98,9 @@ one_by_p images t bytes lt h =
     let r : List (List ℕ) = read_slices images t ByP in
     let one = lost_by_p n i r (element images t P) h.slices (omega (arith, lt, length-rs images t ByP)) h.whole in
     let sum : plus (element images t P) (parity_p n (set r i (zeros n))) ≡ bytes =
-    ap (λ xs. plus (element images t P) (parity_p n xs)) (only_sought images t ByP lt (not_itself i)) ∙ sym h.sum in
+    ap (λ xs. plus (element images t P) (parity_p n xs)) (unread images t ByP i lt (not_itself i)) ∙ sym h.sum in
     let is : IsTheOne n (FitsP n r (element images t P) i) bytes = subst (IsTheOne n (FitsP n r (element images t P) i)) sum one in
-    let same = same_with images t ByP (λ s ne. not_other s i ne) lt in
+    let same = same_with images t ByP (λ s ne. not_other s i ne) in
     record {
       slice = is.slice;
       meets = let d = bytes_eq-Decides (parity_p n (set (slices images t) i bytes)) (element images t P) in d.1 (sym (ap (parity_p n) (same bytes)) ∙ is.meets);
@@ -112,11 +121,11 @@ one_by_q images t sum X lt h weighs =
     let n = size_of t in
     let r : List (List ℕ) = read_slices images t ByQ in
     let left : sum ≡ plus (element images t Q) (parity_q n (set r i (zeros n))) =
-    h.sum ∙ ap (λ xs. plus (element images t Q) (parity_q n xs)) (sym (only_sought images t ByQ lt (not_itself i))) in
+    h.sum ∙ ap (λ xs. plus (element images t Q) (parity_q n xs)) (sym (unread images t ByQ i lt (not_itself i))) in
     let is : IsTheOne n (FitsQ n r (element images t Q) i) X =
     lost_by_q n i r (element images t Q) X h.slices (omega (arith, lt, length-rs images t ByQ)) h.whole
     (subst (λ s. IsTheOne n (Weighs i s) X) left weighs) in
-    let same = same_with images t ByQ (λ s ne. not_other s i ne) lt in
+    let same = same_with images t ByQ (λ s ne. not_other s i ne) in
     record {
       slice = is.slice;
       meets = let d = bytes_eq-Decides (parity_q n (set (slices images t) i X)) (element images t Q) in d.1 (sym (ap (parity_q n) (same X)) ∙ is.meets);
@@ -129,53 +138,40 @@ pub by_q : (images : List (List ℕ)) (t : Target) (sum X : List ℕ) → t.at.i
     → IsTheOne (size_of t) (Weighs t.at.index sum) X → value_of images t ByQ ≡ X
 by_q images t sum X lt h weighs = let one = one_by_q images t sum X lt h weighs in the_one_is (size_of t) (fits_q images t) X one.slice one.meets one.only
 
-and_false : (a : Bool) → (a && false) ≡ false
+pub and_false : (a : Bool) → (a && false) ≡ false
 and_false true = refl
 and_false false = refl
 
 module _ (images : List (List ℕ)) (t : Target) (j : ℕ) where
+  -- the slices of the row, with zeros in the place of the two that a candidate by both parities doesn't read
   abbrev both_rs : List (List ℕ)
   both_rs = read_slices images t (ByBoth j)
+
+  -- the candidate by both parities doesn't read slice j
+  skips : reads_slice t.at.index (ByBoth j) j ≡ false
+  skips = ap (λ b. not (eqb j t.at.index) && b) (not_itself j) ∙ and_false (not (eqb j t.at.index))
 
   -- neither slice is read
   neither : t.at.index < slice_count t → j < slice_count t → set (set both_rs j (zeros (size_of t))) t.at.index (zeros (size_of t)) ≡ both_rs
   neither lt lt_j =
       let i = t.at.index in
-      let skips_j : reads_slice i (ByBoth j) j ≡ false = ap (λ b. not (eqb j i) && b) (not_itself j) ∙ and_false (not (eqb j i)) in
-      let here_j : get_or both_rs j [] ≡ zeros (size_of t) = at_slice images t (ByBoth j) j [] lt_j ∙ isnt_read images t (ByBoth j) j skips_j in
-      let same_j : set both_rs j (zeros (size_of t)) ≡ both_rs = ap (set both_rs j) (sym here_j) ∙ set-get_or both_rs j [] in
-      ap (λ xs. set xs i (zeros (size_of t))) same_j ∙ only_sought images t (ByBoth j) lt (ap (λ b. b && not (eqb i j)) (not_itself i))
+      ap (λ xs. set xs i (zeros (size_of t))) (unread images t (ByBoth j) j lt_j skips)
+      ∙ unread images t (ByBoth j) i lt (ap (λ b. b && not (eqb i j)) (not_itself i))
 
   -- so with any others in their places the slices are the same
-  same_both : t.at.index < slice_count t → j < slice_count t → (X Y : List ℕ) → set (set both_rs j Y) t.at.index X
-      ≡ set (set (slices images t) j Y) t.at.index X
-  same_both lt lt_j X Y =
+  same_both : (X Y : List ℕ) → set (set both_rs j Y) t.at.index X ≡ set (set (slices images t) j Y) t.at.index X
+  same_both X Y =
       let i = t.at.index in
-      let mine = set both_rs j Y in
-      let theirs = set (slices images t) j Y in
-      let mine_len : length mine ≡ slice_count t = length-set both_rs j Y ∙ length-rs images t (ByBoth j) in
-      let their_len : length theirs ≡ slice_count t = length-set (slices images t) j Y ∙ length-slices images t (ByBoth j) in
-      let len : length (set mine i X) ≡ slice_count t = length-set mine i X ∙ mine_len in
-      let len' : length (set theirs i X) ≡ slice_count t = length-set theirs i X ∙ their_len in
-      same_lists (set mine i X) (set theirs i X) (len ∙ sym len') (λ s d below.
-      let within : s < slice_count t = omega (arith, below, len) in
-      elim (cases_eq s i) [
-        | inl e ↦
-            ap (λ n. get_or (set mine i X) n d) e
-            ∙ get_or-set_same mine i X d (omega (arith, lt, mine_len))
-            ∙ sym (ap (λ n. get_or (set theirs i X) n d) e ∙ get_or-set_same theirs i X d (omega (arith, lt, their_len)))
-        | inr ne ↦ get_or-set_other mine i s X d ne ∙ elim (cases_eq s j) [
-          | inl e ↦
-              ap (λ n. get_or mine n d) e
-              ∙ get_or-set_same both_rs j Y d (omega (arith, lt_j, length-rs images t (ByBoth j)))
-              ∙ sym (ap (λ n. get_or theirs n d) e ∙ get_or-set_same (slices images t) j Y d (omega (arith, lt_j, length-slices images t (ByBoth j))))
-          | inr ne_j ↦
-              get_or-set_other both_rs j s Y d ne_j
-              ∙ at_slice images t (ByBoth j) s d within
-              ∙ is_read images t (ByBoth j) s (both (not (eqb s i)) (not (eqb s j)) (not_other s i ne) (not_other s j ne_j))
-              ∙ sym (get_or-set_other (slices images t) j s Y d ne_j ∙ at_element images t (ByBoth j) s d within)
-        ] ∙ sym (get_or-set_other theirs i s X d ne)
-      ])
+      let xs = slices images t in
+      let count = length-rs images t (ByBoth j) in
+      let as_many : length both_rs ≡ length xs = count ∙ sym (length-slices images t (ByBoth j)) in
+      let long = length-set both_rs j Y in
+      same_set (set both_rs j Y) (set xs j Y) i X (long ∙ as_many ∙ sym (length-set xs j Y)) (λ s d ne below.
+      let within : s < slice_count t = omega (arith, below, long, count) in
+      set_alike both_rs xs j Y as_many s d (omega (arith, within, count)) (λ ne_j.
+      at_slice images t (ByBoth j) s d within
+      ∙ is_read images t (ByBoth j) s (both (not (eqb s i)) (not (eqb s j)) (not_other s i ne) (not_other s j ne_j))
+      ∙ sym (at_element images t (ByBoth j) s d within)))
 
 -- what a parity leaves is as long as a slice
 pub gathered_long : (images : List (List ℕ)) (t : Target) (c : Candidate) (p : Parity) (bytes : List ℕ) → IsGathered images t c p bytes → length bytes
@@ -192,7 +188,7 @@ of_set : (p : Parity) (size j : ℕ) (ds : List (List ℕ)) (X : List ℕ) → A
 of_set parity.P size j ds X h lt = parity_p-set size j ds X h lt
 of_set parity.Q size j ds X h lt = weighted-set size 0 j ds X h lt ∙ ap (λ n. plus (scaled (power n) X) (weighted size 0 (set ds j (zeros size)))) (zero-add j)
 
-and_true : (a : Bool) → (a && true) ≡ a
+pub and_true : (a : Bool) → (a && true) ≡ a
 and_true true = refl
 and_true false = refl
 
@@ -201,12 +197,15 @@ module _ (images : List (List ℕ)) (t : Target) (j : ℕ) (lt_j : j < slice_cou
   abbrev all_rs : List (List ℕ)
   all_rs = read_slices images t ByP
 
+  -- the bytes of slice j
   abbrev other : List ℕ
   other = element images t (Slice j)
 
+  -- slice j stands among all slices but the one that is sought
   there : get_or all_rs j [] ≡ other
   there = at_slice images t ByP j [] lt_j ∙ is_read images t ByP j (not_other j t.at.index ne)
 
+  -- a candidate by both parities reads the slices but j as one by P does
   same_read : (s : ℕ) → s ≢ j → read_slice images t ByP s ≡ read_slice images t (ByBoth j) s
   same_read s ne_s = ap (λ b. cond b (element images t (Slice s)) (zeros (size_of t)))
       (sym (ap (λ b. not (eqb s t.at.index) && b) (not_other s j ne_s) ∙ and_true (not (eqb s t.at.index))))
@@ -214,21 +213,11 @@ module _ (images : List (List ℕ)) (t : Target) (j : ℕ) (lt_j : j < slice_cou
   -- without slice j they are those that the candidate by both parities reads
   left_out : set all_rs j (zeros (size_of t)) ≡ read_slices images t (ByBoth j)
   left_out =
-      let skips_j : reads_slice t.at.index (ByBoth j) j ≡ false = ap (λ b. not (eqb j t.at.index) && b) (not_itself j) ∙ and_false (not (eqb j t.at.index)) in
-      let len : length (set all_rs j (zeros (size_of t))) ≡ slice_count t = length-set all_rs j (zeros (size_of t)) ∙ length-rs images t ByP in
-      same_lists (set all_rs j (zeros (size_of t))) (read_slices images t (ByBoth j)) (len ∙ sym (length-rs images t (ByBoth j))) (λ s d below.
-      let within : s < slice_count t = omega (arith, below, len) in
-      elim (cases_eq s j) [
-        | inl e ↦
-            ap (λ n. get_or (set all_rs j (zeros (size_of t))) n d) e
-            ∙ get_or-set_same all_rs j (zeros (size_of t)) d (omega (arith, lt_j, length-rs images t ByP))
-            ∙ sym (ap (λ n. get_or (read_slices images t (ByBoth j)) n d) e ∙ at_slice images t (ByBoth j) j d lt_j ∙ isnt_read images t (ByBoth j) j skips_j)
-        | inr ne_s ↦
-            get_or-set_other all_rs j s (zeros (size_of t)) d ne_s
-            ∙ at_slice images t ByP s d within
-            ∙ same_read s ne_s
-            ∙ sym (at_slice images t (ByBoth j) s d within)
-      ])
+      let count = length-rs images t ByP in
+      same_set all_rs (read_slices images t (ByBoth j)) j (zeros (size_of t)) (count ∙ sym (length-rs images t (ByBoth j)))
+      (λ s d ne_s below. let within : s < slice_count t = omega (arith, below, count) in
+      at_slice images t ByP s d within ∙ same_read s ne_s ∙ sym (at_slice images t (ByBoth j) s d within))
+      ∙ unread images t (ByBoth j) j lt_j (skips images t j)
 
   -- a syndrome to which slice j is added once more is what the parity leaves of both slices
   pub without_other : (p : Parity) (S : List ℕ) → IsGathered images t ByP p S → IsSlice (size_of t) other
@@ -275,7 +264,7 @@ one_by_both images t j sum weighted X lt lt_j ne p q solves =
     let is : IsTheOne n (FitsBoth n r (element images t P) (element images t Q) i j) X =
     lost_by_both n i j r (element images t P) (element images t Q) X p.slices (omega (arith, lt, len))
     (omega (arith, lt_j, len)) ne p.whole q.whole given in
-    let same = same_both images t j lt lt_j in
+    let same = same_both images t j in
     record {
       slice = is.slice;
       meets =

@@ -28,6 +28,7 @@ of_ways t P m six rows of range =
 of_ways t Q m six rows of range =
     (2, ByQ, omega (arith, ap length (with_p_and_q t six)), third_is_q t six ByQ, (stands_in_row t ByQ rows tt, range_in_candidate t ByQ Q m (inl refl) range))
 
+-- where the whole row stands, the range of each part of it is one that a candidate that stands reads
 pub of_row : (t : Target) (part : Part) (m : Range) → candidates t ≡ ways t → t.chunk.profile ≡ Raid6 → RowStands t ByP → IsOfRow t ByP part
     → range_of t part ≡ Some m → Any (λ c. (stands t c ≡ true) × IsOf t m c) (candidates t)
 of_row t part m order six rows of range = subst (Any (λ c. (stands t c ≡ true) × IsOf t m c)) (sym order) (of_ways t part m six rows of range)

@@ -1,21 +1,25 @@
 -- That a rack goes on serving a store.
 use Rattle.std.proofs.Common.{◌≡◌, ◌≢◌, ℕ, zero, suc, ◌⊎◌, List, [], ◌∷◌, drop, get_or, set, Option, Some, None, IfSome, IsSomeAnd, refl, sym, ap, ◌∙◌, subst}
-use Rattle.std.proofs.Common.{inl, inr, replicate}
+use Rattle.std.proofs.Common.{inl, inr, replicate, Ok}
 use Rattle.std.specs.Option.{option_map}
 use Rattle.std.proofs.lemmas.List.{get_or-set_other}
 use Rattle.btr_chunk.specs.declared.chunk.Chunk.{Chunk}
-use Rattle.btr_pool.specs.Slots.{Slots, loans_of, bytes_at, with_bytes, with_lent}
+use Rattle.btr_pool.specs.Slots.{Slots, loans_of, bytes_at, with_bytes}
 use Rattle.btr_read.specs.declared.device.Member.{Member}
 use Rattle.btr_read.specs.declared.setting.Setting.{Setting}
 use Rattle.btr_read.specs.declared.want.Want.{Want}
 use Rattle.btr_read.specs.declared.want.Want.TheVariants.{Tree, Block, Sector, Plain}
 use Rattle.btr_rack.specs.Rack.{Seen}
 use Rattle.btr_read.specs.Layout.{Layout, AreOpen, HaveOwnSlots}
+use Rattle.btr_read.specs.Candidates.{Target}
+use Rattle.btr_read.specs.Fate.{sought}
 use Rattle.btr_read.specs.Store.{Blocks, Kept, block_in, kept_in, kept_at, kept_want, none_kept, with_loan}
 use Rattle.btr_read.specs.Serves.{IsKept, IsServed, Serves}
 use Rattle.btr_read.specs.Writing.{StillKept}
 use Rattle.btr_read.proofs.Loans.{blocks}
+use Rattle.btr_read.proofs.Fates.{sought_of}
 
+-- without the first slot each other one stands one place before
 past_first : (slots : List (List ℕ)) (k : ℕ) → get_or (drop 1 slots) k [] ≡ get_or slots (suc k) []
 past_first [] k = refl
 past_first (x ∷ xs) k = refl
@@ -70,12 +74,14 @@ still_kept layout held setting wants wants' p p' still all = all_kept (IsKept la
     let was = still k w e in
     subst (λ bytes. IsKept layout held (block_in setting bytes w)) (sym was.1) (kept_one (IsKept layout held) setting wants p.bytes all k w was.0))
 
+-- what still stands after one step and then after another still stands after both
 pub still_more : (a b c : List (Option Want)) (p q r : Slots) → StillKept a b p q → StillKept b c q r → StillKept a c p r
 still_more a b c p q r h g k w e =
     let then = g k w e in
     let first = h k w then.0 in
     (first.0, then.1 ∙ first.1)
 
+-- where nothing changes all that is known still stands
 pub still_none : (wants : List (Option Want)) (p : Slots) → StillKept wants wants p p
 still_none wants p k w e = (e, refl)
 
@@ -96,11 +102,19 @@ set_at (y ∷ ws) zero (suc j) x w e = inr e
 set_at (y ∷ ws) (suc n) zero x w e = inr e
 set_at (y ∷ ws) (suc n) (suc j) x w e = elim (set_at ws n j x w e) [ inl h ↦ inl (ap suc h.0, h.1) | inr h ↦ inr h ]
 
+-- a want whose block is kept is known as itself
 kept_is : (want w : Want) → kept_want want ≡ Some w → want ≡ w
 kept_is (Tree addr generation level) w e = cc
 kept_is (Block addr) w e = cc
 kept_is (Sector addr sum) w e = cc
 kept_is (Plain addr) w e = cc
+
+none_is_some : (want : Want) → None ≡ Some want → ⊥
+none_is_some want e = cc
+
+-- where nothing is known of a slot, what is known stands in another
+pub known_apart : (ws : List (Option Want)) (k j : ℕ) (want : Want) → get_or ws k None ≡ None → get_or ws j None ≡ Some want → j ≢ k
+known_apart ws k j want none is same = none_is_some want (sym none ∙ ap (λ n. get_or ws n None) (sym same) ∙ is)
 
 -- what was known and isn't forgotten still stands, where no byte changes
 pub still_forgotten : (wants wants' : List (Option Want)) (k : ℕ) (p p' : Slots) → wants' ≡ set wants k None → p'.bytes ≡ p.bytes → StillKept wants wants' p p'
@@ -108,9 +122,6 @@ still_forgotten wants wants' k p p' e same j w is = elim (set_at wants k j None 
   | inl here ↦ absurd (none_is_some w here.1)
   | inr there ↦ (there, ap (λ bytes. get_or bytes j []) same)
 ]
-  where
-    none_is_some : (w : Want) → None ≡ Some w → ⊥
-    none_is_some w e = cc
 
 -- a slot that is forgotten
 pub forgotten_at : (ws : List (Option Want)) (k : ℕ) → get_or (set ws k None) k None ≡ None
@@ -122,20 +133,11 @@ forgotten_at (w ∷ ws) (suc k) = forgotten_at ws k
 pub still_written : (wants : List (Option Want)) (k : ℕ) (p p' : Slots) → get_or wants k None ≡ None → (written : List ℕ)
     × (p' ≡ with_bytes p k written) → StillKept wants wants p p'
 still_written wants k p p' none h j w e =
-    let other : j ≢ k = λ same. none_is_some w (sym none ∙ ap (λ n. get_or wants n None) (sym same) ∙ e) in
-    (e, ap (λ p. bytes_at p j) h.1 ∙ get_or-set_other p.bytes k j h.0 [] other)
-  where
-    none_is_some : (w : Want) → None ≡ Some w → ⊥
-    none_is_some w e = cc
+    (e, ap (λ p. bytes_at p j) h.1 ∙ get_or-set_other p.bytes k j h.0 [] (known_apart wants k j w none e))
 
+-- where no byte changes all that is known still stands
 pub still_same : (wants : List (Option Want)) (p p' : Slots) → p'.bytes ≡ p.bytes → StillKept wants wants p p'
 still_same wants p p' same j w e = (e, ap (λ bytes. get_or bytes j []) same)
-
--- a slot was taken and forgotten, and others were
-pub still_taken : (w0 w1 w2 w3 : List (Option Want)) (p0 p1 p2 p3 : Slots) (k : ℕ) → p1 ≡ p0 → w1 ≡ w0 → p2 ≡ with_lent p1 k → w2 ≡ set w1 k None
-    → StillKept w2 w3 p2 p3 → StillKept w0 w3 p0 p3
-still_taken w0 w1 w2 w3 p0 p1 p2 p3 k same known lent forgotten h =
-    still_more w0 w2 w3 p0 p2 p3 (still_forgotten w0 w2 k p0 p2 (forgotten ∙ ap (λ w. set w k None) known) (ap (λ p. p.bytes) lent ∙ ap (λ p. p.bytes) same)) h
 
 -- one more is kept
 pub kept_more : (layout : Layout) (held : Option (List (List ℕ))) (setting : Setting) (wants wants' : List (Option Want)) (p : Slots) (slot : ℕ)
@@ -153,22 +155,32 @@ pub nothing_kept : (setting : Setting) (wants : List (Option Want)) (slots : Lis
     ≡ none_kept
 nothing_kept setting wants slots e = ap (λ ws. kept_in setting ws slots) e ∙ none_of 24 slots
   where
+    -- where no want is known of any slot no slot keeps a block
     none_of : (n : ℕ) (slots : List (List ℕ)) → kept_in setting (replicate n None) slots ≡ replicate n None
     none_of zero slots = refl
     none_of (suc n) slots = ap (λ xs. None ∷ xs) (none_of n (drop 1 slots))
 
+-- where no slot keeps a block anything holds of each that is kept
 none_there : (P : Kept → Type 0) (n k : ℕ) → IfSome (get_or (replicate n None) k None) P
 none_there P zero k = tt
 none_there P (suc n) zero = tt
 none_there P (suc n) (suc k) = none_there P n k
 
+-- where each device is open in a slot of its own and each kept block is its want's, the rack serves the store
 pub serves_of : (rack : Seen) (store : Blocks) → IsServed rack store → Serves rack store
 unfolding Serves
 serves_of rack store h = h
 
+-- where a rack serves a store, each device is open in a slot of its own and each kept block is its want's
 pub serving : (rack : Seen) (store : Blocks) → Serves rack store → IsServed rack store
 unfolding Serves
 serving rack store h = h
+
+-- the devices of what is sought are open where the rack serves the store
+pub sought_open : (rack : Seen) (store : Blocks) (want : Want) (t : Target) → sought store.layout want ≡ Ok t → Serves rack store
+    → AreOpen rack.slots t.devices
+sought_open rack store want t seeks serves =
+    subst (AreOpen rack.slots) (sym (sought_of store.layout want t seeks).devices_is) (serving rack store serves).are_open
 
 -- a rack begins to serve a store that keeps nothing
 pub serves_anew : (rack : Seen) (store : Blocks) → AreOpen rack.slots store.layout.devices → HaveOwnSlots store.layout.devices → store.kept
@@ -198,9 +210,11 @@ serves_given rack store slot serves = serves_as rack rack store (with_loan store
 
 module _ (chunks : List Chunk) (devices : List Member) (setting : Setting) (w w' : List (Option Want)) (p p' : Slots) (old new : Seen) (store : Blocks)
     (view : blocks chunks devices setting (loans_of p) (kept_in setting w p.bytes) ≡ store) where
+  -- the layout of these chunks, devices and setting
   abbrev layout_is : Layout
   layout_is = record { chunks = chunks; devices = devices; setting = setting }
 
+  -- the rack served the store that these parts show
   was_served : Serves old store → IsServed old (blocks chunks devices setting (loans_of p) (kept_in setting w p.bytes))
   was_served serves = serving old (blocks chunks devices setting (loans_of p) (kept_in setting w p.bytes)) (subst (Serves old) (sym view) serves)
 

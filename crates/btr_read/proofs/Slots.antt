@@ -17,6 +17,7 @@ use Rattle.btr_read.specs.Writing.{OnlyWrites}
 pub with_own_bytes : (pool : Slots) (k : ℕ) → (written : List ℕ) × (pool ≡ with_bytes pool k written)
 with_own_bytes pool k = (bytes_at pool k, λ i. record { size = pool.size; lent = pool.lent; bytes = sym (set-get_or pool.bytes k []) i })
 
+-- a pool with other bytes in a slot is one where only this slot was written
 pub only_writes : (old new : Slots) (k : ℕ) → (written : List ℕ) × (new ≡ with_bytes old k written) → OnlyWrites k old new
 only_writes old new k h = subst (OnlyWrites k old) (sym h.1) (record {
   size = refl;
@@ -25,9 +26,11 @@ only_writes old new k h = subst (OnlyWrites k old) (sym h.1) (record {
   others = λ j ne live. get_or-set_other old.bytes k j h.0 [] ne;
 })
 
+-- where nothing changes only this slot was written
 pub only_writes_none : (pool : Slots) (k : ℕ) → OnlyWrites k pool pool
 only_writes_none pool k = record { size = refl; lent = refl; count = refl; others = λ j ne live. refl }
 
+-- two steps that write only this slot write only it together
 pub only_writes_more : (a b c : Slots) (k : ℕ) → OnlyWrites k a b → OnlyWrites k b c → OnlyWrites k a c
 only_writes_more a b c k h g = record {
   size = g.size ∙ h.size;
@@ -48,6 +51,7 @@ pub record IsReadable (slots : List Slot) (range : Range) : Type 0 where
   pub slot : range.slot < length slots
   pub within : range.off + range.len ≤ len_of slots range.slot
 
+-- a range that lies in the image of an open device can be read
 readable_if : (slots : List Slot) (off len : ℕ) (device : Device) (range : Range) (b : Bool) → leb (off + len) device.len ≡ b → IsOpen slots device
     → cond b (Some (range_in device.slot off len)) None ≡ Some range → IsReadable slots range
 readable_if slots off len device range true test is e =
@@ -56,11 +60,13 @@ readable_if slots off len device range true test is e =
     subst (IsReadable slots) same (record { slot = is.slot; within = omega (arith, le, is.len) })
 readable_if slots off len device range false test is e = cc
 
+-- a range on a device that is given and open can be read
 readable_on : (slots : List Slot) (off len : ℕ) (o : Option Device) (range : Range) → ((device : Device) → o ≡ Some device → IsOpen slots device)
     → range_on off len o ≡ Some range → IsReadable slots range
 readable_on slots off len None range are e = cc
 readable_on slots off len (Some device) range are e = readable_if slots off len device range (leb (off + len) device.len) refl (are device refl) e
 
+-- where the devices are open, the range of a part that stands can be read
 pub readable : (slots : List Slot) (t : Target) (part : Part) (range : Range) → AreOpen slots t.devices → range_of t part ≡ Some range → IsReadable slots range
 readable slots t part range are e =
     let place = place_at t.chunk part t.at in

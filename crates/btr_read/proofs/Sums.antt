@@ -14,23 +14,28 @@ use Rattle.btr_read.specs.declared.parity.Parity.TheVariants as parity
 use Rattle.btr_read.specs.Candidates.{Target, size_of, slice_count, reads_slice, element}
 use Rattle.btr_read.specs.Gathering.{part_of, weighed, parity_of, IsGathered}
 
+-- what holds of an entry holds of all of a list that has only it
 all_one : {X : Type 0} (P : X → Type 0) (x : X) → P x → All P (x ∷ [])
 all_one P x h zero d lt = h
 all_one P x h (suc k) d lt = absurd (omega (arith, lt))
 
+-- the parity of slices is as long as each of them
 pub parity_long : (p : Parity) (size : ℕ) (ds : List (List ℕ)) → All (IsSlice size) ds → length (parity_of p size ds) ≡ size
 parity_long parity.P size ds h = let s = parity_p_slice size ds h in s.long
 parity_long parity.Q size ds h = let s = weighted_slice size 0 ds h in s.long
 
+-- a parity less no slices is the parity
 of_none : (p : Parity) (size : ℕ) (P : List ℕ) → IsSlice size P → plus P (parity_of p size []) ≡ P
 of_none parity.P size P h = ap (plus P) (parity_by_folding.p_of_none size) ∙ plus-zeros P size h.long
 of_none parity.Q size P h = ap (plus P) (parity_by_folding.q_of_none size) ∙ plus-zeros P size h.long
 
+-- the parity of slices with one more is their parity with what that slice adds
 of_one_more : (p : Parity) (size k : ℕ) (ds : List (List ℕ)) (d : List ℕ) → length ds ≡ k → IsSlice size d → parity_of p size (ds ++ d ∷ [])
     ≡ plus (parity_of p size ds) (weighed p k d)
 of_one_more parity.P size k ds d e h = parity_by_folding.p_of_one_more size ds d h
 of_one_more parity.Q size k ds d e h = parity_by_folding.q_of_one_more size ds d h ∙ ap (λ n. plus (parity_q size ds) (scaled (power n) d)) e
 
+-- zeros add zeros to a parity
 weighed-zeros : (p : Parity) (k size : ℕ) → weighed p k (zeros size) ≡ zeros size
 weighed-zeros parity.P k size = refl
 weighed-zeros parity.Q k size = scaled-zeros (power k) size
@@ -44,9 +49,11 @@ module _ (images : List (List ℕ)) (t : Target) (c : Candidate) where
   abbrev pub up_to : ℕ → List (List ℕ)
   up_to k = map read_slice (range_with_len 0 k)
 
+  -- a slice that the candidate reads stands in its place
   pub is_read : (s : ℕ) → reads_slice t.at.index c s ≡ true → read_slice s ≡ element images t (Slice s)
   is_read s e = ap (λ b. cond b (element images t (Slice s)) (zeros (size_of t))) e
 
+  -- zeros stand in the place of a slice that the candidate doesn't read
   pub isnt_read : (s : ℕ) → reads_slice t.at.index c s ≡ false → read_slice s ≡ zeros (size_of t)
   isnt_read s e = ap (λ b. cond b (element images t (Slice s)) (zeros (size_of t))) e
 
@@ -56,6 +63,7 @@ module _ (images : List (List ℕ)) (t : Target) (c : Candidate) where
     pub whole : IsSlice (size_of t) (element images t (part_of p))
     pub sum : bytes ≡ plus (element images t (part_of p)) (parity_of p (size_of t) (up_to k))
 
+  -- before the first slice, what is gathered is the parity itself
   pub gathered_none : (p : Parity) (bytes : List ℕ) → bytes ≡ element images t (part_of p) → IsSlice (size_of t) bytes → GatheredSoFar p 0 bytes
   gathered_none p bytes e h =
       let whole : IsSlice (size_of t) (element images t (part_of p)) = subst (IsSlice (size_of t)) e h in
@@ -65,9 +73,11 @@ module _ (images : List (List ℕ)) (t : Target) (c : Candidate) where
         sum = e ∙ sym (of_none p (size_of t) (element images t (part_of p)) whole);
       }
 
+  -- the first k + 1 slices, or zeros, are the first k and one more
   more : (k : ℕ) → up_to (k + 1) ≡ up_to k ++ read_slice k ∷ []
   more k = map-range_with_len_more read_slice 0 k k (omega arith)
 
+  -- what is gathered of k slices goes on with the next one, or with zeros where it isn't read
   step : (p : Parity) (k : ℕ) (bytes bytes' d : List ℕ) → GatheredSoFar p k bytes → read_slice k ≡ d → IsSlice (size_of t) d → bytes'
       ≡ plus bytes (weighed p k d) → GatheredSoFar p (k + 1) bytes'
   step p k bytes bytes' d h is slice e =

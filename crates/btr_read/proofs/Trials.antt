@@ -26,16 +26,20 @@ pub told : {X : Type 0} (o : Option X) (P : X → Type 0) → ((x : X) → o ≡
 told None P h = tt
 told (Some x) P h = h x refl
 
+-- what holds of the images that are told holds of these images
 pub telling : {X : Type 0} (o : Option X) (P : X → Type 0) → IfSome o P → (x : X) → o ≡ Some x → P x
 telling None P h x e = cc
 telling (Some y) P h x e = let same : y ≡ x = cc in subst P same h
 
+-- where one of a list has it, one of the list with more behind has it
 pub any_before : {X : Type 0} (P : X → Type 0) (xs ys : List X) → Any P xs → Any P (xs ++ ys)
 any_before P xs ys h = (h.0, h.1, omega (arith, h.2, length-append xs ys), get_or_append_left xs ys h.1 h.0 h.2 ∙ h.3, h.4)
 
+-- where the last of a list has it, one of the list has it
 pub any_last : {X : Type 0} (P : X → Type 0) (xs : List X) (y : X) → P y → Any P (xs ++ y ∷ [])
 any_last P xs y h = (length xs, y, omega (arith, length-append xs (y ∷ [])), get_or-append_seam xs y [] y, h)
 
+-- what holds of all of a list and of one more holds of all with that one behind
 all_last : {X : Type 0} (P : X → Type 0) (xs : List X) (y : X) → All P xs → P y → All P (xs ++ y ∷ [])
 all_last P xs y all h j d lt = elim (cases_lt j (length xs)) [
   | inl before ↦ subst P (sym (get_or_append_left xs (y ∷ []) d j before)) (all j d before)
@@ -45,13 +49,16 @@ all_last P xs y all h j d lt = elim (cases_lt j (length xs)) [
 ]
 
 module _ (images : List (List ℕ)) (t : Target) where
+  -- of candidates and of others behind them those pass that pass of each
   pub passing-append : (cs ds : List Candidate) → passing_of images t (cs ++ ds) ≡ passing_of images t cs ++ passing_of images t ds
   passing-append cs ds = ap (filter (passes t.setting t.want)) (filter_map-append (reading images t) cs ds)
       ∙ filter-append (passes t.setting t.want) (filter_map (reading images t) cs) (filter_map (reading images t) ds)
 
+  -- a candidate that stands is read with its value
   pub reading_stands : (c : Candidate) → stands t c ≡ true → reading images t c ≡ Some (value_of images t c)
   reading_stands c e = ap (λ (b : Bool). cond b (Some (value_of images t c)) None) e
 
+  -- a candidate that doesn't stand gives no bytes
   pub reading_absent : (c : Candidate) → stands t c ≡ false → reading images t c ≡ None
   reading_absent c e = ap (λ (b : Bool). cond b (Some (value_of images t c)) None) e
 
@@ -59,18 +66,21 @@ module _ (images : List (List ℕ)) (t : Target) where
   one_before : (o : Option (List ℕ)) (cs : List Candidate) → List (List ℕ)
   one_before o cs = filter (passes t.setting t.want) (cons_option o (filter_map (reading images t) cs))
 
+  -- where the first candidate passes, its bytes come before those of the others that pass
   pub passes_first : (c : Candidate) (cs : List Candidate) (bytes : List ℕ) → reading images t c ≡ Some bytes → passes t.setting t.want bytes ≡ true
       → passing_of images t (c ∷ cs) ≡ bytes ∷ passing_of images t cs
   passes_first c cs bytes e test =
       ap (λ o. filter (passes t.setting t.want) (cons_option o (filter_map (reading images t) cs))) e
       ∙ ap (λ b. cond b (bytes ∷ passing_of images t cs) (passing_of images t cs)) test
 
+  -- of a candidate alone whose bytes don't pass none passes
   pub differs_alone : (c : Candidate) (bytes : List ℕ) → reading images t c ≡ Some bytes → passes t.setting t.want bytes ≡ false
       → passing_of images t (c ∷ []) ≡ []
   differs_alone c bytes e test =
       ap (λ o. filter (passes t.setting t.want) (cons_option o [])) e
       ∙ ap (λ (b : Bool). cond b (bytes ∷ []) []) test
 
+  -- of a candidate alone that doesn't stand none passes
   pub absent_alone : (c : Candidate) → reading images t c ≡ None → passing_of images t (c ∷ []) ≡ []
   absent_alone c e = ap (λ o. filter (passes t.setting t.want) (cons_option o [])) e
 
@@ -82,6 +92,7 @@ module _ (images : List (List ℕ)) (t : Target) where
   at_most_one_of None = omega arith
   at_most_one_of (Some bytes) = at_most_one_if (passes t.setting t.want bytes) bytes
 
+  -- of a candidate alone no more than one passes
   pub at_most_one : (c : Candidate) → length (passing_of images t (c ∷ [])) ≤ 1
   at_most_one c = at_most_one_of (reading images t c)
 
@@ -107,6 +118,7 @@ module _ (images : List (List ℕ)) (t : Target) where
           let first : bytes ∷ [] ≡ [] = sym (ap (λ b. cond b (bytes ∷ []) []) h) ∙ e in
           cc
 
+-- before a candidate is tried none was, and no read failed
 pub tried_none : (t : Target) (rack : Seen) → rack.account.missed ≡ [] → TriedSoFar t rack rack None 0
 tried_none t rack missed = record {
   later = omega arith;
@@ -122,6 +134,7 @@ at_place cs j k c d is le lt =
     let same : j ≡ k = omega (arith, le, lt) in
     ap (λ n. get_or cs n d) same ∙ get_or_from_slice_get cs k c d is
 
+-- of one more candidate those pass that passed before, and it, if it does
 take_one_more : (images : List (List ℕ)) (t : Target) (cs : List Candidate) (k : ℕ) (c : Candidate) → slice_get cs k ≡ Some c → k < length cs
     → passing_of images t (take (k + 1) cs) ≡ passing_of images t (take k cs) ++ passing_of images t (c ∷ [])
 take_one_more images t cs k c is lt =
@@ -129,72 +142,38 @@ take_one_more images t cs k c is lt =
     ∙ passing-append images t (take k cs) (get_or cs k c ∷ [])
     ∙ ap (λ x. passing_of images t (take k cs) ++ passing_of images t (x ∷ [])) (get_or_from_slice_get cs k c c is)
 
-cause_calm : (t : Target) (before now after : Seen) (failed : Option ℕ) → CauseSoFar t before now failed → NoneFailed now.account after.account
+-- where no call failed since, the cause is as before
+cause_unfailed : (t : Target) (before now after : Seen) (failed : Option ℕ) → CauseSoFar t before now failed → NoneFailed now.account after.account
     → CauseSoFar t before after failed
-cause_calm t before now after None h calm = none_more before.account now.account after.account h calm
-cause_calm t before now after (Some s) h calm = (
+cause_unfailed t before now after None h unfailed = none_more before.account now.account after.account h unfailed
+cause_unfailed t before now after (Some s) h unfailed = (
   h.0,
-  (omega (arith, h.1.0, calm.faults), omega (arith, h.1.1, calm.faults)),
-  ap (λ r. r.slot) calm.last ∙ h.2,
-  subst (λ r. Any (λ c. (stands t c ≡ true) × IsOf t r c) (candidates t)) (sym calm.last) h.3,
-  omega (arith, h.4, calm.fresh),
-  calm.opening ∙ h.5,
+  (omega (arith, h.1.0, unfailed.faults), omega (arith, h.1.1, unfailed.faults)),
+  ap (λ r. r.slot) unfailed.last ∙ h.2,
+  subst (λ r. Any (λ c. (stands t c ≡ true) × IsOf t r c) (candidates t)) (sym unfailed.last) h.3,
+  omega (arith, h.4, unfailed.fresh),
+  unfailed.opening ∙ h.5,
 )
 
 -- one more candidate, which stands and doesn't pass, or doesn't stand
-pub tried_calm : (t : Target) (before now after : Seen) (failed : Option ℕ) (k : ℕ) (c : Candidate) → TriedSoFar t before now failed k
+pub tried_unfailed : (t : Target) (before now after : Seen) (failed : Option ℕ) (k : ℕ) (c : Candidate) → TriedSoFar t before now failed k
     → slice_get (candidates t) k ≡ Some c → k < length (candidates t) → NoneFailed now.account after.account
     → ((images : List (List ℕ)) → before.held ≡ Some images → passing_of images t (c ∷ []) ≡ []) → TriedSoFar t before after failed (k + 1)
-tried_calm t before now after failed k c h is lt calm none = record {
-  later = omega (arith, h.later, calm.faults);
-  cause = cause_calm t before now after failed h.cause calm;
-  only = subst (All (λ missed. Any (IsOf t missed) (candidates t))) (sym calm.missed) h.only;
+tried_unfailed t before now after failed k c h is lt unfailed none = record {
+  later = omega (arith, h.later, unfailed.faults);
+  cause = cause_unfailed t before now after failed h.cause unfailed;
+  only = subst (All (λ missed. Any (IsOf t missed) (candidates t))) (sym unfailed.missed) h.only;
   enough = λ images e.
       let more = ap length (take_one_more images t (candidates t) k c is lt) in
       let parts = length-append (passing_of images t (take k (candidates t))) (passing_of images t (c ∷ [])) in
       let zero : length (passing_of images t (c ∷ [])) ≡ 0 = ap length (none images e) in
       let so_far = h.enough images e in
-      omega (arith, more, parts, zero, so_far, calm.fresh);
+      omega (arith, more, parts, zero, so_far, unfailed.fresh);
   each = λ images e j d below p. elim (cases_lt j k) [
-    | inl earlier ↦ subst (Any (λ missed. IsOf t missed (get_or (candidates t) j d))) (sym calm.missed) (h.each images e j d earlier p)
+    | inl earlier ↦ subst (Any (λ missed. IsOf t missed (get_or (candidates t) j d))) (sym unfailed.missed) (h.each images e j d earlier p)
     | inr here ↦ absurd (differs_not images t c (none images e) (subst (Passes images t) (at_place (candidates t) j k c d is here below) p))
   ];
 }
-
--- one more candidate, of which a read failed
-pub tried_failed : (t : Target) (before now after : Seen) (failed : Option ℕ) (k s : ℕ) (c : Candidate) → TriedSoFar t before now failed k
-    → slice_get (candidates t) k ≡ Some c → k < length (candidates t) → k + 1 < 2 ^ 64 → now.sure ≡ before.sure → stands t c ≡ true
-    → IsMissed t c s now after → TriedSoFar t before after (Some s) (k + 1)
-tried_failed t before now after failed k s c h is lt short sure standing fault =
-    let m : Range = fault.0 in
-    let one : OneFailed m now.account after.account = fault.1.one in
-    let here : IsOf t m c = fault.3 in
-    record {
-      later = omega (arith, h.later, one.faults.0);
-      cause = (
-        sym sure ∙ fault.1.unsure,
-        (omega (arith, h.later, one.faults.0), omega (arith, h.later, one.faults.1)),
-        ap (λ r. r.slot) one.last ∙ fault.2,
-        (k, c, lt, get_or_from_slice_get (candidates t) k c c is, (standing, subst (λ r. IsOf t r c) (sym one.last) here)),
-        omega (arith, one.fresh),
-        fault.1.read,
-      );
-      only = subst (All (λ missed. Any (IsOf t missed) (candidates t))) (sym one.missed)
-          (all_last (λ missed. Any (IsOf t missed) (candidates t)) now.account.missed m h.only (k, c, lt, get_or_from_slice_get (candidates t) k c c is, here));
-      enough = λ images e.
-          let more = ap length (take_one_more images t (candidates t) k c is lt) in
-          let parts = length-append (passing_of images t (take k (candidates t))) (passing_of images t (c ∷ [])) in
-          let single = at_most_one images t c in
-          let all = at_most_all images t (take k (candidates t)) in
-          let taken = length-take k (candidates t) in
-          let so_far = h.enough images e in
-          omega (arith, more, parts, single, all, taken, so_far, one.fresh, short);
-      each = λ images e j d below p. subst (Any (λ missed. IsOf t missed (get_or (candidates t) j d))) (sym one.missed) (elim (cases_lt j k) [
-        | inl earlier ↦ any_before (λ missed. IsOf t missed (get_or (candidates t) j d)) now.account.missed (m ∷ []) (h.each images e j d earlier p)
-        | inr there ↦ any_last (λ missed. IsOf t missed (get_or (candidates t) j d)) now.account.missed m
-            (subst (IsOf t m) (sym (at_place (candidates t) j k c d is there below)) here)
-      ]);
-    }
 
 -- a read failed that isn't of the next candidate
 pub tried_missed : (t : Target) (before now after : Seen) (failed : Option ℕ) (k s : ℕ) (m : Range) → TriedSoFar t before now failed k → k < 2 ^ 64
@@ -224,6 +203,36 @@ tried_missed t before now after failed k s m h short sure of fault slot =
           (any_before (λ missed. IsOf t missed (get_or (candidates t) j d)) now.account.missed (m ∷ []) (h.each images e j d below p));
     }
 
+-- one more candidate, of which a read failed
+pub tried_failed : (t : Target) (before now after : Seen) (failed : Option ℕ) (k s : ℕ) (c : Candidate) → TriedSoFar t before now failed k
+    → slice_get (candidates t) k ≡ Some c → k < length (candidates t) → k + 1 < 2 ^ 64 → now.sure ≡ before.sure → stands t c ≡ true
+    → IsMissed t c s now after → TriedSoFar t before after (Some s) (k + 1)
+tried_failed t before now after failed k s c h is lt short sure standing fault =
+    let m : Range = fault.0 in
+    let one : OneFailed m now.account after.account = fault.1.one in
+    let of : Any (λ c. (stands t c ≡ true) × IsOf t m c) (candidates t) =
+    (k, c, lt, get_or_from_slice_get (candidates t) k c c is, (standing, fault.3)) in
+    let missed = tried_missed t before now after failed k s m h (omega (arith, short)) sure of fault.1 fault.2 in
+    record {
+      later = missed.later;
+      cause = missed.cause;
+      only = missed.only;
+      enough = λ images e.
+          let more = ap length (take_one_more images t (candidates t) k c is lt) in
+          let parts = length-append (passing_of images t (take k (candidates t))) (passing_of images t (c ∷ [])) in
+          let single = at_most_one images t c in
+          let all = at_most_all images t (take k (candidates t)) in
+          let taken = length-take k (candidates t) in
+          let so_far = h.enough images e in
+          omega (arith, more, parts, single, all, taken, so_far, one.fresh, short);
+      each = λ images e j d below p. elim (cases_lt j k) [
+        | inl earlier ↦ missed.each images e j d earlier p
+        | inr there ↦ subst (Any (λ missed. IsOf t missed (get_or (candidates t) j d))) (sym one.missed)
+            (any_last (λ missed. IsOf t missed (get_or (candidates t) j d)) now.account.missed m
+            (subst (IsOf t m) (sym (at_place (candidates t) j k c d is there below)) fault.3))
+      ];
+    }
+
 -- all were tried
 pub all_lost : (t : Target) (before now : Seen) (k : ℕ) → before.account.fresh ≡ 0 → length (candidates t) ≤ k → TriedSoFar t before now None k
     → NoneFailed before.account now.account × IfSome before.held (λ images. slice_get (passing images t) 0 ≡ None)
@@ -240,6 +249,7 @@ all_lost t before now k fresh le h = (
     none_first [] e = refl
     none_first (x ∷ xs) e = absurd (omega (arith, e))
 
+-- where all were tried, none passed and a read failed, the block is unread
 pub all_unread : (t : Target) (before now : Seen) (k s : ℕ) → length (candidates t) ≤ k → TriedSoFar t before now (Some s) k → IsUnread t before now s
 all_unread t before now k s le h = record {
   unsure = h.cause.0;
@@ -255,6 +265,7 @@ all_unread t before now k s le h = record {
       (candidates t)) (λ images e j d lt p. h.each images e j d (omega (arith, lt, le)) p);
 }
 
+-- where all were tried and none passed, the block is lost, or unread if a read failed
 pub all_ended : (t : Target) (before now : Seen) (failed : Option ℕ) (k : ℕ) (slot : List ℕ) → before.account.fresh ≡ 0 → length (candidates t) ≤ k
     → TriedSoFar t before now failed k → FitsOutcome t before now slot (ended_outcome failed)
 all_ended t before now None k slot fresh le h = all_lost t before now k fresh le h
@@ -263,18 +274,19 @@ all_ended t before now (Some s) k slot fresh le h = all_unread t before now k s 
 -- no more reads failed
 pub tried_still : (t : Target) (before now after : Seen) (failed : Option ℕ) (k : ℕ) → TriedSoFar t before now failed k
     → NoneFailed now.account after.account → TriedSoFar t before after failed k
-tried_still t before now after failed k h calm = record {
-  later = omega (arith, h.later, calm.faults);
-  cause = cause_calm t before now after failed h.cause calm;
-  only = subst (All (λ missed. Any (IsOf t missed) (candidates t))) (sym calm.missed) h.only;
-  enough = λ images e. omega (arith, h.enough images e, calm.fresh);
-  each = λ images e j d below p. subst (Any (λ missed. IsOf t missed (get_or (candidates t) j d))) (sym calm.missed) (h.each images e j d below p);
+tried_still t before now after failed k h unfailed = record {
+  later = omega (arith, h.later, unfailed.faults);
+  cause = cause_unfailed t before now after failed h.cause unfailed;
+  only = subst (All (λ missed. Any (IsOf t missed) (candidates t))) (sym unfailed.missed) h.only;
+  enough = λ images e. omega (arith, h.enough images e, unfailed.fresh);
+  each = λ images e j d below p. subst (Any (λ missed. IsOf t missed (get_or (candidates t) j d))) (sym unfailed.missed) (h.each images e j d below p);
 }
 
 -- a trial that began goes on
 pub began_on : {before a b : Seen} → OnlyReads a b → BeganAt before a → BeganAt before b
 began_on reads is = record { fresh = is.fresh; held = same_held reads ∙ is.held; sure = same_sure reads ∙ is.sure }
 
+-- bytes that pass stand between those of the candidates before them and those of the candidates behind
 split_at : (images : List (List ℕ)) (t : Target) (k : ℕ) (c : Candidate) (bytes : List ℕ) → slice_get (candidates t) k ≡ Some c
     → k < length (candidates t) → reading images t c ≡ Some bytes → passes t.setting t.want bytes ≡ true → passing images t
     ≡ passing_of images t (take k (candidates t)) ++ bytes ∷ passing_of images t (drop (k + 1) (candidates t))
@@ -285,6 +297,7 @@ split_at images t k c bytes is lt reads test =
     ∙ passing-append images t (take k cs) (drop k cs)
     ∙ ap (λ xs. passing_of images t (take k cs) ++ xs) (ap (passing_of images t) rest ∙ passes_first images t c (drop (k + 1) cs) bytes reads test)
 
+-- an entry behind nothing is the first
 first_of : (xs : List (List ℕ)) (bytes : List ℕ) (ys : List (List ℕ)) → length xs ≡ 0 → slice_get (xs ++ bytes ∷ ys) 0 ≡ Some bytes
 first_of [] bytes ys e = refl
 first_of (x ∷ xs) bytes ys e = absurd (omega (arith, e))
@@ -294,9 +307,9 @@ pub later_passes : (t : Target) (before now after : Seen) (s k m : ℕ) (c : Can
     → slice_get (candidates t) m ≡ Some c → m < length (candidates t) → NoneFailed now.account after.account → stands t c ≡ true
     → passes t.setting t.want (take (size_of t) slot) ≡ true
     → ((images : List (List ℕ)) → before.held ≡ Some images → value_of images t c ≡ take (size_of t) slot) → FitsOutcome t before after slot outcome.Later
-later_passes t before now after s k m c slot h is lt calm standing test value =
+later_passes t before now after s k m c slot h is lt unfailed standing test value =
     let bytes : List ℕ = take (size_of t) slot in
-    let cause = cause_calm t before now after (Some s) h.cause calm in
+    let cause = cause_unfailed t before now after (Some s) h.cause unfailed in
     record {
       rose = cause.1;
       read = cause.5;
@@ -314,15 +327,16 @@ later_passes t before now after s k m c slot h is lt calm standing test value =
           ));
     }
 
+-- the next candidate passes: as the first one, or as a later one if a read failed
 pub one_passes : (t : Target) (before now after : Seen) (failed : Option ℕ) (k : ℕ) (c : Candidate) (slot : List ℕ) → before.account.fresh ≡ 0
     → TriedSoFar t before now failed k → slice_get (candidates t) k ≡ Some c → k < length (candidates t) → NoneFailed now.account after.account
     → stands t c ≡ true → passes t.setting t.want (take (size_of t) slot) ≡ true
     → ((images : List (List ℕ)) → before.held ≡ Some images → value_of images t c ≡ take (size_of t) slot)
     → FitsOutcome t before after slot (passed_outcome failed)
-one_passes t before now after None k c slot fresh h is lt calm standing test value =
+one_passes t before now after None k c slot fresh h is lt unfailed standing test value =
     let bytes : List ℕ = take (size_of t) slot in
     record {
-      none = none_more before.account now.account after.account h.cause calm;
+      none = none_more before.account now.account after.account h.cause unfailed;
       pass = test;
       first = told before.held (λ images. slice_get (passing images t) 0 ≡ Some bytes) (λ images e.
           let split = split_at images t k c bytes is lt (reading_stands images t c standing ∙ ap Some (value images e)) test in
@@ -331,12 +345,13 @@ one_passes t before now after None k c slot fresh h is lt calm standing test val
           (first_of (passing_of images t (take k (candidates t))) bytes (passing_of images t (drop (k + 1) (candidates t)))
           (omega (arith, so_far, h.cause.fresh, fresh))));
     }
-one_passes t before now after (Some s) k c slot fresh h is lt calm standing test value = later_passes t before now after s k k c slot h is lt calm
+one_passes t before now after (Some s) k c slot fresh h is lt unfailed standing test value = later_passes t before now after s k k c slot h is lt unfailed
     standing test value
 
 -- ---- what is accepted, where all candidates are read
 
-nothing_left : {X : Type 0} (xs ys : List X) → xs ++ ys ≡ [] → (xs ≡ []) × (ys ≡ [])
+-- where two lists together are empty, each is
+pub nothing_left : {X : Type 0} (xs ys : List X) → xs ++ ys ≡ [] → (xs ≡ []) × (ys ≡ [])
 nothing_left [] ys e = (refl, e)
 nothing_left (x ∷ xs) ys e = absurd (cc)
 
@@ -359,6 +374,7 @@ module _ (images : List (List ℕ)) (t : Target) where
   pub none_of_all : (k : ℕ) → length (candidates t) ≤ k → passing_of images t (take k (candidates t)) ≡ [] → passing images t ≡ []
   none_of_all k le none = ap (passing_of images t) (sym (take_all k (candidates t) le)) ∙ none
 
+  -- where none of some candidates passes, each of them that stands fails the test
   fails_in : (cs : List Candidate) (c : Candidate) → passing_of images t cs ≡ [] → In c cs → stands t c ≡ true
       → passes t.setting t.want (value_of images t c) ≡ false
   fails_in [] c none i standing = absurd i
@@ -375,6 +391,7 @@ module _ (images : List (List ℕ)) (t : Target) where
       by (inl same) none rest = here (passes t.setting t.want (value_of images t c)) refl (subst (λ e. passing_of images t (e ∷ []) ≡ []) same none) standing
       by (inr j) none rest = rest j standing
 
+  -- where no candidate passes, each that stands fails the test
   pub fails_where_none : (c : Candidate) → passing images t ≡ [] → In c (candidates t) → stands t c ≡ true
       → passes t.setting t.want (value_of images t c) ≡ false
   fails_where_none c none i standing = fails_in (candidates t) c none i standing

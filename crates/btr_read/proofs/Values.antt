@@ -1,9 +1,8 @@
 -- What the value of a candidate hangs on.
-use Rattle.std.proofs.Common.{◌≡◌, ◌≢◌, ℕ, ◌-◌, ◌<◌, ◌≤◌, Bool, true, false, cond, ◌&&◌, List, [], ◌∷◌, length, get_or, set, Option, Some, None, refl, sym, ap}
+use Rattle.std.proofs.Common.{◌≡◌, ◌≢◌, ℕ, ◌-◌, ◌<◌, ◌≤◌, Bool, true, false, cond, ◌&&◌, List, [], length, get_or, set, Option, Some, None, refl, sym}
 use Rattle.std.proofs.Common.{◌∙◌, subst, inl, inr, arith}
-use Rattle.std.proofs.lemmas.Bool.{cases_eq}
-use Rattle.std.proofs.lemmas.List.{same_lists, length-set, get_or-set_same, get_or-set_other}
-use Rattle.std.specs.List.{All, Contains, filter_map, cons_option, list_any}
+use Rattle.std.proofs.lemmas.List.{length-set}
+use Rattle.std.specs.List.{All, Contains, list_any}
 use Rattle.std.specs.Option.{option_map_or}
 use Rattle.std.specs.Str.{bytes_eq}
 use Rattle.btr_rack.specs.Rack.{bytes_of}
@@ -26,14 +25,16 @@ use Rattle.btr_read.specs.Solution.{byte_lists, the_one}
 use Rattle.btr_read.specs.Sought.{IsTarget, Uses}
 use Rattle.btr_read.specs.Values.{Solves, AreWhole, ValueIsTheOne, ValueByRanges}
 use Rattle.btr_read.proofs.Ones.{In, at_in}
-use Rattle.btr_read.proofs.Parts.{slice_in, parity_in}
-use Rattle.btr_read.proofs.Rebuilt.{at_slice, at_element, length-rs, length-slices, not_other, one_by_p, one_by_q, one_by_both, by_p, by_q, by_both}
+use Rattle.btr_read.proofs.Parts.{slice_in, parity_in, range_in}
+use Rattle.btr_read.proofs.Rebuilt.{set_alike, same_set, at_slice, at_element, length-rs, length-slices, not_other}
+use Rattle.btr_read.proofs.Rebuilt.{one_by_p, one_by_q, one_by_both, by_p, by_q, by_both}
 use Rattle.btr_read.proofs.Standing.{both}
 use Rattle.btr_read.proofs.Sums.{is_read, isnt_read}
 
 -- ---- the one solution
 
 module _ (images : List (List ℕ)) (t : Target) (c : Candidate) (whole : AreWhole images t c) where
+  -- each part that the candidate reads is whole
   part_whole : (part : Part) → In part (parts_read (slice_count t) t.at.index c) → IsSlice (size_of t) (element images t part)
   part_whole part i = whole part (at_in part (parts_read (slice_count t) t.at.index c) i)
 
@@ -52,13 +53,16 @@ module _ (images : List (List ℕ)) (t : Target) (c : Candidate) (whole : AreWho
   abbrev left : Parity → List ℕ
   left p = plus (element images t (part_of p)) (parity_of p (size_of t) (read_slices images t c))
 
+  -- what a parity that the candidate reads leaves is the parity less the slices that it reads
   gathered : (p : Parity) → Uses p c → IsGathered images t c p (left p)
   gathered p uses = record { slices = rows_whole; whole = part_whole (part_of p) (parity_in (slice_count t) t.at.index p c uses); sum = refl }
 
+  -- the parity of the slices that are read, and zeros, is a whole slice
   parity_whole : (p : Parity) → IsSlice (size_of t) (parity_of p (size_of t) (read_slices images t c))
   parity_whole parity.P = parity_p_slice (size_of t) (read_slices images t c) rows_whole
   parity_whole parity.Q = weighted_slice (size_of t) 0 (read_slices images t c) rows_whole
 
+  -- what a parity that the candidate reads leaves is a whole slice
   left_whole : (p : Parity) → Uses p c → IsSlice (size_of t) (left p)
   left_whole p uses = plus_slice (size_of t) (element images t (part_of p)) (parity_of p (size_of t) (read_slices images t c))
       (part_whole (part_of p) (parity_in (slice_count t) t.at.index p c uses)) (parity_whole p)
@@ -69,6 +73,7 @@ below_62 t i is six lt =
     let below : i < length t.chunk.stripes - 2 = subst (λ p. i < data_count p (length t.chunk.stripes)) six lt in
     omega (arith, below, is.keeps_rule.few)
 
+-- the value of a candidate by parities is the one slice that solves its equations
 pub value_is_the_one : ValueIsTheOne
 value_is_the_one images t (Read part) is rebuilt whole = absurd rebuilt
 value_is_the_one images t ByP is rebuilt whole =
@@ -93,35 +98,10 @@ value_is_the_one images t (ByBoth j) is rebuilt whole =
 
 -- ---- the ranges
 
-in_more : (m : Range) (o : Option Range) (rs : List Range) → In m rs → In m (cons_option o rs)
-in_more m None rs h = h
-in_more m (Some r) rs h = inr h
-
--- where a part stands, its range is one of the candidate's
-range_in : (t : Target) (ps : List Part) (part : Part) (m : Range) → In part ps → range_of t part ≡ Some m → In m (filter_map (range_of t) ps)
-range_in t [] part m i e = absurd i
-range_in t (q ∷ ps) part m (inl same) e =
-    let here : range_of t q ≡ Some m = ap (range_of t) same ∙ e in
-    subst (λ o. In m (cons_option o (filter_map (range_of t) ps))) (sym here) (inl refl)
-range_in t (q ∷ ps) part m (inr i) e = in_more m (range_of t q) (filter_map (range_of t) ps) (range_in t ps part m i e)
-
--- lists that agree but for one place are the same once that place is set
-same_set : (xs ys : List (List ℕ)) (i : ℕ) (X : List ℕ) → length xs ≡ length ys
-    → ((s : ℕ) (d : List ℕ) → s < length xs → s ≢ i → get_or xs s d ≡ get_or ys s d) → set xs i X ≡ set ys i X
-same_set xs ys i X len h = same_lists (set xs i X) (set ys i X) (length-set xs i X ∙ len ∙ sym (length-set ys i X)) (λ s d below.
-    let within : s < length xs = omega (arith, below, length-set xs i X) in
-    let within' : s < length ys = omega (arith, within, len) in
-    elim (cases_eq s i) [
-      | inl e ↦
-          let at : i < length xs = omega (arith, e, within) in
-          let at' : i < length ys = omega (arith, e, within') in
-          ap (λ n. get_or (set xs i X) n d) e ∙ get_or-set_same xs i X d at ∙ sym (ap (λ n. get_or (set ys i X) n d) e ∙ get_or-set_same ys i X d at')
-      | inr ne ↦ get_or-set_other xs i s X d ne ∙ h s d within ne ∙ sym (get_or-set_other ys i s X d ne)
-    ])
-
 module _ (images others : List (List ℕ)) (t : Target) (c : Candidate)
     (agree : (range : Range) → Contains (ranges_of t c) range → bytes_of images range.slot range.off range.len
     ≡ bytes_of others range.slot range.off range.len) where
+  -- a part that the candidate reads has the same bytes in both
   same_part : (part : Part) → In part (parts_read (slice_count t) t.at.index c) → element images t part ≡ element others t part
   same_part part i = by (range_of t part) refl
     where
@@ -130,6 +110,7 @@ module _ (images others : List (List ℕ)) (t : Target) (c : Candidate)
       by None e = refl
       by (Some m) e = agree m (at_in m (ranges_of t c) (range_in t (parts_read (slice_count t) t.at.index c) part m i e))
 
+  -- both have as many slices
   even : length (slices images t) ≡ length (slices others t)
   even = length-slices images t c ∙ sym (length-slices others t c)
 
@@ -143,25 +124,18 @@ module _ (images others : List (List ℕ)) (t : Target) (c : Candidate)
   -- so are all with others in the places of those that aren't
   same_with_one : ((s : ℕ) → s ≢ t.at.index → reads_slice t.at.index c s ≡ true) → (X : List ℕ) → set (slices images t) t.at.index X
       ≡ set (slices others t) t.at.index X
-  same_with_one reads X = same_set (slices images t) (slices others t) t.at.index X even (λ s d lt ne. same_slice s d lt (reads s ne))
+  same_with_one reads X = same_set (slices images t) (slices others t) t.at.index X even (λ s d ne lt. same_slice s d lt (reads s ne))
 
+  -- with slices put in the places of the two that aren't read, both rows are the same
   same_with_two : (j : ℕ) → ((s : ℕ) → s ≢ t.at.index → s ≢ j → reads_slice t.at.index c s ≡ true) → (X Y : List ℕ)
       → set (set (slices images t) j Y) t.at.index X ≡ set (set (slices others t) j Y) t.at.index X
   same_with_two j reads X Y =
-      let mine = set (slices images t) j Y in
-      let theirs = set (slices others t) j Y in
-      same_set mine theirs t.at.index X (length-set (slices images t) j Y ∙ even ∙ sym (length-set (slices others t) j Y)) (λ s d lt ne.
+      same_set (set (slices images t) j Y) (set (slices others t) j Y) t.at.index X
+      (length-set (slices images t) j Y ∙ even ∙ sym (length-set (slices others t) j Y)) (λ s d ne lt.
       let within : s < length (slices images t) = omega (arith, lt, length-set (slices images t) j Y) in
-      elim (cases_eq s j) [
-        | inl e ↦
-            let at : j < length (slices images t) = omega (arith, e, within) in
-            let at' : j < length (slices others t) = omega (arith, at, even) in
-            ap (λ n. get_or mine n d) e ∙ get_or-set_same (slices images t) j Y d at
-            ∙ sym (ap (λ n. get_or theirs n d) e ∙ get_or-set_same (slices others t) j Y d at')
-        | inr ne_j ↦ get_or-set_other (slices images t) j s Y d ne_j ∙ same_slice s d within (reads s ne ne_j)
-            ∙ sym (get_or-set_other (slices others t) j s Y d ne_j)
-      ])
+      set_alike (slices images t) (slices others t) j Y even s d within (λ ne_j. same_slice s d within (reads s ne ne_j)))
 
+-- images that agree on the ranges of a candidate give it the same value
 pub value_by_ranges : ValueByRanges
 value_by_ranges images others t (Read part) agree = same_part images others t (Read part) agree part (inl refl)
 value_by_ranges images others t ByP agree =

@@ -35,7 +35,7 @@ AccountsAttempt t c old new Absent = NoneFailed old.account new.account
 AccountsAttempt t c old new (Failed s) = IsMissed t c s old new
 
 -- no read failed, and bytes are those of the first candidate that stands and passes
-pub record IsFirst (t : Target) (old new : Seen) (bytes : List ℕ) : Type 0 where
+pub record IsFirstPassing (t : Target) (old new : Seen) (bytes : List ℕ) : Type 0 where
   pub none : NoneFailed old.account new.account
   pub pass : passes t.setting t.want bytes ≡ true
   pub first : IfSome old.held (λ images. slice_get (passing images t) 0 ≡ Some bytes)
@@ -51,7 +51,7 @@ pub record IsLater (t : Target) (old new : Seen) (bytes : List ℕ) : Type 0 whe
 
 -- all candidates, from an account of no fresh failure on
 abbrev pub FitsOutcome : Target → Seen → Seen → List ℕ → TrialOutcome → Type 0
-FitsOutcome t old new slot outcome.First = IsFirst t old new (take (size_of t) slot)
+FitsOutcome t old new slot outcome.First = IsFirstPassing t old new (take (size_of t) slot)
 FitsOutcome t old new slot outcome.Later = IsLater t old new (take (size_of t) slot)
 FitsOutcome t old new slot outcome.Lost =
     NoneFailed old.account new.account × IfSome old.held (λ images. slice_get (passing images t) 0 ≡ None)

@@ -70,7 +70,7 @@ pub record IsCompared (t : Target) (old new : Seen) (slot : Option ℕ) : Type 0
   pub are_read : AreRead t new.account.missed (candidates t) read
   pub is_other : IfSome old.held (λ images. slot ≡ other_slot images t read)
   pub of_one : IfSome slot (λ s. Any (λ c. (stands t c ≡ true) × (least_slot t c ≡ Some s)) (candidates t))
-  pub calm : Steady old.account.faults new.account.faults → new.account.missed ≡ []
+  pub misses_none : Steady old.account.faults new.account.faults → new.account.missed ≡ []
 
 -- the same for a result of seeking
 abbrev pub ComparesSought : Result Target Fault → Seen → Seen → Option ℕ → Type 0
@@ -87,7 +87,7 @@ pub record ReadUpTo (t : Target) (old now : Seen) (k : ℕ) (P : List (List ℕ)
   pub are_read : AreRead t now.account.missed (take k (candidates t)) read
   pub holds : IfSome old.held (λ images. P images read)
   pub later : old.account.faults ≤ now.account.faults
-  pub calm : Steady old.account.faults now.account.faults → now.account.missed ≡ old.account.missed
+  pub misses_none : Steady old.account.faults now.account.faults → now.account.missed ≡ old.account.missed
 
 -- no candidate of some passes
 abbrev pub NonePass : Target → List (List ℕ) → List Candidate → Type 0

@@ -11,7 +11,7 @@ use Rattle.btr_read.specs.declared.want.Want.{Want}
 use Rattle.btr_read.specs.Candidates.{Target, size_of}
 use Rattle.btr_read.specs.Fate.{passing}
 use Rattle.btr_read.specs.Cause.{IsUnread}
-use Rattle.btr_read.specs.Attempt.{IsFirst, IsLater}
+use Rattle.btr_read.specs.Attempt.{IsFirstPassing, IsLater}
 use Rattle.btr_read.specs.Store.{kept_want}
 use Rattle.btr_read.specs.Writing.{OnlyWrites, StillKept}
 
@@ -41,7 +41,7 @@ pub record KeepsOneMore (t : Target) (wants wants' : List (Option Want)) (pool p
 -- each answer with what it says of what is sought, and of the blocks that are kept then
 abbrev pub FitsFinding : Target → List (Option Want) → List (Option Want) → Slots → Slots → Seen → Seen → Result ℕ Missed → Type 0
 FitsFinding t wants wants' pool pool' old new (Ok slot) =
-    (KeepsOneMore t wants wants' pool pool' slot × IsFirst t old new (take (size_of t) (bytes_at pool' slot)))
+    (KeepsOneMore t wants wants' pool pool' slot × IsFirstPassing t old new (take (size_of t) (bytes_at pool' slot)))
     ⊎ (StillKept wants wants' pool pool' × IsLater t old new (take (size_of t) (bytes_at pool' slot)))
 FitsFinding t wants wants' pool pool' old new (Err Lost) =
     StillKept wants wants' pool pool' × NoneFailed old.account new.account

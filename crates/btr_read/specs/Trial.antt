@@ -65,8 +65,8 @@ FitsTrial t before now slot (Ended outcome) = FitsOutcome t before now slot outc
 FitsTrial t before now slot (Stopped tried unread) = TriedSoFar t before now (Some unread.slot) tried
 
 -- a trial goes on, where the first k candidates had been tried when it began
-abbrev pub GoesOn : Target → Option ℕ → ℕ → Seen → Seen → Slots → ℕ → Trial → Type 0
-GoesOn t failed k old new pool slot trial =
+abbrev pub TriesOn : Target → Option ℕ → ℕ → Seen → Seen → Slots → ℕ → Trial → Type 0
+TriesOn t failed k old new pool slot trial =
     (before : Seen) → BeganAt before old → TriedSoFar t before old failed k → FitsTrial t before new (bytes_at pool slot) trial
 
 -- a trial and its outcome, when the first k candidates had been tried before it

@@ -25,7 +25,7 @@ pub record OnlyWritesIn (ks : List ℕ) (old new : Slots) : Type 0 where
   pub others : (j : ℕ) → IsNoneOf ks j → bytes_at new j ≡ bytes_at old j
 
 -- three loans of a pool are live, each of a slot of its own
-pub record AreApart (pool : Slots) (a b c : ℕ) : Type 0 where
+pub record AreThreeLoans (pool : Slots) (a b c : ℕ) : Type 0 where
   pub a_live : IsLive pool a
   pub b_live : IsLive pool b
   pub c_live : IsLive pool c
@@ -35,7 +35,7 @@ pub record AreApart (pool : Slots) (a b c : ℕ) : Type 0 where
 
 -- four loans of a pool are live, each of a slot of its own
 pub record AreFour (pool : Slots) (a b c d : ℕ) : Type 0 where
-  pub first : AreApart pool a b c
+  pub first : AreThreeLoans pool a b c
   pub d_live : IsLive pool d
   pub ad : a ≢ d
   pub bd : b ≢ d

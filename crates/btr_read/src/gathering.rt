@@ -9,7 +9,7 @@ ghost use Rattle.btr_read.specs.declared.candidate.Candidate.{Candidate};
 ghost use Rattle.btr_read.specs.declared.parity.Parity.{Parity};
 ghost use Rattle.btr_read.specs.Candidates.{size_of, slice_count, range_of, stands};
 ghost use Rattle.btr_read.specs.Sought.{IsRebuilt, Uses};
-ghost use Rattle.btr_read.specs.Writing.{AreApart, OnlyWritesIn};
+ghost use Rattle.btr_read.specs.Writing.{AreThreeLoans, OnlyWritesIn};
 ghost use Rattle.btr_read.specs.Gathering.{front_for, HasElement, AddsSlice, HasGathered, RowStands, AccountsPart, AccountsGather, AccountsRow};
 ghost use Rattle.btr_rack.specs.Rack.{OnlyReads};
 
@@ -165,7 +165,7 @@ pub(crate) fn gather_both<R: Rack>(
     requires profile { search.now.chunk.profile ≡ Profile.Raid6 }
     requires stands { RowStands search.now candidate }
     requires open { AreOpen (R.seen rack.old).slots search.now.devices }
-    requires loans { AreApart pool.old p.now q.now spare.now }
+    requires loans { AreThreeLoans pool.old p.now q.now spare.now }
     requires fits { size_of search.now ≤ pool.old.size }
     ensures reads { OnlyReads (R.seen rack.old) (R.seen rack.new) }
     ensures pool { OnlyWritesIn (q.now ∷ spare.now ∷ p.now ∷ []) pool.old pool.new }

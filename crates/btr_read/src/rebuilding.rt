@@ -6,7 +6,7 @@ ghost use Rattle.btr_read.specs.Candidates.{size_of, stands};
 ghost use Rattle.btr_read.specs.Sought.{IsRebuilt};
 ghost use Rattle.btr_read.specs.Attempt.{FitsAttempt, AccountsAttempt};
 ghost use Rattle.btr_read.specs.Gathering.{AccountsGather, HasPairValue, HasValue};
-ghost use Rattle.btr_read.specs.Writing.{AreApart, OnlyWritesIn};
+ghost use Rattle.btr_read.specs.Writing.{AreThreeLoans, OnlyWritesIn};
 ghost use Rattle.btr_read.specs.declared.candidate.Candidate.{Candidate};
 ghost use Rattle.btr_rack.specs.Rack.{OnlyReads};
 
@@ -31,7 +31,7 @@ pub(crate) fn try_rebuilt<R: Rack>(
 ) -> Attempt
     requires rebuilt { IsRebuilt search.now candidate }
     requires open { AreOpen (R.seen rack.old).slots search.now.devices }
-    requires loans { AreApart pool.old loan.now q.now spare.now }
+    requires loans { AreThreeLoans pool.old loan.now q.now spare.now }
     requires fits { size_of search.now ≤ pool.old.size }
     ensures reads { OnlyReads (R.seen rack.old) (R.seen rack.new) }
     ensures pool { OnlyWritesIn (q.now ∷ spare.now ∷ loan.now ∷ []) pool.old pool.new }
@@ -66,7 +66,7 @@ fn rebuild<R: Rack>(
     requires rebuilt { IsRebuilt search.now candidate }
     requires stands { stands search.now candidate ≡ true }
     requires open { AreOpen (R.seen rack.old).slots search.now.devices }
-    requires loans { AreApart pool.old loan.now q.now spare.now }
+    requires loans { AreThreeLoans pool.old loan.now q.now spare.now }
     requires fits { size_of search.now ≤ pool.old.size }
     ensures reads { OnlyReads (R.seen rack.old) (R.seen rack.new) }
     ensures pool { OnlyWritesIn (q.now ∷ spare.now ∷ loan.now ∷ []) pool.old pool.new }
@@ -140,7 +140,7 @@ fn rebuild_by_both<R: Rack>(
     requires rebuilt { IsRebuilt search.now (Candidate.ByBoth other) }
     requires stands { stands search.now (Candidate.ByBoth other) ≡ true }
     requires open { AreOpen (R.seen rack.old).slots search.now.devices }
-    requires loans { AreApart pool.old p.now q.now spare.now }
+    requires loans { AreThreeLoans pool.old p.now q.now spare.now }
     requires fits { size_of search.now ≤ pool.old.size }
     ensures reads { OnlyReads (R.seen rack.old) (R.seen rack.new) }
     ensures pool { OnlyWritesIn (q.now ∷ spare.now ∷ p.now ∷ []) pool.old pool.new }

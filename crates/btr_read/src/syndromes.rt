@@ -7,7 +7,7 @@ ghost use Rattle.btr_read.specs.Layout.{AreOpen};
 ghost use Rattle.btr_read.specs.Candidates.{candidates, size_of, slice_count, ways};
 ghost use Rattle.btr_read.specs.Sought.{IsRebuilt};
 ghost use Rattle.btr_read.specs.Gathering.{HasPairValue, HasValue, HaveSyndromes, RowStands, AccountsRow, IsOfRow};
-ghost use Rattle.btr_read.specs.Trial.{FitsSyndromes, GoesOn, IfStopped};
+ghost use Rattle.btr_read.specs.Trial.{FitsSyndromes, TriesOn, IfStopped};
 ghost use Rattle.btr_read.specs.Writing.{AreRowSlots, OnlyWritesIn};
 ghost use Rattle.btr_read.specs.declared.candidate.Candidate.{Candidate};
 
@@ -38,7 +38,7 @@ pub(crate) fn try_row<R: Rack>(
     requires fits { size_of search.now ≤ pool.old.size }
     ensures reads { OnlyReads (R.seen rack.old) (R.seen rack.new) }
     ensures pool { OnlyWritesIn (slots.now.q.now ∷ slots.now.spare.now ∷ slots.now.p.now ∷ slots.now.sought.now ∷ []) pool.old pool.new }
-    ensures trial { GoesOn search.now failed 1 (R.seen rack.old) (R.seen rack.new) pool.new slots.now.sought.now result }
+    ensures trial { TriesOn search.now failed 1 (R.seen rack.old) (R.seen rack.new) pool.new slots.now.sought.now result }
     ensures part { IfStopped (IsOfRow search.now Candidate.ByP) result }
 {
     match gather_both(
@@ -74,7 +74,7 @@ fn try_syndromes<R: Rack>(
     requires syndromes { HaveSyndromes (R.seen rack.old).held search.now pool.old slots.now.p.now slots.now.q.now }
     ensures reads { OnlyReads (R.seen rack.old) (R.seen rack.new) }
     ensures pool { OnlyWritesIn (slots.now.q.now ∷ slots.now.spare.now ∷ slots.now.sought.now ∷ []) pool.old pool.new }
-    ensures trial { GoesOn search.now failed 1 (R.seen rack.old) (R.seen rack.new) pool.new slots.now.sought.now result }
+    ensures trial { TriesOn search.now failed 1 (R.seen rack.old) (R.seen rack.new) pool.new slots.now.sought.now result }
     ensures part { IfStopped (IsOfRow search.now Candidate.ByP) result }
 {
     for k in 1..search.candidate_count() {

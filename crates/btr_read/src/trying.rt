@@ -9,7 +9,7 @@ ghost use Rattle.btr_read.specs.Attempt.{FitsAttempt, FitsPart, AccountsAttempt,
 ghost use Rattle.btr_read.specs.declared.candidate.Candidate.{Candidate};
 ghost use Rattle.btr_read.specs.Writing.{OnlyWrites, StillKept};
 ghost use Rattle.btr_read.specs.Gathering.{IsOfRow, RowStands};
-ghost use Rattle.btr_read.specs.Trial.{GoesOn, EndsFrom, EndsAround, IfStopped};
+ghost use Rattle.btr_read.specs.Trial.{TriesOn, EndsFrom, EndsAround, IfStopped};
 ghost use Rattle.btr_rack.specs.Rack.{OnlyReads};
 
 use crate::attempt::{Attempt, Trial, TrialOutcome, Unread, ended_after, passed_after};
@@ -176,7 +176,7 @@ fn try_by_parities<R: Rack>(
     ensures pool { OnlyWrites loan.now pool.old pool.new }
     ensures kept { StillKept kept.old.wants kept.new.wants pool.old pool.new }
     ensures nodes { kept.new.nodes ≡ kept.old.nodes }
-    ensures trial { GoesOn search.now failed 1 (R.seen rack.old) (R.seen rack.new) pool.new loan.now result }
+    ensures trial { TriesOn search.now failed 1 (R.seen rack.old) (R.seen rack.new) pool.new loan.now result }
     ensures part { IfStopped (IsOfRow search.now Candidate.ByP) result }
 {
     let p = take_least(pool, kept);

@@ -36,22 +36,8 @@ loop-k-init g c = record {
   so_far = λ old is h. h;
 }
 
-pub returns-then-slots_differ-clause-pool : goal.returns-then-slots_differ-clause-pool
-returns-then-slots_differ-clause-pool g c = only_writes_more c.args.pool.now c.loop-k.pool c.try_candidate.new.pool c.args.other.now
-    c.loop-k.invariant.writes c.in-Passed.ensures.pool
-
-pub returns-then-slots_differ-clause-reads : goal.returns-then-slots_differ-clause-reads
-returns-then-slots_differ-clause-reads g c = reads_more c.loop-k.invariant.reads c.in-Passed.ensures.reads
-
-pub returns-then-slots_differ-clause-kept : goal.returns-then-slots_differ-clause-kept
-returns-then-slots_differ-clause-kept g c = still_more c.args.kept.now.wants c.loop-k.kept.wants c.try_candidate.new.kept.wants c.args.pool.now
-    c.loop-k.pool c.try_candidate.new.pool c.loop-k.invariant.still c.in-Passed.ensures.kept
-
-pub returns-then-slots_differ-clause-nodes : goal.returns-then-slots_differ-clause-nodes
-returns-then-slots_differ-clause-nodes g c = c.in-Passed.ensures.nodes ∙ c.loop-k.invariant.nodes
-
-pub returns-then-slots_differ-clause-other : goal.returns-then-slots_differ-clause-other
-returns-then-slots_differ-clause-other g c = λ old is h.
+pub returns-then-slots_differ : goal.returns-then-slots_differ
+returns-then-slots_differ g c =
     let t = c.args.search.now in
     let now = g.R.Rack.seen c.loop-k.rack in
     let after = g.R.Rack.seen c.try_candidate.new.rack in
@@ -69,14 +55,21 @@ returns-then-slots_differ-clause-other g c = λ old is h.
     (take n (bytes_at c.try_candidate.new.pool c.args.other.now))) (sym c.size.ensures.value) ∙ sym c.slots_differ.ensures
     ∙ c.if-slots_differ.true in
     record {
-      there = lt;
-      candidate = cand;
-      at = c.candidate.ensures.value;
-      standing = e.attempt.0;
-      other = other_read t old now after c.loop-k.k cand block bytes (inv.so_far old is h) c.candidate.ensures.value lt e.account (λ images im.
-          reading_stands images t cand e.attempt.0 ∙ ap Some
-          (telling now.held (λ images. value_of images t cand ≡ bytes) e.attempt.2 images (same_held inv.reads ∙ sym is ∙ im))) e.attempt.1
-          differs;
+      reads = reads_more inv.reads e.reads;
+      pool = writes;
+      kept = still_more c.args.kept.now.wants c.loop-k.kept.wants c.try_candidate.new.kept.wants c.args.pool.now c.loop-k.pool
+          c.try_candidate.new.pool inv.still e.kept;
+      nodes = e.nodes ∙ inv.nodes;
+      other = λ old is h. record {
+        there = lt;
+        candidate = cand;
+        at = c.candidate.ensures.value;
+        standing = e.attempt.0;
+        other = other_read t old now after c.loop-k.k cand block bytes (inv.so_far old is h) c.candidate.ensures.value lt e.account (λ images im.
+            reading_stands images t cand e.attempt.0 ∙ ap Some
+            (telling now.held (λ images. value_of images t cand ≡ bytes) e.attempt.2 images (same_held inv.reads ∙ sym is ∙ im))) e.attempt.1
+            differs;
+      };
     }
 
 pub loop-k-preserved : goal.loop-k-preserved
@@ -84,71 +77,45 @@ loop-k-preserved g c =
     let t = c.args.search.now in
     let now = g.R.Rack.seen c.loop-k.rack in
     let after = g.R.Rack.seen c.try_candidate.new.rack in
+    let all = c.try_candidate.ensures in
     let cand = c.candidate.result in
     let inv = c.loop-k.invariant in
     let lt : c.loop-k.k < length (candidates t) = omega (arith, c.loop-k-test.true, c.candidate_count-k-end.ensures) in
     let block : List ℕ = front_for t c.args.pool.now c.args.first.now in
-    elim c.match-try_candidate.branch [
-      | in-Passed+else-slots_differ w ↦
-          let e = w.in-Passed.ensures in
-          let bytes : List ℕ = front_for t c.try_candidate.new.pool c.args.other.now in
-          let writes = only_writes_more c.args.pool.now c.loop-k.pool c.try_candidate.new.pool c.args.other.now inv.writes e.pool in
-          let same : front_for t c.try_candidate.new.pool c.args.first.now ≡ block = ap (take (size_of t))
-          (writes.others c.args.first.now c.requires.apart c.requires.first.lent) in
-          let alike : differ block bytes ≡ false =
-          ap (λ b. differ b bytes) (sym same) ∙ ap (λ n. differ (take n (bytes_at c.try_candidate.new.pool c.args.first.now))
-          (take n (bytes_at c.try_candidate.new.pool c.args.other.now))) (sym w.size.ensures.value) ∙ sym w.slots_differ.ensures
-          ∙ w.if-slots_differ.false in
-          record {
-            reads = reads_more inv.reads e.reads;
-            writes = only_writes_more c.args.pool.now c.loop-k.pool c.try_candidate.new.pool c.args.other.now inv.writes e.pool;
-            still = still_more c.args.kept.now.wants c.loop-k.kept.wants c.try_candidate.new.kept.wants c.args.pool.now c.loop-k.pool
-                c.try_candidate.new.pool inv.still e.kept;
-            nodes = e.nodes ∙ inv.nodes;
-            so_far = λ old is h. one_read t old now after c.loop-k.k cand (AreAlike t block) (AreAlike t block) (inv.so_far old is h)
-                c.candidate.ensures.value lt e.account (λ images im.
-                same_then images t block bytes cand (reading_stands images t cand e.attempt.0
-                ∙ ap Some (telling now.held (λ images. value_of images t cand ≡ bytes) e.attempt.2 images (same_held inv.reads ∙ sym is ∙ im)))
-                alike);
-          }
-      | in-Differs w ↦
-          let e = w.in-Differs.ensures in
-          record {
-            reads = reads_more inv.reads e.reads;
-            writes = only_writes_more c.args.pool.now c.loop-k.pool c.try_candidate.new.pool c.args.other.now inv.writes e.pool;
-            still = still_more c.args.kept.now.wants c.loop-k.kept.wants c.try_candidate.new.kept.wants c.args.pool.now c.loop-k.pool
-                c.try_candidate.new.pool inv.still e.kept;
-            nodes = e.nodes ∙ inv.nodes;
-            so_far = λ old is h. one_read t old now after c.loop-k.k cand (AreAlike t block) (AreAlike t block) (inv.so_far old is h)
-                c.candidate.ensures.value lt e.account (λ images im.
-                alike_then images t block cand (differs_alone images t cand (value_of images t cand) (reading_stands images t cand e.attempt.0)
-                (telling now.held (λ images. passes t.setting t.want (value_of images t cand) ≡ false) e.attempt.1 images
-                (same_held inv.reads ∙ sym is ∙ im))));
-          }
-      | in-Absent w ↦
-          let e = w.in-Absent.ensures in
-          record {
-            reads = reads_more inv.reads e.reads;
-            writes = only_writes_more c.args.pool.now c.loop-k.pool c.try_candidate.new.pool c.args.other.now inv.writes e.pool;
-            still = still_more c.args.kept.now.wants c.loop-k.kept.wants c.try_candidate.new.kept.wants c.args.pool.now c.loop-k.pool
-                c.try_candidate.new.pool inv.still e.kept;
-            nodes = e.nodes ∙ inv.nodes;
-            so_far = λ old is h. one_read t old now after c.loop-k.k cand (AreAlike t block) (AreAlike t block) (inv.so_far old is h)
-                c.candidate.ensures.value lt e.account (λ images im. alike_then images t block cand
-                (absent_alone images t cand (reading_absent images t cand e.attempt)));
-          }
-      | in-Failed w ↦
-          let e = w.in-Failed.ensures in
-          record {
-            reads = reads_more inv.reads e.reads;
-            writes = only_writes_more c.args.pool.now c.loop-k.pool c.try_candidate.new.pool c.args.other.now inv.writes e.pool;
-            still = still_more c.args.kept.now.wants c.loop-k.kept.wants c.try_candidate.new.kept.wants c.args.pool.now c.loop-k.pool
-                c.try_candidate.new.pool inv.still e.kept;
-            nodes = e.nodes ∙ inv.nodes;
-            so_far = λ old is h. one_missed t old now after c.loop-k.k _ cand (AreAlike t block) (inv.so_far old is h) c.candidate.ensures.value lt
-                e.account;
-          }
-    ]
+    let writes = only_writes_more c.args.pool.now c.loop-k.pool c.try_candidate.new.pool c.args.other.now inv.writes all.pool in
+    record {
+      reads = reads_more inv.reads all.reads;
+      writes = writes;
+      still = still_more c.args.kept.now.wants c.loop-k.kept.wants c.try_candidate.new.kept.wants c.args.pool.now c.loop-k.pool
+          c.try_candidate.new.pool inv.still all.kept;
+      nodes = all.nodes ∙ inv.nodes;
+      so_far = λ old is h. elim c.match-try_candidate.branch [
+        | in-Passed+else-slots_differ w ↦
+            let e = w.in-Passed.ensures in
+            let bytes : List ℕ = front_for t c.try_candidate.new.pool c.args.other.now in
+            let same : front_for t c.try_candidate.new.pool c.args.first.now ≡ block = ap (take (size_of t))
+            (writes.others c.args.first.now c.requires.apart c.requires.first.lent) in
+            let alike : differ block bytes ≡ false =
+            ap (λ b. differ b bytes) (sym same) ∙ ap (λ n. differ (take n (bytes_at c.try_candidate.new.pool c.args.first.now))
+            (take n (bytes_at c.try_candidate.new.pool c.args.other.now))) (sym w.size.ensures.value) ∙ sym w.slots_differ.ensures
+            ∙ w.if-slots_differ.false in
+            one_read t old now after c.loop-k.k cand (AreAlike t block) (AreAlike t block) (inv.so_far old is h) c.candidate.ensures.value lt e.account
+            (λ images im. same_then images t block bytes cand (reading_stands images t cand e.attempt.0
+            ∙ ap Some (telling now.held (λ images. value_of images t cand ≡ bytes) e.attempt.2 images (same_held inv.reads ∙ sym is ∙ im))) alike)
+        | in-Differs w ↦
+            let e = w.in-Differs.ensures in
+            one_read t old now after c.loop-k.k cand (AreAlike t block) (AreAlike t block) (inv.so_far old is h) c.candidate.ensures.value lt e.account
+            (λ images im. alike_then images t block cand (differs_alone images t cand (value_of images t cand) (reading_stands images t cand e.attempt.0)
+            (telling now.held (λ images. passes t.setting t.want (value_of images t cand) ≡ false) e.attempt.1 images
+            (same_held inv.reads ∙ sym is ∙ im))))
+        | in-Absent w ↦
+            let e = w.in-Absent.ensures in
+            one_read t old now after c.loop-k.k cand (AreAlike t block) (AreAlike t block) (inv.so_far old is h) c.candidate.ensures.value lt e.account
+            (λ images im. alike_then images t block cand (absent_alone images t cand (reading_absent images t cand e.attempt)))
+        | in-Failed w ↦ one_missed t old now after c.loop-k.k _ cand (AreAlike t block) (inv.so_far old is h) c.candidate.ensures.value lt
+            w.in-Failed.ensures.account
+      ];
+    }
 
 pub returns-clause-other : goal.returns-clause-other
 returns-clause-other g c = λ old is h.

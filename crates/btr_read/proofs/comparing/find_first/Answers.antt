@@ -36,40 +36,30 @@ loop-k-init g c = record {
       (told (g.R.Rack.seen c.args.rack.now).held _ (λ images e. refl));
 }
 
-pub returns-in-Passed-clause-pool : goal.returns-in-Passed-clause-pool
-returns-in-Passed-clause-pool g c = only_writes_more c.args.pool.now c.loop-k.pool c.try_candidate.new.pool c.args.loan.now
-    c.loop-k.invariant.writes c.in-Passed.ensures.pool
-
-pub returns-in-Passed-clause-reads : goal.returns-in-Passed-clause-reads
-returns-in-Passed-clause-reads g c = reads_more c.loop-k.invariant.reads c.in-Passed.ensures.reads
-
-pub returns-in-Passed-clause-kept : goal.returns-in-Passed-clause-kept
-returns-in-Passed-clause-kept g c = still_more c.args.kept.now.wants c.loop-k.kept.wants c.try_candidate.new.kept.wants c.args.pool.now
-    c.loop-k.pool c.try_candidate.new.pool c.loop-k.invariant.still c.in-Passed.ensures.kept
-
-pub returns-in-Passed-clause-nodes : goal.returns-in-Passed-clause-nodes
-returns-in-Passed-clause-nodes g c = c.in-Passed.ensures.nodes ∙ c.loop-k.invariant.nodes
-
-pub returns-in-Passed-clause-first : goal.returns-in-Passed-clause-first
-returns-in-Passed-clause-first g c =
+pub returns-in-Passed : goal.returns-in-Passed
+returns-in-Passed g c =
     let t = c.args.search.now in
-    let old = g.R.Rack.seen c.args.rack.now in
     let now = g.R.Rack.seen c.loop-k.rack in
-    let after = g.R.Rack.seen c.try_candidate.new.rack in
     let e = c.in-Passed.ensures in
     let cand = c.candidate.result in
     let inv = c.loop-k.invariant in
     let lt : c.loop-k.k < length (candidates t) = omega (arith, c.loop-k-test.true, c.candidate_count-k-end.ensures) in
-    let block : List ℕ = take (size_of t) (bytes_at c.try_candidate.new.pool c.args.loan.now) in (
-      lt,
-      one_read t old now after c.loop-k.k cand (NonePass t) (AreAlike t block) inv.so_far c.candidate.ensures.value lt e.account (λ images im cs none.
-          first_then images t block cand (reading_stands images t cand e.attempt.0
-          ∙ ap Some (telling now.held (λ images. value_of images t cand ≡ block) e.attempt.2 images (same_held inv.reads ∙ im))) e.attempt.1 cs
-          none),
-    )
-
-pub returns-in-Passed-clause-few : goal.returns-in-Passed-clause-few
-returns-in-Passed-clause-few g c = omega (arith, c.loop-k-test.true, c.candidate_count-k-end.type_inv)
+    let block : List ℕ = take (size_of t) (bytes_at c.try_candidate.new.pool c.args.loan.now) in
+    record {
+      reads = reads_more inv.reads e.reads;
+      pool = only_writes_more c.args.pool.now c.loop-k.pool c.try_candidate.new.pool c.args.loan.now inv.writes e.pool;
+      kept = still_more c.args.kept.now.wants c.loop-k.kept.wants c.try_candidate.new.kept.wants c.args.pool.now c.loop-k.pool
+          c.try_candidate.new.pool inv.still e.kept;
+      nodes = e.nodes ∙ inv.nodes;
+      few = omega (arith, c.loop-k-test.true, c.candidate_count-k-end.type_inv);
+      first = (
+        lt,
+        one_read t (g.R.Rack.seen c.args.rack.now) now (g.R.Rack.seen c.try_candidate.new.rack) c.loop-k.k cand (NonePass t) (AreAlike t block)
+            inv.so_far c.candidate.ensures.value lt e.account (λ images im cs none. first_then images t block cand
+            (reading_stands images t cand e.attempt.0
+            ∙ ap Some (telling now.held (λ images. value_of images t cand ≡ block) e.attempt.2 images (same_held inv.reads ∙ im))) e.attempt.1 cs none),
+      );
+    }
 
 pub loop-k-preserved : goal.loop-k-preserved
 loop-k-preserved g c =
@@ -77,45 +67,29 @@ loop-k-preserved g c =
     let old = g.R.Rack.seen c.args.rack.now in
     let now = g.R.Rack.seen c.loop-k.rack in
     let after = g.R.Rack.seen c.try_candidate.new.rack in
+    let all = c.try_candidate.ensures in
     let cand = c.candidate.result in
     let inv = c.loop-k.invariant in
     let lt : c.loop-k.k < length (candidates t) = omega (arith, c.loop-k-test.true, c.candidate_count-k-end.ensures) in
-    elim c.match-try_candidate.branch [
-      | in-Differs w ↦
-          let e = w.in-Differs.ensures in
-          record {
-            reads = reads_more inv.reads e.reads;
-            writes = only_writes_more c.args.pool.now c.loop-k.pool c.try_candidate.new.pool c.args.loan.now inv.writes e.pool;
-            still = still_more c.args.kept.now.wants c.loop-k.kept.wants c.try_candidate.new.kept.wants c.args.pool.now c.loop-k.pool
-                c.try_candidate.new.pool inv.still e.kept;
-            nodes = e.nodes ∙ inv.nodes;
-            so_far = one_read t old now after c.loop-k.k cand (NonePass t) (NonePass t) inv.so_far c.candidate.ensures.value lt e.account (λ images im.
-                none_then images t cand (differs_alone images t cand (value_of images t cand) (reading_stands images t cand e.attempt.0)
-                (telling now.held (λ images. passes t.setting t.want (value_of images t cand) ≡ false) e.attempt.1 images
-                (same_held inv.reads ∙ im))));
-          }
-      | in-Absent w ↦
-          let e = w.in-Absent.ensures in
-          record {
-            reads = reads_more inv.reads e.reads;
-            writes = only_writes_more c.args.pool.now c.loop-k.pool c.try_candidate.new.pool c.args.loan.now inv.writes e.pool;
-            still = still_more c.args.kept.now.wants c.loop-k.kept.wants c.try_candidate.new.kept.wants c.args.pool.now c.loop-k.pool
-                c.try_candidate.new.pool inv.still e.kept;
-            nodes = e.nodes ∙ inv.nodes;
-            so_far = one_read t old now after c.loop-k.k cand (NonePass t) (NonePass t) inv.so_far c.candidate.ensures.value lt e.account
-                (λ images im. none_then images t cand (absent_alone images t cand (reading_absent images t cand e.attempt)));
-          }
-      | in-Failed w ↦
-          let e = w.in-Failed.ensures in
-          record {
-            reads = reads_more inv.reads e.reads;
-            writes = only_writes_more c.args.pool.now c.loop-k.pool c.try_candidate.new.pool c.args.loan.now inv.writes e.pool;
-            still = still_more c.args.kept.now.wants c.loop-k.kept.wants c.try_candidate.new.kept.wants c.args.pool.now c.loop-k.pool
-                c.try_candidate.new.pool inv.still e.kept;
-            nodes = e.nodes ∙ inv.nodes;
-            so_far = one_missed t old now after c.loop-k.k _ cand (NonePass t) inv.so_far c.candidate.ensures.value lt e.account;
-          }
-    ]
+    record {
+      reads = reads_more inv.reads all.reads;
+      writes = only_writes_more c.args.pool.now c.loop-k.pool c.try_candidate.new.pool c.args.loan.now inv.writes all.pool;
+      still = still_more c.args.kept.now.wants c.loop-k.kept.wants c.try_candidate.new.kept.wants c.args.pool.now c.loop-k.pool
+          c.try_candidate.new.pool inv.still all.kept;
+      nodes = all.nodes ∙ inv.nodes;
+      so_far = elim c.match-try_candidate.branch [
+        | in-Differs w ↦
+            let e = w.in-Differs.ensures in
+            one_read t old now after c.loop-k.k cand (NonePass t) (NonePass t) inv.so_far c.candidate.ensures.value lt e.account (λ images im.
+            none_then images t cand (differs_alone images t cand (value_of images t cand) (reading_stands images t cand e.attempt.0)
+            (telling now.held (λ images. passes t.setting t.want (value_of images t cand) ≡ false) e.attempt.1 images (same_held inv.reads ∙ im))))
+        | in-Absent w ↦
+            let e = w.in-Absent.ensures in
+            one_read t old now after c.loop-k.k cand (NonePass t) (NonePass t) inv.so_far c.candidate.ensures.value lt e.account
+            (λ images im. none_then images t cand (absent_alone images t cand (reading_absent images t cand e.attempt)))
+        | in-Failed w ↦ one_missed t old now after c.loop-k.k _ cand (NonePass t) inv.so_far c.candidate.ensures.value lt w.in-Failed.ensures.account
+      ];
+    }
 
 pub returns-clause-first : goal.returns-clause-first
 returns-clause-first g c =

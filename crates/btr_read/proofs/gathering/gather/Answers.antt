@@ -44,7 +44,7 @@ loop-slice-init g c =
     record {
       reads = e.reads;
       writes = writes_one c.args.pool.now new sum (c.args.spare.now ∷ sum ∷ []) (λ j none. none.1.0) e.kept;
-      calm = e.account;
+      unfailed = e.account;
       sum = λ images is. gathered_none images t c.args.candidate c.args.parity (take n (bytes_at new sum))
           (telling held (λ images. take n (bytes_at new sum) ≡ element images t c.part.result) e.bytes images is
           ∙ ap (element images t) c.part.ensures) e.slice;
@@ -62,8 +62,8 @@ loop-slice-preserved g c =
           rw w.rack-is (rw w.pool-is (record {
             reads = reads_more inv.reads e.reads;
             writes = writes_more c.args.pool.now c.loop-slice.pool w.add_slice.new.pool _ inv.writes e.pool;
-            calm = none_more (g.R.Rack.seen c.args.rack.now).account (g.R.Rack.seen c.loop-slice.rack).account
-                (g.R.Rack.seen w.add_slice.new.rack).account inv.calm e.account;
+            unfailed = none_more (g.R.Rack.seen c.args.rack.now).account (g.R.Rack.seen c.loop-slice.rack).account
+                (g.R.Rack.seen w.add_slice.new.rack).account inv.unfailed e.account;
             sum = λ images is.
                 let old = bytes_at c.loop-slice.pool c.args.sum.now in
                 let new = bytes_at w.add_slice.new.pool c.args.sum.now in
@@ -76,7 +76,7 @@ loop-slice-preserved g c =
           rw w.rack-is (rw w.pool-is (record {
             reads = inv.reads;
             writes = inv.writes;
-            calm = inv.calm;
+            unfailed = inv.unfailed;
             sum = λ images is. gathered_past images t c.args.candidate c.args.parity k (take n (bytes_at c.loop-slice.pool c.args.sum.now))
                 (inv.sum images is) (sym c.reads.ensures ∙ w.if-reads.false);
           }))
@@ -89,7 +89,7 @@ returns-in_err-add_slice-clause-account g c =
     let e = c.in_err-add_slice.ensures.account in
     let lt : k < slice_count t = omega (arith, c.loop-slice-test.true, c.slice_count-slice-end.ensures.value) in
     let one = one_after e.0 (g.R.Rack.seen c.args.rack.now) (g.R.Rack.seen c.loop-slice.rack) (g.R.Rack.seen c.add_slice.new.rack)
-    (same_sure c.loop-slice.invariant.reads) c.loop-slice.invariant.calm e.1 in
+    (same_sure c.loop-slice.invariant.reads) c.loop-slice.invariant.unfailed e.1 in
     let part = range_in_candidate t c.args.candidate (Slice k) e.0
     (slice_in (slice_count t) t.at.index c.args.candidate k lt (sym c.reads.ensures ∙ c.if-reads.true)) e.3 in
     let p = err_from_is_err_and c.from_residual-in_err-add_slice.result c.from_residual-in_err-add_slice.ensures.1 in

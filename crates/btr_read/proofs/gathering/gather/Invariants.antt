@@ -10,7 +10,7 @@ abbrev pub invariant-loop-slice : goal.invariant-loop-slice
 invariant-loop-slice g l = record {
   reads : OnlyReads (g.R.Rack.seen l.fn.rack) (g.R.Rack.seen l.rack);
   writes : OnlyWritesIn (l.spare ∷ l.sum ∷ []) l.fn.pool l.pool;
-  calm : NoneFailed (g.R.Rack.seen l.fn.rack).account (g.R.Rack.seen l.rack).account;
+  unfailed : NoneFailed (g.R.Rack.seen l.fn.rack).account (g.R.Rack.seen l.rack).account;
   sum : (images : List (List ℕ)) → (g.R.Rack.seen l.fn.rack).held ≡ Some images
       → GatheredSoFar images l.search l.candidate l.parity l.slice (take (size_of l.search) (bytes_at l.pool l.sum));
 }

@@ -75,7 +75,7 @@ loop-slice-init g c =
     record {
       reads = reads_more first.reads second.reads;
       writes = writes;
-      calm = none_more (g.R.Rack.seen c.args.rack.now).account (g.R.Rack.seen c.read_part.new.rack).account
+      unfailed = none_more (g.R.Rack.seen c.args.rack.now).account (g.R.Rack.seen c.read_part.new.rack).account
           (g.R.Rack.seen c.read_part-2.new.rack).account first.account second.account;
       of_p = λ images is.
           let read = telling (g.R.Rack.seen c.args.rack.now).held (λ images. take n (bytes_at pool p) ≡ element images t P) first.bytes images is in
@@ -104,8 +104,8 @@ loop-slice-preserved g c =
           rw w.rack-is (rw w.pool-is (record {
             reads = reads_more inv.reads e.reads;
             writes = writes_more c.args.pool.now c.loop-slice.pool w.add_slice_to_both.new.pool _ inv.writes e.pool;
-            calm = none_more (g.R.Rack.seen c.args.rack.now).account (g.R.Rack.seen c.loop-slice.rack).account
-                (g.R.Rack.seen w.add_slice_to_both.new.rack).account inv.calm e.account;
+            unfailed = none_more (g.R.Rack.seen c.args.rack.now).account (g.R.Rack.seen c.loop-slice.rack).account
+                (g.R.Rack.seen w.add_slice_to_both.new.rack).account inv.unfailed e.account;
             of_p = λ images is.
                 let new = bytes_at w.add_slice_to_both.new.pool c.args.p.now in
                 let added = telling held (λ images. IsAdded images t k parity.P p_old new) e.of_p images (same_held inv.reads ∙ is) in
@@ -120,7 +120,7 @@ loop-slice-preserved g c =
           rw w.rack-is (rw w.pool-is (record {
             reads = inv.reads;
             writes = inv.writes;
-            calm = inv.calm;
+            unfailed = inv.unfailed;
             of_p = λ images is. gathered_past images t both parity.P k (take n p_old) (inv.of_p images is) passes;
             of_q = λ images is. gathered_past images t both parity.Q k (take n q_old) (inv.of_q images is) passes;
           }))
@@ -134,7 +134,7 @@ returns-in_err-add_slice_to_both-clause-account g c =
     let lt : k < slice_count t = omega (arith, c.loop-slice-test.true, c.slice_count-slice-end.ensures.value) in
     let p = err_from_is_err_and c.from_residual-in_err-add_slice_to_both.result c.from_residual-in_err-add_slice_to_both.ensures.1 in
     rw (p.1, p.2) (row_missed t c.args.candidate (Slice k) _ (g.R.Rack.seen c.args.rack.now) (g.R.Rack.seen c.loop-slice.rack)
-    (g.R.Rack.seen c.add_slice_to_both.new.rack) (same_sure c.loop-slice.invariant.reads) c.loop-slice.invariant.calm e
+    (g.R.Rack.seen c.add_slice_to_both.new.rack) (same_sure c.loop-slice.invariant.reads) c.loop-slice.invariant.unfailed e
     (lt, sym c.reads.ensures ∙ c.if-reads.true))
 
 pub returns-clause-of_p : goal.returns-clause-of_p

@@ -11,7 +11,7 @@ abbrev pub invariant-loop-slice : goal.invariant-loop-slice
 invariant-loop-slice g l = record {
   reads : OnlyReads (g.R.Rack.seen l.fn.rack) (g.R.Rack.seen l.rack);
   writes : OnlyWritesIn (l.q ∷ l.spare ∷ l.p ∷ []) l.fn.pool l.pool;
-  calm : NoneFailed (g.R.Rack.seen l.fn.rack).account (g.R.Rack.seen l.rack).account;
+  unfailed : NoneFailed (g.R.Rack.seen l.fn.rack).account (g.R.Rack.seen l.rack).account;
   of_p : (images : List (List ℕ)) → (g.R.Rack.seen l.fn.rack).held ≡ Some images
       → GatheredSoFar images l.search l.candidate parity.P l.slice (take (size_of l.search) (bytes_at l.pool l.p));
   of_q : (images : List (List ℕ)) → (g.R.Rack.seen l.fn.rack).held ≡ Some images

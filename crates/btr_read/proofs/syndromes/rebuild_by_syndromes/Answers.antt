@@ -1,18 +1,24 @@
-use Rattle.std.proofs.Common.{◌≡◌, ◌≢◌, ℕ, List, take, IfSome, subst, sym, ap, ◌∙◌}
+use Rattle.std.proofs.Common.{◌≡◌, ◌≢◌, ℕ, List, Option, take, IfSome, subst, sym, ap, ◌∙◌}
 use Rattle.btr_parity.specs.Solutions.{IsTheOne, Weighs}
 use Rattle.btr_pool.specs.Slots.{Slots, bytes_at, with_bytes}
 use Rattle.btr_pool.proofs.Loans.{bytes_at-with_bytes_other}
 use Rattle.btr_read.specs.declared.candidate.Candidate.TheVariants.{ByP, ByQ}
 use Rattle.btr_read.specs.declared.parity.Parity.TheVariants as parity
 use Rattle.btr_read.specs.Candidates.{Target, size_of, value_of}
-use Rattle.btr_read.specs.Gathering.{AreSyndromes, IsGathered}
+use Rattle.btr_read.specs.Gathering.{AreSyndromes, HaveSyndromes, IsGathered}
 use Rattle.btr_read.proofs.Rebuilt.{by_p, by_q}
 use Rattle.btr_read.proofs.Trials.{told, telling}
 use Rattle.btr_read.proofs.syndromes.rebuild_by_syndromes.Goals as goal
 
--- a slot that wasn't written
-still : (a b : Slots) (j k : ℕ) → k ≢ j → (w : List ℕ) × (b ≡ with_bytes a k w) → bytes_at b j ≡ bytes_at a j
-still a b j k ne h = ap (λ pool. bytes_at pool j) h.1 ∙ bytes_at-with_bytes_other a j k h.0 (λ e. ne (sym e))
+-- what P and Q leave still stands where another slot was written
+still : (held : Option (List (List ℕ))) (t : Target) (a b : Slots) (p q k : ℕ) → k ≢ p → k ≢ q → (w : List ℕ) × (b ≡ with_bytes a k w)
+    → HaveSyndromes held t a p q → HaveSyndromes held t b p q
+still held t a b p q k kp kq h syndromes =
+    let n : ℕ = size_of t in
+    let same : (j : ℕ) → k ≢ j → bytes_at b j ≡ bytes_at a j =
+    λ j ne. ap (λ pool. bytes_at pool j) h.1 ∙ bytes_at-with_bytes_other a j k h.0 (λ e. ne (sym e)) in
+    subst (λ x. IfSome held (λ images. AreSyndromes images t (take n x) (take n (bytes_at b q)))) (sym (same p kp))
+    (subst (λ x. IfSome held (λ images. AreSyndromes images t (take n (bytes_at a p)) (take n x))) (sym (same q kq)) syndromes)
 
 pub returns-in-ByP-clause-value : goal.returns-in-ByP-clause-value
 returns-in-ByP-clause-value g c =
@@ -30,18 +36,10 @@ returns-in-ByP-clause-value g c =
 
 pub returns-in-ByP-clause-syndromes : goal.returns-in-ByP-clause-syndromes
 returns-in-ByP-clause-syndromes g c =
-    let t : Target = c.args.search.now in
-    let n : ℕ = size_of t in
-    let held = (g.R.Rack.seen c.args.rack.now).held in
-    let old = c.args.pool.now in
-    let p = c.args.slots.now.p.now in
-    let q = c.args.slots.now.q.now in
-    let loan = c.args.slots.now.sought.now in
-    let end = c.copy_slot.new.pool in
-    let same_p = still old end p loan c.requires.loans.first.ab c.copy_slot.ensures.kept in
-    let same_q = still old end q loan c.requires.loans.first.ac c.copy_slot.ensures.kept in
-    subst (λ x. IfSome held (λ images. AreSyndromes images t (take n x) (take n (bytes_at end q)))) (sym same_p)
-    (subst (λ x. IfSome held (λ images. AreSyndromes images t (take n (bytes_at old p)) (take n x))) (sym same_q) c.requires.syndromes)
+    let s = c.args.slots.now in
+    let loans = c.requires.loans.first in
+    still (g.R.Rack.seen c.args.rack.now).held c.args.search.now c.args.pool.now c.copy_slot.new.pool s.p.now s.q.now s.sought.now loans.ab loans.ac
+    c.copy_slot.ensures.kept c.requires.syndromes
 
 pub returns-in-ByQ-clause-value : goal.returns-in-ByQ-clause-value
 returns-in-ByQ-clause-value g c =
@@ -68,17 +66,9 @@ returns-in-ByQ-clause-value g c =
 pub returns-in-ByQ-clause-syndromes : goal.returns-in-ByQ-clause-syndromes
 returns-in-ByQ-clause-syndromes g c =
     let t : Target = c.args.search.now in
-    let n : ℕ = size_of t in
     let held = (g.R.Rack.seen c.args.rack.now).held in
-    let old = c.args.pool.now in
-    let p = c.args.slots.now.p.now in
-    let q = c.args.slots.now.q.now in
-    let loan = c.args.slots.now.sought.now in
+    let s = c.args.slots.now in
+    let loans = c.requires.loans.first in
     let mid = c.copy_slot-in-ByQ.new.pool in
-    let end = c.divide.new.pool in
-    let same_p = still mid end p loan c.requires.loans.first.ab c.divide.ensures.kept
-    ∙ still old mid p loan c.requires.loans.first.ab c.copy_slot-in-ByQ.ensures.kept in
-    let same_q = still mid end q loan c.requires.loans.first.ac c.divide.ensures.kept
-    ∙ still old mid q loan c.requires.loans.first.ac c.copy_slot-in-ByQ.ensures.kept in
-    subst (λ x. IfSome held (λ images. AreSyndromes images t (take n x) (take n (bytes_at end q)))) (sym same_p)
-    (subst (λ x. IfSome held (λ images. AreSyndromes images t (take n (bytes_at old p)) (take n x))) (sym same_q) c.requires.syndromes)
+    still held t mid c.divide.new.pool s.p.now s.q.now s.sought.now loans.ab loans.ac c.divide.ensures.kept
+    (still held t c.args.pool.now mid s.p.now s.q.now s.sought.now loans.ab loans.ac c.copy_slot-in-ByQ.ensures.kept c.requires.syndromes)

@@ -9,7 +9,7 @@ use Rattle.btr_read.proofs.Parts.{stands_in_row}
 use Rattle.btr_read.proofs.ReadsOn.{same_held, same_sure, open_still}
 use Rattle.btr_read.proofs.Rows.{of_row}
 use Rattle.btr_read.proofs.Several.{writes_more}
-use Rattle.btr_read.proofs.Trials.{telling, tried_calm, tried_missed, differs_alone, reading_stands, all_ended, one_passes}
+use Rattle.btr_read.proofs.Trials.{telling, tried_unfailed, tried_missed, differs_alone, reading_stands, all_ended, one_passes}
 use Rattle.btr_read.proofs.syndromes.try_syndromes.Goals as goal
 
 pub try_by_syndromes-requires-clause-open : goal.try_by_syndromes-requires-clause-open
@@ -61,7 +61,7 @@ loop-k-preserved g c =
       writes = writes_more c.args.pool.now c.loop-k.pool new _ inv.writes e.pool;
       syndromes = subst (λ held. IfSome held (λ images. AreSyndromes images t (take n (bytes_at new c.args.slots.now.p.now))
           (take n (bytes_at new c.args.slots.now.q.now)))) (sym (same_held e.reads)) e.syndromes;
-      tried = λ before is h. tried_calm t before now after c.args.failed c.loop-k.k cand (inv.tried before is h) c.candidate-candidate.ensures.value
+      tried = λ before is h. tried_unfailed t before now after c.args.failed c.loop-k.k cand (inv.tried before is h) c.candidate-candidate.ensures.value
           lt e.account (λ images im.
           let value : value_of images t cand ≡ bytes =
           telling now.held (λ images. value_of images t cand ≡ bytes) e.value.1 images (same_held inv.reads ∙ is.held ∙ im) in

@@ -4,7 +4,7 @@ use Rattle.btr_read.specs.Candidates.{Target, candidates, value_of}
 use Rattle.btr_read.specs.Trial.{BeganAt, TriedSoFar}
 use Rattle.btr_read.specs.declared.candidate.Candidate.{Candidate}
 use Rattle.btr_read.proofs.ReadsOn.{open_still}
-use Rattle.btr_read.proofs.Trials.{telling, began_on, tried_none, tried_calm, tried_failed, differs_alone, absent_alone, reading_stands, reading_absent}
+use Rattle.btr_read.proofs.Trials.{telling, began_on, tried_none, tried_unfailed, tried_failed, differs_alone, absent_alone, reading_stands, reading_absent}
 use Rattle.btr_read.proofs.trying.try_all.Goals as goal
 use Rattle.btr_read.proofs.trying.try_all.Goals.{in-Differs, in-Absent, in-Failed}
 
@@ -35,13 +35,13 @@ returns-clause-outcome g c =
       | in-Differs w ↦
           let e = w.in-Differs.ensures in
           subst (λ f. TriedSoFar t old after f 1) (sym w.failed-is)
-          (tried_calm t old old after None 0 cand none value lt e.account
+          (tried_unfailed t old old after None 0 cand none value lt e.account
           (λ images im. differs_alone images t cand (value_of images t cand) (reading_stands images t cand e.attempt.0)
           (telling old.held (λ images. passes t.setting t.want (value_of images t cand) ≡ false) e.attempt.1 images im)))
       | in-Absent w ↦
           let e = w.in-Absent.ensures in
           subst (λ f. TriedSoFar t old after f 1) (sym w.failed-is)
-          (tried_calm t old old after None 0 cand none value lt e.account
+          (tried_unfailed t old old after None 0 cand none value lt e.account
           (λ images im. absent_alone images t cand (reading_absent images t cand e.attempt)))
       | in-Failed w ↦
           let e = w.in-Failed.ensures in

@@ -7,7 +7,7 @@ use Rattle.btr_rack.proofs.Reading.{reads_none, reads_more}
 use Rattle.btr_read.proofs.ReadsOn.{same_held, same_sure, open_still}
 use Rattle.btr_read.proofs.Slots.{only_writes_none, only_writes_more, live_written}
 use Rattle.btr_read.proofs.Serving.{still_none, still_more, still_forgets}
-use Rattle.btr_read.proofs.Trials.{telling, tried_calm, tried_failed, differs_alone, absent_alone, reading_stands, reading_absent, all_ended, one_passes}
+use Rattle.btr_read.proofs.Trials.{telling, tried_unfailed, tried_failed, differs_alone, absent_alone, reading_stands, reading_absent, all_ended, one_passes}
 use Rattle.btr_read.proofs.trying.try_from.Goals as goal
 use Rattle.btr_read.proofs.trying.try_from.Goals.{in-Differs, in-Absent, in-Failed}
 
@@ -33,34 +33,27 @@ loop-k-init g c = record {
   tried = λ before is h. h;
 }
 
-pub returns-in-Passed-clause-pool : goal.returns-in-Passed-clause-pool
-returns-in-Passed-clause-pool g c = only_writes_more c.args.pool.now c.loop-k.pool c.try_candidate.new.pool c.args.loan.now c.loop-k.invariant.writes
-    c.in-Passed.ensures.pool
-
-pub returns-in-Passed-clause-reads : goal.returns-in-Passed-clause-reads
-returns-in-Passed-clause-reads g c = reads_more c.loop-k.invariant.reads c.in-Passed.ensures.reads
-
-pub returns-in-Passed-clause-kept : goal.returns-in-Passed-clause-kept
-returns-in-Passed-clause-kept g c = still_more c.args.kept.now.wants c.loop-k.kept.wants c.try_candidate.new.kept.wants c.args.pool.now c.loop-k.pool
-    c.try_candidate.new.pool c.loop-k.invariant.still c.in-Passed.ensures.kept
-
-pub returns-in-Passed-clause-nodes : goal.returns-in-Passed-clause-nodes
-returns-in-Passed-clause-nodes g c = c.in-Passed.ensures.nodes ∙ c.loop-k.invariant.nodes
-
-pub returns-in-Passed-clause-outcome : goal.returns-in-Passed-clause-outcome
-returns-in-Passed-clause-outcome g c = λ before is h.
+pub returns-in-Passed : goal.returns-in-Passed
+returns-in-Passed g c =
     let t = c.args.search.now in
     let now = g.R.Rack.seen c.loop-k.rack in
     let after = g.R.Rack.seen c.try_candidate.new.rack in
     let e = c.in-Passed.ensures in
+    let inv = c.loop-k.invariant in
     let lt : c.loop-k.k < length (candidates t) = omega (arith, c.loop-k-test.true, c.candidate_count-k-end.ensures) in
     let slot = bytes_at c.try_candidate.new.pool c.args.loan.now in
     let bytes : List ℕ = take (size_of t) slot in
-    subst (FitsOutcome t before after slot) (sym c.passed_after.ensures)
-    (one_passes t before now after c.loop-k.failed c.loop-k.k c.candidate.result slot is.fresh (c.loop-k.invariant.tried before is h)
-    c.candidate.ensures.value lt e.account e.attempt.0 e.attempt.1
-    (λ images im. telling now.held (λ images. value_of images t c.candidate.result ≡ bytes) e.attempt.2 images
-    (same_held c.loop-k.invariant.reads ∙ is.held ∙ im)))
+    record {
+      reads = reads_more inv.reads e.reads;
+      pool = only_writes_more c.args.pool.now c.loop-k.pool c.try_candidate.new.pool c.args.loan.now inv.writes e.pool;
+      kept = still_more c.args.kept.now.wants c.loop-k.kept.wants c.try_candidate.new.kept.wants c.args.pool.now c.loop-k.pool
+          c.try_candidate.new.pool inv.still e.kept;
+      nodes = e.nodes ∙ inv.nodes;
+      outcome = λ before is h. subst (FitsOutcome t before after slot) (sym c.passed_after.ensures)
+          (one_passes t before now after c.loop-k.failed c.loop-k.k c.candidate.result slot is.fresh (inv.tried before is h)
+          c.candidate.ensures.value lt e.account e.attempt.0 e.attempt.1
+          (λ images im. telling now.held (λ images. value_of images t c.candidate.result ≡ bytes) e.attempt.2 images (same_held inv.reads ∙ is.held ∙ im)));
+    }
 
 pub loop-k-preserved : goal.loop-k-preserved
 loop-k-preserved g c =
@@ -68,46 +61,33 @@ loop-k-preserved g c =
     let cand = c.candidate.result in
     let now = g.R.Rack.seen c.loop-k.rack in
     let after = g.R.Rack.seen c.try_candidate.new.rack in
+    let all = c.try_candidate.ensures in
     let inv = c.loop-k.invariant in
     let lt : c.loop-k.k < length (candidates t) = omega (arith, c.loop-k-test.true, c.candidate_count-k-end.ensures) in
-    elim c.match-try_candidate.branch [
-      | in-Differs w ↦
-          let e = w.in-Differs.ensures in
-          record {
-            reads = reads_more inv.reads e.reads;
-            writes = only_writes_more c.args.pool.now c.loop-k.pool c.try_candidate.new.pool c.args.loan.now inv.writes e.pool;
-            still = still_more c.args.kept.now.wants c.loop-k.kept.wants c.try_candidate.new.kept.wants c.args.pool.now c.loop-k.pool
-                c.try_candidate.new.pool inv.still e.kept;
-            nodes = e.nodes ∙ inv.nodes;
-            tried = λ before is h. rw w.failed-is (tried_calm t before now after c.loop-k.failed c.loop-k.k cand (inv.tried before is h)
-                c.candidate.ensures.value lt e.account (λ images im. differs_alone images t cand (value_of images t cand)
-                (reading_stands images t cand e.attempt.0) (telling now.held (λ images. passes t.setting t.want (value_of images t cand) ≡ false)
-                e.attempt.1 images (same_held inv.reads ∙ is.held ∙ im))));
-          }
-      | in-Absent w ↦
-          let e = w.in-Absent.ensures in
-          record {
-            reads = reads_more inv.reads e.reads;
-            writes = only_writes_more c.args.pool.now c.loop-k.pool c.try_candidate.new.pool c.args.loan.now inv.writes e.pool;
-            still = still_more c.args.kept.now.wants c.loop-k.kept.wants c.try_candidate.new.kept.wants c.args.pool.now c.loop-k.pool
-                c.try_candidate.new.pool inv.still e.kept;
-            nodes = e.nodes ∙ inv.nodes;
-            tried = λ before is h. rw w.failed-is (tried_calm t before now after c.loop-k.failed c.loop-k.k cand (inv.tried before is h)
-                c.candidate.ensures.value lt e.account (λ images im. absent_alone images t cand (reading_absent images t cand e.attempt)));
-          }
-      | in-Failed w ↦
-          let e = w.in-Failed.ensures in
-          record {
-            reads = reads_more inv.reads e.reads;
-            writes = only_writes_more c.args.pool.now c.loop-k.pool c.try_candidate.new.pool c.args.loan.now inv.writes e.pool;
-            still = still_more c.args.kept.now.wants c.loop-k.kept.wants c.try_candidate.new.kept.wants c.args.pool.now c.loop-k.pool
-                c.try_candidate.new.pool inv.still e.kept;
-            nodes = e.nodes ∙ inv.nodes;
-            tried = λ before is h. rw w.failed-is (tried_failed t before now after c.loop-k.failed c.loop-k.k _ cand (inv.tried before is h)
-                c.candidate.ensures.value lt (omega (arith, c.loop-k-test.true, c.candidate_count-k-end.type_inv)) (same_sure inv.reads ∙ is.sure)
-                e.attempt e.account);
-          }
-    ]
+    record {
+      reads = reads_more inv.reads all.reads;
+      writes = only_writes_more c.args.pool.now c.loop-k.pool c.try_candidate.new.pool c.args.loan.now inv.writes all.pool;
+      still = still_more c.args.kept.now.wants c.loop-k.kept.wants c.try_candidate.new.kept.wants c.args.pool.now c.loop-k.pool
+          c.try_candidate.new.pool inv.still all.kept;
+      nodes = all.nodes ∙ inv.nodes;
+      tried = λ before is h. elim c.match-try_candidate.branch [
+        | in-Differs w ↦
+            let e = w.in-Differs.ensures in
+            rw w.failed-is (tried_unfailed t before now after c.loop-k.failed c.loop-k.k cand (inv.tried before is h)
+            c.candidate.ensures.value lt e.account (λ images im. differs_alone images t cand (value_of images t cand)
+            (reading_stands images t cand e.attempt.0) (telling now.held (λ images. passes t.setting t.want (value_of images t cand) ≡ false)
+            e.attempt.1 images (same_held inv.reads ∙ is.held ∙ im))))
+        | in-Absent w ↦
+            let e = w.in-Absent.ensures in
+            rw w.failed-is (tried_unfailed t before now after c.loop-k.failed c.loop-k.k cand (inv.tried before is h)
+            c.candidate.ensures.value lt e.account (λ images im. absent_alone images t cand (reading_absent images t cand e.attempt)))
+        | in-Failed w ↦
+            let e = w.in-Failed.ensures in
+            rw w.failed-is (tried_failed t before now after c.loop-k.failed c.loop-k.k _ cand (inv.tried before is h)
+            c.candidate.ensures.value lt (omega (arith, c.loop-k-test.true, c.candidate_count-k-end.type_inv)) (same_sure inv.reads ∙ is.sure)
+            e.attempt e.account)
+      ];
+    }
 
 pub returns-clause-outcome : goal.returns-clause-outcome
 returns-clause-outcome g c = λ before is h.
