@@ -32,7 +32,7 @@ use Rattle.btr_walk.specs.declared.fault.TreeFault.TheVariants as tree
 use Rattle.btr_walk.specs.declared.folder.FoldFault.{FoldFault}
 use Rattle.btr_walk.specs.declared.folder.FoldFault.TheVariants.{Tree, Own}
 use Rattle.btr_walk.specs.declared.place.RootPlace.{RootPlace}
-use Rattle.btr_tour.specs.Visits.{Shows, IsTaken, Goes, MeetsBy, IsMet, TreatsUpTo, IsRun, Visits}
+use Rattle.btr_tour.specs.Visits.{ShowsMark, IsTaken, Goes, MeetsBy, IsMet, TreatsUpTo, IsRun, Visits}
 use Rattle.btr_tour.proofs.Programs.{marks_law}
 use Rattle.btr_walk.specs.Going.{IsAlong}
 
@@ -41,6 +41,7 @@ past_then : {A : Type 0} (old now : Run Want fate.Fault Mark A) (ps qs : List (p
     ≡ prepend ps now → now ≡ prepend qs new → old ≡ prepend (ps ++ qs) new
 past_then old now ps qs new e f = e ∙ ap (prepend ps) f ∙ prepend-prepend ps qs new
 
+-- marks that were treated, and then others, were treated one after another
 treated_then : {St : Type 0} (step : St → Mark → St) (old now new : St) (ps qs : List (prog.Mark Want Mark)) → now ≡ fold step old (steps_of ps) → new
     ≡ fold step now (steps_of qs) → new ≡ fold step old (steps_of (ps ++ qs))
 treated_then step old now new ps qs e f = f ∙ ap (λ s. fold step s (steps_of qs)) e ∙ sym (fold-append step old (steps_of ps) (steps_of qs))
@@ -59,18 +60,21 @@ module _ (Is : UnreadBlock → Want → Type 0) (B : Map) (seen : List Want) (ol
   pub record Next (met : Met) : Type 0 where
     pub past : List Want
     pub mark : Mark
-    pub shown : Shows met mark
+    pub shown : ShowsMark met mark
     pub first : tried B (left_of B old tour) ≡ prepend (want_marks past) (first (prog.Does mark) (tried B (left_of B new tour')))
     pub on : IsUnderway B (seen ++ past) tour'
     pub held : HoldsLeaf B (seen ++ past) new tour'
 
+  -- what is left at the place behind the step is what the tour has then still to meet
   left_is : left tour.scope.lo tour.scope.hi B new tour'.place tour'.leaf ≡ left_of B new tour'
   left_is = ap (λ (s : Scope). left s.lo s.hi B new tour'.place tour'.leaf) (sym same)
 
+  -- a place on the way is where the tour is then on its way
   on_is : (then : List Want) → IsAlong tour.scope.lo tour.scope.hi B then tour'.place → IsUnderway B then tour'
   on_is then on = subst (λ (s : Scope). IsAlong s.lo s.hi B then tour'.place) (sym same) on
 
-  by_meets : (met : Met) (mark : Mark) → Shows met mark → Meets tour.scope.lo tour.scope.hi B seen (left_of B old tour) new tour'.place tour'.leaf
+  -- a mark that was met, and is what was shown, is the next one
+  by_meets : (met : Met) (mark : Mark) → ShowsMark met mark → Meets tour.scope.lo tour.scope.hi B seen (left_of B old tour) new tour'.place tour'.leaf
       mark → Next met
   by_meets met mark shown h =
       record {
@@ -83,13 +87,14 @@ module _ (Is : UnreadBlock → Want → Type 0) (B : Map) (seen : List Want) (ol
         held = h.held;
       }
 
+  -- what a tour answers that it met is its next mark, behind some wants
   pub next_is : (met : Met) → TourNextBy Is B seen old new tour tour' (Ok (Some met)) → Next met
   next_is (Block place header) h = record {
-    past = want_of place.level h.spot ∷ [];
+    past = want_of place.level h.pointer ∷ [];
     mark = marks.Block place h.block;
     shown = (tour.scope.sums, (h.block, h.header_is, refl));
-    first = h.met ∙ ap (λ p. first (prog.Wants (want_of place.level h.spot)) (first (prog.Does (marks.Block place h.block)) (tried B p))) left_is;
-    on = on_is (seen ++ want_of place.level h.spot ∷ []) h.on;
+    first = h.met ∙ ap (λ p. first (prog.Wants (want_of place.level h.pointer)) (first (prog.Does (marks.Block place h.block)) (tried B p))) left_is;
+    on = on_is (seen ++ want_of place.level h.pointer ∷ []) h.on;
     held = h.held;
   }
   next_is (Child block place) h = by_meets (Child block place) (marks.Child block place) refl h
@@ -102,6 +107,7 @@ module _ (Is : UnreadBlock → Want → Type 0) (B : Map) (seen : List Want) (ol
       by (Some fault) is m = by_meets (Fault f) (marks.Left fault) (subst (λ r. IsSomeAnd r (λ x. marks.Left fault ≡ marks.Left x)) (sym is) refl) m
 
   module _ {St : Type 0} (step : St → Mark → St) (state state' : St) where
+    -- where the next mark was treated, the visit went on behind it
     goes_next : (met : Met) (n : Next met) → state' ≡ step state n.mark → Goes step Is B seen old new tour tour' state state'
     goes_next met n taken = record {
       past = want_marks n.past ++ prog.Does n.mark ∷ [];
@@ -111,6 +117,7 @@ module _ (Is : UnreadBlock → Want → Type 0) (B : Map) (seen : List Want) (ol
       held = subst (λ (ws : List Want). HoldsLeaf B (seen ++ ws) new tour') (sym (behind_wants n.past n.mark).1) n.held;
     }
 
+    -- a call that met a mark and treated it went on behind it
     pub met_some : {E : Type 0} (met : Met) (result : Result Bool (FoldFault E)) → IsTaken step state met state' result
         → TourNextBy Is B seen old new tour tour' (Ok (Some met)) → MeetsBy step Is B seen old new tour tour' state state' result
     met_some met (Ok true) taken h = let n = next_is met h in goes_next met n (taken n.mark n.shown)
@@ -124,6 +131,7 @@ module _ {St : Type 0} (step : St → Mark → St) (B : Map) (store : Blocks) (t
   Led Is store' tour' state' = (seen : List Want) → IsUnderway B seen tour → HoldsLeaf B seen store tour
       → Goes step Is B seen store store' tour tour' state state'
 
+  -- a visit that met nothing yet has come to where it began
   pub led_none : (Is : UnreadBlock → Want → Type 0) → Led Is store tour state
   led_none Is seen on held = record {
     past = [];
@@ -134,6 +142,7 @@ module _ {St : Type 0} (step : St → Mark → St) (B : Map) (store : Blocks) (t
   }
 
   module _ (Was Is : UnreadBlock → Want → Type 0) (now : Blocks) (tour-now : Tour) (state-now : St) where
+    -- a visit that came so far, and then met and treated one mark more, came farther
     pub led_more : (E : Type 0) (Now : UnreadBlock → Want → Type 0) (store' : Blocks) (tour' : Tour) (state' : St) → Led Was now tour-now state-now
         → IsMet step Now B {E = E} now store' tour-now tour' state-now state' (Ok true) → Led Is store' tour' state'
     led_more E Now store' tour' state' led met seen on held =
@@ -150,6 +159,7 @@ module _ {St : Type 0} (step : St → Mark → St) (B : Map) (store : Blocks) (t
           held = subst (λ (ws : List Want). HoldsLeaf B ws store' tour') (seen_then before.past after.past) after.held;
         }
 
+    -- a visit that came so far, and has nothing left to meet, treated all that there was
     pub led_ends : (E : Type 0) (Now : UnreadBlock → Want → Type 0) (store' : Blocks) (tour' : Tour) (state' : St) → Led Was now tour-now state-now
         → IsMet step Now B {E = E} now store' tour-now tour' state-now state' (Ok false) → IsRun step Is B {E = E} store tour state state' (Ok tt)
     led_ends E Now store' tour' state' led met seen on held =
@@ -159,6 +169,7 @@ module _ {St : Type 0} (step : St → Mark → St) (B : Map) (store : Blocks) (t
         after.1 ∙ before.treated ∙ ap (λ ms. fold step state (steps_of ms)) (sym (append-nil before.past))
         ∙ ap (λ (r : Run Want fate.Fault Mark (Unit {0})). fold step state (steps_of r.marks)) (sym all)
 
+    -- a visit that came so far, and then could not read a block, treated the marks before it
     pub led_halts : (E : Type 0) (Now : UnreadBlock → Want → Type 0) (store' : Blocks) (tour' : Tour) (state' : St) (f : TreeFault)
         → ((u : UnreadBlock) (w : Want) → Now u w → Is u w) → Led Was now tour-now state-now
         → IsMet step Now B {E = E} now store' tour-now tour' state-now state' (Err (Tree f)) → IsRun step Is B {E = E} store tour state state' (Err (Tree f))
@@ -175,6 +186,7 @@ module _ {St : Type 0} (step : St → Mark → St) (B : Map) (store : Blocks) (t
               (follows_as Now Is weaker no_part (seen ++ wants_of before.past) rest [] (Err (halt_of f)) after.0)));
         }
 
+    -- a visit that came so far, and then ends in a fault, treated what was met as far as the fault says
     pub any_fault : (E : Type 0) (Now : UnreadBlock → Want → Type 0) (store' : Blocks) (tour' : Tour) (state' : St) (fault : FoldFault E)
         → ((u : UnreadBlock) (w : Want) → Now u w → Is u w) → Led Was now tour-now state-now
         → IsMet step Now B {E = E} now store' tour-now tour' state-now state' (Err fault) → IsRun step Is B {E = E} store tour state state' (Err fault)
@@ -184,6 +196,7 @@ module _ {St : Type 0} (step : St → Mark → St) (B : Map) (store : Blocks) (t
 -- a visit from the beginning
 module _ {St : Type 0} (E : Type 0) (step : St → Mark → St) (Is : UnreadBlock → Want → Type 0) (B : Map) (store : Blocks) (tour : Tour) (root : RootPlace)
     (old new : St) (all : left_of B store tour ≡ tour_prog first_key last_key root) (on : IsUnderway B [] tour) (held : HoldsLeaf B [] store tour) where
+  -- a visit of all that a tour meets from the root on is a visit of the tree
   pub visit_begun : (result : Result (Unit {0}) (FoldFault E)) → IsRun step Is B {E = E} store tour old new result
       → Visits step Is B {E = E} root old new result
   visit_begun (Ok u) h = h [] on held ∙ ap (λ p. fold step old (steps_of (tried B p).marks)) all ∙ ap (fold step old) (marks_law B root first_key last_key)

@@ -51,7 +51,7 @@ module _ (old new : Blocks) (tour tour' : Tour) (before now : Seen) (result : Re
 
   -- an item is the one in the leaf in hand
   pub toured_item : (hand : LeafAt) (at : ℕ) (found : Found) (bytes : List ℕ) → result ≡ Ok (Item at) → tour'.leaf ≡ Some hand
-      → block_of new hand.loan ≡ Some bytes → ((d : NodeItem) → tree_item hand.spot.addr (get_or (items bytes) at d) ≡ item_of found)
+      → block_of new hand.loan ≡ Some bytes → ((d : NodeItem) → tree_item hand.pointer.addr (get_or (items bytes) at d) ≡ item_of found)
       → Toured old new tour tour' before now (Ok (Some (met.Item found)))
   toured_item hand at found bytes step is block shows = toured (Ok (Item at)) (Ok (Some (met.Item found))) step (λ Is B seen h.
       let lo = tour.scope.lo in
@@ -59,6 +59,6 @@ module _ (old new : Blocks) (tour tour' : Tour) (before now : Seen) (result : Re
       let at_item = subst (λ l. StepsBy lo hi B Is seen tour.scope.sums (left_of B old tour) new tour'.place l (Ok (Item at))) is h in
       let met = block_is new hand.loan bytes (λ (b : List ℕ). (d : NodeItem)
       → Meets lo hi B seen (left_of B old tour) new tour'.place (Some hand)
-      (marks.Item (tree_item hand.spot.addr (get_or (items b) at d)))) block at_item in
+      (marks.Item (tree_item hand.pointer.addr (get_or (items b) at d)))) block at_item in
       subst (λ l. Meets lo hi B seen (left_of B old tour) new tour'.place l (marks.Item (item_of found))) (sym is)
       (subst (λ (i : TreeItem). Meets lo hi B seen (left_of B old tour) new tour'.place (Some hand) (marks.Item i)) (shows some_item) (met some_item)))

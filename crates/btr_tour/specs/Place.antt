@@ -13,20 +13,20 @@ use Rattle.btr_walk.specs.declared.frame.Frame.{Frame}
 use Rattle.btr_walk.specs.declared.frame.Todo.{Todo}
 use Rattle.btr_walk.specs.declared.going.Where.{Where}
 use Rattle.btr_walk.specs.declared.leaf_at.LeafAt.{LeafAt}
-use Rattle.btr_walk.specs.declared.spot.Spot.{Spot}
-use Rattle.btr_tour.specs.Tour.{Item, child_spots, meets_keys}
+use Rattle.btr_walk.specs.declared.block_pointer.BlockPointer.{BlockPointer}
+use Rattle.btr_tour.specs.Tour.{Item, child_pointers, meets_keys}
 use Rattle.btr_tour.specs.Program.{TourProg, children, tour_from}
 
 -- the want of the lowest node of a path of which children are still to come, from a level on
 abbrev pub frame_want : ℕ → List (Option Frame) → Option Want
 frame_want n [] = None
 frame_want n (None ∷ frames) = frame_want (n + 1) frames
-frame_want n (Some frame ∷ frames) = Some (want_of (n + 1) frame.spot)
+frame_want n (Some frame ∷ frames) = Some (want_of (n + 1) frame.pointer)
 
 -- the want of the block that is to be read, or else of that node, which is then read again
 abbrev pub want_next : Option Todo → List (Option Frame) → Option Want
 want_next None path = frame_want 0 path
-want_next (Some todo) path = Some (want_of todo.level todo.spot)
+want_next (Some todo) path = Some (want_of todo.level todo.pointer)
 
 -- the want of the block that a tour at this place reads next
 abbrev pub next_want : Where → Option Want
@@ -39,13 +39,15 @@ leaf_left store (Some l) rest = act_all (map Item (hand_items (block_of store l.
 
 module _ (lo hi : Key) where
   -- the children of a node of a level, those from child `from` on, and then the rest
-  abbrev pub children_left : ℕ → Spot → ℕ → List Spot → TourProg → TourProg
-  children_left level spot from spots rest = children (tour_from lo hi (level - 1)) spot.addr (level - 1) (filter (meets_keys lo hi) (drop from spots)) rest
+  abbrev pub children_left : ℕ → BlockPointer → ℕ → List BlockPointer → TourProg → TourProg
+  children_left level pointer from block_pointers rest =
+      children (tour_from lo hi (level - 1)) pointer.addr (level - 1) (filter (meets_keys lo hi) (drop from block_pointers)) rest
 
   module _ (B : Map) where
     -- the children of a frame that are still to come, and then the rest
     abbrev pub frame_left : ℕ → Frame → TourProg → TourProg
-    frame_left level frame rest = children_left level frame.spot frame.next (child_spots (pointers_in (B (want_of level frame.spot))) frame.spot.up) rest
+    frame_left level frame rest =
+        children_left level frame.pointer frame.next (child_pointers (pointers_in (B (want_of level frame.pointer))) frame.pointer.up) rest
 
     -- the children of the frames of a path, those of the lowest level first
     abbrev pub path_left : ℕ → List (Option Frame) → TourProg
@@ -54,7 +56,7 @@ module _ (lo hi : Key) where
     -- the block that is to be read, with all that is below it, and then the rest
     abbrev pub todo_left : Option Todo → TourProg → TourProg
     todo_left None rest = rest
-    todo_left (Some todo) rest = tour_from lo hi todo.level todo.spot rest
+    todo_left (Some todo) rest = tour_from lo hi todo.level todo.pointer rest
 
     -- all that a place has still to meet
     abbrev pub place_left : Where → TourProg

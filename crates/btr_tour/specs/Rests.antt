@@ -6,7 +6,7 @@ use Rattle.btr_read.specs.Layout.{Layout}
 use Rattle.btr_read.specs.Store.{Blocks, SameLoans}
 use Rattle.btr_read.specs.declared.want.Want.{Want}
 use Rattle.btr_walk.specs.Going.{IsAlong}
-use Rattle.btr_walk.specs.Hand.{IsKept}
+use Rattle.btr_walk.specs.Hand.{IsGivenBack}
 use Rattle.btr_walk.specs.Le.{want_of}
 use Rattle.btr_walk.specs.Ranks.{digit, rank, FrameFits, IsShaped}
 use Rattle.btr_walk.specs.Reading.{Map, UnreadBlock, IsUnreadOf, CauseOf}
@@ -36,7 +36,7 @@ rank_left rest = 2 ^ 64 * rank rest.place + digit rest.leaf
 -- the blocks that it goes on from are among those that were read
 pub record IsRestOn (B : Map) (seen : List Want) (rest : Rest) : Type 0 where
   pub place : IsAlong rest.scope.lo rest.scope.hi B seen rest.place
-  pub kept : IfSome rest.leaf (IsKept B seen)
+  pub kept : IfSome rest.leaf (IsGivenBack B seen)
 
 -- whatever was read: its nodes have children that are to come, and its leaf has items
 pub record Fits (rest : Rest) : Type 0 where
@@ -83,4 +83,4 @@ TakesUp Is B rest store (Err f) = (seen : List Want) → IsRestOn B seen rest �
 -- a refusal is that of the leaf
 abbrev pub RestCause : Layout → Seen → Seen → Option Frame → Result Tour TreeFault → Type 0
 RestCause layout old new leaf (Ok tour) = ⊤
-RestCause layout old new leaf (Err f) = IsSomeAnd leaf (λ frame. CauseOf layout (want_of 0 frame.spot) old new f)
+RestCause layout old new leaf (Err f) = IsSomeAnd leaf (λ frame. CauseOf layout (want_of 0 frame.pointer) old new f)

@@ -20,8 +20,8 @@ use Rattle.btr_read.specs.declared.want.Want.{Want}
 use Rattle.btr_walk.specs.declared.fault.TreeFault.{TreeFault}
 use Rattle.btr_walk.specs.declared.fault.TreeFault.TheVariants.{Lost, Unread, Unmapped, Crosses, Malformed}
 use Rattle.btr_walk.specs.declared.place.RootPlace.{RootPlace}
-use Rattle.btr_walk.specs.declared.spot.Spot.{Spot}
-use Rattle.btr_walk.specs.Spot.{judged}
+use Rattle.btr_walk.specs.declared.block_pointer.BlockPointer.{BlockPointer}
+use Rattle.btr_walk.specs.BlockPointer.{judged}
 use Rattle.btr_walk.specs.Going.{IsAlong}
 use Rattle.btr_walk.specs.Hand.{IsHeld}
 use Rattle.btr_walk.specs.Le.{tree_item, want_of}
@@ -77,7 +77,7 @@ passed_place (suc n) place = record { path = slice_set place.path n None; todo =
 
 -- a leaf in hand all of whose items are past
 abbrev pub at_end : LeafAt → LeafAt
-at_end l = record { spot = l.spot; next = l.end; end = l.end; loan = l.loan }
+at_end l = record { pointer = l.pointer; next = l.end; end = l.end; loan = l.loan }
 
 -- the leaf in hand after it is passed, where it is that block that was met last
 abbrev pub passed_leaf : ℕ → Option LeafAt → Option LeafAt
@@ -93,19 +93,19 @@ module _ (lo hi : Key) where
     -- a good block was wanted and met; what is below it comes next, and can be passed
     pub record MeetsBlock (seen : List Want) (sums : SumKind) (before : TourProg) (store : Blocks) (place : Where) (leaf : Option LeafAt)
         (at : RootPlace) (header : Header) : Type 0 where
-      pub spot : Spot
+      pub pointer : BlockPointer
       pub block : List ℕ
       pub node : Node
-      pub came : B (want_of at.level spot) ≡ Ok block
-      pub good : judged at.level spot block ≡ Some node
-      pub at_is : at ≡ place_of at.level spot
+      pub came : B (want_of at.level pointer) ≡ Ok block
+      pub good : judged at.level pointer block ≡ Some node
+      pub at_is : at ≡ place_of at.level pointer
       pub header_is : header ≡ header_of sums block
-      pub met : tried B before ≡ first (Wants (want_of at.level spot)) (first (Does (tour.Block at block)) (tried B (left store place leaf)))
+      pub met : tried B before ≡ first (Wants (want_of at.level pointer)) (first (Does (tour.Block at block)) (tried B (left store place leaf)))
       pub below :
           left store place leaf
-          ≡ below_block lo hi (tour_from lo hi (at.level - 1)) at.level spot node (left store (passed_place at.level place) (passed_leaf at.level leaf))
-      pub on : IsAlong lo hi B (seen ++ (want_of at.level spot ∷ [])) place
-      pub held : IfSome leaf (IsHeld B (seen ++ (want_of at.level spot ∷ [])) store)
+          ≡ below_block lo hi (tour_from lo hi (at.level - 1)) at.level pointer node (left store (passed_place at.level place) (passed_leaf at.level leaf))
+      pub on : IsAlong lo hi B (seen ++ (want_of at.level pointer ∷ [])) place
+      pub held : IfSome leaf (IsHeld B (seen ++ (want_of at.level pointer ∷ [])) store)
 
     -- some wants, and then a mark was met; what is left comes behind
     pub record Meets (seen : List Want) (before : TourProg) (store : Blocks) (place : Where) (leaf : Option LeafAt) (mark : Mark) : Type 0 where
@@ -127,7 +127,7 @@ module _ (lo hi : Key) where
     MeetsItem seen before store place None at = ⊥
     MeetsItem seen before store place (Some l) at =
         IsSomeAnd (block_of store l.loan)
-        (λ block. HoldsAt (λ (item : NodeItem). Meets seen before store place (Some l) (tour.Item (tree_item l.spot.addr item))) (items block) at)
+        (λ block. HoldsAt (λ (item : NodeItem). Meets seen before store place (Some l) (tour.Item (tree_item l.pointer.addr item))) (items block) at)
 
     module _ (Is : UnreadBlock → Want → Type 0) where
       -- a step of a tour that had this still to meet

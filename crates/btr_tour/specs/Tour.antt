@@ -8,9 +8,9 @@ use Rattle.btr_node.specs.declared.node.Node.{Node}
 use Rattle.btr_node.specs.declared.node.Node.TheVariants.{Leaf, Inner}
 use Rattle.btr_read.specs.Fate.{Fault, Malformed}
 use Rattle.btr_walk.specs.declared.place.RootPlace.{RootPlace}
-use Rattle.btr_walk.specs.declared.spot.Spot.{Spot}
-use Rattle.btr_walk.specs.Spot.{is_below, judged}
-use Rattle.btr_walk.specs.Le.{TreeItem, root_spot, below, up_of, want_of}
+use Rattle.btr_walk.specs.declared.block_pointer.BlockPointer.{BlockPointer}
+use Rattle.btr_walk.specs.BlockPointer.{is_below, judged}
+use Rattle.btr_walk.specs.Le.{TreeItem, root_pointer, below, up_of, want_of}
 use Rattle.btr_walk.specs.Range.{items_within}
 use Rattle.btr_walk.specs.Reading.{Map}
 
@@ -22,14 +22,14 @@ pub data Mark : Type 0 where
   Item : TreeItem → Mark
   Left : Fault → Mark
 
--- where the block of a level at a spot stands
-abbrev pub place_of : ℕ → Spot → RootPlace
-place_of level spot = record { addr = spot.addr; generation = spot.generation; level = level }
+-- where the block of a level at a pointer stands
+abbrev pub place_of : ℕ → BlockPointer → RootPlace
+place_of level pointer = record { addr = pointer.addr; generation = pointer.generation; level = level }
 
--- the spots of the children of a node with these pointers and this bound
-abbrev pub child_spots : List KeyPointer → Option Key → List Spot
-child_spots [] up = []
-child_spots (pointer ∷ pointers) up = below pointer (up_of pointers up) ∷ child_spots pointers up
+-- the pointers of the children of a node with these pointers and this bound
+abbrev pub child_pointers : List KeyPointer → Option Key → List BlockPointer
+child_pointers [] up = []
+child_pointers (key_pointer ∷ pointers) up = below key_pointer (up_of pointers up) ∷ child_pointers pointers up
 
 module _ (lo hi : Key) where
   -- the first key of a block, if it is known, isn't above hi
@@ -37,38 +37,38 @@ module _ (lo hi : Key) where
   begins_by None = true
   begins_by (Some first) = key_le first hi
 
-  -- the keys that a block at a spot may have meet those from lo to hi
-  abbrev pub meets_keys : Spot → Bool
-  meets_keys spot = is_below spot.up lo && begins_by spot.first
+  -- the keys that a block at a pointer may have meet those from lo to hi
+  abbrev pub meets_keys : BlockPointer → Bool
+  meets_keys pointer = is_below pointer.up lo && begins_by pointer.first
 
   -- a child's pointer, and then the child's tour
-  abbrev pub child_tour : (Spot → List Mark) → ℕ → ℕ → Spot → List Mark
-  child_tour tour addr level spot = Child addr (place_of level spot) ∷ tour spot
+  abbrev pub child_tour : (BlockPointer → List Mark) → ℕ → ℕ → BlockPointer → List Mark
+  child_tour tour addr level pointer = Child addr (place_of level pointer) ∷ tour pointer
 
   -- what is below a good block: its items from lo to hi, or the tours of its children whose keys meet those
-  abbrev pub under : (Spot → List Mark) → ℕ → Spot → Node → List Mark
-  under tour level spot (Leaf items) = map Item (items_within lo hi spot.addr items)
-  under tour level spot (Inner pointers) = flat_map (child_tour tour spot.addr (level - 1)) (filter meets_keys (child_spots pointers spot.up))
+  abbrev pub under : (BlockPointer → List Mark) → ℕ → BlockPointer → Node → List Mark
+  under tour level pointer (Leaf items) = map Item (items_within lo hi pointer.addr items)
+  under tour level pointer (Inner pointers) = flat_map (child_tour tour pointer.addr (level - 1)) (filter meets_keys (child_pointers pointers pointer.up))
 
   -- a good block, and then what is below it; a malformed one is left out
-  abbrev pub node_tour : (Spot → List Mark) → ℕ → Spot → List ℕ → Option Node → List Mark
-  node_tour tour level spot block None = Left (Malformed spot.addr) ∷ []
-  node_tour tour level spot block (Some node) = Block (place_of level spot) block ∷ under tour level spot node
+  abbrev pub node_tour : (BlockPointer → List Mark) → ℕ → BlockPointer → List ℕ → Option Node → List Mark
+  node_tour tour level pointer block None = Left (Malformed pointer.addr) ∷ []
+  node_tour tour level pointer block (Some node) = Block (place_of level pointer) block ∷ under tour level pointer node
 
   -- the tour of what became of a block
-  abbrev pub block_tour : (Spot → List Mark) → ℕ → Spot → Result (List ℕ) Fault → List Mark
-  block_tour tour level spot (Ok block) = node_tour tour level spot block (judged level spot block)
-  block_tour tour level spot (Err fault) = Left fault ∷ []
+  abbrev pub block_tour : (BlockPointer → List Mark) → ℕ → BlockPointer → Result (List ℕ) Fault → List Mark
+  block_tour tour level pointer (Ok block) = node_tour tour level pointer block (judged level pointer block)
+  block_tour tour level pointer (Err fault) = Left fault ∷ []
 
   module _ (B : Map) where
-    -- from the block of a level at a spot downwards; nothing is below level 0 but items
-    abbrev pub tour_at : ℕ → Spot → List Mark
-    tour_at zero spot = block_tour (λ child. []) 0 spot (B (want_of 0 spot))
-    tour_at (suc n) spot = block_tour (tour_at n) (suc n) spot (B (want_of (suc n) spot))
+    -- from the block of a level at a pointer downwards; nothing is below level 0 but items
+    abbrev pub tour_at : ℕ → BlockPointer → List Mark
+    tour_at zero pointer = block_tour (λ child. []) 0 pointer (B (want_of 0 pointer))
+    tour_at (suc n) pointer = block_tour (tour_at n) (suc n) pointer (B (want_of (suc n) pointer))
 
     -- the tour of a tree
     abbrev pub tour : RootPlace → List Mark
-    tour root = tour_at root.level (root_spot root)
+    tour root = tour_at root.level (root_pointer root)
 
 -- the first key there is
 abbrev pub first_key : Key

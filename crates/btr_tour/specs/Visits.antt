@@ -26,21 +26,21 @@ use Rattle.btr_walk.specs.declared.folder.FoldFault.TheVariants.{Tree, Own}
 use Rattle.btr_walk.specs.declared.place.RootPlace.{RootPlace}
 
 -- what was met is this mark; of a block the header is shown
-abbrev pub Shows : Met → Mark → Type 0
-Shows (Block place header) mark = (sums : SumKind) × ((block : List ℕ) × (header ≡ header_of sums block) × (mark ≡ marks.Block place block))
-Shows (Child block place) mark = mark ≡ marks.Child block place
-Shows (Item found) mark = mark ≡ marks.Item (item_of found)
-Shows (Fault f) mark = IsSomeAnd (reason f) (λ fault. mark ≡ marks.Left fault)
+abbrev pub ShowsMark : Met → Mark → Type 0
+ShowsMark (Block place header) mark = (sums : SumKind) × ((block : List ℕ) × (header ≡ header_of sums block) × (mark ≡ marks.Block place block))
+ShowsMark (Child block place) mark = mark ≡ marks.Child block place
+ShowsMark (Item found) mark = mark ≡ marks.Item (item_of found)
+ShowsMark (Fault f) mark = IsSomeAnd (reason f) (λ fault. mark ≡ marks.Left fault)
 
 module _ {St : Type 0} (step : St → Mark → St) where
   -- what was met was treated
   abbrev pub Takes : {E : Type 0} → St → Met → St → Result (Unit {0}) E → Type 0
-  Takes old met new (Ok u) = (mark : Mark) → Shows met mark → new ≡ step old mark
+  Takes old met new (Ok u) = (mark : Mark) → ShowsMark met mark → new ≡ step old mark
   Takes old met new (Err e) = ⊤
 
   -- a call that meets one mark more treated it; it doesn't end here by a fault of the tree
   abbrev pub IsTaken : {E : Type 0} → St → Met → St → Result Bool (FoldFault E) → Type 0
-  IsTaken old met new (Ok true) = (mark : Mark) → Shows met mark → new ≡ step old mark
+  IsTaken old met new (Ok true) = (mark : Mark) → ShowsMark met mark → new ≡ step old mark
   IsTaken old met new (Ok false) = ⊥
   IsTaken old met new (Err (Tree f)) = ⊥
   IsTaken old met new (Err (Own e)) = ⊤

@@ -32,7 +32,7 @@ fn from_place<R: Rack>(
     ensures others { SameLoans store.old (base store.new (loan_of result.leaf)) }
     ensures hand { IfSome result.leaf (IsInHand store.new) }
     ensures shaped { IsShaped place.new }
-    ensures nears { StepRankFalls (rank_on place.old None) (rank_on place.new result.leaf) result.step }
+    ensures rank_falls { StepRankFalls (rank_on place.old None) (rank_on place.new result.leaf) result.step }
     ensures step { HasStep place.old place.new result.leaf result.step }
     ensures cause { StepCause store.old.layout (R.seen rack.old) (R.seen rack.new) place.old result.step }
     ensures content { TellsOf store.old (R.seen rack.old) (R.seen rack.new)
@@ -67,7 +67,7 @@ pub(crate) fn advance<R: Rack>(
     ensures others { SameLoans (base store.old (loan_of leaf)) (base store.new (loan_of result.leaf)) }
     ensures hand { IfSome result.leaf (IsInHand store.new) }
     ensures shaped { IsShaped place.new }
-    ensures nears { StepRankFalls (rank_on place.old leaf) (rank_on place.new result.leaf) result.step }
+    ensures rank_falls { StepRankFalls (rank_on place.old leaf) (rank_on place.new result.leaf) result.step }
     ensures step { HasStep place.old place.new result.leaf result.step }
     ensures cause { StepCause store.old.layout (R.seen rack.old) (R.seen rack.new) place.old result.step }
     ensures content { TellsOf store.old (R.seen rack.old) (R.seen rack.new)

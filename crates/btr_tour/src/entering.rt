@@ -23,11 +23,11 @@ use btr_walk::{
 
 // Where a block that is to be read stands.
 fn place_of(todo: &Todo) -> RootPlace
-    ensures { result ≡ place_of todo.now.level todo.now.spot }
+    ensures { result ≡ place_of todo.now.level todo.now.pointer }
 {
     RootPlace {
-        addr: todo.spot.addr,
-        generation: todo.spot.generation,
+        addr: todo.pointer.addr,
+        generation: todo.pointer.generation,
         level: todo.level,
     }
 }
@@ -71,13 +71,13 @@ pub(crate) fn enter<R: Rack>(
     ensures others { SameLoans store.old (base store.new (loan_of result.leaf)) }
     ensures hand { IfSome result.leaf (IsInHand store.new) }
     ensures shaped { IsShaped place.new }
-    ensures nears { StepRankFalls (rank_on place.old None) (rank_on place.new result.leaf) result.step }
+    ensures rank_falls { StepRankFalls (rank_on place.old None) (rank_on place.new result.leaf) result.step }
     ensures step { HasStep place.old place.new result.leaf result.step }
     ensures cause { StepCause store.old.layout (R.seen rack.old) (R.seen rack.new) place.old result.step }
     ensures content { TellsOf store.old (R.seen rack.old) (R.seen rack.new)
         (λ Is B. AdvancesIn scope.now Is B store.old place.old None store.new (arrived place.new result)) }
 {
-    match read_block(todo.level, &todo.spot, rack, store) {
+    match read_block(todo.level, &todo.pointer, rack, store) {
         Err(fault) => {
             let after = Where {
                 path: place.path,
@@ -94,7 +94,7 @@ pub(crate) fn enter<R: Rack>(
             if todo.level == 0 {
                 let part = part_of(store.bytes(&loan), scope.lo, scope.hi);
                 let leaf = LeafAt {
-                    spot: todo.spot,
+                    pointer: todo.pointer,
                     next: part.next,
                     end: part.end,
                     loan,
@@ -106,7 +106,7 @@ pub(crate) fn enter<R: Rack>(
             }
             let part = choose(store.bytes(&loan), scope.lo, scope.hi);
             store.give(loan);
-            let frame = frame_of(&todo.spot, part);
+            let frame = frame_of(&todo.pointer, part);
             set_frame(&mut place.path, todo.level as usize - 1, frame);
             Advanced { leaf: None, step }
         }
@@ -131,7 +131,7 @@ pub(crate) fn meet_child<R: Rack>(
     ensures others { SameLoans store.old (base store.new (loan_of result.leaf)) }
     ensures hand { IfSome result.leaf (IsInHand store.new) }
     ensures shaped { IsShaped place.new }
-    ensures nears { StepRankFalls (rank_on place.old None) (rank_on place.new result.leaf) result.step }
+    ensures rank_falls { StepRankFalls (rank_on place.old None) (rank_on place.new result.leaf) result.step }
     ensures step { HasStep place.old place.new result.leaf result.step }
     ensures cause { StepCause store.old.layout (R.seen rack.old) (R.seen rack.new) place.old result.step }
     ensures content { TellsOf store.old (R.seen rack.old) (R.seen rack.new)
@@ -156,7 +156,7 @@ pub(crate) fn meet_child<R: Rack>(
             Advanced {
                 leaf: None,
                 step: Ok(Step::Child {
-                    block: frame.spot.addr,
+                    block: frame.pointer.addr,
                     place: place_of(&todo),
                 }),
             }

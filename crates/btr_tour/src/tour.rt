@@ -40,13 +40,13 @@ fn behind_all(leaf: Option<LeafAt>) -> Option<LeafAt>
         None => None,
         Some(hand) => {
             let LeafAt {
-                spot,
+                pointer,
                 next: _,
                 end,
                 loan,
             } = hand;
             Some(LeafAt {
-                spot,
+                pointer,
                 next: end,
                 end,
                 loan,
@@ -82,7 +82,7 @@ impl Tour {
         ensures ready { (rack : Seen) (store : Blocks) → IsTourReady rack store self.old → IsTourReady rack store self.new }
         ensures on { (B : Map) (seen : List Want) → IsUnderway B seen self.old → IsUnderway B seen self.new }
         ensures held { (B : Map) (seen : List Want) (store : Blocks) → HoldsLeaf B seen store self.old → HoldsLeaf B seen store self.new }
-        ensures nears { rank_of self.new ≤ rank_of self.old }
+        ensures rank_falls { rank_of self.new ≤ rank_of self.old }
     {
         let Some(level) = self.level else {
             unreachable!();
@@ -121,7 +121,7 @@ fn step<R: Rack>(tour: &mut Tour, rack: &mut R, store: &mut Store) -> Result<Ste
     ensures others { SameLoans (without_leaf store.old tour.old) (without_leaf store.new tour.new) }
     ensures scope { tour.new.scope ≡ tour.old.scope }
     ensures level { tour.new.level ≡ None }
-    ensures nears { StepRankFalls (rank_of tour.old) (rank_of tour.new) result }
+    ensures rank_falls { StepRankFalls (rank_of tour.old) (rank_of tour.new) result }
     ensures step { HasStep tour.old.place tour.new.place tour.new.leaf result }
     ensures cause { StepCause store.old.layout (R.seen rack.old) (R.seen rack.new) tour.old.place result }
     ensures content { TellsOf store.old (R.seen rack.old) (R.seen rack.new)
@@ -152,7 +152,7 @@ pub fn next<'e, R: Rack>(
     ensures scope { tour.new.scope ≡ tour.old.scope }
     ensures level { tour.new.level ≡ level_met result }
     ensures kept { KeepsLeaf tour.new.leaf result }
-    ensures nears { NextRankFalls tour.old tour.new result }
+    ensures rank_falls { NextRankFalls tour.old tour.new result }
     ensures cause { NextCause store.old.layout (R.seen rack.old) (R.seen rack.new) tour.old tour.new result }
 {
     match step(tour, rack, store)? {
@@ -167,7 +167,7 @@ pub fn next<'e, R: Rack>(
             let Some(hand) = &tour.leaf else {
                 unreachable!();
             };
-            Ok(Some(Met::Item(found_at(store.bytes(&hand.loan), hand.spot.addr, at))))
+            Ok(Some(Met::Item(found_at(store.bytes(&hand.loan), hand.pointer.addr, at))))
         }
     }
 }

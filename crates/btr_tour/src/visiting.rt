@@ -38,7 +38,7 @@ fn meet_next<R: Rack, E, V: Visitor<E>>(
     ensures reads { OnlyReads (R.seen rack.old) (R.seen rack.new) }
     ensures others { SameLoans (without_leaf store.old tour.old) (without_leaf store.new tour.new) }
     ensures scope { tour.new.scope ≡ tour.old.scope }
-    ensures nears { MetRankFalls tour.old tour.new result }
+    ensures rank_falls { MetRankFalls tour.old tour.new result }
     ensures unread { OnlyUnread result }
     ensures cause { FoldCause store.old.layout (R.seen rack.old) (R.seen rack.new) result }
     ensures content { TellsOf store.old (R.seen rack.old) (R.seen rack.new)

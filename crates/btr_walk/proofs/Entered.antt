@@ -9,8 +9,8 @@ use Rattle.btr_read.specs.Store.{Blocks, Lent, block_of}
 use Rattle.btr_read.specs.declared.want.Want.{Want}
 use Rattle.btr_walk.specs.declared.choice.Part.{Part}
 use Rattle.btr_walk.specs.declared.frame.Todo.{Todo}
-use Rattle.btr_walk.specs.declared.spot.Spot.{Spot}
-use Rattle.btr_walk.specs.Spot.{is_below, judged}
+use Rattle.btr_walk.specs.declared.block_pointer.BlockPointer.{BlockPointer}
+use Rattle.btr_walk.specs.BlockPointer.{is_below, judged}
 use Rattle.btr_walk.specs.Le.{tree_item, want_of}
 use Rattle.btr_walk.specs.Range.{RangeProg, emit_all, over, range_leaf, range_inner, range_at}
 use Rattle.btr_walk.specs.Reading.{Map}
@@ -27,56 +27,60 @@ use Rattle.btr_walk.specs.Hand.{IsHeld}
 
 module _ (lo hi : Key) (B : Map) where
   -- a leaf
-  leaf_zero : (spot : Spot) (block : List ℕ) (part : Part) → judged 0 spot block ≡ Some (Leaf (items block)) → IsPart lo hi (items block) part
-      → B (want_of 0 spot) ≡ Ok block → (rest : RangeProg) → exec B (range_at lo hi 0 spot rest)
-      ≡ first (Wants (want_of 0 spot)) (exec B (emit_all (part_items spot.addr block part.next part.end) rest))
-  leaf_zero spot block part is p e rest =
-      ap (λ x. first (Wants (want_of 0 spot)) (given x (λ b. exec B (range_leaf lo hi spot rest (judged 0 spot b))))) e
-      ∙ ap (λ x. first (Wants (want_of 0 spot)) (exec B (range_leaf lo hi spot rest x))) is
-      ∙ ap (λ (l : List Item). first (Wants (want_of 0 spot)) (exec B (emit_all (map (tree_item spot.addr) l) rest)))
+  leaf_zero : (pointer : BlockPointer) (block : List ℕ) (part : Part) → judged 0 pointer block ≡ Some (Leaf (items block)) → IsPart lo hi (items block) part
+      → B (want_of 0 pointer) ≡ Ok block → (rest : RangeProg) → exec B (range_at lo hi 0 pointer rest)
+      ≡ first (Wants (want_of 0 pointer)) (exec B (emit_all (part_items pointer.addr block part.next part.end) rest))
+  leaf_zero pointer block part is p e rest =
+      ap (λ x. first (Wants (want_of 0 pointer)) (given x (λ b. exec B (range_leaf lo hi pointer rest (judged 0 pointer b))))) e
+      ∙ ap (λ x. first (Wants (want_of 0 pointer)) (exec B (range_leaf lo hi pointer rest x))) is
+      ∙ ap (λ (l : List Item). first (Wants (want_of 0 pointer)) (exec B (emit_all (map (tree_item pointer.addr) l) rest)))
       (part_is lo hi (items block) part.next part.end p.before p.behind p.low p.high)
 
-  pub enter_leaf : (level : ℕ) (spot : Spot) (block : List ℕ) (part : Part) → IsLeafAt level spot block → IsPart lo hi (items block) part
-      → B (want_of level spot) ≡ Ok block → (rest : RangeProg) → exec B (range_at lo hi level spot rest)
-      ≡ first (Wants (want_of level spot)) (exec B (emit_all (part_items spot.addr block part.next part.end) rest))
-  enter_leaf zero spot block part leaf p e rest = leaf_zero spot block part leaf.is p e rest
-  enter_leaf (suc n) spot block part leaf p e rest = let l = leaf.zero_level in absurd (omega (arith, l))
+  -- a leaf at its pointer gives, behind its want, its items from lo to hi, and then the rest
+  pub enter_leaf : (level : ℕ) (pointer : BlockPointer) (block : List ℕ) (part : Part) → IsLeafAt level pointer block → IsPart lo hi (items block) part
+      → B (want_of level pointer) ≡ Ok block → (rest : RangeProg) → exec B (range_at lo hi level pointer rest)
+      ≡ first (Wants (want_of level pointer)) (exec B (emit_all (part_items pointer.addr block part.next part.end) rest))
+  enter_leaf zero pointer block part leaf p e rest = leaf_zero pointer block part leaf.is p e rest
+  enter_leaf (suc n) pointer block part leaf p e rest = let l = leaf.zero_level in absurd (omega (arith, l))
 
   -- a leaf that is in hand
-  pub held_leaf : (level : ℕ) (spot : Spot) (block : List ℕ) (store : Blocks) (next end : ℕ) (loan : Lent) (seen : List Want) → IsLeafAt level spot block
-      → block_of store loan ≡ Some block → B (want_of level spot) ≡ Ok block → Contains seen (want_of level spot)
-      → IsHeld B seen store (record { spot = spot; next = next; end = end; loan = loan })
-  held_leaf level spot block store next end loan seen leaf lent e c = record {
+  pub held_leaf : (level : ℕ) (pointer : BlockPointer) (block : List ℕ) (store : Blocks) (next end : ℕ) (loan : Lent) (seen : List Want)
+      → IsLeafAt level pointer block
+      → block_of store loan ≡ Some block → B (want_of level pointer) ≡ Ok block → Contains seen (want_of level pointer)
+      → IsHeld B seen store (record { pointer = pointer; next = next; end = end; loan = loan })
+  held_leaf level pointer block store next end loan seen leaf lent e c = record {
     block = block;
     lent = lent;
-    came = subst (λ (n : ℕ). B (want_of n spot) ≡ Ok block) leaf.zero_level e;
-    is = subst (λ (n : ℕ). judged n spot block ≡ Some (Leaf (items block))) leaf.zero_level leaf.is;
-    read = subst (λ (n : ℕ). Contains seen (want_of n spot)) leaf.zero_level c;
+    came = subst (λ (n : ℕ). B (want_of n pointer) ≡ Ok block) leaf.zero_level e;
+    is = subst (λ (n : ℕ). judged n pointer block ≡ Some (Leaf (items block))) leaf.zero_level leaf.is;
+    read = subst (λ (n : ℕ). Contains seen (want_of n pointer)) leaf.zero_level c;
   }
 
   -- an inner node
-  enter_at : (n : ℕ) (spot : Spot) (block : List ℕ) → judged (suc n) spot block ≡ Some (Inner (pointers block)) → B (want_of (suc n) spot)
-      ≡ Ok block → (rest : RangeProg) → exec B (range_at lo hi (suc n) spot rest)
-      ≡ first (Wants (want_of (suc n) spot)) (exec B (over lo hi (range_at lo hi n) (pointers block) spot.up rest))
-  enter_at n spot block is e rest =
-      ap (λ x. first (Wants (want_of (suc n) spot)) (given x (λ b. exec B (range_inner lo hi (range_at lo hi n) spot rest (judged (suc n) spot b))))) e
-      ∙ ap (λ x. first (Wants (want_of (suc n) spot)) (exec B (range_inner lo hi (range_at lo hi n) spot rest x))) is
+  enter_at : (n : ℕ) (pointer : BlockPointer) (block : List ℕ) → judged (suc n) pointer block ≡ Some (Inner (pointers block)) → B (want_of (suc n) pointer)
+      ≡ Ok block → (rest : RangeProg) → exec B (range_at lo hi (suc n) pointer rest)
+      ≡ first (Wants (want_of (suc n) pointer)) (exec B (over lo hi (range_at lo hi n) (pointers block) pointer.up rest))
+  enter_at n pointer block is e rest =
+      ap (λ x. first (Wants (want_of (suc n) pointer)) (given x (λ b. exec B (range_inner lo hi (range_at lo hi n) pointer rest (judged (suc n) pointer b))))) e
+      ∙ ap (λ x. first (Wants (want_of (suc n) pointer)) (exec B (range_inner lo hi (range_at lo hi n) pointer rest x))) is
 
-  enter_over : (level : ℕ) (spot : Spot) (block : List ℕ) → IsInnerAt level spot block → B (want_of level spot) ≡ Ok block → (rest : RangeProg)
-      → exec B (range_at lo hi level spot rest)
-      ≡ first (Wants (want_of level spot)) (exec B (over lo hi (range_at lo hi (level - 1)) (pointers block) spot.up rest))
-  enter_over zero spot block inner e rest = let some = inner.some in absurd (omega (arith, some))
-  enter_over (suc n) spot block inner e rest =
+  -- an inner node at its pointer gives, behind its want, what those of its children have that meet the keys, and then the rest
+  enter_over : (level : ℕ) (pointer : BlockPointer) (block : List ℕ) → IsInnerAt level pointer block → B (want_of level pointer) ≡ Ok block → (rest : RangeProg)
+      → exec B (range_at lo hi level pointer rest)
+      ≡ first (Wants (want_of level pointer)) (exec B (over lo hi (range_at lo hi (level - 1)) (pointers block) pointer.up rest))
+  enter_over zero pointer block inner e rest = let some = inner.some in absurd (omega (arith, some))
+  enter_over (suc n) pointer block inner e rest =
       let m : n ≡ suc n - 1 = omega arith in
-      enter_at n spot block inner.is e rest
-      ∙ ap (λ (x : ℕ). first (Wants (want_of (suc n) spot)) (exec B (over lo hi (range_at lo hi x) (pointers block) spot.up rest))) m
+      enter_at n pointer block inner.is e rest
+      ∙ ap (λ (x : ℕ). first (Wants (want_of (suc n) pointer)) (exec B (over lo hi (range_at lo hi x) (pointers block) pointer.up rest))) m
 
   -- the children that were chosen, and the first of them
-  module _ (todo : Todo) (block : List ℕ) (part : Part) (b : Below) (inner : IsInnerAt todo.level todo.spot block)
-      (c : IsChoice lo hi (pointers block) part) (first_is : IsFirstBelow (pointers block) todo part b) (e : B (want_of todo.level todo.spot) ≡ Ok block)
-      (up : is_below todo.spot.up lo ≡ true) where
-    abbrev chosen : (seen : List Want) → Contains seen (want_of todo.level todo.spot) → part.next < part.end
-        → IsFrame lo hi B seen todo.level (record { spot = todo.spot; next = part.next; end = part.end })
+  module _ (todo : Todo) (block : List ℕ) (part : Part) (b : Below) (inner : IsInnerAt todo.level todo.pointer block)
+      (c : IsChoice lo hi (pointers block) part) (first_is : IsFirstBelow (pointers block) todo part b) (e : B (want_of todo.level todo.pointer) ≡ Ok block)
+      (up : is_below todo.pointer.up lo ≡ true) where
+    -- the frame of the children that were chosen, where there are some
+    abbrev chosen : (seen : List Want) → Contains seen (want_of todo.level todo.pointer) → part.next < part.end
+        → IsFrame lo hi B seen todo.level (record { pointer = todo.pointer; next = part.next; end = part.end })
     chosen seen read lt = record {
       node = record { block = block; came = e; is = inner.is; read = read; more = lt; within = c.within };
       up = up;
@@ -85,31 +89,35 @@ module _ (lo hi : Key) (B : Map) where
       high = c.high;
     }
 
-    again : (seen : List Want) → Contains seen (want_of todo.level todo.spot) → part.next < part.end
-        → IsAgainBelow lo hi B todo.level (record { spot = todo.spot; next = part.next; end = part.end }) seen b
-    again seen read lt = again_as lo hi B todo.level (record { spot = todo.spot; next = part.next; end = part.end }) seen
+    -- what is left of the children that were chosen is the first of them, and then the others
+    again : (seen : List Want) → Contains seen (want_of todo.level todo.pointer) → part.next < part.end
+        → IsAgainBelow lo hi B todo.level (record { pointer = todo.pointer; next = part.next; end = part.end }) seen b
+    again seen read lt = again_as lo hi B todo.level (record { pointer = todo.pointer; next = part.next; end = part.end }) seen
         (chosen seen read lt) b.frame b.todo (first_is.some lt)
 
-    pub enter_inner : (rest : RangeProg) → exec B (range_at lo hi todo.level todo.spot rest)
-        ≡ first (Wants (want_of todo.level todo.spot)) (exec B (todo_prog lo hi b.todo (frame_or (frame_prog lo hi B) todo.level b.frame rest)))
+    -- an inner node gives, behind its want, the first child that was chosen, then the others, and then the rest
+    pub enter_inner : (rest : RangeProg) → exec B (range_at lo hi todo.level todo.pointer rest)
+        ≡ first (Wants (want_of todo.level todo.pointer)) (exec B (todo_prog lo hi b.todo (frame_or (frame_prog lo hi B) todo.level b.frame rest)))
     enter_inner rest =
-        enter_over todo.level todo.spot block inner e rest
-        ∙ ap (λ p. first (Wants (want_of todo.level todo.spot)) (exec B p)) (elim (cases_lt part.next part.end) [
-          | inl lt ↦ skip_to lo hi (pointers block) todo.spot.up up (range_at lo hi (todo.level - 1)) rest part.next c.there c.before
-              ∙ ap (λ (ps : List KeyPointer). over lo hi (range_at lo hi (todo.level - 1)) (drop part.next ps) todo.spot.up rest) (sym (ap pointers_in e))
-              ∙ (again (want_of todo.level todo.spot ∷ []) (0, omega arith, refl) lt).program rest
-          | inr le ↦ no_child lo hi (pointers block) todo.spot.up up (range_at lo hi (todo.level - 1)) rest part c le
+        enter_over todo.level todo.pointer block inner e rest
+        ∙ ap (λ p. first (Wants (want_of todo.level todo.pointer)) (exec B p)) (elim (cases_lt part.next part.end) [
+          | inl lt ↦ skip_to lo hi (pointers block) todo.pointer.up up (range_at lo hi (todo.level - 1)) rest part.next c.there c.before
+              ∙ ap (λ (ps : List KeyPointer). over lo hi (range_at lo hi (todo.level - 1)) (drop part.next ps) todo.pointer.up rest) (sym (ap pointers_in e))
+              ∙ (again (want_of todo.level todo.pointer ∷ []) (0, omega arith, refl) lt).program rest
+          | inr le ↦ no_child lo hi (pointers block) todo.pointer.up up (range_at lo hi (todo.level - 1)) rest part c le
               ∙ ap (λ (x : Below). todo_prog lo hi x.todo (frame_or (frame_prog lo hi B) todo.level x.frame rest)) (sym (first_is.none le))
         ])
 
-    pub enter_frame : (seen : List Want) → Contains seen (want_of todo.level todo.spot) → IfSome b.frame (IsFrame lo hi B seen todo.level)
+    -- the frame that is left of an inner node has those of its children that meet the keys
+    pub enter_frame : (seen : List Want) → Contains seen (want_of todo.level todo.pointer) → IfSome b.frame (IsFrame lo hi B seen todo.level)
     enter_frame seen read = elim (cases_lt part.next part.end) [
       | inl lt ↦ (again seen read lt).frame_is
       | inr le ↦ subst (λ (x : Below). IfSome x.frame (IsFrame lo hi B seen todo.level)) (sym (first_is.none le)) tt
     ]
 
+    -- the child that is to be read next ends behind lo
     pub enter_todo : IsTodo lo hi b.todo
     enter_todo = elim (cases_lt part.next part.end) [
-      | inl lt ↦ (again (want_of todo.level todo.spot ∷ []) (0, omega arith, refl) lt).up
+      | inl lt ↦ (again (want_of todo.level todo.pointer ∷ []) (0, omega arith, refl) lt).up
       | inr le ↦ subst (λ (x : Below). IsTodo lo hi x.todo) (sym (first_is.none le)) tt
     ]

@@ -14,12 +14,13 @@ use Rattle.btr_read.specs.Store.{Blocks, Lent, block_of}
 use Rattle.btr_read.specs.declared.want.Want.{Want}
 use Rattle.btr_walk.specs.declared.fault.TreeFault.{TreeFault}
 use Rattle.btr_walk.specs.declared.fault.TreeFault.TheVariants as tree
-use Rattle.btr_walk.specs.declared.spot.Spot.{Spot}
+use Rattle.btr_walk.specs.declared.block_pointer.BlockPointer.{BlockPointer}
 use Rattle.btr_node.specs.declared.node.Node.{Node}
-use Rattle.btr_walk.specs.Spot.{judged}
+use Rattle.btr_walk.specs.BlockPointer.{judged}
 use Rattle.btr_walk.specs.Reading.{Map, UnreadBlock, Reads, FaultCause, CauseOf, unread_by, tree_fault}
 use Rattle.btr_walk.specs.Le.{want_of}
 
+-- what holds of the bytes that a loan has holds of its block
 pub some_block : (store : Blocks) (loan : Lent) (block : List ℕ) (P : List ℕ → Type 0) → block_of store loan ≡ Some block → P block
     → IsSomeAnd (block_of store loan) P
 some_block store loan block P is h = subst (λ o. IsSomeAnd o P) (sym is) h
@@ -28,12 +29,12 @@ none_is : (o : Option Node) → is_some o ≡ false → o ≡ None
 none_is (Some x) e = cc
 none_is None e = refl
 
--- a block that was judged isn't a good one that fits its spot
-pub bad_block : (B : Map) (level : ℕ) (spot : Spot) (o : Option (List ℕ)) (r : Bool) → IsSomeAnd o (λ block. B (want_of level spot) ≡ Ok block)
-    → IsSomeAnd o (λ block. r ≡ is_some (judged level spot block)) → r ≡ false → (block : List ℕ) × (B (want_of level spot) ≡ Ok block)
-    × (judged level spot block ≡ None)
-bad_block B level spot (Some block) r came h e = (block, came, none_is (judged level spot block) (sym h ∙ e))
-bad_block B level spot None r came h e = absurd came
+-- a block that was judged isn't a good one that fits its pointer
+pub bad_block : (B : Map) (level : ℕ) (pointer : BlockPointer) (o : Option (List ℕ)) (r : Bool) → IsSomeAnd o (λ block. B (want_of level pointer) ≡ Ok block)
+    → IsSomeAnd o (λ block. r ≡ is_some (judged level pointer block)) → r ≡ false → (block : List ℕ) × (B (want_of level pointer) ≡ Ok block)
+    × (judged level pointer block ≡ None)
+bad_block B level pointer (Some block) r came h e = (block, came, none_is (judged level pointer block) (sym h ∙ e))
+bad_block B level pointer None r came h e = absurd came
 
 -- a cause stays one of calls that began earlier
 pub unread_since : (layout : Layout) {a b c : Seen} (u : UnreadBlock) (want : Want) → OnlyReads a b → unread_by layout b c u want → unread_by layout a c u want
@@ -56,27 +57,29 @@ unread_since layout {a} {b} {c} u want first h = record {
 }
 
 -- what a fetch answers is what reading a block answers
-pub reads_err : (layout : Layout) (B : Map) (old new : Seen) (level : ℕ) (spot : Spot) (store : Blocks) (f : ReadFault)
-    → FitsFetch layout (want_of level spot) old new store (Err f) → AnswersOf (want_of level spot) store (Err f) B
-    → Reads (unread_by layout old new) B level spot store (Err (tree_fault f))
-reads_err layout B old new level spot store (read.Lost a) fits h = h
-reads_err layout B old new level spot store (read.Unread a slot) fits h = fits
-reads_err layout B old new level spot store (read.Unmapped a) fits h = h
-reads_err layout B old new level spot store (read.Crosses a) fits h = h
+pub reads_err : (layout : Layout) (B : Map) (old new : Seen) (level : ℕ) (pointer : BlockPointer) (store : Blocks) (f : ReadFault)
+    → FitsFetch layout (want_of level pointer) old new store (Err f) → AnswersOf (want_of level pointer) store (Err f) B
+    → Reads (unread_by layout old new) B level pointer store (Err (tree_fault f))
+reads_err layout B old new level pointer store (read.Lost a) fits h = h
+reads_err layout B old new level pointer store (read.Unread a slot) fits h = fits
+reads_err layout B old new level pointer store (read.Unmapped a) fits h = h
+reads_err layout B old new level pointer store (read.Crosses a) fits h = h
 
-pub cause_err : (layout : Layout) (old new : Seen) (level : ℕ) (spot : Spot) (store : Blocks) (f : ReadFault)
-    → FitsFetch layout (want_of level spot) old new store (Err f) → FaultCause layout old new (tree_fault f)
-cause_err layout old new level spot store (read.Lost a) fits = (want_of level spot, fits.2)
-cause_err layout old new level spot store (read.Unread a slot) fits = (want_of level spot, fits)
-cause_err layout old new level spot store (read.Unmapped a) fits = (want_of level spot, fits)
-cause_err layout old new level spot store (read.Crosses a) fits = (want_of level spot, fits)
+-- a fault of a fetch, as one of the tree, has its cause
+pub cause_err : (layout : Layout) (old new : Seen) (level : ℕ) (pointer : BlockPointer) (store : Blocks) (f : ReadFault)
+    → FitsFetch layout (want_of level pointer) old new store (Err f) → FaultCause layout old new (tree_fault f)
+cause_err layout old new level pointer store (read.Lost a) fits = (want_of level pointer, fits.2)
+cause_err layout old new level pointer store (read.Unread a slot) fits = (want_of level pointer, fits)
+cause_err layout old new level pointer store (read.Unmapped a) fits = (want_of level pointer, fits)
+cause_err layout old new level pointer store (read.Crosses a) fits = (want_of level pointer, fits)
 
-pub cause_of_err : (layout : Layout) (old new : Seen) (level : ℕ) (spot : Spot) (store : Blocks) (f : ReadFault)
-    → FitsFetch layout (want_of level spot) old new store (Err f) → CauseOf layout (want_of level spot) old new (tree_fault f)
-cause_of_err layout old new level spot store (read.Lost a) fits = fits.2
-cause_of_err layout old new level spot store (read.Unread a slot) fits = fits
-cause_of_err layout old new level spot store (read.Unmapped a) fits = fits
-cause_of_err layout old new level spot store (read.Crosses a) fits = fits
+-- a fault of a fetch, as one of the tree, has its cause in the want of its block
+pub cause_of_err : (layout : Layout) (old new : Seen) (level : ℕ) (pointer : BlockPointer) (store : Blocks) (f : ReadFault)
+    → FitsFetch layout (want_of level pointer) old new store (Err f) → CauseOf layout (want_of level pointer) old new (tree_fault f)
+cause_of_err layout old new level pointer store (read.Lost a) fits = fits.2
+cause_of_err layout old new level pointer store (read.Unread a slot) fits = fits
+cause_of_err layout old new level pointer store (read.Unmapped a) fits = fits
+cause_of_err layout old new level pointer store (read.Crosses a) fits = fits
 
 -- what holds of the fault that a read's becomes
 pub by_fault : {A : Type 0} (P : Result A TreeFault → Type 0) (r : Result A TreeFault) (f : ReadFault) → IsErrAnd r (λ e. e ≡ tree_fault f)
@@ -89,6 +92,7 @@ pub since : {a b c : Seen} (layout layout' : Layout) → layout' ≡ layout → 
     → unread_by layout' b c u want → unread_by layout a c u want
 since {a} {b} {c} layout layout' e first u want h = unread_since layout u want first (subst (λ (l : Layout). unread_by l b c u want) e h)
 
+-- a fault's cause stays one of calls that began earlier, over an equal layout
 pub cause_since : {a b : Seen} (c : Seen) (layout layout' : Layout) (f : TreeFault) → layout' ≡ layout → OnlyReads a b → FaultCause layout' b c f
     → FaultCause layout a c f
 cause_since {a} {b} c layout layout' (tree.Lost x) e first h = (

@@ -29,6 +29,7 @@ module _ {P : Type 0} (left : ℕ → Frame → P → P) (end : P) where
       ∙ path_clear (m + 1) n fs (omega (arith, le)) (λ k lt. h (suc k) (omega (arith, lt)))
       ∙ ap (λ x. path_of left end x (drop n fs)) e
 
+  -- where no frame stands below a place, a path with another one there has what is left of this one, and then what stands behind
   path_set_at : (m i : ℕ) (fs : List (Option Frame)) (o : Option Frame) → i < length fs → ((k : ℕ) → k < i → get_or fs k None ≡ None)
       → path_of left end m (set fs i o) ≡ frame_or left (m + i + 1) o (path_of left end (m + i + 1) (drop (suc i) fs))
   path_set_at m i [] o lt h = absurd (omega (arith, lt))
@@ -76,6 +77,7 @@ frames_set P Q fs i o lt weaker h g k = elim (cases_eq k i) [
       (if_weaker (P (k + 1)) (Q (k + 1)) (weaker (k + 1)) (get_or fs k None) (h k))
 ]
   where
+    -- what follows of each frame follows of the one that is there, if there is one
     if_weaker : (P Q : Frame → Type 0) → ((f : Frame) → P f → Q f) → (x : Option Frame) → IfSome x P → IfSome x Q
     if_weaker P Q weaker None p = tt
     if_weaker P Q weaker (Some f) p = weaker f p
@@ -90,7 +92,7 @@ node_more B seen more level frame f = record {
   block = f.block;
   came = f.came;
   is = f.is;
-  read = Contains-append_left seen more (want_of level frame.spot) f.read;
+  read = Contains-append_left seen more (want_of level frame.pointer) f.read;
   more = f.more;
   within = f.within;
 }

@@ -15,7 +15,7 @@ use Rattle.btr_walk.specs.declared.fault.TreeFault.{TreeFault}
 use Rattle.btr_walk.specs.declared.fault.TreeFault.TheVariants as tree
 use Rattle.btr_walk.specs.declared.frame.Frame.{Frame}
 use Rattle.btr_walk.specs.declared.scan_place.ScanPlace.{ScanPlace}
-use Rattle.btr_walk.specs.declared.spot.Spot.{Spot}
+use Rattle.btr_walk.specs.declared.block_pointer.BlockPointer.{BlockPointer}
 use Rattle.btr_node.specs.declared.node.Node.TheVariants.{Leaf}
 use Rattle.btr_walk.specs.declared.going.Where.{Where}
 use Rattle.btr_walk.specs.Le.{tree_item, want_of}
@@ -30,15 +30,18 @@ use Rattle.btr_prog.proofs.Follow.{follows_as}
 use Rattle.btr_walk.proofs.Halting.{read_still, same_block, unread_halts}
 use Rattle.btr_walk.proofs.Items.{leaf_next, leaf_none}
 use Rattle.btr_walk.specs.declared.leaf_at.LeafAt.{LeafAt}
-use Rattle.btr_walk.specs.Hand.{IsHeld, IsKept, behind_next, IsInHand, IsLeafOf, IsLeafAgain}
+use Rattle.btr_walk.specs.Hand.{IsHeld, IsGivenBack, behind_next, IsInHand, IsLeafOf, IsLeafAgain}
 
+-- a leaf in hand stays in hand one item further
 pub hand_step : (store : Blocks) (l : LeafAt) → IsInHand store l → IsInHand store (behind_next l)
 hand_step store l h = record { live = h.live; large = h.large; small = h.small; good = h.good }
 
+-- a leaf in hand is the block that its want came to one item further too
 held_step : (B : Map) (seen : List Want) (store : Blocks) (l : LeafAt) → IsHeld B seen store l → IsHeld B seen store (behind_next l)
 held_step B seen store l h = record { block = h.block; lent = h.lent; came = h.came; is = h.is; read = h.read }
 
 module _ (lo hi : Key) (B : Map) where
+  -- with a leaf in hand that has more items, behind some wants the next of them is met
   meets_in : (was : Type 0) (seen past : List Want) (before : RangeProg) (store : Blocks) (l : LeafAt) (place : Where) (o : Option (List ℕ))
       → block_of store l.loan ≡ o → exec B before ≡ prepend (wants past) (exec B (hand_prog store l (place_prog lo hi B place)))
       → IsAlong lo hi B (seen ++ past) place → IsSomeAnd o (λ block. IsTrue (is_leaf block) × (l.end ≤ length (items block))) → l.next < l.end
@@ -50,19 +53,20 @@ module _ (lo hi : Key) (B : Map) where
       let same : l.next + 1 - 1 ≡ l.next = omega arith in
       record {
         past = past;
-        item = tree_item l.spot.addr (get_or (items block) l.next d);
+        item = tree_item l.pointer.addr (get_or (items block) l.next d);
         is = e
             ∙ ap (λ x. prepend (wants past) (exec B (emit_all (hand_items x l) rest))) is
-            ∙ ap (prepend (wants past)) (leaf_next B l.spot.addr block l.next l.end d rest lt good.1)
-            ∙ ap (λ x. prepend (wants past) (first (Does (tree_item l.spot.addr (get_or (items block) l.next d)))
+            ∙ ap (prepend (wants past)) (leaf_next B l.pointer.addr block l.next l.end d rest lt good.1)
+            ∙ ap (λ x. prepend (wants past) (first (Does (tree_item l.pointer.addr (get_or (items block) l.next d)))
             (exec B (emit_all (hand_items x (behind_next l)) rest)))) (sym is);
         on = on;
         some = omega arith;
         at = subst (λ x. IsSomeAnd x (λ b. (l.next + 1 ≤ length (items b))
-            × ((f : Item) → tree_item l.spot.addr (get_or (items b) (l.next + 1 - 1) f) ≡ tree_item l.spot.addr (get_or (items block) l.next d)))) (sym is) (
+            × ((f : Item) → tree_item l.pointer.addr (get_or (items b) (l.next + 1 - 1) f) ≡ tree_item l.pointer.addr (get_or (items block) l.next d))))
+            (sym is) (
               omega (arith, lt, good.1),
-              λ f. ap (λ (i : ℕ). tree_item l.spot.addr (get_or (items block) i f)) same
-                  ∙ ap (tree_item l.spot.addr) (get_or_default (items block) l.next f d (omega (arith, lt, good.1))),
+              λ f. ap (λ (i : ℕ). tree_item l.pointer.addr (get_or (items block) i f)) same
+                  ∙ ap (tree_item l.pointer.addr) (get_or_default (items block) l.next f d (omega (arith, lt, good.1))),
             );
         held = λ w. held_step B (seen ++ past) store l (held w);
       }
@@ -73,7 +77,7 @@ module _ (lo hi : Key) (B : Map) where
   meets_reached Is from after store l hand lt h seen on = at_block (block_of store l.loan) refl (h seen on)
     where
       at_block : (o : Option (List ℕ)) → block_of store l.loan ≡ o
-          → IsSomeAnd o (λ block. GoesOnHolding lo hi B seen from (emit_all (part_items l.spot.addr block l.next l.end) (place_prog lo hi B after)) after
+          → IsSomeAnd o (λ block. GoesOnHolding lo hi B seen from (emit_all (part_items l.pointer.addr block l.next l.end) (place_prog lo hi B after)) after
           store l) → Meets lo hi (Unit {0}) B seen (place_prog lo hi B from) store (behind_next l) after
       at_block None is g = absurd g
       at_block (Some block) is g =
@@ -105,12 +109,13 @@ module _ (lo hi : Key) (B : Map) where
   advances_as was then Is Less seen a b store place (Some l) (Err x) weaker f e h = subst (λ r. Follows Less no_part seen r [] (Err (halt_of x)))
       (sym e) (follows_as Is Less weaker no_part seen (exec B b) [] (Err (halt_of x)) h)
 
+  -- a leaf in hand that has no more items leaves only the rest
   hand_none : (store : Blocks) (l : LeafAt) (place : Where) (o : Option (List ℕ)) → block_of store l.loan ≡ o
       → IsSomeAnd o (λ block. IsTrue (is_leaf block) × (l.end ≤ length (items block))) → l.end ≤ l.next
       → exec B (hand_prog store l (place_prog lo hi B place)) ≡ exec B (place_prog lo hi B place)
   hand_none store l place None is good le = absurd good
   hand_none store l place (Some block) is good le = ap (λ x. exec B (emit_all (hand_items x l) (place_prog lo hi B place))) is
-      ∙ leaf_none B l.spot.addr block l.next l.end (place_prog lo hi B place) le
+      ∙ leaf_none B l.pointer.addr block l.next l.end (place_prog lo hi B place) le
 
   -- the leaf in hand has no more
   pub hand_empty : (Is : UnreadBlock → Want → Type 0) (store store' : Blocks) (l : LeafAt) (place after : Where) (a : Advanced) → IsInHand store l
@@ -127,6 +132,7 @@ module _ (lo hi : Key) (B : Map) where
       (hand_prog old l (place_prog lo hi B place.rest)) new after a.leaf a.met (λ u w x. x) (λ x. subst (λ o. IfSome o (IsHeld B seen old)) is x)
       (ap (λ o. exec B (leaf_prog B old o place.leaf (place_prog lo hi B place.rest))) is) (h seen on.rest)
 
+  -- with no leaf in hand, and none that was given back, the scan goes on from its place
   pub with_none : (Is : UnreadBlock → Want → Type 0) (old new : Blocks) (leaf : Option LeafAt) (place : ScanPlace) (after : Where) (a : Advanced)
       → leaf ≡ None → place.leaf ≡ None → FromPlace lo hi Is B place.rest after new a → IsAdvanced lo hi Is B place after leaf old new a
   with_none Is old new leaf place after a is free h seen on =
@@ -138,20 +144,23 @@ module _ (lo hi : Key) (B : Map) where
   again_items : (seen : List Want) (store : Blocks) (l : LeafAt) (frame : Frame) → IsLeafOf frame l → IsHeld B seen store l → kept_items B frame
       ≡ hand_items (block_of store l.loan) l
   again_items seen store l frame same h =
-      ap (λ (s : Spot). items_in (B (want_of 0 s)) s.addr frame.next frame.end) (sym same.0)
-      ∙ ap (λ (n : ℕ). items_in (B (want_of 0 l.spot)) l.spot.addr n frame.end) (sym same.1)
-      ∙ ap (λ (n : ℕ). items_in (B (want_of 0 l.spot)) l.spot.addr l.next n) (sym same.2)
-      ∙ ap (λ x. items_in x l.spot.addr l.next l.end) h.came
+      ap (λ (s : BlockPointer). items_in (B (want_of 0 s)) s.addr frame.next frame.end) (sym same.0)
+      ∙ ap (λ (n : ℕ). items_in (B (want_of 0 l.pointer)) l.pointer.addr n frame.end) (sym same.1)
+      ∙ ap (λ (n : ℕ). items_in (B (want_of 0 l.pointer)) l.pointer.addr l.next n) (sym same.2)
+      ∙ ap (λ x. items_in x l.pointer.addr l.next l.end) h.came
       ∙ ap (λ x. hand_items x l) (sym h.lent)
 
   module _ (leaf : Option LeafAt) (place : ScanPlace) (frame : Frame) (is : leaf ≡ None) (kept : place.leaf ≡ Some frame) where
-    kept_is : (seen : List Want) → IsOn lo hi B seen place → IsKept B seen frame
-    kept_is seen on = subst (λ k. IfSome k (IsKept B seen)) kept on.kept
+    -- the leaf that was given back was read before, and is good at its pointer
+    kept_is : (seen : List Want) → IsOn lo hi B seen place → IsGivenBack B seen frame
+    kept_is seen on = subst (λ k. IfSome k (IsGivenBack B seen)) kept on.kept
 
+    -- what the scan has still to give begins with the items of the leaf that was given back
     kept_prog : (old : Blocks) → exec B (left lo hi B old leaf place) ≡ exec B (emit_all (kept_items B frame) (place_prog lo hi B place.rest))
     kept_prog old = let rest = place_prog lo hi B place.rest in
         ap (λ o. exec B (leaf_prog B old o place.leaf rest)) is ∙ ap (λ k. exec B (leaf_prog B old None k rest)) kept
 
+    -- where the leaf that was given back is in hand again, the scan goes on with its items
     pub with_kept : (Was Then Is : UnreadBlock → Want → Type 0) (old mid new : Blocks) (l : LeafAt) (after : Where) (a : Advanced)
         → ((u : UnreadBlock) (w : Want) → Then u w → Is u w) → IsLeafOf frame l → IsLeafAgain Was B frame mid (Ok l)
         → FromHand lo hi Then B place.rest after l mid new a → IsAdvanced lo hi Is B place after leaf old new a
@@ -161,26 +170,31 @@ module _ (lo hi : Key) (B : Map) where
         (hand_prog mid l (place_prog lo hi B place.rest)) new after a.leaf a.met weaker (λ x. held)
         (kept_prog old ∙ ap (λ x. exec B (emit_all x (place_prog lo hi B place.rest))) (again_items seen mid l frame same held)) (h seen on.rest)
 
+    -- where the leaf that was given back could not be read again, the scan halts and stays at its place
     pub kept_halts : (Is : UnreadBlock → Want → Type 0) (old new : Blocks) (f : TreeFault) → IsLeafAgain Is B frame new (Err f)
         → IsAdvanced lo hi Is B place place.rest leaf old new (record { leaf = None; met = Err f })
     kept_halts Is old new f h seen on = unread_halts Is seen f (exec B (left lo hi B old leaf place)) (h seen (kept_is seen on))
 
 -- a leaf that is read again
 module _ (Is : UnreadBlock → Want → Type 0) (B : Map) (frame : Frame) (store : Blocks) where
-  pub again_halts : (f : TreeFault) → Reads Is B 0 frame.spot store (Err f) → IsLeafAgain Is B frame store (Err f)
-  again_halts f h seen k = read_still Is B seen 0 frame.spot store f k.block (Leaf (items k.block)) k.came k.is k.read h
+  -- a good leaf that was read before and now can't be had could not be read
+  pub again_halts : (f : TreeFault) → Reads Is B 0 frame.pointer store (Err f) → IsLeafAgain Is B frame store (Err f)
+  again_halts f h seen k = read_still Is B seen 0 frame.pointer store f k.block (Leaf (items k.block)) k.came k.is k.read h
 
-  module _ (loan : Lent) (block : List ℕ) (is : block_of store loan ≡ Some block) (came : B (want_of 0 frame.spot) ≡ Ok block) where
-    same : (seen : List Want) (k : IsKept B seen frame) → block ≡ k.block
-    same seen k = same_block B (want_of 0 frame.spot) block k.block came k.came
+  module _ (loan : Lent) (block : List ℕ) (is : block_of store loan ≡ Some block) (came : B (want_of 0 frame.pointer) ≡ Ok block) where
+    -- the block that came is the one that was read before
+    same : (seen : List Want) (k : IsGivenBack B seen frame) → block ≡ k.block
+    same seen k = same_block B (want_of 0 frame.pointer) block k.block came k.came
 
+    -- a leaf that was read before isn't shorter than where its items were to end
     pub again_short : (after : Blocks) (a : ℕ) → length (items block) < frame.end → IsLeafAgain Is B frame after (Err (tree.Malformed a))
     again_short after a lt seen k =
         let l : length (items block) ≡ length (items k.block) = ap (λ (b : List ℕ). length (items b)) (same seen k) in
         let w = k.within in
         absurd (omega (arith, lt, l, w))
 
-    pub again_held : IsLeafAgain Is B frame store (Ok (record { spot = frame.spot; next = frame.next; end = frame.end; loan = loan }))
+    -- a block that came again is that of the leaf that was given back
+    pub again_held : IsLeafAgain Is B frame store (Ok (record { pointer = frame.pointer; next = frame.next; end = frame.end; loan = loan }))
     again_held seen k = record {
       block = k.block;
       lent = is ∙ ap Some (same seen k);
@@ -191,36 +205,44 @@ module _ (Is : UnreadBlock → Want → Type 0) (B : Map) (frame : Frame) (store
 
 -- what came of reading on to the next leaf
 module _ (old new : Blocks) where
+  -- where a scan arrived, the loan of its leaf is new, and no other changed
   pub lends_arrived : (o : Option LeafAt) → LendsReached old new (Ok o) → Lends old new (arrived o)
   lends_arrived None same = record { others = same; hand = tt }
   lends_arrived (Some l) t = record { others = t.0.others; hand = hand_step new l t.0.hand }
 
+  -- a leaf at which a scan arrived has an item that is still to come
   pub items_arrived : (o : Option LeafAt) → LendsReached old new (Ok o) → IfSome o (λ l. l.next < l.end)
   items_arrived None same = tt
   items_arrived (Some l) t = t.1
 
+  -- where a scan arrived, a leaf is in hand just where an item was met
   pub item_arrived : (o : Option LeafAt) → LendsReached old new (Ok o) → HasItem (arrived o).leaf (arrived o).met
   item_arrived None same = refl
   item_arrived (Some l) t = (omega arith, omega (arith, t.1))
 
-  pub nears_arrived : (place after : Where) (o : Option LeafAt) → LendsReached old new (Ok o) → RankFallsReached place after (Ok o)
+  -- where a scan arrived at a leaf and met its first item, it is nearer to its end
+  pub rank_falls_arrived : (place after : Where) (o : Option LeafAt) → LendsReached old new (Ok o) → RankFallsReached place after (Ok o)
       → StepRankFalls (2 ^ 64 * rank place) after (arrived o).leaf (arrived o).met
-  nears_arrived place after None t n = tt
-  nears_arrived place after (Some l) t n = let small = t.0.hand.small in omega (arith, n.1, small)
+  rank_falls_arrived place after None t n = tt
+  rank_falls_arrived place after (Some l) t n = let small = t.0.hand.small in omega (arith, n.1, small)
 
+  -- where a scan arrived, the next item was met, or the scan is at its end
   pub from_arrived : (lo hi : Key) (B : Map) (Is : UnreadBlock → Want → Type 0) (place after : Where) (o : Option LeafAt)
       → LendsReached old new (Ok o) → IsReached lo hi Is B place after new (Ok o) → FromPlace lo hi Is B place after new (arrived o)
   from_arrived lo hi B Is place after None same h seen on = h seen on
   from_arrived lo hi B Is place after (Some l) t h seen on = meets_reached lo hi B Is place after new l t.0.hand t.1 h seen on
 
+-- where a scan arrived, there is no fault
 pub no_fault_arrived : (o : Option LeafAt) (P : Type 0) → OnErr (arrived o).met P
 no_fault_arrived None P = tt
 no_fault_arrived (Some l) P = tt
 
+-- where a scan arrived, there is no fault that needs a cause
 pub no_cause_arrived : (layout : Layout) (before now : Seen) (o : Option LeafAt) → HasCause layout before now (arrived o).met
 no_cause_arrived layout before now None = tt
 no_cause_arrived layout before now (Some l) = tt
 
+-- where a scan arrived, it is at a place that is no farther from its end
 pub shaped_arrived : (place after : Where) (o : Option LeafAt) → RankFallsReached place after (Ok o) → IsShaped after × (rank after ≤ rank place)
 shaped_arrived place after None n = n
 shaped_arrived place after (Some l) n = (n.0, omega (arith, n.1))

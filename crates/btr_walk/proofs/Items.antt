@@ -29,6 +29,7 @@ pub leaf_next : (B : Map) (addr : ℕ) (block : List ℕ) (next end : ℕ) (d : 
     ≡ first (Does (tree_item addr (get_or (items block) next d))) (exec B (emit_all (part_items addr block (next + 1) end) rest))
 leaf_next B addr block next end d rest lt le = ap (λ l. exec B (emit_all l rest)) (part_next addr block next end d lt le)
 
+-- a part of a leaf that has no item leaves only the rest
 pub leaf_none : (B : Map) (addr : ℕ) (block : List ℕ) (next end : ℕ) (rest : RangeProg) → end ≤ next
     → exec B (emit_all (part_items addr block next end) rest) ≡ exec B rest
 leaf_none B addr block next end rest le = ap (λ l. exec B (emit_all l rest)) (part_none addr block next end le)

@@ -37,12 +37,14 @@ module _ (lo hi : Key) (B : Map) where
     on = subst (λ (z : List Want). IsAlong lo hi B z after) (append_assoc seen x.past y.past) y.on;
   }
 
+  -- where a scan that came to a place goes on from there to no leaf yet, it came from the first place to the next
   pub leads_between : (Is : UnreadBlock → Want → Type 0) (from at after : Where) (store : Blocks) → Leads from at
       → IsGone lo hi Is B at after store (Ok gone.Between) → Leads from after
   leads_between Is from at after store l g seen on =
       let x = l seen on in
       comes_then seen from at (place_prog lo hi B after) after x (g (seen ++ x.past) x.on)
 
+  -- where a scan that came to a place goes on from there to a leaf, it reached that leaf from the first place
   pub leads_leaf : (Is : UnreadBlock → Want → Type 0) (from at after : Where) (store : Blocks) (l : LeafAt) → Leads from at
       → IsGone lo hi Is B at after store (Ok (gone.Leaf l)) → IsReached lo hi Is B from after store (Ok (Some l))
   leads_leaf Is from at after store l lead g seen on =
@@ -51,14 +53,14 @@ module _ (lo hi : Key) (B : Map) where
     where
       both : (o : Option (List ℕ)) (x : GoesOnTo lo hi B seen from (place_prog lo hi B at) at)
           → IsSomeAnd o (λ block. GoesOnHolding lo hi B (seen ++ x.past) at
-          (emit_all (part_items l.spot.addr block l.next l.end) (place_prog lo hi B after)) after store l)
-          → IsSomeAnd o (λ block. GoesOnHolding lo hi B seen from (emit_all (part_items l.spot.addr block l.next l.end)
+          (emit_all (part_items l.pointer.addr block l.next l.end) (place_prog lo hi B after)) after store l)
+          → IsSomeAnd o (λ block. GoesOnHolding lo hi B seen from (emit_all (part_items l.pointer.addr block l.next l.end)
           (place_prog lo hi B after)) after store l)
       both None x h = absurd h
       both (Some block) x h =
           let c = h.comes in
           record {
-            comes = comes_then seen from at (emit_all (part_items l.spot.addr block l.next l.end) (place_prog lo hi B after)) after x c;
+            comes = comes_then seen from at (emit_all (part_items l.pointer.addr block l.next l.end) (place_prog lo hi B after)) after x c;
             held = subst (λ (z : List Want). IsHeld B z store l) (append_assoc seen x.past c.past) h.held;
           }
 
@@ -71,13 +73,13 @@ module _ (lo hi : Key) (B : Map) where
     where
       empty : (o : Option (List ℕ)) (x : GoesOnTo lo hi B seen from (place_prog lo hi B at) at)
           → IsSomeAnd o (λ block. GoesOnHolding lo hi B (seen ++ x.past) at
-          (emit_all (part_items l.spot.addr block l.next l.end) (place_prog lo hi B after)) after store l)
+          (emit_all (part_items l.pointer.addr block l.next l.end) (place_prog lo hi B after)) after store l)
           → GoesOnTo lo hi B seen from (place_prog lo hi B after) after
       empty None x h = absurd h
       empty (Some block) x h =
           comes_then seen from at (place_prog lo hi B after) after x
           (subst (λ (items : List TreeItem). GoesOnTo lo hi B (seen ++ x.past) at (emit_all items (place_prog lo hi B after)) after)
-          (part_none l.spot.addr block l.next l.end le) h.comes)
+          (part_none l.pointer.addr block l.next l.end le) h.comes)
 
   -- what is answered from here is answered from the beginning
   follows_from : (Is : UnreadBlock → Want → Type 0) (seen : List Want) (from at : Where) (ans : Result (Unit {0}) (Halt fate.Fault UnreadBlock))
@@ -86,26 +88,33 @@ module _ (lo hi : Key) (B : Map) where
   follows_from Is seen from at ans x h =
       behind_wants Is seen x.past (exec B (place_prog lo hi B from)) no_part (exec B (place_prog lo hi B at)) [] ans x.is h
 
+  -- where a scan that came to a place is at its end there, it reached its end from the first place
   pub leads_end : (Is : UnreadBlock → Want → Type 0) (from at after : Where) (store store' : Blocks) → Leads from at
       → IsGone lo hi Is B at after store (Ok gone.End) → IsReached lo hi Is B from after store' (Ok None)
   leads_end Is from at after store store' lead g seen on = let x = lead seen on in follows_from Is seen from at (Ok tt) x (g (seen ++ x.past) x.on)
 
+  -- where a scan that came to a place halts there, it halts with this fault from the first place
   pub leads_err : (Is : UnreadBlock → Want → Type 0) (from at after : Where) (store store' : Blocks) (f : TreeFault) → Leads from at
       → IsGone lo hi Is B at after store (Err f) → IsReached lo hi Is B from after store' (Err f)
   leads_err Is from at after store store' f lead g seen on = let x = lead seen on in follows_from Is seen from at (Err (halt_of f)) x (g (seen ++ x.past) x.on)
 
+-- where a scan came to a leaf, that leaf's loan is new
 pub gone_lent : (old new : Blocks) (x : _) (l : LeafAt) → x ≡ gone.Leaf l → LendsGone old new (Ok x) → LendsHand old new l
 gone_lent old new x l e h = subst (λ y. LendsGone old new (Ok y)) e h
 
+-- where a scan came to no leaf yet, no loan changed
 pub gone_same : (old new : Blocks) (x : _) → x ≡ gone.Between → LendsGone old new (Ok x) → SameLoans old new
 gone_same old new x e h = subst (λ y. LendsGone old new (Ok y)) e h
 
+-- where a scan came to a leaf, it is nearer to its end
 pub gone_near : (place after : Where) (x : _) (l : LeafAt) → x ≡ gone.Leaf l → RankFalls place after (Ok x) → IsShaped after × (rank after < rank place)
 gone_near place after x l e h = subst (λ y. RankFalls place after (Ok y)) e h
 
+-- where a scan came to no leaf yet, it is nearer to its end
 pub gone_near_between : (place after : Where) (x : _) → x ≡ gone.Between → RankFalls place after (Ok x) → IsShaped after × (rank after < rank place)
 gone_near_between place after x e h = subst (λ y. RankFalls place after (Ok y)) e h
 
+-- where a scan came to its end, it stays where it is
 pub gone_at_end : (place after : Where) (x : _) → x ≡ gone.End → RankFalls place after (Ok x) → after ≡ place
 gone_at_end place after x e h = subst (λ y. RankFalls place after (Ok y)) e h
 

@@ -7,12 +7,15 @@ use Rattle.btr_read.proofs.Serving.{serves_given}
 use Rattle.btr_read.specs.Store.{Blocks, Lent, SameLoans, loan_in, with_loan, IsLentBy}
 use Rattle.btr_read.specs.declared.want.Want.{Want}
 
+-- the bytes of each slot's loan, if it is live
 abbrev Loans : Type 0
 Loans = List (Option (List ℕ))
 
+-- a store has the layout and the loans that it has
 pub same_none : (a : Blocks) → SameLoans a a
 same_none a = record { layout = refl; loans = refl }
 
+-- layout and loans that stay in two steps stay in both
 pub same_then : {a b c : Blocks} → SameLoans a b → SameLoans b c → SameLoans a c
 same_then one two = record { layout = two.layout ∙ one.layout; loans = two.loans ∙ one.loans }
 
@@ -25,6 +28,7 @@ freed old new slot written layout after free = record {
       ∙ (ap (set old.loans slot) (sym free) ∙ set-get_or old.loans slot None));
 }
 
+-- a loan of a want that was given back leaves the loans as they were before it
 pub given_back : (old new after : Blocks) (want : Want) (loan : Lent) → IsLentBy old new want loan → after ≡ with_loan new loan.slot None → SameLoans old after
 given_back old new after want loan t given =
     let f = freed old new loan.slot t.after.0 t.layout t.after.1 t.free in

@@ -29,8 +29,9 @@ use Rattle.btr_walk.specs.Going.{place_prog}
 use Rattle.btr_walk.specs.ScanEnds.{left_of, HoldsLeaf, WasMet, Gives, IsNextOn, IsScanReady, Scanned, Paused, rank_of}
 use Rattle.btr_walk.proofs.Joined.{drawn, block_is}
 use Rattle.btr_walk.specs.declared.leaf_at.LeafAt.{LeafAt}
-use Rattle.btr_walk.specs.Hand.{frame_of, IsHeld, IsKept, IsInHand, loan_of}
+use Rattle.btr_walk.specs.Hand.{frame_of, IsHeld, IsGivenBack, IsInHand, loan_of}
 
+-- a scan at another place, with this leaf in hand
 abbrev pub scan_at : Scan → ScanPlace → Option LeafAt → Scan
 scan_at scan place leaf = record { lo = scan.lo; hi = scan.hi; place = place; leaf = leaf }
 
@@ -42,22 +43,27 @@ in_hand place = record { leaf = None; rest = place }
 abbrev pub moved : Scan → Where → ScanPlace
 moved scan after = record { leaf = scan.place.leaf; rest = after }
 
+-- where a step ended in a fault that has its cause, this fault has it
 pub cause_as : {A : Type 0} (layout : Layout) (old new : Seen) (met : Result A TreeFault) (f : TreeFault) → met ≡ Err f → HasCause layout old new met
     → FaultCause layout old new f
 cause_as layout old new met f e h = subst (HasCause layout old new) e h
 
+-- where no leaf is in hand, one may have been given back
 no_leaf : (scan : Scan) (leaf : Option LeafAt) → leaf ≡ None → IfSome leaf (λ l. scan.place.leaf ≡ None)
 no_leaf scan leaf e = subst (λ x. IfSome x (λ l. scan.place.leaf ≡ None)) (sym e) tt
 
+-- behind a leaf in hand there is no leaf that was given back
 free_leaf : (place : Where) (leaf : Option LeafAt) → IfSome leaf (λ l. (in_hand place).leaf ≡ None)
 free_leaf place None = tt
 free_leaf place (Some l) = refl
 
 module _ (store new : Blocks) (scan : Scan) (taken : Option LeafAt) (is_taken : taken ≡ scan.leaf) (after : Where) (a : Advanced) (leaf : Option LeafAt)
     (is_leaf : leaf ≡ a.leaf) (before now : Seen) (serves : Serves now new) where
+  -- which want it is that could not be read in this step
   abbrev Is : UnreadBlock → Want → Type 0
   Is = unread_by store.layout before now
 
+  -- what a step made of a scan is ready to go on, where its leaf is in hand and its place well formed, and no other loan changed
   scanned : (place : ScanPlace) (result : Result (Option Found) TreeFault) → IsShaped place.rest → IfSome leaf (λ l. place.leaf ≡ None)
       → SameLoans (base store (loan_of taken)) (base new (loan_of a.leaf)) → IfSome a.leaf (IsInHand new)
       → ((B : Map) → IsAdvanced scan.lo scan.hi Is B scan.place after scan.leaf store new a
@@ -73,16 +79,19 @@ module _ (store new : Blocks) (scan : Scan) (taken : Option LeafAt) (is_taken : 
         (λ B h. f B (subst (λ l. IsAdvanced scan.lo scan.hi Is B scan.place after l store new a) is_taken h)) c;
   }
 
+  -- where a step ended in a fault, what was still to come ends with it
   of_err : (B : Map) (was : Type 0) (seen : List Want) (p : RangeProg) (f : TreeFault) (l : Option LeafAt)
       → AdvancesBy scan.lo scan.hi was Is B seen p new after l (Err f) → Follows Is no_part seen (exec B p) [] (Err (halt_of f))
   of_err B was seen p f None h = h
   of_err B was seen p f (Some x) h = h
 
+  -- where a step met no item, what was still to come is at its end
   of_end : (B : Map) (was : Type 0) (seen : List Want) (p : RangeProg) (l : Option LeafAt)
       → AdvancesBy scan.lo scan.hi was Is B seen p new after l (Ok false) → Follows Is no_part seen (exec B p) [] (Ok tt)
   of_end B was seen p None h = h
   of_end B was seen p (Some x) h = h
 
+  -- a step that ended in a fault is a call of the scan that answers this fault
   pub next_err : (f : TreeFault) → a.met ≡ Err f → leaf ≡ None → IsShaped after → SameLoans (base store (loan_of taken)) (base new (loan_of a.leaf))
       → IfSome a.leaf (IsInHand new) → Tells store.layout before now (λ B. IsAdvanced scan.lo scan.hi Is B scan.place after taken store new a)
       → Scanned store new scan (scan_at scan (moved scan after) leaf) before now (Err f)
@@ -90,6 +99,7 @@ module _ (store new : Blocks) (scan : Scan) (taken : Option LeafAt) (is_taken : 
       (λ B h seen on. of_err B (HoldsLeaf B seen store scan) seen (left_of B store scan) f a.leaf
       (subst (λ m. AdvancesBy scan.lo scan.hi (HoldsLeaf B seen store scan) Is B seen (left_of B store scan) new after a.leaf m) e (h seen on))) c
 
+  -- a step that met no item is a call of the scan that answers its end
   pub next_end : a.met ≡ Ok false → leaf ≡ None → IsShaped after → SameLoans (base store (loan_of taken)) (base new (loan_of a.leaf))
       → IfSome a.leaf (IsInHand new) → Tells store.layout before now (λ B. IsAdvanced scan.lo scan.hi Is B scan.place after taken store new a)
       → Scanned store new scan (scan_at scan (moved scan after) leaf) before now (Ok None)
@@ -98,12 +108,13 @@ module _ (store new : Blocks) (scan : Scan) (taken : Option LeafAt) (is_taken : 
       (subst (λ m. AdvancesBy scan.lo scan.hi (HoldsLeaf B seen store scan) Is B seen (left_of B store scan) new after a.leaf m) e (h seen on))) c
 
   module _ (l : LeafAt) (there : leaf ≡ Some l) (found : Found) (block : List ℕ) (is : block_of new l.loan ≡ Some block)
-      (at : (d : Item) → tree_item l.spot.addr (get_or (items block) (l.next - 1) d) ≡ item_of found) where
+      (at : (d : Item) → tree_item l.pointer.addr (get_or (items block) (l.next - 1) d) ≡ item_of found) where
+    -- the item that a step met is the one that the scan gives, behind some wants
     gives : (B : Map) (seen : List Want) → Meets scan.lo scan.hi (HoldsLeaf B seen store scan) B seen (left_of B store scan) new l after
         → Gives B seen store new scan (scan_at scan (in_hand after) leaf) found
     gives B seen m =
         let d : Item = record { key = scan.lo; offset = 0; size = 0; body = [] } in
-        let here = block_is new l.loan block (λ b. (l.next ≤ length (items b)) × ((e : Item) → tree_item l.spot.addr
+        let here = block_is new l.loan block (λ b. (l.next ≤ length (items b)) × ((e : Item) → tree_item l.pointer.addr
         (get_or (items b) (l.next - 1) e) ≡ m.item)) is m.at in
         let same : m.item ≡ item_of found = sym (here.1 d) ∙ at d in
         record {
@@ -116,6 +127,7 @@ module _ (store new : Blocks) (scan : Scan) (taken : Option LeafAt) (is_taken : 
           met = subst (λ x. IfSome x (WasMet new (item_of found))) (sym there) (subst (λ (i : TreeItem). WasMet new i l) same m.at);
         }
 
+    -- a step that met an item is a call of the scan that gives it
     pub next_item : a.met ≡ Ok true → IsShaped after → SameLoans (base store (loan_of taken)) (base new (loan_of a.leaf))
         → IfSome a.leaf (IsInHand new) → Tells store.layout before now (λ B. IsAdvanced scan.lo scan.hi Is B scan.place after taken store new a)
         → Scanned store new scan (scan_at scan (in_hand after) leaf) before now (Ok (Some found))
@@ -133,6 +145,7 @@ keeps_end leaf leaf' met is e h = is ∙ ends leaf (subst (HasItem leaf) e h)
     ends None h = h
     ends (Some x) h = h
 
+-- after a fault no leaf is kept
 pub keeps_err : (leaf leaf' : Option LeafAt) (met : Result Bool TreeFault) (f : TreeFault) → leaf' ≡ leaf → met ≡ Err f → HasItem leaf met → leaf' ≡ None
 keeps_err leaf leaf' met f is e h = is ∙ ends leaf (subst (HasItem leaf) e h)
   where
@@ -140,6 +153,7 @@ keeps_err leaf leaf' met f is e h = is ∙ ends leaf (subst (HasItem leaf) e h)
     ends None h = h
     ends (Some x) h = h
 
+-- where an item was met, its leaf is kept, and it stands before the next one
 pub keeps_item : (leaf leaf' : Option LeafAt) (l : LeafAt) (met : Result Bool TreeFault) → leaf' ≡ leaf → leaf' ≡ Some l → met ≡ Ok true
     → HasItem leaf met → IsSomeAnd leaf' (λ x. (0 < x.next) × (x.next ≤ x.end))
 keeps_item leaf leaf' l met same is e h =
@@ -164,9 +178,11 @@ leaf_gone place (Some l) h = let e : rank_leaf None place.leaf ≡ 0 = ap (rank_
 pub stays_put : (place after : Where) (met : Result Bool TreeFault) (f : TreeFault) → met ≡ Err f → OnErr met (after ≡ place) → after ≡ place
 stays_put place after met f e h = subst (λ m. OnErr m (after ≡ place)) e h
 
+-- where the rest of a scan's place is as before, the place is
 pub moved_none : (scan : Scan) (after : Where) → after ≡ scan.place.rest → moved scan after ≡ scan.place
 moved_none scan after e = ap (moved scan) e
 
+-- where no leaf is in hand any more, and the rest is no farther from its end, the scan isn't either
 pub near_none : (scan : Scan) (leaf' : Option LeafAt) (after : Where) → leaf' ≡ None → rank after ≤ rank scan.place.rest
     → IfSome scan.leaf (λ l. scan.place.leaf ≡ None) → rank_of (scan_at scan (moved scan after) leaf') ≤ rank_of scan
 near_none scan leaf' after e on h =
@@ -176,16 +192,20 @@ near_none scan leaf' after e on h =
 -- a scan gives its leaf back
 module _ (store after : Blocks) (scan : Scan) (leaf' : Option LeafAt) (l : LeafAt) (is : scan.leaf ≡ Some l) (hand : IfSome scan.leaf (IsInHand store))
     (none : leaf' ≡ None) where
+  -- the leaf in hand as it is given back, without its loan
   abbrev kept : Frame
-  kept = record { spot = l.spot; next = l.next; end = l.end }
+  kept = record { pointer = l.pointer; next = l.next; end = l.end }
 
+  -- the leaf in hand is the block that its want came to
   held_is : (B : Map) (seen : List Want) → HoldsLeaf B seen store scan → IsHeld B seen store l
   held_is B seen h = subst (λ x. IfSome x (IsHeld B seen store)) is h
 
+  -- the leaf that the scan has is in hand
   hand_is : IsInHand store l
   hand_is = subst (λ x. IfSome x (IsInHand store)) is hand
 
-  kept_as : (B : Map) (seen : List Want) → HoldsLeaf B seen store scan → IsKept B seen kept
+  -- the leaf that is given back was read, and is good at its pointer
+  kept_as : (B : Map) (seen : List Want) → HoldsLeaf B seen store scan → IsGivenBack B seen kept
   kept_as B seen h =
       let x = held_is B seen h in
       record {
@@ -197,9 +217,11 @@ module _ (store after : Blocks) (scan : Scan) (leaf' : Option LeafAt) (l : LeafA
             (block_is store l.loan x.block (λ b. IsTrue (is_leaf b) × (l.end ≤ length (items b))) x.lent hand_is.good).1;
       }
 
+  -- the leaf that is given back has the same items still to come
   kept_same : (B : Map) (seen : List Want) (rest : RangeProg) → IsHeld B seen store l → emit_all (kept_items B kept) rest ≡ hand_prog store l rest
-  kept_same B seen rest h = ap (λ x. emit_all (items_in x l.spot.addr l.next l.end) rest) h.came ∙ ap (λ x. emit_all (hand_items x l) rest) (sym h.lent)
+  kept_same B seen rest h = ap (λ x. emit_all (items_in x l.pointer.addr l.next l.end) rest) h.came ∙ ap (λ x. emit_all (hand_items x l) rest) (sym h.lent)
 
+  -- a scan that gave back this leaf has still to give the same
   paused_leaf : Paused store after scan (scan_at scan (record { leaf = Some kept; rest = scan.place.rest }) leaf')
   paused_leaf = record {
     lo = refl;
@@ -221,11 +243,13 @@ pub leaf_was : (leaf : Option LeafAt) (frame : Frame) → option_map frame_of le
 leaf_was None frame e = cc
 leaf_was (Some l) frame e = (l, refl, cc)
 
+-- where no frame is left of a leaf, there was no leaf
 pub none_was : (leaf : Option LeafAt) → option_map frame_of leaf ≡ None → leaf ≡ None
 none_was None e = refl
 none_was (Some l) e = cc
 
 module _ (store after : Blocks) (scan : Scan) (leaf' : Option LeafAt) (none : leaf' ≡ None) where
+  -- a scan that had a leaf, which is given back, has still to give the same
   pub paused_some : (frame : Frame) → option_map frame_of scan.leaf ≡ Some frame → IfSome scan.leaf (IsInHand store) → Paused store after scan
       (scan_at scan (record { leaf = Some frame; rest = scan.place.rest }) leaf')
   paused_some frame e hand =
@@ -233,6 +257,7 @@ module _ (store after : Blocks) (scan : Scan) (leaf' : Option LeafAt) (none : le
       subst (λ (f : Frame). Paused store after scan (scan_at scan (record { leaf = Some f; rest = scan.place.rest }) leaf')) w.2
       (paused_leaf store after scan leaf' w.0 w.1 hand none)
 
+  -- a scan that had no leaf in hand has still to give the same
   pub paused_none : option_map frame_of scan.leaf ≡ None → Paused store after scan (scan_at scan scan.place leaf')
   paused_none e =
       let free = none_was scan.leaf e in
@@ -248,6 +273,7 @@ module _ (store after : Blocks) (scan : Scan) (leaf' : Option LeafAt) (none : le
         on = λ B seen h on. on;
       }
     where
+      -- where no leaf is in hand, what is still to come hangs on no loan
       left_free : (B : Map) (kept : Option Frame) (rest : RangeProg) → scan.leaf ≡ None
           → leaf_prog B after leaf' kept rest ≡ leaf_prog B store scan.leaf kept rest
       left_free B None rest free = ap (λ x. leaf_prog B after x None rest) none ∙ ap (λ x. leaf_prog B store x None rest) (sym free)

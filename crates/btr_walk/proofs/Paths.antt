@@ -13,9 +13,9 @@ use Rattle.btr_walk.specs.declared.frame.Todo.{Todo}
 use Rattle.btr_walk.specs.declared.going.Gone.TheVariants.{Leaf, Between, End}
 use Rattle.btr_walk.specs.declared.going.Where.{Where}
 use Rattle.btr_walk.specs.declared.place.RootPlace.{RootPlace}
-use Rattle.btr_walk.specs.declared.spot.Spot.{Spot}
-use Rattle.btr_walk.specs.Spot.{judged}
-use Rattle.btr_walk.specs.Le.{root_spot, want_of}
+use Rattle.btr_walk.specs.declared.block_pointer.BlockPointer.{BlockPointer}
+use Rattle.btr_walk.specs.BlockPointer.{judged}
+use Rattle.btr_walk.specs.Le.{root_pointer, want_of}
 use Rattle.btr_walk.specs.Range.{RangeProg, emit_all, range_leaf, range_inner, range_at}
 use Rattle.btr_walk.specs.Reading.{Map, UnreadBlock, Reads, halt_of}
 use Rattle.btr_walk.specs.Scans.{part_items, todo_prog, frame_prog, IsFrame}
@@ -38,7 +38,7 @@ module _ (lo hi : Key) (B : Map) where
 
   -- the root is to be read
   pub along_root : (path : List (Option Frame)) → ((k : ℕ) → get_or path k None ≡ None) → (root : RootPlace) → (seen : List Want)
-      → IsAlong lo hi B seen (record { path = path; todo = Some (record { level = root.level; spot = root_spot root }) })
+      → IsAlong lo hi B seen (record { path = path; todo = Some (record { level = root.level; pointer = root_pointer root }) })
   along_root path clear root seen = record {
     frames = λ k. subst (λ x. IfSome x (IsFrame lo hi B seen (k + 1))) (sym (clear k)) tt;
     above = λ k lt. clear k;
@@ -52,23 +52,23 @@ module _ (lo hi : Key) (B : Map) where
   gone_leaf Is path todo store l h seen on = some_more (block_of store l.loan) h.0
     where
       some_more : (o : Option (List ℕ)) → IsSomeAnd o (λ block. (rest : RangeProg)
-          → exec B (range_at lo hi todo.level todo.spot rest) ≡ first (Wants (want_of todo.level todo.spot))
-          (exec B (emit_all (part_items l.spot.addr block l.next l.end) rest)))
+          → exec B (range_at lo hi todo.level todo.pointer rest) ≡ first (Wants (want_of todo.level todo.pointer))
+          (exec B (emit_all (part_items l.pointer.addr block l.next l.end) rest)))
           → IsSomeAnd o (λ block. GoesOnHolding lo hi B seen (record { path = path; todo = Some todo })
-          (emit_all (part_items l.spot.addr block l.next l.end) (place_prog lo hi B (record { path = path; todo = None })))
+          (emit_all (part_items l.pointer.addr block l.next l.end) (place_prog lo hi B (record { path = path; todo = None })))
           (record { path = path; todo = None }) store l)
       some_more None g = absurd g
       some_more (Some block) g = record {
         comes = record {
-          past = want_of todo.level todo.spot ∷ [];
+          past = want_of todo.level todo.pointer ∷ [];
           is = g (path_prog lo hi B 0 path);
           on = record {
-            frames = λ k. frame_more lo hi B seen (want_of todo.level todo.spot ∷ []) (k + 1) (get_or path k None) (on.frames k);
+            frames = λ k. frame_more lo hi B seen (want_of todo.level todo.pointer ∷ []) (k + 1) (get_or path k None) (on.frames k);
             above = tt;
             up = tt;
           };
         };
-        held = h.1 (seen ++ (want_of todo.level todo.spot ∷ [])) (last_read seen (want_of todo.level todo.spot));
+        held = h.1 (seen ++ (want_of todo.level todo.pointer ∷ [])) (last_read seen (want_of todo.level todo.pointer));
       }
 
   -- a block that was to be read is an inner node
@@ -78,7 +78,7 @@ module _ (lo hi : Key) (B : Map) where
       (record { path = path'; todo = b.todo }) store (Ok Between)
   gone_inner Is path todo store b path' long some few set_is h seen on =
       let i : ℕ = todo.level - 1 in
-      let w : Want = want_of todo.level todo.spot in
+      let w : Want = want_of todo.level todo.pointer in
       let within : i < length path = omega (arith, long, some, few) in
       let level : i + 1 ≡ todo.level = omega (arith, some) in
       let clear : (k : ℕ) → k < i → get_or path k None ≡ None = λ k lt. on.above k (omega (arith, lt)) in
@@ -90,7 +90,7 @@ module _ (lo hi : Key) (B : Map) where
       path_bare (frame_prog lo hi B) (Return tt) i path within (λ k lt. on.above k (omega (arith, lt, level))) in
       record {
         past = w ∷ [];
-        is = ap (λ x. exec B (range_at lo hi todo.level todo.spot x)) old
+        is = ap (λ x. exec B (range_at lo hi todo.level todo.pointer x)) old
             ∙ (e.0 (rest_behind i path) ∙ ap (λ x. first (Wants w) (exec B (todo_prog lo hi b.todo x))) (sym new));
         on = subst (λ x. IsAlong lo hi B (seen ++ (w ∷ [])) (record { path = x; todo = b.todo })) (sym set_is) (record {
           frames = frames_set (IsFrame lo hi B seen) (IsFrame lo hi B (seen ++ (w ∷ []))) path i b.frame within
@@ -136,18 +136,20 @@ module _ (lo hi : Key) (B : Map) where
       }
 
   -- a block that could not be had
-  todo_halts : (Is : UnreadBlock → Want → Type 0) (level : ℕ) (spot : Spot) (store : Blocks) (f : TreeFault) (rest : RangeProg) (seen : List Want)
-      → Reads Is B level spot store (Err f) → Follows Is no_part seen (exec B (range_at lo hi level spot rest)) [] (Err (halt_of f))
-  todo_halts Is zero spot store f rest seen h = need_halts Is B 0 spot store f (λ block. range_leaf lo hi spot rest (judged 0 spot block)) seen
-      (λ block bad. ap (λ x. exec B (range_leaf lo hi spot rest x)) bad) h
-  todo_halts Is (suc n) spot store f rest seen h = need_halts Is B (suc n) spot store f
-      (λ block. range_inner lo hi (range_at lo hi n) spot rest (judged (suc n) spot block)) seen
-      (λ block bad. ap (λ x. exec B (range_inner lo hi (range_at lo hi n) spot rest x)) bad) h
+  todo_halts : (Is : UnreadBlock → Want → Type 0) (level : ℕ) (pointer : BlockPointer) (store : Blocks) (f : TreeFault) (rest : RangeProg) (seen : List Want)
+      → Reads Is B level pointer store (Err f) → Follows Is no_part seen (exec B (range_at lo hi level pointer rest)) [] (Err (halt_of f))
+  todo_halts Is zero pointer store f rest seen h = need_halts Is B 0 pointer store f (λ block. range_leaf lo hi pointer rest (judged 0 pointer block)) seen
+      (λ block bad. ap (λ x. exec B (range_leaf lo hi pointer rest x)) bad) h
+  todo_halts Is (suc n) pointer store f rest seen h = need_halts Is B (suc n) pointer store f
+      (λ block. range_inner lo hi (range_at lo hi n) pointer rest (judged (suc n) pointer block)) seen
+      (λ block bad. ap (λ x. exec B (range_inner lo hi (range_at lo hi n) pointer rest x)) bad) h
 
+  -- where the block that is to be read could not be had, or isn't good, the scan halts with its fault
   pub gone_err : (Is : UnreadBlock → Want → Type 0) (path : List (Option Frame)) (todo : Todo) (after : Where) (store store' : Blocks) (f : TreeFault)
       → IsEntered lo hi Is B todo store (Err f) → IsGone lo hi Is B (record { path = path; todo = Some todo }) after store' (Err f)
-  gone_err Is path todo after store store' f h seen on = todo_halts Is todo.level todo.spot store f (path_prog lo hi B 0 path) seen h
+  gone_err Is path todo after store store' f h seen on = todo_halts Is todo.level todo.pointer store f (path_prog lo hi B 0 path) seen h
 
+  -- where a node could not be read again, the scan halts with its fault
   pub again_halts : (Is : UnreadBlock → Want → Type 0) (path : List (Option Frame)) (after : Where) (i level : ℕ) (frame : Frame) (store : Blocks)
       (f : TreeFault) → level ≡ i + 1 → get_or path i None ≡ Some frame → Rereads Is B level frame (Err f)
       → IsGone lo hi Is B (record { path = path; todo = None }) after store (Err f)

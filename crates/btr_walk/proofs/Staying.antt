@@ -23,11 +23,12 @@ use Rattle.btr_walk.specs.Scans.{IsFrame}
 use Rattle.btr_walk.specs.declared.frame.Frame.{Frame}
 use Rattle.btr_walk.specs.declared.scan.Scan.{Scan}
 use Rattle.btr_walk.specs.declared.scan_place.ScanPlace.{ScanPlace}
-use Rattle.btr_walk.specs.Hand.{IsInHand, loan_of, IsKept}
+use Rattle.btr_walk.specs.Hand.{IsInHand, loan_of, IsGivenBack}
 use Rattle.btr_walk.specs.declared.leaf_at.LeafAt.{LeafAt}
 
 -- a scan's place stays one where more was read
 module _ (lo hi : Key) (B : Map) (seen more : List Want) where
+  -- a frame of a scan stays one where more was read
   pub frame_more : (level : ℕ) (frame : Option Frame) → IfSome frame (IsFrame lo hi B seen level) → IfSome frame (IsFrame lo hi B (seen ++ more) level)
   frame_more level None f = tt
   frame_more level (Some frame) f = record {
@@ -38,10 +39,12 @@ module _ (lo hi : Key) (B : Map) (seen more : List Want) where
     high = f.high;
   }
 
-  pub kept_more : (frame : Option Frame) → IfSome frame (IsKept B seen) → IfSome frame (IsKept B (seen ++ more))
+  -- a leaf that was given back stays one where more was read
+  pub kept_more : (frame : Option Frame) → IfSome frame (IsGivenBack B seen) → IfSome frame (IsGivenBack B (seen ++ more))
   kept_more None f = tt
   kept_more (Some frame) f = record { block = f.block; came = f.came; is = f.is; read = Contains-append_left seen more _ f.read; within = f.within }
 
+  -- where a scan is at a place, it is there also where more was read
   pub on_more : (place : ScanPlace) → IsOn lo hi B seen place → IsOn lo hi B (seen ++ more) place
   on_more place on = record {
     rest = record { frames = λ k. frame_more (k + 1) (get_or place.rest.path k None) (on.rest.frames k); above = on.rest.above; up = on.rest.up };
@@ -56,9 +59,11 @@ leaf_same B old new same (Some l) kept rest = ap (λ (loans : List (Option (List
 leaf_same B old new same None (Some frame) rest = refl
 leaf_same B old new same None None rest = refl
 
+-- a scan has still to give the same over a store with the same loans
 pub left_same : (B : Map) (old new : Blocks) (scan : Scan) → SameLoans old new → left_of B new scan ≡ left_of B old scan
 left_same B old new scan same = leaf_same B old new same.loans scan.leaf scan.place.leaf _
 
+-- a leaf in hand is in hand also over a store with the same loans
 hand_same : (old new : Blocks) (leaf : Option LeafAt) → SameLoans old new → IfSome leaf (IsInHand old) → IfSome leaf (IsInHand new)
 hand_same old new None same h = tt
 hand_same old new (Some l) same h = record {

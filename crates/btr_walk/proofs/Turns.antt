@@ -33,31 +33,38 @@ pub base_layout : (store : Blocks) (loan : Option Lent) → (base store loan).la
 base_layout store None = refl
 base_layout store (Some loan) = refl
 
+-- where but for one of each the loans are the same, so is the layout
 pub same_layout : (old new : Blocks) (loan loan' : Option Lent) → SameLoans (base old loan) (base new loan') → new.layout ≡ old.layout
 same_layout old new loan loan' s = sym (base_layout new loan') ∙ (s.layout ∙ base_layout old loan)
 
+-- where the loans are the same, four slots stay free
 pub same_room : (old new : Blocks) → SameLoans old new → 4 ≤ free_count old → 4 ≤ free_count new
 same_room old new s h = subst (λ l. 4 ≤ count_by is_none l) (sym s.loans) h
 
 module _ {St R : Type 0} (step : St → TreeItem → Next St R) (answer : St → R) (B : Map) (Is : UnreadBlock → Want → Type 0) (old new : Blocks)
     (scan scan' : Scan) where
+  -- where the scan came to a fault, the fold's turn ends with it
   pub turned_err : (E : Type 0) (st : St) (f : TreeFault) → IsNextOn Is B old new scan scan' (Err f)
       → IsTurned step answer {E = E} Is B old new scan scan' st st (Err (Tree f))
   turned_err E st f h seen on = fold_halts step answer B Is seen st (left_of B old scan) (halt_of f) (h seen on)
 
+  -- where the scan came to its end, the fold's turn is the last one
   pub turned_last : (E : Type 0) (st : St) → IsNextOn Is B old new scan scan' (Ok None) → IsTurned step answer {E = E} Is B old new scan scan' st st (Ok Last)
   turned_last E st h seen on = fold_ends step answer B Is seen st (left_of B old scan) (h seen on)
 
   module _ (st : St) (found : Found) (seen : List Want) (g : Gives B seen old new scan scan' found) where
+    -- the run of what the scan has still to give behind the item
     abbrev behind : Run Want fate.Fault TreeItem (Unit {0})
     behind = exec B (left_of B new scan')
 
+    -- what the fold had still to do is some wants, and then what it makes of the item
     met : exec B (to_fold step answer B old scan st) ≡ prepend (want_marks g.past) (fold_run step answer B st (first (Does (item_of found)) behind))
     met =
         exec_fold step answer B st (left_of B old scan)
         ∙ ap (fold_run step answer B st) g.is
         ∙ fold_past step answer B g.past st (first (Does (item_of found)) behind)
 
+    -- what the step makes of the item is what the fold's turn comes to
     turned_by : {E : Type 0} (st' : St) (result : Result (Turn R) (FoldFault E)) → IsTaken step st (item_of found) st' result
         → TurnsBy step answer Is B seen old new scan scan' st st' result
     turned_by st' (Ok More) t = record {
@@ -75,6 +82,7 @@ module _ {St R : Type 0} (step : St → TreeItem → Next St R) (answer : St →
         (met ∙ ap (prepend (want_marks g.past)) (fold_broken step answer B st (item_of found) behind t.0)))
     turned_by st' (Err (Own e)) t = broke_here Is no_part seen (exec B (to_fold step answer B old scan st))
 
+  -- where the scan gave an item, the fold's turn comes to what the step makes of it
   pub turned_some : {E : Type 0} (st st' : St) (found : Found) (result : Result (Turn R) (FoldFault E)) → IsTaken step st (item_of found) st' result
       → IsNextOn Is B old new scan scan' (Ok (Some found)) → IsTurned step answer Is B old new scan scan' st st' result
   turned_some st st' found result t h seen on = turned_by st found seen (h seen on) st' result t
@@ -87,9 +95,11 @@ module _ {St R : Type 0} (step : St → TreeItem → Next St R) (answer : St →
 
   module _ (Is : UnreadBlock → Want → Type 0) (store : Blocks) (scan : Scan) (state : St) (same_lo : scan.lo ≡ first_scan.lo)
       (same_hi : scan.hi ≡ first_scan.hi) where
+    -- a scan with the same keys is at the same place
     on_as : (seen : List Want) → IsOn first_scan.lo first_scan.hi B seen scan.place → IsOn scan.lo scan.hi B seen scan.place
     on_as seen on = subst (λ l. IsOn l scan.hi B seen scan.place) (sym same_lo) (subst (λ h. IsOn first_scan.lo h B seen scan.place) (sym same_hi) on)
 
+    -- a fold that came so far, and then one turn further, came farther
     pub led_more : (E : Type 0) (new : Blocks) (scan' : Scan) (state' : St) → Led store scan state
         → IsTurned step answer {E = E} Is B store new scan scan' state state' (Ok More) → Led new scan' state'
     led_more E new scan' state' l t seen on =
@@ -123,6 +133,7 @@ fold_begun step answer Is B store scan root lo hi state state' result same_lo sa
     subst (λ p. Follows Is no_part [] (exec B (folded_over step answer state p)) [] (fold_answer (result_of step answer state' result))) program
     (h [] (subst (λ l. IsOn l scan.hi B [] scan.place) (sym same_lo) (subst (λ x. IsOn lo x B [] scan.place) (sym same_hi) on)))
 
+-- where an answer follows the program of a fold, an equal one does
 pub fold_answers : {St R : Type 0} (E : Type 0) (step : St → TreeItem → Next St R) (answer : St → R) (Is : UnreadBlock → Want → Type 0) (B : Map)
     (root : RootPlace) (lo hi : Key) (state : St) (a b : R) → b ≡ a → FoldFollows step answer {E = E} Is B state root lo hi (Ok a)
     → FoldFollows step answer {E = E} Is B state root lo hi (Ok b)

@@ -35,7 +35,7 @@ pub record Lends (old new : Blocks) (a : Advanced) : Type 0 where
 -- the items of a leaf in hand that are still to come
 abbrev pub hand_items : Option (List ℕ) → LeafAt → List TreeItem
 hand_items None l = []
-hand_items (Some block) l = part_items l.spot.addr block l.next l.end
+hand_items (Some block) l = part_items l.pointer.addr block l.next l.end
 
 -- the items of a leaf in hand that are still to come, and then the rest
 abbrev pub hand_prog : Blocks → LeafAt → RangeProg → RangeProg
@@ -61,7 +61,7 @@ module _ (lo hi : Key) where
     pub on : IsAlong lo hi B (seen ++ past) place
     pub some : 0 < l.next
     pub at : IsSomeAnd (block_of store l.loan)
-        (λ block. (l.next ≤ length (items block)) × ((d : Item) → tree_item l.spot.addr (slice_index_or (items block) (l.next - 1) d) ≡ item))
+        (λ block. (l.next ≤ length (items block)) × ((d : Item) → tree_item l.pointer.addr (slice_index_or (items block) (l.next - 1) d) ≡ item))
     pub held : was → IsHeld B (seen ++ past) store l
 
   -- a step of a scan that had still to give what `before` says

@@ -16,13 +16,13 @@ use Rattle.btr_walk.specs.declared.choice.Part.{Part}
 
 -- the frame behind its next child
 abbrev pub later : Frame → Frame
-later frame = record { spot = frame.spot; next = frame.next + 1; end = frame.end }
+later frame = record { pointer = frame.pointer; next = frame.next + 1; end = frame.end }
 
 -- the next child of a frame
 pub record IsChild (ps : List KeyPointer) (level : ℕ) (frame : Frame) (todo : Todo) : Type 0 where
   pub there : frame.next < length ps
   pub level_is : todo.level ≡ level - 1
-  pub spot_is : (d : KeyPointer) → todo.spot ≡ below (slice_index_or ps frame.next d) (up_of (drop (frame.next + 1) ps) frame.spot.up)
+  pub pointer_is : (d : KeyPointer) → todo.pointer ≡ below (slice_index_or ps frame.next d) (up_of (drop (frame.next + 1) ps) frame.pointer.up)
 
 -- a node has the next child of a frame, and a frame is left where more children are to come
 abbrev pub IsNextBelow : List KeyPointer → ℕ → Frame → Option Frame → Option Todo → Type 0
@@ -39,7 +39,7 @@ IsNext ps level frame (Some b) = IsNextBelow ps level frame b.frame b.todo
 -- the first child of a part of a node with these pointers, and the node where more are to come; nothing where the part is empty
 pub record IsFirstBelow (ps : List KeyPointer) (todo : Todo) (part : Part) (b : Below) : Type 0 where
   pub none : part.end ≤ part.next → b ≡ record { frame = None; todo = None }
-  pub some : part.next < part.end → IsNextBelow ps todo.level (record { spot = todo.spot; next = part.next; end = part.end }) b.frame b.todo
+  pub some : part.next < part.end → IsNextBelow ps todo.level (record { pointer = todo.pointer; next = part.next; end = part.end }) b.frame b.todo
 
 -- a node that was read before has its next child still, or it could not be read
 abbrev pub Rereads : (UnreadBlock → Want → Type 0) → Map → ℕ → Frame → Result Below TreeFault → Type 0

@@ -9,7 +9,7 @@ use Rattle.btr_walk.specs.declared.entering.Entered.{Entered}
 use Rattle.btr_walk.specs.declared.entering.Entered.TheVariants.{Leaf, Inner}
 use Rattle.btr_walk.specs.declared.fault.TreeFault.{TreeFault}
 use Rattle.btr_walk.specs.declared.frame.Todo.{Todo}
-use Rattle.btr_walk.specs.Spot.{is_below}
+use Rattle.btr_walk.specs.BlockPointer.{is_below}
 use Rattle.btr_walk.specs.Le.{want_of}
 use Rattle.btr_walk.specs.Range.{RangeProg, emit_all, range_at}
 use Rattle.btr_walk.specs.Reading.{Map, UnreadBlock, Reads}
@@ -19,21 +19,21 @@ use Rattle.btr_walk.specs.Frames.{frame_or}
 use Rattle.btr_walk.specs.Ranks.{FitsBelow}
 
 module _ (lo hi : Key) where
-  -- a block was read: the program of its spot is the want, and then what it has
+  -- a block was read: the program of its pointer is the want, and then what it has
   abbrev pub IsEntered : (UnreadBlock → Want → Type 0) → Map → Todo → Blocks → Result Entered TreeFault → Type 0
   IsEntered Is B todo store (Ok (Leaf l)) =
       IsSomeAnd (block_of store l.loan)
-      (λ block. (rest : RangeProg) → exec B (range_at lo hi todo.level todo.spot rest)
-      ≡ first (Wants (want_of todo.level todo.spot)) (exec B (emit_all (part_items l.spot.addr block l.next l.end) rest)))
-      × ((seen : List Want) → Contains seen (want_of todo.level todo.spot) → IsHeld B seen store l)
+      (λ block. (rest : RangeProg) → exec B (range_at lo hi todo.level todo.pointer rest)
+      ≡ first (Wants (want_of todo.level todo.pointer)) (exec B (emit_all (part_items l.pointer.addr block l.next l.end) rest)))
+      × ((seen : List Want) → Contains seen (want_of todo.level todo.pointer) → IsHeld B seen store l)
   IsEntered Is B todo store (Ok (Inner b)) =
-      is_below todo.spot.up lo ≡ true
-      → ((rest : RangeProg) → exec B (range_at lo hi todo.level todo.spot rest)
-      ≡ first (Wants (want_of todo.level todo.spot)) (exec B (todo_prog lo hi b.todo (frame_or (frame_prog lo hi B) todo.level b.frame rest))))
-      × ((seen : List Want) → Contains seen (want_of todo.level todo.spot) → IfSome b.frame (IsFrame lo hi B seen todo.level))
+      is_below todo.pointer.up lo ≡ true
+      → ((rest : RangeProg) → exec B (range_at lo hi todo.level todo.pointer rest)
+      ≡ first (Wants (want_of todo.level todo.pointer)) (exec B (todo_prog lo hi b.todo (frame_or (frame_prog lo hi B) todo.level b.frame rest))))
+      × ((seen : List Want) → Contains seen (want_of todo.level todo.pointer) → IfSome b.frame (IsFrame lo hi B seen todo.level))
       × IsTodo lo hi b.todo
       × IfSome b.todo (λ t. t.level ≡ todo.level - 1)
-  IsEntered Is B todo store (Err f) = Reads Is B todo.level todo.spot store (Err f)
+  IsEntered Is B todo store (Err f) = Reads Is B todo.level todo.pointer store (Err f)
 
 -- the loan of a leaf that was entered is new and live, and for an inner node no loan changed
 abbrev pub LendsEntered : Blocks → Blocks → Result Entered TreeFault → Type 0

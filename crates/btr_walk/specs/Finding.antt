@@ -9,34 +9,34 @@ use Rattle.btr_read.specs.Store.{Blocks, Lent, SameLoans, block_of, IsLiveIn}
 use Rattle.btr_read.specs.declared.want.Want.{Want}
 use Rattle.btr_walk.specs.declared.place.RootPlace.{RootPlace}
 use Rattle.btr_walk.specs.declared.fault.TreeFault.{TreeFault}
-use Rattle.btr_walk.specs.declared.finding.Spotted.{Spotted}
+use Rattle.btr_walk.specs.declared.finding.Sighted.{Sighted}
 use Rattle.btr_walk.specs.Le.{TreeItem, tree_item, le_item, le}
 use Rattle.btr_walk.specs.Lending.{base}
 use Rattle.btr_walk.specs.Reading.{Map, UnreadBlock, answer_of}
 
 -- the item at a place of a leaf's block
-abbrev pub ItemAt : Blocks → Spotted → TreeItem → Type 0
-ItemAt store spotted item = IsSomeAnd (block_of store spotted.loan) (λ block. HoldsAt (λ x. tree_item spotted.leaf x ≡ item) (items block) spotted.at)
+abbrev pub ItemAt : Blocks → Sighted → TreeItem → Type 0
+ItemAt store sighted item = IsSomeAnd (block_of store sighted.loan) (λ block. HoldsAt (λ x. tree_item sighted.leaf x ≡ item) (items block) sighted.at)
 
 -- the item at a place is the last one at or below a key
 abbrev pub IsLeAt : Key → List Item → ℕ → Type 0
 IsLeAt key is at = HoldsAt (λ item. le_item key is ≡ Some item) is at
 
 -- the answer without the loan
-abbrev pub Shows : Blocks → Result (Option Spotted) TreeFault → Result (Option TreeItem) TreeFault → Type 0
-Shows store (Ok (Some spotted)) (Ok (Some item)) = ItemAt store spotted item
-Shows store (Ok (Some spotted)) (Ok None) = ⊥
-Shows store (Ok (Some spotted)) (Err f) = ⊥
-Shows store (Ok None) (Ok (Some item)) = ⊥
-Shows store (Ok None) (Ok None) = Unit {0}
-Shows store (Ok None) (Err f) = ⊥
-Shows store (Err f) (Ok o) = ⊥
-Shows store (Err f) (Err f') = f' ≡ f
+abbrev pub ShowsFound : Blocks → Result (Option Sighted) TreeFault → Result (Option TreeItem) TreeFault → Type 0
+ShowsFound store (Ok (Some sighted)) (Ok (Some item)) = ItemAt store sighted item
+ShowsFound store (Ok (Some sighted)) (Ok None) = ⊥
+ShowsFound store (Ok (Some sighted)) (Err f) = ⊥
+ShowsFound store (Ok None) (Ok (Some item)) = ⊥
+ShowsFound store (Ok None) (Ok None) = Unit {0}
+ShowsFound store (Ok None) (Err f) = ⊥
+ShowsFound store (Err f) (Ok o) = ⊥
+ShowsFound store (Err f) (Err f') = f' ≡ f
 
 -- what a lookup answers follows the program
-abbrev pub Finds : (UnreadBlock → Want → Type 0) → Map → RootPlace → Key → Blocks → Result (Option Spotted) TreeFault → Type 0
+abbrev pub Finds : (UnreadBlock → Want → Type 0) → Map → RootPlace → Key → Blocks → Result (Option Sighted) TreeFault → Type 0
 Finds Is B root key store result =
-    (shown : Result (Option TreeItem) TreeFault) × Shows store result shown
+    (shown : Result (Option TreeItem) TreeFault) × ShowsFound store result shown
     × Follows {S = ⊥} Is no_part [] (exec B (le root key)) [] (answer_of shown)
 
 -- the loan of a good leaf that has an item at this place is new, and no other changed
@@ -47,7 +47,7 @@ pub record LendsItemAt (old new : Blocks) (loan : Lent) (at : ℕ) : Type 0 wher
   pub good : IsSomeAnd (block_of new loan) (λ block. IsTrue (is_leaf block) × (at < length (items block)))
 
 -- the loan of the leaf of the item that was found is new and live, or no loan changed
-abbrev pub LendsItem : Blocks → Blocks → Result (Option Spotted) TreeFault → Type 0
-LendsItem old new (Ok (Some spotted)) = LendsItemAt old new spotted.loan spotted.at
+abbrev pub LendsItem : Blocks → Blocks → Result (Option Sighted) TreeFault → Type 0
+LendsItem old new (Ok (Some sighted)) = LendsItemAt old new sighted.loan sighted.at
 LendsItem old new (Ok None) = SameLoans old new
 LendsItem old new (Err f) = SameLoans old new

@@ -7,7 +7,7 @@ use Rattle.btr_read.specs.declared.want.Want.{Want}
 use Rattle.btr_walk.specs.declared.frame.Frame.{Frame}
 use Rattle.btr_walk.specs.Le.{want_of}
 use Rattle.btr_walk.specs.Reading.{Map}
-use Rattle.btr_walk.specs.Spot.{judged}
+use Rattle.btr_walk.specs.BlockPointer.{judged}
 
 -- what is left of a frame, and then the rest, where there is a frame
 abbrev pub frame_or : {P : Type 0} → (ℕ → Frame → P → P) → ℕ → Option Frame → P → P
@@ -22,8 +22,8 @@ path_of left end n (frame ∷ frames) = frame_or left (n + 1) frame (path_of lef
 -- a frame's node was read before, and is a good one that has the children which are still to come
 pub record IsNode (B : Map) (seen : List Want) (level : ℕ) (frame : Frame) : Type 0 where
   pub block : List ℕ
-  pub came : B (want_of level frame.spot) ≡ Ok block
-  pub is : judged level frame.spot block ≡ Some (Inner (pointers block))
-  pub read : Contains seen (want_of level frame.spot)
+  pub came : B (want_of level frame.pointer) ≡ Ok block
+  pub is : judged level frame.pointer block ≡ Some (Inner (pointers block))
+  pub read : Contains seen (want_of level frame.pointer)
   pub more : frame.next < frame.end
   pub within : frame.end ≤ length (pointers block)

@@ -15,7 +15,7 @@ use Rattle.btr_walk.specs.Range.{RangeProg, emit_all}
 use Rattle.btr_walk.specs.Reading.{Map, UnreadBlock, halt_of}
 use Rattle.btr_walk.specs.Scans.{wants, part_items, todo_prog, IsFrame, IsTodo, frame_prog}
 use Rattle.btr_walk.specs.declared.leaf_at.LeafAt.{LeafAt}
-use Rattle.btr_walk.specs.Hand.{IsHeld, IsKept, LendsHand}
+use Rattle.btr_walk.specs.Hand.{IsHeld, IsGivenBack, LendsHand}
 use Rattle.btr_walk.specs.Frames.{path_of}
 
 module _ (lo hi : Key) where
@@ -37,7 +37,7 @@ module _ (lo hi : Key) where
   -- the same of a scan's place, and of the leaf that was given back
   pub record IsOn (B : Map) (seen : List Want) (place : ScanPlace) : Type 0 where
     pub rest : IsAlong B seen place.rest
-    pub kept : IfSome place.leaf (IsKept B seen)
+    pub kept : IfSome place.leaf (IsGivenBack B seen)
 
   -- some wants are past, and the rest is still to come
   pub record GoesOnTo (B : Map) (seen : List Want) (from : Where) (to : RangeProg) (place : Where) : Type 0 where
@@ -54,7 +54,7 @@ module _ (lo hi : Key) where
   abbrev pub GoneTo : (UnreadBlock → Want → Type 0) → Map → List Want → Where → Where → Blocks → Result Gone TreeFault → Type 0
   GoneTo Is B seen place after store (Ok (Leaf l)) =
       IsSomeAnd (block_of store l.loan)
-      (λ block. GoesOnHolding B seen place (emit_all (part_items l.spot.addr block l.next l.end) (place_prog lo hi B after)) after store l)
+      (λ block. GoesOnHolding B seen place (emit_all (part_items l.pointer.addr block l.next l.end) (place_prog lo hi B after)) after store l)
   GoneTo Is B seen place after store (Ok Between) = GoesOnTo B seen place (place_prog lo hi B after) after
   GoneTo Is B seen place after store (Ok End) = Follows Is no_part seen (exec B (place_prog lo hi B place)) [] (Ok tt)
   GoneTo Is B seen place after store (Err f) = Follows Is no_part seen (exec B (place_prog lo hi B place)) [] (Err (halt_of f))

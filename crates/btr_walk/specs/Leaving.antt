@@ -20,7 +20,7 @@ module _ (lo hi : Key) where
   abbrev pub ReachedTo : (UnreadBlock → Want → Type 0) → Map → List Want → Where → Where → Blocks → Result (Option LeafAt) TreeFault → Type 0
   ReachedTo Is B seen place after store (Ok (Some l)) =
       IsSomeAnd (block_of store l.loan)
-      (λ block. GoesOnHolding lo hi B seen place (emit_all (part_items l.spot.addr block l.next l.end) (place_prog lo hi B after)) after store l)
+      (λ block. GoesOnHolding lo hi B seen place (emit_all (part_items l.pointer.addr block l.next l.end) (place_prog lo hi B after)) after store l)
   ReachedTo Is B seen place after store (Ok None) = Follows Is no_part seen (exec B (place_prog lo hi B place)) [] (Ok tt)
   ReachedTo Is B seen place after store (Err f) = Follows Is no_part seen (exec B (place_prog lo hi B place)) [] (Err (halt_of f))
 

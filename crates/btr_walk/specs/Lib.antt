@@ -1,4 +1,4 @@
-pub mod Spot
+pub mod BlockPointer
 pub mod Le
 pub mod Range
 pub mod Reading

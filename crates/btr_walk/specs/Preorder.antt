@@ -29,12 +29,12 @@ use Rattle.btr_walk.specs.Frames.{IsNode, path_of}
 
 -- the children of a frame that are still to come, and then the rest
 abbrev pub frame_blocks : Map → ℕ → Frame → BlocksProg → BlocksProg
-frame_blocks B level frame rest = each (blocks_at (level - 1)) (drop frame.next (pointers_in (B (want_of level frame.spot)))) frame.spot.up rest
+frame_blocks B level frame rest = each (blocks_at (level - 1)) (drop frame.next (pointers_in (B (want_of level frame.pointer)))) frame.pointer.up rest
 
 -- the block that is to be read, and then the rest
 abbrev pub todo_blocks : Option Todo → BlocksProg → BlocksProg
 todo_blocks None rest = rest
-todo_blocks (Some todo) rest = blocks_at todo.level todo.spot rest
+todo_blocks (Some todo) rest = blocks_at todo.level todo.pointer rest
 
 -- the children of the frames of a path that are still to come, those of the lowest level first
 abbrev pub path_blocks : Map → ℕ → List (Option Frame) → BlocksProg
@@ -45,13 +45,13 @@ abbrev pub place_blocks : Map → Where → BlocksProg
 place_blocks B place = todo_blocks place.todo (path_blocks B 0 place.path)
 
 -- a frame's node was read before, and all its children from the next one on are still to come
-pub record IsWhole (B : Map) (seen : List Want) (level : ℕ) (frame : Frame) : Type 0 where
+pub record IsWholeFrame (B : Map) (seen : List Want) (level : ℕ) (frame : Frame) : Type 0 where
   pub node : IsNode B seen level frame
   pub all : frame.end ≡ length (pointers node.block)
 
 -- each frame of the path was read before; the block that is to be read lies below all of them
 pub record IsAmong (B : Map) (seen : List Want) (place : Where) : Type 0 where
-  pub frames : (k : ℕ) → IfSome (slice_index_or place.path k None) (IsWhole B seen (k + 1))
+  pub frames : (k : ℕ) → IfSome (slice_index_or place.path k None) (IsWholeFrame B seen (k + 1))
   pub above : IfSome place.todo (λ t. (k : ℕ) → k < t.level → slice_index_or place.path k None ≡ None)
 
 -- the place where a block is to be read
@@ -80,16 +80,16 @@ pub record Enters (B : Map) (seen : List Want) (from to : Where) (want : Want) (
   pub on : IsAmong B (seen ++ (want ∷ [])) to
 
 -- where a walk is behind a block: for a leaf nothing is below; a node's first child comes next, and then the others
-abbrev pub IsBehind : Ahead → List ℕ → Where → Type 0
-IsBehind ahead block place =
-    (B : Map) (seen : List Want) → B (want_of ahead.todo.level ahead.todo.spot) ≡ Ok block → IsAmong B seen (place_of ahead)
-    → Enters B seen (place_of ahead) place (want_of ahead.todo.level ahead.todo.spot) (tree_block ahead.todo.level ahead.todo.spot block)
+abbrev pub IsBehindBlock : Ahead → List ℕ → Where → Type 0
+IsBehindBlock ahead block place =
+    (B : Map) (seen : List Want) → B (want_of ahead.todo.level ahead.todo.pointer) ≡ Ok block → IsAmong B seen (place_of ahead)
+    → Enters B seen (place_of ahead) place (want_of ahead.todo.level ahead.todo.pointer) (tree_block ahead.todo.level ahead.todo.pointer block)
 
 -- the block that was to be read is given, or a fault of it
 abbrev pub EntersBy : (UnreadBlock → Want → Type 0) → Map → List Want → Ahead → Blocks → Result Entry TreeFault → Type 0
 EntersBy Is B seen ahead store (Ok e) =
     IsSomeAnd (block_of store e.loan)
-    (λ block. Enters B seen (place_of ahead) e.place (want_of ahead.todo.level ahead.todo.spot)
+    (λ block. Enters B seen (place_of ahead) e.place (want_of ahead.todo.level ahead.todo.pointer)
     (record { addr = e.addr; level = e.level; bytes = block }))
 EntersBy Is B seen ahead store (Err f) = Follows Is no_part seen (exec B (place_blocks B (place_of ahead))) [] (Err (halt_of f))
 
@@ -104,7 +104,7 @@ RankFallsEntry place (Err f) = Unit {0}
 
 -- the loan of the block that was read is new and live, or no loan changed
 abbrev pub LendsEntry : Blocks → Blocks → Ahead → Result Entry TreeFault → Type 0
-LendsEntry old new ahead (Ok e) = IsLentBy old new (want_of ahead.todo.level ahead.todo.spot) e.loan
+LendsEntry old new ahead (Ok e) = IsLentBy old new (want_of ahead.todo.level ahead.todo.pointer) e.loan
 LendsEntry old new ahead (Err f) = SameLoans old new
 
 -- some wants, and then the block; what is left comes behind

@@ -9,13 +9,13 @@ use Rattle.btr_read.specs.Store.{Blocks}
 use Rattle.btr_read.specs.declared.want.Want.{Want}
 use Rattle.btr_walk.specs.declared.fault.TreeFault.{TreeFault}
 use Rattle.btr_walk.specs.declared.finding.Sought.{Sought}
-use Rattle.btr_walk.specs.declared.finding.Spotted.{Spotted}
+use Rattle.btr_walk.specs.declared.finding.Sighted.{Sighted}
 use Rattle.btr_walk.specs.declared.found.Reach.{Reach}
 use Rattle.btr_walk.specs.declared.place.RootPlace.{RootPlace}
 use Rattle.btr_walk.specs.Finding.{Finds}
 use Rattle.btr_walk.specs.Le.{le}
 use Rattle.btr_walk.specs.Reading.{Map, UnreadBlock}
-use Rattle.btr_walk.specs.Spot.{is_below}
+use Rattle.btr_walk.specs.BlockPointer.{is_below}
 
 -- the key of the first of some items, or the bound behind them
 abbrev pub next_key : List Item → Option Key → Option Key
@@ -28,9 +28,9 @@ SameUpTo B root key until =
     (other : Key) → key_number key ≤ key_number other → is_below until other ≡ true → exec B (le {S = ⊥} root other) ≡ exec B (le {S = ⊥} root key)
 
 -- where a lookup ended, without how far that reaches
-abbrev pub spotted_of : Result Sought TreeFault → Result (Option Spotted) TreeFault
-spotted_of (Ok sought) = Ok sought.spotted
-spotted_of (Err f) = Err f
+abbrev pub sighted_of : Result Sought TreeFault → Result (Option Sighted) TreeFault
+sighted_of (Ok sought) = Ok sought.sighted
+sighted_of (Err f) = Err f
 
 -- lookups at keys from this one on, up to the bound that stands beside where it ended, are the same
 abbrev pub SoughtReaches : Map → RootPlace → Key → Result Sought TreeFault → Type 0
@@ -41,7 +41,7 @@ SoughtReaches B root key (Err f) = ⊤
 abbrev pub FindsAndReaches : (UnreadBlock → Want → Type 0) → Map → RootPlace → Key → Blocks
     → Result Sought TreeFault → Type 0
 FindsAndReaches Is B root key store result =
-    Finds Is B root key store (spotted_of result) × SoughtReaches B root key result
+    Finds Is B root key store (sighted_of result) × SoughtReaches B root key result
 
 -- lookups at all keys from this one on, below the bound that it answers, are the same
 abbrev pub Reaches : Map → RootPlace → Key → Result Reach TreeFault → Type 0

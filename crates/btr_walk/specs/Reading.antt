@@ -15,8 +15,8 @@ use Rattle.btr_read.specs.declared.fault.ReadFault.TheVariants as read
 use Rattle.btr_read.specs.declared.want.Want.{Want}
 use Rattle.btr_walk.specs.declared.fault.TreeFault.{TreeFault}
 use Rattle.btr_walk.specs.declared.fault.TreeFault.TheVariants as tree
-use Rattle.btr_walk.specs.declared.spot.Spot.{Spot}
-use Rattle.btr_walk.specs.Spot.{judged}
+use Rattle.btr_walk.specs.declared.block_pointer.BlockPointer.{BlockPointer}
+use Rattle.btr_walk.specs.BlockPointer.{judged}
 use Rattle.btr_walk.specs.Le.{want_of}
 
 -- a block map of the wants of trees
@@ -70,19 +70,19 @@ IsUnreadOf Is seen (tree.Crosses a) = ⊥
 IsUnreadOf Is seen (tree.Malformed a) = ⊥
 
 module _ (Is : UnreadBlock → Want → Type 0) (B : Map) where
-  -- a block of a level at a spot was read under a block map: these bytes, or why there are none
-  abbrev pub Reads : ℕ → Spot → Blocks → Result Lent TreeFault → Type 0
-  Reads level spot store (Ok loan) = IsSomeAnd (block_of store loan) (λ block. B (want_of level spot) ≡ Ok block)
-  Reads level spot store (Err (tree.Lost a)) = B (want_of level spot) ≡ Err (fate.Lost a)
-  Reads level spot store (Err (tree.Unread a slot)) = Is (record { addr = a; slot = slot }) (want_of level spot)
-  Reads level spot store (Err (tree.Unmapped a)) = B (want_of level spot) ≡ Err (fate.Unmapped a)
-  Reads level spot store (Err (tree.Crosses a)) = B (want_of level spot) ≡ Err (fate.Crosses a)
-  Reads level spot store (Err (tree.Malformed a)) =
-      (a ≡ spot.addr) × ((block : List ℕ) × (B (want_of level spot) ≡ Ok block) × (judged level spot block ≡ None))
+  -- a block of a level at a pointer was read under a block map: these bytes, or why there are none
+  abbrev pub Reads : ℕ → BlockPointer → Blocks → Result Lent TreeFault → Type 0
+  Reads level pointer store (Ok loan) = IsSomeAnd (block_of store loan) (λ block. B (want_of level pointer) ≡ Ok block)
+  Reads level pointer store (Err (tree.Lost a)) = B (want_of level pointer) ≡ Err (fate.Lost a)
+  Reads level pointer store (Err (tree.Unread a slot)) = Is (record { addr = a; slot = slot }) (want_of level pointer)
+  Reads level pointer store (Err (tree.Unmapped a)) = B (want_of level pointer) ≡ Err (fate.Unmapped a)
+  Reads level pointer store (Err (tree.Crosses a)) = B (want_of level pointer) ≡ Err (fate.Crosses a)
+  Reads level pointer store (Err (tree.Malformed a)) =
+      (a ≡ pointer.addr) × ((block : List ℕ) × (B (want_of level pointer) ≡ Ok block) × (judged level pointer block ≡ None))
 
--- the block lent is a good one that fits its spot
-abbrev pub IsGoodFor : ℕ → Spot → Blocks → Lent → Type 0
-IsGoodFor level spot store loan = IsSomeAnd (block_of store loan) (λ block. IsSome (judged level spot block))
+-- the block lent is a good one that fits its pointer
+abbrev pub IsGoodFor : ℕ → BlockPointer → Blocks → Lent → Type 0
+IsGoodFor level pointer store loan = IsSomeAnd (block_of store loan) (λ block. IsSome (judged level pointer block))
 
 -- Why a block that was wanted could not be had: it is lost, has no position, or could not be read, with the whole
 -- cause. Whether it is malformed the block map says.

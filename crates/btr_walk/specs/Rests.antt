@@ -44,7 +44,7 @@ items_of_leaf (Err f) addr = []
 -- the item of a leaf that stands before those that are still to come
 abbrev pub item_before : Map → Option Frame → Option TreeItem
 item_before B None = None
-item_before B (Some frame) = slice_get (items_of_leaf (B (want_of 0 frame.spot)) frame.spot.addr) (frame.next - 1)
+item_before B (Some frame) = slice_get (items_of_leaf (B (want_of 0 frame.pointer)) frame.pointer.addr) (frame.next - 1)
 
 -- the item that was met last
 abbrev pub met_last : Map → Rest → Option TreeItem

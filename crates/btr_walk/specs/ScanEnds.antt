@@ -37,7 +37,7 @@ HoldsLeaf B seen store scan = IfSome scan.leaf (IsHeld B seen store)
 abbrev pub WasMet : Blocks → TreeItem → LeafAt → Type 0
 WasMet store item l =
     IsSomeAnd (block_of store l.loan)
-    (λ block. (l.next ≤ length (items block)) × ((d : Item) → tree_item l.spot.addr (slice_index_or (items block) (l.next - 1) d) ≡ item))
+    (λ block. (l.next ≤ length (items block)) × ((d : Item) → tree_item l.pointer.addr (slice_index_or (items block) (l.next - 1) d) ≡ item))
 
 -- some wants, and then the item; what is left comes behind
 pub record Gives (B : Map) (seen : List Want) (old new : Blocks) (scan scan' : Scan) (found : Found) : Type 0 where

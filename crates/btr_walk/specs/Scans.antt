@@ -9,8 +9,8 @@ use Rattle.btr_read.specs.declared.want.Want.{Want}
 use Rattle.btr_walk.specs.declared.choice.Part.{Part}
 use Rattle.btr_walk.specs.declared.frame.Frame.{Frame}
 use Rattle.btr_walk.specs.declared.frame.Todo.{Todo}
-use Rattle.btr_walk.specs.declared.spot.Spot.{Spot}
-use Rattle.btr_walk.specs.Spot.{is_below}
+use Rattle.btr_walk.specs.declared.block_pointer.BlockPointer.{BlockPointer}
+use Rattle.btr_walk.specs.BlockPointer.{is_below}
 use Rattle.btr_walk.specs.Le.{TreeItem, tree_item, want_of}
 use Rattle.btr_walk.specs.Range.{RangeProg, over, range_at}
 use Rattle.btr_walk.specs.Reading.{Map}
@@ -26,10 +26,10 @@ pub record IsChoice (lo hi : Key) (ps : List KeyPointer) (part : Part) : Type 0 
   pub low : All (λ p. key_number p.key ≤ key_number hi) (take part.end ps)
   pub high : All (λ p. key_number hi < key_number p.key) (drop part.end ps)
 
--- the node at a spot with the children of a part, where it has any
-abbrev pub FramesPart : Spot → Part → Option Frame → Type 0
-FramesPart spot part None = part.end ≤ part.next
-FramesPart spot part (Some frame) = (part.next < part.end) × (frame ≡ record { spot = spot; next = part.next; end = part.end })
+-- the node at a pointer with the children of a part, where it has any
+abbrev pub FramesPart : BlockPointer → Part → Option Frame → Type 0
+FramesPart pointer part None = part.end ≤ part.next
+FramesPart pointer part (Some frame) = (part.next < part.end) × (frame ≡ record { pointer = pointer; next = part.next; end = part.end })
 
 -- the items from `next` up to before `end` are those from lo to hi
 pub record IsPart (lo hi : Key) (is : List Item) (part : Part) : Type 0 where
@@ -52,24 +52,25 @@ part_items addr block next end = map (tree_item addr) (take (end - next) (drop n
 module _ (lo hi : Key) where
   -- the children of a frame that are still to come, and then the rest
   abbrev pub frame_prog : Map → ℕ → Frame → RangeProg → RangeProg
-  frame_prog B level frame rest = over lo hi (range_at lo hi (level - 1)) (drop frame.next (pointers_in (B (want_of level frame.spot)))) frame.spot.up rest
+  frame_prog B level frame rest =
+      over lo hi (range_at lo hi (level - 1)) (drop frame.next (pointers_in (B (want_of level frame.pointer)))) frame.pointer.up rest
 
   -- the block that is to be read, and then the rest
   abbrev pub todo_prog : Option Todo → RangeProg → RangeProg
   todo_prog None rest = rest
-  todo_prog (Some todo) rest = range_at lo hi todo.level todo.spot rest
+  todo_prog (Some todo) rest = range_at lo hi todo.level todo.pointer rest
 
   -- a frame's node was read before, and its children that are still to come are those that meet the keys
   pub record IsFrame (B : Map) (seen : List Want) (level : ℕ) (frame : Frame) : Type 0 where
     pub node : IsNode B seen level frame
-    pub up : is_below frame.spot.up lo ≡ true
+    pub up : is_below frame.pointer.up lo ≡ true
     pub behind : All (λ p. key_number lo < key_number p.key) (drop (frame.next + 1) (pointers node.block))
     pub low : All (λ p. key_number p.key ≤ key_number hi) (take frame.end (pointers node.block))
     pub high : All (λ p. key_number hi < key_number p.key) (drop frame.end (pointers node.block))
 
   -- a block that is to be read ends behind lo
   abbrev pub IsTodo : Option Todo → Type 0
-  IsTodo todo = IfSome todo (λ t. is_below t.spot.up lo ≡ true)
+  IsTodo todo = IfSome todo (λ t. is_below t.pointer.up lo ≡ true)
 
 -- wants as marks
 abbrev pub wants : List Want → List (Mark Want TreeItem)
@@ -82,4 +83,4 @@ items_in (Err f) addr next end = []
 
 -- the items of a leaf that was given back
 abbrev pub kept_items : Map → Frame → List TreeItem
-kept_items B frame = items_in (B (want_of 0 frame.spot)) frame.spot.addr frame.next frame.end
+kept_items B frame = items_in (B (want_of 0 frame.pointer)) frame.pointer.addr frame.next frame.end

@@ -59,7 +59,7 @@ pub(crate) fn from_place<R: Rack>(
     ensures stays { OnErr result.met (place.new ≡ place.old) }
     ensures shaped { IsShaped place.new }
     ensures on { rank place.new ≤ rank place.old }
-    ensures nears { StepRankFalls (2 ^ 64 * rank place.old) place.new result.leaf result.met }
+    ensures rank_falls { StepRankFalls (2 ^ 64 * rank place.old) place.new result.leaf result.met }
     ensures item { HasItem result.leaf result.met }
     ensures cause { HasCause store.old.layout (R.seen rack.old) (R.seen rack.new) result.met }
     ensures content { TellsOf store.old (R.seen rack.old) (R.seen rack.new)
@@ -98,7 +98,7 @@ pub(crate) fn from_hand<R: Rack>(
     ensures stays { OnErr result.met (place.new ≡ place.old) }
     ensures shaped { IsShaped place.new }
     ensures on { rank place.new ≤ rank place.old }
-    ensures nears { StepRankFalls (2 ^ 64 * rank place.old + (hand.end - hand.next)) place.new result.leaf result.met }
+    ensures rank_falls { StepRankFalls (2 ^ 64 * rank place.old + (hand.end - hand.next)) place.new result.leaf result.met }
     ensures item { HasItem result.leaf result.met }
     ensures cause { HasCause store.old.layout (R.seen rack.old) (R.seen rack.new) result.met }
     ensures content { TellsOf store.old (R.seen rack.old) (R.seen rack.new)
@@ -135,7 +135,7 @@ pub(crate) fn advance<R: Rack>(
     ensures stays { OnErr result.met (place.new ≡ place.old) }
     ensures shaped { IsShaped place.new }
     ensures on { rank place.new ≤ rank place.old }
-    ensures nears { StepRankFalls (2 ^ 64 * rank place.old + rank_leaf leaf kept.now) place.new result.leaf result.met }
+    ensures rank_falls { StepRankFalls (2 ^ 64 * rank place.old + rank_leaf leaf kept.now) place.new result.leaf result.met }
     ensures item { HasItem result.leaf result.met }
     ensures cause { HasCause store.old.layout (R.seen rack.old) (R.seen rack.new) result.met }
     ensures content { TellsOf store.old (R.seen rack.old) (R.seen rack.new)

@@ -30,10 +30,10 @@ fn next_of(block: &[u8], level: u8, frame: &Frame) -> Option<Below>
     if frame.next >= count {
         return None;
     }
-    let child = child_at(&inner, frame.next, frame.spot.up);
+    let child = child_at(&inner, frame.next, frame.pointer.up);
     let todo = Todo {
         level: level - 1,
-        spot: child,
+        pointer: child,
     };
     let next = frame.next + 1;
     if next >= frame.end {
@@ -43,7 +43,7 @@ fn next_of(block: &[u8], level: u8, frame: &Frame) -> Option<Below>
         });
     }
     let later = Frame {
-        spot: frame.spot,
+        pointer: frame.pointer,
         next,
         end: frame.end,
     };
@@ -61,7 +61,7 @@ pub(crate) fn first_of(block: &[u8], todo: &Todo, part: Part) -> Below
     requires within { part.end ≤ length (pointers block.now) }
     ensures { IsFirstBelow (pointers block.now) todo.now part result }
 {
-    match frame_of(&todo.spot, part) {
+    match frame_of(&todo.pointer, part) {
         None => Below {
             frame: None,
             todo: None,
@@ -90,15 +90,15 @@ pub fn read_again<R: Rack>(
     ensures store { SameLoans store.old store.new }
     ensures next { IfOk result (λ b. FitsNext level frame.now b.frame b.todo) }
     ensures cause { HasCause store.old.layout (R.seen rack.old) (R.seen rack.new) result }
-    ensures of_want { HasCauseOf store.old.layout (want_of level frame.now.spot) (R.seen rack.old) (R.seen rack.new) result }
+    ensures of_want { HasCauseOf store.old.layout (want_of level frame.now.pointer) (R.seen rack.old) (R.seen rack.new) result }
     ensures content { TellsOf store.old (R.seen rack.old) (R.seen rack.new)
         (λ Is B. Rereads Is B level frame.now result) }
 {
-    let loan = read_block(level, &frame.spot, rack, store)?;
+    let loan = read_block(level, &frame.pointer, rack, store)?;
     let below = next_of(store.bytes(&loan), level, frame);
     store.give(loan);
     match below {
         Some(below) => Ok(below),
-        None => Err(TreeFault::Malformed(frame.spot.addr)),
+        None => Err(TreeFault::Malformed(frame.pointer.addr)),
     }
 }

@@ -31,7 +31,7 @@ pub(crate) fn ahead_of<R: Rack>(
     requires serves { Serves (R.seen rack.old) store.old }
     requires room { 4 ≤ free_count store.old }
     requires shaped { IsShaped place.now }
-    ensures nears { RankFallsAhead place.now result }
+    ensures rank_falls { RankFallsAhead place.now result }
     ensures serves { Serves (R.seen rack.new) store.new }
     ensures reads { OnlyReads (R.seen rack.old) (R.seen rack.new) }
     ensures store { SameLoans store.old store.new }

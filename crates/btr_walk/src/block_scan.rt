@@ -78,7 +78,7 @@ pub fn next_block<'e, R: Rack>(
     ensures* after { sem 𝓛 (BlockScanEnds store.entry scan.old scan.new (R.seen rack.old) (R.seen rack.new) result) }
     ensures reads { OnlyReads (R.seen rack.old) (R.seen rack.new) }
     ensures kept { KeepsBlock result scan.new }
-    ensures nears { NextBlockRankFalls scan.old scan.new result }
+    ensures rank_falls { NextBlockRankFalls scan.old scan.new result }
     ensures cause { HasCause store.old.layout (R.seen rack.old) (R.seen rack.new) result }
 {
     give_back(scan.loan.take(), store);

@@ -40,11 +40,11 @@ pub(crate) fn enter<R: Rack>(
     ensures content { TellsOf store.old (R.seen rack.old) (R.seen rack.new)
         (λ Is B. IsEntered lo hi Is B todo.now store.new result) }
 {
-    let loan = read_block(todo.level, &todo.spot, rack, store)?;
+    let loan = read_block(todo.level, &todo.pointer, rack, store)?;
     if todo.level == 0 {
         let part = part_of(store.bytes(&loan), lo, hi);
         return Ok(Entered::Leaf(LeafAt {
-            spot: todo.spot,
+            pointer: todo.pointer,
             next: part.next,
             end: part.end,
             loan,

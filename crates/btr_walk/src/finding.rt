@@ -6,7 +6,7 @@ ghost use Rattle.btr_read.specs.Serves.{Serves};
 ghost use Rattle.btr_rack.specs.Rack.{OnlyReads};
 ghost use Rattle.btr_read.specs.Store.{free_count};
 ghost use Rattle.btr_walk.specs.Le.{below, up_of, le_item, le_child};
-ghost use Rattle.btr_walk.specs.Reach.{next_key, spotted_of, FindsAndReaches, Reaches};
+ghost use Rattle.btr_walk.specs.Reach.{next_key, sighted_of, FindsAndReaches, Reaches};
 ghost use Rattle.btr_walk.specs.Reading.{Tells, TellsOf, HasCause};
 ghost use Rattle.std.specs.Borrow.{sem};
 ghost use Rattle.std.specs.Prelude.{None, Some};
@@ -15,8 +15,8 @@ ghost use Rattle.btr_walk.specs.Finding.{IsLeAt, LendsItem};
 ghost use Rattle.btr_walk.specs.Lending.{EndsWith};
 ghost use Rattle.btr_walk.specs.Showing.{item_of, FindsItem, LendsReach, LendsWhere, ReachesItem};
 
+use crate::block_pointer::BlockPointer;
 use crate::reading::read_block;
-use crate::spot::Spot;
 use crate::{Found, Reach, RootPlace, TreeFault};
 use btr_base::Key;
 use btr_node::{Inner, Leaf};
@@ -24,11 +24,11 @@ use btr_rack::Rack;
 use btr_read::{Loan, Store};
 
 /// Where the child of pointer `i` stands, `up` being the bound of the node itself: the child's bound is the next pointer's key.
-pub fn child_at(inner: &Inner<'_>, i: usize, up: Option<Key>) -> Spot
+pub fn child_at(inner: &Inner<'_>, i: usize, up: Option<Key>) -> BlockPointer
     requires { i < length inner.now }
-    ensures { HoldsAt (λ pointer. result ≡ below pointer (up_of (drop (i + 1) inner.now) up)) inner.now i }
+    ensures { HoldsAt (λ key_pointer. result ≡ below key_pointer (up_of (drop (i + 1) inner.now) up)) inner.now i }
 {
-    let pointer = inner.child(i);
+    let key_pointer = inner.child(i);
     let count = inner.count();
     let next = i + 1;
     let up = if next < count {
@@ -36,16 +36,16 @@ pub fn child_at(inner: &Inner<'_>, i: usize, up: Option<Key>) -> Spot
     } else {
         up
     };
-    Spot {
-        addr: pointer.addr,
-        generation: pointer.generation,
+    BlockPointer {
+        addr: key_pointer.addr,
+        generation: key_pointer.generation,
         first: Some(inner.key(i)),
         up,
     }
 }
 
 // The child that leads to the greatest item at or below a key.
-fn child_le(block: &[u8], up: Option<Key>, key: Key) -> Option<Spot>
+fn child_le(block: &[u8], up: Option<Key>, key: Key) -> Option<BlockPointer>
     requires header { 101 ≤ length block.now }
     requires good { IsTrue (is_inner block.now) }
     ensures { result ≡ le_child key (pointers block.now) up }
@@ -112,7 +112,7 @@ fn key_behind(block: &[u8], at: usize, up: Option<Key>) -> Option<Key>
 }
 
 /// Where an item stands: its leaf's address and loan, and its place there.
-pub(crate) struct Spotted {
+pub(crate) struct Sighted {
     pub(crate) leaf: u64,
     pub(crate) at: usize,
     pub(crate) loan: Loan,
@@ -120,7 +120,7 @@ pub(crate) struct Spotted {
 
 /// Where a lookup ended, and the bound below which lookups end there too.
 pub(crate) struct Sought {
-    pub(crate) spotted: Option<Spotted>,
+    pub(crate) sighted: Option<Sighted>,
     pub(crate) until: Option<Key>,
 }
 
@@ -135,54 +135,54 @@ pub(crate) fn seek_le<R: Rack>(
     requires room { 4 ≤ free_count store.old }
     ensures serves { Serves (R.seen rack.new) store.new }
     ensures reads { OnlyReads (R.seen rack.old) (R.seen rack.new) }
-    ensures lent { LendsItem store.old store.new (spotted_of result) }
+    ensures lent { LendsItem store.old store.new (sighted_of result) }
     ensures cause { HasCause store.old.layout (R.seen rack.old) (R.seen rack.new) result }
     ensures content { TellsOf store.old (R.seen rack.old) (R.seen rack.new)
         (λ Is B. FindsAndReaches Is B root.now key store.new result) }
 {
     let mut level = root.level;
-    let mut spot = Spot {
+    let mut pointer = BlockPointer {
         addr: root.addr,
         generation: root.generation,
         first: None,
         up: None,
     };
     loop {
-        let loan = read_block(level, &spot, rack, store)?;
+        let loan = read_block(level, &pointer, rack, store)?;
         if level == 0 {
             let block = store.bytes(&loan);
             return match place_le(block, key) {
                 Some(at) => Ok(Sought {
-                    until: key_behind(block, at, spot.up),
-                    spotted: Some(Spotted {
-                        leaf: spot.addr,
+                    until: key_behind(block, at, pointer.up),
+                    sighted: Some(Sighted {
+                        leaf: pointer.addr,
                         at,
                         loan,
                     }),
                 }),
                 None => {
-                    let until = first_item_key(block, spot.up);
+                    let until = first_item_key(block, pointer.up);
                     store.give(loan);
                     Ok(Sought {
-                        spotted: None,
+                        sighted: None,
                         until,
                     })
                 }
             };
         }
         let block = store.bytes(&loan);
-        match child_le(block, spot.up, key) {
+        match child_le(block, pointer.up, key) {
             None => {
-                let until = first_pointer_key(block, spot.up);
+                let until = first_pointer_key(block, pointer.up);
                 store.give(loan);
                 return Ok(Sought {
-                    spotted: None,
+                    sighted: None,
                     until,
                 });
             }
             Some(below) => {
                 store.give(loan);
-                spot = below;
+                pointer = below;
                 level -= 1;
             }
         }
@@ -238,15 +238,15 @@ pub fn find_reach<'e, R: Rack>(
     ensures content { TellsOf store.old (R.seen rack.old) (R.seen rack.new)
         (λ Is B. ReachesItem Is B root.now key result) }
 {
-    let Sought { spotted, until } = seek_le(root, key, rack, store)?;
-    match spotted {
+    let Sought { sighted, until } = seek_le(root, key, rack, store)?;
+    match sighted {
         None => Ok(Reach { found: None, until }),
-        Some(spotted) => {
-            let Spotted {
+        Some(sighted) => {
+            let Sighted {
                 leaf,
                 at,
                 loan: taken,
-            } = spotted;
+            } = sighted;
             keep(loan, taken);
             let Some(held) = &*loan else {
                 unreachable!();

@@ -49,7 +49,7 @@ fn take_next<R: Rack, Out, E, F: Folder<Out, E>>(
     ensures others { SameLoans (without_leaf store.old scan.old) (without_leaf store.new scan.new) }
     ensures lo { scan.new.lo ≡ scan.old.lo }
     ensures hi { scan.new.hi ≡ scan.old.hi }
-    ensures nears { TurnRankFalls scan.old scan.new result }
+    ensures rank_falls { TurnRankFalls scan.old scan.new result }
     ensures cause { FoldCause store.old.layout (R.seen rack.old) (R.seen rack.new) result }
     ensures content { TellsOf store.old (R.seen rack.old) (R.seen rack.new)
         (λ Is B. IsTurned F.step F.answer Is B store.old store.new scan.old scan.new state.old state.new result) }

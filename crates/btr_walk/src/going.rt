@@ -44,7 +44,7 @@ pub(crate) fn go_on<R: Rack>(
     requires serves { Serves (R.seen rack.old) store.old }
     requires room { 4 ≤ free_count store.old }
     requires shaped { IsShaped place.old }
-    ensures nears { RankFalls place.old place.new result }
+    ensures rank_falls { RankFalls place.old place.new result }
     ensures serves { Serves (R.seen rack.new) store.new }
     ensures reads { OnlyReads (R.seen rack.old) (R.seen rack.new) }
     ensures lent { LendsGone store.old store.new result }

@@ -3,14 +3,14 @@ ghost use Rattle.std.specs.Prelude.{◌≡◌, ◌≤◌, length, IsSome, IsSome
 ghost use Rattle.std.specs.Option.{is_some};
 ghost use Rattle.btr_node.specs.Node.{node_of};
 ghost use Rattle.btr_read.specs.Store.{IsLiveIn, block_of};
-ghost use Rattle.btr_walk.specs.Spot.{fits_ends, is_below, judged};
+ghost use Rattle.btr_walk.specs.BlockPointer.{fits_ends, is_below, judged};
 
-use crate::spot::Spot;
+use crate::block_pointer::BlockPointer;
 use btr_base::Key;
 use btr_node::Node;
 use btr_read::{Loan, Store};
 
-impl Spot {
+impl BlockPointer {
     // Whether the block may have a key from this one on.
     fn ends_behind(&self, key: Key) -> bool
         ensures { result ≡ is_below self.now.up key }
@@ -33,11 +33,11 @@ impl Spot {
     }
 }
 
-// Whether a good node fits a spot of this level.
-fn is_fitting(block: &[u8], level: u8, spot: &Spot) -> bool
+// Whether a good node fits a pointer of this level.
+fn is_fitting(block: &[u8], level: u8, pointer: &BlockPointer) -> bool
     requires header { 101 ≤ length block.now }
     requires good { IsSome (node_of block.now) }
-    ensures { result ≡ is_some (judged level spot.now block.now) }
+    ensures { result ≡ is_some (judged level pointer.now block.now) }
 {
     if btr_node::level(block) != level {
         return false;
@@ -46,20 +46,20 @@ fn is_fitting(block: &[u8], level: u8, spot: &Spot) -> bool
         Node::Leaf(leaf) => {
             let count = leaf.count();
             if count == 0 {
-                return spot.first.is_none();
+                return pointer.first.is_none();
             }
-            spot.fits_ends(leaf.key(0), leaf.key(count - 1))
+            pointer.fits_ends(leaf.key(0), leaf.key(count - 1))
         }
-        Node::Inner(inner) => spot.fits_ends(inner.key(0), inner.key(inner.count() - 1)),
+        Node::Inner(inner) => pointer.fits_ends(inner.key(0), inner.key(inner.count() - 1)),
     }
 }
 
-/// Whether the block of a loan is a good one that fits a spot of this level.
-pub(crate) fn is_judged(loan: &Loan, level: u8, spot: &Spot, store: &mut Store) -> bool
+/// Whether the block of a loan is a good one that fits a pointer of this level.
+pub(crate) fn is_judged(loan: &Loan, level: u8, pointer: &BlockPointer, store: &mut Store) -> bool
     requires live { IsLiveIn store.old loan.now }
     requires header { 101 ≤ loan.now.len }
     ensures same { store.new ≡ store.old }
-    ensures judged { IsSomeAnd (block_of store.old loan.now) (λ block. result ≡ is_some (judged level spot.now block)) }
+    ensures judged { IsSomeAnd (block_of store.old loan.now) (λ block. result ≡ is_some (judged level pointer.now block)) }
 {
-    store.has_node(loan) && is_fitting(store.bytes(loan), level, spot)
+    store.has_node(loan) && is_fitting(store.bytes(loan), level, pointer)
 }

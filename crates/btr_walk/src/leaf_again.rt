@@ -30,18 +30,18 @@ pub fn read_leaf<R: Rack>(
     ensures lent { LendsAgain store.old store.new result }
     ensures same { IfOk result (IsLeafOf frame.now) }
     ensures cause { HasCause store.old.layout (R.seen rack.old) (R.seen rack.new) result }
-    ensures of_want { HasCauseOf store.old.layout (want_of 0 frame.now.spot) (R.seen rack.old) (R.seen rack.new) result }
+    ensures of_want { HasCauseOf store.old.layout (want_of 0 frame.now.pointer) (R.seen rack.old) (R.seen rack.new) result }
     ensures content { TellsOf store.old (R.seen rack.old) (R.seen rack.new)
         (λ Is B. IsLeafAgain Is B frame.now store.new result) }
 {
-    let loan = read_block(0, &frame.spot, rack, store)?;
+    let loan = read_block(0, &frame.pointer, rack, store)?;
     let count = Leaf::of(store.bytes(&loan)).count();
     if count < frame.end {
         store.give(loan);
-        return Err(TreeFault::Malformed(frame.spot.addr));
+        return Err(TreeFault::Malformed(frame.pointer.addr));
     }
     Ok(LeafAt {
-        spot: frame.spot,
+        pointer: frame.pointer,
         next: frame.next,
         end: frame.end,
         loan,

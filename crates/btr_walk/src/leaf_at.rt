@@ -7,14 +7,14 @@ ghost use Rattle.btr_read.specs.Store.{SameLoans};
 ghost use Rattle.btr_walk.specs.Hand.{behind_next, frame_of, loan_of, IsInHand};
 ghost use Rattle.btr_walk.specs.Lending.{base};
 
+use crate::block_pointer::BlockPointer;
 use crate::frame::Frame;
-use crate::spot::Spot;
 use btr_read::{Loan, Store};
 
 /// A leaf in hand, of which some items are still to come: those from `next` up to before `end`.
 pub struct LeafAt {
     /// Where the leaf stands.
-    pub spot: Spot,
+    pub pointer: BlockPointer,
     /// The place of the first item that is to come.
     pub next: usize,
     /// The place behind the last one.
@@ -29,14 +29,14 @@ pub fn behind_next(leaf: LeafAt) -> LeafAt
     ensures { result ≡ behind_next leaf }
 {
     let LeafAt {
-        spot,
+        pointer,
         next,
         end,
         loan,
     } = leaf;
     let next = next + 1;
     LeafAt {
-        spot,
+        pointer,
         next,
         end,
         loan,
@@ -68,13 +68,13 @@ pub fn give_leaf(leaf: Option<LeafAt>, store: &mut Store) -> Option<Frame>
         None => None,
         Some(hand) => {
             let LeafAt {
-                spot,
+                pointer,
                 next,
                 end,
                 loan,
             } = hand;
             store.give(loan);
-            Some(Frame { spot, next, end })
+            Some(Frame { pointer, next, end })
         }
     }
 }

@@ -28,7 +28,7 @@ pub(crate) fn to_leaf<R: Rack>(
     ensures serves { Serves (R.seen rack.new) store.new }
     ensures reads { OnlyReads (R.seen rack.old) (R.seen rack.new) }
     ensures lent { LendsReached store.old store.new result }
-    ensures nears { RankFallsReached place.old place.new result }
+    ensures rank_falls { RankFallsReached place.old place.new result }
     ensures cause { HasCause store.old.layout (R.seen rack.old) (R.seen rack.new) result }
     ensures content { TellsOf store.old (R.seen rack.old) (R.seen rack.new)
         (λ Is B. IsReached lo hi Is B place.old place.new store.new result) }

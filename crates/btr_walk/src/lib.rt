@@ -1,7 +1,7 @@
 //! Trees of blocks: the greatest item at or below a key, and all items from one key to another in order.
 //!
 //! A tree's blocks are fetched one by one through `btr_read`, each judged by its place: its level, the rules of one block,
-//! the key of its parent's pointer, and the bound of the next one (`specs/Spot.antt`). What a call answers follows a
+//! the key of its parent's pointer, and the bound of the next one (`specs/BlockPointer.antt`). What a call answers follows a
 //! program over wants, whatever reads failed: `le` (`specs/Le.antt`) for `find_le`, `range` (`specs/Range.antt`) for a
 //! `Scan`, whose cursor keeps a path of places and one leaf's loan. Nothing takes memory, and nothing is written.
 #![tactic(auto)]
@@ -10,6 +10,7 @@ mod advancing;
 mod again;
 mod ahead;
 mod beginning;
+mod block_pointer;
 mod block_scan;
 mod choice;
 mod entering;
@@ -32,10 +33,10 @@ mod reading;
 mod rest;
 mod scan;
 mod scan_place;
-mod spot;
 
 pub use again::read_again;
 pub use beginning::begin;
+pub use block_pointer::BlockPointer;
 pub use block_scan::{BlockScan, next_block};
 pub use choice::{Part, choose, frame_of, part_of};
 pub use fault::TreeFault;
@@ -53,4 +54,3 @@ pub use place::RootPlace;
 pub use reading::read_block;
 pub use rest::{MetAgain, Rest};
 pub use scan::{Scan, next};
-pub use spot::Spot;

@@ -3,9 +3,9 @@ ghost use Rattle.std.specs.Prelude.{◌<◌, ◌≤◌, length, IsSome};
 ghost use Rattle.btr_rack.specs.Rack.{OnlyReads};
 ghost use Rattle.btr_read.specs.Serves.{Serves};
 ghost use Rattle.btr_read.specs.Store.{free_count};
-ghost use Rattle.btr_walk.specs.Preorder.{place_of, IsBehind, IsEntry, RankFallsEntry, LendsEntry, IsStep, RankFallsStep, LendsStep};
+ghost use Rattle.btr_walk.specs.Preorder.{place_of, IsBehindBlock, IsEntry, RankFallsEntry, LendsEntry, IsStep, RankFallsStep, LendsStep};
 ghost use Rattle.btr_walk.specs.Ranks.{IsShaped, rank};
-ghost use Rattle.btr_walk.specs.Spot.{judged};
+ghost use Rattle.btr_walk.specs.BlockPointer.{judged};
 ghost use Rattle.btr_walk.specs.Reading.{TellsOf, HasCause};
 
 use crate::TreeFault;
@@ -30,10 +30,10 @@ pub(crate) struct Entry {
 // Where a walk is behind a block: before its first child, if it has any.
 fn behind(ahead: &Ahead, block: &[u8]) -> Where
     requires header { 101 ≤ length block.now }
-    requires good { IsSome (judged ahead.now.todo.level ahead.now.todo.spot block.now) }
+    requires good { IsSome (judged ahead.now.todo.level ahead.now.todo.pointer block.now) }
     requires shaped { IsShaped (place_of ahead.now) }
-    ensures nears { IsShaped result × (rank result < rank (place_of ahead.now)) }
-    ensures behind { IsBehind ahead.now block.now result }
+    ensures rank_falls { IsShaped result × (rank result < rank (place_of ahead.now)) }
+    ensures behind { IsBehindBlock ahead.now block.now result }
 {
     let todo = ahead.todo;
     if todo.level == 0 {
@@ -64,7 +64,7 @@ pub(crate) fn enter_block<R: Rack>(
     requires serves { Serves (R.seen rack.old) store.old }
     requires room { 4 ≤ free_count store.old }
     requires shaped { IsShaped (place_of ahead.now) }
-    ensures nears { RankFallsEntry (place_of ahead.now) result }
+    ensures rank_falls { RankFallsEntry (place_of ahead.now) result }
     ensures serves { Serves (R.seen rack.new) store.new }
     ensures reads { OnlyReads (R.seen rack.old) (R.seen rack.new) }
     ensures lent { LendsEntry store.old store.new ahead.now result }
@@ -73,10 +73,10 @@ pub(crate) fn enter_block<R: Rack>(
         (λ Is B. IsEntry Is B ahead.now store.new result) }
 {
     let todo = ahead.todo;
-    let loan = read_block(todo.level, &todo.spot, rack, store)?;
+    let loan = read_block(todo.level, &todo.pointer, rack, store)?;
     let place = behind(ahead, store.bytes(&loan));
     Ok(Entry {
-        addr: todo.spot.addr,
+        addr: todo.pointer.addr,
         level: todo.level,
         loan,
         place,
@@ -92,7 +92,7 @@ pub(crate) fn step_block<R: Rack>(
     requires serves { Serves (R.seen rack.old) store.old }
     requires room { 4 ≤ free_count store.old }
     requires shaped { IsShaped place.now }
-    ensures nears { RankFallsStep place.now result }
+    ensures rank_falls { RankFallsStep place.now result }
     ensures serves { Serves (R.seen rack.new) store.new }
     ensures reads { OnlyReads (R.seen rack.old) (R.seen rack.new) }
     ensures lent { LendsStep store.old store.new result }

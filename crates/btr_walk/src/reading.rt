@@ -7,18 +7,18 @@ ghost use Rattle.btr_walk.specs.Le.{want_of};
 ghost use Rattle.btr_walk.specs.Reading.{TellsOf, Reads, IsGoodFor, HasCause, HasCauseOf};
 
 use crate::TreeFault;
+use crate::block_pointer::BlockPointer;
 use crate::judging::is_judged;
-use crate::spot::Spot;
 use btr_rack::Rack;
 use btr_read::{Loan, Store, Want, fetch};
 
-/// Reads the block of a level at a spot, and tests whether it fits there; its loan is the caller's. It takes no memory, and four slots are free.
+/// Reads the block of a level at a pointer, and tests whether it fits there; its loan is the caller's. It takes no memory, and four slots are free.
 ///
 /// The faults are `Lost`, `Unread`, `Unmapped` and `Crosses` of that block, and `Malformed` where it breaks a rule of one block, has another first key
 /// than its pointer, or a key that isn't below the bound.
 pub fn read_block<R: Rack>(
     level: u8,
-    spot: &Spot,
+    pointer: &BlockPointer,
     rack: &mut R,
     store: &mut Store,
 ) -> Result<Loan, TreeFault>
@@ -26,24 +26,24 @@ pub fn read_block<R: Rack>(
     requires room { 4 ≤ free_count store.old }
     ensures serves { Serves (R.seen rack.new) store.new }
     ensures reads { OnlyReads (R.seen rack.old) (R.seen rack.new) }
-    ensures lent { IfOk result (IsLentBy store.old store.new (want_of level spot.now)) }
+    ensures lent { IfOk result (IsLentBy store.old store.new (want_of level pointer.now)) }
     ensures refused { OnErr result (SameLoans store.old store.new) }
-    ensures good { IfOk result (IsGoodFor level spot.now store.new) }
+    ensures good { IfOk result (IsGoodFor level pointer.now store.new) }
     ensures cause { HasCause store.old.layout (R.seen rack.old) (R.seen rack.new) result }
-    ensures of_want { HasCauseOf store.old.layout (want_of level spot.now) (R.seen rack.old) (R.seen rack.new) result }
+    ensures of_want { HasCauseOf store.old.layout (want_of level pointer.now) (R.seen rack.old) (R.seen rack.new) result }
     ensures content { TellsOf store.old (R.seen rack.old) (R.seen rack.new)
-        (λ Is B. Reads Is B level spot.now store.new result) }
+        (λ Is B. Reads Is B level pointer.now store.new result) }
 {
     let want = Want::Tree {
-        addr: spot.addr,
-        generation: spot.generation,
+        addr: pointer.addr,
+        generation: pointer.generation,
         level,
     };
     let loan = fetch(&want, rack, store)?;
-    if is_judged(&loan, level, spot, store) {
+    if is_judged(&loan, level, pointer, store) {
         Ok(loan)
     } else {
         store.give(loan);
-        Err(TreeFault::Malformed(spot.addr))
+        Err(TreeFault::Malformed(pointer.addr))
     }
 }

@@ -42,7 +42,7 @@ fn met_in(hand: LeafAt) -> MetAgain
     ensures { result ≡ record { loan = hand.loan; at = hand.next - 1 } }
 {
     let LeafAt {
-        spot: _,
+        pointer: _,
         next,
         end: _,
         loan,

@@ -11,7 +11,7 @@ ghost use Rattle.btr_walk.specs.Range.{range};
 ghost use Rattle.btr_walk.specs.Reading.{Map, HasCause};
 ghost use Rattle.btr_base.specs.declared.key.Key.{Key};
 ghost use Rattle.btr_walk.specs.Going.{IsOn, place_prog};
-ghost use Rattle.btr_walk.specs.Le.{root_spot};
+ghost use Rattle.btr_walk.specs.Le.{root_pointer};
 ghost use Rattle.btr_walk.specs.Ranks.{IsShaped};
 ghost use Rattle.btr_rack.specs.Rack.{Seen};
 ghost use Rattle.btr_walk.specs.ScanEnds.{left_of, without_leaf, IsScanReady, KeepsLeaf, NextRankFalls, Paused, ScanEnds};
@@ -39,7 +39,7 @@ pub struct Scan {
 fn before_all(root: &RootPlace) -> ScanPlace
     ensures leaf { result.leaf ≡ None }
     ensures program { (lo hi : Key) (B : Map) → place_prog lo hi B result.rest ≡ range lo hi root.now }
-    ensures todo { result.rest.todo ≡ Some (record { level = root.now.level; spot = root_spot root.now }) }
+    ensures todo { result.rest.todo ≡ Some (record { level = root.now.level; pointer = root_pointer root.now }) }
     ensures path { (k : ℕ) → slice_index_or result.rest.path k None ≡ None }
     ensures shaped { IsShaped result.rest }
     ensures on { (lo hi : Key) (B : Map) → IsOn lo hi B [] result }
@@ -116,7 +116,7 @@ pub fn next<'e, R: Rack>(
     ensures lo { scan.new.lo ≡ scan.old.lo }
     ensures hi { scan.new.hi ≡ scan.old.hi }
     ensures kept { KeepsLeaf result scan.new.leaf }
-    ensures nears { NextRankFalls scan.old scan.new result }
+    ensures rank_falls { NextRankFalls scan.old scan.new result }
     ensures place { OnErr result (scan.new.place ≡ scan.old.place) }
     ensures cause { HasCause store.old.layout (R.seen rack.old) (R.seen rack.new) result }
 {
@@ -139,5 +139,5 @@ pub fn next<'e, R: Rack>(
     let Some(hand) = &scan.leaf else {
         unreachable!();
     };
-    Ok(Some(found_at(store.bytes(&hand.loan), hand.spot.addr, hand.next - 1)))
+    Ok(Some(found_at(store.bytes(&hand.loan), hand.pointer.addr, hand.next - 1)))
 }

@@ -18,33 +18,33 @@ use Rattle.btr_tour.specs.Shape.{rank_on, StepRankFalls}
 use Rattle.btr_tour.specs.Steps.{Arrived, arrived, HasStep, Advances, StepCause, MeetsBlock}
 use Rattle.btr_tour.specs.Place.{place_left}
 use Rattle.btr_tour.proofs.Enters.{same_block, enter_leaf, enter_node, enter_fault, todo_wanted, out_shaped, out_step, out_leaf, out_cause}
-use Rattle.btr_tour.proofs.Ranking.{leaf_nears, out_nears, node_nears, fits_part}
+use Rattle.btr_tour.proofs.Ranking.{leaf_rank_falls, out_rank_falls, node_rank_falls, fits_part}
 use Rattle.btr_walk.specs.Going.{IsAlong}
 use Rattle.btr_walk.specs.Hand.{IsInHand, loan_of}
 use Rattle.btr_walk.specs.Ranks.{IsShaped}
 use Rattle.btr_tour.proofs.entering.enter.Goals as goal
 
 pub part_of-part-requires-clause-good : goal.part_of-part-requires-clause-good
-part_of-part-requires-clause-good g c = (is_leaf_at c.args.todo.now.level c.args.todo.now.spot c.read_block.new.store c.in-Ok.loan
+part_of-part-requires-clause-good g c = (is_leaf_at c.args.todo.now.level c.args.todo.now.pointer c.read_block.new.store c.in-Ok.loan
     c.bytes-then-todo-eq0.result.now c.bytes-then-todo-eq0.ensures.value c.in-Ok.ensures.good c.if-todo-eq0.true).good
 
 pub choose-part-requires-clause-good : goal.choose-part-requires-clause-good
-choose-part-requires-clause-good g c = (is_inner_at c.args.todo.now.level c.args.todo.now.spot c.read_block.new.store c.in-Ok.loan
+choose-part-requires-clause-good g c = (is_inner_at c.args.todo.now.level c.args.todo.now.pointer c.read_block.new.store c.in-Ok.loan
     c.bytes-in-Ok.result.now c.bytes-in-Ok.ensures.value c.in-Ok.ensures.good c.if-todo-eq0.false).good
 
 pub set_frame-requires : goal.set_frame-requires
 set_frame-requires g c =
-    let inner = is_inner_at c.args.todo.now.level c.args.todo.now.spot c.read_block.new.store c.in-Ok.loan c.bytes-in-Ok.result.now
+    let inner = is_inner_at c.args.todo.now.level c.args.todo.now.pointer c.read_block.new.store c.in-Ok.loan c.bytes-in-Ok.result.now
     c.bytes-in-Ok.ensures.value c.in-Ok.ensures.good c.if-todo-eq0.false in
     let some = inner.some in
     let few = inner.few in
     omega (arith, some, few)
 
-pub returns-in-Err-clause-nears : goal.returns-in-Err-clause-nears
-returns-in-Err-clause-nears g c =
+pub returns-in-Err-clause-rank_falls : goal.returns-in-Err-clause-rank_falls
+returns-in-Err-clause-rank_falls g c =
     let place = c.args.place.now in
     subst (λ (a : Arrived). StepRankFalls (rank_on place None) (rank_on a.place a.leaf) a.step) (sym c.left_out.ensures)
-    (out_nears place c.args.todo.now.level c.args.todo.now.spot c.in-Err.fault c.requires.todo)
+    (out_rank_falls place c.args.todo.now.level c.args.todo.now.pointer c.in-Err.fault c.requires.todo)
 
 pub returns-in-Err-clause-shaped : goal.returns-in-Err-clause-shaped
 returns-in-Err-clause-shaped g c =
@@ -81,10 +81,10 @@ returns-in-Err-clause-content g c =
     let place = c.args.place.now in
     let todo = c.args.todo.now in
     let store = c.read_block.new.store in
-    drawn c.args.store.now.layout (λ B. Reads is B todo.level todo.spot store (Err c.in-Err.fault))
+    drawn c.args.store.now.layout (λ B. Reads is B todo.level todo.pointer store (Err c.in-Err.fault))
     (λ B. Advances lo hi B is (λ seen. Unit {0}) sums place (place_left lo hi B place) store (arrived c.left_out.new.place c.left_out.result))
     (λ B reads. subst (Advances lo hi B is (λ seen. Unit {0}) sums place (place_left lo hi B place) store) (sym c.left_out.ensures)
-    (enter_fault lo hi B is sums place todo.level todo.spot store c.in-Err.fault c.requires.todo reads)) c.in-Err.ensures.content
+    (enter_fault lo hi B is sums place todo.level todo.pointer store c.in-Err.fault c.requires.todo reads)) c.in-Err.ensures.content
 
 pub returns-in-Err-clause-cause : goal.returns-in-Err-clause-cause
 returns-in-Err-clause-cause g c =
@@ -102,7 +102,7 @@ returns-then-todo-eq0-clause-others g c = given_back _ _ _ _ c.in-Ok.loan c.in-O
 pub returns-then-todo-eq0-clause-hand : goal.returns-then-todo-eq0-clause-hand
 returns-then-todo-eq0-clause-hand g c =
     let block = c.bytes-then-todo-eq0.result.now in
-    let leaf = is_leaf_at c.args.todo.now.level c.args.todo.now.spot c.read_block.new.store c.in-Ok.loan block c.bytes-then-todo-eq0.ensures.value
+    let leaf = is_leaf_at c.args.todo.now.level c.args.todo.now.pointer c.read_block.new.store c.in-Ok.loan block c.bytes-then-todo-eq0.ensures.value
     c.in-Ok.ensures.good c.if-todo-eq0.true in
     let part = c.part_of-part.result in
     record {
@@ -113,10 +113,10 @@ returns-then-todo-eq0-clause-hand g c =
           c.bytes-then-todo-eq0.ensures.value (leaf.good, c.part_of-part.ensures.part.within);
     }
 
-pub returns-then-todo-eq0-clause-nears : goal.returns-then-todo-eq0-clause-nears
-returns-then-todo-eq0-clause-nears g c =
-    leaf_nears c.args.place.now c.args.todo.now.level c.args.todo.now.spot
-    (record { spot = c.args.todo.now.spot; next = c.part_of-part.result.next; end = c.part_of-part.result.end; loan = c.in-Ok.loan }) c.requires.todo
+pub returns-then-todo-eq0-clause-rank_falls : goal.returns-then-todo-eq0-clause-rank_falls
+returns-then-todo-eq0-clause-rank_falls g c =
+    leaf_rank_falls c.args.place.now c.args.todo.now.level c.args.todo.now.pointer
+    (record { pointer = c.args.todo.now.pointer; next = c.part_of-part.result.next; end = c.part_of-part.result.end; loan = c.in-Ok.loan }) c.requires.todo
     c.part_of-part.ensures.fits
 
 pub returns-then-todo-eq0-clause-content : goal.returns-then-todo-eq0-clause-content
@@ -132,20 +132,20 @@ returns-then-todo-eq0-clause-content g c =
     let block = c.bytes.result.now in
     let part = c.part_of-part.result in
     let after : Where = record { path = place.path; todo = None } in
-    let hand : LeafAt = record { spot = todo.spot; next = part.next; end = part.end; loan = loan } in
-    let leaf = is_leaf_at todo.level todo.spot store loan block c.bytes.ensures.value c.in-Ok.ensures.good c.if-todo-eq0.true in
+    let hand : LeafAt = record { pointer = todo.pointer; next = part.next; end = part.end; loan = loan } in
+    let leaf = is_leaf_at todo.level todo.pointer store loan block c.bytes.ensures.value c.in-Ok.ensures.good c.if-todo-eq0.true in
     let is_part : IsPart lo hi (items block) part =
     subst (λ (b : List ℕ). IsPart lo hi (items b) part) (same_block
     (block_of store loan) c.bytes-then-todo-eq0.result.now block c.bytes-then-todo-eq0.ensures.value
     c.bytes.ensures.value) c.part_of-part.ensures.part in
-    drawn c.args.store.now.layout (λ B. Reads is B todo.level todo.spot store (Ok loan))
+    drawn c.args.store.now.layout (λ B. Reads is B todo.level todo.pointer store (Ok loan))
     (λ B. (seen : List Want) → IsAlong lo hi B seen place → Unit {0}
     → MeetsBlock lo hi B seen sums (place_left lo hi B place) store after (Some hand) c.place_of.result c.read.result)
     (λ B reads seen on none. subst (λ (at : RootPlace). MeetsBlock lo hi B seen sums (place_left lo hi B place) store after (Some hand) at
     c.read.result) (sym c.place_of.ensures) (
-    subst (MeetsBlock lo hi B seen sums (place_left lo hi B place) store after (Some hand) (place_of todo.level todo.spot)) (sym c.read.ensures) (
-    enter_leaf lo hi B seen sums place todo.level todo.spot store loan block part c.requires.todo c.if-todo-eq0.true leaf
-    (block_is store loan block (λ (b : List ℕ). B (want_of todo.level todo.spot) ≡ Ok b) c.bytes.ensures.value reads) c.bytes.ensures.value is_part on)))
+    subst (MeetsBlock lo hi B seen sums (place_left lo hi B place) store after (Some hand) (place_of todo.level todo.pointer)) (sym c.read.ensures) (
+    enter_leaf lo hi B seen sums place todo.level todo.pointer store loan block part c.requires.todo c.if-todo-eq0.true leaf
+    (block_is store loan block (λ (b : List ℕ). B (want_of todo.level todo.pointer) ≡ Ok b) c.bytes.ensures.value reads) c.bytes.ensures.value is_part on)))
     c.in-Ok.ensures.content
 
 pub returns-else-todo-eq0-clause-serves : goal.returns-else-todo-eq0-clause-serves
@@ -156,23 +156,23 @@ returns-else-todo-eq0-clause-others g c = given_back _ _ _ _ c.in-Ok.loan c.in-O
 
 pub returns-else-todo-eq0-clause-shaped : goal.returns-else-todo-eq0-clause-shaped
 returns-else-todo-eq0-clause-shaped g c =
-    let inner = is_inner_at c.args.todo.now.level c.args.todo.now.spot c.read_block.new.store c.in-Ok.loan c.bytes-in-Ok.result.now
+    let inner = is_inner_at c.args.todo.now.level c.args.todo.now.pointer c.read_block.new.store c.in-Ok.loan c.bytes-in-Ok.result.now
     c.bytes-in-Ok.ensures.value c.in-Ok.ensures.good c.if-todo-eq0.false in
-    (node_nears c.args.place.now c.args.todo.now.level c.args.todo.now.spot c.set_frame.new.path c.frame_of-frame.result c.requires.todo inner.some
-    inner.few (fits_part c.args.todo.now.spot c.choose-part.result c.frame_of-frame.result c.choose-part.ensures.fits c.frame_of-frame.ensures)
+    (node_rank_falls c.args.place.now c.args.todo.now.level c.args.todo.now.pointer c.set_frame.new.path c.frame_of-frame.result c.requires.todo inner.some
+    inner.few (fits_part c.args.todo.now.pointer c.choose-part.result c.frame_of-frame.result c.choose-part.ensures.fits c.frame_of-frame.ensures)
     c.set_frame.ensures.set c.requires.shaped).0
 
-pub returns-else-todo-eq0-clause-nears : goal.returns-else-todo-eq0-clause-nears
-returns-else-todo-eq0-clause-nears g c =
-    let inner = is_inner_at c.args.todo.now.level c.args.todo.now.spot c.read_block.new.store c.in-Ok.loan c.bytes-in-Ok.result.now
+pub returns-else-todo-eq0-clause-rank_falls : goal.returns-else-todo-eq0-clause-rank_falls
+returns-else-todo-eq0-clause-rank_falls g c =
+    let inner = is_inner_at c.args.todo.now.level c.args.todo.now.pointer c.read_block.new.store c.in-Ok.loan c.bytes-in-Ok.result.now
     c.bytes-in-Ok.ensures.value c.in-Ok.ensures.good c.if-todo-eq0.false in
-    (node_nears c.args.place.now c.args.todo.now.level c.args.todo.now.spot c.set_frame.new.path c.frame_of-frame.result c.requires.todo inner.some
-    inner.few (fits_part c.args.todo.now.spot c.choose-part.result c.frame_of-frame.result c.choose-part.ensures.fits c.frame_of-frame.ensures)
+    (node_rank_falls c.args.place.now c.args.todo.now.level c.args.todo.now.pointer c.set_frame.new.path c.frame_of-frame.result c.requires.todo inner.some
+    inner.few (fits_part c.args.todo.now.pointer c.choose-part.result c.frame_of-frame.result c.choose-part.ensures.fits c.frame_of-frame.ensures)
     c.set_frame.ensures.set c.requires.shaped).1
 
 pub returns-else-todo-eq0-clause-step : goal.returns-else-todo-eq0-clause-step
 returns-else-todo-eq0-clause-step g c =
-    let inner = is_inner_at c.args.todo.now.level c.args.todo.now.spot c.read_block.new.store c.in-Ok.loan c.bytes-in-Ok.result.now
+    let inner = is_inner_at c.args.todo.now.level c.args.todo.now.pointer c.read_block.new.store c.in-Ok.loan c.bytes-in-Ok.result.now
     c.bytes-in-Ok.ensures.value c.in-Ok.ensures.good c.if-todo-eq0.false in
     let few = inner.few in
     omega (arith, few, ap (λ (p : RootPlace). p.level) c.place_of.ensures)
@@ -192,18 +192,18 @@ returns-else-todo-eq0-clause-content g c =
     let part = c.choose-part.result in
     let o = c.frame_of-frame.result in
     let after : Where = record { path = c.set_frame.new.path; todo = None } in
-    let inner = is_inner_at todo.level todo.spot store loan block c.bytes.ensures.value c.in-Ok.ensures.good c.if-todo-eq0.false in
+    let inner = is_inner_at todo.level todo.pointer store loan block c.bytes.ensures.value c.in-Ok.ensures.good c.if-todo-eq0.false in
     let choice : IsChoice lo hi (pointers block) part =
     subst (λ (b : List ℕ). IsChoice lo hi (pointers b) part) (same_block
     (block_of store loan) c.bytes-in-Ok.result.now block c.bytes-in-Ok.ensures.value c.bytes.ensures.value) c.choose-part.ensures.choice in
-    drawn c.args.store.now.layout (λ B. Reads is B todo.level todo.spot store (Ok loan))
+    drawn c.args.store.now.layout (λ B. Reads is B todo.level todo.pointer store (Ok loan))
     (λ B. (seen : List Want) → IsAlong lo hi B seen place → Unit {0}
     → MeetsBlock lo hi B seen sums (place_left lo hi B place) new after None c.place_of.result c.read.result)
     (λ B reads seen on none. subst (λ (at : RootPlace). MeetsBlock lo hi B seen sums (place_left lo hi B place) new after None at c.read.result)
     (sym c.place_of.ensures) (
-    subst (MeetsBlock lo hi B seen sums (place_left lo hi B place) new after None (place_of todo.level todo.spot)) (sym c.read.ensures) (
-    enter_node lo hi B seen sums place todo.level todo.spot new block c.set_frame.new.path part o c.requires.todo inner
-    (block_is store loan block (λ (b : List ℕ). B (want_of todo.level todo.spot) ≡ Ok b) c.bytes.ensures.value reads) c.requires.shaped choice
+    subst (MeetsBlock lo hi B seen sums (place_left lo hi B place) new after None (place_of todo.level todo.pointer)) (sym c.read.ensures) (
+    enter_node lo hi B seen sums place todo.level todo.pointer new block c.set_frame.new.path part o c.requires.todo inner
+    (block_is store loan block (λ (b : List ℕ). B (want_of todo.level todo.pointer) ≡ Ok b) c.bytes.ensures.value reads) c.requires.shaped choice
     c.frame_of-frame.ensures
     c.set_frame.ensures.set on)))
     c.in-Ok.ensures.content

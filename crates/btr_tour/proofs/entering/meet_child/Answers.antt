@@ -12,14 +12,14 @@ use Rattle.btr_tour.specs.Steps.{Arrived, arrived, HasStep, Advances, Meets, Ste
 use Rattle.btr_tour.specs.Place.{place_left}
 use Rattle.btr_walk.proofs.Joined.{drawn}
 use Rattle.btr_tour.proofs.Enters.{frame_here, meets_child, child_fault, low_wanted, out_shaped, out_step, out_leaf, out_cause}
-use Rattle.btr_tour.proofs.Ranking.{child_nears, gone_shaped, gone_out}
+use Rattle.btr_tour.proofs.Ranking.{child_rank_falls, gone_shaped, gone_out}
 use Rattle.btr_walk.specs.Going.{IsAlong}
 use Rattle.btr_walk.specs.Hand.{IsInHand, loan_of}
 use Rattle.btr_walk.specs.Ranks.{IsShaped}
 use Rattle.btr_tour.proofs.entering.meet_child.Goals as goal
 
-pub returns-in-Err-clause-nears : goal.returns-in-Err-clause-nears
-returns-in-Err-clause-nears g c =
+pub returns-in-Err-clause-rank_falls : goal.returns-in-Err-clause-rank_falls
+returns-in-Err-clause-rank_falls g c =
     let place = c.args.place.now in
     subst (λ (a : Arrived). StepRankFalls (rank_on place None) (rank_on a.place a.leaf) a.step) (sym c.left_out.ensures)
     (gone_out place c.args.low.now c.requires.todo c.requires.low c.requires.shaped c.set_frame.new.path c.in-Err.fault c.set_frame.ensures.set)
@@ -75,12 +75,14 @@ returns-in-Err-clause-cause g c =
     (out_cause layout before now place (record { path = c.set_frame.new.path; todo = None }) c.in-Err.fault
     (low_wanted place c.args.low.now (λ want. CauseOf layout want before now c.in-Err.fault) c.requires.todo c.requires.low c.in-Err.ensures.of_want))
 
-pub returns-in-Some-clause-nears : goal.returns-in-Some-clause-nears
-returns-in-Some-clause-nears g c = (child_nears c.args.place.now c.args.low.now c.requires.todo c.requires.low c.requires.shaped c.in-Ok.below c.in-Some.todo
+pub returns-in-Some-clause-rank_falls : goal.returns-in-Some-clause-rank_falls
+returns-in-Some-clause-rank_falls g c =
+    (child_rank_falls c.args.place.now c.args.low.now c.requires.todo c.requires.low c.requires.shaped c.in-Ok.below c.in-Some.todo
     c.set_frame-in-Ok.new.path c.in-Ok.ensures.next c.in-Some.is c.set_frame-in-Ok.ensures.set).1
 
 pub returns-in-Some-clause-shaped : goal.returns-in-Some-clause-shaped
-returns-in-Some-clause-shaped g c = (child_nears c.args.place.now c.args.low.now c.requires.todo c.requires.low c.requires.shaped c.in-Ok.below c.in-Some.todo
+returns-in-Some-clause-shaped g c =
+    (child_rank_falls c.args.place.now c.args.low.now c.requires.todo c.requires.low c.requires.shaped c.in-Ok.below c.in-Some.todo
     c.set_frame-in-Ok.new.path c.in-Ok.ensures.next c.in-Some.is c.set_frame-in-Ok.ensures.set).0
 
 pub returns-in-Some-clause-content : goal.returns-in-Some-clause-content
@@ -96,8 +98,8 @@ returns-in-Some-clause-content g c =
     let after : Where = record { path = c.set_frame-in-Ok.new.path; todo = Some todo } in
     drawn c.args.store.now.layout (λ B. Rereads is B (low.at + 1) low.frame (Ok b))
     (λ B. (seen : List Want) → IsAlong lo hi B seen place → Unit {0}
-    → Meets lo hi B seen (place_left lo hi B place) store after None (Child low.frame.spot.addr c.place_of.result))
-    (λ B h seen on none. subst (λ (at : RootPlace). Meets lo hi B seen (place_left lo hi B place) store after None (Child low.frame.spot.addr at))
+    → Meets lo hi B seen (place_left lo hi B place) store after None (Child low.frame.pointer.addr c.place_of.result))
+    (λ B h seen on none. subst (λ (at : RootPlace). Meets lo hi B seen (place_left lo hi B place) store after None (Child low.frame.pointer.addr at))
     (sym c.place_of.ensures) (
     meets_child lo hi B place low c.requires.todo c.requires.low c.requires.shaped seen store b todo c.set_frame-in-Ok.new.path on
     (h seen (frame_here lo hi B place low c.requires.todo c.requires.low c.requires.shaped seen on).node) c.in-Some.is c.set_frame-in-Ok.ensures.set))

@@ -29,7 +29,7 @@ returns-in_err-step g c =
         scope = s.scope;
         level = s.level;
         kept = h.0;
-        nears = subst (StepRankFalls (rank_of c.args.tour.now) (rank_of c.step.new.tour)) is s.nears;
+        rank_falls = subst (StepRankFalls (rank_of c.args.tour.now) (rank_of c.step.new.tour)) is s.rank_falls;
         cause = (subst (StepCause c.args.store.now.layout _ _ c.args.tour.now.place) is s.cause, h.2, h.1);
       },
     ))
@@ -51,7 +51,7 @@ returns-in-End g c =
         scope = s.scope;
         level = s.level;
         kept = h.0;
-        nears = subst (StepRankFalls (rank_of c.args.tour.now) (rank_of c.step.new.tour)) is s.nears;
+        rank_falls = subst (StepRankFalls (rank_of c.args.tour.now) (rank_of c.step.new.tour)) is s.rank_falls;
         cause = tt;
       },
     )
@@ -74,7 +74,7 @@ returns-in-Fault g c =
         scope = s.scope;
         level = s.level;
         kept = h.0;
-        nears = subst (StepRankFalls (rank_of c.args.tour.now) (rank_of c.step.new.tour)) is s.nears;
+        rank_falls = subst (StepRankFalls (rank_of c.args.tour.now) (rank_of c.step.new.tour)) is s.rank_falls;
         cause = (subst (StepCause c.args.store.now.layout _ _ c.args.tour.now.place) is s.cause, h.1);
       },
     )
@@ -97,7 +97,7 @@ returns-in-Child g c =
         scope = s.scope;
         level = s.level;
         kept = h;
-        nears = subst (StepRankFalls (rank_of c.args.tour.now) (rank_of c.step.new.tour)) is s.nears;
+        rank_falls = subst (StepRankFalls (rank_of c.args.tour.now) (rank_of c.step.new.tour)) is s.rank_falls;
         cause = tt;
       },
     )
@@ -123,7 +123,7 @@ returns-in-Block g c =
         scope = s.scope;
         level = refl;
         kept = tt;
-        nears = subst (StepRankFalls (rank_of c.args.tour.now) (rank_of c.step.new.tour)) is s.nears;
+        rank_falls = subst (StepRankFalls (rank_of c.args.tour.now) (rank_of c.step.new.tour)) is s.rank_falls;
         cause = tt;
       },
     )
@@ -145,7 +145,7 @@ returns-in-Some g c =
         scope = s.scope;
         level = s.level;
         kept = ap is_some c.in-Some.is;
-        nears = subst (StepRankFalls (rank_of c.args.tour.now) (rank_of c.step.new.tour)) is s.nears;
+        rank_falls = subst (StepRankFalls (rank_of c.args.tour.now) (rank_of c.step.new.tour)) is s.rank_falls;
         cause = tt;
       },
     )

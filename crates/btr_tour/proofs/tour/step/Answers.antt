@@ -27,12 +27,12 @@ returns-clause-others g c =
     (subst (λ l. SameLoans (base c.args.store.now (loan_of l)) (base c.advance-leaf.new.store (loan_of c.advance-leaf.result.leaf))) c.take-leaf.ensures.value
     c.advance-leaf.ensures.others)
 
-pub returns-clause-nears : goal.returns-clause-nears
-returns-clause-nears g c =
+pub returns-clause-rank_falls : goal.returns-clause-rank_falls
+returns-clause-rank_falls g c =
     let place = c.args.tour.now.place in
     let a = c.advance-leaf.result in
     subst (λ l. StepRankFalls (rank_on place c.args.tour.now.leaf) (rank_on c.advance-leaf.new.place l) a.step) (sym c.put_leaf.ensures)
-    (subst (λ l. StepRankFalls (rank_on place l) (rank_on c.advance-leaf.new.place a.leaf) a.step) c.take-leaf.ensures.value c.advance-leaf.ensures.nears)
+    (subst (λ l. StepRankFalls (rank_on place l) (rank_on c.advance-leaf.new.place a.leaf) a.step) c.take-leaf.ensures.value c.advance-leaf.ensures.rank_falls)
 
 pub returns-clause-step : goal.returns-clause-step
 returns-clause-step g c = subst (λ l. HasStep c.args.tour.now.place c.advance-leaf.new.place l c.advance-leaf.result.step) (sym c.put_leaf.ensures)

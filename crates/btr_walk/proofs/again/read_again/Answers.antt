@@ -18,14 +18,14 @@ returns-in_err-loan-clause-content g c =
     let store = c.read_block.new.store in
     let p = err_from_is_err_and c.from_residual.result c.from_residual.ensures.1 in
     rw (p.1, p.2)
-    (drawn c.args.store.now.layout (λ B. Reads is B c.args.level frame.spot store (Err c.in_err-loan.field-0.0))
+    (drawn c.args.store.now.layout (λ B. Reads is B c.args.level frame.pointer store (Err c.in_err-loan.field-0.0))
     (λ B. Rereads is B c.args.level frame (Err c.in_err-loan.field-0.0))
-    (λ B h seen node. read_still is B seen c.args.level frame.spot store c.in_err-loan.field-0.0 node.block (Inner (pointers node.block)) node.came node.is
+    (λ B h seen node. read_still is B seen c.args.level frame.pointer store c.in_err-loan.field-0.0 node.block (Inner (pointers node.block)) node.came node.is
     node.read h) c.in_err-loan.ensures.content)
 
 pub next_of-below-requires-clause-good : goal.next_of-below-requires-clause-good
 next_of-below-requires-clause-good g c =
-    (is_inner_at c.args.level c.args.frame.now.spot c.read_block.new.store c.in_ok-loan.loan c.bytes.result.now c.bytes.ensures.value
+    (is_inner_at c.args.level c.args.frame.now.pointer c.read_block.new.store c.in_ok-loan.loan c.bytes.result.now c.bytes.ensures.value
     c.in_ok-loan.ensures.good (λ e. absurd (omega (arith, e, c.requires.some)))).good
 
 pub returns-in-Some-clause-store : goal.returns-in-Some-clause-store
@@ -35,9 +35,9 @@ pub returns-in-Some-clause-content : goal.returns-in-Some-clause-content
 returns-in-Some-clause-content g c =
     let is = unread_by c.args.store.now.layout (g.R.Rack.seen c.args.rack.now) (g.R.Rack.seen c.read_block.new.rack) in
     let frame = c.args.frame.now in
-    let want = want_of c.args.level frame.spot in
+    let want = want_of c.args.level frame.pointer in
     let b = c.in-Some.below in
-    drawn c.args.store.now.layout (λ B. Reads is B c.args.level frame.spot c.read_block.new.store (Ok c.in_ok-loan.loan))
+    drawn c.args.store.now.layout (λ B. Reads is B c.args.level frame.pointer c.read_block.new.store (Ok c.in_ok-loan.loan))
     (λ B. Rereads is B c.args.level frame (Ok b))
     (λ B reads seen node.
     let came = block_is c.read_block.new.store c.in_ok-loan.loan c.bytes.result.now (λ (x : List ℕ). B want ≡ Ok x) c.bytes.ensures.value reads in
@@ -51,10 +51,10 @@ pub returns-in-None-clause-content : goal.returns-in-None-clause-content
 returns-in-None-clause-content g c =
     let is = unread_by c.args.store.now.layout (g.R.Rack.seen c.args.rack.now) (g.R.Rack.seen c.read_block.new.rack) in
     let frame = c.args.frame.now in
-    let want = want_of c.args.level frame.spot in
+    let want = want_of c.args.level frame.pointer in
     let block = c.bytes.result.now in
-    drawn c.args.store.now.layout (λ B. Reads is B c.args.level frame.spot c.read_block.new.store (Ok c.in_ok-loan.loan))
-    (λ B. Rereads is B c.args.level frame (Err (tree.Malformed frame.spot.addr)))
+    drawn c.args.store.now.layout (λ B. Reads is B c.args.level frame.pointer c.read_block.new.store (Ok c.in_ok-loan.loan))
+    (λ B. Rereads is B c.args.level frame (Err (tree.Malformed frame.pointer.addr)))
     (λ B reads seen node.
     let came = block_is c.read_block.new.store c.in_ok-loan.loan block (λ (x : List ℕ). B want ≡ Ok x) c.bytes.ensures.value reads in
     let same = same_block B want block node.block came node.came in

@@ -26,8 +26,8 @@ returns-in_err-below-in-Some-lowest-clause-content g c =
     on h)
     c.in_err-below-in-Some-lowest.ensures.content)
 
-pub returns-in-Some-todo-clause-nears : goal.returns-in-Some-todo-clause-nears
-returns-in-Some-todo-clause-nears g c =
+pub returns-in-Some-todo-clause-rank_falls : goal.returns-in-Some-todo-clause-rank_falls
+returns-in-Some-todo-clause-rank_falls g c =
     let place = c.args.place.now in
     let low = c.in-Some-lowest.low in
     let b = c.in_ok-below-in-Some-lowest.below in

@@ -4,7 +4,7 @@ use Rattle.std.proofs.lemmas.Result.{err_from_is_err_and}
 use Rattle.btr_read.specs.Store.{block_of}
 use Rattle.btr_walk.specs.Preorder.{IsStep}
 use Rattle.btr_walk.specs.Reading.{Tells, unread_by}
-use Rattle.btr_walk.proofs.Walks.{walked_err, walked_end, walked_some, cause_of, lends_is, lends_none, nears_is, held_is}
+use Rattle.btr_walk.proofs.Walks.{walked_err, walked_end, walked_some, cause_of, lends_is, lends_none, rank_falls_is, held_is}
 use Rattle.btr_walk.proofs.block_scan.next_block.Goals as goal
 
 pub returns-in_err-step_block : goal.returns-in_err-step_block
@@ -24,7 +24,7 @@ returns-in_err-step_block g c =
         after = tt;
         reads = c.in_err-step_block.ensures.reads;
         kept = c.take.ensures.after;
-        nears = refl;
+        rank_falls = refl;
         cause = cause_of c.args.store.now c.give_back.new.store c.step_block.new.store c.args.scan.now c.take.result c.take.ensures.value
             c.give_back.ensures.back _ _ c.in_err-step_block.ensures.serves c.in_err-step_block.field-0.0 c.in_err-step_block.ensures.cause;
       },
@@ -49,7 +49,7 @@ returns-in-None g c =
         after = tt;
         reads = c.in_ok-step_block.ensures.reads;
         kept = c.take.ensures.after;
-        nears = refl;
+        rank_falls = refl;
         cause = tt;
       },
     )
@@ -62,7 +62,7 @@ returns-in-Some-loan g c =
     let mid = c.give_back.new.store.layout in
     let is = unread_by mid (g.R.Rack.seen c.args.rack.now) (g.R.Rack.seen c.step_block.new.rack) in
     let held = held_is c.keep.new.place c.in-Some-loan.held e.loan c.in-Some-loan.is c.keep.ensures in
-    let near = nears_is place c.in_ok-step_block.field-0 e c.in-Some.is c.in_ok-step_block.ensures.nears in (
+    let near = rank_falls_is place c.in_ok-step_block.field-0 e c.in-Some.is c.in_ok-step_block.ensures.rank_falls in (
       (
         refl,
         λ x. tt,
@@ -77,7 +77,7 @@ returns-in-Some-loan g c =
         after = tt;
         reads = c.in_ok-step_block.ensures.reads;
         kept = ap is_some c.keep.ensures;
-        nears = near.1;
+        rank_falls = near.1;
         cause = tt;
       },
     )

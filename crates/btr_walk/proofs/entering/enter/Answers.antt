@@ -15,12 +15,12 @@ use Rattle.btr_walk.proofs.Ranking.{fits_first}
 use Rattle.btr_walk.proofs.entering.enter.Goals as goal
 
 pub part_of-part-requires-clause-good : goal.part_of-part-requires-clause-good
-part_of-part-requires-clause-good g c = (is_leaf_at c.args.todo.now.level c.args.todo.now.spot c.read_block.new.store c.in_ok-loan.loan
+part_of-part-requires-clause-good g c = (is_leaf_at c.args.todo.now.level c.args.todo.now.pointer c.read_block.new.store c.in_ok-loan.loan
     c.bytes.result.now c.bytes.ensures.value c.in_ok-loan.ensures.good c.if-todo-eq0.true).good
 
 pub returns-then-todo-eq0-clause-lent : goal.returns-then-todo-eq0-clause-lent
 returns-then-todo-eq0-clause-lent g c =
-    let leaf = is_leaf_at c.args.todo.now.level c.args.todo.now.spot c.read_block.new.store c.in_ok-loan.loan c.bytes.result.now c.bytes.ensures.value
+    let leaf = is_leaf_at c.args.todo.now.level c.args.todo.now.pointer c.read_block.new.store c.in_ok-loan.loan c.bytes.result.now c.bytes.ensures.value
     c.in_ok-loan.ensures.good c.if-todo-eq0.true in
     record {
       others = given_back _ _ _ _ c.in_ok-loan.loan c.in_ok-loan.ensures.lent refl;
@@ -40,26 +40,26 @@ returns-then-todo-eq0-clause-content g c =
     let todo = c.args.todo.now in
     let store = c.read_block.new.store in
     let block = c.bytes.result.now in
-    let leaf = is_leaf_at todo.level todo.spot store c.in_ok-loan.loan block c.bytes.ensures.value c.in_ok-loan.ensures.good c.if-todo-eq0.true in
-    drawn c.args.store.now.layout (λ B. Reads is B todo.level todo.spot store (Ok c.in_ok-loan.loan))
+    let leaf = is_leaf_at todo.level todo.pointer store c.in_ok-loan.loan block c.bytes.ensures.value c.in_ok-loan.ensures.good c.if-todo-eq0.true in
+    drawn c.args.store.now.layout (λ B. Reads is B todo.level todo.pointer store (Ok c.in_ok-loan.loan))
     (λ B. IsEntered c.args.lo c.args.hi is B todo store (Ok (Leaf
-    (record { spot = todo.spot; next = c.part_of-part.result.next; end = c.part_of-part.result.end; loan = c.in_ok-loan.loan }))))
-    (λ B reads. let e = block_is store c.in_ok-loan.loan block (λ (b : List ℕ). B (want_of todo.level todo.spot) ≡ Ok b) c.bytes.ensures.value reads in (
-      some_block store c.in_ok-loan.loan block (λ (b : List ℕ). (rest : RangeProg) → exec B (range_at c.args.lo c.args.hi todo.level todo.spot rest)
-          ≡ first (Wants (want_of todo.level todo.spot)) (exec B
-          (emit_all (part_items todo.spot.addr b c.part_of-part.result.next c.part_of-part.result.end) rest))) c.bytes.ensures.value
-          (enter_leaf c.args.lo c.args.hi B todo.level todo.spot block c.part_of-part.result leaf c.part_of-part.ensures.part e),
-      λ seen read. held_leaf c.args.lo c.args.hi B todo.level todo.spot block store c.part_of-part.result.next c.part_of-part.result.end
+    (record { pointer = todo.pointer; next = c.part_of-part.result.next; end = c.part_of-part.result.end; loan = c.in_ok-loan.loan }))))
+    (λ B reads. let e = block_is store c.in_ok-loan.loan block (λ (b : List ℕ). B (want_of todo.level todo.pointer) ≡ Ok b) c.bytes.ensures.value reads in (
+      some_block store c.in_ok-loan.loan block (λ (b : List ℕ). (rest : RangeProg) → exec B (range_at c.args.lo c.args.hi todo.level todo.pointer rest)
+          ≡ first (Wants (want_of todo.level todo.pointer)) (exec B
+          (emit_all (part_items todo.pointer.addr b c.part_of-part.result.next c.part_of-part.result.end) rest))) c.bytes.ensures.value
+          (enter_leaf c.args.lo c.args.hi B todo.level todo.pointer block c.part_of-part.result leaf c.part_of-part.ensures.part e),
+      λ seen read. held_leaf c.args.lo c.args.hi B todo.level todo.pointer block store c.part_of-part.result.next c.part_of-part.result.end
           c.in_ok-loan.loan seen leaf c.bytes.ensures.value e read,
     ))
     c.in_ok-loan.ensures.content
 
 pub choose-requires-clause-good : goal.choose-requires-clause-good
-choose-requires-clause-good g c = (is_inner_at c.args.todo.now.level c.args.todo.now.spot c.read_block.new.store c.in_ok-loan.loan
+choose-requires-clause-good g c = (is_inner_at c.args.todo.now.level c.args.todo.now.pointer c.read_block.new.store c.in_ok-loan.loan
     c.bytes-block.result.now c.bytes-block.ensures.value c.in_ok-loan.ensures.good c.if-todo-eq0.false).good
 
 pub first_of-below-requires-clause-good : goal.first_of-below-requires-clause-good
-first_of-below-requires-clause-good g c = (is_inner_at c.args.todo.now.level c.args.todo.now.spot c.read_block.new.store c.in_ok-loan.loan
+first_of-below-requires-clause-good g c = (is_inner_at c.args.todo.now.level c.args.todo.now.pointer c.read_block.new.store c.in_ok-loan.loan
     c.bytes-block.result.now c.bytes-block.ensures.value c.in_ok-loan.ensures.good c.if-todo-eq0.false).good
 
 pub returns-clause-lent : goal.returns-clause-lent
@@ -74,11 +74,11 @@ returns-clause-content g c =
     let todo = c.args.todo.now in
     let store = c.read_block.new.store in
     let block = c.bytes-block.result.now in
-    let inner = is_inner_at todo.level todo.spot store c.in_ok-loan.loan block c.bytes-block.ensures.value c.in_ok-loan.ensures.good c.if-todo-eq0.false in
-    drawn c.args.store.now.layout (λ B. Reads is B todo.level todo.spot store (Ok c.in_ok-loan.loan))
+    let inner = is_inner_at todo.level todo.pointer store c.in_ok-loan.loan block c.bytes-block.ensures.value c.in_ok-loan.ensures.good c.if-todo-eq0.false in
+    drawn c.args.store.now.layout (λ B. Reads is B todo.level todo.pointer store (Ok c.in_ok-loan.loan))
     (λ B. IsEntered c.args.lo c.args.hi is B todo c.give.new.self (Ok (Inner c.first_of-below.result)))
     (λ B reads up.
-    let e = block_is store c.in_ok-loan.loan block (λ (b : List ℕ). B (want_of todo.level todo.spot) ≡ Ok b) c.bytes-block.ensures.value reads in
+    let e = block_is store c.in_ok-loan.loan block (λ (b : List ℕ). B (want_of todo.level todo.pointer) ≡ Ok b) c.bytes-block.ensures.value reads in
     let choice = c.choose.ensures.choice in
     let b = c.first_of-below.result in (
       enter_inner c.args.lo c.args.hi B todo block c.choose.result b inner choice c.first_of-below.ensures e up,
@@ -90,6 +90,6 @@ returns-clause-content g c =
 
 pub returns-clause-level : goal.returns-clause-level
 returns-clause-level g c =
-    let inner = is_inner_at c.args.todo.now.level c.args.todo.now.spot c.read_block.new.store c.in_ok-loan.loan c.bytes-block.result.now
+    let inner = is_inner_at c.args.todo.now.level c.args.todo.now.pointer c.read_block.new.store c.in_ok-loan.loan c.bytes-block.result.now
     c.bytes-block.ensures.value c.in_ok-loan.ensures.good c.if-todo-eq0.false in
     fits_first _ c.args.todo.now c.choose.result c.first_of-below.result inner.some inner.few c.choose.ensures.fits c.first_of-below.ensures

@@ -1,7 +1,7 @@
 use Rattle.btr_rack.specs.Rack.{OnlyReads}
 use Rattle.btr_read.specs.Serves.{Serves}
 use Rattle.btr_read.specs.Store.{SameLoans}
-use Rattle.btr_walk.specs.Le.{root_spot}
+use Rattle.btr_walk.specs.Le.{root_pointer}
 use Rattle.btr_walk.specs.Reading.{Tells}
 use Rattle.btr_walk.proofs.Reaching.{Carries}
 use Rattle.btr_walk.proofs.Ways.{Way}
@@ -13,7 +13,7 @@ invariant-loop-loan g l = record {
   serves : Serves (g.R.Rack.seen l.rack) l.store;
   same : SameLoans l.fn.store l.store;
   tells : Tells l.fn.store.layout (g.R.Rack.seen l.fn.rack) (g.R.Rack.seen l.rack)
-      (λ B. Way B l.key l.fn.root.level (root_spot l.fn.root) l.level l.spot × Carries B l.key l.fn.root l.level l.spot);
+      (λ B. Way B l.key l.fn.root.level (root_pointer l.fn.root) l.level l.pointer × Carries B l.key l.fn.root l.level l.pointer);
 }
 
 abbrev pub decreases-loop-loan : goal.decreases-loop-loan

@@ -85,21 +85,21 @@ returns-in_ok-below-in-Some-lowest-clause-content g c =
     c.set_frame-in-Some-lowest.ensures.long c.in-Some-lowest.ensures.within refl c.in-Some-lowest.ensures.before c.in-Some-lowest.ensures.here
     c.set_frame-in-Some-lowest.ensures.set h)) c.in_ok-below-in-Some-lowest.ensures.content
 
-pub returns-in-Leaf-clause-nears : goal.returns-in-Leaf-clause-nears
-returns-in-Leaf-clause-nears g c =
+pub returns-in-Leaf-clause-rank_falls : goal.returns-in-Leaf-clause-rank_falls
+returns-in-Leaf-clause-rank_falls g c =
     let place = c.args.place.now in
     near_place place (Some c.in-Some.todo) (record { path = place.path; todo = None }) c.in-Some.is c.requires.shaped (near_leaf place.path c.in-Some.todo)
 
-pub returns-in-Inner-clause-nears : goal.returns-in-Inner-clause-nears
-returns-in-Inner-clause-nears g c =
+pub returns-in-Inner-clause-rank_falls : goal.returns-in-Inner-clause-rank_falls
+returns-in-Inner-clause-rank_falls g c =
     let place = c.args.place.now in
     let b = c.in-Inner.below in
     let fits = fits_below c.in-Some.todo c.in_ok-leaf-in-Some.field-0 b c.in-Inner.is c.in_ok-leaf-in-Some.ensures.level in
     near_place place (Some c.in-Some.todo) (record { path = c.set_frame.new.path; todo = b.todo }) c.in-Some.is c.requires.shaped
     (near_inner place.path c.set_frame.new.path c.in-Some.todo b fits c.set_frame.ensures.set)
 
-pub returns-in_ok-below-in-Some-lowest-clause-nears : goal.returns-in_ok-below-in-Some-lowest-clause-nears
-returns-in_ok-below-in-Some-lowest-clause-nears g c =
+pub returns-in_ok-below-in-Some-lowest-clause-rank_falls : goal.returns-in_ok-below-in-Some-lowest-clause-rank_falls
+returns-in_ok-below-in-Some-lowest-clause-rank_falls g c =
     let place = c.args.place.now in
     let low = c.in-Some-lowest.low in
     let b = c.in_ok-below-in-Some-lowest.below in

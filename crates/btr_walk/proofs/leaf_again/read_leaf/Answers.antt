@@ -18,12 +18,12 @@ returns-in_err-loan-clause-content g c =
     let store = c.read_block.new.store in
     let p = err_from_is_err_and c.from_residual.result c.from_residual.ensures.1 in
     rw (p.1, p.2)
-    (drawn c.args.store.now.layout (λ B. Reads is B 0 frame.spot store (Err c.in_err-loan.field-0.0))
+    (drawn c.args.store.now.layout (λ B. Reads is B 0 frame.pointer store (Err c.in_err-loan.field-0.0))
     (λ B. IsLeafAgain is B frame store (Err c.in_err-loan.field-0.0))
     (λ B h. again_halts is B frame store c.in_err-loan.field-0.0 h) c.in_err-loan.ensures.content)
 
 pub of-requires-clause-good : goal.of-requires-clause-good
-of-requires-clause-good g c = (is_leaf_at 0 c.args.frame.now.spot c.read_block.new.store c.in_ok-loan.loan c.bytes.result.now c.bytes.ensures.value
+of-requires-clause-good g c = (is_leaf_at 0 c.args.frame.now.pointer c.read_block.new.store c.in_ok-loan.loan c.bytes.result.now c.bytes.ensures.value
     c.in_ok-loan.ensures.good refl).good
 
 pub returns-then-count-frame-clause-serves : goal.returns-then-count-frame-clause-serves
@@ -39,16 +39,16 @@ returns-then-count-frame-clause-content g c =
     let store = c.read_block.new.store in
     let block = c.bytes.result.now in
     let same : length c.of.result ≡ length (items block) = ap length c.of.ensures in
-    drawn c.args.store.now.layout (λ B. Reads is B 0 frame.spot store (Ok c.in_ok-loan.loan))
-    (λ B. IsLeafAgain is B frame c.give.new.self (Err (tree.Malformed frame.spot.addr)))
+    drawn c.args.store.now.layout (λ B. Reads is B 0 frame.pointer store (Ok c.in_ok-loan.loan))
+    (λ B. IsLeafAgain is B frame c.give.new.self (Err (tree.Malformed frame.pointer.addr)))
     (λ B h. again_short is B frame store c.in_ok-loan.loan block c.bytes.ensures.value
-    (block_is store c.in_ok-loan.loan block (λ (b : List ℕ). B (want_of 0 frame.spot) ≡ Ok b) c.bytes.ensures.value h) c.give.new.self frame.spot.addr
+    (block_is store c.in_ok-loan.loan block (λ (b : List ℕ). B (want_of 0 frame.pointer) ≡ Ok b) c.bytes.ensures.value h) c.give.new.self frame.pointer.addr
     (omega (arith, same, c.count-count.ensures.all, c.if-count-frame.true))) c.in_ok-loan.ensures.content
 
 pub returns-clause-lent : goal.returns-clause-lent
 returns-clause-lent g c =
     let block = c.bytes.result.now in
-    let leaf = is_leaf_at 0 c.args.frame.now.spot c.read_block.new.store c.in_ok-loan.loan block c.bytes.ensures.value c.in_ok-loan.ensures.good refl in
+    let leaf = is_leaf_at 0 c.args.frame.now.pointer c.read_block.new.store c.in_ok-loan.loan block c.bytes.ensures.value c.in_ok-loan.ensures.good refl in
     let same : length c.of.result ≡ length (items block) = ap length c.of.ensures in
     record {
       others = given_back _ _ _ _ c.in_ok-loan.loan c.in_ok-loan.ensures.lent refl;
@@ -67,7 +67,7 @@ returns-clause-content g c =
     let frame = c.args.frame.now in
     let store = c.read_block.new.store in
     let block = c.bytes.result.now in
-    drawn c.args.store.now.layout (λ B. Reads is B 0 frame.spot store (Ok c.in_ok-loan.loan))
-    (λ B. IsLeafAgain is B frame store (Ok (record { spot = frame.spot; next = frame.next; end = frame.end; loan = c.in_ok-loan.loan })))
+    drawn c.args.store.now.layout (λ B. Reads is B 0 frame.pointer store (Ok c.in_ok-loan.loan))
+    (λ B. IsLeafAgain is B frame store (Ok (record { pointer = frame.pointer; next = frame.next; end = frame.end; loan = c.in_ok-loan.loan })))
     (λ B h. again_held is B frame store c.in_ok-loan.loan block c.bytes.ensures.value
-    (block_is store c.in_ok-loan.loan block (λ (b : List ℕ). B (want_of 0 frame.spot) ≡ Ok b) c.bytes.ensures.value h)) c.in_ok-loan.ensures.content
+    (block_is store c.in_ok-loan.loan block (λ (b : List ℕ). B (want_of 0 frame.pointer) ≡ Ok b) c.bytes.ensures.value h)) c.in_ok-loan.ensures.content

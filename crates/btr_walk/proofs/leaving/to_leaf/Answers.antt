@@ -45,12 +45,12 @@ loop-leaf-preserved-in-Between g c =
       serves = c.in_ok-go_on.ensures.serves;
       same = same_then c.loop-leaf.invariant.same (gone_same c.loop-leaf.store c.go_on.new.store c.in_ok-go_on.field-0 c.in-Between.is
           c.in_ok-go_on.ensures.lent);
-      shaped = (gone_near_between c.loop-leaf.place c.go_on.new.place c.in_ok-go_on.field-0 c.in-Between.is c.in_ok-go_on.ensures.nears).0;
+      shaped = (gone_near_between c.loop-leaf.place c.go_on.new.place c.in_ok-go_on.field-0 c.in-Between.is c.in_ok-go_on.ensures.rank_falls).0;
       near = omega (
         arith,
         c.loop-leaf.invariant.near,
         (gone_near_between c.loop-leaf.place c.go_on.new.place c.in_ok-go_on.field-0
-            c.in-Between.is c.in_ok-go_on.ensures.nears).1,
+            c.in-Between.is c.in_ok-go_on.ensures.rank_falls).1,
       );
       tells = joined (λ B. Leads c.args.lo c.args.hi B c.args.place.now c.loop-leaf.place)
           (λ B. IsGone c.args.lo c.args.hi was B c.loop-leaf.place c.go_on.new.place c.go_on.new.store (Ok c.in_ok-go_on.field-0))
@@ -80,12 +80,12 @@ loop-leaf-preserved g c =
       serves = c.give_leaf.ensures.serves _ c.in_ok-go_on.ensures.serves;
       same = same_then c.loop-leaf.invariant.same (same_then (gone_lent c.loop-leaf.store c.go_on.new.store c.in_ok-go_on.field-0 c.in-Leaf.leaf
           c.in-Leaf.is c.in_ok-go_on.ensures.lent).others c.give_leaf.ensures.back);
-      shaped = (gone_near c.loop-leaf.place c.go_on.new.place c.in_ok-go_on.field-0 c.in-Leaf.leaf c.in-Leaf.is c.in_ok-go_on.ensures.nears).0;
+      shaped = (gone_near c.loop-leaf.place c.go_on.new.place c.in_ok-go_on.field-0 c.in-Leaf.leaf c.in-Leaf.is c.in_ok-go_on.ensures.rank_falls).0;
       near = omega (
         arith,
         c.loop-leaf.invariant.near,
         (gone_near c.loop-leaf.place c.go_on.new.place c.in_ok-go_on.field-0 c.in-Leaf.leaf
-            c.in-Leaf.is c.in_ok-go_on.ensures.nears).1,
+            c.in-Leaf.is c.in_ok-go_on.ensures.rank_falls).1,
       );
       tells = joined (λ B. Leads c.args.lo c.args.hi B c.args.place.now c.loop-leaf.place)
           (λ B. IsGone c.args.lo c.args.hi was B c.loop-leaf.place c.go_on.new.place c.go_on.new.store (Ok c.in_ok-go_on.field-0))
@@ -102,14 +102,14 @@ returns-in_err-go_on-clause-cause g c =
     (cause_since (g.R.Rack.seen c.go_on.new.rack) c.args.store.now.layout c.loop-leaf.store.layout c.in_err-go_on.field-0.0
     c.loop-leaf.invariant.same.layout c.loop-leaf.invariant.reads c.in_err-go_on.ensures.cause)
 
-pub returns-then-leaf-clause-nears : goal.returns-then-leaf-clause-nears
-returns-then-leaf-clause-nears g c =
-    let n = gone_near c.loop-leaf.place c.go_on.new.place c.in_ok-go_on.field-0 c.in-Leaf.leaf c.in-Leaf.is c.in_ok-go_on.ensures.nears in
+pub returns-then-leaf-clause-rank_falls : goal.returns-then-leaf-clause-rank_falls
+returns-then-leaf-clause-rank_falls g c =
+    let n = gone_near c.loop-leaf.place c.go_on.new.place c.in_ok-go_on.field-0 c.in-Leaf.leaf c.in-Leaf.is c.in_ok-go_on.ensures.rank_falls in
     (n.0, omega (arith, c.loop-leaf.invariant.near, n.1))
 
-pub returns-in-End-clause-nears : goal.returns-in-End-clause-nears
-returns-in-End-clause-nears g c =
-    let same = gone_at_end c.loop-leaf.place c.go_on.new.place c.in_ok-go_on.field-0 c.in-End.is c.in_ok-go_on.ensures.nears in
+pub returns-in-End-clause-rank_falls : goal.returns-in-End-clause-rank_falls
+returns-in-End-clause-rank_falls g c =
+    let same = gone_at_end c.loop-leaf.place c.go_on.new.place c.in_ok-go_on.field-0 c.in-End.is c.in_ok-go_on.ensures.rank_falls in
     subst (λ x. IsShaped x × (rank x ≤ rank c.args.place.now)) (sym same) (c.loop-leaf.invariant.shaped, c.loop-leaf.invariant.near)
 
 pub give_leaf-requires : goal.give_leaf-requires

@@ -15,9 +15,9 @@ returns-in_err-loan-clause-content g c =
     let store = c.read_block.new.store in
     let p = err_from_is_err_and c.from_residual.result c.from_residual.ensures.1 in
     rw (p.1, p.2)
-    (drawn c.args.store.now.layout (λ B. Reads is B ahead.todo.level ahead.todo.spot store (Err c.in_err-loan.field-0.0))
+    (drawn c.args.store.now.layout (λ B. Reads is B ahead.todo.level ahead.todo.pointer store (Err c.in_err-loan.field-0.0))
     (λ B. IsEntry is B ahead store (Err c.in_err-loan.field-0.0))
-    (λ B h seen on. blocks_halt B is ahead.todo.level ahead.todo.spot store c.in_err-loan.field-0.0
+    (λ B h seen on. blocks_halt B is ahead.todo.level ahead.todo.pointer store c.in_err-loan.field-0.0
     (path_blocks B 0 ahead.path) seen h) c.in_err-loan.ensures.content)
 
 pub returns-clause-content : goal.returns-clause-content
@@ -27,9 +27,9 @@ returns-clause-content g c =
     let store = c.read_block.new.store in
     let block = c.bytes.result.now in
     let place = c.behind-place.result in
-    drawn c.args.store.now.layout (λ B. Reads is B ahead.todo.level ahead.todo.spot store (Ok c.in_ok-loan.loan))
-    (λ B. IsEntry is B ahead store (Ok (record { addr = ahead.todo.spot.addr; level = ahead.todo.level; loan = c.in_ok-loan.loan; place = place })))
-    (λ B h seen on. some_block store c.in_ok-loan.loan block (λ (b : List ℕ). Enters B seen (place_of ahead) place (want_of ahead.todo.level ahead.todo.spot)
-    (record { addr = ahead.todo.spot.addr; level = ahead.todo.level; bytes = b })) c.bytes.ensures.value
-    (c.behind-place.ensures.behind B seen (block_is store c.in_ok-loan.loan block (λ (b : List ℕ). B (want_of ahead.todo.level ahead.todo.spot) ≡ Ok b)
+    drawn c.args.store.now.layout (λ B. Reads is B ahead.todo.level ahead.todo.pointer store (Ok c.in_ok-loan.loan))
+    (λ B. IsEntry is B ahead store (Ok (record { addr = ahead.todo.pointer.addr; level = ahead.todo.level; loan = c.in_ok-loan.loan; place = place })))
+    (λ B h seen on. some_block store c.in_ok-loan.loan block (λ (b : List ℕ). Enters B seen (place_of ahead) place (want_of ahead.todo.level ahead.todo.pointer)
+    (record { addr = ahead.todo.pointer.addr; level = ahead.todo.level; bytes = b })) c.bytes.ensures.value
+    (c.behind-place.ensures.behind B seen (block_is store c.in_ok-loan.loan block (λ (b : List ℕ). B (want_of ahead.todo.level ahead.todo.pointer) ≡ Ok b)
     c.bytes.ensures.value h) on)) c.in_ok-loan.ensures.content

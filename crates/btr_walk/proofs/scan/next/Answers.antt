@@ -22,7 +22,7 @@ returns-in_err-met g c =
         lo = refl;
         hi = refl;
         kept = free;
-        nears = near_none c.args.scan.now c.put_leaf.new.place c.advance-leaf.new.place free c.advance-leaf.ensures.on c.requires.ready.alone;
+        rank_falls = near_none c.args.scan.now c.put_leaf.new.place c.advance-leaf.new.place free c.advance-leaf.ensures.on c.requires.ready.alone;
         place = moved_none c.args.scan.now c.advance-leaf.new.place
             (stays_put c.args.scan.now.place.rest c.advance-leaf.new.place a.met c.in_err-met.field-0.0 c.in_err-met.was c.advance-leaf.ensures.stays);
         cause = cause_as c.args.store.now.layout _ _ a.met c.in_err-met.field-0.0 c.in_err-met.was c.advance-leaf.ensures.cause;
@@ -47,8 +47,8 @@ returns g c =
         lo = refl;
         hi = refl;
         kept = keeps_item a.leaf c.put_leaf.new.place c.in-Some.hand a.met c.put_leaf.ensures c.in-Some.is met c.advance-leaf.ensures.item;
-        nears = near_some c.args.scan.now c.take-leaf.result c.put_leaf.new.place c.advance-leaf.new.place a c.take-leaf.ensures.value c.put_leaf.ensures
-            c.advance-leaf.ensures.nears met;
+        rank_falls = near_some c.args.scan.now c.take-leaf.result c.put_leaf.new.place c.advance-leaf.new.place a c.take-leaf.ensures.value c.put_leaf.ensures
+            c.advance-leaf.ensures.rank_falls met;
         place = tt;
         cause = tt;
       },
@@ -72,7 +72,7 @@ returns-then-not-branch g c =
         lo = refl;
         hi = refl;
         kept = free;
-        nears = near_none c.args.scan.now c.put_leaf.new.place c.advance-leaf.new.place free c.advance-leaf.ensures.on c.requires.ready.alone;
+        rank_falls = near_none c.args.scan.now c.put_leaf.new.place c.advance-leaf.new.place free c.advance-leaf.ensures.on c.requires.ready.alone;
         place = tt;
         cause = tt;
       },

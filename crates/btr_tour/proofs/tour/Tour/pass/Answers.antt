@@ -9,8 +9,8 @@ use Rattle.btr_walk.specs.Hand.{IsHeld}
 use Rattle.btr_tour.proofs.tour.Tour.pass.Goals as goal
 use Rattle.btr_tour.proofs.tour.Tour.pass.Goals.{then-level-eq0, else-level-eq0}
 
-pub returns-clause-nears : goal.returns-clause-nears
-returns-clause-nears c =
+pub returns-clause-rank_falls : goal.returns-clause-rank_falls
+returns-clause-rank_falls c =
     let old = c.args.self.now in
     let P : Tour → Type 0 = λ t. rank_on t.place t.leaf ≤ rank_on old.place old.leaf in
     elim c.if-level-eq0.branch [
