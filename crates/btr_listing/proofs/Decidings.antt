@@ -29,12 +29,14 @@ module _ {W F A : Type 0} (P : A → Type 0) where
   Gives (Need w k) = (bytes : List ℕ) → Gives (k bytes)
   Gives (Emit step p) = Unit {0}
 
+  -- if P holds of the value of what comes after, whatever comes to it, it holds of the value of both in a row
   pub gives_bind : {C : Type 0} (p : Prog W F ⊥ C) (k : C → Prog W F ⊥ A) → ((c : C) → Gives (k c)) → Gives (bind p k)
   gives_bind (Return c) k h = h c
   gives_bind (Stop f) k h = tt
   gives_bind (Need w l) k h = λ bytes. gives_bind (l bytes) k h
   gives_bind (Emit step p) k h = absurd step
 
+  -- if P holds of the value of each of two lookups where a test chooses it, it holds of the one chosen
   gives_if : (b : Bool) (p q : Prog W F ⊥ A) → (b ≡ true → Gives p) → (b ≡ false → Gives q) → Gives (cond b p q)
   gives_if true p q h g = h refl
   gives_if false p q h g = g refl
@@ -44,20 +46,24 @@ holds_if : {A : Type 0} (P : A → Type 0) (b : Bool) (x y : A) → (b ≡ true 
 holds_if P true x y h g = h refl
 holds_if P false x y h g = g refl
 
+-- a snapshot that is left out is one that the rules don't want
 not_wanted : (a b : Bool) → (a && not b) ≡ true → b ≡ false
 not_wanted true true e = absurd (cc)
 not_wanted true false e = refl
 not_wanted false b e = absurd (cc)
 
+-- a subvolume that is left out is one that the rules don't enter
 not_entered : (b : Bool) → not b ≡ true → b ≡ false
 not_entered true e = absurd (cc)
 not_entered false e = refl
 
+-- a path is too long only where the rules have a longest path
 pub has_longest : (longest : Option ℕ) (path : List ℕ) → is_long longest path ≡ true → IsSome longest
 has_longest None path e = absurd (cc)
 has_longest (Some most) path e = refl
 
 module _ (rules : Rules) (met : Met) where
+  -- a decision fits the entry that is met
   abbrev Fit : Decision → Type 0
   Fit = Fits rules met
 
@@ -68,6 +74,7 @@ module _ (rules : Rules) (met : Met) where
     survey_fits inode Compressed = tt
     survey_fits inode Encoded = tt
 
+    -- whatever the blocks are, a file of a good name fits by its inode, if that is there
     file_fits : (found : Option Inode) → Gives Fit (file_found met found)
     file_fits None = tt
     file_fits (Some inode) =
@@ -76,6 +83,7 @@ module _ (rules : Rules) (met : Met) where
         (λ e. gives_bind Fit p (λ found. Return (surveyed inode found)) (survey_fits inode))
 
     module _ (shallow : met.deep ≡ false) where
+      -- whatever the blocks are, a directory fits that isn't too deep and has a good name
       directory_fits : Gives Fit (directory_decided met)
       directory_fits =
           gives_bind Fit (linked (link_of met) met.tree (target met)) (λ is. Return (link_found met is))
@@ -89,6 +97,7 @@ module _ (rules : Rules) (met : Met) where
           holds_if Fit (old && not rules.snapshots) (Skip cause.Snapshot) (Folder inner inner.dirid) (not_wanted old rules.snapshots)
           (λ e. (shallow, good))
 
+      -- whatever the blocks are, a subvolume fits that isn't too deep and has a good name
       subvolume_fits : (s : Super) → Gives Fit (subvolume_decided rules s met)
       subvolume_fits s =
           let p = mounted (mount_of met) s (target met) in
@@ -97,6 +106,7 @@ module _ (rules : Rules) (met : Met) where
           (λ is. gives_if Fit is (root_decided rules s met) (Return Empty)
           (λ e. gives_bind Fit (tree_of s (target met)) (λ found. Return (root_found rules found)) root_fits) (λ e. (shallow, good))))
 
+    -- whatever the blocks are, an entry of a good name fits by its path and its kind
     named_fits : (s : Super) → Gives Fit (named_decided rules s met)
     named_fits s =
         let row = met.entry.row in
@@ -116,9 +126,11 @@ module _ (rules : Rules) (s : Super) (met : Met) where
       gives_if (Fits rules met) (is_bad met.entry.name) (Return (Skip cause.Name)) (named_decided rules s met) (λ e. e)
       (λ good. named_fits rules met good s)
 
+  -- a lookup hangs on no byte of a sector without a checksum
   abbrev Seeks : Lookup Decision → Type 0
   Seeks p = Shows same p
 
+  -- what a file comes to by its inode hangs on no byte of a sector without a checksum
   file_shows : (found : Option Inode) → Seeks (file_found met found)
   file_shows None = tt
   file_shows (Some inode) =
@@ -126,11 +138,13 @@ module _ (rules : Rules) (s : Super) (met : Met) where
       if_shows same (nat_lt (2 ^ 60) inode.size) (Return (Skip cause.Size)) (bind p (λ found. Return (surveyed inode found))) tt
       (then_shows p (λ found. Return (surveyed inode found)) (survey_shows met.tree (target met)) (λ found. tt))
 
+  -- what a directory comes to hangs on no byte of a sector without a checksum
   directory_shows : Seeks (directory_decided met)
   directory_shows =
       then_shows (linked (link_of met) met.tree (target met)) (λ is. Return (link_found met is))
       (linked_shows (link_of met) met.tree (target met)) (λ is. tt)
 
+  -- what a subvolume comes to hangs on no byte of a sector without a checksum
   subvolume_shows : Seeks (subvolume_decided rules s met)
   subvolume_shows =
       let p = mounted (mount_of met) s (target met) in

@@ -30,6 +30,7 @@ pub causes_since : {C : Type 0} {a b : Seen} (c : Seen) (layout layout' : Layout
 causes_since c layout layout' (Ok v) same reads h = h
 causes_since c layout layout' (Err f) same reads h = cause_since c layout layout' f same reads h
 
+-- what holds of every block map holds of the one of the images, if the rack tells them
 on_any : (layout : Layout) (P : Map → Type 0) → ((B : Map) → P B) → (sure : Sure) (held : Option (List (List _))) → OnMap layout P sure held
 on_any layout P f sure None = tt
 on_any layout P f sure (Some images) = f (fate images layout)
@@ -121,10 +122,12 @@ looked_last p f {old} {mid} {vol} {vol'} a v h is e =
 
 -- where a test decides
 module _ {A : Type 0} (p q : Lookup A) {old new : Seen} {vol vol' : Volume} {r : Result A TreeFault} where
+  -- where the test is true, the first lookup was done
   pub looked_if : (b : Bool) → b ≡ true → Looked p old vol new vol' r → Looked (cond b p q) old vol new vol' r
   looked_if true e h = h
   looked_if false e h = cc
 
+  -- where the test is false, the second lookup was done
   pub looked_else : (b : Bool) → b ≡ false → Looked q old vol new vol' r → Looked (cond b p q) old vol new vol' r
   looked_else true e h = cc
   looked_else false e h = h

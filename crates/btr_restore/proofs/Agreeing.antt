@@ -14,6 +14,7 @@ table_has_array images start (Ok (Ok table)) is = table_extends (fate images (ar
 table_has_array images start (Ok (Err refusal)) is = λ addr c there. there
 table_has_array images start (Err fault) is = λ addr c there. there
 
+-- images whose copies agree as their own table finds them agree as the system array finds them
 pub array_agreed : (images : Images) (start : Start) → Agreed images (layout_by start (table_of images start)) → Agreed images (array_layout start)
 array_agreed images start agreed want tested a b there other =
     let has = table_has_array images start (exec (fate images (array_layout start)) (table_scan start)).ending refl in

@@ -26,22 +26,28 @@ module _ (plan : RestorePlan) (dest : List ℕ) (images : Images) (start : Start
   roots_agree None is some a b in_a in_b = absurd (false≢true some)
   roots_agree (Some bytes) is some a b in_a in_b = honest (root_want start.sup) bytes a is in_a ∙ sym (honest (root_want start.sup) bytes b is in_b)
 
+  -- what the images have of a want, as the system array finds it
   abbrev Here : BlockMap Want Fault
   Here = fate images (array_layout start)
 
+  -- what the committed blocks have of a want, as the system array finds it
   abbrev There : BlockMap Want Fault
   There = committed C images (array_layout start)
 
+  -- the run of the scan of the chunk tree over the committed blocks
   abbrev Scanned : Run Want Fault Step TableResult
   Scanned = exec There (scan plan dest images start C table honest closed)
 
+  -- under the committed table the candidates of the root tree's root block don't differ
   by_table : (ending : Result TableResult Fault) → ending ≡ Ok (Ok table) → roots_differ images start ending ≡ None
   by_table ending is = ap (roots_differ images start) is
       ∙ disagreeing-agreed images (layout_by start table) (root_want start.sup) (roots_agree (C (root_want start.sup)) refl closed.root)
 
+  -- where a scan comes to a fault there is no table to compare candidates by
   by_fault : (ending : Result TableResult Fault) (fault : Fault) → ending ≡ Err fault → roots_differ images start ending ≡ None
   by_fault ending fault is = ap (roots_differ images start) is
 
+  -- over honest images whose committed blocks hold all that restore needs, the candidates of the root tree's root block agree
   pub none_diverged : diverged_at images start ≡ None
   none_diverged =
       let p = scan plan dest images start C table honest closed in

@@ -2,7 +2,7 @@
 use Rattle.std.proofs.Common.{◌≡◌, ℕ, ◌+◌, ◌-◌, ◌<◌, ◌≤◌, Bool, true, false, zero, suc, List, Option, Result, Ok, Err, IsErrAnd, refl}
 use Rattle.std.proofs.Common.{sym, ap, ◌∙◌, subst, arith}
 use Rattle.std.specs.Prelude.{◌==◌, OnOk}
-use Rattle.btr_prog.specs.Prog.{Return}
+use Rattle.btr_prog.specs.Prog.{Return, bind}
 use Rattle.btr_rack.specs.Sink.{Sink, left}
 use Rattle.btr_super.specs.declared.superblock.Super.{Super}
 use Rattle.btr_volume.specs.declared.root.TreeRoot.{TreeRoot}
@@ -17,29 +17,40 @@ use Rattle.btr_restore.specs.Journey as journey
 use Rattle.btr_restore.specs.Journey.{Listing, directory, row}
 use Rattle.btr_listing.specs.Deciding.{Met, met_in}
 use Rattle.btr_listing.specs.Lines.{path_in}
-use Rattle.btr_restore.specs.Treating.{IsOver}
-use Rattle.btr_restore.specs.Listing.{StandsIf, ended_with, is_deep, listing_in, treat_in}
-use Rattle.btr_restore.specs.Running.{Outside, World, world, Ran, Stands, StandsAfter, Wrote}
+use Rattle.btr_restore.specs.Treating.{IsOver, came_to}
+use Rattle.btr_restore.specs.Listing.{StandsIf, ended_with, is_deep, listing_for, listing_in, within_for}
+use Rattle.btr_restore.specs.declared.job.Job.{Job}
+use Rattle.btr_restore.specs.Running.{Outside, World, world, Ran, RanFor, StandsBetween, StandsAfter, Wrote}
 use Rattle.btr_listing.specs.Step.{Step, Up}
 use Rattle.btr_listing.proofs.Numbers.{is_other}
 use Rattle.btr_restore.proofs.Rans.{ran_halt, ran_then, ran_wrote, row_halt, row_then, wrote_none}
 
 -- the way up, and then a value
-pub wrote_up : (plan : RestorePlan) (counts : Counts) (x y : Outside) (r : Result (Unit {0}) TheStop) → Wrote (row plan Up (Return tt)) x y r
+abbrev up : RestorePlan → Counts → Program Step Counts
+up plan after = row plan Up (Return after)
+
+-- what the way up answers, with the counts then
+pub wrote_up : {A : Type 0} (plan : RestorePlan) (counts : A) (x y : Outside) (r : Result (Unit {0}) TheStop) → Wrote (row plan Up (Return tt)) x y r
     → Wrote (row plan Up (Return counts)) x y (ended_with counts r)
 wrote_up plan counts x y (Ok u) w = row_then _ _ _ _ _ _ _ w (wrote_none counts y)
 wrote_up plan counts x y (Err t) w = row_halt _ _ _ _ _ _ w
 
+-- a sink that stands in a directory stands one less deep after the way up
 pub stands_up : (dry : Bool) (n : ℕ) (old new : Sink) (r : Result (Unit {0}) TheStop) → (dry ≡ false → OnOk r (new ≡ left old))
-    → Stands dry (n + 1) old → StandsIf dry n new r
+    → StandsBetween dry (n + 1) old → StandsIf dry n new r
 stands_up dry n old new (Ok u) after h = λ d.
     let is = after d in
     let was = h d in
     (ap (λ (s : Sink). s.stage) is ∙ was.0, ap (λ (s : Sink). s.depth) is ∙ (ap (λ k. k - 1) was.1 ∙ omega arith))
 stands_up dry n old new (Err t) after h = tt
 
+-- what is known of the lifetimes of a call within a cycle, with what the call asks beside
+pub carried : {A B C D : Type 0} → A × (B × C) → D → A × (B × (C × D))
+carried given asked = (given.0, (given.1.0, (given.1.1, asked)))
+
 -- a stop that is passed on
-pub ended_passed : (counts : Counts) (r : Result (Unit {0}) TheStop) (s : TheStop) → IsErrAnd r (λ e. e ≡ s) → IsErrAnd (ended_with counts r) (λ e. e ≡ s)
+pub ended_passed : {A : Type 0} (counts : A) (r : Result (Unit {0}) TheStop) (s : TheStop) → IsErrAnd r (λ e. e ≡ s)
+    → IsErrAnd (ended_with counts r) (λ e. e ≡ s)
 ended_passed counts (Ok u) s is = absurd is
 ended_passed counts (Err e) s is = is
 
@@ -52,23 +63,27 @@ listing_is plan s sums dirs below e = ap (listing_in plan s sums) (e ∙ step be
     step k = omega arith
 
 -- an entry that was treated wholly, and one that was entered
-pub stands_over : (dry : Bool) (n : ℕ) (s : Sink) (treated : Treated) → treated ≡ Over → StandsAfter dry n s (Ok treated) → Stands dry n s
+pub stands_over : (dry : Bool) (n : ℕ) (s : Sink) (treated : Treated) → treated ≡ Over → StandsAfter dry n s (Ok treated) → StandsBetween dry n s
 stands_over dry n s treated is h = subst (λ (x : Treated). StandsAfter dry n s (Ok x)) is h
 
+-- where a directory was entered, the sink stands one deeper
 pub stands_within : (dry : Bool) (n : ℕ) (s : Sink) (treated : Treated) (tree : TreeRoot) (dirid : ℕ) → treated ≡ Within tree dirid
-    → StandsAfter dry n s (Ok treated) → Stands dry (n + 1) s
+    → StandsAfter dry n s (Ok treated) → StandsBetween dry (n + 1) s
 stands_within dry n s treated tree dirid is h = subst (λ (x : Treated). StandsAfter dry n s (Ok x)) is h
 
 -- there are places for all directories that may still be entered
 pub room_left : (depth depth' below below' most : ℕ) → depth' ≡ depth → below' ≡ below → depth + below ≤ most → depth' + below' ≤ most
 room_left depth depth' below below' most e f h = omega arith
 
+-- one directory deeper there are places for as many below it, with one place more in all
 pub room_within : (depth depth' below most : ℕ) → depth' ≡ depth + 1 → depth + below ≤ most → depth' + below ≤ most + 1
 room_within depth depth' below most e h = omega arith
 
+-- of the places that are left one is a directory's own, and the others are for those below it
 pub room_below : (depth dirs below most : ℕ) → dirs ≡ below + 1 → depth + dirs ≤ most + 1 → depth + below ≤ most
 room_below depth dirs below most e h = omega arith
 
+-- a directory that isn't too deep has a place below it, so it stands less deep than the most
 pub room_above : (depth below most : ℕ) (deep : Bool) → deep ≡ (below == 0) → deep ≡ false → depth + below ≤ most → depth < most
 room_above depth zero most deep is shallow h = absurd (cc (sym is ∙ shallow))
 room_above depth (suc below) most deep is shallow h = omega arith
@@ -79,64 +94,71 @@ pub some_place : (n : ℕ) (deep : Bool) (treated : Treated) (tree : TreeRoot) (
 some_place zero deep treated tree dirid empty is flat = absurd (subst (λ (x : Treated). IsOver (Ok x)) is (flat (empty refl)))
 some_place (suc n) deep treated tree dirid empty is flat = omega arith
 
--- an entry of a path, by the path of its directory
-pub treated_in : (plan : RestorePlan) (s : Super) (sums : Option TreeRoot) (deep : Bool) (tree : TreeRoot) (dirid : ℕ) (path here : List ℕ)
-    (counts : Counts) (entry : DirEntry) (x y : World) (r : Result journey.Treated TheStop) → here ≡ path_in path entry.name
-    → Ran (journey.treated plan s sums (record { tree = tree; dirid = dirid; deep = deep; path = here; entry = entry }) counts) x y r
-    → Ran (journey.treated plan s sums (met_in deep tree dirid path entry) counts) x y r
-treated_in plan s sums deep tree dirid path here counts entry x y r at h =
-    let Met_at : List ℕ → Met = λ p. record { tree = tree; dirid = dirid; deep = deep; path = p; entry = entry } in
-    subst (λ (p : List ℕ). Ran (journey.treated plan s sums (Met_at p) counts) x y r) at h
-
--- what is done with an entry, as far as it was treated
-module _ (plan : RestorePlan) (s : Super) (sums : Option TreeRoot) (k : ℕ) (deep : Bool) (is : deep ≡ is_deep k) (tree : TreeRoot) (dirid : ℕ)
-    (path : List ℕ) (counts : Counts) (entry : DirEntry) (x y z : World) where
-  abbrev Whole : Result Counts TheStop → World → Type 0
-  Whole r w = Ran (treat_in plan s sums k tree dirid path counts entry) x w r
-
-  abbrev first_part : Bool → Program Step journey.Treated
-  first_part b = journey.treated plan s sums (met_in b tree dirid path entry) counts
-
-  abbrev then_part : journey.Treated → Program Step Counts
-  then_part = journey.listed_in plan s sums (listing_in plan s sums k) (path_in path entry.name)
-
-  as_first : (r : Result journey.Treated TheStop) → Ran (first_part deep) x y r → Ran (first_part (is_deep k)) x y r
-  as_first r h = subst (λ (b : Bool). Ran (first_part b) x y r) is h
-
-  pub entry_halts : (t : TheStop) → Ran (first_part deep) x y (Err t) → Whole (Err t) y
-  entry_halts t h = ran_halt (first_part (is_deep k)) then_part x y y t (as_first (Err t) h)
-
-  pub entry_over : (after : Counts) → Ran (first_part deep) x y (Ok (journey.Over after)) → Whole (Ok after) y
-  entry_over after h = ran_then (first_part (is_deep k)) then_part x y y (journey.Over after) (Ok after) (as_first (Ok (journey.Over after)) h)
-      (ran_wrote (Return after) y.rack y.vol y.out y.out (Ok after) h.ready (wrote_none after y.out))
-
-  pub entry_within : (inner : TreeRoot) (ino : ℕ) (after : Counts) (r : Result Counts TheStop)
-      → Ran (first_part deep) x y (Ok (journey.Within inner ino after)) → Ran (then_part (journey.Within inner ino after)) y z r → Whole r z
-  entry_within inner ino after r h g = ran_then (first_part (is_deep k)) then_part x y z (journey.Within inner ino after) r
-      (as_first (Ok (journey.Within inner ino after)) h) g
-
--- what is in a directory, and the way up
-module _ (plan : RestorePlan) (s : Super) (sums : Option TreeRoot) (dirs below : ℕ) (is : dirs ≡ below + 1) (inner : TreeRoot) (dirid : ℕ)
-    (path : List ℕ) (counts : Counts) (x y : World) where
-  abbrev up : Counts → Program Step Counts
-  up after = row plan Up (Return after)
-
-  as_listed : (r : Result Counts TheStop) → Ran (directory plan s sums below inner dirid path counts) x y r
-      → Ran (listing_in plan s sums dirs inner dirid path counts) x y r
-  as_listed r h = subst (λ (l : Listing). Ran (l inner dirid path counts) x y r) (sym (listing_is plan s sums dirs below is)) h
-
-  pub within_halts : (t : TheStop) → Ran (directory plan s sums below inner dirid path counts) x y (Err t)
-      → Ran (journey.listed_in plan s sums (listing_in plan s sums dirs) path (journey.Within inner dirid counts)) x y (Err t)
-  within_halts t h = ran_halt (listing_in plan s sums dirs inner dirid path counts) up x y y t (as_listed (Err t) h)
-
-  pub within_up : (after : Counts) (z : Outside) (r : Result (Unit {0}) TheStop)
-      → Ran (directory plan s sums below inner dirid path counts) x y (Ok after) → Wrote (row plan Up (Return tt)) y.out z r
-      → Ran (journey.listed_in plan s sums (listing_in plan s sums dirs) path (journey.Within inner dirid counts)) x (world y.rack y.vol z)
-      (ended_with after r)
-  within_up after z r h w = ran_then (listing_in plan s sums dirs inner dirid path counts) up x y (world y.rack y.vol z) after (ended_with after r)
-      (as_listed (Ok after) h)
-      (ran_wrote (up after) y.rack y.vol y.out z (ended_with after r) h.ready (wrote_up plan after y.out z r w))
-
+-- directories are too deep exactly where no place is left below
 pub deep_is : (n : ℕ) → (n == 0) ≡ is_deep n
 deep_is zero = refl
 deep_is (suc n) = is_other (suc n) 0 (λ e. cc)
+
+-- an entry that is met in a directory, by its path
+abbrev pub meets : TreeRoot → ℕ → DirEntry → Bool → List ℕ → Met
+meets tree dirid entry deep path = record { tree = tree; dirid = dirid; deep = deep; path = path; entry = entry }
+
+-- an entry of a directory, with what is in it: what is done about it, and then what is listed there
+module _ (treats : Super → Met → Counts → Program Step journey.Treated) (lists : Super → List ℕ → journey.Treated → Program Step Counts) (k : ℕ)
+    (tree : TreeRoot) (dirid : ℕ) (path : List ℕ) (counts : Counts) (entry : DirEntry) {deep : Bool} (is : deep ≡ (k == 0)) {p here : List ℕ}
+    (at : p ≡ path_in path entry.name) (seen : here ≡ p) where
+  abbrev whole : Super → Program Step Counts
+  whole s = bind (treats s (met_in (is_deep k) tree dirid path entry) counts) (lists s (path_in path entry.name))
+
+  -- what was done about it, by the path of its directory
+  as_met : {x y : World} (s : Super) (r : Result journey.Treated TheStop) → Ran (treats s (meets tree dirid entry deep here) counts) x y r
+      → Ran (treats s (met_in (is_deep k) tree dirid path entry) counts) x y r
+  as_met {x} {y} s r h = subst (λ (b : Bool). Ran (treats s (meets tree dirid entry b (path_in path entry.name)) counts) x y r) (is ∙ deep_is k)
+      (subst (λ (q : List ℕ). Ran (treats s (meets tree dirid entry deep q) counts) x y r) (seen ∙ at) h)
+
+  -- it was not treated to its end
+  pub entry_halts : {x y : World} (t : TheStop) → RanFor (λ s. treats s (meets tree dirid entry deep here) counts) x y (Err t) → RanFor whole x y (Err t)
+  entry_halts {x} {y} t h s e =
+      ran_halt (treats s (met_in (is_deep k) tree dirid path entry) counts) (lists s (path_in path entry.name)) x y y t (as_met s (Err t) (h s e))
+
+  module _ {x y : World} (after : Counts) {treated : Treated}
+      (did : RanFor (λ s. treats s (meets tree dirid entry deep here) counts) x y (Ok (came_to after treated))) where
+    -- what was done about it, by what it came to, and then what was listed
+    then_lists : {z : World} {r : Result Counts TheStop} (to : Treated) → treated ≡ to
+        → ((s : Super) → s ≡ y.vol.sup → Ran (lists s (path_in path entry.name) (came_to after to)) y z r) → RanFor whole x z r
+    then_lists {z} {r} to came h s e =
+        let first = as_met s (Ok (came_to after to)) (subst (λ (t : Treated). Ran (treats s (meets tree dirid entry deep here) counts) x y
+        (Ok (came_to after t))) came (did s e)) in
+        ran_then (treats s (met_in (is_deep k) tree dirid path entry) counts) (lists s (path_in path entry.name)) x y z (came_to after to) r first
+        (h s (e ∙ sym first.volume.sup))
+
+    -- it was treated wholly
+    pub entry_over : treated ≡ Over → ((s : Super) (q : List ℕ) → Return after ≡ lists s q (journey.Over after)) → RanFor whole x y (Ok after)
+    entry_over came none = then_lists Over came (λ s e. subst (λ (q : Program Step Counts). Ran q y y (Ok after)) (none s (path_in path entry.name))
+        (ran_wrote (Return after) y.rack y.vol y.out y.out (Ok after) (did x.vol.sup refl).ready (wrote_none after y.out)))
+
+    -- it was entered, and what is in it was listed
+    pub entry_within : {inner : TreeRoot} {ino : ℕ} {z : World} {r : Result Counts TheStop} → treated ≡ Within inner ino
+        → RanFor (λ s. lists s p (journey.Within inner ino after)) y z r → RanFor whole x z r
+    entry_within {inner} {ino} {z} {r} came h = then_lists (Within inner ino) came
+        (λ s e. subst (λ (q : List ℕ). Ran (lists s q (journey.Within inner ino after)) y z r) at (h s e))
+
+-- what is in a directory, and the way up
+module _ (job : Job) (dirs below : ℕ) (is : dirs ≡ below + 1) (inner : TreeRoot) (dirid : ℕ) (path : List ℕ) (counts : Counts) {x y : World} where
+  -- what its listing did, by the places that there are
+  as_listed : (s : Super) (r : Result Counts TheStop) → Ran (directory job.plan s job.sums below inner dirid path counts) x y r
+      → Ran (listing_in job.plan s job.sums dirs inner dirid path counts) x y r
+  as_listed s r h = subst (λ (l : Listing). Ran (l inner dirid path counts) x y r) (sym (listing_is job.plan s job.sums dirs below is)) h
+
+  -- it was not listed to its end
+  pub within_halts : (t : TheStop) → RanFor (listing_for job below inner dirid path counts) x y (Err t)
+      → RanFor (within_for job dirs path inner dirid counts) x y (Err t)
+  within_halts t h s e = ran_halt (listing_in job.plan s job.sums dirs inner dirid path counts) (up job.plan) x y y t (as_listed s (Err t) (h s e))
+
+  -- all of it was listed
+  pub within_up : (after : Counts) {z : Outside} {r : Result (Unit {0}) TheStop} → RanFor (listing_for job below inner dirid path counts) x y (Ok after)
+      → Wrote (row job.plan Up (Return tt)) y.out z r → RanFor (within_for job dirs path inner dirid counts) x (world y.rack y.vol z) (ended_with after r)
+  within_up after {z} {r} h w s e =
+      ran_then (listing_in job.plan s job.sums dirs inner dirid path counts) (up job.plan) x y (world y.rack y.vol z) after (ended_with after r)
+      (as_listed s (Ok after) (h s e))
+      (ran_wrote (up job.plan after) y.rack y.vol y.out z (ended_with after r) (h s e).ready (wrote_up job.plan after y.out z r w))

@@ -22,17 +22,20 @@ text_of-append : (xs ys : List Step) → text_of (xs ++ ys) ≡ text_of xs ++ te
 text_of-append [] ys = refl
 text_of-append (x ∷ xs) ys = ap (λ t. text_in x ++ t) (text_of-append xs ys) ∙ sym (append_assoc (text_in x) (text_of xs) (text_of ys))
 
+-- what some steps and then more do to the text of an output is what all of them do in a row
 pub text_then : (told : Option (List ℕ)) (xs ys : List Step) → text_after (text_after told xs) ys ≡ text_after told (xs ++ ys)
 text_then None xs ys = refl
 text_then (Some text) xs ys = ap Some (append_assoc text (text_of xs) (text_of ys) ∙ ap (λ t. text ++ t) (sym (text_of-append xs ys)))
 
 -- one run after another, whichever want could not be read
 module _ {W F A C U : Type 0} {I : Type 0} (Bs : I → W → Result (List ℕ) F) (One Is : U → W → Type 0) (p : Prog W F Step A) (k : A → Prog W F Step C) where
+  -- what was done by a program that came to a value, and then by the next, is what both do in a row
   pub goes_on : (a : A) (done more : List Step) (ans : Result C (Halt F U)) → Goes One part [] Bs p done (Ok a) → Goes Is part [] Bs (k a) more ans
       → Goes Is part [] Bs (bind p k) (done ++ more) ans
   goes_on a done more ans h g = goes_then Bs Is part [] p k h.0 a done more ans h.1 h.2 (goes_alone Bs Is part (wants_of h.0.marks) (k a) more ans g)
 
 module _ {A C : Type 0} (p : Program Step A) (k : A → Program Step C) (s s' s'' : Sink) (told told' told'' : Option (List ℕ)) where
+  -- calls that read nothing, one after another, did the steps of their programs in a row
   pub emits_then : (a : A) (answer : Result C (Halt Fault UnreadBlock)) → Emits p s s' told told' (Ok a) → Emits (k a) s' s'' told' told'' answer
       → Emits (bind p k) s s'' told told'' answer
   emits_then a answer h g = record {
@@ -43,6 +46,7 @@ module _ {A C : Type 0} (p : Program Step A) (k : A → Program Step C) (s s' s'
         (g.goes layout old new Bs);
   }
 
+  -- a call that reads nothing and was halted did what its program and another behind it do
   pub emits_halt : (halt : Halt Fault UnreadBlock) → Emits p s s' told told' (Err halt) → Emits (bind p k) s s' told told' (Err halt)
   emits_halt halt h = record {
     done = h.done;

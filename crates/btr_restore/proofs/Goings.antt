@@ -33,10 +33,12 @@ pub if_some : {X : Type 0} (P : X → Type 0) (o : Option X) → ((x : X) → P 
 if_some P None f = tt
 if_some P (Some x) f = f x
 
+-- what follows of something that holds of a value, if there is one
 pub if_map : {X : Type 0} (P Q : X → Type 0) (o : Option X) → ((x : X) → P x → Q x) → IfSome o P → IfSome o Q
 if_map P Q None f h = tt
 if_map P Q (Some x) f h = f x h
 
+-- what follows of two things that hold of a value, if there is one
 pub if_both : {X : Type 0} (P Q R : X → Type 0) (o : Option X) → ((x : X) → P x → Q x → R x) → IfSome o P → IfSome o Q → IfSome o R
 if_both P Q R None f h g = tt
 if_both P Q R (Some x) f h g = f x h g
@@ -99,6 +101,7 @@ module _ {A : Type 0} where
   }
 
   module _ {C : Type 0} (layout layout' : Layout) (same : layout' ≡ layout) (p : Program Step A) (k : A → Program Step C) (x y z : Scene) where
+    -- what a call did, and then the next, is what their programs do in a row
     pub does_then : (a : A) (ans : Result C (Halt fate.Fault UnreadBlock)) → OnlyReads x.rack y.rack → Does layout p x y (Ok a)
         → Does layout' (k a) y z ans → Does layout (bind p k) x z ans
     does_then a ans reads h g =
@@ -120,6 +123,7 @@ module _ {A : Type 0} where
           };
         }
 
+    -- a call that was halted did what its program and another behind it do
     pub does_halt : (halt : Halt fate.Fault UnreadBlock) → Does layout p x y (Err halt) → Does layout (bind p k) x y (Err halt)
     does_halt halt h = record {
       done = h.done;

@@ -23,15 +23,19 @@ use Rattle.btr_restore.proofs.Held.{first_choice, lost_there, first_within, all_
 
 module _ (plan : RestorePlan) (dest : List ℕ) (images : Images) (start : Start) (C : Commit) (table : List Chunk)
     (honest : IsHonest C images (layout_by start table)) (closed : IsClosed plan dest images start C table) where
+  -- the run of the committed journey
   abbrev There : Run VolumeWant Fault Step (Result Counts OpenFault)
   There = exec (volume_map start (committed C images)) (journey plan dest start)
 
+  -- the run of the journey over the images
   abbrev Here : Run VolumeWant Fault Step (Result Counts OpenFault)
   Here = exec (volume_map start (fate images)) (journey plan dest start)
 
+  -- the committed run up to the first want that the images lack
   abbrev Cut : Run VolumeWant Fault Step (Result Counts OpenFault)
   Cut = cut (volume_map start (fate images)) There
 
+  -- the run over the images is the committed one up to the first want that they lack
   cut_here : Here ≡ Cut
   cut_here = cut_law (volume_map start (fate images)) (volume_map start (committed C images)) (journey plan dest start)
       (first_within plan dest images start C table honest closed)
@@ -61,17 +65,20 @@ module _ (plan : RestorePlan) (dest : List ℕ) (images : Images) (start : Start
             ∙ ap (λ e. outcome_by (steps_of m.before) e) (m.ending ∙ ap Err is));
       }
 
+  -- where some need has no candidate that passes, the run over the images stops short
   short_or : Each (λ w. IsWhole (volume_map start (fate images) w)) (wants_of There.marks) ⊎ Loses (volume_map start (fate images)) There Cut
       → (AreWhole plan dest images start C → ⊥) → StopsShort plan dest images start C (outcome Here)
   short_or (inl whole) not_whole = absurd (not_whole whole)
   short_or (inr m) not_whole = stops_short m
 
+  -- the outcome over the images is the committed one, or that of the steps before the first need without a candidate that passes
   pub restored : IsRestored plan dest images start C (outcome Here)
   restored = record {
     whole = λ whole. ap outcome (cut_here ∙ cut-whole (volume_map start (fate images)) There whole);
     short = short_or (missing (volume_map start (fate images)) There.marks There.ending);
   }
 
+-- the headline of restore holds
 pub headline : Headline
 headline plan dest images start C table begun honest closed =
     let here = outcome (exec (volume_map start (fate images)) (journey plan dest start)) in

@@ -26,21 +26,26 @@ use Rattle.btr_restore.proofs.Extends.{array_honest}
 use Rattle.btr_restore.proofs.Honests.{choices_alike, choices_within, lacked_lost}
 
 module _ {W : Type 0} (P Q : W → Type 0) (f : (w : W) → P w → Q w) where
+  -- where one thing follows of another that holds of each of some wants, it holds of each of them
   pub each_as : (ws : List W) → Each P ws → Each Q ws
   each_as [] h = tt
   each_as (w ∷ ws) h = (f w h.0, each_as ws h.1)
 
 module _ {W : Type 0} (P : W → Type 0) (f : (w : W) → P w) where
+  -- what holds of all wants holds of each of some
   pub each_of : (ws : List W) → Each P ws
   each_of [] = tt
   each_of (w ∷ ws) = (f w, each_of ws)
 
-same_value : {A F : Type 0} (x : Result A F) (a b : A) → x ≡ Ok a → x ≡ Ok b → a ≡ b
+-- a result has one value
+pub same_value : {A F : Type 0} (x : Result A F) (a b : A) → x ≡ Ok a → x ≡ Ok b → a ≡ b
 same_value x a b e f = cc
 
+-- what came to a table came to no other one
 same_table : (a b : List Chunk) → (let x : TableResult = Ok a in x) ≡ Ok b → a ≡ b
 same_table a b e = cc
 
+-- by the first choice of candidates a want comes to what the images have of it
 pub first_choice : (images : Images) (start : Start) (want : VolumeWant) → volume_map start (choices images 0) want ≡ volume_map start (fate images) want
 first_choice images start (Early want) = choices-zero images (array_layout start) want
 first_choice images start (Late table want) = choices-zero images (layout_by start table) want
@@ -60,12 +65,15 @@ module _ (plan : RestorePlan) (dest : List ℕ) (images : Images) (start : Start
 
 module _ (plan : RestorePlan) (dest : List ℕ) (images : Images) (start : Start) (C : Commit) (table : List Chunk)
     (honest : IsHonest C images (layout_by start table)) (closed : IsClosed plan dest images start C table) where
+  -- of a want a choice of the images' candidates has the committed bytes, or none
   abbrev Within : ℕ → VolumeWant → Type 0
   Within n want = IsWithin (volume_map start (choices images n) want) (volume_map start (committed_choices C images n) want)
 
+  -- the scan of the chunk tree
   abbrev pub scan : Program Step TableResult
   scan = quiet (table_scan start)
 
+  -- the listing behind the scan, whatever the table is
   abbrev rest : List Chunk → Program Step (Result Counts OpenFault)
   rest t = bind (listing plan dest start.sup) (λ counts. Return (Ok counts))
 

@@ -25,6 +25,7 @@ module _ {W F : Type 0} where
   Leads K s c (Need w k) = (bytes : List ℕ) → Leads K s c (k bytes)
   Leads K s c (Emit step p) = SinkTakes s step × Leads K (sink_after s step) (counted c step) p
 
+  -- two programs in a row lead to a claim, if the first leads to one from which the second leads on
   pub leads_bind : {A C : Type 0} (J : Claim A) (K : Claim C) (s : Sink) (c : Counts) (p : Prog W F Step A) (k : A → Prog W F Step C) → Leads J s c p
       → ((t : Sink) (d : Counts) (a : A) → J t d a → Leads K t d (k a)) → Leads K s c (bind p k)
   leads_bind J K s c (Return a) k h g = g s c a h
@@ -39,6 +40,7 @@ module _ {W F : Type 0} where
   leads_quiet K s c (Need w k) h = λ bytes. leads_quiet K s c (k bytes) h
   leads_quiet K s c (Emit step p) h = absurd step
 
+  -- a program behind a lookup leads to a claim, if it does so for each value
   pub leads_looks : {A C : Type 0} (K : Claim C) (s : Sink) (c : Counts) (p : Prog W F ⊥ A) (k : A → Prog W F Step C) → ((a : A) → Leads K s c (k a))
       → Leads K s c (bind (quiet p) k)
   leads_looks K s c p k h =
@@ -53,22 +55,27 @@ module _ {W F : Type 0} where
   leads_found K s c (Need w l) k Q g h = λ bytes. leads_found K s c (l bytes) k Q (g bytes) h
   leads_found K s c (Emit step p) k Q g h = absurd step
 
+  -- where a test decides, each of two programs need lead to the claim only where it is taken
   pub leads_if : {A : Type 0} (K : Claim A) (s : Sink) (c : Counts) (b : Bool) (p q : Prog W F Step A) → (b ≡ true → Leads K s c p)
       → (b ≡ false → Leads K s c q) → Leads K s c (cond b p q)
   leads_if K s c true p q h g = h refl
   leads_if K s c false p q h g = g refl
 
   module _ {T C : Type 0} (inv : Claim C) (treat : C → T → Prog W F Step C) where
+    -- a step is treated, and the loop goes on with the new value
     abbrev pub step_by : C → T → Prog W F Step (Result C C)
     step_by x t = bind (treat x t) (λ y. Return (Ok y))
 
+    -- a loop answers its last value
     abbrev pub last_by : C → Unit {0} → C
     last_by x u = x
 
+    -- the claim holds of a value, with which a loop goes on or ends
     abbrev Either : Claim (Result C C)
     Either s c (Ok x) = inv s c x
     Either s c (Err x) = inv s c x
 
+    -- behind a step that was treated a loop leads to the claim, if it does where it goes on
     leads_on : (k : C → Prog W F Step C) (s : Sink) (c : Counts) (r : Result C C) → ((x : C) → inv s c x → Leads inv s c (k x)) → Either s c r
         → Leads inv s c (go_on k r)
     leads_on k s c (Ok x) h e = h x e
@@ -85,6 +92,7 @@ module _ {W F : Type 0} where
         (leads_bind inv Either s c (treat x t) (λ y. Return (Ok y)) (h s c x t i) (λ s' c' y j. j))
         (λ s' c' r e. leads_on (λ y. thread step_by last_by y p) s' c' r (λ y j. leads_each h s' c' y p j) e)
 
+-- a program whose wants go by other names leads to the same claim
 pub leads_renamed : {V W F A : Type 0} (f : V → W) (K : Claim A) (s : Sink) (c : Counts) (p : Prog V F Step A) → Leads K s c p → Leads K s c (renamed f p)
 leads_renamed f K s c (Return a) h = h
 leads_renamed f K s c (Stop x) h = tt
@@ -101,11 +109,13 @@ module _ {W F A I : Type 0} (maps : I → BlockMap W F) (K : Claim A) where
   abbrev pub IsLed : Sink → Counts → Run W F Step A → Type 0
   IsLed s c r = TakesAll s (steps_of r.marks) × IfValue r.ending (λ a. K (fold sink_after s (steps_of r.marks)) (fold counted c (steps_of r.marks)) a)
 
+  -- a run behind a want is taken by the sink, if it is for all bytes of the want
   led_given : (s : Sink) (c : Counts) (x : Result (List ℕ) F) (k : List ℕ → Prog W F Step A) (q : Run W F Step A)
       → ((bytes : List ℕ) (t : Run W F Step A) → GoesTo maps (k bytes) t → IsLed s c t) → goes_given x (λ bytes. GoesTo maps (k bytes)) q → IsLed s c q
   led_given s c (Ok bytes) k q h g = h bytes q g
   led_given s c (Err f) k q h g = subst (λ r. IsLed s c r) (sym g) (tt, tt)
 
+  -- a sink may take the steps of each run of a program that leads to a claim, which holds at the end
   pub led : (s : Sink) (c : Counts) (p : Prog W F Step A) (r : Run W F Step A) → Leads K s c p → GoesTo maps p r → IsLed s c r
   led s c (Return a) r h g = subst (λ x. IsLed s c x) (sym g) (tt, h)
   led s c (Stop f) r h g = subst (λ x. IsLed s c x) (sym g) (tt, tt)

@@ -1,8 +1,8 @@
 mod Extends
 pub mod Agreeing
 mod Journeys
-mod Honests
-mod Held
+pub mod Honests
+pub mod Held
 mod Alike
 mod Headlines
 mod Orders

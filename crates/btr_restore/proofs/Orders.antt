@@ -26,17 +26,21 @@ use Rattle.btr_restore.proofs.Journeys.{journey_blind}
 
 module _ (plan : RestorePlan) (dest : List ℕ) (images : Images) (start : Start) (C : Commit) (table : List Chunk)
     (honest : IsHonest C images (layout_by start table)) (closed : IsClosed plan dest images start C table) where
+  -- a want of a volume makes no test
   abbrev plain : VolumeWant → Bool
   plain want = is_plain (want_of want)
 
+  -- the wants of the committed journey
   abbrev Needs : List VolumeWant
   Needs = needs (volume_map start (committed C images)) (journey plan dest start)
 
+  -- each want of the committed journey comes to the same by each choice, but for its bytes where there is no test
   all_alike : Each (λ want. (j : ℕ) → IsAlike (plain want) (volume_map start (committed_choices C images j) want)
       (volume_map start (committed C images) want)) Needs
   all_alike = each_of (λ want. (j : ℕ) → IsAlike (plain want) (volume_map start (committed_choices C images j) want)
       (volume_map start (committed C images) want)) (λ want j. alike_there plan dest images start C j want) Needs
 
+  -- what a choice of the images has of a want of the committed journey, some choice of the committed blocks has too
   some_within : Each (λ want. (i : ℕ) → (j : ℕ) × IsWithin (volume_map start (choices images i) want)
       (volume_map start (committed_choices C images j) want)) Needs
   some_within =
@@ -45,6 +49,7 @@ module _ (plan : RestorePlan) (dest : List ℕ) (images : Images) (start : Start
       (λ want h i. (i, h i)) Needs (all_within plan dest images start C table honest closed)
 
   module _ (old new : Seen) (done : List Step) (answer : Answer) where
+    -- where a committed run was cut at a want that a choice of the images lacks, the call stopped there, and the want is lost
     dropped : (q r : Run VolumeWant Fault Step (Result Counts OpenFault))
         → GoesTo (λ j. volume_map start (committed_choices C images j)) (journey plan dest start) q
         → (m : Drops (λ i. volume_map start (choices images i)) q r) → done ≡ steps_of m.before → answer ≡ Err (halt_fault m.fault)
@@ -70,9 +75,11 @@ module _ (plan : RestorePlan) (dest : List ℕ) (images : Images) (start : Start
           is = is ∙ ap (λ f. Err (halt_fault f)) lost;
         }
 
+    -- what was done follows the committed journey, or it stopped at a want of it that the images lack
     abbrev Carried : Type 0
     Carried = Follows plan dest start old new (committed_choices C images) done answer ⊎ LostAt plan dest images start C done answer
 
+    -- what was done by a committed run, or by one cut at a want that the images lack, is in the committed order
     carried : Goes (unread_in start old new) part [] (λ j. volume_map start (committed_choices C images j)) (journey plan dest start) done answer
         ⊎ ((q : Run VolumeWant Fault Step (Result Counts OpenFault)) × (r : Run VolumeWant Fault Step (Result Counts OpenFault))
         × GoesTo (λ j. volume_map start (committed_choices C images j)) (journey plan dest start) q
@@ -80,6 +87,7 @@ module _ (plan : RestorePlan) (dest : List ℕ) (images : Images) (start : Start
     carried (inl h) = inl h
     carried (inr h) = inr (dropped h.0 h.1 h.2 h.3 h.4 h.5)
 
+-- over honest images restore did what the committed journey does, or stopped at a want of it that the images lack
 pub committed_order : CommittedOrder
 committed_order plan dest images start C table old new done answer honest closed follows =
     carried plan dest images start C table honest closed old new done answer

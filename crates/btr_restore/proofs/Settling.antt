@@ -26,15 +26,18 @@ use Rattle.btr_restore.specs.Journey.{listing, journey}
 use Rattle.btr_restore.specs.Outcome.{Ending, outcome_by, outcome}
 use Rattle.btr_listing.specs.Step.{Step, part}
 
+-- by one map each want comes to the same at each choice
 each_same : {W : Type 0} (B : BlockMap W Fault) (ws : List W) → Each (λ w. (n : ℕ) → B w ≡ B w) ws
 each_same B [] = tt
 each_same B (w ∷ ws) = ((λ n. refl), each_same B ws)
 
+-- what follows a run, and ends as the images decide, has the outcome of that run
 same_by : (r : Run VolumeWant Fault Step (Result Counts OpenFault)) (Is : UnreadBlock → VolumeWant → Type 0) (done : List Step) (ending : Ending)
     → run_follows Is part [] r done (answer_by ending) → outcome_by done ending ≡ outcome r
 same_by r Is done (Ok value) follows = ap (λ ss. outcome_by ss (Ok value)) follows.0 ∙ ap (λ e. outcome_by (steps_of r.marks) e) (sym follows.1)
 same_by r Is done (Err fault) follows = ap (λ ss. outcome_by ss (Err fault)) follows.0 ∙ ap (λ e. outcome_by (steps_of r.marks) e) (sym follows.1)
 
+-- what follows the first copies, and ends as the images decide, is the outcome of restore over their bytes
 pub settled : SettledLaw
 settled plan dest images start old new done ending begun none follows =
     let B = volume_map start (fate images) in
@@ -45,6 +48,7 @@ settled plan dest images start old new done ending begun none follows =
     ∙ sym (ap (from_start plan dest images) begun ∙ ap (λ d. unless_diverged d (outcome here)) none)
 
 module _ (plan : RestorePlan) (dest : List ℕ) (start : Start) (old new : Seen) where
+  -- the listing, with its counts as the answer of restore
   abbrev rest : Program Step (Result Counts OpenFault)
   rest = bind (listing plan dest start.sup) (λ counts. Return (Ok counts))
 
@@ -61,6 +65,7 @@ module _ (plan : RestorePlan) (dest : List ℕ) (start : Start) (old new : Seen)
     whole done (Err halt) h = goes_halt (λ n. maps n (layout_by start table)) (unread_by (layout_by start table) old new) part []
         (listing plan dest start.sup) (λ counts. Return (Ok counts)) 0 done halt h
 
+  -- a scan of the chunk tree that came to a table, and then the listing under it, follow the journey
   pub opened_then : OpenedThen plan dest start old new
   opened_then maps table done answer scanned listed =
       goes_staged (λ fault. Err (refusal_of fault)) (unread_in start old new) part (λ n. maps n (array_layout start))
@@ -68,12 +73,14 @@ module _ (plan : RestorePlan) (dest : List ℕ) (start : Start) (old new : Seen)
       (goes_quiet (unread_by (array_layout start) old new) part [] (λ n. maps n (array_layout start)) (table_scan start) [] (Ok (Ok table)) scanned)
       (whole maps table done answer listed)
 
+  -- a scan of the chunk tree that came to a refusal follows the journey, with nothing done
   pub open_refused : OpenRefused plan dest start old new
   open_refused maps fault scanned =
       goes_staged_refused (λ fault. Err (refusal_of fault)) (unread_in start old new) part (λ n. maps n (array_layout start))
       (λ n table. maps n (layout_by start table)) (quiet (table_scan start)) (λ (t : List Chunk). rest) fault []
       (goes_quiet (unread_by (array_layout start) old new) part [] (λ n. maps n (array_layout start)) (table_scan start) [] (Ok (Err fault)) scanned)
 
+  -- a scan of the chunk tree that could not go on follows the journey, with nothing done
   pub open_halted : OpenHalted plan dest start old new
   open_halted maps halt scanned =
       goes_staged_halt (λ fault. Err (refusal_of fault)) (unread_in start old new) part (λ n. maps n (array_layout start))

@@ -21,6 +21,7 @@ use Rattle.btr_restore.specs.Orderly.{IsOfEntry, ToldLaw}
 abbrev First : (Step → Type 0) → List Step → Type 0
 First P steps = (step : Step) × (more : List Step) × (steps ≡ step ∷ more) × P step
 
+-- what came to a value came to no fault
 no_value : {A F : Type 0} (a : A) (f : F) (e : Result A F) → e ≡ Ok a → e ≡ Err f → ⊥
 no_value a f e h g = absurd (cc)
 
@@ -32,6 +33,7 @@ module _ {W F A : Type 0} (P : Step → Type 0) where
   Begins (Need w k) = (bytes : List ℕ) → Begins (k bytes)
   Begins (Emit step p) = P step
 
+  -- a program behind a lookup begins with such a step, if it does so for each value that the lookup may have
   begins_looks : {C : Type 0} (p : Prog W F ⊥ C) (k : C → Prog W F Step A) (Q : C → Type 0) → Gives Q p → ((c : C) → Q c → Begins (k c)) → Begins
       (bind (quiet p) k)
   begins_looks (Return c) k Q g h = h c g
@@ -40,12 +42,14 @@ module _ {W F A : Type 0} (P : Step → Type 0) where
   begins_looks (Emit step p) k Q g h = absurd step
 
   module _ {I : Type 0} (maps : I → BlockMap W F) (a : A) where
+    -- a run behind a want has such a step first, if it does so for all bytes of the want
     first_given : (x : Result (List ℕ) F) (k : List ℕ → Prog W F Step A) (q : Run W F Step A) → ((bytes : List ℕ) (t : Run W F Step A) → GoesTo maps
         (k bytes) t → t.ending ≡ Ok a → First P (steps_of t.marks)) → goes_given x (λ bytes. GoesTo maps (k bytes)) q → q.ending ≡ Ok a → First P
         (steps_of q.marks)
     first_given (Ok bytes) k q h g e = h bytes q g e
     first_given (Err f) k q h g e = absurd (no_value a f q.ending e (ap (λ (r : Run W F Step A). r.ending) g))
 
+    -- each run of a program that begins with such a step has it first, if it comes to a value
     pub begun : (p : Prog W F Step A) (r : Run W F Step A) → Begins p → GoesTo maps p r → r.ending ≡ Ok a → First P (steps_of r.marks)
     begun (Return b) r h g e = absurd h
     begun (Stop f) r h g e = absurd (no_value a f r.ending e (ap (λ (r : Run W F Step A). r.ending) g))
@@ -59,9 +63,11 @@ module _ {W F A : Type 0} (P : Step → Type 0) where
     begun (Emit step p) r h g e = (step, steps_of g.0.marks, ap (λ (r : Run W F Step A). steps_of r.marks) g.1, h)
 
 module _ (plan : RestorePlan) (wet : plan.dry ≡ false) (met : Met) where
+  -- a step tells the entry
   abbrev Tells : Step → Type 0
   Tells = IsOfEntry (rules_of plan) met
 
+  -- as the run isn't dry, a program with a call of the sink before it begins with that call
   row_tells : (step : Step) (rest : Program Step Treated) → Tells step → Begins Tells (row plan step rest)
   row_tells step rest h = unless plan.dry wet
     where
@@ -77,6 +83,7 @@ module _ (plan : RestorePlan) (wet : plan.dry ≡ false) (met : Met) where
   done_tells s sums counts Empty fits = row_tells (Dir met.entry.name) _ refl
   done_tells s sums counts (Folder inner dirid) fits = row_tells (Dir met.entry.name) _ refl
 
+-- a restore that isn't dry tells each entry that it treats or enters
 pub each_told : ToldLaw
 each_told plan s sums met counts came maps run wet goes is =
     let rules = rules_of plan in

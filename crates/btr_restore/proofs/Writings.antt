@@ -1,5 +1,6 @@
 -- A file piece by piece, whatever is done with each.
 use Rattle.std.proofs.Common.{◌≡◌, ℕ, List, [], ◌∷◌, ◌++◌, Option, Some, None, Result, Ok, Err, refl, sym, ap, ◌∙◌, subst, append-nil}
+use Rattle.std.proofs.Common.{IsErrAnd}
 use Rattle.std.specs.Prelude.{fold}
 use Rattle.btr_base.specs.declared.kind.SumKind.{SumKind}
 use Rattle.btr_prog.specs.Answers.{Halt, no_part}
@@ -44,33 +45,39 @@ use Rattle.btr_restore.specs.Listing.{maps_of}
 use Rattle.btr_restore.specs.Restoring.{sink_after, text_after, SinkCounts, OutCounts}
 use Rattle.btr_volume.specs.Stops.{stop_halt, ended}
 use Rattle.btr_rack.proofs.Reading.{reads_none, reads_more}
-use Rattle.btr_volume.proofs.Onward.{room_kept}
+use Rattle.btr_volume.proofs.Onward.{room_kept, stop_passed}
 use Rattle.btr_restore.specs.Running.{Outside, World, world, Wrote, Ran}
 use Rattle.btr_listing.specs.Step.{Step, part}
-use Rattle.btr_restore.specs.Writing.{put_of, last_state, WritesPieces, WritesLeft, WritesFrom, LeftToWrite, PieceToWrite, IsWriting, WasWritten}
+use Rattle.btr_restore.specs.Writing.{put_of, last_state, WritesPieces, WritesLeft, WritesFrom, LeftToWrite, PieceToWrite, IsWriting, WasWritten, WritesOn}
 use Rattle.btr_restore.proofs.Doing.{fold-append, text_then}
 use Rattle.btr_restore.proofs.Emitting.{text_none}
 use Rattle.btr_restore.proofs.Goings.{if_some, if_map, if_both}
 use Rattle.btr_restore.proofs.Stopping.{no_cause}
 
 module _ {St : Type 0} (put : St → Piece → Program Step St) (Bs : ℕ → Map) where
+  -- a run that writes a piece
   abbrev Body : St → Piece → Run Want Fault Step (Result St St) → Type 0
   Body st piece b = GoesTo Bs (put_of put st piece) b
 
+  -- what the last piece left
   abbrev last : St → Unit {0} → St
   last = last_state put
 
+  -- a run that writes the pieces of a run
   abbrev some : St → Run Want Fault Piece (Unit {0}) → Run Want Fault Step St
   some st q = some_run Bs 0 (put_of put) last st q.marks q.ending
 
+  -- that run writes the pieces
   some_puts : (st : St) (q : Run Want Fault Piece (Unit {0})) → WritesPieces put Bs st q (some st q)
   some_puts st q = threads_map Bs 0 (put_of put) last st q.marks q.ending
 
+  -- wants before the first piece stay before what is written of it
   past_in : (ws : List Want) (st : St) (q : Run Want Fault Piece (Unit {0})) (r : Run Want Fault Step St) → WritesPieces put Bs st q r
       → WritesPieces put Bs st (prepend (want_marks ws) q) (prepend (want_marks ws) r)
   past_in [] st q r h = h
   past_in (w ∷ ws) st q r h = (prepend (want_marks ws) r, refl, past_in ws st q r h)
 
+  -- a file that goes on from blocks that were wanted still does so where more are wanted
   file_more : (file : FileBytes) (seen more : List Want) → IsFileOn (Bs 0) seen file → IsFileOn (Bs 0) (seen ++ more) file
   file_more file seen more on = (record { rest = rest_more (Bs 0) seen more file.progress.rest on.0.rest; inline = on.0.inline }, on.1)
 
@@ -80,6 +87,7 @@ module _ {St : Type 0} (put : St → Piece → Program Step St) (Bs : ℕ → Ma
       let p = file.progress in
       then_some kind file.source Bs (todo_prog kind file.source p.at p.end (inline_of (met_last (Bs 0) p.rest)) p.todo) (exec (Bs 0) (rest_left (Bs 0) p.rest))
 
+  -- a file begins: nothing is written, and all its pieces are left
   pub left_first : (kind : SumKind) (file : FileBytes) (st : St) (p : Program Piece (Unit {0})) → BeginsFile kind file p → IsFileOn (Bs 0) [] file
       → LeftToWrite put (each put st p) kind Bs st file []
   left_first kind file st p begins on = record {
@@ -90,6 +98,7 @@ module _ {St : Type 0} (put : St → Piece → Program Step St) (Bs : ℕ → Ma
   }
 
   module _ (whole : Program Step St) (kind : SumKind) (st : St) (file : FileBytes) (done : List Step) where
+    -- a run of the whole program
     abbrev Whole : Run Want Fault Step St → Type 0
     Whole = GoesTo Bs whole
 
@@ -134,10 +143,12 @@ module _ {St : Type 0} (put : St → Piece → Program Step St) (Bs : ℕ → Ma
 
     module _ (piece : Piece) (more : List Step) (Is : UnreadBlock → Want → Type 0) where
       module _ (q : Run Want Fault Piece (Unit {0})) where
+        -- behind a piece that was put the run goes on with those that are left
         treated : (st : St) (marks : List (Mark Want Step)) (x : Result (Result St St) Fault) (r : Run Want Fault Step St) → x ≡ Ok (Ok st)
             → WritesPieces put Bs st q r → AfterTo marks x (GoOnTo (λ st'. WritesPieces put Bs st' q)) (prepend marks r)
         treated st marks x r i h = subst (λ y. AfterTo marks y (GoOnTo (λ st'. WritesPieces put Bs st' q)) (prepend marks r)) (sym i) (r, refl, h)
 
+        -- behind a piece, whatever it came to, some run writes those that are left
         after_some : (marks : List (Mark Want Step)) (x : Result (Result St St) Fault) → AfterTo marks x (GoOnTo (λ st'. WritesPieces put Bs st' q))
             (after marks x
             (go_on_run (λ st'. some st' q)))
@@ -192,32 +203,41 @@ all_then layout a b c P Q R f one two = record {
 -- the writing of a file, call by call
 module _ {St : Type 0} (put : St → Piece → Program Step St) (whole : Program Step St) (x y : World) (st : St) (file file' : FileBytes) (rack : Seen)
     (vol : Volume) (l : IsWriting put whole x y st file) (reads : OnlyReads y.rack rack) where
+  -- the layout that the writing began with
   abbrev layout : Layout
   layout = x.vol.store.layout
 
+  -- the kind of checksum of the volume
   abbrev kind : SumKind
   kind = kind_in x.vol.sup
 
+  -- how far the file was written before the call
   abbrev Was : (ℕ → Map) → Type 0
   Was Bs = LeftToWrite put whole kind Bs st file l.done
 
+  -- what the file gives next, by a layout and a superblock
   abbrev Next : Layout → Super → Result (Option Lending) TreeFault → (ℕ → Map) → Type 0
   Next L t result Bs = IsNextPiece (kind_in t) (unread_by L y.rack rack) Bs file file' result
 
+  -- the layout is still the one that the writing began with
   same_layout : y.vol.store.layout ≡ layout
   same_layout = sym (base_layout y.vol.store file.loan) ∙ l.others.layout
 
+  -- what the file gives next by the layout and superblock of now, it gives by those that the writing began with
   over : (result : Result (Option Lending) TreeFault) → TellsAll y.vol.store.layout y.rack rack (Next y.vol.store.layout y.vol.sup result)
       → TellsAll layout y.rack rack (Next layout x.vol.sup result)
   over result t = subst (λ (v : Super). TellsAll layout y.rack rack (Next layout v result)) l.sup (subst (λ (L : Layout). TellsAll L y.rack rack
       (Next L y.vol.sup result)) same_layout t)
 
+  -- a want that could not be read in this call could not be read since the writing began
   earlier : (u : UnreadBlock) (w : Want) → unread_by layout y.rack rack u w → unread_by layout x.rack rack u w
   earlier u w i = since layout layout refl l.reads u w i
 
+  -- but for the file's loan the volume is as it was when the writing began
   apart : SameLoans (without_file y.vol.store file) (without_file vol.store file') → SameLoans x.vol.store (without_file vol.store file')
   apart o = record { layout = o.layout ∙ l.others.layout; loans = o.loans ∙ l.others.loans }
 
+  -- a step of a file with an answer is one with an equal answer
   streamed : (result other : Result (Option Lending) TreeFault) → result ≡ other → Streamed y.vol vol file file' y.rack rack result
       → Streamed y.vol vol file file' y.rack rack other
   streamed result other e n = subst (λ r. Streamed y.vol vol file file' y.rack rack r) e n
@@ -285,16 +305,20 @@ module _ {St : Type 0} (put : St → Piece → Program Step St) (whole : Program
   -- a piece was given, and put or not
   module _ (piece : Lending) (result : Result (Option Lending) TreeFault) (is : result ≡ Ok (Some piece))
       (m : Streamed y.vol vol file file' y.rack rack result) (z : Outside) where
+    -- the file gave the piece
     n : Streamed y.vol vol file file' y.rack rack (Ok (Some piece))
     n = streamed result (Ok (Some piece)) is m
 
+    -- the writing has come to the piece, which is to be put next
     abbrev Met : (ℕ → Map) → Type 0
     Met Bs = PieceToWrite put whole kind Bs st (piece_of piece) file' l.done
 
+    -- as far as the calls were steady, it has come there
     met : TellsAll layout x.rack rack Met
     met = all_then layout x.rack y.rack rack Was (Next layout x.vol.sup (Ok (Some piece))) Met (λ Bs p q. piece_next put Bs whole kind st file l.done file'
         (piece_of piece) p (q p.seen p.on)) l.content (over (Ok (Some piece)) n.content)
 
+    -- what follows of the piece that was given and of what was done with it
     put_with : {R : (ℕ → Map) → Type 0} (r : Result St TheStop) (w : Wrote (put st (piece_of piece)) y.out z r) → ((Bs : ℕ → Map) → Met Bs
         → Goes (unread_by layout x.rack rack) part [] Bs (put st (piece_of piece)) w.did.done (ended r) → R Bs) → TellsAll layout x.rack rack R
     put_with {R} r w f = record {
@@ -303,6 +327,7 @@ module _ {St : Type 0} (put : St → Piece → Program Step St) (whole : Program
           (maps_of layout sure images))) p) met.calls;
     }
 
+    -- a piece was put, and the file is still being written
     pub writing_on : (st' : St) → Wrote (put st (piece_of piece)) y.out z (Ok st') → IsWriting put whole x (world rack vol z) st' file'
     writing_on st' w = record {
       reads = reads_more l.reads reads;
@@ -317,6 +342,7 @@ module _ {St : Type 0} (put : St → Piece → Program Step St) (whole : Program
       out_calls = w.out_calls ∙ l.out_calls;
     }
 
+    -- a piece was not put, and the file is written no further
     pub writing_halt : (t : TheStop) → Wrote (put st (piece_of piece)) y.out z (Err t) → WasWritten put whole x (world rack vol z) file' (Err t)
     writing_halt t w = record {
       reads = reads_more l.reads reads;
@@ -379,3 +405,19 @@ writing_over put whole x y vol file r ready w sup back serves =
       sink_calls = w.sink_calls;
       out_calls = w.out_calls;
     }
+
+-- a stop of a whole file that is passed on
+pub written_passed : {St : Type 0} {put : St → Piece → Program Step St} {whole : Program Step St} {x y : World} {file : FileBytes} {s : TheStop}
+    (r : Result St TheStop) → IsErrAnd r (λ e. e ≡ s) → WasWritten put whole x y file (Err s) → WasWritten put whole x y file r
+written_passed {put = put} {whole = whole} {x = x} {y = y} {file = file} {s = s} r is h = stop_passed (WasWritten put whole x y file) r s is h
+
+-- a stop of one of its pieces that is passed on
+pub writes_passed : {St : Type 0} {put : St → Piece → Program Step St} {whole : Program Step St} {x y : World} {file : FileBytes} {s : TheStop} (st : St)
+    (r : Result (Option St) TheStop) → IsErrAnd r (λ e. e ≡ s) → WasWritten put whole x y file (Err s) → WritesOn put whole x y st file r
+writes_passed {put = put} {whole = whole} {x = x} {y = y} {file = file} {s = s} st r is h = stop_passed (WritesOn put whole x y st file) r s is h
+
+-- no piece was left: the file is written
+pub writes_ended : {St : Type 0} {put : St → Piece → Program Step St} {whole : Program Step St} {x y : World} {file : FileBytes} (st : St)
+    (more : Option St) → ((after : St) → more ≡ Some after → ⊥) → WritesOn put whole x y st file (Ok more) → WasWritten put whole x y file (Ok st)
+writes_ended st None none w = w
+writes_ended st (Some after) none w = absurd (none after refl)

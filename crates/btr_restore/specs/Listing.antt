@@ -12,7 +12,7 @@ use Rattle.btr_read.specs.Reading.{AgreedOn, shown}
 use Rattle.btr_read.specs.declared.want.Want.{Want}
 use Rattle.btr_super.specs.declared.superblock.Super.{Super}
 use Rattle.btr_walk.specs.Reading.{Map}
-use Rattle.btr_volume.specs.Lookup.{Program, each}
+use Rattle.btr_volume.specs.Lookup.{Program}
 use Rattle.btr_volume.specs.declared.stop.Stop.{Stop}
 use Rattle.btr_volume.specs.Looking.{SameVolume}
 use Rattle.btr_volume.specs.Readable.{CanRead}
@@ -22,13 +22,13 @@ use Rattle.btr_files.specs.declared.dir.Dir.{Dir}
 use Rattle.btr_files.specs.declared.dir_row.DirRow.{DirRow}
 use Rattle.btr_files.specs.declared.name.NameBuf.{NameBuf}
 use Rattle.btr_files.specs.declared.plan.RestorePlan.{RestorePlan}
-use Rattle.btr_files.specs.Entries.{DirEntry, entries}
+use Rattle.btr_files.specs.Entries.{DirEntry}
 use Rattle.btr_files.specs.Listing.{dir_left, named_row, IsDir, IsDirOn}
 use Rattle.btr_files.specs.Maps.{maps_by}
 use Rattle.btr_restore.specs.declared.job.Job.{Job}
 use Rattle.btr_restore.specs.Journey.{Listing, Within, directory, listed_in, treat}
 use Rattle.btr_restore.specs.Restoring.{sink_after, text_after}
-use Rattle.btr_restore.specs.Running.{World, KeepsSink, Stands}
+use Rattle.btr_restore.specs.Running.{World, StandsBetween}
 use Rattle.btr_listing.specs.Step.{Step}
 
 -- whether directories are too deep, below which so many more may be entered
@@ -61,22 +61,22 @@ abbrev pub listing_for : Job → ℕ → TreeRoot → ℕ → List ℕ → Count
 listing_for job n tree dirid path counts s = directory job.plan s job.sums n tree dirid path counts
 
 -- how a listing ended, with the counts then
-abbrev pub ended_with : Counts → Result (Unit {0}) Stop → Result Counts Stop
+abbrev pub ended_with : {A : Type 0} → A → Result (Unit {0}) Stop → Result A Stop
 ended_with counts (Ok u) = Ok counts
 ended_with counts (Err stop) = Err stop
 
 -- a sink stands as deep as before, if the listing came to its end
 abbrev pub StandsIf : Bool → ℕ → Sink → Result (Unit {0}) Stop → Type 0
-StandsIf dry n sink (Ok u) = Stands dry n sink
+StandsIf dry n sink (Ok u) = StandsBetween dry n sink
 StandsIf dry n sink (Err stop) = Unit {0}
 
 -- where a sink stood, it stands as deep after a listing that came to its end
 abbrev pub KeepsDepth : Bool → Sink → Sink → Result (Unit {0}) Stop → Type 0
-KeepsDepth dry old new result = (n : ℕ) → Stands dry n old → StandsIf dry n new result
+KeepsDepth dry old new result = (n : ℕ) → StandsBetween dry n old → StandsIf dry n new result
 
 -- a sink stands one less deep after a listing that came to its end and leaves its directory
 abbrev pub LeavesDepth : Bool → Sink → Sink → Result (Unit {0}) Stop → Type 0
-LeavesDepth dry old new result = (n : ℕ) → Stands dry (n + 1) old → StandsIf dry n new result
+LeavesDepth dry old new result = (n : ℕ) → StandsBetween dry (n + 1) old → StandsIf dry n new result
 
 -- the maps of some images, so surely known
 abbrev pub maps_of : Layout → Sure → List (List ℕ) → ℕ → Map
@@ -114,28 +114,24 @@ module _ (treat : Counts → DirEntry → Program Step Counts) where
     pub so_far : SoFar (GoesTo Bs whole) (Left Bs counts (first (Does entry) (exec B (dir_left B dir)))) seen done
     pub on : IsDirOn B seen dir
 
-  -- a listing has come so far: its calls did some steps, and the entries of a directory are left
-  pub record Listed (whole : Program Step Counts) (x y : World) (counts : Counts) (dir : Dir) : Type 0 where
-    pub reads : OnlyReads x.rack y.rack
-    pub volume : SameVolume x.vol y.vol
-    pub ready : CanRead 6 y.rack y.vol
-    pub done : List Step
-    pub sink : y.out.sink ≡ fold sink_after x.out.sink done
-    pub text : y.out.text ≡ text_after x.out.text done
-    pub content : TellsBoth x.vol.store.layout x.rack y.rack (λ B Bs. LeftOf whole B Bs counts dir done)
-    pub sink_calls : y.out.sink_calls ≡ x.out.sink_calls
-    pub out_calls : y.out.out_calls ≡ x.out.out_calls
+-- a listing has come so far: its calls did some steps, and Left says what is left by then
+pub record Listed (Left : Map → (ℕ → Map) → List Step → Type 0) (x y : World) : Type 0 where
+  pub reads : OnlyReads x.rack y.rack
+  pub volume : SameVolume x.vol y.vol
+  pub ready : CanRead 6 y.rack y.vol
+  pub done : List Step
+  pub sink : y.out.sink ≡ fold sink_after x.out.sink done
+  pub text : y.out.text ≡ text_after x.out.text done
+  pub content : TellsBoth x.vol.store.layout x.rack y.rack (λ B Bs. Left B Bs done)
+  pub sink_calls : y.out.sink_calls ≡ x.out.sink_calls
+  pub out_calls : y.out.out_calls ≡ x.out.out_calls
 
--- a listing is under way: its directory can be read on, its path is as it began, and the sink stands where it stood
+-- a listing is under way: its directory can be read on, and its path and the places below are as it began
 pub record IsUnderway
-    {T : Type 0} (began now : T) (plan : RestorePlan) (sums : Option TreeRoot) (deeper : ℕ) (tree : TreeRoot) (dirid : ℕ) (path : List ℕ)
-    (first : Counts) (x y : World) (counts : Counts) (dir : Dir) (here : List ℕ) (below : ℕ) : Type 0 where
+    (treat : Super → ℕ → List ℕ → Counts → DirEntry → Program Step Counts) (whole : Super → Program Step Counts) (deeper : ℕ) (path : List ℕ)
+    (x y : World) (counts : Counts) (dir : Dir) (here : List ℕ) (below : ℕ) : Type 0 where
   pub ready : CanRead 6 y.rack y.vol
   pub reads_on : IsDir dir
   pub same_path : here ≡ path
   pub same_below : below ≡ deeper
-  pub same_sink : KeepsSink plan.dry began now
-  pub stands : (n : ℕ) → Stands plan.dry n x.out.sink → Stands plan.dry n y.out.sink
-  pub listed : (s : Super) → s ≡ x.vol.sup
-      → Listed (treat_in plan s sums deeper tree dirid path)
-      (each (treat_in plan s sums deeper tree dirid path) first (entries tree dirid)) x y counts dir
+  pub listed : (s : Super) → s ≡ x.vol.sup → Listed (λ B Bs. LeftOf (treat s deeper path) (whole s) B Bs counts dir) x y

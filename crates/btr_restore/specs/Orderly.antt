@@ -95,7 +95,7 @@ IsOfEntry rules met (Zeros count) = ⊥
 IsOfEntry rules met Done = ⊥
 
 -- an entry that was treated, or entered, has a row or the line that it is skipped, and that comes first
-pub record IsTold (rules : Rules) (met : Met) (done : List Step) : Type 0 where
+pub record HasRowOrLine (rules : Rules) (met : Met) (done : List Step) : Type 0 where
   pub step : Step
   pub more : List Step
   pub steps : done ≡ step ∷ more
@@ -109,4 +109,4 @@ ToldLaw =
     → plan.dry ≡ false
     → GoesTo maps (treated plan s sums met counts) run
     → run.ending ≡ Ok came
-    → IsTold (rules_of plan) met (steps_of run.marks)
+    → HasRowOrLine (rules_of plan) met (steps_of run.marks)

@@ -64,17 +64,14 @@ fn put_next<R: Rack, T: TreeSink>(
         (beside R.seen T.sink T.account rack.new vol.new tree.new) result }
     ensures ready { IsReading (R.seen rack.new) vol.new.store file.new }
     ensures room { SameLoans (without_file vol.old.store file.old) (without_file vol.new.store file.new) }
-    ensures nears { IfOk result (λ on. IfSome on (λ after. bytes_left file.new < bytes_left file.old)) }
+    ensures rank_falls { IfOk result (λ on. IfSome on (λ after. bytes_left file.new < bytes_left file.old)) }
     ensures stage { (T.sink tree.new).stage ≡ InFile }
     ensures depth { (T.sink tree.new).depth ≡ (T.sink tree.old).depth }
 {
     match next_piece(vol, file, rack) {
         Err(fault) => Err(Stop::Tree(fault)),
         Ok(None) => Ok(None),
-        Ok(Some(piece)) => match put_piece(piece, plain, tree) {
-            Ok(after) => Ok(Some(after)),
-            Err(stop) => Err(stop),
-        },
+        Ok(Some(piece)) => Ok(Some(put_piece(piece, plain, tree)?)),
     }
 }
 
@@ -96,13 +93,10 @@ fn put_pieces<R: Rack, T: TreeSink>(
     ensures depth { (T.sink tree.new).depth ≡ (T.sink tree.old).depth }
 {
     let mut plain = false;
-    loop {
-        match put_next(file, plain, rack, vol, tree) {
-            Err(stop) => return Err(stop),
-            Ok(None) => return Ok(plain),
-            Ok(Some(after)) => plain = after,
-        }
+    while let Some(after) = put_next(file, plain, rack, vol, tree)? {
+        plain = after;
     }
+    Ok(plain)
 }
 
 /// Whether the sectors of a file have no checksums.

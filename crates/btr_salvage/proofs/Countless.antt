@@ -23,21 +23,26 @@ use Rattle.btr_listing.specs.Step.{Step, Line}
 use Rattle.btr_restore.specs.Journey.{closed, done_about, empty, entered, pieces, row, rules_of, told, unverified, written}
 use Rattle.btr_restore.specs.Journey as journey
 use Rattle.btr_salvage.specs.Left.{way_up}
-use Rattle.btr_salvage.proofs.Endings.{Did, bind_value, did_first, did_quiet, did_then, did_unless, did_where, first_value, ok_same, unless_ends}
+use Rattle.btr_salvage.proofs.Endings.{Did, bind_value, did_first, did_quiet, did_then, did_unless, did_where, first_value, unless_ends}
+use Rattle.btr_restore.proofs.Held.{same_value}
 
 -- ---- what restore does about an entry, by any blocks and counts
 
 module _ (plan : RestorePlan) (X : Map) where
+  -- the line for what was entered or finished, if such lines are asked for
   abbrev telling : List ℕ → List ℕ → List Step
   telling word path = cond (plan.verbose || plan.dry) (Line (line word path) ∷ []) []
 
+  -- the step, unless the run is dry
   abbrev pub unless_dry : Step → List Step
   unless_dry st = cond plan.dry [] (st ∷ [])
 
+  -- the way up is one step, unless the run is dry
   pub up_did : {A : Type 0} (a : A) → Did X (row plan step.Up (Return a)) (way_up plan) (Ok a)
   up_did a = subst (λ l. Did X (row plan step.Up (Return a)) l (Ok a)) (append-nil (way_up plan))
       (did_unless X plan.dry step.Up (Return a) [] (Ok a) (refl, refl))
 
+  -- a directory is entered by its step and its line, and one directory more is counted
   pub entered_did : (name path : List ℕ) (tree : TreeRoot) (dirid : ℕ) (counts : Counts)
       → Did X (entered plan name path tree dirid counts) (unless_dry (step.Dir name) ++ (telling (codes "dir") path ++ []))
       (Ok (journey.Within tree dirid (with_dir counts)))
@@ -47,6 +52,7 @@ module _ (plan : RestorePlan) (X : Map) where
       did_unless X plan.dry (step.Dir name) (told plan (codes "dir") path inside) (telling (codes "dir") path ++ []) w
       (did_where X (plan.verbose || plan.dry) (Line (line (codes "dir") path)) inside [] w (refl, refl))
 
+  -- a directory stays empty by its step, its line and the way up, and one directory more is counted
   pub empty_did : (name path : List ℕ) (counts : Counts)
       → Did X (empty plan name path counts) (unless_dry (step.Dir name) ++ (telling (codes "dir") path ++ (unless_dry step.Up ++ [])))
       (Ok (journey.Over (with_dir counts)))
@@ -57,9 +63,11 @@ module _ (plan : RestorePlan) (X : Map) where
       (did_where X (plan.verbose || plan.dry) (Line (line (codes "dir") path)) (row plan step.Up over) (unless_dry step.Up ++ []) w
       (did_unless X plan.dry step.Up over [] w (refl, refl)))
 
+  -- the steps at the end of a file: that it is done, its line, and the line of an unverified one
   abbrev pub closing : List ℕ → Bool → List Step
   closing path plain = unless_dry step.Done ++ (telling (codes "file") path ++ (cond plain (Line (line (codes "unverified") path) ∷ []) [] ++ []))
 
+  -- the end of a file is these steps, and one file more is counted
   closed_did : (path : List ℕ) (counts : Counts) (plain : Bool) → Did X (closed plan path counts plain) (closing path plain)
       (Ok (journey.Over (with_file counts)))
   closed_did path counts plain =
@@ -72,6 +80,7 @@ module _ (plan : RestorePlan) (X : Map) where
       (did_where X plain (Line (line (codes "unverified") path)) over [] w (refl, refl)))
 
   module _ (s : Super) (sums : Option TreeRoot) (tree : TreeRoot) (ino : ℕ) (inode : Inode) where
+    -- where its pieces come to their end a file is written: it is begun, its pieces are put, and it ends
     pub written_did : (name path : List ℕ) (counts : Counts) (plain : Bool) → (exec X (pieces plan s sums tree ino inode)).ending ≡ Ok plain
         → Did X (written plan s sums tree ino name path inode counts) (unless_dry (step.File name)
         ++ (steps_of (exec X (pieces plan s sums tree ino inode)).marks ++ closing path plain)) (Ok (journey.Over (with_file counts)))
@@ -82,6 +91,7 @@ module _ (plan : RestorePlan) (X : Map) where
         (did_then X p (closed plan path counts) plain (steps_of (exec X p).marks) (closing path plain) (Ok (journey.Over (with_file counts))) (refl, e)
         (closed_did path counts plain))
 
+    -- where a file was written to its end, its pieces came to theirs
     pub pieces_value : (name path : List ℕ) (counts : Counts) (t : journey.Treated)
         → (exec X (written plan s sums tree ino name path inode counts)).ending ≡ Ok t
         → (plain : Bool) × ((exec X (pieces plan s sums tree ino inode)).ending ≡ Ok plain)
@@ -98,9 +108,11 @@ module _ (C : Map) where
   Countless f =
       (c d e : Counts) → (exec C (f c)).ending ≡ Ok e → (e' : Counts) × Did C (f d) (steps_of (exec C (f c)).marks) (Ok e')
 
+  -- so does a listing of each directory
   abbrev pub EachCountless : journey.Listing → Type 0
   EachCountless below = (tree : TreeRoot) (dirid : ℕ) (path : List ℕ) → Countless (below tree dirid path)
 
+  -- a listing that lists nothing does no step, whatever was counted before
   pub nothing_free : EachCountless (λ tree dirid path counts. Return counts)
   nothing_free tree dirid path c d e h = (d, (refl, refl))
 
@@ -109,11 +121,13 @@ module _ (C : Map) where
   EntryCountless treat = (entry : DirEntry) → Countless (λ counts. treat counts entry)
 
   module _ (treat : Counts → DirEntry → Program Step Counts) (free : EntryCountless treat) where
+    -- entries that are treated to their end are so by the same steps, whatever was counted before
     pub each_free : (p : Program DirEntry (Unit {0})) → Countless (λ counts. each treat counts p)
     each_free (Return u) c d e h = (d, (refl, refl))
     each_free (Stop f) c d e h = absurd (cc h)
     each_free (Need w k) c d e h = by (C w) h (λ bytes g. each_free (k bytes) c d e g)
       where
+        -- behind a block the steps are the same, whatever was counted before, if so for all bytes of it
         by : (x : Result (List ℕ) Fault) → (given x (λ bytes. exec C (each treat c (k bytes)))).ending ≡ Ok e
             → ((bytes : List ℕ) → (exec C (each treat c (k bytes))).ending ≡ Ok e
             → (e' : Counts) × Did C (each treat d (k bytes)) (steps_of (exec C (each treat c (k bytes))).marks) (Ok e'))
@@ -145,15 +159,17 @@ module _ (plan : RestorePlan) (s : Super) (sums : Option TreeRoot) (C : Map) whe
   DoneSame met decision (journey.Within tree dirid e) ss =
       (n : Counts) → (e' : Counts) × Did C (done_about plan s sums met n decision) ss (Ok (journey.Within tree dirid e'))
 
+  -- where an entry is treated wholly by some steps, whatever was counted before, these were done
   done_as : (met : Met) (decision : Decision) (c : Counts) (with_one : Counts → Counts) (t : journey.Treated) (ss : List Step)
       → (exec C (done_about plan s sums met c decision)).ending ≡ Ok t
       → ((n : Counts) → Did C (done_about plan s sums met n decision) ss (Ok (journey.Over (with_one n))))
       → DoneSame met decision t (steps_of (exec C (done_about plan s sums met c decision)).marks)
   done_as met decision c with_one t ss h did =
-      let same = ok_same (exec C (done_about plan s sums met c decision)).ending (journey.Over (with_one c)) t (did c).1 h in
+      let same = same_value (exec C (done_about plan s sums met c decision)).ending (journey.Over (with_one c)) t (did c).1 h in
       subst (λ x. DoneSame met decision x (steps_of (exec C (done_about plan s sums met c decision)).marks)) same
       (λ n. (with_one n, ((did n).0 ∙ sym (did c).0, (did n).1)))
 
+  -- what is done about an entry to its end is the same, whatever was counted before
   done_same : (met : Met) (decision : Decision) (c : Counts) (t : journey.Treated) → (exec C (done_about plan s sums met c decision)).ending ≡ Ok t
       → DoneSame met decision t (steps_of (exec C (done_about plan s sums met c decision)).marks)
   done_same met (Skip cause) c t h =
@@ -166,18 +182,21 @@ module _ (plan : RestorePlan) (s : Super) (sums : Option TreeRoot) (C : Map) whe
   done_same met (Folder tree dirid) c t h =
       let did : (n : Counts) → Did C (done_about plan s sums met n (Folder tree dirid)) _ (Ok (journey.Within tree dirid (with_dir n))) =
       entered_did plan C met.entry.name met.path tree dirid in
-      let same = ok_same (exec C (done_about plan s sums met c (Folder tree dirid))).ending (journey.Within tree dirid (with_dir c)) t (did c).1 h in
+      let same = same_value (exec C (done_about plan s sums met c (Folder tree dirid))).ending (journey.Within tree dirid (with_dir c)) t (did c).1 h in
       subst (λ x. DoneSame met (Folder tree dirid) x (steps_of (exec C (done_about plan s sums met c (Folder tree dirid))).marks)) same
       (λ n. (with_dir n, ((did n).0 ∙ sym (did c).0, (did n).1)))
 
   module _ (deep : Bool) (below : journey.Listing) (free : EachCountless C below) where
     module _ (tree : TreeRoot) (dirid : ℕ) (path : List ℕ) (entry : DirEntry) where
+      -- the entry as it is met in its directory
       abbrev met : Met
       met = met_in deep tree dirid path entry
 
+      -- the lookups that decide about the entry
       abbrev lookup : Program Step Decision
       lookup = quiet (decided (rules_of plan) s met)
 
+      -- what restore does about the entry and in it
       abbrev whole : Counts → Program Step Counts
       whole counts = journey.treat plan s sums deep below tree dirid path counts entry
 
@@ -190,6 +209,7 @@ module _ (plan : RestorePlan) (s : Super) (sums : Option TreeRoot) (C : Map) whe
           (did_then C lookup (done_about plan s sums met n) decision [] ss (Ok t) (did_quiet C (decided (rules_of plan) s met) (Ok decision) comes) about)
           inside
 
+      -- by what the entry came to, the steps about it and in it are the same, whatever was counted before
       by_treated : (c d e : Counts) (decision : Decision) (t : journey.Treated) → (exec C (decided (rules_of plan) s met)).ending ≡ Ok decision
           → (exec C (done_about plan s sums met c decision)).ending ≡ Ok t → (exec C (journey.listed_in plan s sums below met.path t)).ending ≡ Ok e
           → DoneSame met decision t (steps_of (exec C (done_about plan s sums met c decision)).marks)
@@ -213,6 +233,7 @@ module _ (plan : RestorePlan) (s : Super) (sums : Option TreeRoot) (C : Map) whe
           (did_then C (below inner id met.path other.0) up inner_other.0 ts (way_up plan) (Ok inner_other.0) inner_other.1 (up_did plan C inner_other.0)) in
           (inner_other.0, (here.0 ∙ sym there.0, here.1))
 
+    -- an entry is treated to its end, with all that is in it, by the same steps, whatever was counted before
     pub treat_free : (tree : TreeRoot) (dirid : ℕ) (path : List ℕ) (entry : DirEntry)
         → Countless C (λ counts. journey.treat plan s sums deep below tree dirid path counts entry)
     treat_free tree dirid path entry c d e h =
@@ -222,6 +243,7 @@ module _ (plan : RestorePlan) (s : Super) (sums : Option TreeRoot) (C : Map) whe
         let comes = sym (quiet_ends Step C (decided (rules_of plan) s m)) ∙ about.1 in
         by_treated tree dirid path entry c d e about.0 in_it.0 comes about.2 in_it.2 (done_same m about.0 c in_it.0 about.2)
 
+  -- a directory is listed to its end by the same steps, whatever was counted before
   pub directory_free : (n : ℕ) → EachCountless C (journey.directory plan s sums n)
   directory_free zero tree dirid path =
       let nothing : journey.Listing = λ tree dirid path counts. Return counts in

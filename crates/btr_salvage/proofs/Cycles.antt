@@ -1,5 +1,6 @@
 -- A directory in another one.
-use Rattle.std.proofs.Common.{◌≡◌, ℕ, ◌+◌, Bool, List, Option, Result, Ok, Err, IsErrAnd, sym, ap, ◌∙◌, subst, arith, suc}
+use Rattle.std.proofs.Common.{◌≡◌, ℕ, ◌+◌, Bool, List, Option, Result, Ok, Err, refl, sym, ap, ◌∙◌, subst, arith, suc}
+use Rattle.std.specs.Prelude.{◌==◌}
 use Rattle.btr_prog.specs.Prog.{Return}
 use Rattle.btr_prog.specs.Trying.{attempt}
 use Rattle.btr_super.specs.declared.superblock.Super.{Super}
@@ -7,31 +8,26 @@ use Rattle.btr_volume.specs.declared.root.TreeRoot.{TreeRoot}
 use Rattle.btr_volume.specs.declared.stop.Stop.{Stop as TheStop}
 use Rattle.btr_files.specs.Entries.{DirEntry}
 use Rattle.btr_files.specs.declared.plan.RestorePlan.{RestorePlan}
-use Rattle.btr_listing.specs.Deciding.{Met, met_in}
 use Rattle.btr_listing.specs.Lines.{path_in}
 use Rattle.btr_listing.specs.Step.{Up}
 use Rattle.btr_restore.specs.Journey.{row}
 use Rattle.btr_restore.specs.Listing.{is_deep}
 use Rattle.btr_restore.specs.Running.{Outside, World, Wrote, world}
-use Rattle.btr_restore.proofs.Rans.{row_halt, row_then, wrote_none}
+use Rattle.btr_restore.specs.declared.job.Job.{Job}
+use Rattle.btr_restore.specs.declared.treated.Treated.{Treated}
+use Rattle.btr_restore.specs.declared.treated.Treated.TheVariants.{Over, Within}
+use Rattle.btr_restore.proofs.Cycles.{deep_is, meets, wrote_up}
 use Rattle.btr_salvage.specs.declared.salvaged.Salvaged.{Salvaged}
-use Rattle.btr_salvage.specs.Listing.{listing_in, treat_in}
-use Rattle.btr_salvage.specs.Running.{Ran}
+use Rattle.btr_salvage.specs.Listing.{listing_for, listing_in, treat_in, within_for}
+use Rattle.btr_salvage.specs.Running.{Ran, RanFor}
 use Rattle.btr_salvage.specs.Salvaging as salvaging
-use Rattle.btr_salvage.specs.Salvaging.{Attempt, SalvageListing, Treated, directory, listed_in}
-use Rattle.btr_salvage.specs.Treating.{counted}
+use Rattle.btr_salvage.specs.Salvaging.{Attempt, SalvageListing, directory, listed_in}
+use Rattle.btr_salvage.specs.Treating.{came_to, counted}
 use Rattle.btr_salvage.proofs.Rans.{ran_halt, ran_then, ran_value, ran_writes}
 
 -- the way up, and then a value
-wrote_up : (plan : RestorePlan) (so_far : Salvaged) (x y : Outside) (r : Result (Unit {0}) TheStop) → Wrote (row plan Up (Return tt)) x y r
-    → Wrote (row plan Up (Return so_far)) x y (counted so_far r)
-wrote_up plan so_far x y (Ok u) w = row_then _ _ _ _ _ _ _ w (wrote_none so_far y)
-wrote_up plan so_far x y (Err t) w = row_halt _ _ _ _ _ _ w
-
--- a stop that is passed on
-pub counted_passed : (so_far : Salvaged) (r : Result (Unit {0}) TheStop) (s : TheStop) → IsErrAnd r (λ e. e ≡ s) → IsErrAnd (counted so_far r) (λ e. e ≡ s)
-counted_passed so_far (Ok u) s is = absurd is
-counted_passed so_far (Err e) s is = is
+abbrev up : RestorePlan → Salvaged → Attempt Salvaged
+up plan after = attempt (row plan Up (Return after))
 
 -- the listing of one of some places
 listing_is : (plan : RestorePlan) (s : Super) (sums : Option TreeRoot) (folders below : ℕ) → folders ≡ below + 1 → listing_in plan s sums folders
@@ -41,59 +37,66 @@ listing_is plan s sums folders below e = ap (listing_in plan s sums) (e ∙ step
     step : (k : ℕ) → k + 1 ≡ suc k
     step k = omega arith
 
--- an entry of a path, by the path of its directory
-pub treated_in : (plan : RestorePlan) (s : Super) (sums : Option TreeRoot) (deep : Bool) (tree : TreeRoot) (dirid : ℕ) (path here : List ℕ)
-    (so_far : Salvaged) (entry : DirEntry) (x y : World) (r : Result Treated TheStop) → here ≡ path_in path entry.name
-    → Ran (salvaging.treated plan s sums (record { tree = tree; dirid = dirid; deep = deep; path = here; entry = entry }) so_far) x y r
-    → Ran (salvaging.treated plan s sums (met_in deep tree dirid path entry) so_far) x y r
-treated_in plan s sums deep tree dirid path here so_far entry x y r at h =
-    let Met_at : List ℕ → Met = λ p. record { tree = tree; dirid = dirid; deep = deep; path = p; entry = entry } in
-    subst (λ (p : List ℕ). Ran (salvaging.treated plan s sums (Met_at p) so_far) x y r) at h
+-- an entry of a directory, with what is in it: what is done about it, and then what is listed there
+module _ (job : Job) (k : ℕ) (tree : TreeRoot) (dirid : ℕ) (path : List ℕ) (so_far : Salvaged) (entry : DirEntry) {deep : Bool} (is : deep ≡ (k == 0))
+    {p here : List ℕ} (at : p ≡ path_in path entry.name) (seen : here ≡ p) where
+  -- the entry alone: what it comes to, and what is done about it
+  abbrev first_part : Super → Bool → List ℕ → Attempt salvaging.Treated
+  first_part s b q = salvaging.treated job.plan s job.sums (meets tree dirid entry b q) so_far
 
--- what is done with an entry, as far as it was treated
-module _ (plan : RestorePlan) (s : Super) (sums : Option TreeRoot) (k : ℕ) (deep : Bool) (is : deep ≡ is_deep k) (tree : TreeRoot) (dirid : ℕ) (path : List ℕ)
-    (so_far : Salvaged) (entry : DirEntry) (x y z : World) where
-  abbrev Whole : Result Salvaged TheStop → World → Type 0
-  Whole r w = Ran (treat_in plan s sums k tree dirid path so_far entry) x w r
+  -- what is listed in the entry if it was entered, and the way up
+  abbrev then_part : Super → List ℕ → salvaging.Treated → Attempt Salvaged
+  then_part s = listed_in job.plan s job.sums (listing_in job.plan s job.sums k)
 
-  abbrev first_part : Bool → Attempt Treated
-  first_part b = salvaging.treated plan s sums (met_in b tree dirid path entry) so_far
+  abbrev whole : Super → Attempt Salvaged
+  whole s = treat_in job.plan s job.sums k tree dirid path so_far entry
 
-  abbrev then_part : Treated → Attempt Salvaged
-  then_part = listed_in plan s sums (listing_in plan s sums k) (path_in path entry.name)
+  -- what was done about it, by the path of its directory
+  as_met : {x y : World} (s : Super) (r : Result salvaging.Treated TheStop) → Ran (first_part s deep here) x y r
+      → Ran (first_part s (is_deep k) (path_in path entry.name)) x y r
+  as_met {x} {y} s r h = subst (λ (b : Bool). Ran (first_part s b (path_in path entry.name)) x y r) (is ∙ deep_is k)
+      (subst (λ (q : List ℕ). Ran (first_part s deep q) x y r) (seen ∙ at) h)
 
-  as_first : (r : Result Treated TheStop) → Ran (first_part deep) x y r → Ran (first_part (is_deep k)) x y r
-  as_first r h = subst (λ (b : Bool). Ran (first_part b) x y r) is h
+  -- it was not treated to its end
+  pub entry_halts : {x y : World} (t : TheStop) → RanFor (λ s. first_part s deep here) x y (Err t) → RanFor whole x y (Err t)
+  entry_halts {x} {y} t h s e =
+      ran_halt (first_part s (is_deep k) (path_in path entry.name)) (then_part s (path_in path entry.name)) x y y t (as_met s (Err t) (h s e))
 
-  pub entry_halts : (t : TheStop) → Ran (first_part deep) x y (Err t) → Whole (Err t) y
-  entry_halts t h = ran_halt (first_part (is_deep k)) then_part x y y t (as_first (Err t) h)
+  module _ {x y : World} (after : Salvaged) {treated : Treated} (did : RanFor (λ s. first_part s deep here) x y (Ok (came_to after treated))) where
+    -- what was done about it, by what it came to, and then what was listed
+    then_lists : {z : World} {r : Result Salvaged TheStop} (to : Treated) → treated ≡ to
+        → RanFor (λ s. then_part s (path_in path entry.name) (came_to after to)) y z r → RanFor whole x z r
+    then_lists {z} {r} to came h s e =
+        let first = as_met s (Ok (came_to after to)) (subst (λ (t : Treated). Ran (first_part s deep here) x y (Ok (came_to after t))) came (did s e)) in
+        ran_then (first_part s (is_deep k) (path_in path entry.name)) (then_part s (path_in path entry.name)) x y z (came_to after to) r first
+        (h s (e ∙ sym first.volume.sup))
 
-  pub entry_over : (after : Salvaged) → Ran (first_part deep) x y (Ok (salvaging.Over after)) → Whole (Ok after) y
-  entry_over after h = ran_then (first_part (is_deep k)) then_part x y y (salvaging.Over after) (Ok after) (as_first (Ok (salvaging.Over after)) h)
-      (ran_value after y h.ready)
+    -- it was treated wholly
+    pub entry_over : treated ≡ Over → RanFor whole x y (Ok after)
+    entry_over came = then_lists Over came (λ s e. ran_value after y (did x.vol.sup refl).ready)
 
-  pub entry_within : (inner : TreeRoot) (ino : ℕ) (after : Salvaged) (r : Result Salvaged TheStop)
-      → Ran (first_part deep) x y (Ok (salvaging.Within inner ino after)) → Ran (then_part (salvaging.Within inner ino after)) y z r → Whole r z
-  entry_within inner ino after r h g = ran_then (first_part (is_deep k)) then_part x y z (salvaging.Within inner ino after) r
-      (as_first (Ok (salvaging.Within inner ino after)) h) g
+    -- it was entered, and what is in it was listed
+    pub entry_within : {inner : TreeRoot} {ino : ℕ} {z : World} {r : Result Salvaged TheStop} → treated ≡ Within inner ino
+        → RanFor (λ s. then_part s p (salvaging.Within inner ino after)) y z r → RanFor whole x z r
+    entry_within {inner} {ino} {z} {r} came h = then_lists (Within inner ino) came
+        (λ s e. subst (λ (q : List ℕ). Ran (then_part s q (salvaging.Within inner ino after)) y z r) at (h s e))
 
 -- what is in a directory, and the way up
-module _ (plan : RestorePlan) (s : Super) (sums : Option TreeRoot) (folders below : ℕ) (is : folders ≡ below + 1) (inner : TreeRoot) (dirid : ℕ) (path : List ℕ)
-    (so_far : Salvaged) (x y : World) where
-  abbrev up : Salvaged → Attempt Salvaged
-  up after = attempt (row plan Up (Return after))
+module _ (job : Job) (folders below : ℕ) (is : folders ≡ below + 1) (inner : TreeRoot) (dirid : ℕ) (path : List ℕ) (so_far : Salvaged) {x y : World} where
+  -- what its listing did, by the places that there are
+  as_listed : (s : Super) (r : Result Salvaged TheStop) → Ran (directory job.plan s job.sums below inner dirid path so_far) x y r
+      → Ran (listing_in job.plan s job.sums folders inner dirid path so_far) x y r
+  as_listed s r h = subst (λ (l : SalvageListing). Ran (l inner dirid path so_far) x y r) (sym (listing_is job.plan s job.sums folders below is)) h
 
-  as_listed : (r : Result Salvaged TheStop) → Ran (directory plan s sums below inner dirid path so_far) x y r
-      → Ran (listing_in plan s sums folders inner dirid path so_far) x y r
-  as_listed r h = subst (λ (l : SalvageListing). Ran (l inner dirid path so_far) x y r) (sym (listing_is plan s sums folders below is)) h
+  -- it was not listed to its end
+  pub within_halts : (t : TheStop) → RanFor (listing_for job below inner dirid path so_far) x y (Err t)
+      → RanFor (within_for job folders path inner dirid so_far) x y (Err t)
+  within_halts t h s e = ran_halt (listing_in job.plan s job.sums folders inner dirid path so_far) (up job.plan) x y y t (as_listed s (Err t) (h s e))
 
-  pub within_halts : (t : TheStop) → Ran (directory plan s sums below inner dirid path so_far) x y (Err t)
-      → Ran (listed_in plan s sums (listing_in plan s sums folders) path (salvaging.Within inner dirid so_far)) x y (Err t)
-  within_halts t h = ran_halt (listing_in plan s sums folders inner dirid path so_far) up x y y t (as_listed (Err t) h)
-
-  pub within_up : (after : Salvaged) (z : Outside) (r : Result (Unit {0}) TheStop) → Ran (directory plan s sums below inner dirid path so_far) x y (Ok after)
-      → Wrote (row plan Up (Return tt)) y.out z r → Ran (listed_in plan s sums (listing_in plan s sums folders) path (salvaging.Within inner dirid so_far)) x
-      (world y.rack y.vol z) (counted after r)
-  within_up after z r h w = ran_then (listing_in plan s sums folders inner dirid path so_far) up x y (world y.rack y.vol z) after (counted after r)
-      (as_listed (Ok after) h)
-      (ran_writes (row plan Up (Return after)) y.rack y.vol y.out z (counted after r) h.ready (wrote_up plan after y.out z r w))
+  -- all of it was listed
+  pub within_up : (after : Salvaged) {z : Outside} {r : Result (Unit {0}) TheStop} → RanFor (listing_for job below inner dirid path so_far) x y (Ok after)
+      → Wrote (row job.plan Up (Return tt)) y.out z r → RanFor (within_for job folders path inner dirid so_far) x (world y.rack y.vol z) (counted after r)
+  within_up after {z} {r} h w s e =
+      ran_then (listing_in job.plan s job.sums folders inner dirid path so_far) (up job.plan) x y (world y.rack y.vol z) after (counted after r)
+      (as_listed s (Ok after) (h s e))
+      (ran_writes (row job.plan Up (Return after)) y.rack y.vol y.out z (counted after r) (h s e).ready (wrote_up job.plan after y.out z r w))

@@ -14,9 +14,7 @@ use Rattle.btr_walk.specs.Reading.{Map}
 use Rattle.btr_volume.specs.Lookup.{Program, each}
 use Rattle.btr_prog.specs.Attempts.{ending_of, on_value, value_then}
 
-pub ok_same : {A F : Type 0} (x : Result A F) (a b : A) → x ≡ Ok a → x ≡ Ok b → a ≡ b
-ok_same x a b e f = cc
-
+-- a lookup has no steps among its marks
 quiet_steps : {W S : Type 0} (ms : List (Mark W ⊥)) → steps_of (quiet_marks {S = S} ms) ≡ []
 quiet_steps [] = refl
 quiet_steps (Wants w ∷ ms) = quiet_steps ms
@@ -50,6 +48,7 @@ module _ {W F S : Type 0} (B : BlockMap W F) where
   value_by p k c (Err f) e h =
       let g = sym (ap (λ (r : Run W F S _). r.ending) (exec-bind B p k ∙ after-err (exec B p) f (λ y. exec B (k y)) e)) ∙ h in absurd (cc)
 
+  -- where two programs in a row come to a value, the first came to one from which the second comes to it
   pub bind_value : {A C : Type 0} (p : Prog W F S A) (k : A → Prog W F S C) (c : C) → (exec B (bind p k)).ending ≡ Ok c → (a : A) × ((exec B p).ending ≡ Ok a)
       × ((exec B (k a)).ending ≡ Ok c)
   bind_value p k c h = value_by p k c (exec B p).ending refl h
@@ -60,6 +59,7 @@ module _ {W F S : Type 0} (B : BlockMap W F) where
   did_unless true s p ss x h = h
   did_unless false s p ss x h = (ap (λ l. s ∷ l) h.0, h.1)
 
+  -- a program ends so too without a step that a flag may leave out before it
   pub unless_ends : {A : Type 0} (b : Bool) (s : S) (p : Prog W F S A) (x : Result A F) → (exec B (cond b p (Emit s p))).ending ≡ x → (exec B p).ending ≡ x
   unless_ends true s p x h = h
   unless_ends false s p x h = h
@@ -77,6 +77,7 @@ module _ {W F S : Type 0} (B : BlockMap W F) where
     quiet_ends S B p ∙ h,
   )
 
+  -- one that tries its wants, and then another by its value
   pub came_then : {A C : Type 0} (p : Trying W F S A) (k : A → Trying W F S C) (a : A) (ss ts : List S) (c : C) → Came p ss a → Came (k a) ts c
       → Came (try_then p k) (ss ++ ts) c
   came_then p k a ss ts c h g =
@@ -88,10 +89,12 @@ module _ {W F S : Type 0} (B : BlockMap W F) where
         ap (λ (r : Run W F S _). r.ending) e ∙ g.1,
       )
 
+  -- one that tries its wants and hands on a value, and then another by that value
   pub came_value : {A C : Type 0} (p : Trying W F S (Result A F)) (k : A → Trying W F S (Result C F)) (a : A) (ss ts : List S) (x : Result C F)
       → Came p ss (Ok a) → Came (k a) ts x → Came (value_then p k) (ss ++ ts) x
   came_value p k a ss ts x h g = came_then p (on_value k) (Ok a) ss ts x h g
 
+  -- a program as a part of one that tries its wants does its steps, and its ending is handed on
   pub came_attempt : {A : Type 0} (p : Prog W F S A) (ss : List S) (x : Result A F) → Did p ss x → Came (attempt p) ss x
   came_attempt p ss x h = (
     ap (λ (r : Run W F S _). steps_of r.marks) (tried-attempt B p) ∙ h.0,
@@ -109,9 +112,11 @@ module _ {W F S : Type 0} (B : BlockMap W F) where
       (refl, ap Ok h)
 
 module _ {S T St : Type 0} (B : Map) (treat : St → S → Program T St) where
+  -- the others are treated, if the first came to a value
   abbrev more : Program S (Unit {0}) → Result St St → Program T St
   more p = go_on (λ st. each treat st p)
 
+  -- a step is treated, and its value is the one to go on with
   abbrev one : St → S → Program T (Result St St)
   one st s = bind (treat st s) (λ st'. Return (Ok st'))
 
@@ -125,6 +130,7 @@ module _ {S T St : Type 0} (B : Map) (treat : St → S → Program T St) where
       (exec B (each treat after p)).ending
       (first.0 ∙ append-nil (steps_of (exec B (treat st s)).marks), first.1) (refl, refl)
 
+  -- where all steps are treated to a value, so is the first
   pub first_value : (st last : St) (s : S) (p : Program S (Unit {0})) → (exec B (each treat st (Emit s p))).ending ≡ Ok last → (after : St)
       × ((exec B (treat st s)).ending ≡ Ok after)
   first_value st last s p h =
@@ -132,6 +138,7 @@ module _ {S T St : Type 0} (B : Map) (treat : St → S → Program T St) where
       let first = bind_value B (treat st s) (λ st'. Return (Ok st')) both.0 both.1 in
       (first.0, first.1)
 
+  -- where the steps behind a want are treated to a value, the program behind it came to its end, if so for all bytes
   given_value : (x : Result (List ℕ) Fault) (k : List ℕ → Program S (Unit {0})) (st last : St)
       → ((bytes : List ℕ) → (exec B (each treat st (k bytes))).ending ≡ Ok last → (exec B (k bytes)).ending ≡ Ok tt)
       → (given x (λ bytes. exec B (each treat st (k bytes)))).ending ≡ Ok last → (given x (λ bytes. exec B (k bytes))).ending ≡ Ok tt

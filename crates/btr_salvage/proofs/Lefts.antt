@@ -27,25 +27,26 @@ use Rattle.btr_listing.specs.Lines.{counts_line, no_counts, skip_line, with_dir,
 use Rattle.btr_listing.specs.Step as step
 use Rattle.btr_listing.specs.Step.{Step, Line}
 use Rattle.btr_restore.specs.Committed.{committed}
-use Rattle.btr_restore.specs.Journey.{closed, done_about, empty, entered, has_no_sums, listing, most_depth, pieces, put, restored, row, rules_of, sums_lookup}
-use Rattle.btr_restore.specs.Journey.{told, unverified, written}
+use Rattle.btr_restore.specs.Journey.{done_about, has_no_sums, listing, most_depth, pieces, put, restored, row, rules_of, sums_lookup}
 use Rattle.btr_restore.specs.Journey as journey
 use Rattle.btr_salvage.specs.declared.salvaged.Salvaged.{Salvaged}
 use Rattle.btr_prog.specs.Attempts.{came_of, on_value, tried_run, value_then}
 use Rattle.btr_salvage.specs.Laws.{HonestSalvage}
-use Rattle.btr_salvage.specs.Left.{ByDecision, IsEntered, IsKept, IsLeft, IsMissing, IsTreated, NeedsLost, OfDirectory, way_up}
+use Rattle.btr_salvage.specs.Left.{ByDecision, IsEntered, IsAllLeft, IsLeft, IsMissing, IsTreated, NeedsLost, OfDirectory, way_up}
 use Rattle.btr_salvage.specs.Lines.{missing_line, nothing_yet, salvaged, salvaged_line, with_broken}
 use Rattle.btr_salvage.specs.Salvaging.{Attempt, SalvageListing, Treated, Over, Within, begun, beside, broken, by_lookup, by_reading, carried_out, directory}
-use Rattle.btr_salvage.specs.Salvaging.{from_root, from_tree, listed, listed_in, on_decision, reading, salvage_run, salvaging, summed_up, treat, treated, tries}
+use Rattle.btr_salvage.specs.Salvaging.{from_root, from_tree, listed, listed_in, on_decision, reading, salvaging, summed_up, treat, treated, tries}
 use Rattle.btr_salvage.specs.Salvaging as salvaging
 use Rattle.btr_salvage.proofs.Countless.{EachCountless, closing, directory_free, empty_did, entered_did, nothing_free, pieces_value, treat_free}
 use Rattle.btr_salvage.proofs.Countless.{unless_dry, up_did, written_did}
 use Rattle.btr_salvage.proofs.Endings.{Came, Did, bind_value, came_attempt, came_ending, came_then, came_value, did_quiet, did_then, did_unless}
-use Rattle.btr_salvage.proofs.Endings.{each_value, ok_same, unless_ends}
+use Rattle.btr_restore.proofs.Held.{same_value}
+use Rattle.btr_salvage.proofs.Endings.{each_value, unless_ends}
 use Rattle.btr_salvage.proofs.Keeping.{Keeps, keeps_honest, same_or_lost, stops_lost}
 use Rattle.btr_salvage.proofs.Parts.{EachEntry, FolderLeft, folder_left}
 use Rattle.btr_salvage.proofs.Twice.{read_twice}
 
+-- what came to a fault came to no value
 not_ok : {A : Type 0} (x : Result A Fault) (fault : Fault) → x ≡ Err fault → IsOk x → ⊥
 not_ok x fault i g = cc
 
@@ -61,15 +62,18 @@ module _ (plan : RestorePlan) (wet : plan.dry ≡ false) (s : Super) (sums : Opt
     pub came : Came B (here tree dirid path so_far) left (Ok after)
     pub is : Inside tree dirid path whole left
 
+  -- salvage leaves something of each directory whose committed listing comes to its end
   abbrev pub EachBelow : Type 0
   EachBelow =
       (tree : TreeRoot) (dirid : ℕ) (path : List ℕ) (counts end : Counts) (so_far : Salvaged) → (exec C (below tree dirid path counts)).ending ≡ Ok end
       → BelowLeft tree dirid path so_far (steps_of (exec C (below tree dirid path counts)).marks)
 
   module _ (each_below : EachBelow) (met : Met) (counts end : Counts) (so_far : Salvaged) where
+    -- the lookups that decide about the entry
     abbrev lookups : Lookup Decision
     lookups = decided (rules_of plan) s met
 
+    -- the line that the entry is left out, as a block of it is lost
     abbrev broken_line : Want → Step
     broken_line want = Line (missing_line (codes "broken") (Lost (addr_of want)) met.path)
 
@@ -85,6 +89,7 @@ module _ (plan : RestorePlan) (wet : plan.dry ≡ false) (s : Super) (sums : Opt
           ByDecision plan s sums B C Inside met decision whole (first ++ rest)
           ⊎ (want : Want) × NeedsLost plan s sums B C met want × (first ++ rest ≡ broken_line want ∷ [])
 
+    -- what is left of an entry by one program is left of it by another that comes to the same
     outcome_as : (p q : Attempt Treated) (decision : Decision) (whole : List Step)
         → ((ss : List Step) (to : Treated) → Came B p ss (Ok to) → Came B q ss (Ok to)) → LeftOutcome p decision whole → LeftOutcome q decision whole
     outcome_as p q decision whole f o = record {
@@ -116,20 +121,22 @@ module _ (plan : RestorePlan) (wet : plan.dry ≡ false) (s : Super) (sums : Opt
         (goes : (exec C (journey.listed_in plan s sums below met.path t)).ending ≡ Ok end)
         (all : whole ≡ steps_of (exec C (done_about plan s sums met counts decision)).marks
         ++ steps_of (exec C (journey.listed_in plan s sums below met.path t)).marks) where
+      -- what restore does about the entry in the committed blocks
       abbrev done_there : List Step
       done_there = steps_of (exec C (done_about plan s sums met counts decision)).marks
 
+      -- what restore lists in it there, and the way up
       abbrev inside_there : journey.Treated → List Step
       inside_there x = steps_of (exec C (journey.listed_in plan s sums below met.path x)).marks
 
       -- it is treated to its end
-      kept : (ss : List Step) (c : Counts → Counts) (c' : Counts) → ((w l : List Step) → IsKept plan s sums B C met decision w l
+      kept : (ss : List Step) (c : Counts → Counts) (c' : Counts) → ((w l : List Step) → IsAllLeft plan s sums B C met decision w l
           → ByDecision plan s sums B C Inside met decision w l)
           → ((n : Counts) → Did C (done_about plan s sums met n decision) ss (Ok (journey.Over (c n))))
           → Did B (done_about plan s sums met so_far.counts decision) ss (Ok (journey.Over c'))
           → LeftOutcome (carried_out plan s sums met so_far decision) decision whole
       kept ss c c' how there done =
-          let over = ok_same (exec C (done_about plan s sums met counts decision)).ending t (journey.Over (c counts)) ends (there counts).1 in
+          let over = same_value (exec C (done_about plan s sums met counts decision)).ending t (journey.Over (c counts)) ends (there counts).1 in
           let is : whole ≡ done_there = all ∙ ap (λ x. done_there ++ inside_there x) over ∙ append-nil done_there in
           let handed : journey.Treated → Attempt Treated = λ to. Done (Ok (beside so_far.broken to)) in
           record {
@@ -155,7 +162,7 @@ module _ (plan : RestorePlan) (wet : plan.dry ≡ false) (s : Super) (sums : Opt
           → LeftOutcome (carried_out plan s sums met so_far decision) decision whole
       entered_into tree dirid es how there done =
           let up : Counts → Program Step Counts = λ after. row plan step.Up (Return after) in
-          let went = ok_same (exec C (done_about plan s sums met counts decision)).ending t (journey.Within tree dirid (with_dir counts)) ends
+          let went = same_value (exec C (done_about plan s sums met counts decision)).ending t (journey.Within tree dirid (with_dir counts)) ends
           (there counts).1 in
           let v = bind_value C (below tree dirid met.path (with_dir counts)) up end
           (sym (ap (λ x. (exec C (journey.listed_in plan s sums below met.path x)).ending) went) ∙ goes) in
@@ -191,12 +198,15 @@ module _ (plan : RestorePlan) (wet : plan.dry ≡ false) (s : Super) (sums : Opt
         (goes : (exec C (journey.listed_in plan s sums below met.path t)).ending ≡ Ok end)
         (all : whole ≡ steps_of (exec C (done_about plan s sums met counts (File inode))).marks
         ++ steps_of (exec C (journey.listed_in plan s sums below met.path t)).marks) where
+      -- the bytes of the file, piece by piece
       abbrev bytes : Program Piece (Unit {0})
       bytes = content (kind_in s) sums (has_no_sums inode) inode.size met.tree (target met)
 
+      -- the pieces of the file as restore puts them
       abbrev puts : Program Step Bool
       puts = pieces plan s sums met.tree (target met) inode
 
+      -- what salvage does with the file
       abbrev the_file : Attempt Treated
       the_file = salvaging.file plan s sums met so_far inode
 
@@ -204,6 +214,7 @@ module _ (plan : RestorePlan) (wet : plan.dry ≡ false) (s : Super) (sums : Opt
       bytes_ended : (plain : Bool) → (exec C puts).ending ≡ Ok plain → (exec C bytes).ending ≡ Ok tt
       bytes_ended plain e = each_value C put bytes false plain (sym (ap (λ dry. (exec C (cond dry (Return false) (each put false bytes))).ending) wet) ∙ e)
 
+      -- the file comes to what is done by how the first reading of its bytes ended
       on_bytes : (x : Result (Unit {0}) Fault) (ss : List Step) (to : Treated) → (exec B bytes).ending ≡ x
           → Came B (by_reading plan s sums met so_far inode x) ss (Ok to) → Came B the_file ss (Ok to)
       on_bytes x ss to e came = came_then B (reading plan s sums met.tree (target met) inode) (by_reading plan s sums met so_far inode) x [] ss (Ok to)
@@ -224,6 +235,7 @@ module _ (plan : RestorePlan) (wet : plan.dry ≡ false) (s : Super) (sums : Opt
           (kept (File inode) t whole ends goes all ss with_file (with_file so_far.counts) (λ w l i. i)
           (λ n. written_did plan C s sums met.tree (target met) inode met.entry.name met.path n plain e) (done_same, done.1))
 
+      -- the file is put, or it is left out for the first block of its bytes that is lost
       file_by : (plain : Bool) → (exec C puts).ending ≡ Ok plain → (exec B bytes ≡ exec C bytes) ⊎ Loses B (exec C bytes) (exec B bytes)
           → LeftOutcome the_file (File inode) whole
       file_by plain e (inl same) =
@@ -233,6 +245,7 @@ module _ (plan : RestorePlan) (wet : plan.dry ≡ false) (s : Super) (sums : Opt
           missed the_file m.want (File inode) whole (inr (inode, comes, (m, refl)))
           (on_bytes (Err (Lost (addr_of m.want))) (broken_line m.want ∷ []) (Over (with_broken so_far)) stops (refl, refl))
 
+      -- a file that restore writes in the committed blocks is written by salvage too, or left out for a lost block
       file_did : LeftOutcome the_file (File inode) whole
       file_did =
           let v = pieces_value plan C s sums met.tree (target met) inode met.entry.name met.path counts t ends in
@@ -260,6 +273,7 @@ module _ (plan : RestorePlan) (wet : plan.dry ≡ false) (s : Super) (sums : Opt
     abbrev the_entry : Attempt Treated
     the_entry = treated plan s sums met so_far
 
+    -- the entry comes to what is done by how its lookups ended
     on_lookup : (x : Result Decision Fault) (ss : List Step) (to : Treated) → (exec B lookups).ending ≡ x
         → Came B (by_lookup plan s sums met so_far x) ss (Ok to) → Came B the_entry ss (Ok to)
     on_lookup x ss to e came =
@@ -270,6 +284,7 @@ module _ (plan : RestorePlan) (wet : plan.dry ≡ false) (s : Super) (sums : Opt
         (goes : (exec C (journey.listed_in plan s sums below met.path t)).ending ≡ Ok end)
         (all : whole ≡ steps_of (exec C (done_about plan s sums met counts decision)).marks
         ++ steps_of (exec C (journey.listed_in plan s sums below met.path t)).marks) where
+      -- the entry is treated by what it comes to, or left out for the first block of its lookups that is lost
       entry_by : (exec B lookups ≡ exec C lookups) ⊎ Loses B (exec C lookups) (exec B lookups) → LeftOutcome the_entry decision whole
       entry_by (inl same) =
           outcome_as (on_decision plan s sums met so_far decision) the_entry decision whole
@@ -280,12 +295,14 @@ module _ (plan : RestorePlan) (wet : plan.dry ≡ false) (s : Super) (sums : Opt
           (on_lookup (Err (Lost (addr_of m.want))) (broken_line m.want ∷ []) (Over (with_broken so_far)) (stops_lost B C keeps lookups decision comes m)
           (refl, refl))
 
+      -- an entry that restore treats to its end is treated so by salvage too, or left out and named with a lost block
       pub entry_did : LeftOutcome the_entry decision whole
       entry_did = entry_by (same_or_lost B C keeps lookups decision comes)
 
   -- ---- an entry of a directory, and the directory
 
   module _ (each_below : EachBelow) (tree : TreeRoot) (dirid : ℕ) (path : List ℕ) where
+    -- each entry of a directory that restore treats to its end is treated so by salvage, or left out and named
     pub each_entry : EachEntry plan s sums B C keeps deep below here Inside tree dirid path
     each_entry entry counts end so_far h =
         let met = met_in deep tree dirid path entry in
@@ -307,9 +324,11 @@ module _ (plan : RestorePlan) (wet : plan.dry ≡ false) (s : Super) (sums : Opt
           is = by_is (o.first ++ o.rest) about.0 comes o.is;
         }
       where
+        -- what restore does in the committed blocks about the entry and in it
         whole_entry : List Step
         whole_entry = steps_of (exec C (journey.treat plan s sums deep below tree dirid path counts entry)).marks
 
+        -- what the entry came to is what is left of it in its directory
         by_is : (left : List Step) (decision : Decision)
             → (exec C (decided (rules_of plan) s (met_in deep tree dirid path entry))).ending ≡ Ok decision
             → ByDecision plan s sums B C Inside (met_in deep tree dirid path entry) decision whole_entry left
@@ -325,6 +344,7 @@ module _ (plan : RestorePlan) (wet : plan.dry ≡ false) (s : Super) (sums : Opt
           named = m.2;
         }
 
+    -- salvage lists a directory whose committed listing comes to its end, and leaves all of it but what needs lost blocks
     pub folder_did : (counts end : Counts) (so_far : Salvaged) → (exec C (journey.listed plan s sums deep below tree dirid path counts)).ending ≡ Ok end
         → FolderLeft plan s sums B C keeps deep below here Inside tree dirid path (treat_free plan s sums C deep below free tree dirid path) each_entry so_far
         (steps_of (exec C (journey.listed plan s sums deep below tree dirid path counts)).marks)
@@ -334,15 +354,19 @@ module _ (plan : RestorePlan) (wet : plan.dry ≡ false) (s : Super) (sums : Opt
 
 module _ (plan : RestorePlan) (wet : plan.dry ≡ false) (s : Super) (B C : Map) (keeps : Keeps B C) where
   module _ (sums : Option TreeRoot) where
+    -- below the deepest directory restore lists nothing
     nothing_below : (tree : TreeRoot) (dirid : ℕ) (path : List ℕ) (counts : Counts) → Program Step Counts
     nothing_below tree dirid path counts = Return counts
 
+    -- below the deepest directory salvage lists nothing
     nothing_here : (tree : TreeRoot) (dirid : ℕ) (path : List ℕ) (so_far : Salvaged) → Attempt Salvaged
     nothing_here tree dirid path so_far = Done (Ok so_far)
 
+    -- nothing was to be done there, and nothing is left
     abbrev Nothing : TreeRoot → ℕ → List ℕ → List Step → List Step → Type 0
     Nothing tree dirid path whole left = (whole ≡ []) × (left ≡ [])
 
+    -- salvage leaves something of each directory below which so many more may be entered
     directory_did : (n : ℕ) → EachBelow plan wet s sums B C keeps false (journey.directory plan s sums n) (directory_free plan s sums C n)
         (directory plan s sums n) (OfDirectory plan s sums B C n)
     directory_did zero tree dirid path counts end so_far h =
@@ -357,6 +381,7 @@ module _ (plan : RestorePlan) (wet : plan.dry ≡ false) (s : Super) (B C : Map)
         record { after = f.after; left = f.left; came = f.came; is = f.is }
 
   module _ (dest : List ℕ) (counts : Counts) (so_far : Salvaged) (has : (tried_run B (salvaging plan dest s)).ending ≡ Ok so_far) where
+    -- what salvage did is what is left of these steps of restore
     abbrev IsLeftOf : List Step → Type 0
     IsLeftOf whole = IsLeft plan dest s B C counts so_far whole (steps_of (tried_run B (salvaging plan dest s)).marks)
 
@@ -364,9 +389,11 @@ module _ (plan : RestorePlan) (wet : plan.dry ≡ false) (s : Super) (B C : Map)
     salvaged_is : (ss : List Step) (x : Result Salvaged Fault) → Came B (salvaging plan dest s) ss x → x ≡ Ok so_far
     salvaged_is ss x came = sym (ap came_of came.1) ∙ has
 
+    -- salvage came to its end, and so to no fault
     not_lost : {A : Type 0} (fault : Fault) → (let x : Result Salvaged Fault = Err fault in x) ≡ Ok so_far → A
     not_lost fault e = absurd (cc)
 
+    -- salvage comes to what is done by how the lookup of the start tree ended
     on_root : (x : Result (Option TreeRoot) Fault) (ss : List Step) (y : Result Salvaged Fault) → (exec B (tree_of s plan.root)).ending ≡ x
         → Came B (on_value (from_root plan dest s) x) ss y → Came B (salvaging plan dest s) ss y
     on_root x ss y e came =
@@ -375,6 +402,7 @@ module _ (plan : RestorePlan) (wet : plan.dry ≡ false) (s : Super) (B C : Map)
 
     module _ (tree : TreeRoot) (root : (exec C (tree_of s plan.root)).ending ≡ Ok (Some tree))
         (root_there : (exec B (tree_of s plan.root)).ending ≡ Ok (Some tree)) where
+      -- salvage comes to what is done by how the lookup of the checksum tree ended
       on_sums : (x : Result (Option TreeRoot) Fault) (ss : List Step) (y : Result Salvaged Fault) → (exec B (tree_of s 7)).ending ≡ x
           → Came B (on_value (from_tree plan dest s tree) x) ss y → Came B (salvaging plan dest s) ss y
       on_sums x ss y e came =
@@ -384,21 +412,27 @@ module _ (plan : RestorePlan) (wet : plan.dry ≡ false) (s : Super) (B C : Map)
 
       module _ (sums : Option TreeRoot) (sums_are : (exec C (tree_of s 7)).ending ≡ Ok sums) (sums_there : (exec B (tree_of s 7)).ending ≡ Ok sums)
           (ends : (exec C (restored plan dest s tree sums)).ending ≡ Ok counts) where
+        -- the line of the counts
         abbrev tell : Counts → Program Step Counts
         tell c = Emit (Line (counts_line c)) (Return c)
 
+        -- the listing of the top directory by restore
         abbrev top : Program Step Counts
         top = journey.directory plan s sums most_depth tree tree.dirid [] no_counts
 
+        -- the listing of the top directory by salvage
         abbrev top_here : Attempt Salvaged
         top_here = directory plan s sums most_depth tree tree.dirid [] nothing_yet
 
+        -- in the committed blocks restore's listing of the top directory comes to counts, which are told
         top_value : (c : Counts) × ((exec C top).ending ≡ Ok c) × ((exec C (tell c)).ending ≡ Ok counts)
         top_value = bind_value C top tell counts (unless_ends C plan.dry (step.Start dest) (bind top tell) (Ok counts) ends)
 
+        -- those counts are the ones that restore ends with
         top_counts : top_value.0 ≡ counts
-        top_counts = sym (ok_same (exec C (tell top_value.0)).ending counts top_value.0 top_value.2 refl)
+        top_counts = sym (same_value (exec C (tell top_value.0)).ending counts top_value.0 top_value.2 refl)
 
+        -- what salvage leaves of the top directory
         top_did : BelowLeft plan wet s sums B C keeps false (journey.directory plan s sums most_depth) (directory_free plan s sums C most_depth)
             (directory plan s sums most_depth)
             (OfDirectory plan s sums B C most_depth) tree tree.dirid [] nothing_yet (steps_of (exec C top).marks)
@@ -408,6 +442,7 @@ module _ (plan : RestorePlan) (wet : plan.dry ≡ false) (s : Super) (B C : Map)
         started : (ss : List Step) → cond plan.dry [] (step.Start dest ∷ []) ++ ss ≡ step.Start dest ∷ ss
         started ss = ap (λ dry. cond dry [] (step.Start dest ∷ []) ++ ss) wet
 
+        -- in the committed blocks restore begins the destination, lists the top directory and tells the counts
         whole_is : steps_of (exec C (restored plan dest s tree sums)).marks ≡ step.Start dest ∷ steps_of (exec C top).marks ++ Line (counts_line counts) ∷ []
         whole_is =
             (did_unless C plan.dry (step.Start dest) (bind top tell) (steps_of (exec C top).marks ++ Line (counts_line top_value.0) ∷ []) (Ok top_value.0)
@@ -416,9 +451,11 @@ module _ (plan : RestorePlan) (wet : plan.dry ≡ false) (s : Super) (B C : Map)
             ∙ (started (steps_of (exec C top).marks ++ Line (counts_line top_value.0) ∷ [])
             ∙ ap (λ c. step.Start dest ∷ steps_of (exec C top).marks ++ Line (counts_line c) ∷ []) top_counts)
 
+        -- the destination is begun, unless the run is dry
         abbrev begin : List Step
         begin = cond plan.dry [] (step.Start dest ∷ []) ++ []
 
+        -- salvage begins the destination, lists the top directory and tells how much was salvaged
         all_came : Came B (salvaging plan dest s) (begin ++ (top_did.left ++ Line (salvaged_line top_did.after) ∷ [])) (Ok top_did.after)
         all_came =
             on_sums (Ok sums) (begin ++ (top_did.left ++ Line (salvaged_line top_did.after) ∷ [])) (Ok top_did.after) sums_there
@@ -428,10 +465,12 @@ module _ (plan : RestorePlan) (wet : plan.dry ≡ false) (s : Super) (B C : Map)
             (came_value B top_here (λ so_far. attempt (summed_up so_far)) top_did.after top_did.left (Line (salvaged_line top_did.after) ∷ [])
             (Ok top_did.after) top_did.came (refl, refl)))
 
+        -- how much was salvaged of the top directory is what salvage ends with
         after_is : top_did.after ≡ so_far
-        after_is = ok_same (Ok so_far) top_did.after so_far
+        after_is = same_value (Ok so_far) top_did.after so_far
             (sym (salvaged_is (begin ++ (top_did.left ++ Line (salvaged_line top_did.after) ∷ [])) (Ok top_did.after) all_came)) refl
 
+        -- what salvage did: the start, what is left of the top directory, and how much was salvaged
         left_is : steps_of (tried_run B (salvaging plan dest s)).marks ≡ step.Start dest ∷ top_did.left ++ Line (salvaged_line so_far) ∷ []
         left_is =
             all_came.0
@@ -439,6 +478,7 @@ module _ (plan : RestorePlan) (wet : plan.dry ≡ false) (s : Super) (B C : Map)
             ∙ (started (top_did.left ++ Line (salvaged_line top_did.after) ∷ [])
             ∙ ap (λ x. step.Start dest ∷ top_did.left ++ Line (salvaged_line x) ∷ []) after_is))
 
+        -- what salvage did is what is left of the restore of the start tree, where both roots are there
         pub tree_left : IsLeftOf (steps_of (exec C (restored plan dest s tree sums)).marks)
         tree_left = record {
           tree = tree;
@@ -459,6 +499,7 @@ module _ (plan : RestorePlan) (wet : plan.dry ≡ false) (s : Super) (B C : Map)
       sums_by sums are ends (inl same) = tree_left sums are (ap (λ (r : Run Want Fault ⊥ (Option TreeRoot)). r.ending) same ∙ are) ends
       sums_by sums are ends (inr m) = not_lost m.fault (salvaged_is [] (Err m.fault) (on_sums (Err m.fault) [] (Err m.fault) m.ending (refl, refl)))
 
+      -- with the start tree there, what salvage did is what is left of restore, by the lookup of the checksum tree
       look_sums : (ends : (exec C (journey.from_root plan dest s (Some tree))).ending ≡ Ok counts)
           → IsLeftOf (steps_of (exec C (journey.from_root plan dest s (Some tree))).marks)
       look_sums ends =
@@ -478,6 +519,7 @@ module _ (plan : RestorePlan) (wet : plan.dry ≡ false) (s : Super) (B C : Map)
     root_by (Some tree) is ends (inl same) = look_sums tree is (ap (λ (r : Run Want Fault ⊥ (Option TreeRoot)). r.ending) same ∙ is) ends
     root_by (Some tree) is ends (inr m) = not_lost m.fault (salvaged_is [] (Err m.fault) (on_root (Err m.fault) [] (Err m.fault) m.ending (refl, refl)))
 
+    -- what salvage did is what is left of a committed listing that comes to its end
     pub all_left : (exec C (listing plan dest s)).ending ≡ Ok counts → IsLeftOf (steps_of (exec C (listing plan dest s)).marks)
     all_left ends =
         let look : Program Step (Option TreeRoot) = quiet (tree_of s plan.root) in
@@ -487,6 +529,7 @@ module _ (plan : RestorePlan) (wet : plan.dry ≡ false) (s : Super) (B C : Map)
         (did_quiet C (tree_of s plan.root) (Ok v.0) is) (refl, v.2) in
         subst IsLeftOf (sym both.0) (root_by v.0 is v.2 (same_or_lost B C keeps (tree_of s plan.root) v.0 is))
 
+-- over honest images all of an entry is left, or it is named with a block that is lost
 pub honest_salvage : HonestSalvage
 honest_salvage plan dest s images layout C counts so_far wet honest ends has =
     all_left plan wet s (fate images layout) (committed C images layout) (keeps_honest C images layout honest) dest counts so_far has ends

@@ -15,15 +15,15 @@ use Rattle.btr_prog.specs.Trying.{Done, Try, Act, act_all, tried}
 use Rattle.btr_read.specs.Fate.{Fault, Lost, Malformed}
 use Rattle.btr_super.specs.declared.superblock.Super.{Super}
 use Rattle.btr_tour.specs.Program.{TourProg, by_block, by_node, children, items_until_fault, tour_from}
-use Rattle.btr_tour.specs.Tour.{Mark, Block, Child, Item, Left, block_tour, child_spots, child_tour, faults_met, items_met, meets_keys, node_tour}
+use Rattle.btr_tour.specs.Tour.{Mark, Block, Child, Item, Left, block_tour, child_pointers, child_tour, faults_met, items_met, meets_keys, node_tour}
 use Rattle.btr_tour.specs.Tour.{tour, tour_at}
 use Rattle.btr_tour.proofs.Programs.{marks_law}
 use Rattle.btr_tour.proofs.Ranges.{faultless_law, stops_law}
-use Rattle.btr_walk.specs.Le.{TreeItem, root_spot, want_of}
+use Rattle.btr_walk.specs.Le.{TreeItem, root_pointer, want_of}
 use Rattle.btr_walk.specs.Range.{RangeProg, emit_all, items_within, range}
 use Rattle.btr_walk.specs.Reading.{Map}
-use Rattle.btr_walk.specs.Spot.{judged}
-use Rattle.btr_walk.specs.declared.spot.Spot.{Spot}
+use Rattle.btr_walk.specs.BlockPointer.{judged}
+use Rattle.btr_walk.specs.declared.block_pointer.BlockPointer.{BlockPointer}
 use Rattle.btr_volume.specs.Lookup.{Program, each, formed}
 use Rattle.btr_volume.specs.Tree.{key, last}
 use Rattle.btr_volume.specs.declared.root.TreeRoot.{TreeRoot}
@@ -60,6 +60,7 @@ no_faults (Child addr place ∷ xs) ys h = no_faults xs ys h
 no_faults (Item item ∷ xs) ys h = no_faults xs ys h
 no_faults (Left fault ∷ xs) ys h = absurd (let e : fault ∷ faults_met (xs ++ ys) ≡ [] = h in cc)
 
+-- the items met in a tour of items alone are these
 items_alone : (xs : List TreeItem) → items_met (map Item xs) ≡ xs
 items_alone [] = refl
 items_alone (x ∷ xs) = ap (λ l. x ∷ l) (items_alone xs)
@@ -67,15 +68,18 @@ items_alone (x ∷ xs) = ap (λ l. x ∷ l) (items_alone xs)
 -- ---- where a range comes to its end, its tour has no fault
 
 module _ (C : Map) where
+  -- what a tour meets, by the block map
   abbrev marks_by : TourProg → List Mark
   marks_by p = steps_of (tried C p).marks
 
+  -- where a range behind a want comes to its end, its tour met no fault, if so for each block of the want
   given_whole : (x : Result (List ℕ) Fault) (k : Result (List ℕ) Fault → TourProg)
       → ((block : List ℕ) → (exec C (items_until_fault (k (Ok block)))).ending ≡ Ok tt → faults_met (marks_by (k (Ok block))) ≡ [])
       → (given x (λ block. exec C (items_until_fault (k (Ok block))))).ending ≡ Ok tt → faults_met (marks_by (k x)) ≡ []
   given_whole (Ok block) k ih h = ih block h
   given_whole (Err fault) k ih h = absurd (cc)
 
+  -- where the range of a tour comes to its end, the tour met no fault
   whole_tour : (p : TourProg) → (exec C (items_until_fault p)).ending ≡ Ok tt → faults_met (marks_by p) ≡ []
   whole_tour (Done u) h = refl
   whole_tour (Try w k) h = given_whole (C w) k (λ block g. whole_tour (k (Ok block)) g) h
@@ -84,28 +88,34 @@ module _ (C : Map) where
   whole_tour (Act (Item item) p) h = whole_tour p h
   whole_tour (Act (Left fault) p) h = absurd (cc)
 
+  -- a range of some items alone gives these, and comes to its end
   emitted : (xs : List TreeItem) → outcome_of (exec C (emit_all xs (Return tt))) ≡ outcome xs (Ok tt)
   emitted [] = refl
   emitted (x ∷ xs) = ap (λ (o : RunOutcome Fault TreeItem (Unit {0})). outcome (x ∷ o.steps) o.ending) (emitted xs)
 
 -- ---- entries
 
+-- the entry in an item of a directory
 abbrev in_item : Unit {0} → TreeItem → Program DirEntry (Unit {0})
 in_item u item = formed item (index_entry_of item.body) (λ entry. Emit (entry_of item entry) (Return tt))
 
+-- the entry in an item and those behind it, by the item's form
 abbrev by_form : TreeItem → RangeProg → Result IndexEntry ItemFault → Program DirEntry (Unit {0})
 by_form item more form =
     bind (bind (formed item form (λ entry. Emit (entry_of item entry) (Return tt))) (λ st'. Return (Ok st'))) (go_on (λ st'. each in_item st' more))
 
+-- an item of good form gives its entry, and then come those behind it
 entry_first : (item : TreeItem) (more : RangeProg) (entry : IndexEntry) → index_entry_of item.body ≡ Ok entry → entries_in (Emit item more)
     ≡ Emit (entry_of item entry) (entries_in more)
 entry_first item more entry e = ap (by_form item more) e
 
+-- an item that breaks its form makes its leaf malformed, and nothing comes behind it
 entry_broken : (item : TreeItem) (more : RangeProg) (fault : ItemFault) → index_entry_of item.body ≡ Err fault → entries_in (Emit item more)
     ≡ Stop (Malformed item.leaf)
 entry_broken item more fault e = ap (by_form item more) e
 
 module _ (C : Map) {St : Type 0} (treat_one : St → DirEntry → Program Step St) where
+  -- an item from which entries were treated to their end is of good form
   form_by : (item : TreeItem) (more : RangeProg) (st end : St) (x : Result IndexEntry ItemFault) → index_entry_of item.body ≡ x
       → (exec C (each treat_one st (entries_in (Emit item more)))).ending ≡ Ok end → (entry : IndexEntry) × (index_entry_of item.body ≡ Ok entry)
   form_by item more st end (Ok entry) e h = (entry, e)
@@ -131,6 +141,7 @@ module _ (C : Map) {St : Type 0} (treat_one : St → DirEntry → Program Step S
       ++ steps_of (exec C (each treat_one after (entries_in more))).marks) (exec C (each treat_one after (entries_in more))).ending)
       (sym (entry_first item more entry e)) (did_first C treat_one st after (entry_of item entry) (entries_in more) h)
 
+  -- the entries in some items are treated one after another
   abbrev all : St → List TreeItem → Program Step St
   all st xs = each treat_one st (entries_in (emit_all xs (Return tt)))
 
@@ -141,6 +152,7 @@ module _ (C : Map) {St : Type 0} (treat_one : St → DirEntry → Program Step S
     pub then_ends : (exec C (all between ys)).ending ≡ Ok end
     pub steps : steps_of (exec C (all st (xs ++ ys))).marks ≡ steps_of (exec C (all st xs)).marks ++ steps_of (exec C (all between ys)).marks
 
+  -- items that are treated to their end in a row are so in two parts
   pub parts : (xs ys : List TreeItem) (st end : St) → (exec C (all st (xs ++ ys))).ending ≡ Ok end → Parts xs ys st end
   parts [] ys st end h = record { between = st; first = refl; then_ends = h; steps = refl }
   parts (x ∷ xs) ys st end h =
@@ -165,15 +177,19 @@ module _ (C : Map) {St : Type 0} (treat_one : St → DirEntry → Program Step S
 module _ (plan : RestorePlan) (s : Super) (sums : Option TreeRoot) (B C : Map) (keeps : Keeps B C)
     (deep : Bool) (below : journey.Listing) (here : SalvageListing) (Inside : TreeRoot → ℕ → List ℕ → List Step → List Step → Type 0)
     (tree : TreeRoot) (dirid : ℕ) (path : List ℕ) where
+  -- the first key of the directory's items
   abbrev lo : Key
   lo = key dirid dir_index 0
 
+  -- the last key of the directory's items
   abbrev hi : Key
   hi = key dirid dir_index last
 
+  -- what restore does about the entries in some items of the directory
   abbrev by_restore : Counts → List TreeItem → Program Step Counts
   by_restore = treat_items plan s sums B C deep below Inside tree dirid path
 
+  -- what restore does about them in the committed blocks
   abbrev whole_of : Counts → List TreeItem → List Step
   whole_of counts items = steps_of (exec C (by_restore counts items)).marks
 
@@ -189,6 +205,7 @@ module _ (plan : RestorePlan) (s : Super) (sums : Option TreeRoot) (B C : Map) (
     pub came : Came B (treat plan s sums deep here tree dirid path so_far entry) left (Ok after)
     pub is : IsOne entry whole left
 
+  -- salvage leaves something of each entry that restore treats to its end in the committed blocks
   abbrev pub EachEntry : Type 0
   EachEntry =
       (entry : DirEntry) (counts end : Counts) (so_far : Salvaged)
@@ -196,6 +213,7 @@ module _ (plan : RestorePlan) (s : Super) (sums : Option TreeRoot) (B C : Map) (
       → EntryLeft entry so_far (steps_of (exec C (journey.treat plan s sums deep below tree dirid path counts entry)).marks)
 
   module _ (free : EntryCountless C (journey.treat plan s sums deep below tree dirid path)) (each_entry : EachEntry) where
+    -- what salvage does with the marks of a tour
     abbrev left_to : Salvaged → TourProg → Attempt Salvaged
     left_to so_far p = treat_each (λ before mark. meet plan s sums deep here tree dirid path before (mark_in mark)) so_far p
 
@@ -206,18 +224,22 @@ module _ (plan : RestorePlan) (s : Super) (sums : Option TreeRoot) (B C : Map) (
       pub of : Of left
       pub on : (ts : List Step) (x : Result Salvaged Fault) → Came B (left_to after rest) ts x → Came B now (left ++ ts) x
 
+    -- items are treated to their end by the same steps, whatever was counted before
     items_free : (items : List TreeItem) → Countless C (λ counts. by_restore counts items)
     items_free items =
         each_free C (treat_entry plan s sums B C deep below Inside tree dirid path) free (entries_in (emit_all items (Return tt)))
 
+    -- salvage passes a tour up to its rest, and what it leaves of what restore does about some items is as Of says
     abbrev Passes : TourProg → TourProg → List TreeItem → (List Step → List Step → Type 0) → Type 0
     Passes p rest items Of =
         (counts end : Counts) (so_far : Salvaged) → (exec C (by_restore counts items)).ending ≡ Ok end
         → Past (left_to so_far p) rest (Of (whole_of counts items))
 
+    -- with no items to pass nothing is done, and nothing is left
     pass_none : (rest : TourProg) → Passes rest rest [] (λ whole left. (whole ≡ []) × (left ≡ []))
     pass_none rest counts end so_far h = record { after = so_far; left = []; of = (refl, refl); on = λ ts x g. g }
 
+    -- two parts of a tour are passed one after the other
     pass_then : (p between rest : TourProg) (xs ys : List TreeItem) (One More : List Step → List Step → Type 0) → Passes p between xs One
         → Passes between rest ys More → Passes p rest (xs ++ ys) (Joined One More)
     pass_then p between rest xs ys One More one more counts end so_far h =
@@ -240,6 +262,7 @@ module _ (plan : RestorePlan) (s : Super) (sums : Option TreeRoot) (B C : Map) (
           on = λ ts x g. subst (λ l. Came B (left_to so_far p) l x) (sym (append_assoc a.left b.left ts)) (a.on (b.left ++ ts) x (b.on ts x g));
         }
 
+    -- an item of the directory is passed: its entry is treated, or left out and named
     pass_item : (item : TreeItem) (rest : TourProg) → Passes (Act (Item item) rest) rest (item ∷ [])
         (OfItem plan s sums B C deep below Inside tree dirid path item)
     pass_item item rest counts end so_far h =
@@ -261,6 +284,7 @@ module _ (plan : RestorePlan) (s : Super) (sums : Option TreeRoot) (B C : Map) (
               (λ after. left_to after rest) e.after e.left ts x e.came g);
         }
 
+    -- items of the directory are passed in turn
     pass_items : (items : List TreeItem) (rest : TourProg) → Passes (act_all (map Item items) rest) rest items
         (InTurn (OfItem plan s sums B C deep below Inside tree dirid path) items)
     pass_items [] rest = pass_none rest
@@ -269,76 +293,90 @@ module _ (plan : RestorePlan) (s : Super) (sums : Option TreeRoot) (B C : Map) (
         let later = act_all (map Item xs) rest in
         pass_then (Act (Item x) later) later rest (x ∷ []) xs (One x) (InTurn One xs) (pass_item x later) (pass_items xs rest)
 
-    module _ (go : Spot → TourProg → TourProg) (marks : Spot → List Mark) (One : Spot → List Step → List Step → Type 0)
-        (each_block : (spot : Spot) (rest : TourProg) → faults_met (marks spot) ≡ [] → Passes (go spot rest) rest (items_met (marks spot)) (One spot)) where
-      pass_children : (addr level : ℕ) (spots : List Spot) (rest : TourProg) → faults_met (flat_map (child_tour lo hi marks addr level) spots) ≡ []
-          → Passes (children go addr level spots rest) rest (items_met (flat_map (child_tour lo hi marks addr level) spots)) (InTurn One spots)
+    module _ (go : BlockPointer → TourProg → TourProg) (marks : BlockPointer → List Mark) (One : BlockPointer → List Step → List Step → Type 0)
+        (each_block : (pointer : BlockPointer) (rest : TourProg) → faults_met (marks pointer) ≡ []
+        → Passes (go pointer rest) rest (items_met (marks pointer)) (One pointer)) where
+      -- the children of a node are passed in turn
+      pass_children : (addr level : ℕ) (block_pointers : List BlockPointer) (rest : TourProg)
+          → faults_met (flat_map (child_tour lo hi marks addr level) block_pointers) ≡ []
+          → Passes (children go addr level block_pointers rest) rest (items_met (flat_map (child_tour lo hi marks addr level) block_pointers))
+          (InTurn One block_pointers)
       pass_children addr level [] rest none = pass_none rest
-      pass_children addr level (spot ∷ spots) rest none =
-          let later : List Mark = flat_map (child_tour lo hi marks addr level) spots in
-          let each_none = no_faults (marks spot) later none in
-          let on = children go addr level spots rest in
-          subst (λ items. Passes (go spot on) rest items (InTurn One (spot ∷ spots))) (sym (items_met-append (marks spot) later))
-          (pass_then (go spot on) on rest (items_met (marks spot)) (items_met later) (One spot) (InTurn One spots)
-          (each_block spot on each_none.0) (pass_children addr level spots rest each_none.1))
+      pass_children addr level (pointer ∷ block_pointers) rest none =
+          let later : List Mark = flat_map (child_tour lo hi marks addr level) block_pointers in
+          let each_none = no_faults (marks pointer) later none in
+          let on = children go addr level block_pointers rest in
+          subst (λ items. Passes (go pointer on) rest items (InTurn One (pointer ∷ block_pointers))) (sym (items_met-append (marks pointer) later))
+          (pass_then (go pointer on) on rest (items_met (marks pointer)) (items_met later) (One pointer) (InTurn One block_pointers)
+          (each_block pointer on each_none.0) (pass_children addr level block_pointers rest each_none.1))
 
-      pass_node : (level : ℕ) (spot : Spot) (block : List ℕ) (rest : TourProg) (o : Option Node) → faults_met (node_tour lo hi marks level spot block o) ≡ []
+      -- a block whose tour has no fault is a good one, and what is below it is passed
+      pass_node : (level : ℕ) (pointer : BlockPointer) (block : List ℕ) (rest : TourProg) (o : Option Node)
+          → faults_met (node_tour lo hi marks level pointer block o) ≡ []
           → (node : Node) × (o ≡ Some node)
-          × Passes (by_node lo hi go level spot block rest o) rest (items_met (node_tour lo hi marks level spot block o))
-          (OfNode plan s sums B C deep below Inside tree dirid path One spot node)
-      pass_node level spot block rest None none = absurd (let e : Malformed spot.addr ∷ [] ≡ [] = none in cc)
-      pass_node level spot block rest (Some (Leaf items)) none =
-          let xs = items_within lo hi spot.addr items in (
+          × Passes (by_node lo hi go level pointer block rest o) rest (items_met (node_tour lo hi marks level pointer block o))
+          (OfNode plan s sums B C deep below Inside tree dirid path One pointer node)
+      pass_node level pointer block rest None none = absurd (let e : Malformed pointer.addr ∷ [] ≡ [] = none in cc)
+      pass_node level pointer block rest (Some (Leaf items)) none =
+          let xs = items_within lo hi pointer.addr items in (
             Leaf items,
             refl,
             subst (λ l. Passes (act_all (map Item xs) rest) rest l (InTurn (OfItem plan s sums B C deep below Inside tree dirid path) xs))
                 (sym (items_alone xs)) (pass_items xs rest),
           )
-      pass_node level spot block rest (Some (Inner ps)) none =
-          (Inner ps, refl, pass_children spot.addr (level - 1) (filter (meets_keys lo hi) (child_spots ps spot.up)) rest none)
+      pass_node level pointer block rest (Some (Inner ps)) none =
+          (Inner ps, refl, pass_children pointer.addr (level - 1) (filter (meets_keys lo hi) (child_pointers ps pointer.up)) rest none)
 
-      module _ (level : ℕ) (spot : Spot) (rest : TourProg) (same : tour_at lo hi C level spot ≡ block_tour lo hi marks level spot (C (want_of level spot)))
+      module _ (level : ℕ) (pointer : BlockPointer) (rest : TourProg) (same : tour_at lo hi C level pointer
+          ≡ block_tour lo hi marks level pointer (C (want_of level pointer)))
         where
+          -- what the tour meets from the block downwards, by what becomes of it
           abbrev here_marks : Result (List ℕ) Fault → List Mark
-          here_marks x = block_tour lo hi marks level spot x
+          here_marks x = block_tour lo hi marks level pointer x
 
+          -- the images have the block as it was committed, or it is lost
           abbrev IsBlock : List Step → List Step → Type 0
           IsBlock whole left =
-              IsThere plan s sums B C deep below Inside tree dirid path One level spot whole left
-              ⊎ IsPart plan s sums B C deep below Inside tree dirid path level spot whole left
+              IsThere plan s sums B C deep below Inside tree dirid path One level pointer whole left
+              ⊎ IsPart plan s sums B C deep below Inside tree dirid path level pointer whole left
 
+          -- the block is tried by salvage
           abbrev wanted : Salvaged → Attempt Salvaged
-          wanted so_far = left_to so_far (Try (want_of level spot) (by_block lo hi go level spot rest))
+          wanted so_far = left_to so_far (Try (want_of level pointer) (by_block lo hi go level pointer rest))
 
+          -- salvage goes on by what became of the block
           abbrev goes_on : Salvaged → Result (List ℕ) Fault → Attempt Salvaged
-          goes_on so_far fate = left_to so_far (by_block lo hi go level spot rest fate)
+          goes_on so_far fate = left_to so_far (by_block lo hi go level pointer rest fate)
 
+          -- the line that a part of the directory is lost
           abbrev part_line : Step
-          part_line = Line (missing_line (codes "part") (Lost spot.addr) (folder_path path))
+          part_line = Line (missing_line (codes "part") (Lost pointer.addr) (folder_path path))
 
+          -- a lost block is passed: it is named once, and all that is below it is left out
           pass_lost : (counts end : Counts) (so_far : Salvaged)
-              → (exec C (by_restore counts (items_met (here_marks (C (want_of level spot)))))).ending ≡ Ok end
-              → B (want_of level spot) ≡ Err (Lost spot.addr)
-              → Past (wanted so_far) rest (IsBlock (whole_of counts (items_met (here_marks (C (want_of level spot))))))
+              → (exec C (by_restore counts (items_met (here_marks (C (want_of level pointer)))))).ending ≡ Ok end
+              → B (want_of level pointer) ≡ Err (Lost pointer.addr)
+              → Past (wanted so_far) rest (IsBlock (whole_of counts (items_met (here_marks (C (want_of level pointer))))))
           pass_lost counts end so_far h lost = record {
             after = with_broken so_far;
             left = part_line ∷ [];
             of = inr record {
               lost = lost;
-              is = λ n. sym (items_free (items_met (here_marks (C (want_of level spot)))) counts n end h).1.0
+              is = λ n. sym (items_free (items_met (here_marks (C (want_of level pointer)))) counts n end h).1.0
                   ∙ ap (λ ms. whole_of n (items_met ms)) (sym same);
               named = refl;
             };
             on = λ ts x g. subst (λ fate. Came B (goes_on so_far fate) (part_line ∷ ts) x) (sym lost) (ap (λ l. part_line ∷ l) g.0, g.1);
           }
 
-          pass_good : (block : List ℕ) → C (want_of level spot) ≡ Ok block → B (want_of level spot) ≡ Ok block
-              → faults_met (here_marks (C (want_of level spot)))
+          -- a block that the images have as it was committed is passed, with all that is below it
+          pass_good : (block : List ℕ) → C (want_of level pointer) ≡ Ok block → B (want_of level pointer) ≡ Ok block
+              → faults_met (here_marks (C (want_of level pointer)))
               ≡ []
-              → (counts end : Counts) (so_far : Salvaged) → (exec C (by_restore counts (items_met (here_marks (C (want_of level spot)))))).ending ≡ Ok end
-              → Past (wanted so_far) rest (IsBlock (whole_of counts (items_met (here_marks (C (want_of level spot))))))
+              → (counts end : Counts) (so_far : Salvaged) → (exec C (by_restore counts (items_met (here_marks (C (want_of level pointer)))))).ending ≡ Ok end
+              → Past (wanted so_far) rest (IsBlock (whole_of counts (items_met (here_marks (C (want_of level pointer))))))
           pass_good block was came none counts end so_far h =
-              let n = pass_node level spot block rest (judged level spot block) (sym (ap (λ x. faults_met (here_marks x)) was) ∙ none) in
+              let n = pass_node level pointer block rest (judged level pointer block) (sym (ap (λ x. faults_met (here_marks x)) was) ∙ none) in
               let r = n.2 counts end so_far (sym (ap (λ x. (exec C (by_restore counts (items_met (here_marks x)))).ending) was) ∙ h) in
               record {
                 after = r.after;
@@ -349,33 +387,36 @@ module _ (plan : RestorePlan) (s : Super) (sums : Option TreeRoot) (B C : Map) (
                   was = was;
                   came = came;
                   good = n.1;
-                  of = subst (λ whole. OfNode plan s sums B C deep below Inside tree dirid path One spot n.0 whole r.left)
+                  of = subst (λ whole. OfNode plan s sums B C deep below Inside tree dirid path One pointer n.0 whole r.left)
                       (sym (ap (λ x. whole_of counts (items_met (here_marks x))) was)) r.of;
                 };
                 on = λ ts x g. subst (λ fate. Came B (goes_on so_far fate) (r.left ++ ts) x) (sym came) (r.on ts x g);
               }
 
-          pass_by : (x : Result (List ℕ) Fault) → C (want_of level spot) ≡ x → faults_met (here_marks (C (want_of level spot))) ≡ []
-              → Passes (Try (want_of level spot) (by_block lo hi go level spot rest)) rest (items_met (here_marks (C (want_of level spot)))) IsBlock
+          -- a committed block is passed, whatever the images have of it
+          pass_by : (x : Result (List ℕ) Fault) → C (want_of level pointer) ≡ x → faults_met (here_marks (C (want_of level pointer))) ≡ []
+              → Passes (Try (want_of level pointer) (by_block lo hi go level pointer rest)) rest (items_met (here_marks (C (want_of level pointer)))) IsBlock
           pass_by (Err fault) is none = let e : fault ∷ [] ≡ [] = sym (ap (λ x. faults_met (here_marks x)) is) ∙ none in absurd (cc)
-          pass_by (Ok block) is none = λ counts end so_far h. by_fate counts end so_far h (keeps (want_of level spot) block is)
+          pass_by (Ok block) is none = λ counts end so_far h. by_fate counts end so_far h (keeps (want_of level pointer) block is)
             where
+              -- a committed block is passed, as the images have it or it is lost
               by_fate : (counts end : Counts) (so_far : Salvaged)
-                  → (exec C (by_restore counts (items_met (here_marks (C (want_of level spot)))))).ending ≡ Ok end
-                  → (B (want_of level spot) ≡ Ok block) ⊎ (B (want_of level spot) ≡ Err (Lost spot.addr))
-                  → Past (wanted so_far) rest (IsBlock (whole_of counts (items_met (here_marks (C (want_of level spot))))))
+                  → (exec C (by_restore counts (items_met (here_marks (C (want_of level pointer)))))).ending ≡ Ok end
+                  → (B (want_of level pointer) ≡ Ok block) ⊎ (B (want_of level pointer) ≡ Err (Lost pointer.addr))
+                  → Past (wanted so_far) rest (IsBlock (whole_of counts (items_met (here_marks (C (want_of level pointer))))))
               by_fate counts end so_far h (inl came) = pass_good block is came none counts end so_far h
               by_fate counts end so_far h (inr lost) = pass_lost counts end so_far h lost
 
-    pass_at : (level : ℕ) (spot : Spot) (rest : TourProg) → faults_met (tour_at lo hi C level spot) ≡ []
-        → Passes (tour_from lo hi level spot rest) rest (items_met (tour_at lo hi C level spot))
-        (OfBlock plan s sums B C deep below Inside tree dirid path level spot)
-    pass_at zero spot rest none =
-        pass_by (λ child more. more) (λ child. []) (λ child w l. (w ≡ []) × (l ≡ [])) (λ child more e. pass_none more) 0 spot rest refl
-        (C (want_of 0 spot)) refl none
-    pass_at (suc n) spot rest none =
-        pass_by (tour_from lo hi n) (tour_at lo hi C n) (OfBlock plan s sums B C deep below Inside tree dirid path n) (pass_at n) (suc n) spot rest refl
-        (C (want_of (suc n) spot)) refl none
+    -- the tour from a block downwards is passed, whatever its level
+    pass_at : (level : ℕ) (pointer : BlockPointer) (rest : TourProg) → faults_met (tour_at lo hi C level pointer) ≡ []
+        → Passes (tour_from lo hi level pointer rest) rest (items_met (tour_at lo hi C level pointer))
+        (OfBlock plan s sums B C deep below Inside tree dirid path level pointer)
+    pass_at zero pointer rest none =
+        pass_by (λ child more. more) (λ child. []) (λ child w l. (w ≡ []) × (l ≡ [])) (λ child more e. pass_none more) 0 pointer rest refl
+        (C (want_of 0 pointer)) refl none
+    pass_at (suc n) pointer rest none =
+        pass_by (tour_from lo hi n) (tour_at lo hi C n) (OfBlock plan s sums B C deep below Inside tree dirid path n) (pass_at n) (suc n) pointer rest refl
+        (C (want_of (suc n) pointer)) refl none
 
     -- a directory whose entries all come to an end in the committed blocks
     pub record FolderLeft (so_far : Salvaged) (whole : List Step) : Type 0 where
@@ -384,6 +425,7 @@ module _ (plan : RestorePlan) (s : Super) (sums : Option TreeRoot) (B C : Map) (
       pub came : Came B (listed plan s sums deep here tree dirid path so_far) left (Ok after)
       pub is : OfListed plan s sums B C deep below Inside tree dirid path whole left
 
+    -- a directory whose committed listing comes to its end is listed, and what is left of it is as its blocks are there or lost
     pub folder_left : (counts end : Counts) (so_far : Salvaged) → (exec C (journey.listed plan s sums deep below tree dirid path counts)).ending ≡ Ok end
         → FolderLeft so_far (steps_of (exec C (journey.listed plan s sums deep below tree dirid path counts)).marks)
     folder_left counts end so_far h =
@@ -397,7 +439,7 @@ module _ (plan : RestorePlan) (s : Super) (sums : Option TreeRoot) (B C : Map) (
         let same = each_same C one (entries tree dirid) (entries_in (emit_all met (Return tt))) counts
         (each_same C in_item all (emit_all met (Return tt)) tt (ap (λ xs. outcome xs (exec C all).ending) found.0 ∙ ap (outcome met) found.1
         ∙ sym (emitted C met))) in
-        let r = pass_at tree.place.level (root_spot tree.place) (Done tt) none counts end so_far (ap (λ o. o.ending) (sym same) ∙ h) in
+        let r = pass_at tree.place.level (root_pointer tree.place) (Done tt) none counts end so_far (ap (λ o. o.ending) (sym same) ∙ h) in
         record {
           after = r.after;
           left = r.left;

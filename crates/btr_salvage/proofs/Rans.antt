@@ -89,6 +89,7 @@ module _ (Bs : ℕ → Map) (One Is : UnreadBlock → Want → Type 0) where
   some_after k ms (Ok a) = let s = comes_some Bs 0 (k a) in (run s.0 s.1, refl, s.2)
   some_after k ms (Err f) = refl
 
+  -- a program that didn't come to a value halts the one that goes on by its value
   pub tries_halt : {A C : Type 0} (p : Attempt A) (k : A → Attempt C) (halt : Halt fate.Fault UnreadBlock) (done : List Step)
       → Tries Is part Bs p done (Err halt) → Tries Is part Bs (value_then p k) done (Err halt)
   tries_halt p k halt done one =
@@ -119,6 +120,7 @@ does_attempt layout p x y ans h = record {
   };
 }
 
+-- a call that did the steps of a program of restore did those of its part in salvage
 pub ran_of : {A : Type 0} (p : Program Step A) (x y : World) (r : Result A TheStop) → running.Ran p x y r → Ran (attempt p) x y r
 ran_of p x y r h = record {
   reads = h.reads;
@@ -141,6 +143,7 @@ ran_writes p rack vol x y r ready w = ran_of p (world rack vol x) (world rack vo
 
 -- one call, and then another by how it ended
 module _ {A C : Type 0} (layout layout' : Layout) (same : layout' ≡ layout) (p : Attempt A) (h : Result A fate.Fault → Attempt C) (x y z : Scene) where
+  -- what a call did, and then the next by how it ended, is what their programs do in a row
   pub does_next : (ans : Result A (Halt fate.Fault UnreadBlock)) (v : Result A fate.Fault) (last : Result C (Halt fate.Fault UnreadBlock)) → Hands ans v
       → OnlyReads x.rack y.rack → Does layout p x y ans → Does layout' (h v) y z last → Does layout (try_then p h) x z last
   does_next ans v last hands reads one two =
@@ -162,6 +165,7 @@ module _ {A C : Type 0} (layout layout' : Layout) (same : layout' ≡ layout) (p
         };
       }
 
+  -- a call that met a block which could not be read did what its program and another behind it do
   pub does_unread : (u : UnreadBlock) → Does layout p x y (Err (Unread u)) → Does layout (try_then p h) x y (Err (Unread u))
   does_unread u one = record {
     done = one.done;
@@ -177,6 +181,7 @@ module _ {A C : Type 0} (layout layout' : Layout) (same : layout' ≡ layout) (p
   }
 
 module _ {A C : Type 0} (layout : Layout) (p : Attempt A) (k : A → Attempt C) (x y : Scene) where
+  -- a call that was halted did what its program and another by its value do
   pub does_stop : (halt : Halt fate.Fault UnreadBlock) → Does layout p x y (Err halt) → Does layout (value_then p k) x y (Err halt)
   does_stop halt one = record {
     done = one.done;
@@ -193,6 +198,7 @@ module _ {A C : Type 0} (layout : Layout) (p : Attempt A) (k : A → Attempt C) 
 
 -- calls with their causes
 module _ {A C : Type 0} (p : Attempt A) (h : Result A fate.Fault → Attempt C) (x y z : World) where
+  -- a call, and then the next by what is handed on of its answer, did the steps of their programs in a row
   next_by : (ans : Result A TheStop) (v : Result A fate.Fault) (r : Result C TheStop) → Hands (ended ans) v
       → SinkCounts {A = Unit {0}} x.out.sink_calls y.out.sink_calls (Ok (tt {0})) → OutCounts {A = Unit {0}} x.out.out_calls y.out.out_calls (Ok (tt {0}))
       → Ran p x y ans → Ran (h v) y z r → Ran (try_then p h) x z r
@@ -211,6 +217,7 @@ module _ {A C : Type 0} (p : Attempt A) (h : Result A fate.Fault → Attempt C) 
   pub ran_handed : (a : A) (r : Result C TheStop) → Ran p x y (Ok a) → Ran (h (Ok a)) y z r → Ran (try_then p h) x z r
   ran_handed a r one two = next_by (Ok a) (Ok a) r refl one.sink_calls one.out_calls one two
 
+  -- a fault of a block that can't be had is handed on
   hands_fault : (f : TreeFault) (fault : fate.Fault) → reason f ≡ Some fault → Hands {A = A} (Err (halt_of f)) (Err fault)
   hands_fault (tree.Lost a) fault e = cc
   hands_fault (tree.Unread a slot) fault e = cc
@@ -233,6 +240,7 @@ module _ {A C : Type 0} (p : Attempt A) (h : Result A fate.Fault → Attempt C) 
   unread_so (tree.Crosses a) e d = cc
   unread_so (tree.Malformed a) e d = cc
 
+  -- a call that stopped at a block which could not be read did what its program and another behind it do
   pub ran_unread : (f : TreeFault) → reason f ≡ None → Ran p x y (Err (stop.Tree f)) → Ran (try_then p h) x y (Err (stop.Tree f))
   ran_unread f e one = record {
     reads = one.reads;
@@ -245,9 +253,11 @@ module _ {A C : Type 0} (p : Attempt A) (h : Result A fate.Fault → Attempt C) 
   }
 
 module _ {A C : Type 0} (p : Attempt A) (k : A → Attempt C) (x y z : World) where
+  -- a call that came to a value, and then the next by that value, did the steps of their programs in a row
   pub ran_then : (a : A) (r : Result C TheStop) → Ran p x y (Ok a) → Ran (k a) y z r → Ran (value_then p k) x z r
   ran_then a r one two = ran_handed p (on_value k) x y z a r one two
 
+  -- a call that met a stop did what its program and another by its value do
   pub ran_halt : (s : TheStop) → Ran p x y (Err s) → Ran (value_then p k) x y (Err s)
   ran_halt s one = record {
     reads = one.reads;
@@ -305,9 +315,11 @@ ran_memory {A} p rack vol x ready =
 
 -- a lookup of restore, and then a program by its value; or its stop
 module _ {A C : Type 0} (p : Lookup A) (k : A → Attempt C) (x y : World) (result : Result A TheStop) where
+  -- a lookup of restore came to a value, and the program of that value was done
   pub finds_then : (z : World) (a : A) (r : Result C TheStop) → running.Ran (quiet p) x y result → result ≡ Ok a → Ran (k a) y z r
       → Ran (value_then (tries p) k) x z r
   finds_then z a r h e g = ran_then (tries p) k x y z a r (ran_of (quiet p) x y (Ok a) (subst (λ (b : Result A TheStop). running.Ran (quiet p) x y b) e h)) g
 
+  -- a lookup of restore that met a stop leaves the program behind it undone
   pub finds_halt : (s : TheStop) → running.Ran (quiet p) x y result → result ≡ Err s → Ran (value_then (tries p) k) x y (Err s)
   finds_halt s h e = ran_halt (tries p) k x y y s (ran_of (quiet p) x y (Err s) (subst (λ (b : Result A TheStop). running.Ran (quiet p) x y b) e h))

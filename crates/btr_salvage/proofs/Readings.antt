@@ -46,6 +46,7 @@ use Rattle.btr_salvage.specs.Running.{Ran, stopped}
 use Rattle.btr_prog.proofs.Attempts.{follows_wants, tries_ending}
 
 module _ (Bs : ℕ → Map) (whole : Program Piece (Unit {0})) (kind : SumKind) where
+  -- a run of the whole file
   abbrev Whole : Run Want Fault Piece (Unit {0}) → Type 0
   Whole = GoesTo Bs whole
 
@@ -89,39 +90,50 @@ all_then layout a b c P Q R f one two = all_of layout a c R (both_all layout a b
 -- the reading of a file, call by call
 module _ (whole : Program Piece (Unit {0})) (start : Seen) (began : Volume) (old : Seen) (vol : Volume) (file file' : FileBytes) (rack : Seen) (after : Volume)
     (l : IsPassing whole start began old vol file) (reads : OnlyReads old rack) where
+  -- the layout that the reading began with
   abbrev layout : Layout
   layout = began.store.layout
 
+  -- the kind of checksum of the volume
   abbrev kind : SumKind
   kind = kind_in began.sup
 
+  -- how far the file was read before the call
   abbrev Was : (ℕ → Map) → Type 0
   Was Bs = LeftToRead whole kind Bs file
 
+  -- what the file gives next, by a layout and a superblock
   abbrev Next : Layout → Super → Result (Option Lending) TreeFault → (ℕ → Map) → Type 0
   Next L t result Bs = IsNextPiece (kind_in t) (unread_by L old rack) Bs file file' result
 
+  -- the layout is still the one that the reading began with
   same_layout : vol.store.layout ≡ layout
   same_layout = sym (base_layout vol.store file.loan) ∙ l.others.layout
 
+  -- what the file gives next by the layout and superblock of now, it gives by those that the reading began with
   over : (result : Result (Option Lending) TreeFault) → TellsAll vol.store.layout old rack (Next vol.store.layout vol.sup result)
       → TellsAll layout old rack (Next layout began.sup result)
   over result t = subst (λ (v : Super). TellsAll layout old rack (Next layout v result)) l.sup
       (subst (λ (L : Layout). TellsAll L old rack (Next L vol.sup result)) same_layout t)
 
+  -- a want that could not be read in this call could not be read since the reading began
   earlier : (u : UnreadBlock) (w : Want) → unread_by layout old rack u w → unread_by layout start rack u w
   earlier u w i = since layout layout refl l.reads u w i
 
+  -- but for the file's loan the volume is as it was when the reading began
   apart : SameLoans (without_file vol.store file) (without_file after.store file') → SameLoans began.store (without_file after.store file')
   apart o = record { layout = o.layout ∙ l.others.layout; loans = o.loans ∙ l.others.loans }
 
+  -- a step of a file with an answer is one with an equal answer
   streamed : (result other : Result (Option Lending) TreeFault) → result ≡ other → Streamed vol after file file' old rack result
       → Streamed vol after file file' old rack other
   streamed result other e n = subst (λ r. Streamed vol after file file' old rack r) e n
 
+  -- the reading of the whole file ended so, behind some pieces
   abbrev Ends : Result (Unit {0}) TreeFault → (ℕ → Map) → Type 0
   Ends answer Bs = (past : List Piece) × Goes (unread_by layout start rack) no_part [] Bs whole past (answer_of answer)
 
+  -- where what was left of the file ended so, the whole file did
   end_by : (ans : Result (Unit {0}) (Halt Fault UnreadBlock)) (Bs : ℕ → Map) (p : Was Bs) → EndsBy kind (unread_by layout old rack) Bs p.seen file ans
       → (past : List Piece) × Goes (unread_by layout start rack) no_part [] Bs whole past ans
   end_by ans Bs p e = (
@@ -190,17 +202,21 @@ passing_first rack vol file p reading same begins on = record {
 
 -- a file is given back
 module _ (p : Program Piece (Unit {0})) (rack : Seen) (vol : Volume) (now : Seen) (mid after : Volume) (file : FileBytes) (x : Outside) where
+  -- a fault of a tree ends a run as the stop that it is
   ended_so : (r : Result (Unit {0}) TreeFault) → answer_of r ≡ ended (stopped r)
   ended_so (Ok u) = refl
   ended_so (Err f) = refl
 
+  -- the stop that a fault of a tree is has the cause of that fault
   cause_so : (layout : Layout) (r : Result (Unit {0}) TreeFault) → HasCause layout rack now r → RestoreStopCause layout rack now (stopped r)
   cause_so layout (Ok u) h = tt
   cause_so layout (Err f) h = h
 
+  -- a run without its steps
   abbrev only_wants : Run Want Fault Piece (Unit {0}) → Run Want Fault Step (Unit {0})
   only_wants r = run (want_marks (wants_of r.marks)) r.ending
 
+  -- a file that was read, or ended before, is given back, and that was its first reading
   pub passing_over : (r : Result (Unit {0}) TreeFault) → CanRead 6 rack vol → WasPassed p rack vol now mid file r → after.sup ≡ mid.sup
       → SameLoans (without_file mid.store file) after.store → Serves now after.store → Ran (ending_of p) (world rack vol x) (world now after x) (stopped r)
   passing_over r ready w sup back serves =
@@ -235,10 +251,12 @@ module _ (p : Program Piece (Unit {0})) (rack : Seen) (vol : Volume) (now : Seen
         out_calls = outs r;
       }
     where
+      -- no call of the sink was made, and none is counted
       sinks : (q : Result (Unit {0}) TreeFault) → SinkCounts x.sink_calls x.sink_calls (stopped q)
       sinks (Ok u) = refl
       sinks (Err f) = refl
 
+      -- no call of the output was made, and none is counted
       outs : (q : Result (Unit {0}) TreeFault) → OutCounts x.out_calls x.out_calls (stopped q)
       outs (Ok u) = refl
       outs (Err f) = refl

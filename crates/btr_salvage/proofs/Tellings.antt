@@ -17,16 +17,17 @@ use Rattle.btr_salvage.specs.declared.salvaged.Salvaged.{Salvaged}
 use Rattle.btr_salvage.specs.Lines.{salvaged, with_broken}
 
 module _ {A : Type 0} (text : List ℕ) (sink : Sink) (sink_calls : CallAccount) (told told' : Option (List ℕ)) (calls calls' : CallAccount) where
-  abbrev Puts : A → Result A TheStop → Type 0
-  Puts a r = Wrote (Emit (Line text) (Return a)) (outside sink sink_calls told calls) (outside sink sink_calls told' calls') r
+  -- what a call did that puts the line, with an answer
+  abbrev EmitsLine : A → Result A TheStop → Type 0
+  EmitsLine a r = Wrote (Emit (Line text) (Return a)) (outside sink sink_calls told calls) (outside sink sink_calls told' calls') r
 
   -- a line was put
-  pub wrote_line : (a : A) → Adds told told' text → calls' ≡ calls → Puts a (Ok a)
+  pub wrote_line : (a : A) → Adds told told' text → calls' ≡ calls → EmitsLine a (Ok a)
   wrote_line a h k = record { did = emits_line text a sink told told' h; sink_calls = refl; out_calls = k; stops = tt }
 
   -- it was not put wholly
   pub broke_line : (T : Type 0) (a : A) (s : TheStop) (e : SinkError) → s ≡ stops_out e → ((n : ℕ) × Adds told told' (take n text))
-      → Counts {T = T} calls calls' (Err e) → Puts a (Err s)
+      → Counts {T = T} calls calls' (Err e) → EmitsLine a (Err s)
   broke_line T a s e is h k = record {
     did = as_out (λ answer. Emits (Emit (Line text) (Return a)) sink sink told told' answer) s e is (breaks_line text (Return a) sink told told' h);
     sink_calls = sinks_of_out A sink_calls s e is;
@@ -36,6 +37,6 @@ module _ {A : Type 0} (text : List ℕ) (sink : Sink) (sink_calls : CallAccount)
 
   -- it was put and counted
   pub wrote_count : (f : Salvaged → A) (so_far : Salvaged) (n : ℕ) → n ≡ more so_far.broken → Adds told told' text → calls' ≡ calls
-      → Puts (f (with_broken so_far)) (Ok (f (salvaged so_far.counts n)))
-  wrote_count f so_far n is h k = subst (λ m. Puts (f (with_broken so_far)) (Ok (f (salvaged so_far.counts m)))) (sym is)
+      → EmitsLine (f (with_broken so_far)) (Ok (f (salvaged so_far.counts n)))
+  wrote_count f so_far n is h k = subst (λ m. EmitsLine (f (with_broken so_far)) (Ok (f (salvaged so_far.counts m)))) (sym is)
       (wrote_line (f (with_broken so_far)) h k)

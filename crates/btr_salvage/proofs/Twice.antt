@@ -24,6 +24,7 @@ module _ (B : Map) where
       ap (λ (r : Run Want Fault Step (Result (Unit {0}) Fault)). r.ending)
       (tried-then B (gathered p) handed ∙ ap (λ r. and_then r (λ o. tried B (handed o))) (tried-gathered B p))
 
+  -- behind a want pieces that come to their end are put to theirs, if so for all bytes of the want
   given_ends : (x : Result (List ℕ) Fault) (k : List ℕ → Program Piece (Unit {0})) (st : Bool)
       → ((bytes : List ℕ) → (exec B (k bytes)).ending ≡ Ok tt → IsOk (exec B (each put st (k bytes))).ending)
       → (given x (λ bytes. exec B (k bytes))).ending ≡ Ok tt → IsOk (given x (λ bytes. exec B (each put st (k bytes)))).ending
@@ -38,16 +39,20 @@ module _ (B : Map) where
   each_ends (Emit (piece.Bytes bytes summed) p) st e = each_ends p _ e
   each_ends (Emit (Gap count) p) st e = each_ends p _ e
 
+-- an ending that is handed on as a value
 abbrev handed_on : {A F : Type 0} → Result A F → Result (Result A F) F
 handed_on x = Ok x
 
+-- endings that are handed on alike are the same
 same_value : {A F : Type 0} (x y : Result A F) → handed_on x ≡ handed_on y → x ≡ y
 same_value x y e = cc
 
+-- pieces that can be put to their end come to it in a dry run too, which puts none
 unless_dry : (B : Map) (dry : Bool) (p : Program Step Bool) → IsOk (exec B p).ending → IsOk (exec B (cond dry (Return false) p)).ending
 unless_dry B true p h = refl
 unless_dry B false p h = h
 
+-- a file whose bytes could all be had when they were read first is written to its end
 pub read_twice : ReadTwice
 read_twice plan s sums B tree ino inode e =
     let p = content (kind_in s) sums (has_no_sums inode) inode.size tree ino in

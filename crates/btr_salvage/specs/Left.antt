@@ -13,12 +13,12 @@ use Rattle.btr_read.specs.Fate.{Lost}
 use Rattle.btr_read.specs.Want.{addr_of}
 use Rattle.btr_read.specs.declared.want.Want.{Want}
 use Rattle.btr_super.specs.declared.superblock.Super.{Super}
-use Rattle.btr_tour.specs.Tour.{child_spots, items_met, meets_keys, tour_at}
-use Rattle.btr_walk.specs.Le.{TreeItem, root_spot, want_of}
+use Rattle.btr_tour.specs.Tour.{child_pointers, items_met, meets_keys, tour_at}
+use Rattle.btr_walk.specs.Le.{TreeItem, root_pointer, want_of}
 use Rattle.btr_walk.specs.Range.{emit_all, items_within}
 use Rattle.btr_walk.specs.Reading.{Map}
-use Rattle.btr_walk.specs.Spot.{judged}
-use Rattle.btr_walk.specs.declared.spot.Spot.{Spot}
+use Rattle.btr_walk.specs.BlockPointer.{judged}
+use Rattle.btr_walk.specs.declared.block_pointer.BlockPointer.{BlockPointer}
 use Rattle.btr_volume.specs.Lookup.{Program, each}
 use Rattle.btr_volume.specs.Tree.{key, last, tree_of}
 use Rattle.btr_volume.specs.declared.root.TreeRoot.{TreeRoot}
@@ -32,7 +32,7 @@ use Rattle.btr_listing.specs.declared.decision.Decision.TheVariants.{Skip, File,
 use Rattle.btr_listing.specs.Deciding.{Met, decided, met_in, target}
 use Rattle.btr_listing.specs.Lines.{counts_line}
 use Rattle.btr_listing.specs.Step.{Step, Start, Up, Line}
-use Rattle.btr_restore.specs.Journey.{done_about, has_no_sums, listing, most_depth, rules_of}
+use Rattle.btr_restore.specs.Journey.{done_about, has_no_sums, most_depth, rules_of}
 use Rattle.btr_restore.specs.Journey as journey
 use Rattle.btr_salvage.specs.declared.salvaged.Salvaged.{Salvaged}
 use Rattle.btr_salvage.specs.Lines.{folder_path, missing_line, salvaged_line}
@@ -70,7 +70,7 @@ module _ (plan : RestorePlan) (s : Super) (sums : Option TreeRoot) (images commi
       × Lacks (content (kind_in s) sums (has_no_sums inode) inode.size met.tree (target met)) want
 
   -- an entry of which all is left, whatever was counted before it
-  pub record IsKept (met : Met) (decision : Decision) (whole left : List Step) : Type 0 where
+  pub record IsAllLeft (met : Met) (decision : Decision) (whole left : List Step) : Type 0 where
     pub is : (counts : Counts)
         → whole ≡ steps_of (exec committed (done_about plan s sums met counts decision)).marks
     pub same : left ≡ whole
@@ -89,9 +89,9 @@ module _ (plan : RestorePlan) (s : Super) (sums : Option TreeRoot) (images commi
 
   -- an entry, by what it comes to
   abbrev pub ByDecision : (TreeRoot → ℕ → List ℕ → List Step → List Step → Type 0) → Met → Decision → List Step → List Step → Type 0
-  ByDecision Inside met (Skip cause) = IsKept met (Skip cause)
-  ByDecision Inside met (File inode) = IsKept met (File inode)
-  ByDecision Inside met Empty = IsKept met Empty
+  ByDecision Inside met (Skip cause) = IsAllLeft met (Skip cause)
+  ByDecision Inside met (File inode) = IsAllLeft met (File inode)
+  ByDecision Inside met Empty = IsAllLeft met Empty
   ByDecision Inside met (Folder tree dirid) = IsEntered (Inside tree dirid met.path) met (Folder tree dirid)
 
   -- an entry that is treated by what it comes to in the committed blocks
@@ -126,39 +126,39 @@ module _ (plan : RestorePlan) (s : Super) (sums : Option TreeRoot) (images commi
       pub is : IsTreated Inside (met_in deep tree dirid path (entry_of item entry)) whole left ⊎ IsMissing (entry_of item entry) whole left
 
     -- the items of a leaf that are the directory's, or the children of a node that may have some, in turn
-    abbrev pub OfNode : (Spot → List Step → List Step → Type 0) → Spot → Node → List Step → List Step → Type 0
-    OfNode child spot (Leaf items) = InTurn OfItem (items_within (key dirid dir_index 0) (key dirid dir_index last) spot.addr items)
-    OfNode child spot (Inner pointers) =
-        InTurn child (filter (meets_keys (key dirid dir_index 0) (key dirid dir_index last)) (child_spots pointers spot.up))
+    abbrev pub OfNode : (BlockPointer → List Step → List Step → Type 0) → BlockPointer → Node → List Step → List Step → Type 0
+    OfNode child pointer (Leaf items) = InTurn OfItem (items_within (key dirid dir_index 0) (key dirid dir_index last) pointer.addr items)
+    OfNode child pointer (Inner pointers) =
+        InTurn child (filter (meets_keys (key dirid dir_index 0) (key dirid dir_index last)) (child_pointers pointers pointer.up))
 
     -- a block that the images have as it was committed
-    pub record IsThere (child : Spot → List Step → List Step → Type 0) (level : ℕ) (spot : Spot) (whole left : List Step) : Type 0 where
+    pub record IsThere (child : BlockPointer → List Step → List Step → Type 0) (level : ℕ) (pointer : BlockPointer) (whole left : List Step) : Type 0 where
       pub block : List ℕ
       pub node : Node
-      pub was : committed (want_of level spot) ≡ Ok block
-      pub came : images (want_of level spot) ≡ Ok block
-      pub good : judged level spot block ≡ Some node
-      pub of : OfNode child spot node whole left
+      pub was : committed (want_of level pointer) ≡ Ok block
+      pub came : images (want_of level pointer) ≡ Ok block
+      pub good : judged level pointer block ≡ Some node
+      pub of : OfNode child pointer node whole left
 
     -- a lost block: what restore does about the committed items in it and below it, whatever was
     -- counted before, is left out, and it is named once with the directory
-    pub record IsPart (level : ℕ) (spot : Spot) (whole left : List Step) : Type 0 where
-      pub lost : images (want_of level spot) ≡ Err (Lost spot.addr)
+    pub record IsPart (level : ℕ) (pointer : BlockPointer) (whole left : List Step) : Type 0 where
+      pub lost : images (want_of level pointer) ≡ Err (Lost pointer.addr)
       pub is :
           (counts : Counts)
           → whole
           ≡ steps_of (exec committed
-          (treat_items counts (items_met (tour_at (key dirid dir_index 0) (key dirid dir_index last) committed level spot)))).marks
-      pub named : left ≡ Line (missing_line (codes "part") (Lost spot.addr) (folder_path path)) ∷ []
+          (treat_items counts (items_met (tour_at (key dirid dir_index 0) (key dirid dir_index last) committed level pointer)))).marks
+      pub named : left ≡ Line (missing_line (codes "part") (Lost pointer.addr) (folder_path path)) ∷ []
 
     -- a block of the directory's tree, and what is below it
-    abbrev pub OfBlock : ℕ → Spot → List Step → List Step → Type 0
-    OfBlock zero spot whole left = IsThere (λ child w l. (w ≡ []) × (l ≡ [])) 0 spot whole left ⊎ IsPart 0 spot whole left
-    OfBlock (suc n) spot whole left = IsThere (OfBlock n) (suc n) spot whole left ⊎ IsPart (suc n) spot whole left
+    abbrev pub OfBlock : ℕ → BlockPointer → List Step → List Step → Type 0
+    OfBlock zero pointer whole left = IsThere (λ child w l. (w ≡ []) × (l ≡ [])) 0 pointer whole left ⊎ IsPart 0 pointer whole left
+    OfBlock (suc n) pointer whole left = IsThere (OfBlock n) (suc n) pointer whole left ⊎ IsPart (suc n) pointer whole left
 
     -- what restore does about a whole directory, and what salvage leaves of it
     abbrev pub OfListed : List Step → List Step → Type 0
-    OfListed = OfBlock tree.place.level (root_spot tree.place)
+    OfListed = OfBlock tree.place.level (root_pointer tree.place)
 
   -- a directory, below which so many more may be entered
   abbrev pub OfDirectory : ℕ → TreeRoot → ℕ → List ℕ → List Step → List Step → Type 0

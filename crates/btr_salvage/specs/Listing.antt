@@ -1,16 +1,14 @@
 -- How far the listing of a directory has come.
-use Rattle.std.specs.Prelude.{◌≡◌, ℕ, zero, suc, List, [], fold, Option, Result, Ok}
+use Rattle.std.specs.Prelude.{◌≡◌, ℕ, zero, suc, List, [], Option, Result, Ok}
 use Rattle.btr_prog.specs.Goes.{ThreadsTo}
 use Rattle.btr_prog.specs.Prog.{Does, Run, run, and_then, first}
 use Rattle.btr_prog.specs.Trying.{Done, tried}
 use Rattle.btr_prog.proofs.SoFars.{SoFar}
-use Rattle.btr_rack.specs.Rack.{OnlyReads}
 use Rattle.btr_read.specs.Fate.{Fault}
 use Rattle.btr_read.specs.declared.want.Want.{Want}
 use Rattle.btr_super.specs.declared.superblock.Super.{Super}
 use Rattle.btr_tour.specs.Tour.{Mark}
 use Rattle.btr_walk.specs.Reading.{Map}
-use Rattle.btr_volume.specs.Looking.{SameVolume}
 use Rattle.btr_volume.specs.Readable.{CanRead}
 use Rattle.btr_volume.specs.declared.root.TreeRoot.{TreeRoot}
 use Rattle.btr_files.specs.declared.dir_row.DirRow.{DirRow}
@@ -20,15 +18,14 @@ use Rattle.btr_files.specs.Entries.{DirEntry}
 use Rattle.btr_files.specs.Listing.{named_row}
 use Rattle.btr_listing.specs.Step.{Step}
 use Rattle.btr_restore.specs.declared.job.Job.{Job}
-use Rattle.btr_restore.specs.Listing.{TellsBoth, is_deep}
-use Rattle.btr_restore.specs.Restoring.{sink_after, text_after}
-use Rattle.btr_restore.specs.Running.{Stands, World}
+use Rattle.btr_restore.specs.Listing.{Listed, is_deep}
+use Rattle.btr_restore.specs.Running.{World}
 use Rattle.btr_salvage.specs.declared.folder.Folder.{Folder}
 use Rattle.btr_salvage.specs.declared.folder.Found.{Found}
 use Rattle.btr_salvage.specs.declared.salvaged.Salvaged.{Salvaged}
-use Rattle.btr_prog.specs.Attempts.{TriesTo, treat_each}
+use Rattle.btr_prog.specs.Attempts.{TriesTo}
 use Rattle.btr_salvage.specs.Folders.{IsFolder, IsFolderOn, folder_left, found_in}
-use Rattle.btr_salvage.specs.Marks.{InFolder, folder_tour, mark_in}
+use Rattle.btr_salvage.specs.Marks.{InFolder, mark_in}
 use Rattle.btr_salvage.specs.Salvaging.{Attempt, SalvageListing, Within, directory, listed_in, meet, treat}
 
 module _ (plan : RestorePlan) (s : Super) (sums : Option TreeRoot) where
@@ -97,27 +94,12 @@ module _ (treat : Salvaged → InFolder → Attempt Salvaged) where
     pub run : SoFar (TriesTo Bs whole) (Left Bs so_far (first (Does mark) (tried B (folder_left B folder)))) seen done
     pub on : IsFolderOn B seen folder
 
-  -- a listing has come so far: its calls did some steps, and the marks of a directory's tour are left
-  pub record Listed (whole : Attempt Salvaged) (x y : World) (so_far : Salvaged) (folder : Folder) : Type 0 where
-    pub reads : OnlyReads x.rack y.rack
-    pub volume : SameVolume x.vol y.vol
-    pub ready : CanRead 6 y.rack y.vol
-    pub done : List Step
-    pub sink : y.out.sink ≡ fold sink_after x.out.sink done
-    pub text : y.out.text ≡ text_after x.out.text done
-    pub content : TellsBoth x.vol.store.layout x.rack y.rack (λ B Bs. LeftOf whole B Bs so_far folder done)
-    pub sink_calls : y.out.sink_calls ≡ x.out.sink_calls
-    pub out_calls : y.out.out_calls ≡ x.out.out_calls
-
--- a listing is under way: its directory can be read on, its path is as it began, and the sink stands where it stood
+-- a listing is under way: its directory can be read on, and its path and the places below are as it began
 pub record IsUnderway
-    (plan : RestorePlan) (sums : Option TreeRoot) (deeper : ℕ) (tree : TreeRoot) (dirid : ℕ) (path : List ℕ)
-    (first : Salvaged) (x y : World) (so_far : Salvaged) (folder : Folder) (here : List ℕ) (below : ℕ) : Type 0 where
+    (meets : Super → ℕ → List ℕ → Salvaged → InFolder → Attempt Salvaged) (whole : Super → Attempt Salvaged) (deeper : ℕ) (path : List ℕ)
+    (x y : World) (so_far : Salvaged) (folder : Folder) (here : List ℕ) (below : ℕ) : Type 0 where
   pub ready : CanRead 6 y.rack y.vol
   pub reads_on : IsFolder folder
   pub same_path : here ≡ path
   pub same_below : below ≡ deeper
-  pub stands : (n : ℕ) → Stands plan.dry n x.out.sink → Stands plan.dry n y.out.sink
-  pub listed : (s : Super) → s ≡ x.vol.sup
-      → Listed (meet_in plan s sums deeper tree dirid path)
-      (treat_each (by_mark (meet_in plan s sums deeper tree dirid path)) first (folder_tour tree dirid)) x y so_far folder
+  pub listed : (s : Super) → s ≡ x.vol.sup → Listed (λ B Bs. LeftOf (meets s deeper path) (whole s) B Bs so_far folder) x y

@@ -13,6 +13,7 @@ use Rattle.btr_listing.specs.declared.decision.Decision.{Decision}
 use Rattle.btr_listing.specs.declared.decision.Decision.TheVariants as decision
 use Rattle.btr_listing.specs.declared.entry.Entry.{Entry}
 use Rattle.btr_listing.specs.Looked.{met_by}
+use Rattle.btr_restore.specs.Listing.{ended_with}
 use Rattle.btr_restore.specs.Running.{WroteLines}
 use Rattle.btr_restore.specs.declared.job.Job.{Job}
 use Rattle.btr_restore.specs.declared.treated.Treated.{Treated}
@@ -40,8 +41,7 @@ file_in (decision.Folder tree dirid) = None
 
 -- an answer with what was salvaged then
 abbrev pub counted : Salvaged → Result (Unit {0}) Stop → Result Salvaged Stop
-counted so_far (Ok u) = Ok so_far
-counted so_far (Err stop) = Err stop
+counted = ended_with
 
 -- the first reading of a file, by the superblock
 abbrev pub reading_for : Job → TreeRoot → ℕ → Inode → Super → Attempt (Unit {0})

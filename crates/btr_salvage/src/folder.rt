@@ -77,7 +77,7 @@ fn meet_next<R: Rack>(
     ensures ready { IsTourReady (R.seen rack.new) store.new tour.new }
     ensures reads { OnlyReads (R.seen rack.old) (R.seen rack.new) }
     ensures others { SameLoans (without_leaf store.old tour.old) (without_leaf store.new tour.new) }
-    ensures nears { MetRankFalls tour.old tour.new result }
+    ensures rank_falls { MetRankFalls tour.old tour.new result }
     ensures cause { HasCause store.old.layout (R.seen rack.old) (R.seen rack.new) result }
     ensures content { TellsMet store.old store.new (R.seen rack.old) (R.seen rack.new) tour.old tour.new name.new result }
 {
@@ -131,7 +131,7 @@ impl Folder {
         ensures reads { OnlyReads (R.seen rack.old) (R.seen rack.new) }
         ensures volume { SameVolume vol.old vol.new }
         ensures folder { IsFolder self.new }
-        ensures nears { FolderRankFalls self.old self.new result }
+        ensures rank_falls { FolderRankFalls self.old self.new result }
         ensures cause { HasCause vol.old.store.layout (R.seen rack.old) (R.seen rack.new) result }
         ensures content { TellsFound vol.old (R.seen rack.old) (R.seen rack.new) self.old self.new name.new result }
     {

@@ -25,7 +25,7 @@ fn pass_next<R: Rack>(
     ensures passes { PassesNext file.old file.new (R.seen rack.old) vol.old (R.seen rack.new) vol.new result }
     ensures ready { IsReading (R.seen rack.new) vol.new.store file.new }
     ensures room { SameLoans (without_file vol.old.store file.old) (without_file vol.new.store file.new) }
-    ensures nears { PassRankFalls (bytes_left file.old) (bytes_left file.new) result }
+    ensures rank_falls { PassRankFalls (bytes_left file.old) (bytes_left file.new) result }
 {
     match next_piece(vol, file, rack)? {
         None => Ok(false),

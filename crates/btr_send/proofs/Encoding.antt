@@ -13,6 +13,7 @@ pub attribute_length : (kind : ℕ) (bytes : List ℕ) → length (attribute kin
 unfolding attribute
 attribute_length kind bytes = grind (arith, length-append)
 
+-- the type, the length and the data, put one behind another, are the attribute
 pub attribute_behind : (old : List ℕ) (kind : ℕ) (bytes : List ℕ) → old ++ to_le_bytes w16 kind ++ to_le_bytes w16
     (length bytes) ++ bytes ≡ old ++ attribute kind bytes
 unfolding attribute
@@ -27,26 +28,33 @@ attribute_more old new kind bytes e = ap (λ (x : List ℕ). length x) e ∙ (le
     ∙ ap (λ (n : ℕ). length old + n) (attribute_length kind bytes))
 
 module _ (number : ℕ) (rest : List ℕ) where
+  -- a command whose head is still blank
   abbrev blank : List ℕ
   blank = replicate 10 0 ++ rest
 
+  -- with the length of its attributes in the head
   abbrev first : List ℕ
   first = take 0 blank ++ to_le_bytes w32 (length rest) ++ drop (0 + length (to_le_bytes w32 (length rest))) blank
 
+  -- with its number in the head too
   abbrev second : List ℕ
   second = take 4 first ++ to_le_bytes w16 number ++ drop (4 + length (to_le_bytes w16 number)) first
 
+  -- with a checksum in the head too
   abbrev third : ℕ → List ℕ
   third sum = take 6 second ++ to_le_bytes w32 sum ++ drop (6 + length (to_le_bytes w32 sum)) second
 
+  -- with length and number it is the command with a checksum of 0
   unsummed : second ≡ command_with 0 number rest
   unfolding command_with
   unsummed = refl
 
+  -- with a checksum it is the command with that checksum
   summed : (sum : ℕ) → third sum ≡ command_with sum number rest
   unfolding command_with
   summed sum = refl
 
+  -- with the register over it as the checksum it is the command
   pub headed : third (register 0 second) ≡ command number rest
   unfolding command
   headed = summed (register 0 second) ∙ ap (λ x. command_with (register 0 x) number rest) unsummed
@@ -69,10 +77,12 @@ head_dropped : (number k : ℕ) (rest : List ℕ) → drop (10 + k) (command_wit
 unfolding command_with
 head_dropped number k rest = sym (drop-drop k 10 (command_with 0 number rest))
 
+-- a command without its checksum has ten bytes before its attributes
 head_length : (number : ℕ) (rest : List ℕ) → length (command_with 0 number rest) ≡ 10 + length rest
 unfolding command_with
 head_length number rest = grind (arith, length-append)
 
+-- what is the CRC-32C of the last 4096 bytes stays so when length and number are written
 last_kept : (number crc : ℕ) (old b : List ℕ) → b ≡ command_with 0 number (drop 10 old) → IsLastCrc old crc → IsLastCrc b crc
 last_kept number crc old b is h =
     let rest = drop 10 old in
@@ -84,6 +94,7 @@ last_kept number crc old b is h =
     ∙ head_dropped number k rest ∙ drop-drop k 10 old ∙ ap (λ n. drop n old) (sym behind) in
     (omega (arith, long, h.0), h.1 ∙ ap crc32c (sym same))
 
+-- what is known as the CRC-32C of the last 4096 bytes, if anything, stays so when length and number are written
 pub known_kept : (number len : ℕ) (crc : Option ℕ) (old a b p q : List ℕ) → take 10 old ≡ replicate 10 0 → length old ≡ 10 + len
     → p ≡ to_le_bytes w32 len → q ≡ to_le_bytes w16 number → a ≡ take 0 old ++ p ++ drop (0 + length p) old → b ≡ take 4 a ++ q ++ drop (4 + length q) a
     → IfSome crc (IsLastCrc old) → IfSome crc (IsLastCrc b)
@@ -98,6 +109,7 @@ last_is old part kind long =
     let n : length (front ++ part) - 4096 ≡ length front = omega (arith, length-append front part, long) in
     ap (λ (x : List ℕ). drop (length x - 4096) x) (sym (attribute_behind old kind part)) ∙ ap (λ k. drop k (front ++ part)) n ∙ drop-append_seam front part
 
+-- what is known as the CRC-32C of the sector that was added last is that of the last 4096 bytes
 pub last_known : (old new part : List ℕ) (kind : ℕ) (crc : Option ℕ) → 10 ≤ length old → new ≡ old ++ attribute kind part
     → IfSome crc (λ c. (length part ≡ 4096) × (c ≡ crc32c part)) → IfSome crc (IsLastCrc new)
 last_known old new part kind None long is h = tt
@@ -106,6 +118,7 @@ last_known old new part kind (Some crc) long is h =
     let same : drop (length new - 4096) new ≡ part = ap (λ (x : List ℕ). drop (length x - 4096) x) is ∙ last_is old part kind h.0 in
     (omega (arith, whole, long, h.0), h.1 ∙ ap crc32c (sym same))
 
+-- a blank head in which length, number and checksum were written is that of the command
 pub head_written : (number len sum : ℕ) (old a b c p q r : List ℕ) → take 10 old ≡ replicate 10 0 → length old ≡ 10 + len
     → p ≡ to_le_bytes w32 len → q ≡ to_le_bytes w16 number → r ≡ to_le_bytes w32 sum
     → a ≡ take 0 old ++ p ++ drop (0 + length p) old → b ≡ take 4 a ++ q ++ drop (4 + length q) a
@@ -128,5 +141,6 @@ pub command_some : (number : ℕ) (attributes : List ℕ) → command number att
 unfolding command command_with
 command_some number attributes = λ e. cc
 
+-- a buffer that holds a command isn't empty
 pub filled_some : (b : List ℕ) (number : ℕ) (attributes : List ℕ) → b ≡ command number attributes → b ≢ []
 filled_some b number attributes is = λ e. command_some number attributes (sym is ∙ e)

@@ -33,15 +33,19 @@ emits_nowhere p s s' told stop error is same = as_sink (λ answer. Emits p s s' 
 
 -- a step, and then the rest
 module _ {C : Type 0} (step : Step) (rest : Program Step C) (x y : Outside) where
+  -- the step alone
   abbrev alone : Program Step (Unit {0})
   alone = Emit step (Return tt)
 
+  -- the step was done, and then the rest
   pub step_then : (z : Outside) (r : Result C TheStop) → Wrote alone x y (Ok tt) → Wrote rest y z r → Wrote (Emit step rest) x z r
   step_then z r h g = wrote_then alone (λ u. rest) x y z tt r h g
 
+  -- a step that was refused leaves the rest undone
   pub step_halt : (s : TheStop) → Wrote alone x y (Err s) → Wrote (Emit step rest) x y (Err s)
   step_halt s h = wrote_halt alone (λ u. rest) x y y s h
 
+  -- the step was done, and then a rest that reads too
   pub step_ran : (rack : Seen) (vol : Volume) (z : World) (r : Result C TheStop) → CanRead 6 rack vol → Wrote alone x y (Ok tt)
       → Ran rest (world rack vol y) z r → Ran (Emit step rest) (world rack vol x) z r
   step_ran rack vol z r ready w h =
@@ -51,6 +55,7 @@ module _ {C : Type 0} (step : Step) (rest : Program Step C) (x y : Outside) wher
 count_last : (n : ℕ) → 0 < n → n ≤ 4096 → (n + 4095) / 4096 ≡ suc zero
 count_last n some few = omega arith
 
+-- more than 4096 bytes take one write more than those behind the first 4096
 count_more : (n m : ℕ) → 4096 < n → m ≡ n - 4096 → (n + 4095) / 4096 ≡ suc ((m + 4095) / 4096)
 count_more n m many e = omega arith
 

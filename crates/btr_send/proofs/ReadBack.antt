@@ -8,23 +8,27 @@ use Rattle.std.proofs.lemmas.Nat.{from_le_bytes-to_le_bytes_2, from_le_bytes-to_
 use Rattle.std.proofs.lemmas.Slice.Eq.{bytes_eq-Decides}
 use Rattle.std.proofs.Math.Seq.{drop-append-add, drop-append_seam, take-append_seam}
 use Rattle.btr_send.specs.Command.{attribute, command, command_with, header, number_attribute}
-use Rattle.btr_send.specs.Replay.{Command, Subvol, MkFile, MkDir, Write, Truncate, End, Read, Made, Further, IsSound, IsInner, AreInner, ReplayLaw}
+use Rattle.btr_send.specs.Replay.{Command, Subvol, MkFile, MkDir, Write, Truncate, End, Read, Made, Further, FieldsFit, IsInner, AreInner, ReplayLaw}
 use Rattle.btr_send.specs.Replay.{behind_command, behind_first, behind_play, behind_read, by_fields, bytes_of, first_data, from_first, members_of}
 use Rattle.btr_send.specs.Replay.{nothing_made, play, play_all, play_on, read_command, replay, replay_from}
 use Rattle.btr_send.proofs.Encoding.{attribute_length}
 
+-- what is taken by the length of the first of two lists is that list
 taken : (n : ℕ) (xs ys : List ℕ) → n ≡ length xs → take n (xs ++ ys) ≡ xs
 taken n xs ys e = ap (λ k. take k (xs ++ ys)) e ∙ take-append_seam xs ys
 
+-- what is left behind the length of the first of two lists is the second
 dropped : (n : ℕ) (xs ys : List ℕ) → n ≡ length xs → drop n (xs ++ ys) ≡ ys
 dropped n xs ys e = ap (λ k. drop k (xs ++ ys)) e ∙ drop-append_seam xs ys
 
 -- the first attribute of some
 module _ (kind : ℕ) (xs more : List ℕ) (short : length xs < 2 ^ 16) where
+  -- the data of the first attribute is read back
   pub first_back : first_data (attribute kind xs ++ more) ≡ xs
   unfolding attribute
   first_back = taken (from_le_bytes w16 (to_le_bytes w16 (length xs) ++ (xs ++ more))) xs more (from_le_bytes-to_le_bytes_2 (length xs) short)
 
+  -- what comes behind the first attribute is read back
   pub more_back : behind_first (attribute kind xs ++ more) ≡ more
   unfolding attribute
   more_back = dropped (from_le_bytes w16 (to_le_bytes w16 (length xs) ++ (xs ++ more))) xs more (from_le_bytes-to_le_bytes_2 (length xs) short)
@@ -47,6 +51,7 @@ number_of (Write path offset bytes) = 15
 number_of (Truncate path size) = 17
 number_of End = 21
 
+-- the attributes of a command, as they stand behind its head
 abbrev attributes_of : Command → List ℕ
 attributes_of (Subvol name uuid transid) = attribute 15 name ++ attribute 1 uuid ++ number_attribute 2 transid
 attributes_of (MkFile path) = attribute 15 path
@@ -64,6 +69,7 @@ is_command (Write path offset bytes) = refl
 is_command (Truncate path size) = refl
 is_command End = refl
 
+-- the number of a command fits its two bytes
 small_number : (c : Command) → number_of c < 2 ^ 16
 small_number (Subvol name uuid transid) = omega arith
 small_number (MkFile path) = omega arith
@@ -72,11 +78,12 @@ small_number (Write path offset bytes) = omega arith
 small_number (Truncate path size) = omega arith
 small_number End = omega arith
 
+-- a number as an attribute has twelve bytes
 number_length : (kind n : ℕ) → length (number_attribute kind n) ≡ 12
 number_length kind n = attribute_length kind (to_le_bytes w64 n)
 
 -- the attributes of a sound command are short
-short_attributes : (c : Command) → IsSound c → length (attributes_of c) < 2 ^ 32
+short_attributes : (c : Command) → FieldsFit c → length (attributes_of c) < 2 ^ 32
 short_attributes (Subvol name uuid transid) s =
     omega (
       arith,
@@ -110,12 +117,14 @@ last_number : (kind n : ℕ) → n < 2 ^ 64 → from_le_bytes w64 (drop 4 (numbe
 unfolding attribute
 last_number kind n fits = from_le_bytes-to_le_bytes_8 n fits
 
+-- behind the uuid and the heads of both attributes stands the transid
 behind_uuid : (uuid : List ℕ) (transid : ℕ) → length uuid ≡ 16 → drop 24 (attribute 1 uuid ++ number_attribute 2 transid) ≡ drop 4 (number_attribute 2 transid)
 unfolding attribute
 behind_uuid uuid transid e =
     let at : 20 ≡ length uuid + 4 = omega (arith, e) in
     ap (λ k. drop k (uuid ++ number_attribute 2 transid)) at ∙ drop-append-add uuid (number_attribute 2 transid) 4
 
+-- behind the offset of a write and the head of its data stands the data
 data_back : (offset : ℕ) (bytes : List ℕ) → drop 16 (number_attribute 18 offset ++ attribute 19 bytes) ≡ bytes
 unfolding attribute
 data_back offset bytes = refl
@@ -125,12 +134,13 @@ uuid_back : (uuid : List ℕ) (transid : ℕ) → length uuid ≡ 16 → take 16
 unfolding attribute
 uuid_back uuid transid e = taken 16 uuid (number_attribute 2 transid) (sym e)
 
+-- the transid is read back from where it is sought
 transid_back : (uuid : List ℕ) (transid : ℕ) → length uuid ≡ 16 → transid < 2 ^ 64 → from_le_bytes w64 (drop 24
     (attribute 1 uuid ++ number_attribute 2 transid)) ≡ transid
 transid_back uuid transid e fits = ap (λ xs. from_le_bytes w64 xs) (behind_uuid uuid transid e) ∙ last_number 2 transid fits
 
 -- the command of the fields of a sound one is that
-pub fields_back : (c : Command) → IsSound c → by_fields (number_of c) (attributes_of c) ≡ c
+pub fields_back : (c : Command) → FieldsFit c → by_fields (number_of c) (attributes_of c) ≡ c
 fields_back (Subvol name uuid transid) s =
     let more = attribute 1 uuid ++ number_attribute 2 transid in
     ap (λ a. by_fields 1 a) (append_assoc (attribute 15 name) (attribute 1 uuid) (number_attribute 2 transid))
@@ -156,21 +166,26 @@ fields_back End s = refl
 
 -- a command at the front of some bytes
 module _ (number : ℕ) (attributes rest : List ℕ) where
+  -- the command of a number and attributes
   abbrev whole : List ℕ
   whole = command number attributes
 
+  -- its length is read back
   size_back : length attributes < 2 ^ 32 → 10 + from_le_bytes w32 (whole ++ rest) ≡ length whole
   unfolding command command_with
   size_back short = ap (λ n. 10 + n) (from_le_bytes-to_le_bytes_4 (length attributes) short) ∙ grind arith
 
+  -- its number is read back
   command_back : number < 2 ^ 16 → from_le_bytes w16 (drop 4 (whole ++ rest)) ≡ number
   unfolding command command_with
   command_back small = from_le_bytes-to_le_bytes_2 number small
 
+  -- its attributes stand behind its head
   attributes_back : drop 10 whole ≡ attributes
   unfolding command command_with
   attributes_back = refl
 
+-- bytes are found to be equal to themselves
 pub same_bytes : (xs : List ℕ) → bytes_eq xs xs ≡ true
 same_bytes xs = (bytes_eq-Decides xs xs).1 refl
 
@@ -180,12 +195,13 @@ cut number front behind =
     let first = by_fields number (drop 10 front) in
     cond (bytes_eq front (bytes_of first)) (Some (record { first = first; rest = behind })) None
 
+-- where a test is true, what was read is given
 if_same : (b : Bool) (x : Read) → b ≡ true → cond b (Some x) None ≡ Some x
 if_same true x e = refl
 if_same false x e = absurd (cc e)
 
 -- a sound command is read back
-pub read_back : (c : Command) (rest : List ℕ) → IsSound c → read_command (bytes_of c ++ rest) ≡ Some (record { first = c; rest = rest })
+pub read_back : (c : Command) (rest : List ℕ) → FieldsFit c → read_command (bytes_of c ++ rest) ≡ Some (record { first = c; rest = rest })
 read_back c rest s =
     let n = number_of c in
     let a = attributes_of c in
@@ -210,14 +226,17 @@ inner_step further made (Write path offset bytes) rest i = refl
 inner_step further made (Truncate path size) rest i = refl
 inner_step further made End rest i = absurd i
 
+-- behind a command that is played the replay is what the others make, if so whatever was made
 played_on : (further : Further) (more : List Command) (o : Option Made) (rest : List ℕ) → ((made : Made) → further made rest ≡ members_of (play_all more made))
     → behind_play further o rest ≡ members_of (play_on (play_all more) o)
 played_on further more None rest h = refl
 played_on further more (Some made) rest h = h made
 
+-- the bytes of inner commands, and of the end
 abbrev rest_of : List Command → List ℕ
 rest_of inner = flat_map bytes_of inner ++ bytes_of End
 
+-- the replay of inner commands and the end is what these commands make
 replayed : (inner : List Command) (n : ℕ) (made : Made) → length inner < n → AreInner inner
     → replay_from n made (rest_of inner) ≡ members_of (play_all inner made)
 replayed inner zero made fuel i = absurd (omega (arith, fuel))
@@ -234,18 +253,22 @@ some_of : (n : ℕ) (a : List ℕ) → 0 < length (command n a)
 unfolding command command_with
 some_of n a = omega arith
 
+-- each command that is read back has some bytes
 some_bytes : (c : Command) → 0 < length (bytes_of c)
 some_bytes c = subst (λ (b : List ℕ). 0 < length b) (sym (is_command c)) (some_of (number_of c) (attributes_of c))
 
+-- commands have at least as many bytes as they are
 count_bytes : (inner : List Command) → length inner ≤ length (flat_map bytes_of inner)
 count_bytes [] = omega arith
 count_bytes (c ∷ more) = omega (arith, length-append (bytes_of c) (flat_map bytes_of more), some_bytes c, count_bytes more)
 
+-- bytes that begin with the header are replayed from the first command on
 if_header : (bytes rest : List ℕ) → take 17 bytes ≡ header → drop 17 bytes ≡ rest → replay bytes ≡ from_first (read_command rest)
 if_header bytes rest e d =
     ap (λ h. cond (bytes_eq h header) (from_first (read_command (drop 17 bytes))) None) e
     ∙ (ap (λ b. cond b (from_first (read_command (drop 17 bytes))) None) (same_bytes header) ∙ ap (λ r. from_first (read_command r)) d)
 
+-- the replay of a stream of sound commands is what these commands make
 pub replays : ReplayLaw
 replays name uuid transid inner sound are =
     let first = Subvol name uuid transid in

@@ -8,9 +8,9 @@ use Rattle.std.proofs.lemmas.Nat.{mod-pow-add, pow_pos, xor_block, xor_comm}
 use Rattle.std.proofs.Math.Nat.{mod-lt}
 use Rattle.btr_base.specs.Crc.{crc32c, register, shifted_by}
 use Rattle.btr_base.specs.Fold.{after}
-use Rattle.btr_base.proofs.Ahead.{after-more, after-same}
+use Rattle.btr_base.proofs.Ahead.{after-more, after-same, after-zeros}
 use Rattle.btr_base.proofs.Behind.{zeros_at}
-use Rattle.btr_base.proofs.Linear.{shifted_by-xor, shifted_by-zero, shifted_by-add}
+use Rattle.btr_base.proofs.Linear.{shifted_by-xor, shifted_by-add}
 use Rattle.btr_base.proofs.Words.{after_lt, register_bytes}
 
 shifted_none : (a : ℕ) → shifted_by 0 a ≡ a
@@ -28,11 +28,6 @@ after_sum (suc n) a b u =
     ap (λ r. shifted_by 8 (bit_xor r (u n))) (after_sum n a b u) ∙ ap (shifted_by 8) (xor_assoc low high (u n)) ∙ shifted_by-xor 8 low (bit_xor high (u n))
     ∙ ap (λ x. bit_xor x (shifted_by 8 (bit_xor high (u n)))) (sym (shifted_by-add (8 * n) 8 a) ∙ ap (λ k. shifted_by k a) sum)
 
-after_zeros : (n : ℕ) → after 8 0 n (λ j. 0) ≡ 0
-unfolding after
-after_zeros zero = refl
-after_zeros (suc n) = ap (λ r. shifted_by 8 (bit_xor r 0)) (after_zeros n) ∙ shifted_by-zero 8
-
 -- a register after a sector of zeros
 pub register_zeros : (reg : ℕ) (bytes : List ℕ) → reg < 2 ^ 32 → bytes ≡ replicate 4096 0 → register reg bytes ≡ shifted_by 32768 reg
 register_zeros reg bytes lt is =
@@ -40,7 +35,7 @@ register_zeros reg bytes lt is =
     register_bytes reg bytes lt (λ i. omega (arith, zeros_at 4096 bytes i is)) ∙ ap (λ n. after 8 reg n (λ j. get_or bytes j 0)) long
     ∙ after-same reg 4096 (λ j. get_or bytes j 0) (λ j. 0) (λ j small. zeros_at 4096 bytes j is)
     ∙ ap (λ r. after 8 r 4096 (λ j. 0)) (sym (xor_zero_r reg)) ∙ after_sum 4096 reg 0 (λ j. 0)
-    ∙ ap (bit_xor (shifted_by 32768 reg)) (after_zeros 4096) ∙ xor_zero_r (shifted_by 32768 reg)
+    ∙ ap (bit_xor (shifted_by 32768 reg)) (after-zeros 4096) ∙ xor_zero_r (shifted_by 32768 reg)
 
 -- a register after any sector, from that after it from a register of ones
 pub register_joined : (reg crc : ℕ) (bytes : List ℕ) → reg < 2 ^ 32 → ((i : ℕ) → get_or bytes i 0 < 2 ^ 8) → length bytes ≡ 4096 → crc ≡ crc32c bytes
@@ -107,6 +102,7 @@ register_parted reg n bytes lt are_bytes within =
     ∙ sym (after-more reg n k u) ∙ ap (λ m. after 8 reg m u) (omega (arith, length-drop n bytes, within))
     ∙ sym (register_bytes reg bytes lt are_bytes)
   where
+    -- the first of some bytes are bytes
     take_fits : (i : ℕ) → get_or (take n bytes) i 0 < 2 ^ 8
     take_fits i = elim (cases_lt i n) [
       | inl below ↦ omega (arith, get_or-take n bytes i 0 below, are_bytes i)

@@ -21,14 +21,17 @@ use Rattle.btr_listing.proofs.Decidings.{Gives, gives_bind}
 use Rattle.btr_send.specs.Sending.{rules}
 
 module _ {W F A : Type 0} (P : A → Type 0) where
+  -- what holds of the value of each of two lookups, where a test chooses it, holds of the one chosen
   gives_if : (b : Bool) (p q : Prog W F ⊥ A) → (b ≡ true → Gives P p) → (b ≡ false → Gives P q) → Gives P (cond b p q)
   gives_if true p q h g = h refl
   gives_if false p q h g = g refl
 
+-- what holds of two values holds of the one that a test chooses
 holds_if : {A : Type 0} (P : A → Type 0) (b : Bool) (x y : A) → P x → P y → P (cond b x y)
 holds_if P true x y h g = h
 holds_if P false x y h g = g
 
+-- where one number isn't found below another, that one is at most the first
 not_less : (m n : ℕ) → nat_lt m n ≡ false → n ≤ m
 not_less m n h = grind (arith, nat_tests)
 
@@ -41,11 +44,13 @@ module _ (met : Met) where
   IsShort (Folder tree dirid) = length met.path ≤ 4096
 
   module _ (short : length met.path ≤ 4096) where
+    -- a file that isn't too large is still short by what its extents come to
     survey_short : (inode : Inode) (small : inode.size ≤ 2 ^ 60) (found : Survey) → IsShort (surveyed inode found)
     survey_short inode small Clear = (short, small)
     survey_short inode small Compressed = tt
     survey_short inode small Encoded = tt
 
+    -- whatever the blocks are, a file with a short path is sent only if it isn't too large
     file_short : (found : Option Inode) → Gives IsShort (file_found met found)
     file_short None = tt
     file_short (Some inode) =
@@ -53,11 +58,13 @@ module _ (met : Met) where
         gives_if IsShort (nat_lt (2 ^ 60) inode.size) (Return (Skip cause.Size)) (bind p (λ found. Return (surveyed inode found))) (λ e. tt)
         (λ e. gives_bind IsShort p (λ found. Return (surveyed inode found)) (survey_short inode (not_less (2 ^ 60) inode.size e)))
 
+    -- whatever the blocks are, a directory with a short path is entered or left out
     directory_short : Gives IsShort (directory_decided met)
     directory_short =
         gives_bind IsShort (linked (link_of met) met.tree (target met)) (λ is. Return (link_found met is))
         (λ is. holds_if IsShort is (Folder met.tree (target met)) (Skip cause.Link) short tt)
 
+  -- whatever the blocks are, an entry of a good name is sent only with a short path, and a file only if it isn't too large
   named_short : (s : Super) → Gives IsShort (named_decided rules s met)
   named_short s =
       let row = met.entry.row in

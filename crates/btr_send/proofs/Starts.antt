@@ -48,6 +48,7 @@ record Stands (slot : ℕ) (images : List (List ℕ)) (device : Device) : Type 0
   slot_is : device.slot ≡ slot + place
   len_is : device.len ≡ length (get_or images place [])
 
+-- a device that is found has a place among the images, and is as long as the image there
 stands_at : (g slot : ℕ) (supers : List Super) (images : List (List ℕ)) (devid : ℕ) (device : Device)
     → device_in (devices_from g slot supers (map length images)) devid ≡ Some device → Stands slot images device
 stands_at g slot [] images devid device e = absurd (cc e)
@@ -65,6 +66,7 @@ stands_at g slot (s ∷ supers) (image ∷ images) devid device e = by (eqb s.de
         let at = on e in
         record { place = suc at.place; slot_is = at.slot_is ∙ omega arith; len_is = at.len_is }
 
+-- each device is as long as the image in its slot
 devices_long : (g : ℕ) (supers : List Super) (images : List (List ℕ)) → AreLong images (devices_from g 0 supers (map length images))
 devices_long g supers images devid device e =
     let at = stands_at g 0 supers images devid device e in
@@ -77,6 +79,7 @@ record IsSound (images : List (List ℕ)) (start : Start) : Type 0 where
   pub array : AreChunks start.array
 
 module _ (images : List (List ℕ)) (start : Start) where
+  -- a start with a system array that wasn't refused is sound
   array_sound : (s : Super) (kind : SumKind) (members : List Member) (r : Result (List Chunk) ArrayFault) → AreLong images members
       → array_of (array_bytes s) ≡ r → with_array s kind members r ≡ Ok start → IsSound images start
   array_sound s kind members (Err fault) long is e = absurd (cc e)
@@ -86,39 +89,47 @@ module _ (images : List (List ℕ)) (start : Start) where
       let sound = array_all (length (array_bytes s)) [] (array_bytes s) (All-nil IsChunk) in
       record { devices = subst (AreLong images) devices_are long; array = subst AreChunks array_is (subst Sound is sound) }
 
+  -- a start with a kind of checksum that is known is sound
   kind_sound : (s : Super) (members : List Member) (kind : Option SumKind) → AreLong images members → with_kind s members kind ≡ Ok start
       → IsSound images start
   kind_sound s members None long e = absurd (cc e)
   kind_sound s members (Some kind) long e = array_sound s kind members (array_of (array_bytes s)) long refl e
 
+  -- a start that wasn't refused is sound
   started_sound : (s : Super) (members : List Member) (refusal : Option OpenFault) → AreLong images members → started s members refusal ≡ Ok start
       → IsSound images start
   started_sound s members (Some refusal) long e = absurd (cc e)
   started_sound s members None long e = kind_sound s members (kind_of_type s.csum_type) long e
 
+  -- a start by the newest of the superblocks is sound
   by_newest : (supers : List Super) (s : Option Super) → start_by supers (map length images) s ≡ Ok start → IsSound images start
   by_newest supers None e = absurd (cc e)
   by_newest supers (Some s) e =
       started_sound s (devices_from s.generation 0 supers (map length images)) (first_refusal (refusals supers s)) (devices_long s.generation supers images) e
 
+  -- a start by the superblocks of the images is sound
   by_supers : (r : Result (List Super) OpenFault) → start_with images r ≡ Ok start → IsSound images start
   by_supers (Err refusal) e = absurd (cc e)
   by_supers (Ok supers) e = by_newest supers (newest supers) e
 
+  -- what the images start as is sound
   start_sound : start_of images ≡ Ok start → IsSound images start
   start_sound e = by_supers (supers_from 0 images) e
 
 -- ---- the table
 
+-- each chunk of a table keeps the rule, if there is a table
 abbrev SoundTable : TableResult → Type 0
 SoundTable (Ok chunks) = AreChunks chunks
 SoundTable (Err fault) = Unit {0}
 
+-- each chunk keeps the rule, with which a scan goes on or ends
 abbrev SoundNext : Next (List Chunk) TableResult → Type 0
 SoundNext (Go chunks) = AreChunks chunks
 SoundNext (End answer) = SoundTable answer
 SoundNext Broken = Unit {0}
 
+-- where a chunk that keeps the rule is added, the table is sound
 if_sound : (start : ℕ) (chunks : List Chunk) (chunk : Chunk) (r : Result (List Chunk) AddFault) → added chunks chunk ≡ r → AreChunks chunks → IsChunk chunk
     → SoundTable (if_added start r)
 if_sound start chunks chunk (Ok new) e are is = added_all chunks chunk new are is e
@@ -126,6 +137,7 @@ if_sound start chunks chunk (Err add_fault.Overlap) e are is = tt
 if_sound start chunks chunk (Err add_fault.Chunks) e are is = tt
 if_sound start chunks chunk (Err add_fault.Memory) e are is = tt
 
+-- where an item is read as a chunk and added, the table is sound
 chunk_next : (start : ℕ) (body : List ℕ) (chunks : List Chunk) (r : Result Chunk ChunkFault) → chunk_of start body ≡ r → AreChunks chunks
     → SoundTable (with_chunk chunks start r)
 chunk_next start body chunks (Ok chunk) e are = if_sound start chunks chunk (added chunks chunk) refl are (chunk_sound start body chunk e)
@@ -133,6 +145,7 @@ chunk_next start body chunks (Err (chunk_fault.Stripes n)) e are = tt
 chunk_next start body chunks (Err chunk_fault.Bad) e are = tt
 chunk_next start body chunks (Err chunk_fault.Memory) e are = tt
 
+-- where an item of the chunk tree is added, the table is sound
 item_next : (chunks : List Chunk) (item : TreeItem) → AreChunks chunks → SoundTable (with_item chunks item)
 item_next chunks item are =
     by (is_chunk item.key) (chunk_next item.key.offset item.body chunks (chunk_of item.key.offset item.body) refl are)
@@ -142,17 +155,21 @@ item_next chunks item are =
     by true is = is
     by false is = are
 
+-- a sound table is one with which a scan goes on or ends
 step_next : (r : TableResult) → SoundTable r → SoundNext (table_next r)
 step_next (Ok chunks) is = is
 step_next (Err fault) is = tt
 
 module _ (B : BlockMap Want Fault) where
+  -- a table that a scan comes to is sound
   abbrev Gives : Prog Want Fault ⊥ TableResult → Type 0
   Gives p = (r : TableResult) → (exec B p).ending ≡ Ok r → SoundTable r
 
+  -- the scan of some items, from the chunks that are known before them
   abbrev over : List Chunk → RangeProg → Prog Want Fault ⊥ TableResult
   over chunks items = thread (λ st (item : TreeItem). next_prog item.leaf (table_step st item)) (λ st u. whole_table st) chunks items
 
+  -- a scan that begins with chunks that keep the rule comes to a sound table
   over_sound : (chunks : List Chunk) (items : RangeProg) → AreChunks chunks → Gives (over chunks items)
   over_sound chunks (Return u) are r e = let same : Ok chunks ≡ r = cc e in subst SoundTable same are
   over_sound chunks (Stop fault) are r e = absurd (cc e)
@@ -172,11 +189,13 @@ module _ (B : BlockMap Want Fault) where
       by (End answer) is e on = let same : answer ≡ r = cc e in subst SoundTable same is
       by Broken is e on = absurd (cc e)
 
+-- the table that a scan of the chunk tree comes to has only chunks that keep the rule, if the system array has
 table_sound : (images : List (List ℕ)) (start : Start) (table : List Chunk) → AreChunks start.array
     → (exec (fate images (array_layout start)) (table_scan start)).ending ≡ Ok (Ok table) → AreChunks table
 table_sound images start table array scanned =
     over_sound (fate images (array_layout start)) start.array (range first_key last_key (chunk_root start.sup)) array (Ok table) scanned
 
+-- images of bytes with a superblock and a table of chunks give data by whole sectors
 pub images_give_sectors : ImagesGiveSectors
 images_give_sectors images start table bytes opened scanned want block had =
     by want (long_law images (layout_by start table) want block bytes sound.devices (table_sound images start table sound.array scanned) had)

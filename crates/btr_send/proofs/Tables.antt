@@ -22,6 +22,7 @@ use Rattle.btr_chunk.specs.Kind.{profile_of_kind}
 use Rattle.btr_chunk.specs.Table.{added, overlaps, placed, same_chunk}
 use Rattle.btr_send.proofs.Long.{AreChunks}
 
+-- with a chunk that keeps the rule placed among them, all chunks do
 placed_all : (chunk : Chunk) (chunks : List Chunk) → IsChunk chunk → AreChunks chunks → AreChunks (placed chunk chunks)
 placed_all chunk [] is are = All-cons IsChunk chunk [] is are
 placed_all chunk (c ∷ chunks) is are = by (nat_lt chunk.start c.start) (placed_all chunk chunks is (All-tail IsChunk c chunks are))
@@ -63,6 +64,7 @@ chunk_by start bytes chunk (Some profile) few kind e = by (has_form bytes profil
         subst IsChunk same (is (and_parts (has_form bytes profile) (keeps_rule (described start bytes profile)) both).1)
     by false both e = absurd (cc e)
 
+-- a chunk that an item comes to keeps the rule
 pub chunk_sound : (start : ℕ) (bytes : List ℕ) (chunk : Chunk) → chunk_of start bytes ≡ Ok chunk → IsChunk chunk
 chunk_sound start bytes chunk e = by (nat_lt (length bytes) 48) (nat_lt 64 (count_in bytes)) refl e
   where
@@ -75,15 +77,18 @@ chunk_sound start bytes chunk e = by (nat_lt (length bytes) 48) (nat_lt 64 (coun
 
 -- the same of the system array
 
+-- the chunks that an array comes to keep the rule, if it isn't refused
 abbrev pub Sound : Result (List Chunk) ArrayFault → Type 0
 Sound (Ok chunks) = AreChunks chunks
 Sound (Err fault) = Unit {0}
 
+-- where a chunk that keeps the rule is added, the chunks of the array do
 array_if : (start : ℕ) (chunks : List Chunk) (chunk : Chunk) (r : Result (List Chunk) AddFault) → added chunks chunk ≡ r → AreChunks chunks
     → IsChunk chunk → Sound (if_added start r)
 array_if start chunks chunk (Ok new) e are is = added_all chunks chunk new are is e
 array_if start chunks chunk (Err fault) e are is = tt
 
+-- where an item of the array is read as a chunk and added, the chunks of the array keep the rule
 array_item : (start : ℕ) (bytes : List ℕ) (chunks : List Chunk) (r : Result Chunk ChunkFault) → chunk_of start bytes ≡ r → AreChunks chunks
     → Sound (with_item chunks start r)
 array_item start bytes chunks (Ok chunk) e are = array_if start chunks chunk (added chunks chunk) refl are (chunk_sound start bytes chunk e)
@@ -91,6 +96,7 @@ array_item start bytes chunks (Err (chunk_fault.Stripes n)) e are = tt
 array_item start bytes chunks (Err chunk_fault.Bad) e are = tt
 array_item start bytes chunks (Err chunk_fault.Memory) e are = tt
 
+-- with the first pair of an array added, the chunks keep the rule
 array_pair : (chunks : List Chunk) (bytes : List ℕ) → AreChunks chunks → Sound (first_pair chunks bytes)
 array_pair chunks bytes are =
     by (begins_pair bytes) (with_item chunks (number_at 8 9 bytes) (chunk_of (number_at 8 9 bytes) (slice_range bytes 17 (pair_size bytes))))
@@ -101,6 +107,7 @@ array_pair chunks bytes are =
     by true r is = is
     by false r is = tt
 
+-- with all pairs of an array added, the chunks keep the rule
 pub array_all : (n : ℕ) (chunks : List Chunk) (bytes : List ℕ) → AreChunks chunks → Sound (array_after n chunks bytes)
 array_all zero chunks bytes are = are
 array_all (suc n) chunks bytes are =

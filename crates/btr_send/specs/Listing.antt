@@ -1,21 +1,17 @@
--- How far the listing of a directory has come.
-use Rattle.std.specs.Prelude.{◌≡◌, ℕ, zero, suc, List, Option}
+-- The listing of a directory by the superblock.
+use Rattle.std.specs.Prelude.{ℕ, zero, suc, List, Option}
 use Rattle.btr_prog.specs.Prog.{Return}
-use Rattle.btr_rack.specs.Sink.{InFile}
 use Rattle.btr_super.specs.declared.superblock.Super.{Super}
-use Rattle.btr_volume.specs.Lookup.{Program, each}
+use Rattle.btr_volume.specs.Lookup.{Program}
 use Rattle.btr_volume.specs.declared.root.TreeRoot.{TreeRoot}
 use Rattle.btr_files.specs.declared.counts.Counts.{Counts}
-use Rattle.btr_files.specs.declared.dir.Dir.{Dir}
 use Rattle.btr_files.specs.declared.dir_row.DirRow.{DirRow}
 use Rattle.btr_files.specs.declared.name.NameBuf.{NameBuf}
-use Rattle.btr_files.specs.Entries.{DirEntry, entries}
-use Rattle.btr_files.specs.Listing.{named_row, IsDir}
+use Rattle.btr_files.specs.Entries.{DirEntry}
+use Rattle.btr_files.specs.Listing.{named_row}
 use Rattle.btr_listing.specs.Step.{Step}
 use Rattle.btr_restore.specs.Journey.{Listing, Within}
-use Rattle.btr_restore.specs.Listing.{Listed, is_deep}
-use Rattle.btr_volume.specs.Readable.{CanRead}
-use Rattle.btr_restore.specs.Running.{World}
+use Rattle.btr_restore.specs.Listing.{is_deep}
 use Rattle.btr_send.specs.Sending.{directory, listed_in, treat}
 
 module _ (sums : Option TreeRoot) (s : Super) where
@@ -39,16 +35,3 @@ entry_for sums n tree dirid path counts row name s = treat_in sums s n tree diri
 -- the listing of a directory by the superblock, below which so many more may be entered
 abbrev pub listing_for : Option TreeRoot → ℕ → TreeRoot → ℕ → List ℕ → Counts → Super → Program Step Counts
 listing_for sums n tree dirid path counts s = directory s sums n tree dirid path counts
-
--- a listing is under way: its directory can be read on, its path is as it began, and the sink is in the file
-pub record IsUnderway
-    (sums : Option TreeRoot) (deeper : ℕ) (tree : TreeRoot) (dirid : ℕ) (path : List ℕ)
-    (first : Counts) (x y : World) (counts : Counts) (dir : Dir) (here : List ℕ) (below : ℕ) : Type 0 where
-  pub ready : CanRead 6 y.rack y.vol
-  pub reads_on : IsDir dir
-  pub same_path : here ≡ path
-  pub same_below : below ≡ deeper
-  pub stage : y.out.sink.stage ≡ InFile
-  pub listed : (s : Super) → s ≡ x.vol.sup
-      → Listed (treat_in sums s deeper tree dirid path)
-      (each (treat_in sums s deeper tree dirid path) first (entries tree dirid)) x y counts dir

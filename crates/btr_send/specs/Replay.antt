@@ -25,13 +25,13 @@ bytes_of (Truncate path size) = command 17 (attribute 15 path ++ number_attribut
 bytes_of End = command 21 []
 
 -- its fields fit where they stand
-abbrev pub IsSound : Command → Type 0
-IsSound (Subvol name uuid transid) = (length name < 2 ^ 16) × (length uuid ≡ 16) × (transid < 2 ^ 64)
-IsSound (MkFile path) = length path < 2 ^ 16
-IsSound (MkDir path) = length path < 2 ^ 16
-IsSound (Write path offset bytes) = (length path < 2 ^ 16) × (offset < 2 ^ 64) × (length bytes < 2 ^ 16)
-IsSound (Truncate path size) = (length path < 2 ^ 16) × (size < 2 ^ 64)
-IsSound End = Unit {0}
+abbrev pub FieldsFit : Command → Type 0
+FieldsFit (Subvol name uuid transid) = (length name < 2 ^ 16) × (length uuid ≡ 16) × (transid < 2 ^ 64)
+FieldsFit (MkFile path) = length path < 2 ^ 16
+FieldsFit (MkDir path) = length path < 2 ^ 16
+FieldsFit (Write path offset bytes) = (length path < 2 ^ 16) × (offset < 2 ^ 64) × (length bytes < 2 ^ 16)
+FieldsFit (Truncate path size) = (length path < 2 ^ 16) × (size < 2 ^ 64)
+FieldsFit End = Unit {0}
 
 -- the data of the first attribute
 abbrev pub first_data : List ℕ → List ℕ
@@ -189,7 +189,7 @@ IsInner End = ⊥
 -- commands between the first and the last, all of which are sound
 abbrev pub AreInner : List Command → Type 0
 AreInner [] = Unit {0}
-AreInner (c ∷ more) = IsInner c × IsSound c × AreInner more
+AreInner (c ∷ more) = IsInner c × FieldsFit c × AreInner more
 
 -- the stream of a first command and those behind it
 abbrev pub stream : Command → List Command → List ℕ
@@ -214,7 +214,7 @@ members_of (Some made) = Some (all_made made)
 abbrev pub ReplayLaw : Type 0
 ReplayLaw =
     (name uuid : List ℕ) (transid : ℕ) (inner : List Command)
-    → IsSound (Subvol name uuid transid)
+    → FieldsFit (Subvol name uuid transid)
     → AreInner inner
     → replay (stream (Subvol name uuid transid) inner) ≡ members_of (play_all inner nothing_made)
 

@@ -31,7 +31,7 @@ use Rattle.btr_listing.specs.Step.{Step, File, Bytes, Done, Line}
 use Rattle.btr_listing.specs.Step as step
 use Rattle.btr_restore.specs.Journey.{Listing, Treated, Over, Within, has_no_sums, skip, unverified}
 use Rattle.btr_send.specs.declared.plan.SendPlan.{SendPlan}
-use Rattle.btr_send.specs.declared.progress.Progress.{Progress}
+use Rattle.btr_send.specs.declared.progress.SentPart.{SentPart}
 use Rattle.btr_send.specs.declared.source.Source.{Source}
 use Rattle.btr_send.specs.Command.{end, header, mkdir, mkfile, subvol, truncate, write}
 use Rattle.btr_send.specs.Source.{source_of}
@@ -58,17 +58,17 @@ abbrev pub writes : List ℕ → ℕ → List ℕ → Program Step (Unit {0})
 writes path offset bytes = cuts ((length bytes + 4095) / 4096) path offset bytes
 
 -- a file of which nothing was given
-abbrev pub at_front : Progress
+abbrev pub at_front : SentPart
 at_front = record { offset = 0; plain = false }
 
 -- a piece of a file, behind those before it; zeros aren't sent
-abbrev pub put : List ℕ → Progress → Piece → Program Step Progress
+abbrev pub put : List ℕ → SentPart → Piece → Program Step SentPart
 put path now (piece.Bytes bytes summed) =
     bind (writes path now.offset bytes) (λ u. Return (record { offset = behind now.offset (length bytes); plain = now.plain || not summed }))
 put path now (Gap count) = Return (record { offset = behind now.offset count; plain = now.plain })
 
 -- a file that is finished: its size, and a line if some sector of it was read without a checksum
-abbrev pub closed : List ℕ → ℕ → Counts → Progress → Program Step Treated
+abbrev pub closed : List ℕ → ℕ → Counts → SentPart → Program Step Treated
 closed path size counts now = tells (truncate path size) (unverified now.plain path (Return (Over (with_file counts))))
 
 -- a directory that is entered
@@ -81,7 +81,7 @@ empty path counts = tells (mkdir path) (Return (Over (with_dir counts)))
 
 module _ (s : Super) (sums : Option TreeRoot) where
   -- the pieces of a file
-  abbrev pub pieces : TreeRoot → ℕ → List ℕ → Inode → Program Step Progress
+  abbrev pub pieces : TreeRoot → ℕ → List ℕ → Inode → Program Step SentPart
   pieces tree ino path inode =
       each (put path) at_front (content (kind_in s) sums (has_no_sums inode) inode.size tree ino)
 

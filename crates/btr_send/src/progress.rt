@@ -1,6 +1,6 @@
 /// How much of a file was sent.
 #[derive(Clone, Copy, Debug, PartialEq, Eq)]
-pub(crate) struct Progress {
+pub(crate) struct SentPart {
     /// The position in bytes, up to which it was given.
     pub(crate) offset: u64,
     /// Some sector was read without a checksum.
@@ -11,5 +11,5 @@ pub(crate) struct Progress {
 #[derive(Clone, Copy)]
 pub(crate) struct SentFile<'a> {
     pub(crate) path: &'a [u8],
-    pub(crate) sent: Progress,
+    pub(crate) sent: SentPart,
 }

@@ -10,7 +10,7 @@ ghost use Rattle.btr_restore.specs.Writing.{WritesNext, WritesRest};
 
 use crate::buffer::Buffer;
 use crate::commands::{behind, put_writes};
-use crate::progress::{Progress, SentFile};
+use crate::progress::{SentFile, SentPart};
 use btr_files::{FileBytes, Piece, next_piece};
 use btr_items::Inode;
 use btr_rack::{Rack, TreeSink};
@@ -30,11 +30,11 @@ pub(crate) struct FileToSend<'a> {
 // Writes a piece of a file, behind those before it.
 fn put_piece<T: TreeSink>(
     path: &[u8],
-    now: Progress,
+    now: SentPart,
     piece: Piece<'_>,
     buffer: &mut Buffer,
     tree: &mut T,
-) -> Result<Progress, Stop>
+) -> Result<SentPart, Stop>
     requires begun { (T.sink tree.old).stage ≡ InFile }
     requires short { length path.now ≤ 4096 }
     requires some { IsPiece piece }
@@ -42,7 +42,7 @@ fn put_piece<T: TreeSink>(
     ensures stage { (T.sink tree.new).stage ≡ InFile }
 {
     match piece {
-        Piece::Gap(count) => Ok(Progress {
+        Piece::Gap(count) => Ok(SentPart {
             offset: behind(now.offset, count),
             plain: now.plain,
         }),
@@ -52,7 +52,7 @@ fn put_piece<T: TreeSink>(
             crc,
         } => {
             put_writes(path, now.offset, bytes, crc, buffer, tree)?;
-            Ok(Progress {
+            Ok(SentPart {
                 offset: behind(now.offset, bytes.len() as u64),
                 plain: is_plain(now.plain, verified),
             })
@@ -68,7 +68,7 @@ fn put_next<R: Rack, T: TreeSink>(
     rack: &mut R,
     vol: &mut Volume,
     tree: &mut T,
-) -> Result<Option<Progress>, Stop>
+) -> Result<Option<SentPart>, Stop>
     requires ready { IsReading (R.seen rack.old) vol.old.store file.old }
     requires room { 5 ≤ free_count (without_file vol.old.store file.old) }
     requires begun { (T.sink tree.old).stage ≡ InFile }
@@ -78,7 +78,7 @@ fn put_next<R: Rack, T: TreeSink>(
         (beside R.seen T.sink T.account rack.new vol.new tree.new) result }
     ensures ready { IsReading (R.seen rack.new) vol.new.store file.new }
     ensures room { SameLoans (without_file vol.old.store file.old) (without_file vol.new.store file.new) }
-    ensures nears { IfOk result (λ on. IfSome on (λ after. bytes_left file.new < bytes_left file.old)) }
+    ensures rank_falls { IfOk result (λ on. IfSome on (λ after. bytes_left file.new < bytes_left file.old)) }
     ensures stage { (T.sink tree.new).stage ≡ InFile }
 {
     match next_piece(vol, file, rack) {
@@ -99,7 +99,7 @@ fn put_pieces<R: Rack, T: TreeSink>(
     rack: &mut R,
     vol: &mut Volume,
     tree: &mut T,
-) -> Result<Progress, Stop>
+) -> Result<SentPart, Stop>
     requires ready { IsReading (R.seen rack.old) vol.old.store file.old }
     requires room { 5 ≤ free_count (without_file vol.old.store file.old) }
     requires begun { (T.sink tree.old).stage ≡ InFile }
@@ -110,7 +110,7 @@ fn put_pieces<R: Rack, T: TreeSink>(
     ensures ready { IsReading (R.seen rack.new) vol.new.store file.new }
     ensures stage { (T.sink tree.new).stage ≡ InFile }
 {
-    let mut now = Progress {
+    let mut now = SentPart {
         offset: 0,
         plain: false,
     };
@@ -130,7 +130,7 @@ pub(crate) fn write_bytes<R: Rack, T: TreeSink>(
     rack: &mut R,
     vol: &mut Volume,
     tree: &mut T,
-) -> Result<Progress, Stop>
+) -> Result<SentPart, Stop>
     requires ready { CanRead 6 (R.seen rack.old) vol.old }
     requires begun { (T.sink tree.old).stage ≡ InFile }
     requires short { length which.now.path.now ≤ 4096 }

@@ -1,7 +1,8 @@
-use Rattle.std.proofs.Common.{◌+◌, ◌*◌, length}
+use Rattle.std.proofs.Common.{◌+◌, ◌*◌, length, Ok}
 use Rattle.btr_files.specs.Listing.{rank_of_dir}
-use Rattle.btr_restore.specs.Listing.{IsUnderway}
+use Rattle.btr_restore.specs.Listing.{IsUnderway, KeepsDepth, listing_for, treat_in}
 use Rattle.btr_restore.specs.Ends.{SameEnds, world_of}
+use Rattle.btr_restore.specs.Running.{KeepsSink}
 use Rattle.btr_restore.proofs.listing.+listing.Given as goal
 
 abbrev pub decreases-list : goal.decreases-list
@@ -15,11 +16,14 @@ decreases-list_within g l = 3 * length l.dirs.now
 
 abbrev pub invariant-list-loop-fault : goal.invariant-list-loop-fault
 invariant-list-loop-fault g l =
-    SameEnds l.initial.ends l.ends × IsUnderway l.initial.ends.tree.now l.ends.tree.now l.dir.job.now.plan l.dir.job.now.sums
-    (length l.initial.below) l.dir.tree l.dir.dirid l.initial.path l.initial.counts
+    SameEnds l.initial.ends l.ends
+    × IsUnderway (λ s n. treat_in l.dir.job.now.plan s l.dir.job.now.sums n l.dir.tree l.dir.dirid)
+    (listing_for l.dir.job.now (length l.initial.below) l.dir.tree l.dir.dirid l.initial.path l.initial.counts) (length l.initial.below) l.initial.path
     (world_of g.R.Rack.seen g.T.TreeSink.sink g.T.TreeSink.account g.O.Out.text g.O.Out.account l.initial.ends)
     (world_of g.R.Rack.seen g.T.TreeSink.sink g.T.TreeSink.account g.O.Out.text g.O.Out.account l.ends)
     l.counts l.here.dir l.path (length l.below)
+    × KeepsSink l.dir.job.now.plan.dry l.initial.ends.tree.now l.ends.tree.now
+    × KeepsDepth l.dir.job.now.plan.dry (g.T.TreeSink.sink l.initial.ends.tree.now) (g.T.TreeSink.sink l.ends.tree.now) (Ok tt)
 
 abbrev pub decreases-list-loop-fault : goal.decreases-list-loop-fault
 decreases-list-loop-fault g l = rank_of_dir l.here.dir

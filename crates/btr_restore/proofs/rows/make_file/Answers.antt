@@ -1,6 +1,6 @@
 use Rattle.std.proofs.Common.{refl}
 use Rattle.btr_restore.proofs.Emitting.{row_dry, row_whole, row_broke}
-use Rattle.btr_restore.proofs.Stopping.{outs_of_sink, sinks_of_sink, sink_stops}
+use Rattle.btr_restore.proofs.Rans.{wrote_refused}
 use Rattle.btr_restore.proofs.rows.make_file.Goals as goal
 
 pub returns-then-plan-clause-wrote : goal.returns-then-plan-clause-wrote
@@ -11,9 +11,6 @@ returns-in-Ok-clause-wrote g c text calls =
     record { did = row_whole _ _ refl _ text _ c.if-plan.false c.in-Ok.ensures.step; sink_calls = c.in-Ok.ensures.account; out_calls = refl; stops = tt }
 
 pub returns-in-Err-clause-wrote : goal.returns-in-Err-clause-wrote
-returns-in-Err-clause-wrote g c text calls = record {
-  did = row_broke _ _ refl _ text _ _ c.in-Err.error c.if-plan.false c.sink_stop.ensures c.in-Err.ensures.step;
-  sink_calls = sinks_of_sink (Unit {0}) (Unit {0}) _ _ _ c.in-Err.error c.sink_stop.ensures c.in-Err.ensures.account;
-  out_calls = outs_of_sink (Unit {0}) calls _ c.in-Err.error c.sink_stop.ensures;
-  stops = sink_stops (Unit {0}) _ c.in-Err.error c.sink_stop.ensures;
-}
+returns-in-Err-clause-wrote g c text calls =
+    wrote_refused c.in-Err.error c.sink_stop.ensures c.in-Err.ensures.account
+    (row_broke _ _ refl _ text _ _ c.in-Err.error c.if-plan.false c.sink_stop.ensures c.in-Err.ensures.step)

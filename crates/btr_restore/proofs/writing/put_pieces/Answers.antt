@@ -1,15 +1,11 @@
-use Rattle.std.proofs.Common.{Bool, Option, Ok, subst}
-use Rattle.btr_restore.specs.Journey.{put}
-use Rattle.btr_restore.specs.Running.{outside, world}
-use Rattle.btr_restore.specs.Writing.{WritesOn}
+use Rattle.btr_restore.proofs.Writings.{writes_ended, written_passed}
 use Rattle.btr_restore.proofs.writing.put_pieces.Goals as goal
 
-pub returns-in-Err-clause-writes : goal.returns-in-Err-clause-writes
-returns-in-Err-clause-writes g c whole x text calls l = c.in-Err.ensures.writes whole x text calls (c.loop-stop.invariant.4 whole x text calls l)
+pub returns-in_err-after-clause-writes : goal.returns-in_err-after-clause-writes
+returns-in_err-after-clause-writes g c whole x text calls l =
+    written_passed _ c.from_residual.ensures.1 (c.in_err-after.ensures.writes whole x text calls (c.loop-after.invariant.4 whole x text calls l))
 
-pub returns-in-Ok-None-clause-writes : goal.returns-in-Ok-None-clause-writes
-returns-in-Ok-None-clause-writes g c whole x text calls l =
-    subst (λ (o : Option Bool). WritesOn put whole x (world (g.R.Rack.seen c.put_next.new.rack) c.put_next.new.vol
-    (outside (g.T.TreeSink.sink c.put_next.new.tree) (g.T.TreeSink.account c.put_next.new.tree) text calls)) c.loop-stop.plain c.put_next.new.file
-    (Ok o)) c.in-Ok-None.field-0-is
-    (c.in-Ok-None.ensures.writes whole x text calls (c.loop-stop.invariant.4 whole x text calls l))
+pub returns-clause-writes : goal.returns-clause-writes
+returns-clause-writes g c whole x text calls l =
+    writes_ended c.loop-after.plain c.in_ok-after.field-0 c.in_default.not-Some
+    (c.in_ok-after.ensures.writes whole x text calls (c.loop-after.invariant.4 whole x text calls l))

@@ -10,8 +10,8 @@ use Rattle.btr_listing.specs.Step.{Step}
 use Rattle.btr_restore.specs.Writing.{IsWriting}
 use Rattle.btr_restore.proofs.writing.put_pieces.Given as goal
 
-abbrev pub invariant-loop-stop : goal.invariant-loop-stop
-invariant-loop-stop g l =
+abbrev pub invariant-loop-after : goal.invariant-loop-after
+invariant-loop-after g l =
     IsReading (g.R.Rack.seen l.rack) l.vol.store l.file
     × SameLoans (without_file l.initial.vol.store l.initial.file) (without_file l.vol.store l.file)
     × ((g.T.TreeSink.sink l.tree).stage ≡ InFile)
@@ -21,5 +21,5 @@ invariant-loop-stop g l =
     (outside (g.T.TreeSink.sink l.initial.tree) (g.T.TreeSink.account l.initial.tree) text calls)) false l.initial.file
     → IsWriting put whole x (world (g.R.Rack.seen l.rack) l.vol (outside (g.T.TreeSink.sink l.tree) (g.T.TreeSink.account l.tree) text calls)) l.plain l.file)
 
-abbrev pub decreases-loop-stop : goal.decreases-loop-stop
-decreases-loop-stop g l = bytes_left l.file
+abbrev pub decreases-loop-after : goal.decreases-loop-after
+decreases-loop-after g l = bytes_left l.file

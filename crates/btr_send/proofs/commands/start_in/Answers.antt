@@ -1,23 +1,13 @@
 use Rattle.std.proofs.Common.{refl}
 use Rattle.btr_listing.specs.Step.{Start}
-use Rattle.btr_restore.proofs.Rans.{emits_step}
-use Rattle.btr_restore.proofs.Stopping.{outs_of_sink, sinks_of_sink, sink_stops}
+use Rattle.btr_restore.proofs.Rans.{wrote_refused, wrote_step}
 use Rattle.btr_send.proofs.Putting.{emits_nowhere}
 use Rattle.btr_send.proofs.commands.start_in.Goals as goal
 
 pub returns-in-Ok-clause-wrote : goal.returns-in-Ok-clause-wrote
-returns-in-Ok-clause-wrote g c text calls = record {
-  did = emits_step (Start c.args.dest.now) _ _ text tt refl c.in-Ok.ensures.step;
-  sink_calls =
-      c.in-Ok.ensures.account;
-  out_calls = refl;
-  stops = tt;
-}
+returns-in-Ok-clause-wrote g c text calls = wrote_step (Start c.args.dest.now) tt refl c.in-Ok.ensures.step c.in-Ok.ensures.account
 
 pub returns-in-Err-clause-wrote : goal.returns-in-Err-clause-wrote
-returns-in-Err-clause-wrote g c text calls = record {
-  did = emits_nowhere _ _ _ text _ c.in-Err.error c.sink_stop.ensures c.in-Err.ensures.step;
-  sink_calls = sinks_of_sink (Unit {0}) (Unit {0}) _ _ _ c.in-Err.error c.sink_stop.ensures c.in-Err.ensures.account;
-  out_calls = outs_of_sink (Unit {0}) calls _ c.in-Err.error c.sink_stop.ensures;
-  stops = sink_stops (Unit {0}) _ c.in-Err.error c.sink_stop.ensures;
-}
+returns-in-Err-clause-wrote g c text calls =
+    wrote_refused c.in-Err.error c.sink_stop.ensures c.in-Err.ensures.account
+    (emits_nowhere _ _ _ text _ c.in-Err.error c.sink_stop.ensures c.in-Err.ensures.step)

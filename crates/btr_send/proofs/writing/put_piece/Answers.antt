@@ -6,11 +6,11 @@ use Rattle.btr_files.specs.declared.piece.Piece.TheVariants as lending
 use Rattle.btr_files.specs.Streaming.{piece_of}
 use Rattle.btr_restore.specs.Running.{Wrote, outside}
 use Rattle.btr_restore.proofs.Rans.{wrote_halt, wrote_none, wrote_passed, wrote_then}
-use Rattle.btr_send.specs.declared.progress.Progress.{Progress}
+use Rattle.btr_send.specs.declared.progress.SentPart.{SentPart}
 use Rattle.btr_send.specs.Sending.{behind, put, writes}
 use Rattle.btr_send.proofs.writing.put_piece.Goals as goal
 
-abbrev progress : ℕ → Bool → Progress
+abbrev progress : ℕ → Bool → SentPart
 progress offset plain = record { offset = offset; plain = plain }
 
 pub returns-in-Gap-clause-wrote : goal.returns-in-Gap-clause-wrote
@@ -38,7 +38,7 @@ returns-in_ok-put_writes-in-Bytes-clause-wrote g c text calls =
     let sent = progress (behind c.args.now.offset (length c.in-Bytes.bytes.now)) (c.args.now.plain || not c.in-Bytes.verified) in
     subst (λ (p : Piece). Wrote (put c.args.path.now c.args.now (piece_of p)) x y (Ok (progress c.behind-in-Bytes.result c.is_plain.result)))
     (sym c.in-Bytes.is)
-    (subst (λ (s : Progress). Wrote (put c.args.path.now c.args.now (piece_of (lending.Bytes c.in-Bytes.bytes c.in-Bytes.verified c.in-Bytes.crc))) x y (Ok s))
+    (subst (λ (s : SentPart). Wrote (put c.args.path.now c.args.now (piece_of (lending.Bytes c.in-Bytes.bytes c.in-Bytes.verified c.in-Bytes.crc))) x y (Ok s))
     (sym (ap (λ (n : ℕ). progress n c.is_plain.result) c.behind-in-Bytes.ensures ∙ ap (λ (b : Bool). progress (behind c.args.now.offset
     (length c.in-Bytes.bytes.now)) b) c.is_plain.ensures))
     (wrote_then (writes c.args.path.now c.args.now.offset c.in-Bytes.bytes.now) (λ u. Return sent) x y y tt (Ok sent)
