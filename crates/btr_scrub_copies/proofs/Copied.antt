@@ -22,6 +22,7 @@ use Rattle.btr_scrub_copies.proofs.Flags.{StandAll}
 pub has_mirror : (t : Target) (n m : ℕ) → mirrors t.chunk ≡ Some n → m < n → HasMirror m t
 has_mirror t n m e lt = subst (λ o. IsSomeAnd o (λ copies. m < copies)) (sym e) lt
 
+-- a want with copies has them in each layout that is the same
 pub copied_same : (layout layout' : Layout) (want : Want) → layout' ≡ layout → IsCopied layout want → IsCopied layout' want
 copied_same layout layout' want e c = subst (λ l. IsCopied l want) (sym e) c
 
@@ -34,7 +35,8 @@ can_try layout want m c h = subst (λ r. IsOkAnd r (HasMirror m)) (sym c.is_soug
 pub at_target : (P : Target → Type 0) (r : Result Target Fault) (t : Target) → r ≡ Ok t → IfOk r P → P t
 at_target P r t e h = subst (λ r. IfOk r P) e h
 
-same_target : (r : Result Target Fault) (t u : Target) → r ≡ Ok t → r ≡ Ok u → t ≡ u
+-- a want has one position
+pub same_target : (r : Result Target Fault) (t u : Target) → r ≡ Ok t → r ≡ Ok u → t ≡ u
 same_target r t u e h = cc
 
 -- it stands
@@ -49,11 +51,13 @@ pub copies_stand : (layout : Layout) (want : Want) (t : Target) (n : ℕ) → Is
     → StandAll t 0 n
 copies_stand layout want t n c e has k l u = copy_stands layout want t k c e (has_mirror t n k has (omega (arith, u)))
 
+-- a candidate that reads a copy that stands isn't absent
 pub not_absent : (t : Target) (m : ℕ) → IsSome (range_of t (Mirror m)) → stands t (mirror_candidate m) ≡ false → ⊥
 not_absent t m some absent = false≢true (sym absent ∙ ap (λ b. b && true) some)
 
 -- a copy that passed is good, and its bytes are lent
 module _ (t : Target) (m : ℕ) (images : Images) (held : Option Images) (is : held ≡ Some images) where
+  -- the bytes that a try of the copy gave are those that the images hold there
   tried_value : (bytes : List ℕ) → IsTried t (mirror_candidate m) held bytes → element images t (Mirror m) ≡ bytes
   tried_value bytes h = subst (λ o. IfSome o (λ i. element i t (Mirror m) ≡ bytes)) is h.value
 
@@ -62,6 +66,7 @@ module _ (t : Target) (m : ℕ) (images : Images) (held : Option Images) (is : h
   of_block None h = absurd h
   of_block (Some bytes) h = (ap (passes t.setting t.want) (tried_value bytes h) ∙ h.pass, ap Some (sym (tried_value bytes h)))
 
+  -- where a try passed, the copy is good, and its loan has its bytes
   pub passed_good : (store : Blocks) (loan : Lent) → IsSomeAnd (block_of store loan) (IsTried t (mirror_candidate m) held)
       → (is_good images t (Mirror m) ≡ true) × (block_of store loan ≡ Some (element images t (Mirror m)))
   passed_good store loan h = of_block (block_of store loan) h
@@ -74,5 +79,6 @@ module _ (t : Target) (m : ℕ) (images : Images) (held : Option Images) (is : h
 pub missed_fails : (t : Target) (m slot : ℕ) (a b : Seen) → HasMirror m t → IsMissed t (mirror_candidate m) slot a b → FailsAt (IsOfCopy t) slot a b
 missed_fails t m slot a b has h = record { place = h.0; failed = h.1; on_slot = h.2; lies = record { mirror = m; has = has; lies = h.3 } }
 
+-- calls that left the loans one after another leave them together
 pub same_loans_then : (a b c : Blocks) → SameLoans a b → SameLoans b c → SameLoans a c
 same_loans_then a b c one two = record { layout = two.layout ∙ one.layout; loans = two.loans ∙ one.loans }

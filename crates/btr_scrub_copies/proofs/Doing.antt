@@ -6,19 +6,18 @@ use Rattle.std.specs.Prelude.{fold}
 use Rattle.std.proofs.lemmas.List.Elements.{All-append, All-nil}
 use Rattle.btr_rack.specs.Rack.{NoneFailed, OnlyReads, Seen}
 use Rattle.btr_rack.specs.declared.place.Place.{Place as Range}
-use Rattle.btr_read.proofs.Keeping.{none_more, one_after}
+use Rattle.btr_rack.proofs.Reading.{reads_none}
+use Rattle.btr_read.proofs.Keeping.{none_failed, none_more, one_after}
 use Rattle.btr_read.proofs.ReadsOn.{same_held, same_sure}
 use Rattle.btr_read.proofs.Ones.{in_either, in_left, in_right}
-use Rattle.btr_scrub_copies.specs.Writes.{AccountsMend, AreAmong, Does, FailsAt, Images, In, IsMarked, IsStopped, IsTorn, LeaveImages, Marks, OnlyWrites, Write}
+use Rattle.btr_scrub_copies.specs.Writes.{AccountsMend, AreAmong, DoesWrites, FailsAt, Images, In, IsMarked, IsStopped, IsTorn, LeaveImages, Marks}
+use Rattle.btr_scrub_copies.specs.Writes.{OnlyWrites, Write}
 use Rattle.btr_scrub_copies.specs.Writes.{ranges_of, write_on}
 use Rattle.btr_scrub_copies.specs.declared.mended.MendFault.{MendFault}
 use Rattle.btr_scrub_copies.specs.declared.mended.MendFault.TheVariants.{Image, Memory}
 use Rattle.std.proofs.lemmas.List.Sums.{fold-append}
 
 -- ---- images
-
-torn_at : (behind : List Write) (old old' new : Images) → old ≡ old' → IsTorn behind old new → IsTorn behind old' new
-torn_at behind old old' new e t = subst (λ o. IsTorn behind o new) e t
 
 -- stopped behind some writes
 stopped_behind : (ws vs : List Write) (images new : Images) → IsStopped vs (fold write_on images ws) new → IsStopped (ws ++ vs) images new
@@ -28,11 +27,11 @@ stopped_behind ws vs images new h = record {
   place = ap (λ q. ws ++ q) h.place ∙ sym (append_assoc ws h.before h.behind);
   stands = elim h.stands as (λ _. (new ≡ fold write_on images (ws ++ h.before)) ⊎ IsTorn h.behind (fold write_on images (ws ++ h.before)) new) [
     | inl e ↦ inl (e ∙ sym (fold-append write_on images ws h.before))
-    | inr t ↦ inr (torn_at h.behind (fold write_on (fold write_on images ws) h.before) (fold write_on images (ws ++ h.before)) new
-        (sym (fold-append write_on images ws h.before)) t)
+    | inr t ↦ inr (subst (λ o. IsTorn h.behind o new) (sym (fold-append write_on images ws h.before)) t)
   ];
 }
 
+-- a write that was torn is still the first one where others were to come
 torn_more : (behind vs : List Write) (old new : Images) → IsTorn behind old new → IsTorn (behind ++ vs) old new
 torn_more [] vs old new t = absurd t
 torn_more (w ∷ behind) vs old new t = t
@@ -53,10 +52,12 @@ stopped_before ws vs images new h = record {
 pub stopped_first : (ws : List Write) (images : Images) → IsStopped ws images images
 stopped_first ws images = record { before = []; behind = ws; place = refl; stands = inl refl }
 
+-- what follows of a value follows of one that may be there
 pub some_and : {X : Type 0} (P Q : X → Type 0) (o : Option X) → ((x : X) → P x → Q x) → IsSomeAnd o P → IsSomeAnd o Q
 some_and P Q None f h = h
 some_and P Q (Some x) f h = f x h
 
+-- writes behind others that were all done leave what all of them leave
 leaves_then : (A U : Type 0) (ws vs : List Write) (a b c : Option Images) (u : U) (r : Result A MendFault)
     → LeaveImages {A = U} {E = MendFault} (λ i. ws) a b (Ok u) → LeaveImages (λ i. vs) b c r → LeaveImages (λ i. ws ++ vs) a c r
 leaves_then A U ws vs None b c u r h g = subst (λ o. LeaveImages (λ i. vs) o c r) h g
@@ -67,6 +68,7 @@ leaves_then A U ws vs (Some images) b c u (Err e) h g =
     some_and (IsStopped vs (fold write_on images ws)) (IsStopped (ws ++ vs) images) c (λ new s. stopped_behind ws vs images new s)
     (subst (λ o. LeaveImages {A = A} {E = MendFault} (λ i. vs) o c (Err e)) h g)
 
+-- what is left of writes that were stopped is left of more writes, stopped at the same one
 leaves_halt : (A B : Type 0) (ws vs : List Write) (a b : Option Images) (e : MendFault) → LeaveImages {A = A} (λ i. ws) a b (Err e)
     → LeaveImages {A = B} (λ i. ws ++ vs) a b (Err e)
 leaves_halt A B ws vs None b e h = h
@@ -79,22 +81,26 @@ leaves_as : {A B : Type 0} (f g : Images → List Write) (a b : Option Images) (
 leaves_as f g None b x y e h = h
 leaves_as f g (Some images) b x y e h = h ∙ ap (λ ws. Some (fold write_on images ws)) (e images refl)
 
+-- what is left of writes that were stopped is left of the same writes, said otherwise
 leaves_as_halt : (A B : Type 0) (f g : Images → List Write) (a b : Option Images) (x : MendFault)
     → ((images : Images) → a ≡ Some images → f images ≡ g images) → LeaveImages {A = A} f a b (Err x) → LeaveImages {A = B} g a b (Err x)
 leaves_as_halt A B f g None b x e h = h
 leaves_as_halt A B f g (Some images) b x e h = some_and (IsStopped (f images) images) (IsStopped (g images) images) b
     (λ new s. subst (λ ws. IsStopped ws images new) (e images refl) s) h
 
+-- no writes leave the images as they were
 leaves_none : {A : Type 0} (a b : Option Images) (x : A) → b ≡ a → LeaveImages {A = A} {E = MendFault} (λ i. []) a b (Ok x)
 leaves_none None b x e = e
 leaves_none (Some images) b x e = e
 
+-- writes that were stopped before the first one leave the images as they were
 leaves_failed : (A : Type 0) (f : Images → List Write) (a b : Option Images) (x : MendFault) → b ≡ a → LeaveImages {A = A} f a b (Err x)
 leaves_failed A f None b x e = e
 leaves_failed A f (Some images) b x e = subst (λ o. IsSomeAnd o (IsStopped (f images) images)) (sym e) (stopped_first (f images) images)
 
 -- ---- the ranges of writes
 
+-- the ranges of writes and of more are those of all
 pub ranges-append : (ws vs : List Write) → ranges_of (ws ++ vs) ≡ ranges_of ws ++ ranges_of vs
 ranges-append [] vs = refl
 ranges-append (w ∷ ws) vs = ap (λ rs. w.range ∷ rs) (ranges-append ws vs)
@@ -103,6 +109,7 @@ ranges-append (w ∷ ws) vs = ap (λ rs. w.range ∷ rs) (ranges-append ws vs)
 pub range_before : (ws vs : List Write) (range : Range) → In range (ranges_of ws) → In range (ranges_of (ws ++ vs))
 range_before ws vs range i = subst (In range) (sym (ranges-append ws vs)) (in_left range (ranges_of ws) (ranges_of vs) i)
 
+-- and so is one of those behind them
 pub range_behind : (ws vs : List Write) (range : Range) → In range (ranges_of vs) → In range (ranges_of (ws ++ vs))
 range_behind ws vs range i = subst (In range) (sym (ranges-append ws vs)) (in_right range (ranges_of ws) (ranges_of vs) i)
 
@@ -111,6 +118,7 @@ pub own_none : (held : Option Images) (f : Images → List Write) → IfSome hel
 own_none None f = tt
 own_none (Some images) f = λ range i. absurd i
 
+-- the ranges of both parts are ranges of all writes, where the first ones were all done
 own_then : {U : Type 0} (ws vs : List Write) (rs qs : List Range) (a b : Option Images) (u : U) → LeaveImages {A = U} {E = MendFault} (λ i. ws) a b (Ok u)
     → IfSome a (λ i. AreAmong rs (ranges_of ws)) → IfSome b (λ i. AreAmong qs (ranges_of vs)) → IfSome a (λ i. AreAmong (rs ++ qs) (ranges_of (ws ++ vs)))
 own_then ws vs rs qs None b u left h g = tt
@@ -119,11 +127,13 @@ own_then ws vs rs qs (Some images) b u left h g = λ range i. elim (in_either ra
   | inr j ↦ range_behind ws vs range (subst (λ o. IfSome o (λ i. AreAmong qs (ranges_of vs))) left g range j)
 ]
 
+-- ranges of the first writes are ranges of all
 own_halt : (ws vs : List Write) (rs : List Range) (a : Option Images) → IfSome a (λ i. AreAmong rs (ranges_of ws))
     → IfSome a (λ i. AreAmong rs (ranges_of (ws ++ vs)))
 own_halt ws vs rs None h = tt
 own_halt ws vs rs (Some images) h = λ range i. range_before ws vs range (h range i)
 
+-- ranges of writes are ranges of the same writes, said otherwise
 own_as : (f g : Images → List Write) (rs : List Range) (a : Option Images) → ((images : Images) → a ≡ Some images → f images ≡ g images)
     → IfSome a (λ i. AreAmong rs (ranges_of (f i))) → IfSome a (λ i. AreAmong rs (ranges_of (g i)))
 own_as f g rs None e h = tt
@@ -131,6 +141,7 @@ own_as f g rs (Some images) e h = subst (λ ws. AreAmong rs (ranges_of ws)) (e i
 
 -- ---- racks
 
+-- images were only written, twice: the ranges of both wait
 only_then : {a b c : Seen} (rs qs : List Range) → OnlyWrites rs a b → OnlyWrites qs b c → OnlyWrites (rs ++ qs) a c
 only_then {a = a} {b = b} {c = c} rs qs h g = record {
   same = g.same ∙ ap (λ (s : Seen). record s { held = c.held; unsynced = s.unsynced ++ qs; account = c.account }) h.same
@@ -148,18 +159,22 @@ only_reads {a = a} {b = b} h = record {
   same_shut = h.same_shut;
 }
 
+-- writes leave the slots
 pub only_slots : {a b : Seen} (rs : List Range) → OnlyWrites rs a b → b.slots ≡ a.slots
 only_slots rs h = ap (λ (s : Seen). s.slots) h.same
 
 only_sure : {a b : Seen} (rs : List Range) → OnlyWrites rs a b → b.sure ≡ a.sure
 only_sure rs h = ap (λ (s : Seen). s.sure) h.same
 
+-- where nothing is written, the marks are as they were
 marks_none : (marks : List Bool) → Marks [] marks marks
 marks_none marks = record { added = All-nil (λ (r : Range). IsMarked marks r.slot); kept = λ slot m. m }
 
+-- what follows for each range follows for all
 weaker : (P Q : Range → Type 0) (rs : List Range) → ((r : Range) → P r → Q r) → All P rs → All Q rs
 weaker P Q rs f all k d lt = f (get_or rs k d) (all k d lt)
 
+-- marks that were set one after another cover the ranges of both
 marks_then : (rs qs : List Range) (a b c : List Bool) → Marks rs a b → Marks qs b c → Marks (rs ++ qs) a c
 marks_then rs qs a b c h g = record {
   added = All-append (λ (r : Range). IsMarked c r.slot) rs qs
@@ -171,30 +186,31 @@ marks_then rs qs a b c h g = record {
 pub fails_after : (P : Range → Type 0) (slot : ℕ) (a b c : Seen) → b.sure ≡ a.sure → NoneFailed a.account b.account → FailsAt P slot b c → FailsAt P slot a c
 fails_after P slot a b c sure none f = record { place = f.place; failed = one_after f.place a b c sure none f.failed; on_slot = f.on_slot; lies = f.lies }
 
+-- the account behind two calls is that of the second where the first did not fail
 pub account_then : {A : Type 0} (P : Range → Type 0) (a b c : Seen) (r : Result A MendFault) → b.sure ≡ a.sure → NoneFailed a.account b.account
     → AccountsMend P b c r → AccountsMend P a c r
-account_then P a b c (Ok x) sure none h = none_more a.account b.account c.account none h
 account_then P a b c (Err (Image slot)) sure none h = fails_after P slot a b c sure none h
-account_then P a b c (Err Memory) sure none h = none_more a.account b.account c.account none h
+account_then P a b c r sure none h = none_more a.account b.account c.account none h
 
 -- what holds of a fault holds of the answer that passes it on
 pub passed : {A : Type 0} (P : Result A MendFault → Type 0) (r : Result A MendFault) (fault : MendFault) → IsErrAnd r (λ e. e ≡ fault) → P (Err fault) → P r
 passed P (Ok a) fault h p = absurd h
 passed P (Err e) fault h p = subst (λ x. P (Err x)) (sym h) p
 
+-- a failed call says the same of the account whatever it would have answered
 pub account_halt : (A B : Type 0) (P : Range → Type 0) (a b : Seen) (f : MendFault) → AccountsMend {A = A} P a b (Err f) → AccountsMend {A = B} P a b (Err f)
 account_halt A B P a b (Image slot) h = h
 account_halt A B P a b Memory h = h
 
 -- what a call did that failed was done where its fault is passed on
 pub does_passed : {A : Type 0} {P : Range → Type 0} {f : Images → List Write} {m n : List Bool} {a b : Seen} {r : Result A MendFault} {fault : MendFault}
-    → IsErrAnd r (λ e. e ≡ fault) → Does {A = A} P f m n a b (Err fault) → Does P f m n a b r
-does_passed {P = P} {f = f} {m = m} {n = n} {a = a} {b = b} {r = r} {fault = fault} is h = passed (λ r. Does P f m n a b r) r fault is h
+    → IsErrAnd r (λ e. e ≡ fault) → DoesWrites {A = A} P f m n a b (Err fault) → DoesWrites P f m n a b r
+does_passed {P = P} {f = f} {m = m} {n = n} {a = a} {b = b} {r = r} {fault = fault} is h = passed (λ r. DoesWrites P f m n a b r) r fault is h
 
 module _ (P : Range → Type 0) where
   -- nothing was done, or only reading
   pub does_reads : {A : Type 0} (marks : List Bool) (a b : Seen) (x : A) → OnlyReads a b → NoneFailed a.account b.account
-      → Does P (λ i. []) marks marks a b (Ok x)
+      → DoesWrites P (λ i. []) marks marks a b (Ok x)
   does_reads marks a b x reads none = record {
     ranges = [];
     only = only_reads reads;
@@ -205,13 +221,13 @@ module _ (P : Range → Type 0) where
     account = none;
   }
 
-  pub does_nothing : (marks : List Bool) (a : Seen) → Does {A = Unit {0}} P (λ i. []) marks marks a a (Ok tt)
-  does_nothing marks a = does_reads marks a a tt (record { same = refl; later = omega arith; same_shut = refl })
-      (record { faults = refl; fresh = refl; missed = refl; last = refl; opening = refl; shut = refl })
+  -- where nothing is done, nothing is written, and the account is as before
+  pub does_nothing : (marks : List Bool) (a : Seen) → DoesWrites {A = Unit {0}} P (λ i. []) marks marks a a (Ok tt)
+  does_nothing marks a = does_reads marks a a tt (reads_none a) (none_failed a.account)
 
   -- a read failed
   pub does_failed : (A B : Type 0) (f : Images → List Write) (marks : List Bool) (a b : Seen) (x : MendFault) → OnlyReads a b
-      → AccountsMend {A = B} P a b (Err x) → Does {A = A} P f marks marks a b (Err x)
+      → AccountsMend {A = B} P a b (Err x) → DoesWrites {A = A} P f marks marks a b (Err x)
   does_failed A B f marks a b x reads account = record {
     ranges = [];
     only = only_reads reads;
@@ -222,8 +238,9 @@ module _ (P : Range → Type 0) where
     account = account_halt B A P a b x account;
   }
 
+  -- writes behind others that were all done are all of them, or those up to one that failed
   pub does_then : (A U : Type 0) (ws vs : List Write) (m n o : List Bool) (a b c : Seen) (u : U) (r : Result A MendFault)
-      → Does P (λ i. ws) m n a b (Ok u) → Does P (λ i. vs) n o b c r → Does P (λ i. ws ++ vs) m o a c r
+      → DoesWrites P (λ i. ws) m n a b (Ok u) → DoesWrites P (λ i. vs) n o b c r → DoesWrites P (λ i. ws ++ vs) m o a c r
   does_then A U ws vs m n o a b c u r h g = record {
     ranges = h.ranges ++ g.ranges;
     only = only_then h.ranges g.ranges h.only g.only;
@@ -234,8 +251,9 @@ module _ (P : Range → Type 0) where
     account = account_then P a b c r (only_sure h.ranges h.only) h.account g.account;
   }
 
-  pub does_halt : (A B : Type 0) (ws vs : List Write) (m n : List Bool) (a b : Seen) (e : MendFault) → Does {A = A} P (λ i. ws) m n a b (Err e)
-      → Does {A = B} P (λ i. ws ++ vs) m n a b (Err e)
+  -- writes that were stopped are more writes, stopped at the same one
+  pub does_halt : (A B : Type 0) (ws vs : List Write) (m n : List Bool) (a b : Seen) (e : MendFault) → DoesWrites {A = A} P (λ i. ws) m n a b (Err e)
+      → DoesWrites {A = B} P (λ i. ws ++ vs) m n a b (Err e)
   does_halt A B ws vs m n a b e h = record {
     ranges = h.ranges;
     only = h.only;
@@ -248,7 +266,7 @@ module _ (P : Range → Type 0) where
 
   -- the same writes, said otherwise
   pub does_as : {A B : Type 0} (f g : Images → List Write) (m n : List Bool) (a b : Seen) (x : A) (y : B)
-      → ((images : Images) → a.held ≡ Some images → f images ≡ g images) → Does P f m n a b (Ok x) → Does P g m n a b (Ok y)
+      → ((images : Images) → a.held ≡ Some images → f images ≡ g images) → DoesWrites P f m n a b (Ok x) → DoesWrites P g m n a b (Ok y)
   does_as f g m n a b x y e h = record {
     ranges = h.ranges;
     only = h.only;
@@ -259,8 +277,9 @@ module _ (P : Range → Type 0) where
     account = h.account;
   }
 
+  -- the same writes, said otherwise, that were stopped
   pub does_as_halt : (A B : Type 0) (f g : Images → List Write) (m n : List Bool) (a b : Seen) (x : MendFault)
-      → ((images : Images) → a.held ≡ Some images → f images ≡ g images) → Does {A = A} P f m n a b (Err x) → Does {A = B} P g m n a b (Err x)
+      → ((images : Images) → a.held ≡ Some images → f images ≡ g images) → DoesWrites {A = A} P f m n a b (Err x) → DoesWrites {A = B} P g m n a b (Err x)
   does_as_halt A B f g m n a b x e h = record {
     ranges = h.ranges;
     only = h.only;
@@ -273,7 +292,7 @@ module _ (P : Range → Type 0) where
 
   -- reads before
   pub does_behind : {A : Type 0} (f : Images → List Write) (m n : List Bool) (a b c : Seen) (r : Result A MendFault) → OnlyReads a b
-      → NoneFailed a.account b.account → Does P f m n b c r → Does P f m n a c r
+      → NoneFailed a.account b.account → DoesWrites P f m n b c r → DoesWrites P f m n a c r
   does_behind f m n a b c r reads none h = record {
     ranges = h.ranges;
     only = only_then [] h.ranges (only_reads reads) h.only;

@@ -8,7 +8,7 @@ use Rattle.std.specs.Str.{bytes_eq}
 use Rattle.std.proofs.lemmas.Slice.Eq.{bytes_eq-Decides}
 use Rattle.btr_chunk.specs.Chunk.{mirrors}
 use Rattle.btr_chunk.specs.declared.place.Part.{Part}
-use Rattle.btr_chunk.specs.declared.place.Part.TheVariants.{Mirror, Slice, P, Q}
+use Rattle.btr_chunk.specs.declared.place.Part.TheVariants.{Mirror}
 use Rattle.btr_read.specs.Candidates.{Target, candidates, element, range_of, stands}
 use Rattle.btr_read.specs.Fate.{passing}
 use Rattle.btr_read.specs.Mirror.{HasMirror}
@@ -20,7 +20,7 @@ use Rattle.btr_read.proofs.Trials.{fails_where_none, first_then, none_then}
 use Rattle.std.proofs.lemmas.Option.{slice_get_within}
 use Rattle.btr_read.specs.declared.candidate.Candidate.TheVariants.{Read}
 use Rattle.btr_scrub_copies.specs.Blocks.{accepted, are_accepted, bad_parts, block_writes, copy_writes, is_good, is_sound}
-use Rattle.btr_scrub_copies.specs.Mending.{AreBad, IsFirst, flagged_copies, mended_of}
+use Rattle.btr_scrub_copies.specs.Mending.{AreBad, IsTrustedCopy, flagged_copies, mended_copies, mended_of}
 use Rattle.btr_scrub_copies.specs.Writes.{Images, writes_if}
 use Rattle.btr_scrub_copies.proofs.Copied.{has_mirror}
 use Rattle.btr_scrub_copies.proofs.Flags.{StandAll, all_written, flags_are, own_are}
@@ -45,21 +45,22 @@ module _ (images : Images) (t : Target) where
   sound_place (Mirror copy) bytes is passes same =
       let own = element images t (Mirror copy) in
       ap (λ b. b && are_accepted images t own) passes ∙ ap (λ o. option_map_or (bytes_eq own) o false) is ∙ (bytes_eq-Decides own bytes).1 same
-  sound_place (Slice i) bytes is passes same = passes
-  sound_place P bytes is passes same = passes
-  sound_place Q bytes is passes same = passes
+  sound_place part bytes is passes same = passes
 
   -- ---- the candidate at a place in the order
 
   module _ (n k m : ℕ) (has : mirrors t.chunk ≡ Some n) (lt : k < n) (at : IsWayAt k m t) (standing : stands t (Read (Mirror m)) ≡ true)
       (so_far : passing_of images t (take k (candidates t)) ≡ []) where
+    -- the candidate reads the copy
     copy_is : slice_get (candidates t) k ≡ Some (Read (Mirror m))
     copy_is = (copy_in_order t n k m has lt at).1
 
+    -- where the copy isn't good either, none of the candidates up to it passes
     pub first_differs : good m ≡ false → passing_of images t (take (k + 1) (candidates t)) ≡ []
     first_differs test = none_then images t k (Read (Mirror m)) copy_is (slice_get_within (candidates t) k (Read (Mirror m)) copy_is) standing so_far test
 
-    pub first_passes : good m ≡ true → IsFirst images t m
+    -- where it is good, it is the first that passes
+    pub first_passes : good m ≡ true → IsTrustedCopy images t m
     first_passes test = record {
       good = test;
       accepts = first_then images t k (Read (Mirror m)) copy_is
@@ -74,21 +75,26 @@ module _ (images : Images) (t : Target) where
 
     -- where no candidate passes, no copy is good, and nothing is accepted
     module _ (none : passing images t ≡ []) where
+      -- no copy is good
       none_good : (k : ℕ) → k < n → good k ≡ false
       none_good k lt =
           let way = in_map (λ copy. Read (Mirror copy)) k (range_with_len 0 n) (below_in n k lt) in
           fails_where_none images t (Read (Mirror k)) none (in_candidates t (Read (Mirror k))
           (subst (In (Read (Mirror k))) (sym (with_copies t n has)) way)) (ap (λ b. b && true) (stand k (has_mirror t n k has lt)))
 
+      -- nothing is accepted
       accepts_none : accepted images t ≡ None
       accepts_none = ap (λ xs. slice_get xs 0) none
 
+      -- no copy is sound
       none_sound : (k : ℕ) → k < n → sound k ≡ false
       none_sound k lt = unsound k (none_good k lt)
 
+    -- the bad places are bad copies
     bad_are : bad_parts images t ≡ filter bad (map Mirror (range_with_len 0 n))
     bad_are = ap (filter bad) (own_are t n has)
 
+    -- where no copy is sound, as many are bad as there are
     all_bad : (a len : ℕ) → ((k : ℕ) → a ≤ k → k < a + len → sound k ≡ false) → length (filter bad (map Mirror (range_with_len a len))) ≡ len
     all_bad a zero h = refl
     all_bad a (suc len) h =
@@ -96,37 +102,36 @@ module _ (images : Images) (t : Target) where
         (filter bad (map Mirror (range_with_len (a + 1) len))))) (h a (omega arith) (omega arith))
         ∙ ap suc (all_bad (a + 1) len (λ k l u. h k (omega (arith, l)) (omega (arith, u))))
 
-    -- what is written over, where the flags of the bad ones are known
-    pub writes_are : (m : ℕ) (flags : List Bool) (count : ℕ) (bytes : List ℕ) → m < n → IsFirst images t m → AreBad images t n flags count → bytes
-        ≡ element images t (Mirror m)
-        → copy_writes t bytes (flagged_copies flags n) ≡ block_writes images t
-    writes_are m flags count bytes lt first are same =
-        ap (copy_writes t bytes) (flags_are bad flags 0 n (λ k l u. are.flags k (omega (arith, u))) ∙ sym bad_are)
-        ∙ ap (λ b. copy_writes t b (bad_parts images t)) same
-        ∙ sym (ap (λ o. option_map_or (λ b. copy_writes t b (bad_parts images t)) o []) first.accepts)
+    -- where a copy passes, and the flags of the bad ones are known
+    module _ {m : ℕ} {flags : List Bool} {count : ℕ} (first : IsTrustedCopy images t m) (are : AreBad images t n flags count) where
+      -- as many were counted as are bad
+      bad_count : count ≡ length (bad_parts images t)
+      bad_count = are.count ∙ ap length (sym bad_are)
 
-    bad_count : (flags : List Bool) (count : ℕ) → AreBad images t n flags count → count ≡ length (bad_parts images t)
-    bad_count flags count are = are.count ∙ ap length (sym bad_are)
+      -- its bytes are written over those
+      pub writes_are : (bytes : List ℕ) → bytes ≡ element images t (Mirror m) → copy_writes t bytes (flagged_copies flags n) ≡ block_writes images t
+      writes_are bytes same =
+          ap (copy_writes t bytes) (flags_are bad flags 0 n (λ k l u. are.flags k (omega (arith, u))) ∙ sym bad_are)
+          ∙ ap (λ b. copy_writes t b (bad_parts images t)) same
+          ∙ sym (ap (λ o. option_map_or (λ b. copy_writes t b (bad_parts images t)) o []) first.accepts)
 
-    -- what is counted where a copy passes and it is only read
-    pub counted_read : (m : ℕ) (flags : List Bool) (count : ℕ) → m < n → IsFirst images t m → AreBad images t n flags count
-        → record { bad = count; repaired = 0; lost = false } ≡ mended_of images t false
-    counted_read m flags count lt first are =
-        ap (λ c. record { bad = c; repaired = 0; lost = false }) (bad_count flags count are)
-        ∙ ap (λ l. record { bad = length (bad_parts images t); repaired = 0; lost = l }) (sym (ap is_none first.accepts))
+      -- there is one write for each bad copy
+      length-writes : length (block_writes images t) ≡ length (bad_parts images t)
+      length-writes = ap (λ o. length (option_map_or (λ b. copy_writes t b (bad_parts images t)) o [])) first.accepts
+          ∙ ap (λ ps. length (copy_writes t (element images t (Mirror m)) ps)) bad_are ∙ all_written t bad (element images t (Mirror m)) 0 n all_stand
+          ∙ ap length (sym bad_are)
 
-    -- what is counted where a copy passes and the bad ones are written
-    pub counted_write : (m : ℕ) (flags : List Bool) (count : ℕ) → m < n → IsFirst images t m → AreBad images t n flags count
-        → record { bad = count; repaired = count; lost = false } ≡ mended_of images t true
-    counted_write m flags count lt first are =
-        let number = bad_count flags count are in
-        let writes : length (block_writes images t) ≡ length (bad_parts images t) =
-        ap (λ o. length (option_map_or (λ b. copy_writes t b (bad_parts images t)) o [])) first.accepts
-        ∙ ap (λ ps. length (copy_writes t (element images t (Mirror m)) ps)) bad_are ∙ all_written t bad (element images t (Mirror m)) 0 n all_stand
-        ∙ ap length (sym bad_are) in
-        ap (λ c. record { bad = c; repaired = c; lost = false }) number
-        ∙ ap (λ r. record { bad = length (bad_parts images t); repaired = r; lost = false }) (sym writes)
-        ∙ ap (λ l. record { bad = length (bad_parts images t); repaired = length (block_writes images t); lost = l }) (sym (ap is_none first.accepts))
+      -- they are counted, and the block isn't lost
+      pub counts_are : (write : Bool) → mended_copies count write ≡ mended_of images t write
+      counts_are write =
+          ap (λ c. mended_copies c write) bad_count
+          ∙ ap (λ r. record { bad = length (bad_parts images t); repaired = r; lost = false }) (written write)
+          ∙ ap (λ l. record { bad = length (bad_parts images t); repaired = length (writes_if write (block_writes images t)); lost = l })
+          (sym (ap is_none first.accepts))
+        where
+          written : (b : Bool) → cond b (length (bad_parts images t)) 0 ≡ length (writes_if b (block_writes images t))
+          written true = sym length-writes
+          written false = refl
 
     -- nothing is written where no copy passes
     pub none_written : (write : Bool) → passing images t ≡ [] → [] ≡ writes_if write (block_writes images t)

@@ -16,6 +16,7 @@ use Rattle.btr_read.specs.Candidates.{Target, range_of}
 use Rattle.btr_scrub_copies.specs.Blocks.{copy_writes, own_parts}
 use Rattle.btr_scrub_copies.specs.Mending.{AreFlagged, flagged_copies}
 
+-- a test counts for one at most
 pub cond_few : (b : Bool) → cond b 1 0 ≤ 1
 cond_few true = omega arith
 cond_few false = omega arith
@@ -94,6 +95,7 @@ range_more : (a n j : ℕ) → a + n ≡ j → range_with_len a (suc n) ≡ rang
 range_more a zero j e = ap (λ x. x ∷ []) (omega (arith, e))
 range_more a (suc n) j e = ap (λ xs. a ∷ xs) (range_more (a + 1) n j (omega (arith, e)))
 
+-- copies of numbers and of more are the copies of all
 map-append : (xs ys : List ℕ) → map Mirror (xs ++ ys) ≡ map Mirror xs ++ map Mirror ys
 map-append [] ys = refl
 map-append (x ∷ xs) ys = ap (λ ps. Mirror x ∷ ps) (map-append xs ys)

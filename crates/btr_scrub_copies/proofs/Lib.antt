@@ -3,6 +3,7 @@ pub mod Copied
 pub mod Flags
 pub mod Firsts
 pub mod Freshness
+pub mod Wrote
 pub mod Standing
 pub mod Outcomes
 pub mod Syncs

@@ -1,17 +1,14 @@
 -- Where a copy lies, and a write over it.
-use Rattle.std.proofs.Common.{◌≡◌, ℕ, ◌+◌, ◌<◌, ◌≤◌, Bool, true, false, cond, List, [], ◌∷◌, ◌++◌, length, get_or, set, Option, Some, None, IfSome, IsSome}
-use Rattle.std.proofs.Common.{IsSomeAnd, is_some, Ok, Err, leb, le-leb, refl, sym, ap, ◌∙◌, subst, inl, inr, arith}
-use Rattle.std.proofs.lemmas.Bool.{cases_eq, leb-true}
-use Rattle.std.proofs.lemmas.List.{get_or-set_other, get_or-set_same}
-use Rattle.std.proofs.lemmas.List.Elements.{All-cons, All-nil}
+use Rattle.std.proofs.Common.{◌≡◌, ℕ, ◌+◌, ◌<◌, ◌≤◌, Bool, true, false, cond, List, [], ◌∷◌, length, set, Option, Some, None, IsSome, is_some, Result, Ok}
+use Rattle.std.proofs.Common.{leb, le-leb, refl, sym, ap, ◌∙◌, subst, arith}
+use Rattle.std.proofs.lemmas.Bool.{leb-true}
 use Rattle.std.proofs.lemmas.Option.{same_Some}
 use Rattle.std.specs.List.{Any, cons_option}
 use Rattle.std.specs.Option.{option_map}
 use Rattle.btr_chunk.specs.Mapping.{place_at}
 use Rattle.btr_chunk.specs.declared.place.Part.TheVariants.{Mirror}
-use Rattle.btr_rack.specs.Rack.{Accounts, Seen, Slot, Unsyncs, Writes, len_of, range_in}
+use Rattle.btr_rack.specs.Rack.{Accounts, FailsUnsure, Seen, Slot, Unsyncs, Writes, len_of, range_in}
 use Rattle.btr_rack.specs.declared.error.RackError.{RackError}
-use Rattle.btr_rack.specs.declared.error.RackError.TheVariants as error
 use Rattle.btr_rack.specs.declared.place.Place.{Place as Range}
 use Rattle.btr_read.specs.Candidates.{Target, range_of, range_on, size_of}
 use Rattle.btr_read.specs.Cause.{LiesIn}
@@ -23,10 +20,9 @@ use Rattle.btr_read.specs.declared.device.Device.{Device}
 use Rattle.btr_read.specs.declared.want.Want.{Want}
 use Rattle.btr_read.proofs.Fates.{sought_of}
 use Rattle.btr_scrub_copies.specs.Blocks.{copy_writes}
-use Rattle.btr_scrub_copies.specs.Mending.{IsOfCopy, Overwrites}
-use Rattle.btr_scrub_copies.specs.Writes.{AreAmong, Does, Images, In, IsMarked, IsStopped, LeaveImages, Marks, Write, ranges_of}
-use Rattle.btr_scrub_copies.specs.declared.mended.MendFault.{MendFault}
-use Rattle.btr_scrub_copies.specs.declared.mended.MendFault.TheVariants.{Image, Memory}
+use Rattle.btr_scrub_copies.specs.Mending.{IsCopied, IsOfCopy, Overwrites}
+use Rattle.btr_scrub_copies.specs.Writes.{DoesWrites}
+use Rattle.btr_scrub_copies.proofs.Wrote.{passed_on, wrote}
 
 -- a range that lies on a device
 record LiesOn (off len : ℕ) (o : Option Device) (place : Range) : Type 0 where
@@ -35,6 +31,7 @@ record LiesOn (off len : ℕ) (o : Option Device) (place : Range) : Type 0 where
   is : range_in device.slot off len ≡ place
   within : off + len ≤ device.len
 
+-- a range that is there on a device ends on it
 lies_on : (off len : ℕ) (o : Option Device) (place : Range) → range_on off len o ≡ Some place → LiesOn off len o place
 lies_on off len None place e = cc
 lies_on off len (Some device) place e = by (leb (off + len) device.len) refl e
@@ -49,6 +46,7 @@ pub record IsPlaced (slots : List Slot) (layout : Layout) (w : Want) (place : Ra
   pub within : place.off + place.len ≤ len_of slots place.slot
   pub len : place.len ≡ want.len_of layout.setting w
 
+-- a copy of a wanted block lies in an image that is open, and is as long as the block
 pub placed : (slots : List Slot) (layout : Layout) (w : Want) (t : Target) (m : ℕ) (place : Range) → AreOpen slots layout.devices → sought layout w
     ≡ Ok t → range_of t (Mirror m) ≡ Some place → IsPlaced slots layout w place
 placed slots layout w t m place are e at =
@@ -66,21 +64,22 @@ placed slots layout w t m place are e at =
       len = sym len ∙ ap (λ s. want.len_of s t.want) is.setting_is ∙ ap (want.len_of layout.setting) is.want_is;
     }
 
-module _ (t : Target) (m : ℕ) (bytes : List ℕ) (place : Range) (marks : List Bool) (a b : Seen) (at : range_of t (Mirror m) ≡ Some place)
-    (has : HasMirror m t) (len : place.len ≡ length bytes) (below : place.slot < length marks) where
-  abbrev the_write : Write
-  the_write = record { range = place; bytes = bytes }
+-- of a block that has copies
+pub placed_copy : (slots : List Slot) (layout : Layout) (w : Want) (m : ℕ) (place : Range) → AreOpen slots layout.devices → IsCopied layout w
+    → ((t : Target) → sought layout w ≡ Ok t → range_of t (Mirror m) ≡ Some place) → IsPlaced slots layout w place
+placed_copy slots layout w m place are c at = placed slots layout w c.target m place are c.is_sought (at c.target c.is_sought)
 
-  one_write : copy_writes t bytes (Mirror m ∷ []) ≡ the_write ∷ []
-  one_write = ap (λ o. cons_option (option_map (λ (range : Range). record { range = range; bytes = bytes }) o) []) at
-
+-- a write over a copy
+module _ (t : Target) (m : ℕ) (bytes : List ℕ) (place : Range) (at : range_of t (Mirror m) ≡ Some place) (has : HasMirror m t)
+    (len : place.len ≡ length bytes) where
   is_range : range_in place.slot place.off (length bytes) ≡ place
   is_range = ap (range_in place.slot place.off) (sym len)
 
-  own_one : (held : Option Images) → IfSome held (λ images. AreAmong (place ∷ []) (ranges_of (the_write ∷ [])))
-  own_one None = tt
-  own_one (Some images) = λ range i. i
+  -- writing bytes over the copy is one write, at its place
+  one_write : copy_writes t bytes (Mirror m ∷ []) ≡ record { range = range_in place.slot place.off (length bytes); bytes = bytes } ∷ []
+  one_write = ap (λ o. cons_option (option_map (λ (range : Range). record { range = range; bytes = bytes }) o) []) (at ∙ ap Some (sym is_range))
 
+  -- the place is a range of the copy
   of_copy : IsOfCopy t place
   of_copy = record {
     mirror = m;
@@ -89,81 +88,26 @@ module _ (t : Target) (m : ℕ) (bytes : List ℕ) (place : Range) (marks : List
         (0, place, omega arith, refl, record { slot = refl; from = omega arith; to = omega arith });
   }
 
-  marked : Marks (place ∷ []) marks (set marks place.slot true)
-  marked = record {
-    added = All-cons (λ (r : Range). IsMarked (set marks place.slot true) r.slot) place [] (get_or-set_same marks place.slot true false below)
-        (All-nil (λ (r : Range). IsMarked (set marks place.slot true) r.slot));
-    kept = λ slot is. elim (cases_eq slot place.slot) [
-      | inl same ↦ subst (λ s. get_or (set marks place.slot true) s false ≡ true) (sym same) (get_or-set_same marks place.slot true false below)
-      | inr other ↦ get_or-set_other marks place.slot slot true false other ∙ is
-    ];
-  }
+  -- bytes were written over the copy, or some of them, as the rack said
+  wrote_copy : (marks : List Bool) (a b : Seen) → place.slot < length marks → (r : Result (Unit {0}) RackError)
+      → Unsyncs (range_in place.slot place.off (length bytes)) a b → Writes place.slot place.off bytes a.held b.held r
+      → Accounts (range_in place.slot place.off (length bytes)) a.account b.account r → FailsUnsure a.sure r
+      → Overwrites t bytes (Mirror m ∷ []) marks (set marks place.slot true) a b (passed_on place.slot r)
+  wrote_copy marks a b below r unsyncs held account unsure =
+      subst (λ ws. DoesWrites (IsOfCopy t) (λ i. ws) marks (set marks place.slot true) a b (passed_on place.slot r)) (sym one_write)
+      (wrote (IsOfCopy t) place.slot place.off bytes marks a b (subst (IsOfCopy t) (sym is_range) of_copy) below r unsyncs held account unsure)
 
-  own_lies : (range : Range) → In range (place ∷ []) → IsOfCopy t range
-  own_lies range (inl e) = subst (IsOfCopy t) e of_copy
-  own_lies range (inr i) = absurd i
-
-  module _ (A : Type 0) where
-    leaves_ok : (held left : Option Images) (x : Unit {0}) (y : A) → Writes {T = Unit {0}} place.slot place.off bytes held left (Ok x)
-        → LeaveImages {A = A} {E = MendFault} (λ i. the_write ∷ []) held left (Ok y)
-    leaves_ok None left x y h = h
-    leaves_ok (Some images) left x y h = h
-
-    leaves_err : (held left : Option Images) (x : RackError) (e : MendFault) → Writes {T = Unit {0}} place.slot place.off bytes held left (Err x)
-        → LeaveImages {A = A} {E = MendFault} (λ i. the_write ∷ []) held left (Err e)
-    leaves_err None left x e h = h
-    leaves_err (Some images) left x e h =
-        subst (λ o. IsSomeAnd o (IsStopped (the_write ∷ []) images)) (sym h.2)
-        (record { before = []; behind = the_write ∷ []; place = refl; stands = inr (h.0, h.1, refl) })
-
-    module _ (unsyncs : Unsyncs (range_in place.slot place.off (length bytes)) a b) where
-      same_place : b ≡ record a { held = b.held; unsynced = a.unsynced ++ place ∷ []; account = b.account }
-      same_place = unsyncs ∙ ap (λ r. record a { held = b.held; unsynced = a.unsynced ++ r ∷ []; account = b.account }) is_range
-
-      pub wrote : (x : Unit {0}) (y : A) → Writes {T = Unit {0}} place.slot place.off bytes a.held b.held (Ok x)
-          → Accounts {T = Unit {0}} (range_in place.slot place.off (length bytes)) a.account b.account (Ok x)
-          → Overwrites t bytes (Mirror m ∷ []) marks (set marks place.slot true) a b (Ok y)
-      wrote x y held account = subst (λ ws. Does (IsOfCopy t) (λ i. ws) marks (set marks place.slot true) a b (Ok y)) (sym one_write) (record {
-        ranges = place ∷ [];
-        only = record { same = same_place; later = omega (arith, account.faults); same_shut = account.shut };
-        own = own_one a.held;
-        lie = own_lies;
-        marked = marked;
-        held = leaves_ok a.held b.held x y held;
-        account = account;
-      })
-
-      pub wrote_not : Writes {T = Unit {0}} place.slot place.off bytes a.held b.held (Err error.Failed)
-          → Accounts {T = Unit {0}} (range_in place.slot place.off (length bytes)) a.account b.account (Err error.Failed) → a.sure ≡ false
-          → Overwrites {A = A} t bytes (Mirror m ∷ []) marks (set marks place.slot true) a b (Err (Image place.slot))
-      wrote_not held account unsure =
-          subst (λ ws. Does {A = A} (IsOfCopy t) (λ i. ws) marks (set marks place.slot true) a b (Err (Image place.slot))) (sym one_write) (record {
-            ranges = place ∷ [];
-            only = record { same = same_place; later = account.0.faults.0; same_shut = account.2 };
-            own = own_one a.held;
-            lie = own_lies;
-            marked = marked;
-            held = leaves_err a.held b.held error.Failed (Image place.slot) held;
-            account = record {
-              place = range_in place.slot place.off (length bytes);
-              failed = record { one = account.0; read = account.1; shut = account.2; unsure = unsure };
-              on_slot = refl;
-              lies = subst (IsOfCopy t) (sym is_range) of_copy;
-            };
-          })
-
-      pub wrote_memory : Writes {T = Unit {0}} place.slot place.off bytes a.held b.held (Err error.Memory)
-          → Accounts {T = Unit {0}} (range_in place.slot place.off (length bytes)) a.account b.account (Err error.Memory)
-          → Overwrites {A = A} t bytes (Mirror m ∷ []) marks (set marks place.slot true) a b (Err Memory)
-      wrote_memory held account = subst (λ ws. Does {A = A} (IsOfCopy t) (λ i. ws) marks (set marks place.slot true) a b (Err Memory)) (sym one_write) (record {
-        ranges = place ∷ [];
-        only = record { same = same_place; later = omega (arith, account.faults); same_shut = account.shut };
-        own = own_one a.held;
-        lie = own_lies;
-        marked = marked;
-        held = leaves_err a.held b.held error.Memory Memory held;
-        account = account;
-      })
+-- the bytes of a loan were written over a copy, or some of them, as the rack said
+pub wrote_loan : (layout : Layout) (w : Want) (t : Target) (m : ℕ) (place : Range) (own bytes : List ℕ) (marks : List Bool) (a b : Seen)
+    → AreOpen a.slots layout.devices → length a.slots ≤ length marks → sought layout w ≡ Ok t → range_of t (Mirror m) ≡ Some place → HasMirror m t
+    → length own ≡ want.len_of layout.setting w → Some own ≡ Some bytes → (r : Result (Unit {0}) RackError)
+    → Unsyncs (range_in place.slot place.off (length own)) a b → Writes place.slot place.off own a.held b.held r
+    → Accounts (range_in place.slot place.off (length own)) a.account b.account r → FailsUnsure a.sure r
+    → Overwrites t bytes (Mirror m ∷ []) marks (set marks place.slot true) a b (passed_on place.slot r)
+wrote_loan layout w t m place own bytes marks a b are room e at has long same r unsyncs held account unsure =
+    let is = placed a.slots layout w t m place are e at in
+    subst (λ bs. Overwrites t bs (Mirror m ∷ []) marks (set marks place.slot true) a b (passed_on place.slot r)) (same_Some own bytes same)
+    (wrote_copy t m own place at has (is.len ∙ sym long) marks a b (omega (arith, is.slot, room)) r unsyncs held account unsure)
 
 -- bytes that end on a device stand
 pub stands_on : (off len : ℕ) (o : Option Device) (device : Device) → o ≡ Some device → off + len ≤ device.len → IsSome (range_on off len o)

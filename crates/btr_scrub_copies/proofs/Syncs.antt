@@ -6,12 +6,13 @@ use Rattle.std.proofs.lemmas.List.{get_or_past, get_or-set_other, get_or-set_sam
 use Rattle.std.specs.List.{filter}
 use Rattle.btr_rack.specs.Rack.{NoneFailed, Seen, in_others, in_slot}
 use Rattle.btr_rack.specs.declared.place.Place.{Place as Range}
-use Rattle.btr_read.proofs.Keeping.{none_more, one_after}
 use Rattle.btr_scrub_copies.specs.Writes.{AccountsMend, In}
 use Rattle.btr_scrub_copies.specs.declared.mended.MendFault.{MendFault}
 use Rattle.btr_scrub_copies.specs.declared.mended.MendFault.TheVariants.{Image, Memory}
+use Rattle.btr_scrub_copies.proofs.Doing.{account_then}
 use Rattle.btr_scrub_copies.specs.Syncing.{AreSynced, IsSync, OnlySyncs, SyncsOne, WaitsBehind, WaitsBehindAll}
 
+-- what is kept by a test is one of the list, and passes
 pub passing_filter : {X : Type 0} (p : X → Bool) (x : X) (xs : List X) → In x (filter p xs) → In x xs × (p x ≡ true)
 passing_filter p x [] h = absurd h
 passing_filter p x (y ∷ xs) h = by (p y) refl h (passing_filter p x xs)
@@ -21,9 +22,7 @@ passing_filter p x (y ∷ xs) h = by (p y) refl h (passing_filter p x xs)
     by true e (inr i) rest = let r = rest i in (inr r.0, r.1)
     by false e i rest = let r = rest i in (inr r.0, r.1)
 
-pub none_failed : (a : Seen) → NoneFailed a.account a.account
-none_failed a = record { faults = refl; fresh = refl; missed = refl; last = refl; opening = refl; shut = refl }
-
+-- two calls that only synced only synced together
 pub only_more : (a b c : Seen) → OnlySyncs a b → OnlySyncs b c → OnlySyncs a c
 only_more a b c h k = record {
   same = k.same ∙ ap (λ (s : Seen). record s { account = c.account }) h.same;
@@ -31,12 +30,11 @@ only_more a b c h k = record {
   same_shut = k.same_shut ∙ h.same_shut;
 }
 
-pub sync_sure : (a b : Seen) → OnlySyncs a b → b.sure ≡ a.sure
-sync_sure a b h = ap (λ (s : Seen). s.sure) h.same
-
+-- a sync leaves the slots
 pub sync_slots : (a b : Seen) → OnlySyncs a b → b.slots ≡ a.slots
 sync_slots a b h = ap (λ (s : Seen). s.slots) h.same
 
+-- a sync leaves the bytes of the images
 pub sync_held : (a b : Seen) → OnlySyncs a b → b.held ≡ a.held
 sync_held a b h = ap (λ (s : Seen). s.held) h.same
 
@@ -85,6 +83,7 @@ synced_others marks n before now left h is = synced_next marks n before now left
     let f = passing_filter (λ (r : Range). not (eqb r.slot n)) range now (subst (In range) is i) in
     (f.0, λ same. absurd (not_same range.slot n f.1 same)))
 
+-- the images of one more mark are synced
 pub synced_more : (marks now : List Bool) (n : ℕ) (a b c : Seen) → SyncedSoFar marks now n a b → SyncsOne (get_or now n false) n b c (Ok tt)
     → AreSynced marks (n + 1) a.unsynced c.unsynced
 synced_more marks now n a b c h one = by (get_or now n false) (sym (h.left n (omega arith))) one.synced.0
@@ -94,6 +93,7 @@ synced_more marks now n a b c h one = by (get_or now n false) (sym (h.left n (om
     by false e is = synced_next marks n a.unsynced b.unsynced c.unsynced h.synced
         (λ range i. (subst (In range) is i, λ same. ap (λ k. get_or marks k false) same ∙ e))
 
+-- what waits on the images behind it is as it was
 pub behind_more : (marks now : List Bool) (n : ℕ) (a b c : Seen) → SyncedSoFar marks now n a b → SyncsOne (get_or now n false) n b c (Ok tt) → (k : ℕ)
     → n + 1 ≤ k → in_slot k c.unsynced ≡ in_slot k a.unsynced
 behind_more marks now n a b c h one k le = by (get_or now n false) one.synced.0 ∙ h.behind k (omega (arith, le))
@@ -121,13 +121,7 @@ waits_behind marks now n m a b c (Image slot) h w = subst (λ s. WaitsBehindAll 
 )
 waits_behind marks now n m a b c Memory h w = absurd w
 
-account_behind : {A : Type 0} (a b c : Seen) (r : Result A MendFault) → b.sure ≡ a.sure → NoneFailed a.account b.account → AccountsMend IsSync b c r
-    → AccountsMend IsSync a c r
-account_behind a b c (Ok x) sure none h = none_more a.account b.account c.account none h
-account_behind a b c (Err (Image slot)) sure none h =
-    record { place = h.place; failed = one_after h.place a b c sure none h.failed; on_slot = h.on_slot; lies = h.lies }
-account_behind a b c (Err Memory) sure none h = none_more a.account b.account c.account none h
-
+-- the account behind one more sync
 pub sync_account : {A : Type 0} (marks now : List Bool) (n : ℕ) (a b c : Seen) (r : Result A MendFault) → SyncedSoFar marks now n a b
     → AccountsMend IsSync b c r → AccountsMend IsSync a c r
-sync_account marks now n a b c r h k = account_behind a b c r (sync_sure a b h.only) h.account k
+sync_account marks now n a b c r h k = account_then IsSync a b c r (ap (λ (s : Seen). s.sure) h.only.same) h.account k

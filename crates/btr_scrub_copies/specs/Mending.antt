@@ -1,5 +1,6 @@
 -- What mending a block by its copies did.
 use Rattle.std.specs.Prelude.{◌≡◌, ◌<◌, ℕ, Bool, true, false, not, List, [], length, map, slice_index_or, Option, Some, None, IfSome, IsSome, Result, Ok, Err}
+use Rattle.std.specs.Prelude.{if◌then◌else◌}
 use Rattle.std.specs.List.{filter, range_with_len}
 use Rattle.btr_chunk.specs.Chunk.{mirrors}
 use Rattle.btr_chunk.specs.declared.place.Part.{Part}
@@ -13,9 +14,10 @@ use Rattle.btr_read.specs.Layout.{Layout}
 use Rattle.btr_read.specs.declared.want.Want.{Want}
 use Rattle.btr_read.specs.Mirror.{HasMirror, mirror_candidate}
 use Rattle.btr_scrub_copies.specs.Blocks.{accepted, bad_parts, block_writes, copy_writes, is_good, is_lost, is_sound}
-use Rattle.btr_scrub_copies.specs.Writes.{AccountsMend, Does, Images, Write, writes_if}
+use Rattle.btr_scrub_copies.specs.Writes.{AccountsMend, DoesWrites, Images, Write, writes_if}
 use Rattle.btr_read.specs.Store.{Blocks, IsLentBy, Lent, SameLoans, block_of}
 use Rattle.btr_scrub_copies.specs.declared.finding.First.{First}
+use Rattle.btr_scrub_copies.specs.declared.judged_copies.JudgedCopies.{JudgedCopies}
 use Rattle.btr_scrub_copies.specs.declared.mended.MendFault.{MendFault}
 use Rattle.btr_scrub_copies.specs.declared.mended.Mended.{Mended}
 
@@ -53,7 +55,7 @@ CountsMended held count (Err fault) = Unit {0}
 -- marked by its slot. Where it was only to be read, it was.
 pub record Repairs (t : Target) (write : Bool) (writes : Images → List Write) (count : Images → Mended) (marks marks' : List Bool) (old new : Seen)
     (result : Result Mended MendFault) : Type 0 where
-  pub does : Does (IsOfCopy t) (λ images. writes_if write (writes images)) marks marks' old new result
+  pub does : DoesWrites (IsOfCopy t) (λ images. writes_if write (writes images)) marks marks' old new result
   pub counts : CountsMended old.held count result
   pub unwritten : write ≡ false → OnlyReads old new
 
@@ -63,7 +65,7 @@ Mends t write marks marks' old new result =
     Repairs t write (λ images. block_writes images t) (λ images. mended_of images t write) marks marks' old new result
 
 -- a copy passes, and its bytes are those that are accepted
-pub record IsFirst (images : Images) (t : Target) (mirror : ℕ) : Type 0 where
+pub record IsTrustedCopy (images : Images) (t : Target) (mirror : ℕ) : Type 0 where
   pub good : is_good images t (Mirror mirror) ≡ true
   pub accepts : accepted images t ≡ Some (element images t (Mirror mirror))
 
@@ -84,7 +86,7 @@ LendsFirst want old new (Err fault) = SameLoans old new
 
 -- a copy is the first that passes, and its bytes are lent
 abbrev pub HasFirst : Images → Target → Blocks → First → Type 0
-HasFirst images t store first = IsFirst images t first.mirror × (block_of store first.loan ≡ Some (element images t (Mirror first.mirror)))
+HasFirst images t store first = IsTrustedCopy images t first.mirror × (block_of store first.loan ≡ Some (element images t (Mirror first.mirror)))
 
 -- the first copy that passes was found, or none passes
 abbrev pub FindsFirst : Images → Target → Blocks → Result (Option First) MendFault → Type 0
@@ -98,7 +100,11 @@ flagged_copies flags n = map Mirror (filter (λ k. slice_index_or flags k false)
 
 -- bytes are written over copies
 abbrev pub Overwrites : {A : Type 0} → Target → List ℕ → List Part → List Bool → List Bool → Seen → Seen → Result A MendFault → Type 0
-Overwrites t bytes parts marks marks' old new result = Does (IsOfCopy t) (λ images. copy_writes t bytes parts) marks marks' old new result
+Overwrites t bytes parts marks marks' old new result = DoesWrites (IsOfCopy t) (λ images. copy_writes t bytes parts) marks marks' old new result
+
+-- what comes of a block with so many bad copies, for which bytes are accepted
+abbrev pub mended_copies : ℕ → Bool → Mended
+mended_copies count write = record { bad = count; repaired = if write then count else 0; lost = false }
 
 -- ---- a wanted block, by its position
 
@@ -114,3 +120,10 @@ WritesLoan store want loan parts marks marks' old new result =
 -- it was mended by its copies
 abbrev pub MendsWant : Blocks → Want → Bool → List Bool → List Bool → Seen → Seen → Result Mended MendFault → Type 0
 MendsWant store want write marks marks' old new result = (t : Target) → sought store.layout want ≡ Ok t → Mends t write marks marks' old new result
+
+-- the bytes of a loan were written over its bad copies, or these were only counted
+abbrev pub MendsBad : Blocks → JudgedCopies → Lent → Bool → List Bool → List Bool → Seen → Seen → Result Mended MendFault → Type 0
+MendsBad store judged loan write marks marks' old new result =
+    (t : Target) (bytes : List ℕ) → sought store.layout judged.want.now ≡ Ok t → block_of store loan ≡ Some bytes
+    → Repairs t write (λ images. copy_writes t bytes (flagged_copies judged.bad.flags judged.copies)) (λ images. mended_copies judged.bad.count write)
+    marks marks' old new result

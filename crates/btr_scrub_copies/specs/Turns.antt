@@ -3,7 +3,7 @@ use Rattle.std.specs.Prelude.{◌⊎◌, Bool, List, [], ◌++◌, fold, IfSome,
 use Rattle.btr_rack.specs.Rack.{Seen}
 use Rattle.btr_rack.specs.declared.place.Place.{Place as Range}
 use Rattle.btr_scrub_copies.specs.Syncing.{AreMarked, IsSyncOr, Strands, plain}
-use Rattle.btr_scrub_copies.specs.Writes.{AreAmong, Does, Images, In, IsStopped, Write, ranges_of, write_on}
+use Rattle.btr_scrub_copies.specs.Writes.{AreAmong, DoesWrites, Images, In, IsStopped, Write, ranges_of, write_on}
 use Rattle.btr_scrub_copies.specs.declared.mended.MendFault.{MendFault}
 
 -- all that waits for a sync, also what waits for good
@@ -31,7 +31,7 @@ pub record WaitsInTurn (first second : List Write) (images : Images) (old new : 
 -- exactly those writes, or those up to a call that failed. Where all that waited was marked, it is.
 pub record TakesTurns {A : Type 0} (P : Range → Type 0) (first second : List Write) (marks marks' : List Bool) (old new : Seen)
     (result : Result A MendFault) : Type 0 where
-  pub does : Does (IsSyncOr P) (λ images. first ++ second) [] [] (plain old) (plain new) result
+  pub does : DoesWrites (IsSyncOr P) (λ images. first ++ second) [] [] (plain old) (plain new) result
   pub waits : IfSome old.held (λ images. WaitsInTurn first second images old new)
   pub lie : WaitsAt P old new
   pub marked : AreMarked marks old.unsynced → AreMarked marks' new.unsynced

@@ -90,7 +90,7 @@ AccountsMend P old new (Err Memory) = NoneFailed old.account new.account
 
 -- Images were read and written: exactly the writes that follow from what they held, or those up to one that failed.
 -- Ranges of these writes, at places of which P holds, wait for a sync, and are marked by their slots.
-pub record Does {A : Type 0} (P : Range → Type 0) (writes : Images → List Write) (marks marks' : List Bool) (old new : Seen)
+pub record DoesWrites {A : Type 0} (P : Range → Type 0) (writes : Images → List Write) (marks marks' : List Bool) (old new : Seen)
     (result : Result A MendFault) : Type 0 where
   pub ranges : List Range
   pub only : OnlyWrites ranges old new

@@ -18,7 +18,9 @@ ghost use Rattle.btr_scrub_copies.specs.Writes.{AreWritable};
 use crate::copies::copies_of;
 use crate::finding::{Bad, counted};
 use crate::fresh::{first_trusted, is_on_behind, lies_behind};
-use crate::overwriting::write_over;
+use crate::judged_copies::JudgedCopies;
+use crate::mending::mend_bad;
+use crate::plain_sector::PlainSector;
 use crate::{MendFault, Mended};
 use btr_rack::Rack;
 use btr_read::{Loan, Store, Tried, TryFault, Want, try_mirror};
@@ -172,9 +174,8 @@ fn stale_copies<R: Rack>(
 
 // Brings a sector up to date whose fresh bytes are lent.
 fn mend_stale<R: Rack>(
-    want: &Want,
+    sector: &PlainSector<'_>,
     write: bool,
-    failing: &[bool],
     loan: &Loan,
     rack: &mut R,
     store: &mut Store,
@@ -184,32 +185,22 @@ fn mend_stale<R: Rack>(
     requires room { 1 ≤ free_count store.old }
     requires writable { IsTrue write → AreWritable (R.seen rack.old).slots }
     requires slots { length (R.seen rack.old).slots ≤ length marks.old }
-    requires copied { IsCopied store.old.layout want.now }
-    requires plain { IsTrue (is_plain want.now) }
+    requires copied { IsCopied store.old.layout sector.now.want.now }
+    requires plain { IsTrue (is_plain sector.now.want.now) }
     requires live { IsLiveIn store.old loan.now }
-    requires len { loan.now.len ≡ len_of store.old.layout.setting want.now }
-    requires fresh { InTold store.old want.now (R.seen rack.old)
-        (λ images t. block_of store.old loan.now ≡ fresh images (flagged failing.now) t) }
+    requires len { loan.now.len ≡ len_of store.old.layout.setting sector.now.want.now }
+    requires fresh { InTold store.old sector.now.want.now (R.seen rack.old)
+        (λ images t. block_of store.old loan.now ≡ fresh images (flagged sector.now.failing.now) t) }
     ensures serves { Serves (R.seen rack.new) store.new }
     ensures loans { SameLoans store.old store.new }
-    ensures mends { MendsFresh store.old want.now write failing.now marks.old marks.new (R.seen rack.old) (R.seen rack.new) result }
+    ensures mends { MendsFresh store.old sector.now.want.now write sector.now.failing.now
+        marks.old marks.new (R.seen rack.old) (R.seen rack.new) result }
 {
+    let want = sector.want;
     let copies = copies_of(want, store);
-    let stale = stale_copies(want, copies, failing, loan, rack, store)?;
-    if !write {
-        return Ok(Mended {
-            bad: stale.count,
-            repaired: 0,
-            lost: false,
-        });
-    }
-    store.forget_kept();
-    write_over(want, &stale, copies, loan, rack, store, marks)?;
-    Ok(Mended {
-        bad: stale.count,
-        repaired: stale.count,
-        lost: false,
-    })
+    let bad = stale_copies(want, copies, sector.failing, loan, rack, store)?;
+    let judged = JudgedCopies { want, copies, bad };
+    mend_bad(&judged, write, loan, rack, store, marks)
 }
 
 /// Brings the copies of a plain sector, which has no checksum, up to date. Its fresh bytes are those of the first copy that lies on no image in doubt.
@@ -256,7 +247,8 @@ pub fn mend_plain<R: Rack>(
             lost: false,
         }),
         Some(loan) => {
-            let mended = mend_stale(want, write, failing, &loan, rack, store, marks);
+            let sector = PlainSector { want, failing };
+            let mended = mend_stale(&sector, write, &loan, rack, store, marks);
             store.give(loan);
             mended
         }

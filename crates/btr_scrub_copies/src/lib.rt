@@ -18,9 +18,11 @@ mod doubts;
 mod finding;
 mod fresh;
 mod freshening;
+mod judged_copies;
 mod mended;
 mod mending;
 mod overwriting;
+mod plain_sector;
 mod syncing;
 #[cfg(test)]
 mod tests;

@@ -1,26 +1,63 @@
 // A block, mended by its copies.
-ghost use Rattle.std.specs.Prelude.{◌≡◌, ◌<◌, ◌≤◌, length, IsTrue, Ok, Some};
+ghost use Rattle.std.specs.Prelude.{◌≡◌, ◌≤◌, length, IsTrue, Ok, Some};
 ghost use Rattle.btr_chunk.specs.Chunk.{mirrors};
 ghost use Rattle.btr_read.specs.Candidates.{Target};
 ghost use Rattle.btr_read.specs.Fate.{sought};
 ghost use Rattle.btr_read.specs.Serves.{Serves};
 ghost use Rattle.btr_read.specs.Store.{IsLiveIn, SameLoans, free_count};
 ghost use Rattle.btr_read.specs.Want.{len_of};
-ghost use Rattle.btr_scrub_copies.specs.Mending.{HasFirst, InTold, IsCopied, MendsWant};
+ghost use Rattle.btr_scrub_copies.specs.Mending.{HasFirst, InTold, IsCopied, MendsBad, MendsWant};
 ghost use Rattle.btr_scrub_copies.specs.Writes.{AreWritable};
 
 use crate::copies::copies_of;
 use crate::finding::{First, bad_copies, first_good};
+use crate::judged_copies::JudgedCopies;
 use crate::overwriting::write_over;
 use crate::{MendFault, Mended};
 use btr_rack::Rack;
-use btr_read::{Store, Want};
+use btr_read::{Loan, Store, Want};
+
+// Writes a loan's bytes over the bad copies, where they are to be written.
+pub(crate) fn mend_bad<R: Rack>(
+    judged: &JudgedCopies<'_>,
+    write: bool,
+    loan: &Loan,
+    rack: &mut R,
+    store: &mut Store,
+    marks: &mut [bool],
+) -> Result<Mended, MendFault>
+    requires serves { Serves (R.seen rack.old) store.old }
+    requires writable { IsTrue write → AreWritable (R.seen rack.old).slots }
+    requires slots { length (R.seen rack.old).slots ≤ length marks.old }
+    requires copied { IsCopied store.old.layout judged.now.want.now }
+    requires few { judged.now.copies ≤ 4 }
+    requires copies { (t : Target) → sought store.old.layout judged.now.want.now ≡ Ok t → mirrors t.chunk ≡ Some judged.now.copies }
+    requires live { IsLiveIn store.old loan.now }
+    requires len { loan.now.len ≡ len_of store.old.layout.setting judged.now.want.now }
+    ensures serves { Serves (R.seen rack.new) store.new }
+    ensures loans { SameLoans store.old store.new }
+    ensures mends { MendsBad store.old judged.now loan.now write marks.old marks.new (R.seen rack.old) (R.seen rack.new) result }
+{
+    if !write {
+        return Ok(Mended {
+            bad: judged.bad.count,
+            repaired: 0,
+            lost: false,
+        });
+    }
+    store.forget_kept();
+    write_over(judged, loan, rack, store, marks)?;
+    Ok(Mended {
+        bad: judged.bad.count,
+        repaired: judged.bad.count,
+        lost: false,
+    })
+}
 
 // Mends a block whose first copy that passes is lent.
 fn mend_others<R: Rack>(
     want: &Want,
     write: bool,
-    copies: u32,
     first: &First,
     rack: &mut R,
     store: &mut Store,
@@ -31,9 +68,6 @@ fn mend_others<R: Rack>(
     requires writable { IsTrue write → AreWritable (R.seen rack.old).slots }
     requires slots { length (R.seen rack.old).slots ≤ length marks.old }
     requires copied { IsCopied store.old.layout want.now }
-    requires few { copies ≤ 4 }
-    requires below { first.now.mirror < copies }
-    requires copies { (t : Target) → sought store.old.layout want.now ≡ Ok t → mirrors t.chunk ≡ Some copies }
     requires live { IsLiveIn store.old first.now.loan }
     requires len { first.now.loan.len ≡ len_of store.old.layout.setting want.now }
     requires first { InTold store.old want.now (R.seen rack.old) (λ images t. HasFirst images t store.old first.now) }
@@ -41,21 +75,10 @@ fn mend_others<R: Rack>(
     ensures loans { SameLoans store.old store.new }
     ensures mends { MendsWant store.old want.now write marks.old marks.new (R.seen rack.old) (R.seen rack.new) result }
 {
+    let copies = copies_of(want, store);
     let bad = bad_copies(want, copies, first, rack, store)?;
-    if !write {
-        return Ok(Mended {
-            bad: bad.count,
-            repaired: 0,
-            lost: false,
-        });
-    }
-    store.forget_kept();
-    write_over(want, &bad, copies, &first.loan, rack, store, marks)?;
-    Ok(Mended {
-        bad: bad.count,
-        repaired: bad.count,
-        lost: false,
-    })
+    let judged = JudgedCopies { want, copies, bad };
+    mend_bad(&judged, write, &first.loan, rack, store, marks)
 }
 
 /// Mends a block by its copies: each copy that is bad, as it doesn't pass or isn't the bytes of the first that does, is written over with these, by one
@@ -89,7 +112,7 @@ pub fn mend_copies<R: Rack>(
             lost: true,
         }),
         Some(first) => {
-            let mended = mend_others(want, write, copies, &first, rack, store, marks);
+            let mended = mend_others(want, write, &first, rack, store, marks);
             let First { mirror: _, loan } = first;
             store.give(loan);
             mended

@@ -1,5 +1,5 @@
 // Writing over bad copies.
-ghost use Rattle.std.specs.Prelude.{◌≡◌, ◌≤◌, [], ◌∷◌, length, Ok, Some, if◌then◌else◌};
+ghost use Rattle.std.specs.Prelude.{◌≡◌, ◌<◌, ◌≤◌, [], ◌∷◌, false, length, slice_index_or, Ok, Some, if◌then◌else◌};
 ghost use Rattle.btr_chunk.specs.Chunk.{mirrors};
 ghost use Rattle.btr_chunk.specs.declared.place.Part.TheVariants.{Mirror};
 ghost use Rattle.btr_read.specs.Candidates.{Target};
@@ -13,7 +13,7 @@ ghost use Rattle.btr_scrub_copies.specs.Writes.{AreWritable};
 
 use crate::MendFault;
 use crate::copies::place_of_copy;
-use crate::finding::Bad;
+use crate::judged_copies::JudgedCopies;
 use btr_rack::{Rack, RackError};
 use btr_read::{Loan, Store, Want};
 
@@ -49,8 +49,7 @@ fn overwrite<R: Rack>(
 
 // The same where the copy is bad.
 fn overwrite_if<R: Rack>(
-    bad: bool,
-    want: &Want,
+    judged: &JudgedCopies<'_>,
     mirror: u32,
     loan: &Loan,
     rack: &mut R,
@@ -60,25 +59,26 @@ fn overwrite_if<R: Rack>(
     requires open { AreOpen (R.seen rack.old).slots store.now.layout.devices }
     requires writable { AreWritable (R.seen rack.old).slots }
     requires slots { length (R.seen rack.old).slots ≤ length marks.old }
-    requires copied { IsCopied store.now.layout want.now }
-    requires mirror { (t : Target) → sought store.now.layout want.now ≡ Ok t → HasMirror mirror t }
+    requires copied { IsCopied store.now.layout judged.now.want.now }
+    requires few { mirror < 4 }
+    requires mirror { (t : Target) → sought store.now.layout judged.now.want.now ≡ Ok t → HasMirror mirror t }
     requires live { IsLiveIn store.now loan.now }
-    requires len { loan.now.len ≡ len_of store.now.layout.setting want.now }
+    requires len { loan.now.len ≡ len_of store.now.layout.setting judged.now.want.now }
     ensures slots { (R.seen rack.new).slots ≡ (R.seen rack.old).slots }
-    ensures writes { WritesLoan store.now want.now loan.now (if bad then Mirror mirror ∷ [] else [])
+    ensures writes { WritesLoan store.now judged.now.want.now loan.now
+        (if slice_index_or judged.now.bad.flags mirror false then Mirror mirror ∷ [] else [])
         marks.old marks.new (R.seen rack.old) (R.seen rack.new) result }
 {
+    let bad = judged.bad.flags[mirror as usize];
     if !bad {
         return Ok(());
     }
-    overwrite(want, mirror, loan, rack, store, marks)
+    overwrite(judged.want, mirror, loan, rack, store, marks)
 }
 
 // Writes a loan's bytes over the bad copies, and marks their slots.
 pub(crate) fn write_over<R: Rack>(
-    want: &Want,
-    bad: &Bad,
-    copies: u32,
+    judged: &JudgedCopies<'_>,
     loan: &Loan,
     rack: &mut R,
     store: &Store,
@@ -87,18 +87,17 @@ pub(crate) fn write_over<R: Rack>(
     requires open { AreOpen (R.seen rack.old).slots store.now.layout.devices }
     requires writable { AreWritable (R.seen rack.old).slots }
     requires slots { length (R.seen rack.old).slots ≤ length marks.old }
-    requires copied { IsCopied store.now.layout want.now }
-    requires few { copies ≤ 4 }
-    requires copies { (t : Target) → sought store.now.layout want.now ≡ Ok t → mirrors t.chunk ≡ Some copies }
+    requires copied { IsCopied store.now.layout judged.now.want.now }
+    requires few { judged.now.copies ≤ 4 }
+    requires copies { (t : Target) → sought store.now.layout judged.now.want.now ≡ Ok t → mirrors t.chunk ≡ Some judged.now.copies }
     requires live { IsLiveIn store.now loan.now }
-    requires len { loan.now.len ≡ len_of store.now.layout.setting want.now }
+    requires len { loan.now.len ≡ len_of store.now.layout.setting judged.now.want.now }
     ensures slots { (R.seen rack.new).slots ≡ (R.seen rack.old).slots }
-    ensures writes { WritesLoan store.now want.now loan.now (flagged_copies bad.now.flags copies)
+    ensures writes { WritesLoan store.now judged.now.want.now loan.now (flagged_copies judged.now.bad.flags judged.now.copies)
         marks.old marks.new (R.seen rack.old) (R.seen rack.new) result }
 {
-    for mirror in 0..copies {
-        let is_bad = bad.flags[mirror as usize];
-        overwrite_if(is_bad, want, mirror, loan, rack, store, marks)?;
+    for mirror in 0..judged.copies {
+        overwrite_if(judged, mirror, loan, rack, store, marks)?;
     }
     Ok(())
 }

@@ -1,6 +1,7 @@
 -- All writes of a row, put together.
 use Rattle.std.proofs.Common.{◌≡◌, ◌≢◌, ◌⊎◌, ℕ, ◌+◌, ◌≤◌, List, [], ◌∷◌, ◌++◌, length, Option, Some, None, IfSome, refl, sym, ap, ◌∙◌, subst, inl, inr, arith}
 use Rattle.std.specs.List.{flat_map, sum_by}
+use Rattle.std.proofs.lemmas.List.{nil_from_length}
 use Rattle.std.proofs.lemmas.List.Concat.{flat_map-cons, length-flat_map}
 use Rattle.std.proofs.lemmas.List.Sums.{sum_by-cons}
 use Rattle.btr_chunk.specs.Chunk.{mirrors}
@@ -14,9 +15,9 @@ use Rattle.btr_scrub_row.specs.Wanted.{mending_writes}
 use Rattle.btr_scrub_copies.specs.Writes.{Images, Write}
 use Rattle.btr_scrub_row.specs.Mending.{parity_count}
 use Rattle.btr_scrub_row.specs.Rows.{Row, parities, parities_writes, parity_writes, rebuilt_writes}
-use Rattle.btr_scrub_row.specs.Preparing.{HasOneTurn, IsPrepared, IsWhole, TellsRow, sums_of}
+use Rattle.btr_scrub_row.specs.Preparing.{HasOneTurn, IsPrepared, IsAllPrepared, TellsRow, sums_of}
 use Rattle.btr_scrub_row.specs.Memory.{HasParity, HoldsRow, IsStripeOf}
-use Rattle.btr_scrub_row.specs.Writing.{AreTold, KnowsParity, Tells, told_writes}
+use Rattle.btr_scrub_row.specs.Writing.{AreTold, KnowsParity, TellsHeldRow, told_writes}
 use Rattle.btr_scrub_row.specs.declared.buffer.RowBuffer.{RowBuffer}
 use Rattle.btr_scrub_row.specs.declared.judged.Judged.{Judged}
 use Rattle.btr_read.specs.declared.parity.Parity.{Parity}
@@ -39,9 +40,11 @@ only_p row none not_six = elim (without_copies row.chunk.profile (length row.chu
   | inr six ↦ absurd (not_six six)
 ]
 
+-- in RAID6 they are P and Q
 pub p_and_q : (row : Row) → row.chunk.profile ≡ Raid6 → parities row.chunk.profile ≡ P ∷ Q ∷ []
 p_and_q row six = ap parities six
 
+-- P is the first one in any case
 pub p_first : (row : Row) → mirrors row.chunk ≡ None → (rest : List Part) × (parities row.chunk.profile ≡ P ∷ rest)
 p_first row none = elim (without_copies row.chunk.profile (length row.chunk.stripes) none) [
   | inl five ↦ ([], ap parities five)
@@ -62,13 +65,13 @@ knows_of images layout stripe row of judged buffer is parity.P has = is.p
 knows_of images layout stripe row of judged buffer is parity.Q has = is.q (sym of.shape.profile ∙ has)
 
 -- each parity fills an element
-pub sums_long : (p : Parity) (prepared : PreparedRow) → IsWhole prepared → 65536 ≤ length (sums_of p prepared.buffer.now)
+pub sums_long : (p : Parity) (prepared : PreparedRow) → IsAllPrepared prepared → 65536 ≤ length (sums_of p prepared.buffer.now)
 sums_long parity.P prepared whole = whole.p
 sums_long parity.Q prepared whole = whole.q
 
 -- the row as it was read
 pub tells_blocks : (layout : Layout) (row : Row) (judged : Judged) (buffer : RowBuffer) (told held : Option Images) (old : List ℕ)
-    → TellsRow layout row judged buffer told held → old ≡ buffer.elements.items → Tells layout row old told held
+    → TellsRow layout row judged buffer told held → old ≡ buffer.elements.items → TellsHeldRow layout row old told held
 tells_blocks layout row judged buffer told held old t e = tells_more (λ images is. subst (HoldsRow images layout row) (sym e) is.holds) t
 
 -- the counts of the parities
@@ -81,6 +84,7 @@ sum_p images layout row e =
     let all : f P ≡ sum_by f (P ∷ []) = omega (arith, one, none) in
     all ∙ ap (sum_by f) (sym e)
 
+-- the sectors of P and those of Q are all that are counted, where both are there
 pub sum_pq : (images : Images) (layout : Layout) (row : Row) → parities row.chunk.profile ≡ P ∷ Q ∷ [] → length (parity_writes images layout row P)
     + length (parity_writes images layout row Q) ≡ sum_by (λ part. length (parity_writes images layout row part)) (parities row.chunk.profile)
 sum_pq images layout row e =
@@ -94,12 +98,8 @@ sum_pq images layout row e =
 -- where none is to be written, no block is
 pub no_writes : (images : Images) (layout : Layout) (row : Row) (judged : Judged) (buffer : RowBuffer) → IsPrepared images layout row judged buffer
     → judged.rebuilt ≡ 0 → [] ≡ flat_map (mending_writes images row.failing) row.blocks
-no_writes images layout row judged buffer is none = by (flat_map (mending_writes images row.failing) row.blocks)
-    (length-flat_map (mending_writes images row.failing) row.blocks ∙ sym is.blocks.rebuilt ∙ none)
-  where
-    by : (ws : List Write) → length ws ≡ 0 → [] ≡ ws
-    by [] e = refl
-    by (w ∷ ws) e = absurd (omega (arith, e))
+no_writes images layout row judged buffer is none = sym (nil_from_length (flat_map (mending_writes images row.failing) row.blocks)
+    (length-flat_map (mending_writes images row.failing) row.blocks ∙ sym is.blocks.rebuilt ∙ none))
 
 -- where there is nothing to be written in one of the turns, nothing is told in one
 pub one_turn : (layout : Layout) (row : Row) (judged : Judged) (buffer : RowBuffer) (told : Option Images)
@@ -111,9 +111,5 @@ one_turn layout row judged buffer (Some images) known h = h images known
 
 -- where none of their sectors is wrong, no parity is to be written
 pub no_parities : (images : Images) (layout : Layout) (row : Row) → parity_count images layout row ≡ 0 → parities_writes images layout row ≡ []
-no_parities images layout row none = by (parities_writes images layout row)
+no_parities images layout row none = nil_from_length (parities_writes images layout row)
     (length-flat_map (parity_writes images layout row) (parities row.chunk.profile) ∙ none)
-  where
-    by : (ws : List Write) → length ws ≡ 0 → ws ≡ []
-    by [] e = refl
-    by (w ∷ ws) e = absurd (omega (arith, e))

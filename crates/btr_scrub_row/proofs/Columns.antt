@@ -9,7 +9,7 @@ use Rattle.std.proofs.lemmas.List.FromFn.{get_or-range_with_len, length-range_wi
 use Rattle.std.specs.Str.{bytes_eq}
 use Rattle.btr_chunk.specs.Mapping.{HasPart}
 use Rattle.btr_chunk.specs.declared.place.Part.{Part}
-use Rattle.btr_rack.specs.Rack.{Seen, len_of, range_in}
+use Rattle.btr_rack.specs.Rack.{Seen, range_in}
 use Rattle.btr_rack.specs.declared.place.Place.{Place as Range}
 use Rattle.btr_read.specs.Candidates.{Target}
 use Rattle.btr_read.specs.Layout.{Layout}
@@ -18,13 +18,13 @@ use Rattle.btr_scrub_copies.specs.Writes.{Images, Write}
 use Rattle.btr_scrub_row.specs.Rows.{Row, column_of, differs, element, element_with, is_decided, is_sure, meets, parity_writes, range_in_element, sector_write}
 use Rattle.btr_scrub_row.specs.Mending.{IsOfRow}
 use Rattle.btr_scrub_row.specs.Memory.{IsStripeOf, element_in}
-use Rattle.btr_scrub_row.specs.Writing.{CanWrite, CanWriteIn, column_writes, write_at}
+use Rattle.btr_scrub_row.specs.Writing.{CanWrite, CanWriteIn, column_writes, told_writes, write_at}
 use Rattle.btr_scrub_row.specs.declared.stripe.FullStripe.{FullStripe}
 use Rattle.btr_read.proofs.Pieces.{range-range}
-use Rattle.btr_scrub_row.proofs.Elements.{Lies, is_at, is_of_row, lies, lies_at, open_at}
-use Rattle.btr_scrub_row.proofs.Held.{good}
-use Rattle.btr_scrub_row.proofs.Pasted.{length-range}
+use Rattle.btr_scrub_row.proofs.Elements.{IsElement, Lies, can_write_in, is_at, its_element, lies, lies_at, lies_in_row}
+use Rattle.btr_scrub_row.proofs.Pasted.{front_range, length-range}
 
+-- a write at a range
 abbrev made : Range → List ℕ → Write
 made range bytes = record { range = range; bytes = bytes }
 
@@ -43,18 +43,12 @@ none_else column sure (t ∷ ts) = by (sure t) (meets column t) (list_any (λ t.
     by true true rest all e = e
     by true false rest all e = e
 
+-- a column is decided where it meets a block, and none that isn't sure
 pub decided_is : (images : Images) (layout : Layout) (row : Row) (column : ℕ) (met broken : Bool) → met ≡ list_any (meets column) row.blocks → broken
     ≡ list_any (λ t. not (is_sure images layout row t) && meets column t) row.blocks → (met && not broken) ≡ is_decided images layout row column
 decided_is images layout row column met broken e h =
     ap (λ b. b && not broken) e ∙ ap (λ b. list_any (meets column) row.blocks && not b) h
     ∙ ap (λ b. list_any (meets column) row.blocks && b) (none_else column (is_sure images layout row) row.blocks)
-
--- ---- ranges
-
-pub front_range : (xs : List ℕ) (n a b : ℕ) → a ≤ b → b ≤ n → slice_range (take n xs) a b ≡ slice_range xs a b
-front_range xs n a b le most =
-    let cut : take n xs ≡ slice_range xs 0 (0 + n) = ap (λ m. take m xs) (omega arith) in
-    ap (λ zs. slice_range zs a b) cut ∙ range-range xs 0 n a b le most ∙ ap (λ m. slice_range xs m (0 + b)) (omega arith) ∙ ap (slice_range xs a) (omega arith)
 
 -- whether a column differs, as it is compared in memory
 pub differs_is : (images : Images) (layout : Layout) (row : Row) (part : Part) (column e start : ℕ) (old sums : List ℕ) → column < 16 → start
@@ -76,6 +70,7 @@ cons_first : (o : Option Write) (rest : List Write) → cons_option o [] ++ rest
 cons_first None rest = refl
 cons_first (Some w) rest = refl
 
+-- the writes that may be there, for each that passes, one after another
 flat_filter : (f : ℕ → Option Write) (p : ℕ → Bool) (xs : List ℕ) → flat_map (λ x. cond (p x) (cons_option (f x) []) []) xs ≡ filter_map f (filter p xs)
 flat_filter f p [] = refl
 flat_filter f p (x ∷ xs) = by (p x) (flat_map (λ x. cond (p x) (cons_option (f x) []) []) xs) (filter p xs) (flat_filter f p xs)
@@ -84,6 +79,7 @@ flat_filter f p (x ∷ xs) = by (p x) (flat_map (λ x. cond (p x) (cons_option (
     by true rest ys e = cons_first (f x) rest ∙ ap (cons_option (f x)) e
     by false rest ys e = e
 
+-- where each write is there, there are as many as pass
 count_filter : (f : ℕ → Option Write) (p : ℕ → Bool) (xs : List ℕ) → ((i d : ℕ) → i < length xs → IsSome (f (get_or xs i d)))
     → length (filter_map f (filter p xs)) ≡ count_by p xs
 count_filter f p [] h = refl
@@ -98,10 +94,18 @@ count_filter f p (x ∷ xs) h = by (p x) (filter p xs) (count_by p xs) (count_fi
     by true ys n e = one (f x) (filter_map f ys) (h 0 x (omega arith)) ∙ ap (λ m. 1 + m) e
     by false ys n e = e ∙ omega arith
 
-pub columns_are : (images : Images) (layout : Layout) (row : Row) (part : Part)
+-- the writes of the columns are all that mend the parity
+columns_are : (images : Images) (layout : Layout) (row : Row) (part : Part)
     → flat_map (column_writes layout row part images) (range_with_len 0 16) ≡ parity_writes images layout row part
 columns_are images layout row part = flat_filter (sector_write images layout row part)
     (λ column. is_decided images layout row column && differs images layout row part column) (range_with_len 0 16)
+
+-- the same where the images are told
+pub columns_told : (layout : Layout) (row : Row) (part : Part) (told : Option Images)
+    → told_writes (λ images. flat_map (column_writes layout row part images) (range_with_len 0 16)) told
+    ≡ told_writes (λ images. parity_writes images layout row part) told
+columns_told layout row part None = refl
+columns_told layout row part (Some images) = columns_are images layout row part
 
 -- the number of the i-th
 pub column_at : (i d : ℕ) → i < 16 → get_or (range_with_len 0 16) i d ≡ i
@@ -109,15 +113,20 @@ column_at i d lt = get_or-range_with_len 0 16 i d lt ∙ omega arith
 
 module _ (layout : Layout) (stripe : FullStripe) (row : Row) (of : IsStripeOf layout stripe row) (part : Part)
     (has : HasPart row.chunk.profile (length row.chunk.stripes) part) where
-  l : Lies layout row part
-  l = lies layout stripe.chunk stripe.number row (good layout stripe row of) part has
+  el : IsElement layout row part
+  el = its_element of part has
 
+  l : Lies layout row part
+  l = lies el
+
+  -- the sector of a column lies in the element, and gets that of the new data
   sector_at : (images : Images) (column : ℕ) → column < 16 → sector_write images layout row part column
       ≡ Some (made (range_in l.slot (l.off + column * 4096) 4096) (column_of column (element_with images layout (new_bytes images row.failing) row part)))
   sector_at images column lt = ap (option_map (λ (range : Range). made range
       (column_of column (element_with images layout (new_bytes images row.failing) row part))))
-      (lies_at layout stripe.chunk stripe.number row (good layout stripe row of) part has l (column * 4096) 4096 (omega (arith, lt)) (omega (arith, lt)))
+      (lies_at el l (column * 4096) 4096 (omega (arith, lt)) (omega (arith, lt)))
 
+  -- as many columns are wrong as sectors of the parity are written
   pub counted_all : (images : Images) → count_by (λ column. is_decided images layout row column && differs images layout row part column)
       (range_with_len 0 16) ≡ length (parity_writes images layout row part)
   counted_all images = sym (count_filter (sector_write images layout row part)
@@ -128,23 +137,11 @@ module _ (layout : Layout) (stripe : FullStripe) (row : Row) (of : IsStripeOf la
   module _ (element : Range) (is : range_in_element layout row part 0 65536 ≡ Some element) (column : ℕ) (lt : column < 16) where
     -- the sector can be written there
     pub written : {rack : Seen} {marks : List Bool} → CanWrite layout rack marks → CanWriteIn element (column * 4096) 4096 rack marks
-    written {rack = rack} can =
-        let a = is_at layout stripe.chunk stripe.number row (good layout stripe row of) part has l element is in
-        let there = open_at layout stripe.chunk stripe.number row (good layout stripe row of) part has l rack.slots can.are_open in
-        record {
-          is_open = omega (arith, a.slot, there.0);
-          writable = can.writable;
-          slots = can.slots;
-          within = omega (arith, ap (len_of rack.slots) a.slot, a.off, there.1, lt);
-          small = omega (arith, a.off, l.small, lt);
-        }
+    written can = can_write_in el l element is (column * 4096) 4096 (omega (arith, lt)) can
 
+    -- the sector is a range of the row
     pub in_the_row : (n : ℕ) → n ≡ 4096 → IsOfRow layout row (range_in element.slot (element.off + column * 4096) n)
-    in_the_row n long =
-        let a = is_at layout stripe.chunk stripe.number row (good layout stripe row of) part has l element is in
-        subst (λ s. IsOfRow layout row (range_in s (element.off + column * 4096) n)) (sym a.slot)
-        (subst (λ o. IsOfRow layout row (range_in l.slot (o + column * 4096) n)) (sym a.off)
-        (is_of_row layout stripe.chunk stripe.number row (good layout stripe row of) part has l (column * 4096) n (omega (arith, long, lt))))
+    in_the_row n long = lies_in_row el l element is (column * 4096) n (omega (arith, long, lt))
 
     -- one write, where the parity is wrong
     pub writes_sector : (images : Images) (sums : List ℕ) → 65536 ≤ length sums → take 65536 sums
@@ -153,7 +150,7 @@ module _ (layout : Layout) (stripe : FullStripe) (row : Row) (of : IsStripeOf la
         → write_at element.slot (element.off + column * 4096) (slice_range sums (column * 4096) (column * 4096 + 4096)) ∷ []
         ≡ column_writes layout row part images column
     writes_sector images sums room new wrong =
-        let a = is_at layout stripe.chunk stripe.number row (good layout stripe row of) part has l element is in
+        let a = is_at el l element is in
         let bytes = slice_range sums (column * 4096) (column * 4096 + 4096) in
         let long : length bytes ≡ 4096 = length-range sums (column * 4096) 4096 (omega (arith, room, lt)) in
         let same : bytes ≡ column_of column (element_with images layout (new_bytes images row.failing) row part) =

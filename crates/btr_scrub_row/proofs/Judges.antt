@@ -1,9 +1,10 @@
 -- What one more block adds to the new data, the counts and the columns.
-use Rattle.std.proofs.Common.{◌≡◌, ◌≢◌, ℕ, zero, suc, ◌+◌, ◌*◌, ◌<◌, ◌≤◌, ◌==◌, ◌&&◌, ◌||◌, Bool, true, false, not, cond, List, [], ◌∷◌, ◌++◌, length, map}
+use Rattle.std.proofs.Common.{◌≡◌, ◌≢◌, ℕ, zero, suc, ◌+◌, ◌*◌, ◌<◌, ◌≤◌, ◌==◌, ◌&&◌, ◌||◌, Bool, false, not, cond, List, [], ◌∷◌, ◌++◌, length, map}
 use Rattle.std.proofs.Common.{replicate, take, get_or, nat_lt, slice_range, Option, Some, None, Ok, count_by, refl, sym, ap, ◌∙◌, subst, inl, inr}
 use Rattle.std.proofs.Common.{arith}
 use Rattle.std.specs.List.{filter, fold, list_any, sum_by}
 use Rattle.std.specs.Option.{option_map_or}
+use Rattle.std.proofs.Math.Bool.{or-false}
 use Rattle.std.proofs.lemmas.Bool.{cases_eq, eq-eqb, ne_eqb}
 use Rattle.std.proofs.lemmas.List.{get_or-replicate, length-map}
 use Rattle.std.proofs.lemmas.List.Elements.{filter-append}
@@ -20,33 +21,31 @@ use Rattle.btr_scrub_row.specs.Wanted.{new_bytes, is_checked, is_lost_block, men
 use Rattle.btr_scrub_row.specs.Rows.{Row, element, is_sure, meets, slice_count, with_block}
 use Rattle.btr_scrub_row.specs.Mending.{IsOn, IsRowOf, is_at}
 use Rattle.btr_scrub_row.specs.Memory.{HoldsRow, IsStripeOf, element_count, element_in}
-use Rattle.btr_scrub_row.specs.Judging.{AreJudged, FitsVerdict, IsCounted, IsIn, meets_spot}
+use Rattle.btr_scrub_row.specs.Judging.{AreJudged, FitsVerdict, CountsVerdict, IsIn, meets_piece}
 use Rattle.btr_scrub_row.specs.declared.stripe.FullStripe.{FullStripe}
 use Rattle.btr_scrub_row.specs.declared.judged.Judged.{Judged}
 use Rattle.btr_scrub_row.specs.declared.judging.Verdict.{Verdict}
-use Rattle.btr_read.proofs.Pieces.{range-range}
 use Rattle.btr_scrub_row.proofs.Shapes.{part_slice}
-use Rattle.btr_scrub_row.proofs.Pasted.{element_other, range_around}
+use Rattle.btr_scrub_row.proofs.Pasted.{element_other, front_range, range_around}
 
 -- ---- one more block
 
+-- one more counts where it passes
 count_push : {X : Type 0} (p : X → Bool) (xs : List X) (x : X) → count_by p (xs ++ x ∷ []) ≡ count_by p xs + cond (p x) 1 0
 count_push p xs x = sum_by_push (λ x. cond (p x) 1 0) xs x
 
+-- one of one more passes where one did, or it does
 any_one : {X : Type 0} (p : X → Bool) (xs : List X) (x : X) → list_any p (xs ++ x ∷ []) ≡ (list_any p xs || p x)
-any_one p xs x = list_any-append p xs (x ∷ []) ∙ ap (λ b. list_any p xs || b) (or_false (p x))
-  where
-    or_false : (b : Bool) → (b || false) ≡ b
-    or_false true = refl
-    or_false false = refl
+any_one p xs x = list_any-append p xs (x ∷ []) ∙ ap (λ b. list_any p xs || b) (or-false (p x))
 
 module _ (images : Images) (layout : Layout) (row : Row) (ts : List Target) (t : Target) (old new : List ℕ) (judged judged' : Judged) (verdict : Verdict)
     (below : t.at.index < slice_count row) (inside : t.at.rest + size_of t ≤ 65536) (room : slice_count row * 65536 ≤ length old)
     (so_far : AreJudged images layout row ts old judged) (fits : FitsVerdict images layout row t old new verdict)
-    (counts : IsCounted judged verdict judged') where
-  meets_same : (c : ℕ) → meets_spot c verdict.spot ≡ meets c t
-  meets_same c = ap (λ r. nat_lt r (c * 4096 + 4096) && nat_lt (c * 4096) (r + verdict.spot.len)) fits.spot.rest
-      ∙ ap (λ n. nat_lt t.at.rest (c * 4096 + 4096) && nat_lt (c * 4096) (t.at.rest + n)) fits.spot.len
+    (counts : CountsVerdict judged verdict judged') where
+  -- the piece meets the columns that the block meets
+  meets_same : (c : ℕ) → meets_piece c verdict.piece ≡ meets c t
+  meets_same c = ap (λ r. nat_lt r (c * 4096 + 4096) && nat_lt (c * 4096) (r + verdict.piece.len)) fits.piece.rest
+      ∙ ap (λ n. nat_lt t.at.rest (c * 4096 + 4096) && nat_lt (c * 4096) (t.at.rest + n)) fits.piece.len
 
   -- a slice with one more block
   slice_more : (accepted_long : (bytes : List ℕ) → new_bytes images row.failing t ≡ Some bytes → length bytes ≡ size_of t) (i : ℕ) → i < slice_count row
@@ -90,6 +89,7 @@ module _ (images : Images) (layout : Layout) (row : Row) (ts : List Target) (t :
               let n = long bytes e in
               element_other old t.at.index t.at.rest i bytes (omega (arith, n, below, inside, room)) (omega (arith, n, inside)) (λ s. other (sym s))
 
+  -- the blocks so far and one more were judged
   pub judged_more : ((bytes : List ℕ) → new_bytes images row.failing t ≡ Some bytes → length bytes ≡ size_of t)
       → AreJudged images layout row (ts ++ t ∷ []) new judged'
   judged_more long = record {
@@ -104,10 +104,10 @@ module _ (images : Images) (layout : Layout) (row : Row) (ts : List Target) (t :
         ∙ sym (sum_by_push (λ t. length (mending_writes images row.failing t)) ts t);
     lost = counts.lost ∙ ap (λ n. n + cond (verdict.checked && not verdict.given) 1 0) so_far.lost
         ∙ ap (λ b. count_by (is_lost_block images) ts + cond b 1 0) (sym fits.lost) ∙ sym (count_push (is_lost_block images) ts t);
-    met = λ c lt. counts.met c lt ∙ ap (λ b. b || meets_spot c verdict.spot) (so_far.met c lt) ∙ ap (λ b. list_any (meets c) ts || b) (meets_same c)
+    met = λ c lt. counts.met c lt ∙ ap (λ b. b || meets_piece c verdict.piece) (so_far.met c lt) ∙ ap (λ b. list_any (meets c) ts || b) (meets_same c)
         ∙ sym (any_one (meets c) ts t);
-    broken = λ c lt. counts.broken c lt ∙ ap (λ b. b || (not verdict.sure && meets_spot c verdict.spot)) (so_far.broken c lt)
-        ∙ ap (λ b. list_any (λ t. not (is_sure images layout row t) && meets c t) ts || (not b && meets_spot c verdict.spot)) fits.sure
+    broken = λ c lt. counts.broken c lt ∙ ap (λ b. b || (not verdict.sure && meets_piece c verdict.piece)) (so_far.broken c lt)
+        ∙ ap (λ b. list_any (λ t. not (is_sure images layout row t) && meets c t) ts || (not b && meets_piece c verdict.piece)) fits.sure
         ∙ ap (λ b. list_any (λ t. not (is_sure images layout row t) && meets c t) ts || (not (is_sure images layout row t) && b)) (meets_same c)
         ∙ sym (any_one (λ t. not (is_sure images layout row t) && meets c t) ts t);
   }
@@ -121,6 +121,7 @@ pub record WantAt (layout : Layout) (blocks : List Target) (want : Want) (i : �
   pub below : i < length blocks
   pub at : (d : Target) → get_or blocks i d ≡ target
 
+-- each want of a row has a block of it, at the same number
 pub want_at : (layout : Layout) (wants : List Want) (blocks : List Target) (i : ℕ) (w : Want) → map (sought layout) wants ≡ map is_at blocks
     → i < length wants → WantAt layout blocks (get_or wants i w) i
 want_at layout [] blocks i w e lt = absurd (omega (arith, lt))
@@ -133,6 +134,7 @@ want_at layout (x ∷ wants) (t ∷ blocks) (suc i) w e lt =
     let r = want_at layout wants blocks i w tail (omega (arith, lt)) in
     record { target = r.target; is_sought = r.is_sought; below = omega (arith, r.below); at = r.at }
 
+-- there are as many blocks as wants
 pub same_count : (layout : Layout) (wants : List Want) (blocks : List Target) → map (sought layout) wants ≡ map is_at blocks → length blocks ≡ length wants
 same_count layout wants blocks e = sym (length-map blocks is_at) ∙ sym (ap length e) ∙ length-map wants (sought layout)
 
@@ -144,13 +146,12 @@ in_row layout stripe wants row i w of is lt =
     record { target = r.target; is_sought = r.is_sought; row = row; of = of; on = subst (IsOn row) (r.at r.target) (is.lie i r.target r.below) }
 
 -- what was copied
-pub same_front : (xs ys : List ℕ) (n a b : ℕ) → take n xs ≡ slice_range ys 0 (0 + n) → a ≤ b → b ≤ n → slice_range xs a b ≡ slice_range ys a b
+same_front : (xs ys : List ℕ) (n a b : ℕ) → take n xs ≡ slice_range ys 0 (0 + n) → a ≤ b → b ≤ n → slice_range xs a b ≡ slice_range ys a b
 same_front xs ys n a b e le most =
-    let zero_more : (m : ℕ) → 0 + m ≡ m = λ m. omega arith in
-    let cut : slice_range xs 0 (0 + n) ≡ take n xs = ap (λ m. take m xs) (omega arith) in
-    let whole = λ (zs : List ℕ). range-range zs 0 n a b le most ∙ ap (λ m. slice_range zs m (0 + b)) (zero_more a) ∙ ap (slice_range zs a) (zero_more b) in
-    sym (whole xs) ∙ ap (λ zs. slice_range zs a b) (cut ∙ e) ∙ whole ys
+    let cut : slice_range ys 0 (0 + n) ≡ take n ys = ap (λ m. take m ys) (omega arith) in
+    sym (front_range xs n a b le most) ∙ ap (λ zs. slice_range zs a b) (e ∙ cut) ∙ front_range ys n a b le most
 
+-- before the first block, the new data are the slices that were read, and nothing is counted
 pub judged_none : (images : Images) (layout : Layout) (row : Row) (old new : List ℕ) → HoldsRow images layout row old
     → slice_count row ≤ element_count row → (n : ℕ) → slice_count row * 65536 ≤ n → take n new ≡ slice_range old 0 (0 + n)
     → (judged : Judged) → judged.blocks ≡ 0 → judged.bad ≡ 0 → judged.rebuilt ≡ 0 → judged.lost ≡ 0 → ((c : ℕ) → c < 16 → get_or judged.met c false ≡ false)

@@ -1,22 +1,20 @@
 -- What mending a row comes to.
-use Rattle.std.proofs.Common.{◌≡◌, ℕ, Bool, true, false, cond, List, [], ◌++◌, length, IfSome, Result, Some, Ok, Err, IsErrAnd, inr, sym, ap, ◌∙◌, subst}
-use Rattle.std.specs.List.{sum_by}
+use Rattle.std.proofs.Common.{◌≡◌, ℕ, Bool, true, false, cond, List, [], ◌++◌, length, Result, Some, Ok, Err, IsErrAnd, inr, sym, ap, ◌∙◌, subst}
 use Rattle.std.proofs.lemmas.Bool.{false≢true}
 use Rattle.std.proofs.lemmas.Option.{same_Some}
 use Rattle.btr_rack.specs.Rack.{NoneFailed, OnlyReads, Seen}
 use Rattle.btr_rack.specs.declared.place.Place.{Place as Range}
 use Rattle.btr_read.specs.Layout.{Layout}
 use Rattle.btr_read.proofs.ReadsOn.{same_held}
-use Rattle.btr_read.proofs.Trials.{told as tell}
-use Rattle.btr_scrub_row.specs.Wanted.{mending_writes}
-use Rattle.btr_scrub_copies.specs.Syncing.{IsSyncOr, plain}
+use Rattle.btr_read.proofs.Trials.{told, telling}
+use Rattle.btr_scrub_copies.specs.Syncing.{IsSyncOr, Strands, plain}
 use Rattle.btr_scrub_copies.specs.Turns.{TakesTurns, WaitsInTurn}
-use Rattle.btr_scrub_copies.specs.Writes.{AccountsMend, Images, Write, writes_if}
+use Rattle.btr_scrub_copies.specs.Writes.{AccountsMend, DoesWrites, Images, Write, writes_if}
 use Rattle.btr_scrub_copies.specs.declared.mended.MendFault.{MendFault}
 use Rattle.btr_scrub_copies.proofs.Doing.{does_as, does_as_halt, does_failed, does_reads, passed}
-use Rattle.btr_scrub_copies.proofs.Turning.{fails_plain, read_at, read_marked, read_stranded, read_waits, reads_plain, strands_same, told_of, turns_behind}
-use Rattle.btr_scrub_row.specs.Rows.{Row, parities, parities_writes, parity_writes, rebuilt_writes, row_writes}
-use Rattle.btr_scrub_row.specs.Mending.{HasRoom, IsOfRow, MendsRow, mended_row}
+use Rattle.btr_scrub_copies.proofs.Turning.{fails_plain, read_at, read_marked, read_stranded, read_waits, reads_plain, strands_same, turns_behind}
+use Rattle.btr_scrub_row.specs.Rows.{Row, parities_writes, rebuilt_writes, row_writes}
+use Rattle.btr_scrub_row.specs.Mending.{CountsRow, HasRoom, IsOfRow, MendsRow, mended_row, parity_count}
 use Rattle.btr_scrub_row.specs.Memory.{IsStripeOf}
 use Rattle.btr_scrub_row.specs.Preparing.{IsPrepared, TellsRow}
 use Rattle.btr_scrub_row.specs.Writing.{told_writes}
@@ -32,140 +30,144 @@ room_all {row = row} {row' = row'} {buffer = buffer} of of' room =
     let same : row.chunk ≡ row'.chunk = same_Some row.chunk row'.chunk (sym of.is.chunk ∙ of'.is.chunk) in
     subst (λ c. HasRoom buffer (length c.stripes)) same room
 
--- what a call did that failed was done where its fault is passed on
-pub mends_passed : {layout : Layout} {row : Row} {write : Bool} {m n : List Bool} {a b : Seen} {r : Result MendedRow MendFault} {fault : MendFault}
-    → IsErrAnd r (λ e. e ≡ fault) → MendsRow layout row write m n a b (Err fault) → MendsRow layout row write m n a b r
-mends_passed {layout = layout} {row = row} {write = write} {m = m} {n = n} {a = a} {b = b} {r = r} {fault = fault} is h =
-    passed (λ r. MendsRow layout row write m n a b r) r fault is h
+-- a row was read, and prepared in a buffer
+pub record IsRead (layout : Layout) (row : Row) (judged : Judged) (buffer : RowBuffer) (a b : Seen) : Type 0 where
+  pub reads : OnlyReads a b
+  pub none : NoneFailed a.account b.account
+  pub prepared : (images : Images) → a.held ≡ Some images → IsPrepared images layout row judged buffer
 
+-- what was only read, with no failed read, and prepared where the images are told
+pub is_read : {layout : Layout} {row : Row} {judged : Judged} {buffer : RowBuffer} {a b : Seen} → OnlyReads a b → NoneFailed a.account b.account
+    → ((images : Images) → a.held ≡ Some images → IsPrepared images layout row judged buffer) → IsRead layout row judged buffer a b
+is_read reads none prepared = record { reads = reads; none = none; prepared = prepared }
+
+-- what came of a row by what was judged of its blocks
 abbrev pub made : Judged → ℕ → ℕ → MendedRow
 made judged repaired parity = record { blocks = judged.blocks; bad = judged.bad; repaired = repaired; lost = judged.lost; parity = parity }
 
 -- the counts
-counts_are : (images : Images) (layout : Layout) (row : Row) (write : Bool) (judged : Judged) (buffer : RowBuffer) (repaired parity : ℕ)
-    → IsPrepared images layout row judged buffer
-    → repaired ≡ cond write (sum_by (λ t. length (mending_writes images row.failing t)) row.blocks) 0 → parity
-    ≡ sum_by (λ part. length (parity_writes images layout row part)) (parities row.chunk.profile)
-    → made judged repaired parity ≡ mended_row images layout row write
-counts_are images layout row write judged buffer repaired parity is r p =
-    λ i. record { blocks = is.blocks.blocks i; bad = is.blocks.bad i; repaired = r i; lost = is.blocks.lost i; parity = p i }
+counts_are : (layout : Layout) (row : Row) (write : Bool) (judged : Judged) (buffer : RowBuffer) (a b : Seen) (repaired parity : ℕ)
+    → IsRead layout row judged buffer a b → ((images : Images) → a.held ≡ Some images → parity ≡ parity_count images layout row)
+    → repaired ≡ cond write judged.rebuilt 0 → CountsRow a.held layout row write (Ok (made judged repaired parity))
+counts_are layout row write judged buffer a b repaired parity read counted so =
+    told a.held (λ images. made judged repaired parity ≡ mended_row images layout row write) (λ images e.
+    let is = read.prepared images e in
+    let r = so ∙ ap (λ n. cond write n 0) is.blocks.rebuilt in
+    let p = counted images e in
+    λ i. record { blocks = is.blocks.blocks i; bad = is.blocks.bad i; repaired = r i; lost = is.blocks.lost i; parity = p i })
 
-module _ (layout : Layout) (row : Row) (write : Bool) (marks : List Bool) (a b : Seen) (reads : OnlyReads a b) where
-  abbrev Call : Range → Type 0
-  Call = IsSyncOr (IsOfRow layout row)
+-- calls of a row: syncs, and calls in its elements
+abbrev call : Layout → Row → Range → Type 0
+call layout row = IsSyncOr (IsOfRow layout row)
 
-  abbrev rebuilt : Images → List Write
-  rebuilt images = writes_if write (rebuilt_writes images layout row)
+-- the writes of its blocks, those of its parities, and all, where it is to be written
+abbrev rebuilt : Layout → Row → Bool → Images → List Write
+rebuilt layout row write images = writes_if write (rebuilt_writes images layout row)
 
-  abbrev parities' : Images → List Write
-  parities' images = writes_if write (parities_writes images layout row)
+abbrev parities' : Layout → Row → Bool → Images → List Write
+parities' layout row write images = writes_if write (parities_writes images layout row)
 
-  -- a read failed
-  pub mends_failed : (fault : MendFault) → AccountsMend {A = Judged} (IsOfRow layout row) a b (Err fault)
-      → MendsRow layout row write marks marks a b (Err fault)
-  mends_failed fault account = record {
-    does = does_failed Call MendedRow Judged (λ images. writes_if write (row_writes images layout row)) [] (plain a) (plain b) fault (reads_plain a b reads)
-        (fails_plain {A = Judged} (IsOfRow layout row) Call a b (Err fault) (λ range of. inr of) account);
-    waits = tell a.held (λ images. WaitsInTurn (rebuilt images) (parities' images) images a b)
-        (λ images is. read_waits a b reads (rebuilt images) (parities' images) images is);
+abbrev all : Layout → Row → Bool → Images → List Write
+all layout row write images = writes_if write (row_writes images layout row)
+
+-- those that are told
+abbrev told_rebuilt : Layout → Row → Seen → List Write
+told_rebuilt layout row rack = told_writes (λ images. rebuilt_writes images layout row) rack.held
+
+abbrev told_parities : Layout → Row → Seen → List Write
+told_parities layout row rack = told_writes (λ images. parities_writes images layout row) rack.held
+
+-- the writes that were told are those that follow from the images
+all_are : (layout : Layout) (row : Row) (write : Bool) (a : Seen) → write ≡ true → (images : Images) → a.held ≡ Some images
+    → told_rebuilt layout row a ++ told_parities layout row a ≡ all layout row write images
+all_are layout row write a written images e =
+    ap (λ o. told_writes (λ images. rebuilt_writes images layout row) o ++ told_writes (λ images. parities_writes images layout row) o) e
+    ∙ ap (λ w. writes_if w (row_writes images layout row)) (sym written)
+
+module _ {layout : Layout} {row : Row} {write : Bool} {marks : List Bool} {a b : Seen} where
+  -- where the row was only read, nothing more waits or is marked
+  only_read : (r : Result MendedRow MendFault) → OnlyReads a b → DoesWrites (call layout row) (all layout row write) [] [] (plain a) (plain b) r
+      → CountsRow a.held layout row write r → MendsRow layout row write marks marks a b r
+  only_read r reads does counts = record {
+    does = does;
+    waits = told a.held (λ images. WaitsInTurn (rebuilt layout row write images) (parities' layout row write images) images a b)
+        (λ images is. read_waits a b reads (rebuilt layout row write images) (parities' layout row write images) images is);
     lie = read_at a b reads (IsOfRow layout row);
     marked = read_marked a b reads marks;
-    stranded = read_stranded a b reads {A = MendedRow} (Err fault);
-    counts = tt;
+    stranded = read_stranded a b reads r;
+    counts = counts;
     unwritten = λ w. reads;
   }
 
-  module _ (none : NoneFailed a.account b.account) (judged : Judged) (buffer : RowBuffer)
-      (prepared : (images : Images) → a.held ≡ Some images → IsPrepared images layout row judged buffer) (parity : ℕ)
-      (counted : (images : Images) → a.held ≡ Some images → parity ≡ sum_by (λ part. length (parity_writes images layout row part))
-      (parities row.chunk.profile)) where
+  -- a read failed, and its fault is passed on
+  pub mends_failed : {r : Result MendedRow MendFault} (fault : MendFault) → IsErrAnd r (λ e. e ≡ fault) → OnlyReads a b
+      → AccountsMend {A = Judged} (IsOfRow layout row) a b (Err fault) → MendsRow layout row write marks marks a b r
+  mends_failed {r = r} fault is reads account = passed (λ r. MendsRow layout row write marks marks a b r) r fault is (only_read (Err fault) reads
+      (does_failed (call layout row) MendedRow Judged (all layout row write) [] (plain a) (plain b) fault (reads_plain a b reads)
+      (fails_plain {A = Judged} (IsOfRow layout row) (call layout row) a b (Err fault) (λ range of. inr of) account)) tt)
+
+  module _ {judged : Judged} {buffer : RowBuffer} (read : IsRead layout row judged buffer a b) where
     -- it was only to be read
-    pub mends_read : write ≡ false → MendsRow layout row write marks marks a b (Ok (made judged 0 parity))
-    mends_read no_write = record {
-      does = does_as Call (λ i. []) (λ images. writes_if write (row_writes images layout row)) [] [] (plain a) (plain b)
-          (made judged 0 parity) (made judged 0 parity)
-          (λ images e. ap (λ w. writes_if w (row_writes images layout row)) (sym no_write))
-          (does_reads Call [] (plain a) (plain b) (made judged 0 parity) (reads_plain a b reads) none);
-      waits = tell a.held (λ images. WaitsInTurn (rebuilt images) (parities' images) images a b)
-          (λ images is. read_waits a b reads (rebuilt images) (parities' images) images is);
-      lie = read_at a b reads (IsOfRow layout row);
-      marked = read_marked a b reads marks;
-      stranded = read_stranded a b reads (Ok (made judged 0 parity));
-      counts = tell a.held (λ images. made judged 0 parity ≡ mended_row images layout row write)
-          (λ images e. counts_are images layout row write judged buffer 0 parity (prepared images e)
-          (ap (λ w. cond w (sum_by (λ t. length (mending_writes images row.failing t)) row.blocks) 0) (sym no_write)) (counted images e));
-      unwritten = λ w. reads;
-    }
+    pub mends_read : write ≡ false → (parity : ℕ) → ((images : Images) → a.held ≡ Some images → parity ≡ parity_count images layout row)
+        → MendsRow layout row write marks marks a b (Ok (made judged 0 parity))
+    mends_read unwritten parity counted = only_read (Ok (made judged 0 parity)) read.reads
+        (does_as (call layout row) (λ i. []) (all layout row write) [] [] (plain a) (plain b) (made judged 0 parity) (made judged 0 parity)
+        (λ images e. ap (λ w. writes_if w (row_writes images layout row)) (sym unwritten))
+        (does_reads (call layout row) [] (plain a) (plain b) (made judged 0 parity) (reads_plain a b read.reads) read.none))
+        (counts_are layout row write judged buffer a b 0 parity read counted (ap (λ w. cond w judged.rebuilt 0) (sym unwritten)))
 
-  module _ (written : write ≡ true) (marks' : List Bool) (d : Seen) where
-    abbrev told_rebuilt : List Write
-    told_rebuilt = told_writes (λ images. rebuilt_writes images layout row) a.held
+    module _ (written : write ≡ true) {marks' : List Bool} {d : Seen} where
+      module _ (r : Result (Unit {0}) MendFault)
+          (turns : TakesTurns (IsOfRow layout row) (told_rebuilt layout row a) (told_parities layout row a) marks marks' b d r) where
+        -- the turns, with the reads before them
+        behind : TakesTurns (IsOfRow layout row) (told_rebuilt layout row a) (told_parities layout row a) marks marks' a d r
+        behind = turns_behind a b read.reads (IsOfRow layout row) (told_rebuilt layout row a) (told_parities layout row a) marks marks' d r read.none turns
 
-    abbrev told_parities : List Write
-    told_parities = told_writes (λ images. parities_writes images layout row) a.held
+        -- the turns that were told are those that follow from the images
+        turns_are : (images : Images) → a.held ≡ Some images → WaitsInTurn (rebuilt layout row write images) (parities' layout row write images) images a d
+        turns_are images is =
+            subst (λ w. WaitsInTurn (writes_if w (rebuilt_writes images layout row)) (writes_if w (parities_writes images layout row)) images a d) (sym written)
+            (subst (λ o. WaitsInTurn (told_writes (λ images. rebuilt_writes images layout row) o)
+            (told_writes (λ images. parities_writes images layout row) o) images a d) is
+            (telling a.held (λ images. WaitsInTurn (told_rebuilt layout row a) (told_parities layout row a) images a d) behind.waits images is))
 
-    rebuilt_are : (images : Images) → a.held ≡ Some images → told_rebuilt ≡ rebuilt images
-    rebuilt_are images e = ap (told_writes (λ images. rebuilt_writes images layout row)) e
-        ∙ ap (λ w. writes_if w (rebuilt_writes images layout row)) (sym written)
-
-    parities_are : (images : Images) → a.held ≡ Some images → told_parities ≡ parities' images
-    parities_are images e = ap (told_writes (λ images. parities_writes images layout row)) e
-        ∙ ap (λ w. writes_if w (parities_writes images layout row)) (sym written)
-
-    all_are : (images : Images) → a.held ≡ Some images → told_rebuilt ++ told_parities ≡ writes_if write (row_writes images layout row)
-    all_are images e =
-        ap (λ o. told_writes (λ images. rebuilt_writes images layout row) o ++ told_writes (λ images. parities_writes images layout row) o) e
-        ∙ ap (λ w. writes_if w (row_writes images layout row)) (sym written)
-
-    -- the turns that were told are those that follow from the images
-    turns_are : {A : Type 0} (r : Result A MendFault) → TakesTurns (IsOfRow layout row) told_rebuilt told_parities marks marks' a d r
-        → IfSome a.held (λ images. WaitsInTurn (rebuilt images) (parities' images) images a d)
-    turns_are r h = tell a.held (λ images. WaitsInTurn (rebuilt images) (parities' images) images a d) (λ images is.
-        subst (λ ws. WaitsInTurn ws (parities' images) images a d) (rebuilt_are images is)
-        (subst (λ vs. WaitsInTurn told_rebuilt vs images a d) (parities_are images is)
-        (told_of a.held (λ images. WaitsInTurn told_rebuilt told_parities images a d) images is h.waits)))
-
-    -- it was written
-    pub mends_wrote : NoneFailed a.account b.account → (judged : Judged) (buffer : RowBuffer)
-        (prepared : (images : Images) → a.held ≡ Some images → IsPrepared images layout row judged buffer) (parity : ℕ)
-        → ((images : Images) → a.held ≡ Some images → parity ≡ sum_by (λ part. length (parity_writes images layout row part)) (parities row.chunk.profile))
-        → TakesTurns {A = Unit {0}} (IsOfRow layout row) told_rebuilt told_parities marks marks' b d (Ok tt)
-        → MendsRow layout row write marks marks' a d (Ok (made judged judged.rebuilt parity))
-    mends_wrote none judged buffer prepared parity counted turns =
-        let h = turns_behind a b reads (IsOfRow layout row) told_rebuilt told_parities marks marks' d (Ok (tt {0})) none turns in
-        record {
-          does = does_as Call (λ i. told_rebuilt ++ told_parities) (λ images. writes_if write (row_writes images layout row)) [] [] (plain a)
-              (plain d) tt (made judged judged.rebuilt parity) all_are h.does;
-          waits = turns_are (Ok (tt {0})) h;
-          lie = h.lie;
-          marked = h.marked;
-          stranded = h.stranded;
-          counts = tell a.held (λ images. made judged judged.rebuilt parity ≡ mended_row images layout row write)
-              (λ images e. let is = prepared images e in counts_are images layout row write judged buffer judged.rebuilt parity is
-              (is.blocks.rebuilt ∙ ap (λ w. cond w (sum_by (λ t. length (mending_writes images row.failing t)) row.blocks) 0) (sym written))
-              (counted images e));
+        -- a row that was written in turns is mended, or up to a call that failed
+        turned : (q : Result MendedRow MendFault) → DoesWrites (call layout row) (all layout row write) [] [] (plain a) (plain d) q
+            → Strands a.never_synced d.never_synced q → CountsRow a.held layout row write q → MendsRow layout row write marks marks' a d q
+        turned q does stranded counts = record {
+          does = does;
+          waits = told a.held (λ images. WaitsInTurn (rebuilt layout row write images) (parities' layout row write images) images a d) turns_are;
+          lie = behind.lie;
+          marked = behind.marked;
+          stranded = stranded;
+          counts = counts;
           unwritten = λ w. absurd (false≢true (sym w ∙ written));
         }
 
-    -- it was written up to a call that failed
-    pub mends_cut : NoneFailed a.account b.account → (fault : MendFault)
-        → TakesTurns {A = Unit {0}} (IsOfRow layout row) told_rebuilt told_parities marks marks' b d (Err fault)
-        → MendsRow layout row write marks marks' a d (Err fault)
-    mends_cut none fault turns =
-        let h = turns_behind a b reads {A = Unit {0}} (IsOfRow layout row) told_rebuilt told_parities marks marks' d (Err fault) none turns in
-        record {
-          does = does_as_halt Call (Unit {0}) MendedRow (λ i. told_rebuilt ++ told_parities)
-              (λ images. writes_if write (row_writes images layout row)) [] [] (plain a) (plain d) fault all_are h.does;
-          waits = turns_are {A = Unit {0}} (Err fault) h;
-          lie = h.lie;
-          marked = h.marked;
-          stranded = strands_same (Unit {0}) MendedRow fault a.never_synced d.never_synced h.stranded;
-          counts = tt;
-          unwritten = λ w. absurd (false≢true (sym w ∙ written));
-        }
+      -- it was written
+      pub mends_wrote : (parity : ℕ) → ((images : Images) → a.held ≡ Some images → parity ≡ parity_count images layout row)
+          → TakesTurns {A = Unit {0}} (IsOfRow layout row) (told_rebuilt layout row a) (told_parities layout row a) marks marks' b d (Ok tt)
+          → MendsRow layout row write marks marks' a d (Ok (made judged judged.rebuilt parity))
+      mends_wrote parity counted turns =
+          let h = behind (Ok tt) turns in
+          turned (Ok tt) turns (Ok (made judged judged.rebuilt parity))
+          (does_as (call layout row) (λ i. told_rebuilt layout row a ++ told_parities layout row a) (all layout row write) [] [] (plain a) (plain d) tt
+          (made judged judged.rebuilt parity) (all_are layout row write a written) h.does) h.stranded
+          (counts_are layout row write judged buffer a b judged.rebuilt parity read counted (ap (λ w. cond w judged.rebuilt 0) (sym written)))
+
+      -- it was written up to a call that failed, whose fault is passed on
+      pub mends_cut : {q : Result MendedRow MendFault} (fault : MendFault) → IsErrAnd q (λ e. e ≡ fault)
+          → TakesTurns {A = Unit {0}} (IsOfRow layout row) (told_rebuilt layout row a) (told_parities layout row a) marks marks' b d (Err fault)
+          → MendsRow layout row write marks marks' a d q
+      mends_cut {q = q} fault is turns =
+          let h = behind (Err fault) turns in
+          passed (λ q. MendsRow layout row write marks marks' a d q) q fault is (turned (Err fault) turns (Err fault)
+          (does_as_halt (call layout row) (Unit {0}) MendedRow (λ i. told_rebuilt layout row a ++ told_parities layout row a) (all layout row write) [] []
+          (plain a) (plain d) fault (all_are layout row write a written) h.does)
+          (strands_same (Unit {0}) MendedRow fault a.never_synced d.never_synced h.stranded) tt)
 
 -- what was prepared is what is told
-pub tells_prepared : (layout : Layout) (row : Row) (judged : Judged) (buffer : RowBuffer) (a b : Seen) → OnlyReads a b
-    → ((images : Images) → a.held ≡ Some images → IsPrepared images layout row judged buffer) → TellsRow layout row judged buffer a.held b.held
-tells_prepared layout row judged buffer a b reads prepared = record
-    { known = tell a.held (λ images. IsPrepared images layout row judged buffer) prepared; untold = λ e. same_held reads ∙ e }
+pub tells_prepared : {layout : Layout} {row : Row} {judged : Judged} {buffer : RowBuffer} {a b : Seen} → IsRead layout row judged buffer a b
+    → TellsRow layout row judged buffer a.held b.held
+tells_prepared {layout = layout} {row = row} {judged = judged} {buffer = buffer} {a = a} read =
+    record { known = told a.held (λ images. IsPrepared images layout row judged buffer) read.prepared; untold = λ e. same_held read.reads ∙ e }

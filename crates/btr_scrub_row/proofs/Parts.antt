@@ -9,6 +9,7 @@ use Rattle.btr_read.specs.declared.parity.Parity.{Parity}
 use Rattle.btr_read.specs.declared.parity.Parity.TheVariants as parity
 use Rattle.btr_scrub_row.specs.declared.stripe.FullStripe.{FullStripe}
 
+-- a parity that the profile has is a part of the row
 pub parity_there : (layout : Layout) (stripe : FullStripe) (row : Row) → IsStripeOf layout stripe row → (p : Parity)
     → HasParity stripe.shape.profile p → HasPart row.chunk.profile (length row.chunk.stripes) (part_of p)
 parity_there layout stripe row of parity.P has = subst IsNone (sym of.is.parity) refl

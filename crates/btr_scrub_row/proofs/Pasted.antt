@@ -5,41 +5,47 @@ use borrow.Rule.Slice.PartMut.{put_mid}
 use Rattle.std.proofs.lemmas.Bool.{cases_lt}
 use Rattle.std.proofs.lemmas.List.{drop-drop, same_lists, get_or-take, get_or-drop, get_or_append_left, get_or-append_right}
 use Rattle.btr_rack.specs.Rack.{pasted}
-use Rattle.btr_read.proofs.Pieces.{length-first}
+use Rattle.btr_read.proofs.Pieces.{length-first, range-range}
 use Rattle.btr_scrub_row.specs.Memory.{element_in}
 
 module _ (image : List ℕ) (off : ℕ) (bytes : List ℕ) (fits : off + length bytes ≤ length image) where
   abbrev rest : List ℕ
   rest = drop (off + length bytes) image
 
+  -- what stands before the bytes is as long as their place says
   front : length (take off image) ≡ off
   front = length-first image off (omega (arith, fits))
 
   both_long : length (take off image ++ bytes) ≡ off + length bytes
   both_long = let a = length-append (take off image) bytes in omega (arith, a, front)
 
+  -- bytes written over others leave the length
   pub length-pasted : length (pasted image off bytes) ≡ length image
   length-pasted =
       let a = length-append (take off image ++ bytes) rest in
       let c = length-drop (off + length bytes) image in
       omega (arith, a, c, both_long, fits)
 
+  -- each byte before them is as it was
   pub pasted-below : (i d : ℕ) → i < off → get_or (pasted image off bytes) i d ≡ get_or image i d
   pasted-below i d lt =
       get_or_append_left (take off image ++ bytes) rest d i (omega (arith, both_long, lt))
       ∙ get_or_append_left (take off image) bytes d i (omega (arith, front, lt)) ∙ get_or-take off image i d lt
 
+  -- those at their place are theirs
   pub pasted-within : (i d : ℕ) → off ≤ i → i < off + length bytes → get_or (pasted image off bytes) i d ≡ get_or bytes (i - off) d
   pasted-within i d le lt =
       get_or_append_left (take off image ++ bytes) rest d i (omega (arith, both_long, lt))
       ∙ get_or-append_right (take off image) bytes off i d front le
 
+  -- each byte behind them is as it was
   pub pasted-above : (i d : ℕ) → off + length bytes ≤ i → get_or (pasted image off bytes) i d ≡ get_or image i d
   pasted-above i d le =
       get_or-append_right (take off image ++ bytes) rest (off + length bytes) i d both_long le
       ∙ get_or-drop (off + length bytes) image (i - (off + length bytes)) d
       ∙ ap (λ j. get_or image j d) (omega (arith, le))
 
+  -- so is each byte before or behind them
   pub pasted-outside : (i d : ℕ) → (i < off) ⊎ (off + length bytes ≤ i) → get_or (pasted image off bytes) i d ≡ get_or image i d
   pasted-outside i d (inl lt) = pasted-below i d lt
   pasted-outside i d (inr le) = pasted-above i d le
@@ -53,6 +59,7 @@ put_is xs ys a k e = ap (λ zs. take a xs ++ (ys ++ zs)) (drop-drop k a xs ∙ a
 pub at_range : (xs : List ℕ) (a n i d : ℕ) → i < n → get_or (slice_range xs a (a + n)) i d ≡ get_or xs (a + i) d
 at_range xs a n i d lt = get_or-take (a + n - a) (drop a xs) i d (omega (arith, lt)) ∙ get_or-drop a xs i d
 
+-- a range within bytes is as long as it says
 pub length-range : (xs : List ℕ) (a n : ℕ) → a + n ≤ length xs → length (slice_range xs a (a + n)) ≡ n
 length-range xs a n le = omega (arith, length-take (a + n - a) (drop a xs), length-drop a xs, le)
 
@@ -119,3 +126,9 @@ element_other xs e rest j w fits inside other = range_apart xs (e * 65536 + rest
   where
     ne_more : (j e : ℕ) → e ≤ j → j ≢ e → e + 1 ≤ j
     ne_more j e le ne = elim (cases_lt e j) [ inl lt ↦ omega (arith, lt) | inr ge ↦ absurd (ne (omega (arith, ge, le))) ]
+
+-- a range of the first bytes
+pub front_range : (xs : List ℕ) (n a b : ℕ) → a ≤ b → b ≤ n → slice_range (take n xs) a b ≡ slice_range xs a b
+front_range xs n a b le most =
+    let cut : take n xs ≡ slice_range xs 0 (0 + n) = ap (λ m. take m xs) (omega arith) in
+    ap (λ zs. slice_range zs a b) cut ∙ range-range xs 0 n a b le most ∙ ap (λ m. slice_range xs m (0 + b)) (omega arith) ∙ ap (slice_range xs a) (omega arith)

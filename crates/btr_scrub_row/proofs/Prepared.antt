@@ -33,6 +33,7 @@ module _ (images : Images) (layout : Layout) (stripe : FullStripe) (row : Row) (
       get_or-map-range_with_len f 0 stripe.shape.slices i i d below (omega arith) ∙ are.slices i below'
       ∙ sym (get_or-map-range_with_len g 0 (slice_count row) i i d below' (omega arith)))
 
+  -- P as it was read, that of the new data, and the decided columns are known
   pub knows_p : (sums : List ℕ) → take 65536 sums ≡ parity_p 65536 (map (element_in new) (range_with_len 0 stripe.shape.slices))
       → KnowsParity images layout row parity.P judged old sums
   knows_p sums e =
@@ -44,6 +45,7 @@ module _ (images : Images) (layout : Layout) (stripe : FullStripe) (row : Row) (
             (are.met column lt) (are.broken column lt);
       }
 
+  -- so are Q's, in RAID6
   pub knows_q : (sums : List ℕ) → row.chunk.profile ≡ Raid6 → take 65536 sums
       ≡ parity_q 65536 (map (element_in new) (range_with_len 0 stripe.shape.slices)) → KnowsParity images layout row parity.Q judged old sums
   knows_q sums six e =

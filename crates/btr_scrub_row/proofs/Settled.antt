@@ -4,7 +4,7 @@ use Rattle.std.proofs.Common.{is_none, is_some, refl, sym, ap, ◌∙◌, arith,
 use Rattle.std.specs.List.{cons_option, filter, range_with_len}
 use Rattle.std.specs.Option.{option_map, option_map_or}
 use Rattle.std.specs.Str.{bytes_eq}
-use Rattle.std.proofs.lemmas.Bool.{false≢true, lt-ltb}
+use Rattle.std.proofs.lemmas.Bool.{lt-ltb}
 use Rattle.std.proofs.lemmas.Option.{same_Some}
 use Rattle.btr_chunk.specs.Chunk.{mirrors}
 use Rattle.btr_chunk.specs.declared.place.Part.{Part}
@@ -21,9 +21,10 @@ use Rattle.btr_scrub_row.specs.Rows.{Row, has_doubtful, is_sure}
 use Rattle.btr_scrub_row.specs.Memory.{IsAccepted, IsRenewed, IsSettled, KnowsDoubts, LiesAt, flag_of}
 use Rattle.btr_scrub_row.specs.declared.doubts.Doubts.{Doubts}
 use Rattle.btr_scrub_row.specs.declared.settling.Settled.{Settled}
-use Rattle.btr_scrub_row.specs.declared.spot.Spot.{Spot}
+use Rattle.btr_scrub_row.specs.declared.slice_piece.SlicePiece.{SlicePiece}
 use Rattle.btr_scrub_row.proofs.Doubting.{own_doubtful}
 
+-- bytes, written at a range
 abbrev pub written_at : Range → List ℕ → Write
 written_at range bytes = record { range = range; bytes = bytes }
 
@@ -51,19 +52,17 @@ mending_is images row t = by (is_plain t.want)
 -- ---- of a row
 
 module _ (images : Images) (t : Target) (none : mirrors t.chunk ≡ None) where
+  -- a block in a chunk with parity has its slice as the only place of its own
   pub own : own_parts t ≡ Slice t.at.index ∷ []
   own = ap (λ o. option_map_or (λ copies. map Mirror (range_with_len 0 copies)) o (Slice t.at.index ∷ [])) none
 
+  -- its slice is bad where it isn't good
   pub bad_are : bad_parts images t ≡ cond (not (is_good images t (Slice t.at.index))) (Slice t.at.index ∷ []) []
   bad_are = ap (filter (λ part. not (is_sound images t part))) own
 
 -- ---- a plain sector
 
 module _ (images : Images) (row : Row) (t : Target) (none : mirrors t.chunk ≡ None) where
-  or_none : (b : Bool) → (b || false) ≡ b
-  or_none true = refl
-  or_none false = refl
-
   -- some are, and they are compared
   pub renewed_as : (block bytes : List ℕ) (same : Bool) → is_on_behind row.failing t (Slice t.at.index) ≡ true
       → fresh images row.failing t ≡ Some (take (size_of t) block) → bytes ≡ element images t (Slice t.at.index)
@@ -100,6 +99,7 @@ module _ (images : Images) (row : Row) (t : Target) (none : mirrors t.chunk ≡ 
   not_wrong true = refl
   not_wrong false = refl
 
+  -- where a candidate passes, the block gets its bytes
   pub settled_accepted : (block : List ℕ) (good : Bool) → is_plain t.want ≡ false → IsAccepted images t block good
       → IsSettled images row t block (record { good = good; given = true })
   settled_accepted block good checked is = record {
@@ -115,50 +115,51 @@ module _ (images : Images) (row : Row) (t : Target) (block : List ℕ) (settled 
   by_cond true = refl
   by_cond false = refl
 
+  -- the block has one wrong place where something is wrong at its own
   pub length-wrong : length (wrong_parts images row.failing t) ≡ cond (not settled.good) 1 0
   length-wrong = ap length is.wrong ∙ by_cond settled.good
 
-  writes_as : mending_writes images row.failing t ≡ option_map_or (λ bytes. copy_writes t bytes (cond settled.good [] (Slice t.at.index ∷ [])))
-      (cond settled.given (Some (take (size_of t) block)) None) []
+  -- one write where something is wrong and bytes are given, and none where not
+  writes_as : mending_writes images row.failing t ≡ cond (not settled.good && settled.given) (copy_writes t (take (size_of t) block) (Slice t.at.index ∷ [])) []
   writes_as = mending_is images row t
       ∙ ap (λ parts. option_map_or (λ bytes. copy_writes t bytes parts) (new_bytes images row.failing t) []) is.wrong
-      ∙ ap (λ o. option_map_or (λ bytes. copy_writes t bytes (cond settled.good [] (Slice t.at.index ∷ []))) o []) is.gets
+      ∙ ap (λ o. option_map_or (λ bytes. copy_writes t bytes (cond settled.good [] (Slice t.at.index ∷ []))) o []) is.gets ∙ by settled.good settled.given
+    where
+      by : (good given : Bool) → option_map_or (λ bytes. copy_writes t bytes (cond good [] (Slice t.at.index ∷ [])))
+          (cond given (Some (take (size_of t) block)) None) [] ≡ cond (not good && given) (copy_writes t (take (size_of t) block) (Slice t.at.index ∷ [])) []
+      by true true = refl
+      by true false = refl
+      by false true = refl
+      by false false = refl
+
+  -- a write is to be made unless the place is good, or nothing is given
+  written_if : (good given : Bool) → (not good && given) ≡ not (good || not given)
+  written_if true given = refl
+  written_if false true = refl
+  written_if false false = refl
 
   -- nothing is written where nothing is wrong, or nothing given
   pub writes_not : (settled.good || not settled.given) ≡ true → [] ≡ mending_writes images row.failing t
-  writes_not h = sym (writes_as ∙ by settled.good settled.given h)
-    where
-      by : (good given : Bool) → (good || not given) ≡ true
-          → option_map_or (λ bytes. copy_writes t bytes (cond good [] (Slice t.at.index ∷ []))) (cond given (Some (take (size_of t) block)) None) [] ≡ []
-      by true true h = refl
-      by true false h = refl
-      by false true h = absurd (false≢true h)
-      by false false h = refl
+  writes_not h = sym (writes_as ∙ ap (λ b. cond b (copy_writes t (take (size_of t) block) (Slice t.at.index ∷ [])) [])
+      (written_if settled.good settled.given ∙ ap not h))
 
-  -- else one write, where the block's own place stands
+  -- where the block's own place stands
   module _ (range : Range) (stands : range_of t (Slice t.at.index) ≡ Some range) where
     one : copy_writes t (take (size_of t) block) (Slice t.at.index ∷ []) ≡ written_at range (take (size_of t) block) ∷ []
     one = ap (λ o. cons_option (option_map (λ r. written_at r (take (size_of t) block)) o) []) stands
 
+    -- one write is made where something is wrong and bytes are given
     pub writes_one : (settled.good || not settled.given) ≡ false → mending_writes images row.failing t ≡ written_at range (take (size_of t) block) ∷ []
-    writes_one h = writes_as ∙ by settled.good settled.given h
-      where
-        by : (good given : Bool) → (good || not given) ≡ false
-            → option_map_or (λ bytes. copy_writes t bytes (cond good [] (Slice t.at.index ∷ []))) (cond given (Some (take (size_of t) block)) None) []
-            ≡ written_at range (take (size_of t) block) ∷ []
-        by true given h = absurd (false≢true (sym h))
-        by false true h = one
-        by false false h = absurd (false≢true (sym h))
+    writes_one h = writes_as ∙ ap (λ b. cond b (copy_writes t (take (size_of t) block) (Slice t.at.index ∷ [])) [])
+        (written_if settled.good settled.given ∙ ap not h) ∙ one
 
+    -- where one write is made, one is counted, and else none
     pub length-writes : length (mending_writes images row.failing t) ≡ cond (not settled.good && settled.given) 1 0
-    length-writes = ap length writes_as ∙ by settled.good settled.given
+    length-writes = ap length (writes_as ∙ ap (λ ws. cond (not settled.good && settled.given) ws []) one) ∙ by (not settled.good && settled.given)
       where
-        by : (good given : Bool) → length (option_map_or (λ bytes. copy_writes t bytes (cond good [] (Slice t.at.index ∷ [])))
-            (cond given (Some (take (size_of t) block)) None) []) ≡ cond (not good && given) 1 0
-        by true true = refl
-        by true false = refl
-        by false true = ap length one
-        by false false = refl
+        by : (b : Bool) → length (cond b (written_at range (take (size_of t) block) ∷ []) []) ≡ cond b 1 0
+        by true = refl
+        by false = refl
 
   -- it is lost where it is a checked block and gets nothing
   pub lost_is : is_lost_block images t ≡ (is_checked t && not settled.given)
@@ -182,7 +183,7 @@ module _ (images : Images) (row : Row) (t : Target) (block : List ℕ) (settled 
       by false h = cc
 
   -- what stands in its place in the new data is sure
-  module _ (layout : Layout) (spot : Spot) (doubts : Doubts) (at : LiesAt layout row t spot) (knows : KnowsDoubts layout row doubts) where
+  module _ (layout : Layout) (piece : SlicePiece) (doubts : Doubts) (at : LiesAt layout row t piece) (knows : KnowsDoubts layout row doubts) where
     some_is : (b : Bool) → is_some (cond b (Some (take (size_of t) block)) None) ≡ b
     some_is true = refl
     some_is false = refl
@@ -191,10 +192,11 @@ module _ (images : Images) (row : Row) (t : Target) (block : List ℕ) (settled 
     twice true = refl
     twice false = refl
 
-    pub sure_is : (settled.given || not (is_checked t) && (doubts.some && not (flag_of doubts.doubtful spot.index))) ≡ is_sure images layout row t
+    -- what was computed to be sure is so by the definition
+    pub sure_is : (settled.given || not (is_checked t) && (doubts.some && not (flag_of doubts.doubtful piece.index))) ≡ is_sure images layout row t
     sure_is =
-        ap (λ b. b || not (is_checked t) && (doubts.some && not (flag_of doubts.doubtful spot.index))) (sym (ap is_some is.gets ∙ some_is settled.given))
-        ∙ ap (λ b. is_some (new_bytes images row.failing t) || b && (doubts.some && not (flag_of doubts.doubtful spot.index))) (twice (is_plain t.want))
-        ∙ ap (λ b. is_some (new_bytes images row.failing t) || is_plain t.want && (b && not (flag_of doubts.doubtful spot.index))) knows.some
+        ap (λ b. b || not (is_checked t) && (doubts.some && not (flag_of doubts.doubtful piece.index))) (sym (ap is_some is.gets ∙ some_is settled.given))
+        ∙ ap (λ b. is_some (new_bytes images row.failing t) || b && (doubts.some && not (flag_of doubts.doubtful piece.index))) (twice (is_plain t.want))
+        ∙ ap (λ b. is_some (new_bytes images row.failing t) || is_plain t.want && (b && not (flag_of doubts.doubtful piece.index))) knows.some
         ∙ ap (λ b. is_some (new_bytes images row.failing t) || is_plain t.want && (has_doubtful layout.devices row.failing row.chunk && not b))
-        (own_doubtful layout row t spot doubts at knows)
+        (own_doubtful at knows)

@@ -16,13 +16,13 @@ use Rattle.btr_scrub_copies.specs.Writes.{Images}
 use Rattle.btr_scrub_row.specs.Wanted.{new_bytes, is_checked, is_lost_block, mending_writes, wrong_parts}
 use Rattle.btr_scrub_row.specs.Rows.{Row, element, is_sure, meets, slice_count, with_block}
 use Rattle.btr_scrub_row.specs.Mending.{IsOn}
-use Rattle.btr_scrub_row.specs.Memory.{HoldsRow, IsSpot, IsStripeOf, IsWantedRow, KnowsDoubts, element_in}
+use Rattle.btr_scrub_row.specs.Memory.{HoldsRow, IsPiece, IsStripeOf, IsWantedRow, KnowsDoubts, element_in}
 use Rattle.btr_scrub_row.specs.declared.judged.Judged.{Judged}
 use Rattle.btr_scrub_row.specs.declared.judging.Verdict.{Verdict}
 use Rattle.btr_scrub_row.specs.declared.row_view.RowView.{RowView}
 use Rattle.btr_scrub_row.specs.declared.settling.Settled.{Settled}
 use Rattle.btr_scrub_row.specs.declared.shape.Shape.{Shape}
-use Rattle.btr_scrub_row.specs.declared.spot.Spot.{Spot}
+use Rattle.btr_scrub_row.specs.declared.slice_piece.SlicePiece.{SlicePiece}
 use Rattle.btr_scrub_row.specs.declared.stripe.FullStripe.{FullStripe}
 
 -- a want's block lies in a full stripe
@@ -33,19 +33,19 @@ pub record IsIn (layout : Layout) (stripe : FullStripe) (want : Want) : Type 0 w
   pub of : IsStripeOf layout stripe row
   pub on : IsOn row target
 
--- a block's place, in a chunk that keeps the rule
-pub record IsPlaced (shape : Shape) (t : Target) (spot : Spot) : Type 0 where
-  pub shape_is : spot.shape ≡ shape
-  pub index : spot.index ≡ t.at.index
-  pub rest : spot.rest ≡ t.at.rest
-  pub len : spot.len ≡ size_of t
+-- a block's piece of a slice, in a chunk that keeps the rule
+pub record IsPlaced (shape : Shape) (t : Target) (piece : SlicePiece) : Type 0 where
+  pub shape_is : piece.shape ≡ shape
+  pub index : piece.index ≡ t.at.index
+  pub rest : piece.rest ≡ t.at.rest
+  pub len : piece.len ≡ size_of t
   pub keeps_rule : IsChunk t.chunk
   pub position : IsPosition t.chunk t.at
   pub inside : t.at.rest + size_of t ≤ 65536
 
 -- what comes of a block by what it gets, and whether its slice is surer than others
-pub record IsVerdict (checked : Bool) (settled : Settled) (surer : Bool) (spot : Spot) (verdict : Verdict) : Type 0 where
-  pub spot_is : verdict.spot ≡ spot
+pub record IsVerdict (checked : Bool) (settled : Settled) (surer : Bool) (piece : SlicePiece) (verdict : Verdict) : Type 0 where
+  pub piece_is : verdict.piece ≡ piece
   pub checked_is : verdict.checked ≡ checked
   pub good : verdict.good ≡ settled.good
   pub given_is : verdict.given ≡ settled.given
@@ -58,7 +58,7 @@ pub record FitsVerdict (images : Images) (layout : Layout) (row : Row) (t : Targ
   pub inside : t.at.rest + size_of t ≤ 65536
   pub stand : IsSome (range_of t (Slice t.at.index))
   pub long : (bytes : List ℕ) → new_bytes images row.failing t ≡ Some bytes → length bytes ≡ size_of t
-  pub spot : IsSpot t verdict.spot
+  pub piece : IsPiece t verdict.piece
   pub checked : verdict.checked ≡ is_checked t
   pub wrong : length (wrong_parts images row.failing t) ≡ (if not verdict.good then 1 else 0)
   pub mends : length (mending_writes images row.failing t) ≡ (if not verdict.good && verdict.given then 1 else 0)
@@ -78,18 +78,18 @@ abbrev pub flag : List Bool → ℕ → Bool
 flag flags column = slice_index_or flags column false
 
 -- a block has bytes in a column
-abbrev pub meets_spot : ℕ → Spot → Bool
-meets_spot column spot = nat_lt spot.rest (column * 4096 + 4096) && nat_lt (column * 4096) (spot.rest + spot.len)
+abbrev pub meets_piece : ℕ → SlicePiece → Bool
+meets_piece column piece = nat_lt piece.rest (column * 4096 + 4096) && nat_lt (column * 4096) (piece.rest + piece.len)
 
 -- one more block was counted
-pub record IsCounted (old : Judged) (verdict : Verdict) (new : Judged) : Type 0 where
+pub record CountsVerdict (old : Judged) (verdict : Verdict) (new : Judged) : Type 0 where
   pub bad : new.bad ≡ old.bad + (if not verdict.good then 1 else 0)
   pub blocks : new.blocks ≡ old.blocks + (if verdict.checked then 1 else 0)
   pub rebuilt : new.rebuilt ≡ old.rebuilt + (if not verdict.good && verdict.given then 1 else 0)
   pub lost : new.lost ≡ old.lost + (if verdict.checked && not verdict.given then 1 else 0)
-  pub met : (column : ℕ) → column < 16 → slice_index_or new.met column false ≡ (slice_index_or old.met column false || meets_spot column verdict.spot)
+  pub met : (column : ℕ) → column < 16 → slice_index_or new.met column false ≡ (slice_index_or old.met column false || meets_piece column verdict.piece)
   pub broken : (column : ℕ) → column < 16 → slice_index_or new.broken column false
-      ≡ (slice_index_or old.broken column false || (not verdict.sure && meets_spot column verdict.spot))
+      ≡ (slice_index_or old.broken column false || (not verdict.sure && meets_piece column verdict.piece))
 
 -- what some blocks of a row come to: the new data, the counts, and the columns
 pub record AreJudged (images : Images) (layout : Layout) (row : Row) (ts : List Target) (new : List ℕ) (judged : Judged) : Type 0 where

@@ -1,6 +1,6 @@
 -- A row's bytes in memory, element by element: the slices, P, and Q; and a block of it.
 use Rattle.std.specs.List.{list_any, range_with_len}
-use Rattle.std.specs.Prelude.{◌≡◌, ℕ, ◌+◌, ◌*◌, ◌<◌, ◌≤◌, ◌==◌, ◌&&◌, ◌||◌, Bool, true, false, List, [], ◌∷◌, length, map, nat_lt, take, Option, Some}
+use Rattle.std.specs.Prelude.{◌≡◌, ◌≢◌, ℕ, ◌+◌, ◌*◌, ◌<◌, ◌≤◌, ◌==◌, ◌&&◌, ◌||◌, Bool, true, false, List, [], ◌∷◌, length, map, nat_lt, take, Option, Some}
 use Rattle.std.specs.Prelude.{None, IfSome, IsOkAnd, IsSome}
 use Rattle.std.specs.Prelude.{Result, Ok, slice_get, slice_index_or, slice_range, if◌then◌else◌}
 use Rattle.btr_chunk.specs.Chunk.{IsChunk, mirrors}
@@ -8,12 +8,13 @@ use Rattle.btr_chunk.specs.Mapping.{HasPart, IsPosition, place_at}
 use Rattle.btr_chunk.specs.declared.place.Part.{Part}
 use Rattle.btr_chunk.specs.declared.place.Part.TheVariants.{Slice, P, Q}
 use Rattle.btr_chunk.specs.declared.profile.Profile.{Profile}
-use Rattle.btr_chunk.specs.declared.profile.Profile.TheVariants.{Raid6}
+use Rattle.btr_chunk.specs.declared.profile.Profile.TheVariants.{Raid5, Raid6}
 use Rattle.btr_read.specs.Candidates as candidates
 use Rattle.btr_read.specs.Candidates.{Target, range_of, reads_slice, rebuilt, size_of, value_of}
 use Rattle.btr_read.specs.Fate.{sought}
 use Rattle.btr_read.specs.Gathering.{IsGathered}
 use Rattle.btr_read.specs.Layout.{Layout}
+use Rattle.btr_read.specs.Sought.{IsTwoParities}
 use Rattle.btr_read.specs.Want.{len_of}
 use Rattle.btr_read.specs.declared.candidate.Candidate.{Candidate}
 use Rattle.btr_read.specs.declared.candidate.Candidate.TheVariants.{Read, ByP, ByQ, ByBoth}
@@ -33,7 +34,7 @@ use Rattle.btr_read.specs.declared.parity.Parity.{Parity}
 use Rattle.btr_read.specs.declared.parity.Parity.TheVariants as parity
 use Rattle.btr_scrub_row.specs.declared.shape.Shape.{Shape}
 use Rattle.btr_scrub_row.specs.declared.row_view.RowView.{RowView}
-use Rattle.btr_scrub_row.specs.declared.spot.Spot.{Spot}
+use Rattle.btr_scrub_row.specs.declared.slice_piece.SlicePiece.{SlicePiece}
 use Rattle.btr_scrub_row.specs.declared.wanted_row.WantedRow.{WantedRow}
 
 -- the profile of a row, and how many slices it has
@@ -103,47 +104,47 @@ ReadsRow layout stripe bytes held = IfSome held (λ images. (row : Row) → IsSt
 
 -- ---- a block
 
--- the bytes of an element at a block's place
-abbrev pub piece_in : List ℕ → Spot → ℕ → List ℕ
-piece_in bytes spot e = slice_range bytes (e * 65536 + spot.rest) (e * 65536 + spot.rest + spot.len)
+-- the bytes of an element at the place of a piece
+abbrev pub piece_in : List ℕ → SlicePiece → ℕ → List ℕ
+piece_in bytes piece e = slice_range bytes (e * 65536 + piece.rest) (e * 65536 + piece.rest + piece.len)
 
--- a block's place in a row
-pub record IsSpot (t : Target) (spot : Spot) : Type 0 where
-  pub slices : spot.shape.slices ≡ candidates.slice_count t
-  pub profile : spot.shape.profile ≡ t.chunk.profile
-  pub index : spot.index ≡ t.at.index
-  pub rest : spot.rest ≡ t.at.rest
-  pub len : spot.len ≡ size_of t
+-- a block's piece of a slice
+pub record IsPiece (t : Target) (piece : SlicePiece) : Type 0 where
+  pub slices : piece.shape.slices ≡ candidates.slice_count t
+  pub profile : piece.shape.profile ≡ t.chunk.profile
+  pub index : piece.index ≡ t.at.index
+  pub rest : piece.rest ≡ t.at.rest
+  pub len : piece.len ≡ size_of t
 
--- a block's place in a row of a chunk that keeps the rule, and has parity
-pub record IsSited (spot : Spot) (t : Target) : Type 0 where
-  pub place : IsSpot t spot
+-- the same in a row of a chunk that keeps the rule, and has parity
+pub record IsSited (piece : SlicePiece) (t : Target) : Type 0 where
+  pub place : IsPiece t piece
   pub keeps_rule : IsChunk t.chunk
   pub position : IsPosition t.chunk t.at
   pub parity : mirrors t.chunk ≡ None
 
--- a place that lies in the elements in memory
-pub record FitsIn (bytes : List ℕ) (spot : Spot) : Type 0 where
-  pub few : spot.shape.slices ≤ 63
-  pub index : spot.index < spot.shape.slices
-  pub inside : spot.rest + spot.len ≤ 65536
-  pub p : (spot.shape.slices + 1) * 65536 ≤ length bytes
-  pub q : spot.shape.profile ≡ Raid6 → (spot.shape.slices + 2) * 65536 ≤ length bytes
+-- a piece that lies in the elements in memory
+pub record FitsIn (bytes : List ℕ) (piece : SlicePiece) : Type 0 where
+  pub few : piece.shape.slices ≤ 63
+  pub index : piece.index < piece.shape.slices
+  pub inside : piece.rest + piece.len ≤ 65536
+  pub p : (piece.shape.slices + 1) * 65536 ≤ length bytes
+  pub q : piece.shape.profile ≡ Raid6 → (piece.shape.slices + 2) * 65536 ≤ length bytes
 
 -- all that a block's candidates read is in memory
-pub record HoldsBlock (images : Images) (t : Target) (spot : Spot) (bytes : List ℕ) : Type 0 where
+pub record HoldsBlock (images : Images) (t : Target) (piece : SlicePiece) (bytes : List ℕ) : Type 0 where
   pub keeps_rule : IsChunk t.chunk
   pub position : IsPosition t.chunk t.at
   pub parity : mirrors t.chunk ≡ None
   pub stand : (part : Part) → HasPart t.chunk.profile (length t.chunk.stripes) part → IsSome (candidates.range_of t part)
-  pub slices : (i : ℕ) → i < candidates.slice_count t → piece_in bytes spot i ≡ candidates.element images t (Slice i)
-  pub p : piece_in bytes spot (candidates.slice_count t) ≡ candidates.element images t P
-  pub q : t.chunk.profile ≡ Raid6 → piece_in bytes spot (candidates.slice_count t + 1) ≡ candidates.element images t Q
+  pub slices : (i : ℕ) → i < candidates.slice_count t → piece_in bytes piece i ≡ candidates.element images t (Slice i)
+  pub p : piece_in bytes piece (candidates.slice_count t) ≡ candidates.element images t P
+  pub q : t.chunk.profile ≡ Raid6 → piece_in bytes piece (candidates.slice_count t + 1) ≡ candidates.element images t Q
 
--- a block with its place, whose candidates are in memory
-pub record IsHeld (images : Images) (t : Target) (spot : Spot) (bytes : List ℕ) : Type 0 where
-  pub place : IsSpot t spot
-  pub block : HoldsBlock images t spot bytes
+-- a block with its piece, whose candidates are in memory
+pub record IsInMemory (images : Images) (t : Target) (piece : SlicePiece) (bytes : List ℕ) : Type 0 where
+  pub place : IsPiece t piece
+  pub block : HoldsBlock images t piece bytes
 
 -- ---- what the parities leave of slices
 
@@ -165,16 +166,28 @@ ReadsQ ByQ = Unit {0}
 ReadsQ (ByBoth j) = Unit {0}
 
 -- the front of a buffer has what a parity leaves of the slices that a candidate doesn't read
-abbrev pub Gathers : Spot → List ℕ → Candidate → Parity → List ℕ → Type 0
-Gathers spot bytes c p sum = (images : Images) (t : Target) → IsHeld images t spot bytes → IsGathered images t c p (take spot.len sum)
+abbrev pub Gathers : SlicePiece → List ℕ → Candidate → Parity → List ℕ → Type 0
+Gathers piece bytes c p sum = (images : Images) (t : Target) → IsInMemory images t piece bytes → IsGathered images t c p (take piece.len sum)
 
 -- the front of a buffer has what a candidate gives
-abbrev pub Computes : Spot → List ℕ → Candidate → List ℕ → Type 0
-Computes spot bytes c block = (images : Images) (t : Target) → IsHeld images t spot bytes → value_of images t c ≡ take spot.len block
+abbrev pub Computes : SlicePiece → List ℕ → Candidate → List ℕ → Type 0
+Computes piece bytes c block = (images : Images) (t : Target) → IsInMemory images t piece bytes → value_of images t c ≡ take piece.len block
 
 -- a candidate for slice i is the way of a number, of so many slices
 abbrev pub IsCandidate : Profile → ℕ → ℕ → ℕ → Candidate → Type 0
 IsCandidate profile slices i k c = slice_get (rebuilt profile slices i) k ≡ Some c
+
+-- how many ways there are to get a block of a row
+pub record IsWayCount (piece : SlicePiece) (count : ℕ) : Type 0 where
+  pub six : piece.shape.profile ≡ Raid6 → count ≡ piece.shape.slices + 2
+  pub five : piece.shape.profile ≢ Raid6 → count ≡ 2
+
+-- a candidate for slice i is the way of number k, with Q and without it
+pub record IsWayOf (i k : ℕ) (c : Candidate) : Type 0 where
+  pub one : (slices : ℕ) → k < 2 → IsCandidate Raid5 slices i k c
+  pub two : (slices : ℕ) → i < slices → k < slices + 2 → IsCandidate Raid6 slices i k c
+  pub parts : (slices : ℕ) → i < slices → k < slices + 2 → IsTwoParities slices i c
+  pub first : k < 2 → ReadsQ c → ⊥
 
 -- what is accepted for the block is in the front of a buffer, and whether the block passes at its own place
 pub record IsAccepted (images : Images) (t : Target) (block : List ℕ) (own : Bool) : Type 0 where
@@ -192,9 +205,9 @@ Accepts images t block (Some own) = IsAccepted images t block own
 Accepts images t block None = IsGone images t
 
 -- the same for a wanted block
-abbrev pub AcceptsWant : RowView → Want → Spot → List ℕ → Option Bool → Type 0
-AcceptsWant view want spot block own =
-    (images : Images) (t : Target) → sought view.store.now.layout want ≡ Ok t → IsHeld images t spot view.old.now → Accepts images t block own
+abbrev pub AcceptsWant : RowView → Want → SlicePiece → List ℕ → Option Bool → Type 0
+AcceptsWant view want piece block own =
+    (images : Images) (t : Target) → sought view.store.now.layout want ≡ Ok t → IsInMemory images t piece view.old.now → Accepts images t block own
 
 -- ---- images in doubt
 
@@ -225,11 +238,11 @@ reads_flagged flags k i ByP = flag_of flags k || reads_flagged_slice flags k i B
 reads_flagged flags k i ByQ = flag_of flags (k + 1) || reads_flagged_slice flags k i ByQ
 reads_flagged flags k i (ByBoth j) = flag_of flags k || (flag_of flags (k + 1) || reads_flagged_slice flags k i (ByBoth j))
 
--- a block of a row, each of whose elements stands, with its place
-pub record LiesAt (layout : Layout) (row : Row) (t : Target) (spot : Spot) : Type 0 where
+-- a block of a row, each of whose elements stands, with its piece
+pub record LiesAt (layout : Layout) (row : Row) (t : Target) (piece : SlicePiece) : Type 0 where
   pub on : IsOn row t
   pub devices : t.devices ≡ layout.devices
-  pub sited : IsSited spot t
+  pub sited : IsSited piece t
   pub stand : (part : Part) → HasPart t.chunk.profile (length t.chunk.stripes) part → IsSome (range_of t part)
 
 -- a row is that of some wants, and what is known of its images is so
@@ -248,17 +261,17 @@ pub record IsViewed (view : RowView) : Type 0 where
   pub wanted : IsWanted view.store.now.layout view.wanted
   pub room : OfRow view.store.now.layout view.wanted.stripe (λ row. length row.chunk.stripes * 65536 ≤ length view.old.now)
 
--- a wanted block's place, in a row that was read
-pub record IsSpotOf (view : RowView) (want : Want) (spot : Spot) : Type 0 where
-  pub within : FitsIn view.old.now spot
-  pub placed : IsOkAnd (sought view.store.now.layout want) (IsSited spot)
-  pub len : spot.len ≡ len_of view.store.now.layout.setting want
+-- a wanted block's piece, in a row that was read
+pub record IsPieceOf (view : RowView) (want : Want) (piece : SlicePiece) : Type 0 where
+  pub within : FitsIn view.old.now piece
+  pub placed : IsOkAnd (sought view.store.now.layout want) (IsSited piece)
+  pub len : piece.len ≡ len_of view.store.now.layout.setting want
 
 -- this holds of the images, of a row of which the doubts are known, and of a wanted block in it all of whose candidates are in memory
-abbrev pub OfHeld : RowView → Want → Spot → (Images → Row → Target → Type 0) → Type 0
-OfHeld view want spot Fact =
-    (images : Images) (row : Row) (t : Target) → sought view.store.now.layout want ≡ Ok t → LiesAt view.store.now.layout row t spot
-    → KnowsDoubts view.store.now.layout row view.wanted.doubts → IsHeld images t spot view.old.now → Fact images row t
+abbrev pub OfHeld : RowView → Want → SlicePiece → (Images → Row → Target → Type 0) → Type 0
+OfHeld view want piece Fact =
+    (images : Images) (row : Row) (t : Target) → sought view.store.now.layout want ≡ Ok t → LiesAt view.store.now.layout row t piece
+    → KnowsDoubts view.store.now.layout row view.wanted.doubts → IsInMemory images t piece view.old.now → Fact images row t
 
 -- the fresh bytes of a plain sector are in the front of a buffer, if there are any
 abbrev pub HasFresh : Images → Row → Target → List ℕ → Bool → Type 0

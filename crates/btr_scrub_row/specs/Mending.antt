@@ -15,7 +15,7 @@ use Rattle.btr_read.specs.Layout.{Layout}
 use Rattle.btr_read.specs.declared.want.Want.{Want}
 use Rattle.btr_scrub_copies.specs.Syncing.{AreMarked, IsSyncOr, Strands, plain}
 use Rattle.btr_scrub_copies.specs.Turns.{WaitsAt, WaitsInTurn}
-use Rattle.btr_scrub_copies.specs.Writes.{Does, Images, writes_if}
+use Rattle.btr_scrub_copies.specs.Writes.{DoesWrites, Images, writes_if}
 use Rattle.btr_scrub_copies.specs.declared.mended.MendFault.{MendFault}
 use Rattle.btr_scrub_row.specs.Wanted.{is_checked, is_lost_block, mending_writes, wrong_parts}
 use Rattle.btr_scrub_row.specs.Rows.{Row, parities, parities_writes, parity_writes, range_in_element, rebuilt_writes, row_writes}
@@ -100,7 +100,7 @@ CountsRow held layout row write (Err fault) = Unit {0}
 -- marked, it is. Where the row was only to be read, it was.
 pub record MendsRow (layout : Layout) (row : Row) (write : Bool) (marks marks' : List Bool) (old new : Seen)
     (result : Result MendedRow MendFault) : Type 0 where
-  pub does : Does (IsSyncOr (IsOfRow layout row)) (λ images. writes_if write (row_writes images layout row)) [] [] (plain old) (plain new) result
+  pub does : DoesWrites (IsSyncOr (IsOfRow layout row)) (λ images. writes_if write (row_writes images layout row)) [] [] (plain old) (plain new) result
   pub waits : IfSome old.held (λ images. WaitsInTurn (writes_if write (rebuilt_writes images layout row))
       (writes_if write (parities_writes images layout row)) images old new)
   pub lie : WaitsAt (IsOfRow layout row) old new

@@ -4,7 +4,7 @@ use Rattle.btr_chunk.specs.declared.profile.Profile.TheVariants.{Raid6}
 use Rattle.btr_rack.specs.Rack.{Seen}
 use Rattle.btr_read.specs.Layout.{Layout}
 use Rattle.btr_scrub_copies.specs.Turns.{TakesTurns}
-use Rattle.btr_scrub_copies.specs.Writes.{Does, Images, Write}
+use Rattle.btr_scrub_copies.specs.Writes.{DoesWrites, Images, Write}
 use Rattle.btr_scrub_copies.specs.declared.mended.MendFault.{MendFault}
 use Rattle.btr_scrub_row.specs.Rows.{Row, parities, parities_writes, rebuilt_writes}
 use Rattle.btr_scrub_row.specs.Mending.{IsOfRow}
@@ -25,7 +25,7 @@ sums_of P buffer = buffer.p.items
 sums_of Q buffer = buffer.q.items
 
 -- all elements of a row and both parities of the new data are in memory
-pub record IsWhole (prepared : PreparedRow) : Type 0 where
+pub record IsAllPrepared (prepared : PreparedRow) : Type 0 where
   pub few : prepared.stripe.shape.slices ≤ 63
   pub some : 1 ≤ length (parities prepared.stripe.shape.profile)
   pub elements : (prepared.stripe.shape.slices + length (parities prepared.stripe.shape.profile)) * 65536 ≤ length prepared.buffer.now.elements.items
@@ -62,14 +62,14 @@ abbrev pub WritesPrepared : {A : Type 0} → Layout → FullStripe → Judged �
     → Result A MendFault → Type 0
 WritesPrepared layout stripe judged buffer writes marks marks' old new result =
     (told : Option Images) (row : Row) → IsStripeOf layout stripe row → TellsRow layout row judged buffer told old.held
-    → Does (IsOfRow layout row) (λ images. told_writes (λ images. writes images row) told) marks marks' old new result
+    → DoesWrites (IsOfRow layout row) (λ images. told_writes (λ images. writes images row) told) marks marks' old new result
 
 -- the same for the row of wanted blocks
 abbrev pub WritesWanted : {A : Type 0} → Layout → WantedRow → Judged → RowBuffer → (Images → Row → List Write) → List Bool → List Bool → Seen → Seen
     → Result A MendFault → Type 0
 WritesWanted layout wanted judged buffer writes marks marks' old new result =
     (told : Option Images) (row : Row) → IsWantedRow layout wanted row → TellsRow layout row judged buffer told old.held
-    → Does (IsOfRow layout row) (λ images. told_writes (λ images. writes images row) told) marks marks' old new result
+    → DoesWrites (IsOfRow layout row) (λ images. told_writes (λ images. writes images row) told) marks marks' old new result
 
 -- no block is to be written, or no parity
 abbrev pub HasOneTurn : Images → Layout → Row → Type 0

@@ -11,7 +11,7 @@ use Rattle.btr_read.specs.Candidates.{Target}
 use Rattle.btr_read.specs.Fate.{sought}
 use Rattle.btr_read.specs.Layout.{AreOpen, Layout}
 use Rattle.btr_read.specs.declared.want.Want.{Want}
-use Rattle.btr_scrub_copies.specs.Writes.{AreWritable, Does, Images, Write}
+use Rattle.btr_scrub_copies.specs.Writes.{AreWritable, DoesWrites, Images, Write}
 use Rattle.btr_scrub_row.specs.Wanted.{new_bytes, mending_writes}
 use Rattle.btr_scrub_copies.specs.declared.mended.MendFault.{MendFault}
 use Rattle.btr_scrub_row.specs.Mending.{IsOfRow}
@@ -49,8 +49,8 @@ pub record AreTold (Known : Images → Type 0) (told held : Option Images) : Typ
   pub untold : told ≡ None → held ≡ None
 
 -- where they were told, the row is in memory
-abbrev pub Tells : Layout → Row → List ℕ → Option Images → Option Images → Type 0
-Tells layout row bytes told held = AreTold (λ images. HoldsRow images layout row bytes) told held
+abbrev pub TellsHeldRow : Layout → Row → List ℕ → Option Images → Option Images → Type 0
+TellsHeldRow layout row bytes told held = AreTold (λ images. HoldsRow images layout row bytes) told held
 
 -- what is known of a parity: its element as it was read, that of the new data, and which columns are decided
 pub record KnowsParity (images : Images) (layout : Layout) (row : Row) (parity : Parity) (judged : Judged) (old sums : List ℕ) : Type 0 where
@@ -73,19 +73,19 @@ column_writes layout row part images column = if is_wrong images layout row part
 abbrev pub WritesBytes : {A : Type 0} → ℕ → ℕ → List ℕ → List Bool → List Bool → Seen → Seen → Result A MendFault → Type 0
 WritesBytes slot off bytes marks marks' old new result =
     (layout : Layout) (row : Row) → IsOfRow layout row (range_in slot off (length bytes))
-    → Does (IsOfRow layout row) (λ images. write_at slot off bytes ∷ []) marks marks' old new result
+    → DoesWrites (IsOfRow layout row) (λ images. write_at slot off bytes ∷ []) marks marks' old new result
 
 -- what mends a wanted block of a row, whose bytes as it was read are given
 abbrev pub WritesBlock : {A : Type 0} → RowView → Want → List Bool → List Bool → Seen → Seen → Result A MendFault → Type 0
 WritesBlock view want marks marks' old new result =
     (told : Option Images) (row : Row) (t : Target) → IsStripeOf view.store.now.layout view.wanted.stripe row
-    → KnowsDoubts view.store.now.layout row view.wanted.doubts → Tells view.store.now.layout row view.old.now told old.held
+    → KnowsDoubts view.store.now.layout row view.wanted.doubts → TellsHeldRow view.store.now.layout row view.old.now told old.held
     → sought view.store.now.layout want ≡ Ok t
-    → Does (IsOfRow view.store.now.layout row) (λ images. told_writes (λ images. mending_writes images row.failing t) told) marks marks' old new result
+    → DoesWrites (IsOfRow view.store.now.layout row) (λ images. told_writes (λ images. mending_writes images row.failing t) told) marks marks' old new result
 
 -- what mends all wanted blocks of a row, whose bytes as they were read are given
 abbrev pub WritesBlocks : {A : Type 0} → RowView → List Bool → List Bool → Seen → Seen → Result A MendFault → Type 0
 WritesBlocks view marks marks' old new result =
-    (told : Option Images) (row : Row) → IsWantedRow view.store.now.layout view.wanted row → Tells view.store.now.layout row view.old.now told old.held
-    → Does (IsOfRow view.store.now.layout row) (λ images. told_writes (λ images. flat_map (mending_writes images row.failing) row.blocks) told)
+    (told : Option Images) (row : Row) → IsWantedRow view.store.now.layout view.wanted row → TellsHeldRow view.store.now.layout row view.old.now told old.held
+    → DoesWrites (IsOfRow view.store.now.layout row) (λ images. told_writes (λ images. flat_map (mending_writes images row.failing) row.blocks) told)
     marks marks' old new result

@@ -1,23 +1,19 @@
 // What is accepted for a block: the bytes of its first candidate that passes.
-ghost use Rattle.std.specs.Prelude.{◌≡◌, ◌≢◌, ◌==◌, ◌||◌, ℕ, ◌+◌, ◌<◌, ◌≤◌, length, take};
+ghost use Rattle.std.specs.Prelude.{◌≡◌, ◌==◌, ◌||◌, ◌≤◌, length, take};
 ghost use Rattle.btr_chunk.specs.declared.profile.Profile.{Profile};
-ghost use Rattle.btr_chunk.specs.declared.profile.Profile.TheVariants as profile;
 ghost use Rattle.btr_read.specs.Sought.{IsTwoParities};
 ghost use Rattle.btr_read.specs.Want.{len_of, passes};
-ghost use Rattle.btr_scrub_row.specs.Memory.{AcceptsWant, Computes, FitsIn, IsCandidate, IsSpotOf, ReadsQ, piece_in};
+ghost use Rattle.btr_scrub_row.specs.Memory.{AcceptsWant, Computes, FitsIn, IsPieceOf, IsWayCount, IsWayOf, ReadsQ, piece_in};
 
 use crate::gathering::{copy_front, divide_front, gather, solve_front};
 use crate::row_view::RowView;
-use crate::spot::Spot;
+use crate::slice_piece::SlicePiece;
 use btr_chunk::{Part, Profile};
 use btr_read::{Candidate, Parity, Store, Want, passes, way_at};
 
 // The way of a number, for slice `index`.
 pub(crate) fn way_of(index: u32, k: u32) -> Candidate
-    ensures one { (slices : ℕ) → k < 2 → IsCandidate profile.Raid5 slices index k result }
-    ensures two { (slices : ℕ) → index < slices → k < slices + 2 → IsCandidate profile.Raid6 slices index k result }
-    ensures parts { (slices : ℕ) → index < slices → k < slices + 2 → IsTwoParities slices index result }
-    ensures first { k < 2 → ReadsQ result → ⊥ }
+    ensures { IsWayOf index k result }
 {
     match k {
         0 => Candidate::Read(Part::Slice(index)),
@@ -31,13 +27,12 @@ pub(crate) fn way_of(index: u32, k: u32) -> Candidate
 }
 
 // How many ways there are to get a block of the row.
-pub(crate) fn way_count(spot: &Spot) -> u32
-    requires { spot.now.shape.slices ≤ 63 }
-    ensures six { spot.now.shape.profile ≡ Profile.Raid6 → result ≡ spot.now.shape.slices + 2 }
-    ensures five { spot.now.shape.profile ≢ Profile.Raid6 → result ≡ 2 }
+pub(crate) fn way_count(piece: &SlicePiece) -> u32
+    requires { piece.now.shape.slices ≤ 63 }
+    ensures { IsWayCount piece.now result }
 {
-    match spot.shape.profile {
-        Profile::Raid6 => spot.shape.slices + 2,
+    match piece.shape.profile {
+        Profile::Raid6 => piece.shape.slices + 2,
         _ => 2,
     }
 }
@@ -45,29 +40,29 @@ pub(crate) fn way_count(spot: &Spot) -> u32
 // Computes what a candidate gives, in the front of a buffer.
 pub(crate) fn compute(
     bytes: &[u8],
-    spot: &Spot,
+    piece: &SlicePiece,
     candidate: Candidate,
     block: &mut [u8],
     spare: &mut [u8],
 )
-    requires within { FitsIn bytes.now spot.now }
-    requires fits { spot.now.len ≤ length block.old }
-    requires spare_fits { spot.now.len ≤ length spare.old }
-    requires parts { IsTwoParities spot.now.shape.slices spot.now.index candidate }
-    requires q { ReadsQ candidate → spot.now.shape.profile ≡ Profile.Raid6 }
-    ensures { Computes spot.now bytes.now candidate block.new }
+    requires within { FitsIn bytes.now piece.now }
+    requires fits { piece.now.len ≤ length block.old }
+    requires spare_fits { piece.now.len ≤ length spare.old }
+    requires parts { IsTwoParities piece.now.shape.slices piece.now.index candidate }
+    requires q { ReadsQ candidate → piece.now.shape.profile ≡ Profile.Raid6 }
+    ensures { Computes piece.now bytes.now candidate block.new }
 {
     match candidate {
-        Candidate::Read(_) => copy_front(block, bytes, spot.start(spot.index), spot.len),
-        Candidate::ByP => gather(bytes, spot, Candidate::ByP, Parity::P, block),
+        Candidate::Read(_) => copy_front(block, bytes, piece.start(piece.index), piece.len),
+        Candidate::ByP => gather(bytes, piece, Candidate::ByP, Parity::P, block),
         Candidate::ByQ => {
-            gather(bytes, spot, Candidate::ByQ, Parity::Q, block);
-            divide_front(block, spot.len, spot.index as u8);
+            gather(bytes, piece, Candidate::ByQ, Parity::Q, block);
+            divide_front(block, piece.len, piece.index as u8);
         }
         Candidate::ByBoth(other) => {
-            gather(bytes, spot, Candidate::ByBoth(other), Parity::P, block);
-            gather(bytes, spot, Candidate::ByBoth(other), Parity::Q, spare);
-            solve_front(block, spare, spot.len, spot.index as u8, other as u8);
+            gather(bytes, piece, Candidate::ByBoth(other), Parity::P, block);
+            gather(bytes, piece, Candidate::ByBoth(other), Parity::Q, spare);
+            solve_front(block, spare, piece.len, piece.index as u8, other as u8);
         }
     }
 }
@@ -82,37 +77,37 @@ fn front_passes(want: &Want, store: &Store, block: &[u8], len: usize) -> bool
 }
 
 // Whether the way that passes is the block's own place, or that passes too.
-fn own_passes(way: u32, want: &Want, spot: &Spot, store: &Store, bytes: &[u8]) -> bool
-    requires within { FitsIn bytes.now spot.now }
-    requires len { spot.now.len ≡ len_of store.now.layout.setting want.now }
-    ensures { result ≡ ((way == 0) || passes store.now.layout.setting want.now (piece_in bytes.now spot.now spot.now.index)) }
+fn own_passes(way: u32, want: &Want, piece: &SlicePiece, store: &Store, bytes: &[u8]) -> bool
+    requires within { FitsIn bytes.now piece.now }
+    requires len { piece.now.len ≡ len_of store.now.layout.setting want.now }
+    ensures { result ≡ ((way == 0) || passes store.now.layout.setting want.now (piece_in bytes.now piece.now piece.now.index)) }
 {
     if way == 0 {
         return true;
     }
-    let start = spot.start(spot.index);
-    passes(want, store, &bytes[start..start + spot.len])
+    let start = piece.start(piece.index);
+    passes(want, store, &bytes[start..start + piece.len])
 }
 
 // Puts the bytes of the first candidate that passes into the front of a buffer, and answers whether the block's own place
 // passes too, if there is one.
 pub(crate) fn accept(
     want: &Want,
-    spot: &Spot,
+    piece: &SlicePiece,
     view: &RowView<'_>,
     block: &mut [u8],
     spare: &mut [u8],
 ) -> Option<bool>
-    requires spot { IsSpotOf view.now want.now spot.now }
-    requires fits { spot.now.len ≤ length block.old }
-    requires spare_fits { spot.now.len ≤ length spare.old }
-    ensures { AcceptsWant view.now want.now spot.now block.new result }
+    requires piece { IsPieceOf view.now want.now piece.now }
+    requires fits { piece.now.len ≤ length block.old }
+    requires spare_fits { piece.now.len ≤ length spare.old }
+    ensures { AcceptsWant view.now want.now piece.now block.new result }
 {
-    for k in 0..way_count(spot) {
+    for k in 0..way_count(piece) {
         let way = way_at(want, k, view.store);
-        compute(view.old, spot, way_of(spot.index, way), block, spare);
-        if front_passes(want, view.store, block, spot.len) {
-            return Some(own_passes(way, want, spot, view.store, view.old));
+        compute(view.old, piece, way_of(piece.index, way), block, spare);
+        if front_passes(want, view.store, block, piece.len) {
+            return Some(own_passes(way, want, piece, view.store, view.old));
         }
     }
     None

@@ -4,7 +4,7 @@ ghost use Rattle.btr_scrub_row.specs.Memory.{IsViewed};
 ghost use Rattle.btr_scrub_row.specs.Judging.{IsIn};
 ghost use Rattle.btr_scrub_row.specs.Writing.{CanWrite, WritesBlock, WritesBlocks};
 
-use crate::judging::spot_of;
+use crate::judging::piece_of;
 use crate::row_view::RowView;
 use crate::settling::settle;
 use crate::stripe::place_of_part;
@@ -32,13 +32,13 @@ fn write_block<R: Rack>(
     ensures writes { WritesBlock view.now want.now marks.old marks.new (R.seen rack.old) (R.seen rack.new) result }
 {
     let stripe = &view.wanted.stripe;
-    let spot = spot_of(want, stripe, view.store);
-    let settled = settle(want, &spot, view, block, spare);
+    let piece = piece_of(want, stripe, view.store);
+    let settled = settle(want, &piece, view, block, spare);
     if settled.good || !settled.given {
         return Ok(());
     }
-    let element = place_of_part(stripe, Part::Slice(spot.index), view.store);
-    write_front(element, spot.rest as u64, block, spot.len, rack, marks)
+    let element = place_of_part(stripe, Part::Slice(piece.index), view.store);
+    write_front(element, piece.rest as u64, block, piece.len, rack, marks)
 }
 
 // Writes what the blocks of a row get over them, where something is wrong there.

@@ -1,29 +1,28 @@
 // Plain sectors, which are sectors of data without a checksum: their fresh bytes, and where they are stale beside these.
-ghost use Rattle.std.specs.Prelude.{◌≡◌, ◌≤◌, ◌+◌, ◌<◌, length, take, not, Ok, IfSome, IsOkAnd};
-ghost use Rattle.std.specs.Str.{bytes_eq};
+ghost use Rattle.std.specs.Prelude.{◌≡◌, ◌≤◌, ◌<◌, length, Ok, IfSome, IsOkAnd};
 ghost use Rattle.btr_chunk.specs.declared.profile.Profile.{Profile};
 ghost use Rattle.btr_read.specs.Candidates.{Target};
 ghost use Rattle.btr_read.specs.Fate.{sought};
 ghost use Rattle.btr_read.specs.Sought.{IsTwoParities};
 ghost use Rattle.btr_scrub_copies.specs.Fresh.{first_trusted};
-ghost use Rattle.btr_scrub_row.specs.Memory.{HasFresh, IsRenewed, IsSited, IsSpotOf, KnowsDoubts, LiesAt, OfHeld, ReadsQ, piece_at, reads_flagged};
+ghost use Rattle.btr_scrub_row.specs.Memory.{HasFresh, IsRenewed, IsSited, IsPieceOf, KnowsDoubts, LiesAt, OfHeld, ReadsQ, reads_flagged};
 ghost use Rattle.btr_scrub_row.specs.Memory.{reads_flagged_slice};
 ghost use Rattle.btr_scrub_row.specs.Rows.{Row};
 
 use crate::accepting::{compute, way_count, way_of};
 use crate::doubts::{Doubts, flag_of};
-use crate::gathering::reads;
+use crate::gathering::{reads, same_pieces};
 use crate::parity::element_of;
 use crate::row_view::RowView;
-use crate::spot::Spot;
+use crate::slice_piece::SlicePiece;
 use btr_read::{Candidate, Parity, Store, Want};
 
 // Whether a candidate reads a slice that is flagged.
-fn reads_flagged_slice(candidate: Candidate, spot: &Spot, flags: &[bool; 64]) -> bool
-    ensures { result ≡ reads_flagged_slice flags.now spot.now.shape.slices spot.now.index candidate }
+fn reads_flagged_slice(candidate: Candidate, piece: &SlicePiece, flags: &[bool; 64]) -> bool
+    ensures { result ≡ reads_flagged_slice flags.now piece.now.shape.slices piece.now.index candidate }
 {
-    for slice in 0..spot.shape.slices {
-        if reads(candidate, spot.index, slice) && flag_of(flags, slice) {
+    for slice in 0..piece.shape.slices {
+        if reads(candidate, piece.index, slice) && flag_of(flags, slice) {
             return true;
         }
     }
@@ -31,34 +30,39 @@ fn reads_flagged_slice(candidate: Candidate, spot: &Spot, flags: &[bool; 64]) ->
 }
 
 // Whether a candidate reads an element that is flagged.
-fn reads_flagged(candidate: Candidate, spot: &Spot, flags: &[bool; 64]) -> bool
-    requires { spot.now.shape.slices ≤ 63 }
-    ensures { result ≡ reads_flagged flags.now spot.now.shape.slices spot.now.index candidate }
+fn reads_flagged(candidate: Candidate, piece: &SlicePiece, flags: &[bool; 64]) -> bool
+    requires { piece.now.shape.slices ≤ 63 }
+    ensures { result ≡ reads_flagged flags.now piece.now.shape.slices piece.now.index candidate }
 {
-    let slices = spot.shape.slices;
+    let slices = piece.shape.slices;
     let p = flag_of(flags, element_of(Parity::P, slices));
     let q = flag_of(flags, element_of(Parity::Q, slices));
     match candidate {
-        Candidate::Read(_) => flag_of(flags, spot.index),
-        Candidate::ByP => p || reads_flagged_slice(candidate, spot, flags),
-        Candidate::ByQ => q || reads_flagged_slice(candidate, spot, flags),
-        Candidate::ByBoth(_) => p || q || reads_flagged_slice(candidate, spot, flags),
+        Candidate::Read(_) => flag_of(flags, piece.index),
+        Candidate::ByP => p || reads_flagged_slice(candidate, piece, flags),
+        Candidate::ByQ => q || reads_flagged_slice(candidate, piece, flags),
+        Candidate::ByBoth(_) => p || q || reads_flagged_slice(candidate, piece, flags),
     }
 }
 
 // The first candidate that reads no image in doubt, if there is one.
-fn first_trusted(want: &Want, spot: &Spot, doubts: &Doubts, store: &Store) -> Option<Candidate>
-    requires few { spot.now.shape.slices ≤ 63 }
-    requires index { spot.now.index < spot.now.shape.slices }
-    requires placed { IsOkAnd (sought store.now.layout want.now) (IsSited spot.now) }
-    ensures first { (row : Row) (t : Target) → sought store.now.layout want.now ≡ Ok t → LiesAt store.now.layout row t spot.now
+fn first_trusted(
+    want: &Want,
+    piece: &SlicePiece,
+    doubts: &Doubts,
+    store: &Store,
+) -> Option<Candidate>
+    requires few { piece.now.shape.slices ≤ 63 }
+    requires index { piece.now.index < piece.now.shape.slices }
+    requires placed { IsOkAnd (sought store.now.layout want.now) (IsSited piece.now) }
+    ensures first { (row : Row) (t : Target) → sought store.now.layout want.now ≡ Ok t → LiesAt store.now.layout row t piece.now
         → KnowsDoubts store.now.layout row doubts.now → first_trusted row.failing t ≡ result }
-    ensures parts { IfSome result (IsTwoParities spot.now.shape.slices spot.now.index) }
-    ensures q { IfSome result (λ candidate. ReadsQ candidate → spot.now.shape.profile ≡ Profile.Raid6) }
+    ensures parts { IfSome result (IsTwoParities piece.now.shape.slices piece.now.index) }
+    ensures q { IfSome result (λ candidate. ReadsQ candidate → piece.now.shape.profile ≡ Profile.Raid6) }
 {
-    for k in 0..way_count(spot) {
-        let way = way_of(spot.index, k);
-        if !reads_flagged(way, spot, &doubts.doubtful) {
+    for k in 0..way_count(piece) {
+        let way = way_of(piece.index, k);
+        if !reads_flagged(way, piece, &doubts.doubtful) {
             return Some(way);
         }
     }
@@ -68,52 +72,44 @@ fn first_trusted(want: &Want, spot: &Spot, doubts: &Doubts, store: &Store) -> Op
 // Puts the fresh bytes of a plain sector into the front of a buffer, and answers whether there are any.
 fn find_fresh(
     want: &Want,
-    spot: &Spot,
+    piece: &SlicePiece,
     view: &RowView<'_>,
     block: &mut [u8],
     spare: &mut [u8],
 ) -> bool
-    requires spot { IsSpotOf view.now want.now spot.now }
-    requires fits { spot.now.len ≤ length block.old }
-    requires spare_fits { spot.now.len ≤ length spare.old }
-    ensures { OfHeld view.now want.now spot.now (λ images row t. HasFresh images row t block.new result) }
+    requires piece { IsPieceOf view.now want.now piece.now }
+    requires fits { piece.now.len ≤ length block.old }
+    requires spare_fits { piece.now.len ≤ length spare.old }
+    ensures { OfHeld view.now want.now piece.now (λ images row t. HasFresh images row t block.new result) }
 {
-    match first_trusted(want, spot, &view.wanted.doubts, view.store) {
+    match first_trusted(want, piece, &view.wanted.doubts, view.store) {
         Some(candidate) => {
-            compute(view.old, spot, candidate, block, spare);
+            compute(view.old, piece, candidate, block, spare);
             true
         }
         None => false,
     }
 }
 
-// Whether some bytes are those in the front of a buffer.
-fn same_front(bytes: &[u8], start: usize, front: &[u8], len: usize) -> bool
-    requires within { start + len ≤ length bytes.now }
-    requires fits { len ≤ length front.now }
-    ensures { result ≡ bytes_eq (piece_at bytes.now start len) (take len front.now) }
-{
-    bytes[start..start + len] == front[..len]
-}
-
 // Whether a plain sector is stale at its place. Where it is, its fresh bytes are put into the front of a buffer.
 pub(crate) fn is_stale(
     want: &Want,
-    spot: &Spot,
+    piece: &SlicePiece,
     view: &RowView<'_>,
     block: &mut [u8],
     spare: &mut [u8],
 ) -> bool
-    requires spot { IsSpotOf view.now want.now spot.now }
-    requires fits { spot.now.len ≤ length block.old }
-    requires spare_fits { spot.now.len ≤ length spare.old }
-    ensures { OfHeld view.now want.now spot.now (λ images row t. IsRenewed images row t block.new result) }
+    requires piece { IsPieceOf view.now want.now piece.now }
+    requires fits { piece.now.len ≤ length block.old }
+    requires spare_fits { piece.now.len ≤ length spare.old }
+    ensures { OfHeld view.now want.now piece.now (λ images row t. IsRenewed images row t block.new result) }
 {
-    if !flag_of(&view.wanted.doubts.behind, spot.index) {
+    if !flag_of(&view.wanted.doubts.behind, piece.index) {
         return false;
     }
-    if !find_fresh(want, spot, view, block, spare) {
+    if !find_fresh(want, piece, view, block, spare) {
         return false;
     }
-    !same_front(view.old, spot.start(spot.index), block, spot.len)
+    let start = piece.start(piece.index);
+    !same_pieces(view.old, start, block, 0, piece.len)
 }

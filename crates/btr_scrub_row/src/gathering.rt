@@ -1,5 +1,6 @@
-// What the parities leave of slices, in memory.
+// What the parities leave of slices in memory, and bytes there that are compared.
 ghost use Rattle.std.specs.Prelude.{◌≡◌, ◌≢◌, ◌+◌, ◌≤◌, length, take};
+ghost use Rattle.std.specs.Str.{bytes_eq};
 ghost use Rattle.btr_read.specs.Gathering.{weighed};
 ghost use Rattle.btr_parity.specs.Slices.{plus};
 ghost use Rattle.btr_parity.specs.Solutions.{IsTheOne, Weighs, WeighsWith};
@@ -7,9 +8,10 @@ ghost use Rattle.btr_read.specs.Candidates.{reads_slice};
 ghost use Rattle.btr_scrub_row.specs.Memory.{FitsIn, Gathers, HasParity, piece_at};
 
 use crate::parity::element_of;
-use crate::spot::Spot;
+use crate::slice_piece::SlicePiece;
 use btr_parity::{fold_p, fold_q, rebuild_pq, rebuild_q};
 use btr_read::{Candidate, Parity};
+use btr_scrub_copies::same_bytes;
 
 // Copies some bytes into the front of a buffer.
 pub(crate) fn copy_front(front: &mut [u8], bytes: &[u8], start: usize, len: usize)
@@ -77,21 +79,46 @@ pub(crate) fn reads(candidate: Candidate, index: u32, slice: u32) -> bool
 // What a parity leaves of the slices that a candidate doesn't read, in the front of a buffer.
 pub(crate) fn gather(
     bytes: &[u8],
-    spot: &Spot,
+    piece: &SlicePiece,
     candidate: Candidate,
     parity: Parity,
     sum: &mut [u8],
 )
-    requires within { FitsIn bytes.now spot.now }
-    requires fits { spot.now.len ≤ length sum.old }
-    requires has { HasParity spot.now.shape.profile parity }
-    ensures { Gathers spot.now bytes.now candidate parity sum.new }
+    requires within { FitsIn bytes.now piece.now }
+    requires fits { piece.now.len ≤ length sum.old }
+    requires has { HasParity piece.now.shape.profile parity }
+    ensures { Gathers piece.now bytes.now candidate parity sum.new }
 {
-    let element = element_of(parity, spot.shape.slices);
-    copy_front(sum, bytes, spot.start(element), spot.len);
-    for slice in 0..spot.shape.slices {
-        if reads(candidate, spot.index, slice) {
-            add_front(parity, sum, bytes, spot.start(slice), spot.len, slice as u8);
+    let element = element_of(parity, piece.shape.slices);
+    copy_front(sum, bytes, piece.start(element), piece.len);
+    for slice in 0..piece.shape.slices {
+        if reads(candidate, piece.index, slice) {
+            add_front(
+                parity,
+                sum,
+                bytes,
+                piece.start(slice),
+                piece.len,
+                slice as u8,
+            );
         }
     }
+}
+
+// Whether some bytes are the same in two places.
+pub(crate) fn same_pieces(
+    one: &[u8],
+    start: usize,
+    other: &[u8],
+    other_start: usize,
+    len: usize,
+) -> bool
+    requires within { start + len ≤ length one.now }
+    requires other_within { other_start + len ≤ length other.now }
+    ensures { result ≡ bytes_eq (piece_at one.now start len) (piece_at other.now other_start len) }
+{
+    same_bytes(
+        &one[start..start + len],
+        &other[other_start..other_start + len],
+    )
 }

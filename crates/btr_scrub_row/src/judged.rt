@@ -1,13 +1,13 @@
 // The counts of the blocks of a row, and its columns.
 ghost use Rattle.std.specs.Prelude.{◌≡◌, ℕ, ◌+◌, ◌*◌, ◌<◌, ◌≤◌, ◌^◌, ◌||◌, length};
 ghost use Rattle.btr_scrub_row.specs.Memory.{IsViewed, OfRow};
-ghost use Rattle.btr_scrub_row.specs.Judging.{IsCounted, JudgesRow, flag, meets_spot};
+ghost use Rattle.btr_scrub_row.specs.Judging.{CountsVerdict, JudgesRow, flag, meets_piece};
 
 use crate::buffer::ELEMENT;
 use crate::gathering::copy_front;
 use crate::judging::{Verdict, judge_block};
 use crate::row_view::RowView;
-use crate::spot::Spot;
+use crate::slice_piece::SlicePiece;
 
 // What the blocks of a row come to: checked blocks, and plain sectors.
 #[derive(Clone, Copy, Debug, PartialEq, Eq)]
@@ -27,12 +27,12 @@ pub(crate) struct Judged {
 }
 
 // Whether a block has bytes in a column.
-fn meets(column: usize, spot: &Spot) -> bool
+fn meets(column: usize, piece: &SlicePiece) -> bool
     requires column { column < 16 }
-    requires inside { spot.now.rest + spot.now.len ≤ 65536 }
-    ensures { result ≡ meets_spot column spot.now }
+    requires inside { piece.now.rest + piece.now.len ≤ 65536 }
+    ensures { result ≡ meets_piece column piece.now }
 {
-    spot.rest < column * 4096 + 4096 && column * 4096 < spot.rest + spot.len
+    piece.rest < column * 4096 + 4096 && column * 4096 < piece.rest + piece.len
 }
 
 fn either(one: bool, other: bool) -> bool
@@ -42,25 +42,25 @@ fn either(one: bool, other: bool) -> bool
 }
 
 // Flags by column, and those of the columns that a block meets.
-fn marked(flags: [bool; 16], spot: &Spot) -> [bool; 16]
-    requires inside { spot.now.rest + spot.now.len ≤ 65536 }
-    ensures { (column : ℕ) → column < 16 → flag result column ≡ (flag flags column || meets_spot column spot.now) }
+fn marked(flags: [bool; 16], piece: &SlicePiece) -> [bool; 16]
+    requires inside { piece.now.rest + piece.now.len ≤ 65536 }
+    ensures { (column : ℕ) → column < 16 → flag result column ≡ (flag flags column || meets_piece column piece.now) }
 {
     let mut flags = flags;
     for column in 0..16 {
-        flags[column] = either(flags[column], meets(column, spot));
+        flags[column] = either(flags[column], meets(column, piece));
     }
     flags
 }
 
 // One more block.
 fn counted(judged: &Judged, verdict: &Verdict) -> Judged
-    requires inside { verdict.now.spot.rest + verdict.now.spot.len ≤ 65536 }
+    requires inside { verdict.now.piece.rest + verdict.now.piece.len ≤ 65536 }
     requires blocks { judged.now.blocks + 1 < 2 ^ 64 }
     requires bad { judged.now.bad + 1 < 2 ^ 64 }
     requires rebuilt { judged.now.rebuilt + 1 < 2 ^ 64 }
     requires lost { judged.now.lost + 1 < 2 ^ 64 }
-    ensures { IsCounted judged.now verdict.now result }
+    ensures { CountsVerdict judged.now verdict.now result }
 {
     let is_rebuilt = !verdict.good && verdict.given;
     let is_lost = verdict.checked && !verdict.given;
@@ -69,11 +69,11 @@ fn counted(judged: &Judged, verdict: &Verdict) -> Judged
         bad: judged.bad + u64::from(!verdict.good),
         rebuilt: judged.rebuilt + u64::from(is_rebuilt),
         lost: judged.lost + u64::from(is_lost),
-        met: marked(judged.met, &verdict.spot),
+        met: marked(judged.met, &verdict.piece),
         broken: if verdict.sure {
             judged.broken
         } else {
-            marked(judged.broken, &verdict.spot)
+            marked(judged.broken, &verdict.piece)
         },
     }
 }

@@ -10,7 +10,7 @@ ghost use Rattle.btr_scrub_row.specs.Memory.{IsViewed, OfRow, flag_of};
 use crate::doubts::{Doubts, flag_of};
 use crate::row_view::RowView;
 use crate::settling::{Settled, is_plain, settle};
-use crate::spot::Spot;
+use crate::slice_piece::SlicePiece;
 use crate::stripe::FullStripe;
 use btr_chunk::elements;
 use btr_read::{Store, Want};
@@ -18,7 +18,7 @@ use btr_read::{Store, Want};
 // What comes of a block, and where it lies.
 #[derive(Clone, Copy, Debug, PartialEq, Eq)]
 pub(crate) struct Verdict {
-    pub(crate) spot: Spot,
+    pub(crate) piece: SlicePiece,
     // Whether it is a checked block, and no plain sector.
     pub(crate) checked: bool,
     // Whether nothing is wrong at its own place.
@@ -40,8 +40,8 @@ fn len_of(want: &Want, nodesize: u32, store: &Store) -> usize
     }
 }
 
-// The place of a block in its row.
-pub(crate) fn spot_of(want: &Want, stripe: &FullStripe, store: &Store) -> Spot
+// The piece of a slice that a block is.
+pub(crate) fn piece_of(want: &Want, stripe: &FullStripe, store: &Store) -> SlicePiece
     requires within { IsIn store.now.layout stripe.now want.now }
     ensures { (t : Target) → sought store.now.layout want.now ≡ Ok t → IsPlaced stripe.now.shape t result }
 {
@@ -52,7 +52,7 @@ pub(crate) fn spot_of(want: &Want, stripe: &FullStripe, store: &Store) -> Spot
     let Ok(at) = elements(chunk, want.addr(), len as u64) else {
         unreachable!();
     };
-    Spot {
+    SlicePiece {
         shape: stripe.shape,
         index: at.index,
         rest: at.rest as usize,
@@ -72,18 +72,18 @@ fn paste(given: bool, bytes: &mut [u8], start: usize, front: &[u8], len: usize)
 }
 
 // Whether the image of a block's slice isn't in doubt, where some other one of the chunk is.
-fn is_surer(spot: &Spot, doubts: &Doubts) -> bool
-    ensures { result ≡ (doubts.now.some && not (flag_of doubts.now.doubtful spot.now.index)) }
+fn is_surer(piece: &SlicePiece, doubts: &Doubts) -> bool
+    ensures { result ≡ (doubts.now.some && not (flag_of doubts.now.doubtful piece.now.index)) }
 {
-    doubts.some && !flag_of(&doubts.doubtful, spot.index)
+    doubts.some && !flag_of(&doubts.doubtful, piece.index)
 }
 
 // What comes of a block by what it gets.
-fn verdict_of(checked: bool, settled: Settled, surer: bool, spot: Spot) -> Verdict
-    ensures { IsVerdict checked settled surer spot result }
+fn verdict_of(checked: bool, settled: Settled, surer: bool, piece: SlicePiece) -> Verdict
+    ensures { IsVerdict checked settled surer piece result }
 {
     Verdict {
-        spot,
+        piece,
         checked,
         good: settled.good,
         given: settled.given,
@@ -105,11 +105,17 @@ pub(crate) fn judge_block(
     requires block { 65536 ≤ length block.old }
     requires spare { 65536 ≤ length spare.old }
     ensures verdict { JudgesBlock view.now want.now new.old new.new result }
-    ensures inside { result.spot.rest + result.spot.len ≤ 65536 }
+    ensures inside { result.piece.rest + result.piece.len ≤ 65536 }
 {
-    let spot = spot_of(want, &view.wanted.stripe, view.store);
-    let settled = settle(want, &spot, view, block, spare);
-    paste(settled.given, new, spot.start(spot.index), block, spot.len);
-    let surer = is_surer(&spot, &view.wanted.doubts);
-    verdict_of(!is_plain(want), settled, surer, spot)
+    let piece = piece_of(want, &view.wanted.stripe, view.store);
+    let settled = settle(want, &piece, view, block, spare);
+    paste(
+        settled.given,
+        new,
+        piece.start(piece.index),
+        block,
+        piece.len,
+    );
+    let surer = is_surer(&piece, &view.wanted.doubts);
+    verdict_of(!is_plain(want), settled, surer, piece)
 }

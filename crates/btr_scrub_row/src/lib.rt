@@ -28,7 +28,7 @@ mod row_view;
 mod sectors;
 mod settling;
 mod shape;
-mod spot;
+mod slice_piece;
 mod stripe;
 mod wanted_row;
 mod work;

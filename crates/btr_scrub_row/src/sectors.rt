@@ -1,41 +1,29 @@
 // The sectors of a parity that differ from those of the new data.
 ghost use Rattle.std.specs.Prelude.{◌≡◌, ◌+◌, ◌<◌, ◌≤◌, length, if◌then◌else◌};
-ghost use Rattle.std.specs.Str.{bytes_eq};
 ghost use Rattle.btr_read.specs.Gathering.{part_of};
 ghost use Rattle.btr_read.specs.Layout.{Layout};
 ghost use Rattle.btr_scrub_row.specs.Rows.{parity_writes};
-ghost use Rattle.btr_scrub_row.specs.Memory.{HasParity, IsStripe, piece_at};
-ghost use Rattle.btr_scrub_row.specs.Preparing.{IsWhole, WherePrepared, WritesPrepared};
+ghost use Rattle.btr_scrub_row.specs.Memory.{HasParity, IsStripe};
+ghost use Rattle.btr_scrub_row.specs.Preparing.{IsAllPrepared, WherePrepared, WritesPrepared};
 ghost use Rattle.btr_scrub_row.specs.Writing.{CanWrite, column_writes, is_wrong};
 
 use crate::buffer::ELEMENT;
+use crate::gathering::same_pieces;
 use crate::parity::element_of;
 use crate::prepared_row::{PreparedRow, sums_of};
 use crate::stripe::place_of_part;
 use crate::writing::write_range;
 use btr_rack::Rack;
 use btr_read::{Parity, Store};
-use btr_scrub_copies::{MendFault, same_bytes};
+use btr_scrub_copies::MendFault;
 
 // How many bytes a sector has.
 const SECTOR: usize = 4096;
 
-// Whether some bytes are the same in two places.
-fn same_pieces(one: &[u8], start: usize, other: &[u8], other_start: usize, len: usize) -> bool
-    requires within { start + len ≤ length one.now }
-    requires other_within { other_start + len ≤ length other.now }
-    ensures { result ≡ bytes_eq (piece_at one.now start len) (piece_at other.now other_start len) }
-{
-    same_bytes(
-        &one[start..start + len],
-        &other[other_start..other_start + len],
-    )
-}
-
 // Whether a column is decided, and the parity in it differs from that of the new data.
 fn is_wrong(column: usize, parity: Parity, prepared: &PreparedRow<'_>) -> bool
     requires column { column < 16 }
-    requires whole { IsWhole prepared.now }
+    requires whole { IsAllPrepared prepared.now }
     requires has { HasParity prepared.now.stripe.shape.profile parity }
     ensures { (layout : Layout) → WherePrepared layout prepared.now.stripe prepared.now.judged.now prepared.now.buffer.now
         (λ images row. result ≡ is_wrong images layout row (part_of parity) column) }
@@ -65,7 +53,7 @@ fn counted(count: u64, more: bool) -> u64
 
 // How many of the columns are so.
 pub(crate) fn count_wrong(parity: Parity, prepared: &PreparedRow<'_>) -> u64
-    requires whole { IsWhole prepared.now }
+    requires whole { IsAllPrepared prepared.now }
     requires has { HasParity prepared.now.stripe.shape.profile parity }
     ensures few { result ≤ 16 }
     ensures count { (layout : Layout) → WherePrepared layout prepared.now.stripe prepared.now.judged.now prepared.now.buffer.now
@@ -90,7 +78,7 @@ fn write_sector<R: Rack>(
 ) -> Result<(), MendFault>
     requires can { CanWrite store.now.layout (R.seen rack.old) marks.old }
     requires column { column < 16 }
-    requires whole { IsWhole prepared.now }
+    requires whole { IsAllPrepared prepared.now }
     requires has { HasParity prepared.now.stripe.shape.profile parity }
     requires stripe { IsStripe store.now.layout prepared.now.stripe }
     ensures slots { (R.seen rack.new).slots ≡ (R.seen rack.old).slots }
@@ -116,7 +104,7 @@ pub(crate) fn write_parity<R: Rack>(
     marks: &mut [bool],
 ) -> Result<(), MendFault>
     requires can { CanWrite store.now.layout (R.seen rack.old) marks.old }
-    requires whole { IsWhole prepared.now }
+    requires whole { IsAllPrepared prepared.now }
     requires has { HasParity prepared.now.stripe.shape.profile parity }
     requires stripe { IsStripe store.now.layout prepared.now.stripe }
     ensures slots { (R.seen rack.new).slots ≡ (R.seen rack.old).slots }

@@ -1,24 +1,23 @@
-use Rattle.std.proofs.Common.{◌≡◌, false, Option, Ok, refl, sym, ap, ◌∙◌, subst, rules, arith}
+use Rattle.std.proofs.Common.{◌≡◌, false, Option, Ok, refl, sym, ap, ◌∙◌, subst, rules}
 use Rattle.btr_read.specs.Fate.{sought}
 use Rattle.btr_read.specs.Layout.{Layout}
 use Rattle.btr_read.specs.Serves.{Serves}
 use Rattle.btr_read.specs.Store.{Lent, SameLoans}
+use Rattle.btr_rack.proofs.Reading.{reads_none}
+use Rattle.btr_read.proofs.Keeping.{none_failed}
 use Rattle.btr_read.proofs.ReadsOn.{same_held}
 use Rattle.btr_read.proofs.Serving.{serves_given}
-use Rattle.btr_scrub_copies.specs.Fresh.{flagged, fresh_writes, freshened}
+use Rattle.btr_scrub_copies.specs.Fresh.{flagged}
 use Rattle.btr_scrub_copies.specs.Freshening.{FindsFresh, LendsAny}
 use Rattle.btr_scrub_copies.proofs.Freshness.{none_fresh, none_stale}
-use Rattle.btr_scrub_copies.proofs.Outcomes.{freshens_none, given_behind, repairs_behind, repairs_failed, repairs_passed}
+use Rattle.btr_scrub_copies.proofs.Outcomes.{freshens_none, given_behind, repairs_behind, repairs_failed}
 use Rattle.btr_scrub_copies.proofs.freshening.mend_plain.Goals as goal
 
 pub returns-then-not-lies_behind-clause-mends : goal.returns-then-not-lies_behind-clause-mends
 returns-then-not-lies_behind-clause-mends g c t e =
-    let failing = flagged c.args.failing.now in
     let not_behind : c.lies_behind.result ≡ false = search rules in
-    freshens_none failing t c.args.write c.args.marks.now (g.R.Rack.seen c.args.rack.now) (g.R.Rack.seen c.args.rack.now)
-    (record { same = refl; later = omega arith; same_shut = refl })
-    (record { faults = refl; fresh = refl; missed = refl; last = refl; opening = refl; shut = refl })
-    (λ images told. none_stale images failing t (sym (c.lies_behind.ensures t e) ∙ not_behind))
+    freshens_none (flagged c.args.failing.now) (reads_none (g.R.Rack.seen c.args.rack.now)) (none_failed (g.R.Rack.seen c.args.rack.now).account)
+    (λ images told. none_stale images (flagged c.args.failing.now) t (sym (c.lies_behind.ensures t e) ∙ not_behind))
 
 pub mend_stale-mended-requires-clause-fresh : goal.mend_stale-mended-requires-clause-fresh
 mend_stale-mended-requires-clause-fresh g c t images e told =
@@ -30,17 +29,13 @@ mend_stale-mended-requires-clause-fresh g c t images e told =
 
 pub returns-in_err-lend_fresh-clause-mends : goal.returns-in_err-lend_fresh-clause-mends
 returns-in_err-lend_fresh-clause-mends g c t e =
-    let failing = flagged c.args.failing.now in
-    repairs_passed c.from_residual.ensures.1 (repairs_failed t c.args.write (λ images. fresh_writes images failing t)
-    (λ images. freshened images failing t c.args.write) c.args.marks.now
-    (g.R.Rack.seen c.args.rack.now) (g.R.Rack.seen c.lend_fresh.new.rack) c.in_err-lend_fresh.ensures.reads (Option Lent) c.in_err-lend_fresh.field-0.0
-    (c.in_err-lend_fresh.ensures.account t e))
+    repairs_failed (Option Lent) c.in_err-lend_fresh.field-0.0 c.from_residual.ensures.1 c.in_err-lend_fresh.ensures.reads
+    (c.in_err-lend_fresh.ensures.account t e)
 
 pub returns-in-None-clause-mends : goal.returns-in-None-clause-mends
 returns-in-None-clause-mends g c t e =
     let failing = flagged c.args.failing.now in
-    freshens_none failing t c.args.write c.args.marks.now (g.R.Rack.seen c.args.rack.now) (g.R.Rack.seen c.lend_fresh.new.rack)
-    c.in_ok-lend_fresh.ensures.reads (c.in_ok-lend_fresh.ensures.account t e)
+    freshens_none failing c.in_ok-lend_fresh.ensures.reads (c.in_ok-lend_fresh.ensures.account t e)
     (λ images told. none_fresh images failing t (sym (subst (λ v. FindsFresh images failing t c.lend_fresh.new.store (Ok v)) c.in-None.is
     (c.in_ok-lend_fresh.ensures.found t images e told))))
 
@@ -59,9 +54,6 @@ returns-in-Some-clause-loans g c =
 pub returns-in-Some-clause-mends : goal.returns-in-Some-clause-mends
 returns-in-Some-clause-mends g c t e =
     let old = c.args.store.now in
-    let failing = flagged c.args.failing.now in
     let lent = subst (λ v. LendsAny c.args.want.now old c.lend_fresh.new.store (Ok v)) c.in-Some.is c.in_ok-lend_fresh.ensures.lent in
-    repairs_behind t c.args.write (λ images. fresh_writes images failing t) (λ images. freshened images failing t c.args.write) c.args.marks.now
-    c.mend_stale-mended.new.marks (g.R.Rack.seen c.args.rack.now) (g.R.Rack.seen c.lend_fresh.new.rack) (g.R.Rack.seen c.mend_stale-mended.new.rack)
-    c.mend_stale-mended.result c.in_ok-lend_fresh.ensures.reads (c.in_ok-lend_fresh.ensures.account t e)
-    (c.mend_stale-mended.ensures.mends t (ap (λ (l : Layout). sought l c.args.want.now) lent.layout ∙ e))
+    repairs_behind c.in_ok-lend_fresh.ensures.reads (c.in_ok-lend_fresh.ensures.account t e)
+    (c.mend_stale-mended.ensures.mends t (ap (λ (l : Layout). sought l c.args.want.now) lent.layout ∙ e)) (λ images told. refl) (λ images told. refl)

@@ -6,36 +6,30 @@ use Rattle.btr_scrub_row.proofs.accepting.compute.Goals as goal
 
 pub returns-in-ByP : goal.returns-in-ByP
 returns-in-ByP c = λ images t h.
-    let left = c.gather.ensures images t h in
-    ap (value_of images t) c.in-ByP.is
-    ∙ by_p images t (take c.args.spot.now.len c.gather.new.sum) h.block.position.index (record { slices = left.slices; whole = left.whole; sum = left.sum })
+    ap (value_of images t) c.in-ByP.is ∙ by_p images t (take c.args.piece.now.len c.gather.new.sum) h.block.position.index (c.gather.ensures images t h)
 
 pub returns-in-ByQ : goal.returns-in-ByQ
 returns-in-ByQ c = λ images t h.
-    let left = c.gather-in-ByQ.ensures images t h in
-    let sum = take c.args.spot.now.len c.gather-in-ByQ.new.sum in
-    let X = take c.args.spot.now.len c.divide_front.new.front in
-    let sized : IsTheOne (size_of t) (Weighs c.args.spot.now.index sum) X =
-    subst (λ n. IsTheOne n (Weighs c.args.spot.now.index sum) X) h.place.len c.divide_front.ensures in
+    let sum = take c.args.piece.now.len c.gather-in-ByQ.new.sum in
+    let X = take c.args.piece.now.len c.divide_front.new.front in
+    let sized : IsTheOne (size_of t) (Weighs c.args.piece.now.index sum) X =
+    subst (λ n. IsTheOne n (Weighs c.args.piece.now.index sum) X) h.place.len c.divide_front.ensures in
     let one : IsTheOne (size_of t) (Weighs t.at.index sum) X = subst (λ i. IsTheOne (size_of t) (Weighs i sum) X) h.place.index sized in
-    ap (value_of images t) c.in-ByQ.is
-    ∙ by_q images t sum X h.block.position.index (record { slices = left.slices; whole = left.whole; sum = left.sum }) one
+    ap (value_of images t) c.in-ByQ.is ∙ by_q images t sum X h.block.position.index (c.gather-in-ByQ.ensures images t h) one
 
 pub returns-in-ByBoth : goal.returns-in-ByBoth
 returns-in-ByBoth c = λ images t h.
     let j = c.in-ByBoth.other in
-    let p = c.gather-in-ByBoth.ensures images t h in
-    let q = c.gather-in-ByBoth-2.ensures images t h in
-    let sum = take c.args.spot.now.len c.gather-in-ByBoth.new.sum in
-    let weighted = take c.args.spot.now.len c.gather-in-ByBoth-2.new.sum in
-    let X = take c.args.spot.now.len c.solve_front.new.p in
-    let sized : IsTheOne (size_of t) (WeighsWith sum weighted c.args.spot.now.index j) X =
-    subst (λ n. IsTheOne n (WeighsWith sum weighted c.args.spot.now.index j) X) h.place.len c.solve_front.ensures in
+    let sum = take c.args.piece.now.len c.gather-in-ByBoth.new.sum in
+    let weighted = take c.args.piece.now.len c.gather-in-ByBoth-2.new.sum in
+    let X = take c.args.piece.now.len c.solve_front.new.p in
+    let sized : IsTheOne (size_of t) (WeighsWith sum weighted c.args.piece.now.index j) X =
+    subst (λ n. IsTheOne n (WeighsWith sum weighted c.args.piece.now.index j) X) h.place.len c.solve_front.ensures in
     let one : IsTheOne (size_of t) (WeighsWith sum weighted t.at.index j) X =
     subst (λ i. IsTheOne (size_of t) (WeighsWith sum weighted i j) X) h.place.index sized in
     let parts = rw c.in-ByBoth.is at c.requires.parts in
     let below : j < slice_count t = omega (arith, parts.0, h.place.slices) in
     let differ : t.at.index ≢ j = λ e. parts.1 (sym e ∙ sym h.place.index) in
     ap (value_of images t) c.in-ByBoth.is
-    ∙ by_both images t j sum weighted X h.block.position.index below differ
-    (record { slices = p.slices; whole = p.whole; sum = p.sum }) (record { slices = q.slices; whole = q.whole; sum = q.sum }) one
+    ∙ by_both images t j sum weighted X h.block.position.index below differ (c.gather-in-ByBoth.ensures images t h)
+    (c.gather-in-ByBoth-2.ensures images t h) one

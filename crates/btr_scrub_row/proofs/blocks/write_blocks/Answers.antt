@@ -1,12 +1,11 @@
 use Rattle.std.proofs.Common.{Ok, refl, sym, ◌∙◌, subst, arith}
 use Rattle.std.specs.List.{flat_map}
 use Rattle.std.proofs.lemmas.List.{take_all}
-use Rattle.btr_scrub_copies.proofs.Doing.{does_passed}
 use Rattle.btr_scrub_row.specs.Wanted.{mending_writes}
-use Rattle.btr_scrub_copies.specs.Writes.{Does}
+use Rattle.btr_scrub_copies.specs.Writes.{DoesWrites}
 use Rattle.btr_scrub_row.specs.Mending.{IsOfRow}
 use Rattle.btr_scrub_row.specs.Writing.{told_writes}
-use Rattle.btr_scrub_row.proofs.BlockWrites.{does_nothing}
+use Rattle.btr_scrub_copies.proofs.Doing.{does_nothing, does_passed}
 use Rattle.btr_scrub_row.proofs.Judges.{in_row, same_count, want_at}
 use Rattle.btr_scrub_row.proofs.Wrote.{can_still, flat_cut, flat_next, flat_told-none, tells_still}
 use Rattle.btr_scrub_row.proofs.blocks.write_blocks.Goals as goal
@@ -17,7 +16,7 @@ loop-want-init g c = record {
   done = λ told row of tells.
       let a = g.R.Rack.seen c.args.rack.now in
       let Lies = IsOfRow c.args.view.now.store.now.layout row in
-      subst (λ ws. Does {A = Unit {0}} Lies (λ i. ws) c.args.marks.now c.args.marks.now a a (Ok tt))
+      subst (λ ws. DoesWrites {A = Unit {0}} Lies (λ i. ws) c.args.marks.now c.args.marks.now a a (Ok tt))
       (sym (flat_told-none (λ images. mending_writes images row.failing) told)) (does_nothing Lies c.args.marks.now a);
 }
 
@@ -34,35 +33,26 @@ pub loop-want-preserved : goal.loop-want-preserved
 loop-want-preserved g c = record {
   slots = c.write_block.ensures.slots ∙ c.loop-want.invariant.slots;
   done = λ told row of tells.
-      let layout = c.args.view.now.store.now.layout in
       let i = c.loop-want.want-index in
-      let w = want_at layout c.args.view.now.wanted.wants.now row.blocks i _ of.is.blocks c.loop-want-test.true in
-      let a = g.R.Rack.seen c.args.rack.now in
-      let b = g.R.Rack.seen c.loop-want.rack in
-      let d = g.R.Rack.seen c.write_block.new.rack in
+      let w = want_at c.args.view.now.store.now.layout c.args.view.now.wanted.wants.now row.blocks i _ of.is.blocks c.loop-want-test.true in
       let h = c.loop-want.invariant.done told row of tells in
-      flat_next (λ images. mending_writes images row.failing) told (IsOfRow layout row) (Unit {0}) (Unit {0}) row.blocks i w.target w.below (w.at w.target)
-      c.args.marks.now c.loop-want.marks c.write_block.new.marks a b d tt tt h
+      flat_next (λ images. mending_writes images row.failing) told row.blocks i w.target w.below (w.at w.target) h
       (c.in_ok-write_block.ensures.writes told row w.target of.of of.knows (tells_still h tells) w.is_sought);
 }
 
 pub returns-in_err-write_block-clause-writes : goal.returns-in_err-write_block-clause-writes
 returns-in_err-write_block-clause-writes g c told row of tells =
-    let layout = c.args.view.now.store.now.layout in
     let i = c.loop-want.want-index in
-    let w = want_at layout c.args.view.now.wanted.wants.now row.blocks i _ of.is.blocks c.loop-want-test.true in
-    let a = g.R.Rack.seen c.args.rack.now in
-    let b = g.R.Rack.seen c.loop-want.rack in
-    let d = g.R.Rack.seen c.write_block.new.rack in
+    let w = want_at c.args.view.now.store.now.layout c.args.view.now.wanted.wants.now row.blocks i _ of.is.blocks c.loop-want-test.true in
     let h = c.loop-want.invariant.done told row of tells in
-    does_passed c.from_residual.ensures.1 (flat_cut (λ images. mending_writes images row.failing) told (IsOfRow layout row) (Unit {0}) (Unit {0}) row.blocks i
-    w.target w.below (w.at w.target) c.args.marks.now c.loop-want.marks c.write_block.new.marks a b d tt c.in_err-write_block.field-0.0 h
+    does_passed c.from_residual.ensures.1 (flat_cut (λ images. mending_writes images row.failing) told row.blocks i w.target w.below (w.at w.target) h
     (c.in_err-write_block.ensures.writes told row w.target of.of of.knows (tells_still h tells) w.is_sought))
 
 pub returns-clause-writes : goal.returns-clause-writes
 returns-clause-writes g c told row of tells =
     let layout = c.args.view.now.store.now.layout in
     let long = same_count layout c.args.view.now.wanted.wants.now row.blocks of.is.blocks in
-    subst (λ ts. Does {A = Unit {0}} (IsOfRow layout row) (λ i. told_writes (λ images. flat_map (mending_writes images row.failing) ts) told) c.args.marks.now
+    subst (λ ts. DoesWrites {A = Unit {0}} (IsOfRow layout row) (λ i. told_writes (λ images. flat_map (mending_writes images row.failing) ts) told)
+    c.args.marks.now
     c.loop-want.marks (g.R.Rack.seen c.args.rack.now) (g.R.Rack.seen c.loop-want.rack) (Ok tt))
     (take_all c.loop-want.want-index row.blocks (omega (arith, long, c.loop-want-test.false))) (c.loop-want.invariant.done told row of tells)

@@ -3,17 +3,17 @@ use Rattle.std.specs.List.{flat_map}
 use Rattle.btr_scrub_row.specs.Wanted.{mending_writes}
 use Rattle.btr_scrub_row.specs.Rows.{Row}
 use Rattle.btr_scrub_row.specs.Mending.{IsOfRow}
-use Rattle.btr_scrub_copies.specs.Writes.{Does, Images}
+use Rattle.btr_scrub_copies.specs.Writes.{DoesWrites, Images}
 use Rattle.btr_scrub_row.specs.Memory.{IsWantedRow}
-use Rattle.btr_scrub_row.specs.Writing.{Tells, told_writes}
+use Rattle.btr_scrub_row.specs.Writing.{TellsHeldRow, told_writes}
 use Rattle.btr_scrub_row.proofs.blocks.write_blocks.Given as goal
 
 abbrev pub invariant-loop-want : goal.invariant-loop-want
 invariant-loop-want g l = record {
   slots : (g.R.Rack.seen l.rack).slots ≡ (g.R.Rack.seen l.fn.rack).slots;
   done : (told : Option Images) (row : Row) → IsWantedRow l.view.store.now.layout l.view.wanted row
-      → Tells l.view.store.now.layout row l.view.old.now told (g.R.Rack.seen l.fn.rack).held
-      → Does {A = Unit {0}} (IsOfRow l.view.store.now.layout row) (λ images. told_writes
+      → TellsHeldRow l.view.store.now.layout row l.view.old.now told (g.R.Rack.seen l.fn.rack).held
+      → DoesWrites {A = Unit {0}} (IsOfRow l.view.store.now.layout row) (λ images. told_writes
       (λ images. flat_map (mending_writes images row.failing) (take l.want-index row.blocks)) told) l.fn.marks l.marks (g.R.Rack.seen l.fn.rack)
       (g.R.Rack.seen l.rack) (Ok tt);
 }

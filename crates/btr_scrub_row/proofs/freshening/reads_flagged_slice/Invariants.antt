@@ -4,4 +4,4 @@ use Rattle.btr_scrub_row.specs.Memory.{flag_of}
 use Rattle.btr_scrub_row.proofs.freshening.reads_flagged_slice.Given as goal
 
 abbrev pub invariant-loop-slice : goal.invariant-loop-slice
-invariant-loop-slice l = (s : ℕ) → s < l.slice → (reads_slice l.spot.index l.candidate s && flag_of l.flags s) ≡ false
+invariant-loop-slice l = (s : ℕ) → s < l.slice → (reads_slice l.piece.index l.candidate s && flag_of l.flags s) ≡ false

@@ -1,17 +1,14 @@
-use Rattle.std.proofs.Common.{◌*◌, ◌<◌, ◌≤◌, ◌&&◌, Bool, true, not, cond, [], ◌∷◌, ◌++◌, length, take, replicate, false, refl}
+use Rattle.std.proofs.Common.{◌*◌, ◌<◌, ◌≤◌, ◌&&◌, not, [], ◌∷◌, ◌++◌, length, take, replicate, false, refl}
 use Rattle.std.proofs.Common.{sym, ap, ◌∙◌, subst, arith}
 use Rattle.std.proofs.lemmas.List.{take_all, take_more}
 use Rattle.btr_chunk.specs.Chunk.{data_count}
+use Rattle.btr_scrub_copies.proofs.Flags.{cond_few}
 use Rattle.btr_scrub_row.specs.Rows.{slice_count}
 use Rattle.btr_scrub_row.specs.Mending.{IsOn}
 use Rattle.btr_scrub_row.specs.Judging.{AreJudged}
 use Rattle.btr_scrub_row.proofs.Judges.{in_row, judged_more, judged_none, none_of_sixteen, same_count, want_at}
 use Rattle.btr_scrub_row.proofs.Shapes.{row_counted}
 use Rattle.btr_scrub_row.proofs.judged.judge.Goals as goal
-
-cond_few : (b : Bool) → cond b 1 0 ≤ 1
-cond_few true = omega arith
-cond_few false = omega arith
 
 pub loop-want-init : goal.loop-want-init
 loop-want-init c = record {

@@ -1,20 +1,17 @@
-use Rattle.std.proofs.Common.{◌≡◌, length, Some, Ok, Err, refl, sym, ap, ◌∙◌, subst, arith}
-use Rattle.btr_read.specs.Layout.{Layout}
+use Rattle.std.proofs.Common.{◌≡◌, length, Ok, Err, refl, sym, ◌∙◌, subst, arith}
 use Rattle.btr_read.specs.Store.{Blocks}
 use Rattle.btr_read.proofs.ReadsOn.{same_held, same_slots}
 use Rattle.btr_read.proofs.Serving.{serves_as, serving}
-use Rattle.btr_scrub_copies.specs.Writes.{AccountsMend, Images}
+use Rattle.btr_scrub_copies.specs.Writes.{AccountsMend}
 use Rattle.btr_scrub_copies.proofs.Doing.{account_halt, passed}
 use Rattle.btr_scrub_copies.proofs.Outcomes.{serves_forgot}
-use Rattle.std.specs.List.{sum_by}
 use Rattle.std.proofs.lemmas.Bool.{false≢true}
-use Rattle.btr_scrub_row.specs.Rows.{Row, parities, parity_writes}
 use Rattle.btr_scrub_row.specs.Memory.{IsStripeOf, IsWanted}
-use Rattle.btr_scrub_row.specs.Mending.{IsOfRow}
+use Rattle.btr_scrub_row.specs.Mending.{IsOfRow, parity_count}
 use Rattle.btr_scrub_row.specs.declared.judged.Judged.{Judged}
 use Rattle.btr_scrub_row.specs.declared.mended.MendedRow.{MendedRow}
-use Rattle.btr_scrub_row.specs.Preparing.{IsPrepared, WritesInTurn}
-use Rattle.btr_scrub_row.proofs.Outcomes.{mends_cut, mends_failed, mends_passed, mends_read, mends_wrote, room_all, tells_prepared}
+use Rattle.btr_scrub_row.specs.Preparing.{StaysPrepared, WherePrepared, WritesInTurn}
+use Rattle.btr_scrub_row.proofs.Outcomes.{is_read, mends_cut, mends_failed, mends_read, mends_wrote, room_all, tells_prepared}
 use Rattle.btr_scrub_row.specs.Writing.{CanWrite}
 use Rattle.btr_scrub_row.proofs.Wrote.{can_still}
 use Rattle.btr_scrub_row.proofs.mending.mend_row.Goals as goal
@@ -32,51 +29,45 @@ returns-then-not-work-clause-serves g c = serves_as (g.R.Rack.seen c.args.rack.n
 
 pub returns-in_err-judged-clause-mends : goal.returns-in_err-judged-clause-mends
 returns-in_err-judged-clause-mends g c row is fails =
-    mends_passed c.from_residual.ensures.1 (mends_failed c.args.store.now.layout row c.args.work.write c.args.marks.now (g.R.Rack.seen c.args.rack.now)
-    (g.R.Rack.seen c.prepare.new.rack) c.prepare.ensures.reads c.in_err-judged.field-0.0
-    (c.in_err-judged.ensures.account row (c.wanted_row-wanted.ensures.stripe row is)))
+    mends_failed c.in_err-judged.field-0.0 c.from_residual.ensures.1 c.prepare.ensures.reads
+    (c.in_err-judged.ensures.account row (c.wanted_row-wanted.ensures.stripe row is))
 
 pub count_parities-requires-clause-room : goal.count_parities-requires-clause-room
-count_parities-requires-clause-room g c = λ row of.
+count_parities-requires-clause-room g c row of =
     let r = c.requires.row in
     c.prepare.ensures.room (length row.chunk.stripes) (room_all (c.wanted_row-wanted.ensures.stripe r.row r.is) of (c.requires.room r.row r.is))
 
 pub returns-then-not-work-clause-mends : goal.returns-then-not-work-clause-mends
 returns-then-not-work-clause-mends g c row is fails =
-    let of = c.wanted_row-wanted.ensures.stripe row is in
-    let a = g.R.Rack.seen c.args.rack.now in
-    let prepared = λ (images : Images) (e : a.held ≡ Some images). c.in_ok-judged.ensures.prepared images row e (c.wanted_row-wanted.ensures.is row is fails) in
-    mends_read c.args.store.now.layout row c.args.work.write c.args.marks.now a (g.R.Rack.seen c.prepare.new.rack) c.prepare.ensures.reads
-    (c.in_ok-judged.ensures.account row of) c.in_ok-judged.judged c.prepare.new.buffer prepared c.count_parities.result
-    (λ images e. c.count_parities.ensures images row of (prepared images e)) c.if-not-work.true
+    let wanted = c.wanted_row-wanted.ensures.is row is fails in
+    let read = is_read c.prepare.ensures.reads (c.in_ok-judged.ensures.account row (c.wanted_row-wanted.ensures.stripe row is))
+    (λ images e. c.in_ok-judged.ensures.prepared images row e wanted) in
+    mends_read read c.if-not-work.true c.count_parities.result
+    (λ images e. c.count_parities.ensures images row (c.wanted_row-wanted.ensures.stripe row is) (read.prepared images e))
 
 pub write_row-requires-clause-can : goal.write_row-requires-clause-can
 write_row-requires-clause-can g c =
     let was = serving (g.R.Rack.seen c.args.rack.now) c.args.store.now c.requires.serves in
-    let same : c.args.store.now.layout ≡ c.forget_kept.new.self.layout = sym (ap (λ (s : Blocks). s.layout) c.forget_kept.ensures) in
-    subst (λ (l : Layout). CanWrite l (g.R.Rack.seen c.prepare.new.rack) c.args.marks.now) same (can_still {a = g.R.Rack.seen c.args.rack.now}
-    (same_slots c.prepare.ensures.reads) refl
+    subst (λ (s : Blocks). CanWrite s.layout (g.R.Rack.seen c.prepare.new.rack) c.args.marks.now) (sym c.forget_kept.ensures)
+    (can_still {a = g.R.Rack.seen c.args.rack.now} (same_slots c.prepare.ensures.reads) refl
     (record { are_open = was.are_open; writable = c.requires.writable c.if-not-work.false; slots = omega (arith, c.requires.slots) }))
 
 pub write_row-requires-clause-wanted : goal.write_row-requires-clause-wanted
 write_row-requires-clause-wanted g c =
-    let same : c.args.store.now.layout ≡ c.forget_kept.new.self.layout = sym (ap (λ (s : Blocks). s.layout) c.forget_kept.ensures) in
-    subst (λ l. IsWanted l c.wanted_row-wanted.result) same c.wanted_row-wanted.ensures.there
+    subst (λ (s : Blocks). IsWanted s.layout c.wanted_row-wanted.result) (sym c.forget_kept.ensures) c.wanted_row-wanted.ensures.there
 
 pub write_row-requires-clause-room : goal.write_row-requires-clause-room
-write_row-requires-clause-room g c = λ row of.
-    let same : c.forget_kept.new.self.layout ≡ c.args.store.now.layout = ap (λ (s : Blocks). s.layout) c.forget_kept.ensures in
+write_row-requires-clause-room g c row of =
     let r = c.requires.row in
     c.prepare.ensures.room (length row.chunk.stripes) (room_all (c.wanted_row-wanted.ensures.stripe r.row r.is)
-    (subst (λ l. IsStripeOf l c.wanted_row-wanted.result.stripe row) same of) (c.requires.room r.row r.is))
+    (subst (λ (s : Blocks). IsStripeOf s.layout c.wanted_row-wanted.result.stripe row) c.forget_kept.ensures of) (c.requires.room r.row r.is))
 
 pub count_parities-requires-2-clause-room : goal.count_parities-requires-2-clause-room
-count_parities-requires-2-clause-room g c = λ row of.
-    let same : c.forget_kept.new.self.layout ≡ c.args.store.now.layout = ap (λ (s : Blocks). s.layout) c.forget_kept.ensures in
+count_parities-requires-2-clause-room g c row of =
     let r = c.requires.row in
     c.write_row.ensures.room (length row.chunk.stripes)
     (c.prepare.ensures.room (length row.chunk.stripes) (room_all (c.wanted_row-wanted.ensures.stripe r.row r.is)
-    (subst (λ l. IsStripeOf l c.wanted_row-wanted.result.stripe row) same of) (c.requires.room r.row r.is)))
+    (subst (λ (s : Blocks). IsStripeOf s.layout c.wanted_row-wanted.result.stripe row) c.forget_kept.ensures of) (c.requires.room r.row r.is)))
 
 pub returns-clause-serves : goal.returns-clause-serves
 returns-clause-serves g c =
@@ -96,53 +87,30 @@ returns-in_err-write_row-clause-room g c = λ n room. c.write_row.ensures.room n
 
 pub returns-clause-mends : goal.returns-clause-mends
 returns-clause-mends g c row is fails =
-    let layout = c.args.store.now.layout in
-    let stripe = c.wanted_row-wanted.result.stripe in
-    let same : c.forget_kept.new.self.layout ≡ layout = ap (λ (s : Blocks). s.layout) c.forget_kept.ensures in
-    let of = c.wanted_row-wanted.ensures.stripe row is in
     let wanted = c.wanted_row-wanted.ensures.is row is fails in
-    let a = g.R.Rack.seen c.args.rack.now in
-    let b = g.R.Rack.seen c.prepare.new.rack in
-    let d = g.R.Rack.seen c.write_row.new.rack in
-    let judged = c.in_ok-judged.judged in
-    let buffer = c.prepare.new.buffer in
-    let m = c.args.marks.now in
-    let m' = c.write_row.new.marks in
-    let prepared = λ (images : Images) (e : a.held ≡ Some images). c.in_ok-judged.ensures.prepared images row e wanted in
-    let turns = subst (λ (l : Layout). WritesInTurn {A = Unit {0}} l c.wanted_row-wanted.result judged buffer m m' b d (Ok tt)) same
-    c.in_ok-write_row.ensures.writes in
-    let later = subst (λ (l : Layout). (images : Images) (row : Row) → IsPrepared images l row judged buffer
-    → IsPrepared images l row judged c.write_row.new.buffer) same c.in_ok-write_row.ensures.prepared in
-    let of' : IsStripeOf c.forget_kept.new.self.layout stripe row = subst (λ l. IsStripeOf l stripe row) (sym same) of in
-    mends_wrote layout row c.args.work.write m a b c.prepare.ensures.reads c.if-not-work.false m' d (c.in_ok-judged.ensures.account row of) judged buffer
-    prepared c.count_parities-2.result
-    (λ images e. subst (λ (l : Layout). c.count_parities-2.result
-    ≡ sum_by (λ part. length (parity_writes images l row part)) (parities row.chunk.profile)) same
-    (c.count_parities-2.ensures images row of'
-    (subst (λ (l : Layout). IsPrepared images l row judged c.write_row.new.buffer) (sym same) (later images row (prepared images e)))))
-    (turns a.held row wanted (tells_prepared layout row judged buffer a b c.prepare.ensures.reads prepared))
+    let later = c.write_row.new.buffer in
+    let read = is_read c.prepare.ensures.reads (c.in_ok-judged.ensures.account row (c.wanted_row-wanted.ensures.stripe row is))
+    (λ images e. c.in_ok-judged.ensures.prepared images row e wanted) in
+    let stays = subst (λ (s : Blocks). StaysPrepared s.layout c.in_ok-judged.judged c.prepare.new.buffer later) c.forget_kept.ensures
+    c.in_ok-write_row.ensures.prepared in
+    let count = subst (λ (s : Blocks). WherePrepared s.layout c.wanted_row-wanted.result.stripe c.in_ok-judged.judged later
+    (λ images row. c.count_parities-2.result ≡ parity_count images s.layout row)) c.forget_kept.ensures c.count_parities-2.ensures in
+    mends_wrote read c.if-not-work.false c.count_parities-2.result
+    (λ images e. count images row (c.wanted_row-wanted.ensures.stripe row is) (stays images row (read.prepared images e)))
+    (subst (λ (s : Blocks). WritesInTurn {A = Unit {0}} s.layout c.wanted_row-wanted.result c.in_ok-judged.judged c.prepare.new.buffer c.args.marks.now
+    c.write_row.new.marks (g.R.Rack.seen c.prepare.new.rack) (g.R.Rack.seen c.write_row.new.rack) (Ok tt))
+    c.forget_kept.ensures c.in_ok-write_row.ensures.writes (g.R.Rack.seen c.args.rack.now).held row wanted (tells_prepared read))
 
 pub returns-in_err-write_row-clause-mends : goal.returns-in_err-write_row-clause-mends
 returns-in_err-write_row-clause-mends g c row is fails =
-    let layout = c.args.store.now.layout in
-    let stripe = c.wanted_row-wanted.result.stripe in
-    let same : c.forget_kept.new.self.layout ≡ layout = ap (λ (s : Blocks). s.layout) c.forget_kept.ensures in
-    let of = c.wanted_row-wanted.ensures.stripe row is in
     let wanted = c.wanted_row-wanted.ensures.is row is fails in
-    let a = g.R.Rack.seen c.args.rack.now in
-    let b = g.R.Rack.seen c.prepare.new.rack in
-    let d = g.R.Rack.seen c.write_row.new.rack in
-    let judged = c.in_ok-judged.judged in
-    let buffer = c.prepare.new.buffer in
-    let m = c.args.marks.now in
-    let m' = c.write_row.new.marks in
-    let prepared = λ (images : Images) (e : a.held ≡ Some images). c.in_ok-judged.ensures.prepared images row e wanted in
     let fault = c.in_err-write_row.field-0.0 in
-    let turns = subst (λ (l : Layout). WritesInTurn {A = Unit {0}} l c.wanted_row-wanted.result judged buffer m m' b d (Err fault))
-    same c.in_err-write_row.ensures.writes in
-    mends_passed c.from_residual-in_err-write_row.ensures.1 (mends_cut layout row c.args.work.write m a b c.prepare.ensures.reads c.if-not-work.false m' d
-    (c.in_ok-judged.ensures.account row of) fault (turns a.held row wanted
-    (tells_prepared layout row judged buffer a b c.prepare.ensures.reads prepared)))
+    let read = is_read c.prepare.ensures.reads (c.in_ok-judged.ensures.account row (c.wanted_row-wanted.ensures.stripe row is))
+    (λ images e. c.in_ok-judged.ensures.prepared images row e wanted) in
+    mends_cut read c.if-not-work.false fault c.from_residual-in_err-write_row.ensures.1
+    (subst (λ (s : Blocks). WritesInTurn {A = Unit {0}} s.layout c.wanted_row-wanted.result c.in_ok-judged.judged c.prepare.new.buffer c.args.marks.now
+    c.write_row.new.marks (g.R.Rack.seen c.prepare.new.rack) (g.R.Rack.seen c.write_row.new.rack) (Err fault))
+    c.forget_kept.ensures c.in_err-write_row.ensures.writes (g.R.Rack.seen c.args.rack.now).held row wanted (tells_prepared read))
 
 pub returns-in_err-judged-clause-account : goal.returns-in_err-judged-clause-account
 returns-in_err-judged-clause-account g c unwritten row is =

@@ -2,7 +2,7 @@ use Rattle.std.proofs.Common.{◌≡◌, ◌≢◌, ℕ, ◌+◌, ◌*◌, ◌-�
 use borrow.Rule.Slice.PartMut.{put_mid}
 use Rattle.btr_rack.specs.Rack.{pasted}
 use Rattle.btr_scrub_row.specs.Memory.{element_in}
-use Rattle.btr_scrub_row.proofs.Elements.{IsGood, is_at, lies, open_at}
+use Rattle.btr_scrub_row.proofs.Elements.{is_at, its_element, lies, open_at}
 use Rattle.btr_scrub_row.proofs.Pasted.{element_other, put_is, range_pasted}
 use Rattle.btr_scrub_row.proofs.reading.read_element.Goals as goal
 
@@ -27,14 +27,10 @@ is_read n xs w room long =
 
 pub read_at-requires-clause-open : goal.read_at-requires-clause-open
 read_at-requires-clause-open g c =
-    let layout = c.args.store.now.layout in
-    let stripe = c.args.stripe.now in
     let s = c.requires.stripe in
-    let good : IsGood layout stripe.chunk stripe.number s.row = record { is = s.of.is; keeps_rule = s.of.keeps_rule } in
-    let has = c.requires.part s.row s.of in
-    let l = lies layout stripe.chunk stripe.number s.row good c.args.part has in
-    let at = is_at layout stripe.chunk stripe.number s.row good c.args.part has l c.place_of_part-place.result (c.place_of_part-place.ensures s.row s.of) in
-    let there = open_at layout stripe.chunk stripe.number s.row good c.args.part has l (g.R.Rack.seen c.args.rack.now).slots c.requires.open in
+    let el = its_element s.of c.args.part (c.requires.part s.row s.of) in
+    let at = is_at el (lies el) c.place_of_part-place.result (c.place_of_part-place.ensures s.row s.of) in
+    let there = open_at el (lies el) (g.R.Rack.seen c.args.rack.now).slots c.requires.open in
     omega (arith, at.slot, there.0)
 
 pub returns-in-Ok-clause-others : goal.returns-in-Ok-clause-others

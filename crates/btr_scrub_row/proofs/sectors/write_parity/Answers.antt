@@ -1,16 +1,14 @@
 use Rattle.std.proofs.Common.{Ok, Err, refl, sym, ap, ◌∙◌, subst, arith}
-use Rattle.std.specs.List.{flat_map, range_with_len}
+use Rattle.std.specs.List.{range_with_len}
 use Rattle.std.proofs.lemmas.List.{take_all}
 use Rattle.std.proofs.lemmas.List.FromFn.{length-range_with_len}
 use Rattle.btr_read.specs.Gathering.{part_of}
-use Rattle.btr_scrub_copies.specs.Writes.{Does}
-use Rattle.btr_scrub_copies.proofs.Doing.{does_passed}
-use Rattle.btr_scrub_row.specs.Rows.{parity_writes}
+use Rattle.btr_scrub_copies.specs.Writes.{DoesWrites}
 use Rattle.btr_scrub_row.specs.Mending.{IsOfRow}
-use Rattle.btr_scrub_row.specs.Writing.{column_writes, told_writes}
-use Rattle.btr_scrub_row.proofs.BlockWrites.{does_nothing}
-use Rattle.btr_scrub_row.proofs.Columns.{column_at, columns_are}
-use Rattle.btr_scrub_row.proofs.Wrote.{can_still, flat_cut, flat_next, flat_told-none, tells_still, told-same}
+use Rattle.btr_scrub_row.specs.Writing.{column_writes}
+use Rattle.btr_scrub_copies.proofs.Doing.{does_nothing, does_passed}
+use Rattle.btr_scrub_row.proofs.Columns.{column_at, columns_told}
+use Rattle.btr_scrub_row.proofs.Wrote.{can_still, flat_cut, flat_next, flat_told, flat_told-none, tells_still}
 use Rattle.btr_scrub_row.proofs.sectors.write_parity.Goals as goal
 
 pub loop-column-init : goal.loop-column-init
@@ -19,7 +17,7 @@ loop-column-init g c = record {
   done = λ told row of tells.
       let a = g.R.Rack.seen c.args.rack.now in
       let layout = c.args.store.now.layout in
-      subst (λ ws. Does {A = Unit {0}} (IsOfRow layout row) (λ i. ws) c.args.marks.now c.args.marks.now a a (Ok tt))
+      subst (λ ws. DoesWrites {A = Unit {0}} (IsOfRow layout row) (λ i. ws) c.args.marks.now c.args.marks.now a a (Ok tt))
       (sym (flat_told-none (column_writes layout row (part_of c.args.parity)) told)) (does_nothing (IsOfRow layout row) c.args.marks.now a);
 }
 
@@ -30,16 +28,11 @@ pub loop-column-preserved : goal.loop-column-preserved
 loop-column-preserved g c = record {
   slots = c.write_sector.ensures.slots ∙ c.loop-column.invariant.slots;
   done = λ told row of tells.
-      let layout = c.args.store.now.layout in
       let i = c.loop-column.column in
-      let F = column_writes layout row (part_of c.args.parity) in
-      let a = g.R.Rack.seen c.args.rack.now in
-      let b = g.R.Rack.seen c.loop-column.rack in
-      let d = g.R.Rack.seen c.write_sector.new.rack in
       let h = c.loop-column.invariant.done told row of tells in
-      flat_next F told (IsOfRow layout row) (Unit {0}) (Unit {0}) (range_with_len 0 16) i i
-      (omega (arith, c.loop-column-test.true, length-range_with_len 0 16)) (column_at i i c.loop-column-test.true) c.args.marks.now c.loop-column.marks
-      c.write_sector.new.marks a b d tt tt h (c.in_ok-write_sector.ensures.writes told row of (tells_still h tells));
+      flat_next (column_writes c.args.store.now.layout row (part_of c.args.parity)) told (range_with_len 0 16) i i
+      (omega (arith, c.loop-column-test.true, length-range_with_len 0 16)) (column_at i i c.loop-column-test.true) h
+      (c.in_ok-write_sector.ensures.writes told row of (tells_still h tells));
 }
 
 pub returns-in_err-write_sector-clause-writes : goal.returns-in_err-write_sector-clause-writes
@@ -47,29 +40,17 @@ returns-in_err-write_sector-clause-writes g c told row of tells =
     let layout = c.args.store.now.layout in
     let i = c.loop-column.column in
     let part = part_of c.args.parity in
-    let F = column_writes layout row part in
-    let a = g.R.Rack.seen c.args.rack.now in
-    let b = g.R.Rack.seen c.loop-column.rack in
-    let d = g.R.Rack.seen c.write_sector.new.rack in
     let h = c.loop-column.invariant.done told row of tells in
-    does_passed c.from_residual.ensures.1 (subst (λ ws. Does {A = Unit {0}} (IsOfRow layout row) (λ i'. ws) c.args.marks.now c.write_sector.new.marks a d
-    (Err c.in_err-write_sector.field-0.0))
-    (told-same (λ images. flat_map (F images) (range_with_len 0 16)) (λ images. parity_writes images layout row part) told
-    (λ images. columns_are images layout row part))
-    (flat_cut F told (IsOfRow layout row) (Unit {0}) (Unit {0}) (range_with_len 0 16) i i (omega (arith, c.loop-column-test.true, length-range_with_len 0 16))
-    (column_at i i c.loop-column-test.true) c.args.marks.now c.loop-column.marks c.write_sector.new.marks a b d tt c.in_err-write_sector.field-0.0 h
-    (c.in_err-write_sector.ensures.writes told row of (tells_still h tells))))
+    does_passed c.from_residual.ensures.1 (subst (λ ws. DoesWrites {A = Unit {0}} (IsOfRow layout row) (λ i'. ws) c.args.marks.now c.write_sector.new.marks
+    (g.R.Rack.seen c.args.rack.now) (g.R.Rack.seen c.write_sector.new.rack) (Err c.in_err-write_sector.field-0.0)) (columns_told layout row part told)
+    (flat_cut (column_writes layout row part) told (range_with_len 0 16) i i (omega (arith, c.loop-column-test.true, length-range_with_len 0 16))
+    (column_at i i c.loop-column-test.true) h (c.in_err-write_sector.ensures.writes told row of (tells_still h tells))))
 
 pub returns-clause-writes : goal.returns-clause-writes
 returns-clause-writes g c told row of tells =
     let layout = c.args.store.now.layout in
     let part = part_of c.args.parity in
-    let F = column_writes layout row part in
-    let a = g.R.Rack.seen c.args.rack.now in
-    let b = g.R.Rack.seen c.loop-column.rack in
-    let all = ap (λ xs. told_writes (λ images. flat_map (F images) xs) told)
+    let all = ap (flat_told (column_writes layout row part) told)
     (take_all c.loop-column.column (range_with_len 0 16) (omega (arith, c.loop-column-test.false, length-range_with_len 0 16))) in
-    subst (λ ws. Does {A = Unit {0}} (IsOfRow layout row) (λ i'. ws) c.args.marks.now c.loop-column.marks a b (Ok tt))
-    (all ∙ told-same (λ images. flat_map (F images) (range_with_len 0 16)) (λ images. parity_writes images layout row part) told
-    (λ images. columns_are images layout row part))
-    (c.loop-column.invariant.done told row of tells)
+    subst (λ ws. DoesWrites {A = Unit {0}} (IsOfRow layout row) (λ i'. ws) c.args.marks.now c.loop-column.marks (g.R.Rack.seen c.args.rack.now)
+    (g.R.Rack.seen c.loop-column.rack) (Ok tt)) (all ∙ columns_told layout row part told) (c.loop-column.invariant.done told row of tells)

@@ -1,19 +1,19 @@
 use crate::buffer::ELEMENT;
 use crate::shape::Shape;
 
-// The place of a block in a row: its slice, and its bytes there.
+// The piece of a slice that a block of a row is: which slice, and which bytes of it.
 #[derive(Clone, Copy, Debug, PartialEq, Eq)]
-pub(crate) struct Spot {
+pub(crate) struct SlicePiece {
     pub(crate) shape: Shape,
     pub(crate) index: u32,
     pub(crate) rest: usize,
     pub(crate) len: usize,
 }
 
-impl Spot {
+impl SlicePiece {
     ghost use Rattle.std.specs.Prelude.{◌≡◌, ◌+◌, ◌*◌, ◌≤◌};
 
-    // Where the block's place in an element is in memory.
+    // Where the bytes of an element at the piece's place begin in memory.
     pub(crate) fn start(&self, element: u32) -> usize
         requires element { element ≤ 64 }
         requires rest { self.now.rest ≤ 65536 }
